@@ -1,0 +1,100 @@
+-- The verdicts exclude one another: each says how many of the tests are passed, and that the next one is not.
+use Rattle.std.proofs.Common.{◌≡◌, ℕ, ◌<◌, List, ℤ, pos, sym, ap, ◌∙◌, inl, inr, arith}
+use Rattle.std.proofs.lemmas.Bool.{cases_order}
+use Rattle.mm_problem.specs.Dumping.{Dumping}
+use Rattle.mm_plan.specs.Volumes.{Amounts}
+use Rattle.mm_plan.specs.Fit.{Fits, IsFirstMisfit}
+use Rattle.mm_plan.specs.declared.stretch.Stretch.{Stretch}
+use Rattle.mm_cut.specs.Stretches.{AreStretches}
+use Rattle.mm_cut.specs.Counts.{AreCounted}
+use Rattle.mm_cut.specs.Verdicts.{LossIsRight, BoundIsRight, IsVerdict, VerdictsExclude}
+use Rattle.mm_cut.specs.declared.verdict.Verdict.{Verdict}
+use Rattle.mm_cut.specs.declared.verdict.Verdict.TheVariants.{DoesNotFit, LossIs, BadStretch, BadCount, BoundIs, NotShown, Least}
+use Rattle.mm_cut.proofs.Prefixes.{IsFirstBad-not_good, IsFirstBad-same, AreStretches-take, AreCounted-take}
+
+-- there is one first misfit at the most, and none where the plan fits
+IsFirstMisfit-not_before : (q : Dumping) (x : Amounts) (t u : ℕ) → IsFirstMisfit q x t → IsFirstMisfit q x u → t < u → ⊥
+IsFirstMisfit-not_before q x t u at_t at_u before = at_t.here (at_u.before t at_t.first before)
+
+IsFirstMisfit-same : (q : Dumping) (x : Amounts) (t u : ℕ) → IsFirstMisfit q x t → IsFirstMisfit q x u → t ≡ u
+IsFirstMisfit-same q x t u at_t at_u = elim (cases_order t u) [
+  | inl same ↦ same
+  | inr other ↦ elim other [
+    | inl before ↦ absurd (IsFirstMisfit-not_before q x t u at_t at_u before)
+    | inr after ↦ absurd (IsFirstMisfit-not_before q x u t at_u at_t after)
+  ]
+]
+
+IsFirstMisfit-not_fits : (q : Dumping) (x : Amounts) (t : ℕ) → IsFirstMisfit q x t → ¬ Fits q x
+IsFirstMisfit-not_fits q x t misfit fits = misfit.here (fits t misfit.first (omega (arith, misfit.last)))
+
+-- how many of the tests a verdict says are passed
+abbrev stage : Verdict → ℕ
+stage (DoesNotFit t) = 0
+stage (LossIs n) = 1
+stage (BadStretch k) = 2
+stage (BadCount k) = 3
+stage (BoundIs m) = 4
+stage (NotShown n m) = 5
+stage (Least n) = 6
+
+module _ (q : Dumping) (x : Amounts) (ds : List Stretch) (ts : List ℕ) (l : ℕ) (b : ℤ) where
+  -- a wrong loss is not right
+  other_loss : (n : ℕ) → IsVerdict q x ds ts l b (LossIs n) → ¬ LossIsRight q x l
+  other_loss n wrong right = wrong.2 (wrong.1 ∙ sym right.loss)
+
+  -- a wrong bound is not right
+  other_bound : (m : ℤ) → IsVerdict q x ds ts l b (BoundIs m) → ¬ BoundIsRight q x ds ts l b
+  other_bound m wrong right = wrong.3 (wrong.2 ∙ sym right.bound)
+
+  not_stretches : (k : ℕ) → IsVerdict q x ds ts l b (BadStretch k) → ¬ AreStretches q ds
+  not_stretches k bad = IsFirstBad-not_good (AreStretches q) (AreStretches-take q) ds k bad.1
+
+  not_counted : (k : ℕ) → IsVerdict q x ds ts l b (BadCount k) → ¬ AreCounted q ds ts
+  not_counted k bad = IsFirstBad-not_good (AreCounted q ds) (AreCounted-take q ds) ts k bad.2
+
+  -- a verdict that stops at an earlier test does not hold beside one that stops at a later test
+  not_both : (v w : Verdict) → stage v < stage w → IsVerdict q x ds ts l b v → IsVerdict q x ds ts l b w → ⊥
+  not_both (DoesNotFit t) (LossIs n) _ a c = IsFirstMisfit-not_fits q x t a c.0
+  not_both (DoesNotFit t) (BadStretch k) _ a c = IsFirstMisfit-not_fits q x t a c.0.fits
+  not_both (DoesNotFit t) (BadCount k) _ a c = IsFirstMisfit-not_fits q x t a c.0.fits
+  not_both (DoesNotFit t) (BoundIs m) _ a c = IsFirstMisfit-not_fits q x t a c.0.fits
+  not_both (DoesNotFit t) (NotShown n m) _ a c = IsFirstMisfit-not_fits q x t a c.0.plan.fits
+  not_both (DoesNotFit t) (Least n) _ a c = IsFirstMisfit-not_fits q x t a c.0.plan.fits
+  not_both (LossIs n) (BadStretch k) _ a c = other_loss n a c.0
+  not_both (LossIs n) (BadCount k) _ a c = other_loss n a c.0
+  not_both (LossIs n) (BoundIs m) _ a c = other_loss n a c.0
+  not_both (LossIs n) (NotShown k m) _ a c = other_loss n a c.0.plan
+  not_both (LossIs n) (Least k) _ a c = other_loss n a c.0.plan
+  not_both (BadStretch k) (BadCount j) _ a c = not_stretches k a c.1
+  not_both (BadStretch k) (BoundIs m) _ a c = not_stretches k a c.1.stretches
+  not_both (BadStretch k) (NotShown n m) _ a c = not_stretches k a c.0.cut.stretches
+  not_both (BadStretch k) (Least n) _ a c = not_stretches k a c.0.cut.stretches
+  not_both (BadCount k) (BoundIs m) _ a c = not_counted k a c.1.counted
+  not_both (BadCount k) (NotShown n m) _ a c = not_counted k a c.0.cut.counted
+  not_both (BadCount k) (Least n) _ a c = not_counted k a c.0.cut.counted
+  not_both (BoundIs m) (NotShown n j) _ a c = other_bound m a c.0
+  not_both (BoundIs m) (Least n) _ a c = other_bound m a c.0
+  not_both (NotShown n m) (Least k) _ a c = a.3 (ap pos (a.1 ∙ sym c.1) ∙ c.2 ∙ sym a.2)
+  not_both (Least n) (Least k) earlier a c = absurd (omega arith)
+  not_both v w earlier a c = absurd (omega arith)
+
+  -- two verdicts that stop at one test say the same
+  same_stage : (v w : Verdict) → stage v ≡ stage w → IsVerdict q x ds ts l b v → IsVerdict q x ds ts l b w → v ≡ w
+  same_stage (DoesNotFit t) (DoesNotFit u) _ a c = ap DoesNotFit (IsFirstMisfit-same q x t u a c)
+  same_stage (LossIs n) (LossIs m) _ a c = ap LossIs (a.1 ∙ sym c.1)
+  same_stage (BadStretch k) (BadStretch j) _ a c = ap BadStretch (IsFirstBad-same (AreStretches q) (AreStretches-take q) ds k j a.1 c.1)
+  same_stage (BadCount k) (BadCount j) _ a c = ap BadCount (IsFirstBad-same (AreCounted q ds) (AreCounted-take q ds) ts k j a.2 c.2)
+  same_stage (BoundIs m) (BoundIs j) _ a c = ap BoundIs (a.2 ∙ sym c.2)
+  same_stage (NotShown n m) (NotShown k j) _ a c = ap (λ i. NotShown i m) (a.1 ∙ sym c.1) ∙ ap (λ i. NotShown k i) (a.2 ∙ sym c.2)
+  same_stage (Least n) (Least k) _ a c = ap Least (a.1 ∙ sym c.1)
+  same_stage v w same a c = absurd (omega arith)
+
+pub verdicts_exclude : VerdictsExclude
+verdicts_exclude q x ds ts l b v w a c = elim (cases_order (stage v) (stage w)) [
+  | inl same ↦ same_stage q x ds ts l b v w same a c
+  | inr other ↦ elim other [
+    | inl before ↦ absurd (not_both q x ds ts l b v w before a c)
+    | inr after ↦ absurd (not_both q x ds ts l b w v after c a)
+  ]
+]

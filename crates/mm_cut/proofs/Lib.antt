@@ -1,0 +1,8 @@
+pub mod Sums
+pub mod StretchLosses
+pub mod Exchange
+pub mod Duality
+pub mod Counting
+pub mod Prefixes
+pub mod Exclusion
+mod WorkedExamples

@@ -1,0 +1,87 @@
+-- What comes into a store over a stretch is lost, leaves before the last step, or is held as the stretch ends.
+use Rattle.std.proofs.Common.{◌≡◌, ℕ, zero, suc, ◌+◌, ◌-◌, ◌<◌, ◌≤◌, cond, leb, ltb, ◌&&◌, List, length, arith}
+use Rattle.std.specs.List.{sum_by, range_with_len}
+use Rattle.std.proofs.lemmas.Bool.Decides.{nat_tests}
+use Rattle.std.proofs.lemmas.List.Sums.{sum_by-cons}
+use Rattle.mm_problem.specs.Dumping.{Dumping, size, arrivals, steps}
+use Rattle.mm_plan.specs.Volumes.{Amounts, left, written, lost}
+use Rattle.mm_plan.specs.declared.stretch.Stretch.{Stretch}
+use Rattle.mm_cut.specs.Stretches.{store_of, covers, goes_past, IsStretch}
+use Rattle.mm_cut.specs.Cuts.{opening, coming, held}
+use Rattle.mm_cut.proofs.Sums.{sum_by-filter}
+
+-- what arrives at the store of a stretch in a step, where the step is one of the stretch's
+abbrev arrives_in : Dumping → Stretch → ℕ → ℕ
+arrives_in q d t = cond (covers d t) (arrivals q (store_of q d) t) 0
+
+-- what it loses in the step, where the step is one of the stretch's
+abbrev pub lost_in : Dumping → Amounts → Stretch → ℕ → ℕ
+lost_in q x d t = cond (covers d t) (lost q x (store_of q d) t) 0
+
+-- what is to leave it in the step, where the step is an inner one
+abbrev pub leaves_in : Dumping → Amounts → ℕ → Stretch → ℕ
+leaves_in q x t d = cond (goes_past t d) (x (store_of q d) t) 0
+
+-- what a step begins with and what arrives is lost or written
+left-add-arrivals : (q : Dumping) (x : Amounts) (s t : ℕ) → left q x s (t - 1) + arrivals q s t ≡ lost q x s t + written q x s t
+left-add-arrivals q x s t = omega arith
+
+-- what is written leaves or is left
+written-le : (q : Dumping) (x : Amounts) (s t : ℕ) → 1 ≤ t → written q x s t ≤ left q x s t + x s t
+unfolding left
+written-le q x s zero first = absurd (omega arith)
+written-le q x s (suc t) first = let same : suc t - 1 ≡ t = omega arith in rw same (omega arith)
+
+-- a step in front of others: it begins with b, c arrives, l is lost, w is written, x leaves, and the next begins with b'
+one_step : (i j a b c l w x b' z come lose leave : ℕ)
+    → b + c ≡ l + w
+    → w ≤ b' + x
+    → w ≤ z
+    → cond (leb i (a + 1) && leb (a + 1) j) b' 0 + come ≤ lose + leave + cond (leb (a + 1) j) z 0
+    → cond (leb i a && leb a j) b 0 + (cond (leb i a && leb a j) c 0 + come)
+    ≤ (cond (leb i a && leb a j) l 0 + lose) + (cond (leb i a && ltb a j) x 0 + leave) + cond (leb a j) z 0
+one_step i j a b c l w x b' z come lose leave balance stays within more = grind (arith, nat_tests)
+
+module _ (q : Dumping) (x : Amounts) (d : Stretch) where
+  -- what arrives, what is lost and what is to leave in some steps
+  abbrev come : List ℕ → ℕ
+  come ts = sum_by (arrives_in q d) ts
+
+  abbrev lose : List ℕ → ℕ
+  lose ts = sum_by (lost_in q x d) ts
+
+  abbrev leave : List ℕ → ℕ
+  leave ts = sum_by (λ t. leaves_in q x t d) ts
+
+  -- in the steps from a on, by induction on their number
+  from_step : (a n : ℕ)
+      → 1 ≤ a
+      → d.last < a + n
+      → cond (covers d a) (left q x (store_of q d) (a - 1)) 0 + come (range_with_len a n)
+      ≤ lose (range_with_len a n) + leave (range_with_len a n) + cond (leb a d.last) (size q (store_of q d)) 0
+  from_step a zero first end = grind (arith, nat_tests)
+  from_step a (suc n) first end =
+      let s : ℕ = store_of q d in
+      let rest : List ℕ = range_with_len (a + 1) n in
+      let next : a + 1 - 1 ≡ a = omega arith in
+      let more = rw next at (from_step (a + 1) n (omega arith) (omega arith)) in
+      let balance = left-add-arrivals q x s a in
+      let stays = written-le q x s a first in
+      let step =
+      one_step d.first d.last a (left q x s (a - 1)) (arrivals q s a) (lost q x s a) (written q x s a) (x s a)
+      (left q x s a) (size q s) (come rest) (lose rest) (leave rest) balance stays (omega arith) more in
+      let come_more = sum_by-cons (arrives_in q d) a rest in
+      let lose_more = sum_by-cons (lost_in q x d) a rest in
+      let leave_more = sum_by-cons (λ t. leaves_in q x t d) a rest in
+      omega (arith, step, come_more, lose_more, leave_more)
+
+  -- what a stretch begins with is in its store as the first step begins
+  opening-le : IsStretch q d → opening q d ≤ cond (covers d 1) (left q x (store_of q d) (1 - 1)) 0
+  unfolding left
+  opening-le is = grind (arith, nat_tests, is.first, is.order)
+
+  pub coming-le : IsStretch q d → coming q d ≤ lose (steps q) + leave (steps q) + held q d
+  coming-le is =
+      let at_end : cond (leb 1 d.last) (size q (store_of q d)) 0 ≤ held q d = grind (arith, nat_tests) in
+      let arrived = sum_by-filter (arrivals q (store_of q d)) (covers d) (steps q) in
+      omega (arith, at_end, opening-le is, from_step 1 (length q.windows) (omega arith) (omega (arith, is.last)), arrived)

@@ -1,0 +1,13 @@
+use Rattle.std.proofs.Common.{◌≡◌, ◌-◌, ◌*◌, ◌≤◌}
+use Rattle.std.specs.Prelude.{filter}
+use Rattle.std.specs.List.{sum_by, range_with_len}
+use Rattle.mm_problem.specs.declared.limits.TheConstants.{MAX_BLOCKS, CHANNELS}
+use Rattle.mm_cut.specs.Stretches.{is_inner}
+use Rattle.mm_cut.specs.Cuts.{leaving}
+use Rattle.mm_cut.proofs.bounds.leaving_sum.Given as goal
+
+abbrev pub invariant-loop-step : goal.invariant-loop-step
+invariant-loop-step l = record {
+  sum : l.sum ≡ sum_by (leaving l.problem l.stretches l.counts) (filter (is_inner l.stretches) (range_with_len 1 (l.step - 1)));
+  most : l.sum ≤ (l.step - 1) * (CHANNELS * MAX_BLOCKS);
+}

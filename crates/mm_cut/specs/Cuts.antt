@@ -1,0 +1,51 @@
+-- Cuts, which show that no plan loses less than their bound.
+use Rattle.std.specs.Prelude.{ℕ, ◌+◌, ◌==◌, if◌then◌else◌, List, filter, unwrap_or, ℤ, pos, ◌-ℤ◌, ◌≤ℤ◌}
+use Rattle.std.specs.List.{sum_by}
+use Rattle.mm_problem.specs.Dumping.{Dumping, size, start, limit, window, arrivals, steps, channels}
+use Rattle.mm_plan.specs.Volumes.{Amounts, loss}
+use Rattle.mm_plan.specs.Fit.{Fits}
+use Rattle.mm_plan.specs.declared.stretch.Stretch.{Stretch}
+use Rattle.mm_cut.specs.Stretches.{store_of, covers, is_inner, is_inner_on, AreStretches}
+use Rattle.mm_cut.specs.Counts.{is_listed, AreCounted}
+
+-- a cut: stretches, and the steps among them that count by channels
+pub record IsCut (q : Dumping) (ds : List Stretch) (ts : List ℕ) : Type 0 where
+  pub stretches : AreStretches q ds
+  pub counted : AreCounted q ds ts
+
+-- what the store of a stretch holds before the stretch, as far as the problem says it
+abbrev pub opening : Dumping → Stretch → ℕ
+opening q d = if d.first == 1 then start q (store_of q d) else 0
+
+-- what it holds before and what arrives in its steps
+abbrev pub coming : Dumping → Stretch → ℕ
+coming q d = opening q d + sum_by (arrivals q (store_of q d)) (filter (covers d) (steps q))
+
+-- the most that it holds once the last step's arrivals have come
+abbrev pub held : Dumping → Stretch → ℕ
+held q d = size q (store_of q d)
+
+-- the limit of a channel, 0 where it has none
+abbrev pub limit_or_0 : Dumping → ℕ → ℕ
+limit_or_0 q c = unwrap_or (limit q c) 0
+
+-- the limits of the channels of the stores that are inner in the step, each channel once
+abbrev pub limit_sum : Dumping → List Stretch → ℕ → ℕ
+limit_sum q ds t = sum_by (limit_or_0 q) (filter (is_inner_on q ds t) (channels q))
+
+-- the most that may leave the stores that are inner in the step
+abbrev pub leaving : Dumping → List Stretch → List ℕ → ℕ → ℕ
+leaving q ds ts t = if is_listed ts t then limit_sum q ds t else window q t
+
+-- what may leave in all inner steps, each step once
+abbrev pub leaving_sum : Dumping → List Stretch → List ℕ → ℕ
+leaving_sum q ds ts = sum_by (leaving q ds ts) (filter (is_inner ds) (steps q))
+
+-- what comes in over all stretches, less what may be held as they end and what may leave before
+abbrev pub bound : Dumping → List Stretch → List ℕ → ℤ
+bound q ds ts = pos (sum_by (coming q) ds) -ℤ pos (sum_by (held q) ds + leaving_sum q ds ts)
+
+-- no plan that fits loses less than the bound of any cut
+abbrev pub CutsBoundLosses : Type 0
+CutsBoundLosses =
+    (q : Dumping) (x : Amounts) (ds : List Stretch) (ts : List ℕ) → Fits q x → IsCut q ds ts → bound q ds ts ≤ℤ pos (loss q x)

@@ -1,0 +1,106 @@
+//! Verdicts on a plan and the cut that is printed with it.
+ghost use Rattle.std.specs.Prelude.{◌≡◌, ◌≢◌, ◌<◌, ◌^◌, IfNone, IfSome};
+ghost use Rattle.mm_plan.specs.Table.{amount, HasShape};
+ghost use Rattle.mm_plan.specs.Volumes.{loss};
+ghost use Rattle.mm_cut.specs.Cuts.{IsCut, bound};
+ghost use Rattle.mm_cut.specs.Verdicts.{IsVerdict};
+
+use crate::bounds::bound;
+use crate::counts::first_bad_count;
+use crate::stretches::first_bad;
+use mm_plan::{Plan, Stretch, fits, loss_of};
+use mm_problem::Problem;
+
+/// What is said of a plan and a cut, with the loss and the bound that are printed beside them. Losses and bounds
+/// are in blocks, stretches and counted steps by their place from 1.
+#[derive(Clone, Copy, Debug, PartialEq, Eq)]
+pub enum Verdict {
+    /// The plan does not fit; the first step at which it does not.
+    DoesNotFit(u32),
+    /// The printed loss is wrong; the plan's loss.
+    LossIs(u64),
+    /// The stretches are not those of a cut; the first bad one.
+    BadStretch(u32),
+    /// The steps that count by channels are not those of a cut; the first bad one.
+    BadCount(u32),
+    /// The printed bound is wrong; the cut's bound.
+    BoundIs(i64),
+    /// The bound is not the loss, so that the cut does not show that the plan loses least.
+    NotShown { loss: u64, bound: i64 },
+    /// No plan that fits loses less; the plan's loss.
+    Least(u64),
+}
+
+// The plan's loss, where the printed one is another.
+fn wrong_loss(problem: &Problem, plan: &Plan, printed_loss: u64) -> Option<u64>
+    requires { HasShape problem.now plan.now }
+    ensures right { IfNone result (printed_loss ≡ loss problem.now (amount plan.now)) }
+    ensures wrong { IfSome result
+        (λ n. (n ≡ loss problem.now (amount plan.now)) × (n ≢ printed_loss)) }
+    ensures most { IfNone result (printed_loss < 2 ^ 63) }
+{
+    let loss = loss_of(problem, plan);
+    if loss == printed_loss {
+        None
+    } else {
+        Some(loss)
+    }
+}
+
+// The cut's bound, where the printed one is another.
+fn wrong_bound(
+    problem: &Problem,
+    stretches: &[Stretch],
+    counts: &[u32],
+    printed_bound: i64,
+) -> Option<i64>
+    requires { IsCut problem.now stretches.now counts.now }
+    ensures right { IfNone result (printed_bound ≡ bound problem.now stretches.now counts.now) }
+    ensures wrong { IfSome result
+        (λ n. (n ≡ bound problem.now stretches.now counts.now) × (n ≢ printed_bound)) }
+{
+    let bound = bound(problem, stretches, counts);
+    if bound == printed_bound {
+        None
+    } else {
+        Some(bound)
+    }
+}
+
+/// The first verdict that holds, in the order of `Verdict`, of a plan and a cut, with the loss and the bound that
+/// are printed beside them.
+pub fn verify(
+    problem: &Problem,
+    plan: &Plan,
+    stretches: &[Stretch],
+    counts: &[u32],
+    printed_loss: u64,
+    printed_bound: i64,
+) -> Verdict
+    requires { HasShape problem.now plan.now }
+    ensures verdict { IsVerdict problem.now (amount plan.now) stretches.now counts.now
+        printed_loss printed_bound result }
+{
+    if let Err(step) = fits(problem, plan) {
+        return Verdict::DoesNotFit(step);
+    }
+    if let Some(loss) = wrong_loss(problem, plan, printed_loss) {
+        return Verdict::LossIs(loss);
+    }
+    if let Some(place) = first_bad(problem, stretches) {
+        return Verdict::BadStretch(place);
+    }
+    if let Some(place) = first_bad_count(problem, stretches, counts) {
+        return Verdict::BadCount(place);
+    }
+    if let Some(bound) = wrong_bound(problem, stretches, counts, printed_bound) {
+        return Verdict::BoundIs(bound);
+    }
+    if printed_loss as i64 != printed_bound {
+        return Verdict::NotShown {
+            loss: printed_loss,
+            bound: printed_bound,
+        };
+    }
+    Verdict::Least(printed_loss)
+}

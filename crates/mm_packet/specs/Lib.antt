@@ -1,0 +1,7 @@
+pub mod Fault
+pub mod Number
+pub mod Packet
+pub mod Spelling
+pub mod Headers
+pub mod Reading
+pub mod Laws

@@ -1,0 +1,12 @@
+-- Number fields: big-endian, at the front of some octets.
+use Rattle.std.specs.Prelude.{ℕ, List, [], ◌∷◌, length, take, drop, Option, Some, None, nat_lt, if◌then◌else◌}
+use Rattle.std.specs.Int.{Width, byte_len, from_be_bytes}
+
+-- the octet at the front, and those after it
+abbrev pub front_octet : List ℕ → Option (ℕ × List ℕ)
+front_octet [] = None
+front_octet (octet ∷ rest) = Some (octet, rest)
+
+-- the number that the front octets spell, and the octets after them
+abbrev pub number_at : Width → List ℕ → Option (ℕ × List ℕ)
+number_at w octets = if nat_lt (length octets) (byte_len w) then None else Some (from_be_bytes w (take (byte_len w) octets), drop (byte_len w) octets)

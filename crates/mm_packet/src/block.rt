@@ -1,0 +1,66 @@
+//! Packets that a block of a store has room for.
+ghost use Rattle.std.specs.Prelude.{◌≡◌, ◌≤◌, ◌↔◌, length, IsOk, IfOk, MatchResult};
+ghost use Rattle.mm_packet.specs.Spelling.{spelling};
+
+use crate::fault::NoMemory;
+use crate::packet::Packet;
+use std::alloc::Global;
+use std::marker::Model;
+use thiserror::Error;
+
+/// The octets of a block, and so of the longest packet that is stored.
+pub const BLOCK: usize = 1024;
+
+/// A packet whose spelling has at most 1,024 octets. Contracts see the packet.
+#[derive(Debug, Drop)]
+pub struct BlockPacket {
+    packet: Packet,
+}
+
+impl Model for BlockPacket {
+    ghost use Rattle.std.specs.Prelude.{◌≤◌, length};
+    ghost use Rattle.mm_packet.specs.Packet.{SpacePacket};
+    ghost use Rattle.mm_packet.specs.Spelling.{spelling};
+    ghost use Rattle.mm_packet.specs.declared.block.TheConstants.{BLOCK};
+
+    ghost Value = { SpacePacket };
+
+    ghost view = { λ b. b.packet };
+
+    ghost invariant = { λ b. length (spelling b.packet) ≤ BLOCK };
+}
+
+/// A packet longer than a block, handed back.
+#[derive(Debug, Drop, Error)]
+#[error("8 TooLong")]
+pub struct TooLong {
+    pub packet: Packet,
+}
+
+impl BlockPacket {
+    /// The packet, where a block has room for it.
+    pub fn of(packet: Packet) -> Result<BlockPacket, TooLong>
+        ensures ok { IsOk result ↔ (length (spelling packet) ≤ BLOCK) }
+        ensures same { MatchResult result (λ block. block ≡ packet) (λ back. back.packet ≡ packet) }
+    {
+        if packet.spelled_len() > BLOCK {
+            return Err(TooLong { packet });
+        }
+        Ok(BlockPacket { packet })
+    }
+
+    pub fn packet(&self) -> &Packet
+        ensures same { result.now ≡ self.now }
+        ensures fits { length (spelling self.now) ≤ BLOCK }
+    {
+        &self.packet
+    }
+
+    /// A packet equal to this one.
+    pub fn copy(&self, alloc: Global) -> Result<BlockPacket, NoMemory>
+        ensures same { IfOk result (λ copy. copy ≡ self.now) }
+    {
+        let packet = self.packet.copy(alloc)?;
+        Ok(BlockPacket { packet })
+    }
+}

@@ -1,0 +1,40 @@
+//! The fields of a packet's headers.
+
+/// The APID of idle packets, which this profile refuses: 2047. Every other APID is below it.
+pub const IDLE_APID: u16 = 2047;
+
+/// The greatest number of data octets in a telecommand, whose secondary header has 5.
+pub const TELECOMMAND_BODY: usize = 65_531;
+
+/// The greatest number of data octets in telemetry, whose secondary header has 15.
+pub const TELEMETRY_BODY: usize = 65_521;
+
+/// The fields that telecommands and telemetry share (CCSDS 133.0-B, 4.1.3; ECSS-E-ST-70-41C, 7.4).
+#[derive(Clone, Copy, Debug, PartialEq, Eq)]
+pub struct Header {
+    /// The application process identifier, below 2047.
+    pub apid: u16,
+    /// The packet sequence count, below 16,384.
+    pub count: u16,
+    /// The acknowledgement flags of a telecommand, the time reference status of telemetry: below 16.
+    pub low: u8,
+    /// The service type.
+    pub service: u8,
+    /// The message subtype.
+    pub subtype: u8,
+}
+
+/// The packet type, with the fields of the secondary header that only it has.
+#[derive(Clone, Copy, Debug, PartialEq, Eq)]
+pub enum PacketType {
+    /// `source` is the source identifier.
+    Telecommand {
+        source: u16,
+    },
+    /// `counter` is the message type counter, `destination` the destination identifier, `time` a count of ticks.
+    Telemetry {
+        counter: u16,
+        destination: u16,
+        time: u64,
+    },
+}

@@ -1,0 +1,22 @@
+//! Space packets of CCSDS 133.0-B with the secondary headers of this project's profile of ECSS-E-ST-70-41C.
+#![tactic(auto)]
+
+mod block;
+mod fault;
+mod header;
+pub mod laws;
+mod number;
+mod octets;
+mod packet;
+mod reading;
+mod writing;
+
+pub use block::{BLOCK, BlockPacket, TooLong};
+pub use fault::{Fault, NoMemory};
+pub use header::{Header, IDLE_APID, PacketType, TELECOMMAND_BODY, TELEMETRY_BODY};
+pub use number::{octet_at, u16_at, u32_at, u64_at};
+pub use octets::Octets;
+pub use packet::Packet;
+
+#[cfg(test)]
+mod tests;

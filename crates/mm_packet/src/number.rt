@@ -1,0 +1,56 @@
+//! Number fields, big-endian, each read from the front of some octets.
+ghost use Rattle.std.specs.Prelude.{◌≡◌, ◌∷◌, ◌++◌, IfSome};
+ghost use Rattle.std.specs.Option.{option_map};
+ghost use Rattle.std.specs.Int.{w16, w32, w64, to_be_bytes};
+ghost use Rattle.mm_packet.specs.Number.{front_octet, number_at};
+
+/// The first octet, and those after it.
+pub fn octet_at(octets: &[u8]) -> Option<(u8, &[u8])>
+    ensures value { option_map (λ x. (x.0, x.1.now)) result ≡ front_octet octets.now }
+    ensures spelled { IfSome result (λ x. octets.now ≡ x.0 ∷ x.1.now) }
+{
+    match octets {
+        [] => None,
+        [first, rest @ ..] => Some((*first, rest)),
+    }
+}
+
+/// The number of two octets at the front, and the octets after it.
+pub fn u16_at(octets: &[u8]) -> Option<(u16, &[u8])>
+    ensures value { option_map (λ x. (x.0, x.1.now)) result ≡ number_at w16 octets.now }
+    ensures spelled { IfSome result (λ x. octets.now ≡ to_be_bytes w16 x.0 ++ x.1.now) }
+{
+    if octets.len() < 2 {
+        return None;
+    }
+    let (front, rest) = octets.split_at(2);
+    Some((u16::from_be_bytes([front[0], front[1]]), rest))
+}
+
+/// The number of four octets at the front, and the octets after it.
+pub fn u32_at(octets: &[u8]) -> Option<(u32, &[u8])>
+    ensures value { option_map (λ x. (x.0, x.1.now)) result ≡ number_at w32 octets.now }
+    ensures spelled { IfSome result (λ x. octets.now ≡ to_be_bytes w32 x.0 ++ x.1.now) }
+{
+    if octets.len() < 4 {
+        return None;
+    }
+    let (front, rest) = octets.split_at(4);
+    let number = u32::from_be_bytes([front[0], front[1], front[2], front[3]]);
+    Some((number, rest))
+}
+
+/// The number of eight octets at the front, and the octets after it.
+pub fn u64_at(octets: &[u8]) -> Option<(u64, &[u8])>
+    ensures value { option_map (λ x. (x.0, x.1.now)) result ≡ number_at w64 octets.now }
+    ensures spelled { IfSome result (λ x. octets.now ≡ to_be_bytes w64 x.0 ++ x.1.now) }
+{
+    if octets.len() < 8 {
+        return None;
+    }
+    let (front, rest) = octets.split_at(8);
+    let number = u64::from_be_bytes([
+        front[0], front[1], front[2], front[3], front[4], front[5], front[6], front[7],
+    ]);
+    Some((number, rest))
+}

@@ -1,0 +1,200 @@
+//! Packets from octets.
+ghost use Rattle.std.specs.Prelude.{◌≡◌, ◌++◌, ◌+◌, length, List, ℕ, None, MatchResult, IfOk, IfSome, if◌then◌else◌};
+ghost use Rattle.std.specs.Option.{option_map};
+ghost use Rattle.mm_packet.specs.Packet.{SpacePacket, FitsType, IsPacket};
+ghost use Rattle.mm_packet.specs.Spelling.{type_bit, type_fields, spelling};
+ghost use Rattle.mm_packet.specs.Headers.{primary_at, primary_octets, secondary_octets, FitsPrimary, FitsSecondary, type_at, secondary_at, fault_of, is_telecommand, apid_of, count_of};
+ghost use Rattle.mm_packet.specs.Reading.{Gives, tested, data_field_at, header_of, packet_at};
+
+use crate::fault::Fault;
+use crate::header::{Header, IDLE_APID, PacketType};
+use crate::number::{octet_at, u16_at, u64_at};
+use crate::octets::Octets;
+use crate::packet::Packet;
+use std::alloc::Global;
+
+const APID_MASK: u16 = 0x07FF;
+
+const COUNT_MASK: u16 = 0x3FFF;
+
+const LOW_MASK: u8 = 0x0F;
+
+const VERSION: u16 = 0;
+
+const UNSEGMENTED: u16 = 3;
+
+const PUS_VERSION: u8 = 2;
+
+// The three numbers of a primary header (CCSDS 133.0-B, 4.1.3).
+#[derive(Clone, Copy)]
+struct Primary {
+    identification: u16,
+    sequence_control: u16,
+    data_length: u16,
+}
+
+// The fields of a secondary header, its first octet unparted.
+#[derive(Clone, Copy)]
+struct Secondary {
+    first: u8,
+    service: u8,
+    subtype: u8,
+    kind: PacketType,
+}
+
+impl Primary {
+    fn is_telecommand(self) -> bool
+        ensures { result ≡ is_telecommand self }
+    {
+        (self.identification >> 12) & 1 == 1
+    }
+
+    fn apid(self) -> u16
+        ensures { result ≡ apid_of self }
+    {
+        self.identification & APID_MASK
+    }
+
+    fn count(self) -> u16
+        ensures { result ≡ count_of self }
+    {
+        self.sequence_control & COUNT_MASK
+    }
+
+    // The header, where it passes its tests, and else the first that fails.
+    fn tested(self) -> Result<Primary, Fault>
+        ensures value { result ≡ tested self }
+        ensures passed { IfOk result (λ primary. (primary ≡ self) × (fault_of primary ≡ None)) }
+    {
+        if self.identification >> 13 != VERSION {
+            Err(Fault::Version)
+        } else if self.apid() == IDLE_APID {
+            Err(Fault::Idle)
+        } else if (self.identification >> 11) & 1 == 0 {
+            Err(Fault::NoSecondaryHeader)
+        } else if self.sequence_control >> 14 != UNSEGMENTED {
+            Err(Fault::Segmented)
+        } else {
+            Ok(self)
+        }
+    }
+}
+
+#[tactic(auto, unfolding(crate::specs::Headers::primary_at))]
+fn primary_at(octets: &[u8]) -> Option<(Primary, &[u8])>
+    ensures value { option_map (λ x. (x.0, x.1.now)) result ≡ primary_at octets.now }
+    ensures spelled { IfSome result (λ x. octets.now ≡ primary_octets x.0 ++ x.1.now) }
+    ensures fits { IfSome result (λ x. FitsPrimary x.0) }
+{
+    let (identification, rest) = u16_at(octets)?;
+    let (sequence_control, rest) = u16_at(rest)?;
+    let (data_length, rest) = u16_at(rest)?;
+    let primary = Primary {
+        identification,
+        sequence_control,
+        data_length,
+    };
+    Some((primary, rest))
+}
+
+#[tactic(auto, unfolding(crate::specs::Headers::type_at))]
+fn type_at(telecommand: bool, octets: &[u8]) -> Option<(PacketType, &[u8])>
+    ensures value { option_map (λ x. (x.0, x.1.now)) result ≡ type_at telecommand octets.now }
+    ensures spelled { IfSome result (λ x. octets.now ≡ type_fields x.0 ++ x.1.now) }
+    ensures fits { IfSome result (λ x. FitsType x.0) }
+    ensures kind { IfSome result (λ x. type_bit x.0 ≡ (if telecommand then 1 else 0)) }
+{
+    if telecommand {
+        let (source, rest) = u16_at(octets)?;
+        return Some((PacketType::Telecommand { source }, rest));
+    }
+    let (counter, rest) = u16_at(octets)?;
+    let (destination, rest) = u16_at(rest)?;
+    let (time, rest) = u64_at(rest)?;
+    let kind = PacketType::Telemetry {
+        counter,
+        destination,
+        time,
+    };
+    Some((kind, rest))
+}
+
+#[tactic(auto, unfolding(crate::specs::Headers::secondary_at))]
+fn secondary_at(telecommand: bool, octets: &[u8]) -> Option<(Secondary, &[u8])>
+    ensures value { option_map (λ x. (x.0, x.1.now)) result ≡ secondary_at telecommand octets.now }
+    ensures spelled { IfSome result (λ x. octets.now ≡ secondary_octets x.0 ++ x.1.now) }
+    ensures fits { IfSome result (λ x. FitsSecondary x.0) }
+    ensures kind { IfSome result (λ x. type_bit x.0.kind ≡ (if telecommand then 1 else 0)) }
+{
+    let (first, rest) = octet_at(octets)?;
+    let (service, rest) = octet_at(rest)?;
+    let (subtype, rest) = octet_at(rest)?;
+    let (kind, rest) = type_at(telecommand, rest)?;
+    let secondary = Secondary {
+        first,
+        service,
+        subtype,
+        kind,
+    };
+    Some((secondary, rest))
+}
+
+fn data_field_at(primary: Primary, octets: &[u8]) -> Option<(&[u8], &[u8])>
+    ensures value { option_map (λ x. (x.0.now, x.1.now)) result ≡ data_field_at primary octets.now }
+    ensures parts { IfSome result (λ x. octets.now ≡ x.0.now ++ x.1.now) }
+    ensures len { IfSome result (λ x. length x.0.now ≡ primary.data_length + 1) }
+{
+    if octets.len() <= primary.data_length as usize {
+        return None;
+    }
+    Some(octets.split_at(primary.data_length as usize + 1))
+}
+
+fn header_of(primary: Primary, secondary: Secondary) -> Header
+    ensures { result ≡ header_of primary secondary }
+{
+    Header {
+        apid: primary.apid(),
+        count: primary.count(),
+        low: secondary.first & LOW_MASK,
+        service: secondary.service,
+        subtype: secondary.subtype,
+    }
+}
+
+impl Packet {
+    /// The packet at the front of the octets, and what follows it.
+    pub fn parse(alloc: Global, octets: &[u8]) -> Result<(Packet, &[u8]), Fault>
+        // The octets are the packet's spelling, and what follows it.
+        ensures found { IfOk result (λ x. IsPacket x.0 × (octets.now ≡ spelling x.0 ++ x.1.now)) }
+        // A packet that is spelled there is read, unless memory runs out.
+        ensures only { (packet : SpacePacket) (rest : List ℕ) → IsPacket packet
+            → octets.now ≡ spelling packet ++ rest
+            → MatchResult result (λ x. (x.0 ≡ packet) × (x.1.now ≡ rest)) (λ fault. fault ≡ Fault.NoMemory) }
+        // Which refusal it is: the first test that fails.
+        ensures exact { Gives (λ x. (x.0, x.1.now)) result (packet_at octets.now) }
+    {
+        packet_at(alloc, octets)
+    }
+}
+
+// The packet at the front of the octets, and what follows it.
+#[tactic(auto, unfolding(crate::specs::Reading::packet_at))]
+fn packet_at(alloc: Global, octets: &[u8]) -> Result<(Packet, &[u8]), Fault>
+    ensures found { IfOk result (λ x. IsPacket x.0 × (octets.now ≡ spelling x.0 ++ x.1.now)) }
+    ensures exact { Gives (λ x. (x.0, x.1.now)) result (packet_at octets.now) }
+{
+    let (primary, rest) = primary_at(octets).ok_or(Fault::Short)?;
+    let primary = primary.tested()?;
+    let (field, rest) = data_field_at(primary, rest).ok_or(Fault::Short)?;
+    let (secondary, body) = secondary_at(primary.is_telecommand(), field).ok_or(Fault::HeaderCut)?;
+    if secondary.first >> 4 != PUS_VERSION {
+        return Err(Fault::PusVersion);
+    }
+    let packet = Packet {
+        header: header_of(primary, secondary),
+        kind: secondary.kind,
+        body: Octets::new(Vec::from_slice(alloc, body)?),
+    };
+    Ok((packet, rest))
+}

@@ -1,0 +1,100 @@
+//! Packets as octets.
+ghost use Rattle.std.specs.Prelude.{◌≡◌, ◌+◌, ◌++◌, length, IfOk, OnOk};
+ghost use Rattle.mm_packet.specs.Packet.{IsPacket};
+ghost use Rattle.mm_packet.specs.Spelling.{identification, sequence_control, data_length, type_fields, secondary_header, data_field, spelling};
+
+use crate::fault::NoMemory;
+use crate::header::PacketType;
+use crate::packet::Packet;
+use std::alloc::{AllocError, Global};
+
+const TELECOMMAND: u16 = 0x1000;
+
+const SECONDARY_HEADER: u16 = 0x0800;
+
+const UNSEGMENTED: u16 = 0xC000;
+
+const PUS_VERSION: u8 = 0x20;
+
+const PRIMARY_HEADER_LEN: usize = 6;
+
+const TELECOMMAND_HEADER_LEN: usize = 5;
+
+const TELEMETRY_HEADER_LEN: usize = 15;
+
+impl Packet {
+    /// The packet's spelling.
+    pub fn write(&self, alloc: Global) -> Result<Vec<u8>, NoMemory>
+        ensures spelling { IfOk result (λ octets. octets.items ≡ spelling self.now) }
+        ensures fits { IsPacket self.now }
+    {
+        let mut out = Vec::with_capacity(alloc, self.spelled_len())?;
+        out.extend_from_slice(&self.identification().to_be_bytes())?;
+        out.extend_from_slice(&self.sequence_control().to_be_bytes())?;
+        out.extend_from_slice(&self.data_length().to_be_bytes())?;
+        self.put_secondary_header(&mut out)?;
+        out.extend_from_slice(self.body())?;
+        Ok(out)
+    }
+
+    // How many octets the spelling has.
+    pub(crate) fn spelled_len(&self) -> usize
+        ensures value { result ≡ length (spelling self.now) }
+        ensures fits { IsPacket self.now }
+    {
+        PRIMARY_HEADER_LEN + self.data_length() as usize + 1
+    }
+
+    fn identification(&self) -> u16
+        ensures { result ≡ identification self.now }
+    {
+        match self.kind {
+            PacketType::Telecommand { .. } => TELECOMMAND | SECONDARY_HEADER | self.header.apid,
+            PacketType::Telemetry { .. } => SECONDARY_HEADER | self.header.apid,
+        }
+    }
+
+    fn sequence_control(&self) -> u16
+        ensures { result ≡ sequence_control self.now }
+    {
+        UNSEGMENTED | self.header.count
+    }
+
+    fn data_length(&self) -> u16
+        ensures value { result ≡ data_length self.now }
+        ensures field { result + 1 ≡ length (data_field self.now) }
+        ensures fits { IsPacket self.now }
+    {
+        let header = match self.kind {
+            PacketType::Telecommand { .. } => TELECOMMAND_HEADER_LEN,
+            PacketType::Telemetry { .. } => TELEMETRY_HEADER_LEN,
+        };
+        (header + self.body.as_slice().len() - 1) as u16
+    }
+
+    fn put_secondary_header(&self, out: &mut Vec<u8>) -> Result<(), AllocError>
+        ensures { OnOk result (out.new.items ≡ out.old.items ++ secondary_header self.now) }
+    {
+        let header = self.header;
+        out.extend_from_slice(&[PUS_VERSION | header.low, header.service, header.subtype])?;
+        put_type_fields(out, self.kind)
+    }
+}
+
+fn put_type_fields(out: &mut Vec<u8>, kind: PacketType) -> Result<(), AllocError>
+    ensures { OnOk result (out.new.items ≡ out.old.items ++ type_fields kind) }
+{
+    match kind {
+        PacketType::Telecommand { source } => out.extend_from_slice(&source.to_be_bytes())?,
+        PacketType::Telemetry {
+            counter,
+            destination,
+            time,
+        } => {
+            out.extend_from_slice(&counter.to_be_bytes())?;
+            out.extend_from_slice(&destination.to_be_bytes())?;
+            out.extend_from_slice(&time.to_be_bytes())?;
+        }
+    }
+    Ok(())
+}

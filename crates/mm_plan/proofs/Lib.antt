@@ -1,0 +1,3 @@
+pub mod RangeSums
+pub mod Steps
+pub mod Limits

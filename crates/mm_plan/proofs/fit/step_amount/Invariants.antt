@@ -1,0 +1,12 @@
+use Rattle.std.proofs.Common.{◌≡◌, ◌*◌, ◌≤◌}
+use Rattle.std.specs.List.{sum_by, range_with_len}
+use Rattle.mm_problem.specs.declared.limits.TheConstants.{MAX_BLOCKS}
+use Rattle.mm_plan.specs.Table.{amount}
+use Rattle.mm_plan.specs.Fit.{in_step}
+use Rattle.mm_plan.proofs.fit.step_amount.Given as goal
+
+abbrev pub invariant-loop-store : goal.invariant-loop-store
+invariant-loop-store l = record {
+  sum : l.amount ≡ sum_by (in_step (amount l.plan) l.step) (range_with_len 0 l.store);
+  most : l.amount ≤ l.store * MAX_BLOCKS;
+}

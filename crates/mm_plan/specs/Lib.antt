@@ -1,0 +1,5 @@
+pub mod Table
+pub mod Volumes
+pub mod Fit
+pub mod Least
+pub mod Filled

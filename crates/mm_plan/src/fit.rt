@@ -1,0 +1,92 @@
+//! Whether a plan fits the pass windows and the limits of the channels.
+ghost use Rattle.std.specs.Prelude.{◌≡◌, ℕ, ◌≤◌, ◌↔◌, length, IsTrue, IsOk, IfErr};
+ghost use Rattle.std.specs.List.{sum_by};
+ghost use Rattle.mm_problem.specs.declared.limits.TheConstants.{MAX_STORES, MAX_BLOCKS};
+ghost use Rattle.mm_problem.specs.Dumping.{stores, stores_of};
+ghost use Rattle.mm_plan.specs.Table.{amount, HasShape};
+ghost use Rattle.mm_plan.specs.Fit.{in_step, FitsAt, Fits, FitsLimit, IsFirstMisfit};
+
+use crate::plan::Plan;
+use mm_problem::Problem;
+
+// What is to leave all stores in a step.
+#[tactic(auto, using(crate::proofs::RangeSums::sum_by_range_more))]
+fn step_amount(problem: &Problem, plan: &Plan, step: u32) -> u64
+    requires shape { HasShape problem.now plan.now }
+    requires first { 1 ≤ step }
+    requires last { step ≤ length problem.now.windows }
+    ensures { result ≡ sum_by (in_step (amount plan.now) step) (stores problem.now) }
+{
+    let mut amount: u64 = 0;
+    for store in 0..problem.stores() {
+        amount += u64::from(plan.amount(store, step));
+    }
+    amount
+}
+
+// What is to leave the stores of a channel in a step.
+#[tactic(auto, using(crate::proofs::RangeSums::sum_by_filter_range_more))]
+fn channel_amount(problem: &Problem, plan: &Plan, channel: u8, step: u32) -> u64
+    requires shape { HasShape problem.now plan.now }
+    requires first { 1 ≤ step }
+    requires last { step ≤ length problem.now.windows }
+    ensures { result ≡ sum_by (in_step (amount plan.now) step) (stores_of problem.now channel) }
+{
+    let mut amount: u64 = 0;
+    for store in 0..problem.stores() {
+        if problem.channel(store) == channel {
+            amount += u64::from(plan.amount(store, step));
+        }
+    }
+    amount
+}
+
+fn fits_limit(problem: &Problem, plan: &Plan, channel: u8, step: u32) -> bool
+    requires shape { HasShape problem.now plan.now }
+    requires first { 1 ≤ step }
+    requires last { step ≤ length problem.now.windows }
+    ensures { IsTrue result ↔ FitsLimit problem.now (amount plan.now) step channel }
+{
+    match problem.limit(channel) {
+        Some(blocks) => channel_amount(problem, plan, channel, step) <= u64::from(blocks),
+        None => true,
+    }
+}
+
+fn fits_limits(problem: &Problem, plan: &Plan, step: u32) -> bool
+    requires shape { HasShape problem.now plan.now }
+    requires first { 1 ≤ step }
+    requires last { step ≤ length problem.now.windows }
+    ensures { IsTrue result ↔ ((c : ℕ) → FitsLimit problem.now (amount plan.now) step c) }
+{
+    for channel in 0..problem.channels() {
+        if !fits_limit(problem, plan, channel, step) {
+            return false;
+        }
+    }
+    true
+}
+
+fn fits_at(problem: &Problem, plan: &Plan, step: u32) -> bool
+    requires shape { HasShape problem.now plan.now }
+    requires first { 1 ≤ step }
+    requires last { step ≤ length problem.now.windows }
+    ensures { IsTrue result ↔ FitsAt problem.now (amount plan.now) step }
+{
+    step_amount(problem, plan, step) <= u64::from(problem.window(step))
+        && fits_limits(problem, plan, step)
+}
+
+/// Whether the plan fits the window and the channels' limits of each step; otherwise the first step that it does not fit.
+pub fn fits(problem: &Problem, plan: &Plan) -> Result<(), u32>
+    requires { HasShape problem.now plan.now }
+    ensures ok { IsOk result ↔ Fits problem.now (amount plan.now) }
+    ensures misfit { IfErr result (IsFirstMisfit problem.now (amount plan.now)) }
+{
+    for step in 1..problem.steps() + 1 {
+        if !fits_at(problem, plan, step) {
+            return Err(step);
+        }
+    }
+    Ok(())
+}

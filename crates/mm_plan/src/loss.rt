@@ -1,0 +1,42 @@
+//! What a plan loses.
+ghost use Rattle.std.specs.Prelude.{◌≡◌, ◌+◌, ◌*◌, ◌<◌, ◌≤◌, length};
+ghost use Rattle.mm_problem.specs.declared.limits.TheConstants.{MAX_STORES, MAX_STEPS, MAX_BLOCKS};
+ghost use Rattle.mm_problem.specs.Dumping.{Dumping};
+ghost use Rattle.mm_plan.specs.Table.{amount, HasShape};
+ghost use Rattle.mm_plan.specs.Volumes.{store_loss, loss};
+
+use crate::plan::Plan;
+use mm_problem::Problem;
+
+// How many blocks one store loses over all steps.
+fn store_loss(problem: &Problem, plan: &Plan, store: usize) -> u64
+    requires shape { HasShape problem.now plan.now }
+    requires store { store < length problem.now.rows }
+    ensures loss { result ≡ store_loss problem.now (amount plan.now) store }
+    ensures most { result ≤ 2 * MAX_BLOCKS * MAX_STEPS }
+{
+    let size = problem.size(store);
+    let mut left = problem.start(store);
+    let mut lost: u64 = 0;
+    for step in 1..problem.steps() + 1 {
+        let coming = left + problem.arrivals(store, step);
+        let written = coming.min(size);
+        lost += u64::from(coming - written);
+        left = written - plan.amount(store, step).min(written);
+    }
+    lost
+}
+
+/// How many blocks are lost where the plan is carried out and what arrives is the problem's arrivals.
+#[tactic(auto, using(crate::proofs::RangeSums::sum_by_range_more))]
+pub fn loss_of(problem: &Problem, plan: &Plan) -> u64
+    requires { HasShape problem.now plan.now }
+    ensures loss { result ≡ loss problem.now (amount plan.now) }
+    ensures most { result ≤ 2 * MAX_BLOCKS * MAX_STEPS * MAX_STORES }
+{
+    let mut lost: u64 = 0;
+    for store in 0..problem.stores() {
+        lost += store_loss(problem, plan, store);
+    }
+    lost
+}

@@ -1,0 +1,46 @@
+//! A dump plan: for each step and store, how many blocks are to be sent down.
+ghost use Rattle.std.specs.Prelude.{◌≡◌, ◌≤◌, ◌↔◌, IsTrue};
+ghost use Rattle.mm_problem.specs.declared.limits.TheConstants.{MAX_BLOCKS};
+ghost use Rattle.mm_plan.specs.Table.{amount, HasShape, IsPlace, IsTable};
+
+use mm_problem::Problem;
+use std::marker::Model;
+
+/// A dump plan: a table of amounts in blocks, a row for each step and in it a place for each store. Stores count
+/// from 0, steps from 1.
+#[derive(Debug, Drop)]
+pub struct Plan {
+    pub(crate) stores: usize,
+    pub(crate) steps: u32,
+    // step by step, in each the stores in order
+    pub(crate) amounts: Vec<u32>,
+}
+
+impl Model for Plan {
+    ghost use Rattle.mm_plan.specs.Table.{Table, IsTable};
+
+    ghost Value = { Table };
+
+    ghost view = { λ a. record { stores = a.stores; steps = a.steps; amounts = a.amounts.items } };
+
+    ghost invariant = { λ a. IsTable (record { stores = a.stores; steps = a.steps; amounts = a.amounts.items }) };
+}
+
+impl Plan {
+    /// How many blocks are to leave a store in a step.
+    pub fn amount(&self, store: usize, step: u32) -> u32
+        requires { IsPlace self.now store step }
+        ensures amount { result ≡ amount self.now store step }
+        ensures most { result ≤ MAX_BLOCKS }
+    {
+        self.amounts[(step as usize - 1) * self.stores + store]
+    }
+
+    /// Whether the plan has as many stores and steps as the problem.
+    pub fn has_shape(&self, problem: &Problem) -> bool
+        ensures shape { IsTrue result ↔ HasShape problem.now self.now }
+        ensures is_table { IsTable self.now }
+    {
+        self.stores == problem.stores() && self.steps == problem.steps()
+    }
+}

@@ -1,0 +1,90 @@
+-- The memory dumping problem, as numbers: stores counted from 0 in setup order, steps from 1.
+use Rattle.std.specs.Prelude.{◌≡◌, ℕ, ◌+◌, ◌-◌, ◌*◌, ◌≤◌, Bool, ◌==◌, List, [], length, filter, All, Option, None, slice_index, slice_index_or, IfSome}
+use Rattle.std.specs.List.{position_or_len, range_with_len}
+use Rattle.std.specs.Str.{bytes_eq}
+use Rattle.mm_problem.specs.declared.limits.TheConstants.{MAX_STEPS, MAX_BLOCKS, CHANNELS}
+use Rattle.mm_problem.specs.declared.kind.Kind.TheVariants.{Circular}
+use Rattle.mm_problem.specs.declared.rows.StoreRow.{StoreRow}
+use Rattle.mm_problem.specs.Setup.{AreStores}
+
+pub record Dumping : Type 0 where
+  pub rows : List StoreRow
+  -- of each channel, the blocks that may leave its stores in one step, where it has a limit
+  pub limits : List (Option ℕ)
+  -- of each step
+  pub windows : List ℕ
+  -- step by step, in each the stores in order
+  pub arrived : List ℕ
+
+abbrev pub no_row : StoreRow
+no_row = record { id = []; size = 0; start = 0; kind = Circular; channel = 0 }
+
+abbrev pub row : Dumping → ℕ → StoreRow
+row q s = slice_index_or q.rows s no_row
+
+-- the place of the row with an identifier, and the number of rows where none has it
+abbrev pub place_in : List StoreRow → List ℕ → ℕ
+place_in rows id = position_or_len (λ r. bytes_eq r.id id) rows
+
+abbrev pub place : Dumping → List ℕ → ℕ
+place q id = place_in q.rows id
+
+abbrev pub size : Dumping → ℕ → ℕ
+size q s = (row q s).size
+
+abbrev pub start : Dumping → ℕ → ℕ
+start q s = (row q s).start
+
+abbrev pub channel : Dumping → ℕ → ℕ
+channel q s = (row q s).channel
+
+-- the blocks of the channel that may leave in one step, where it has a limit
+abbrev pub limit : Dumping → ℕ → Option ℕ
+limit q c = slice_index_or q.limits c None
+
+-- the blocks that may leave all stores in the step
+abbrev pub window : Dumping → ℕ → ℕ
+window q t = slice_index q.windows (t - 1)
+
+-- the blocks that come to the store in the step
+abbrev pub arrivals : Dumping → ℕ → ℕ → ℕ
+arrivals q s t = slice_index q.arrived ((t - 1) * length q.rows + s)
+
+abbrev pub stores : Dumping → List ℕ
+stores q = range_with_len 0 (length q.rows)
+
+abbrev pub steps : Dumping → List ℕ
+steps q = range_with_len 1 (length q.windows)
+
+abbrev pub channels : Dumping → List ℕ
+channels q = range_with_len 0 (length q.limits)
+
+-- whether a store is of a channel
+abbrev pub is_of : Dumping → ℕ → ℕ → Bool
+is_of q c s = channel q s == c
+
+abbrev pub stores_of : Dumping → ℕ → List ℕ
+stores_of q c = filter (is_of q c) (stores q)
+
+-- windows and arrivals for 1 to 256 steps
+pub record AreSteps (rows : List StoreRow) (windows arrived : List ℕ) : Type 0 where
+  pub has_step : 1 ≤ length windows
+  pub at_most : length windows ≤ MAX_STEPS
+  pub table : length arrived ≡ length windows * length rows
+  pub each_window : All (λ n. n ≤ MAX_BLOCKS) windows
+  pub each_arrival : All (λ n. n ≤ MAX_BLOCKS) arrived
+
+-- a limit within the range of the profile
+abbrev pub IsLimit : Option ℕ → Type 0
+IsLimit o = IfSome o (λ n. n ≤ MAX_BLOCKS)
+
+-- one limit or none for each channel
+pub record AreChannels (limits : List (Option ℕ)) : Type 0 where
+  pub all : length limits ≡ CHANNELS
+  pub each : All IsLimit limits
+
+-- the numbers of a problem within all ranges
+pub record IsDumping (q : Dumping) : Type 0 where
+  pub stores : AreStores q.rows
+  pub steps : AreSteps q.rows q.windows q.arrived
+  pub channels : AreChannels q.limits

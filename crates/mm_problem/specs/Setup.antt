@@ -1,0 +1,62 @@
+-- What a setup says: packet stores, routes and limits of channels.
+use Rattle.std.specs.Prelude.{◌≢◌, ◌≤◌, List, length, map, All, AllPairs, Contains}
+use Rattle.mm_problem.specs.declared.limits.TheConstants.{MAX_STORES, MAX_BLOCKS, MAX_CHANNEL, MAX_APID, MAX_ROUTES, CHANNELS}
+use Rattle.mm_problem.specs.declared.rows.StoreRow.{StoreRow}
+use Rattle.mm_problem.specs.declared.rows.RouteRow.{RouteRow}
+use Rattle.mm_problem.specs.declared.rows.LimitRow.{LimitRow}
+
+-- the rows of a setup, in its order
+pub record SetupRows : Type 0 where
+  pub stores : List StoreRow
+  pub routes : List RouteRow
+  pub limits : List LimitRow
+
+-- a store within the ranges of the profile
+pub record IsStoreRow (r : StoreRow) : Type 0 where
+  pub has_room : 1 ≤ r.size
+  pub size : r.size ≤ MAX_BLOCKS
+  pub start : r.start ≤ r.size
+  pub channel : r.channel ≤ MAX_CHANNEL
+
+-- two stores with identifiers of their own
+abbrev pub HaveOtherIds : StoreRow → StoreRow → Type 0
+HaveOtherIds a b = a.id ≢ b.id
+
+-- 1 to 16 stores with identifiers of their own
+pub record AreStores (stores : List StoreRow) : Type 0 where
+  pub has_store : 1 ≤ length stores
+  pub at_most : length stores ≤ MAX_STORES
+  pub each : All IsStoreRow stores
+  pub named : AllPairs HaveOtherIds stores
+
+-- a route of a store that there is
+pub record IsRouteRow (stores : List StoreRow) (r : RouteRow) : Type 0 where
+  pub apid : r.apid ≤ MAX_APID
+  pub store : Contains (map (λ s. s.id) stores) r.store
+
+-- at most 256 routes, none twice
+pub record AreRoutes (stores : List StoreRow) (routes : List RouteRow) : Type 0 where
+  pub at_most : length routes ≤ MAX_ROUTES
+  pub each : All (IsRouteRow stores) routes
+  pub once : AllPairs ◌≢◌ routes
+
+-- a limit within the ranges of the profile
+pub record IsLimitRow (r : LimitRow) : Type 0 where
+  pub channel : r.channel ≤ MAX_CHANNEL
+  pub blocks : r.blocks ≤ MAX_BLOCKS
+
+-- two limits of two channels
+abbrev pub HaveOtherChannels : LimitRow → LimitRow → Type 0
+HaveOtherChannels a b = a.channel ≢ b.channel
+
+-- at most one limit for each channel
+pub record AreLimits (limits : List LimitRow) : Type 0 where
+  pub at_most : length limits ≤ CHANNELS
+  pub each : All IsLimitRow limits
+  pub once : AllPairs HaveOtherChannels limits
+
+-- the rows of a setup within all ranges
+pub record IsSetup (m : SetupRows) : Type 0 where
+  pub stores : AreStores m.stores
+  pub routes : AreRoutes m.stores m.routes
+  pub limits : AreLimits m.limits

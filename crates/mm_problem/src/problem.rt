@@ -1,0 +1,147 @@
+//! The dumping problem: what the setup and the forecast say together.
+ghost use Rattle.std.specs.Prelude.{◌≡◌, ℕ, ◌+◌, ◌-◌, ◌*◌, ◌<◌, ◌≤◌, length, IfSome, IfNone};
+ghost use Rattle.mm_problem.specs.declared.limits.TheConstants.{MAX_STORES, MAX_STEPS, MAX_BLOCKS, MAX_CHANNEL, CHANNELS};
+ghost use Rattle.mm_problem.specs.Dumping.{row, place_in, place, size, start, channel, limit, window, arrivals, IsDumping};
+
+use crate::id::StoreId;
+use crate::limits::CHANNELS;
+use crate::rows::StoreRow;
+use std::marker::Model;
+
+/// A problem of memory dumping: stores with sizes, start volumes and channels, limits of channels, and for each step
+/// a pass window and what arrives at each store, all in blocks. Stores count from 0 in setup order, steps from 1.
+#[derive(Debug, Drop)]
+pub struct Problem {
+    pub(crate) rows: Vec<StoreRow>,
+    pub(crate) limits: [Option<u32>; CHANNELS],
+    pub(crate) windows: Vec<u32>,
+    // step by step, in each the stores in order
+    pub(crate) arrived: Vec<u32>,
+}
+
+impl Model for Problem {
+    ghost use Rattle.mm_problem.specs.Dumping.{Dumping, IsDumping};
+
+    ghost Value = { Dumping };
+
+    ghost view = { λ a. record { rows = a.rows.items; limits = a.limits; windows = a.windows.items; arrived = a.arrived.items } };
+
+    ghost invariant = { λ a. IsDumping (record { rows = a.rows.items; limits = a.limits; windows = a.windows.items; arrived = a.arrived.items }) };
+}
+
+// The place of the store with this identifier, or the number of stores.
+fn place_in(rows: &[StoreRow], id: &StoreId) -> usize
+    ensures place { result ≡ place_in rows.now id.now }
+    ensures within { result ≤ length rows.now }
+{
+    for (place, row) in rows.iter().enumerate() {
+        if row.id == *id {
+            return place;
+        }
+    }
+    rows.len()
+}
+
+impl Problem {
+    /// How many stores there are, 1 to 16.
+    pub fn stores(&self) -> usize
+        ensures stores { result ≡ length self.now.rows }
+        ensures is_dumping { IsDumping self.now }
+    {
+        self.rows.len()
+    }
+
+    /// How many steps there are, 1 to 256.
+    pub fn steps(&self) -> u32
+        ensures steps { result ≡ length self.now.windows }
+        ensures is_dumping { IsDumping self.now }
+    {
+        self.windows.len() as u32
+    }
+
+    /// How many virtual channels there are: 8.
+    pub fn channels(&self) -> u8
+        ensures channels { result ≡ length self.now.limits }
+        ensures is_dumping { IsDumping self.now }
+    {
+        let limits = &self.limits;
+        limits.len() as u8
+    }
+
+    /// The place of the store with this identifier, from 0, or none.
+    pub fn place(&self, id: &StoreId) -> Option<usize>
+        ensures found { IfSome result (λ s. (s ≡ place self.now id.now) × (s < length self.now.rows)) }
+        ensures none { IfNone result (place self.now id.now ≡ length self.now.rows) }
+    {
+        let place = place_in(self.rows.as_slice(), id);
+        if place < self.rows.len() {
+            Some(place)
+        } else {
+            None
+        }
+    }
+
+    /// The identifier of a store.
+    pub fn id(&self, store: usize) -> StoreId
+        requires store { store < length self.now.rows }
+        ensures id { result ≡ (row self.now store).id }
+    {
+        self.rows[store].id
+    }
+
+    /// How many blocks a store holds at the most.
+    pub fn size(&self, store: usize) -> u32
+        requires store { store < length self.now.rows }
+        ensures size { result ≡ size self.now store }
+        ensures most { result ≤ MAX_BLOCKS }
+    {
+        self.rows[store].size
+    }
+
+    /// How many blocks a store holds as the first step begins.
+    pub fn start(&self, store: usize) -> u32
+        requires store { store < length self.now.rows }
+        ensures start { result ≡ start self.now store }
+        ensures most { result ≤ MAX_BLOCKS }
+    {
+        self.rows[store].start
+    }
+
+    /// The virtual channel of a store, 0 to 7.
+    pub fn channel(&self, store: usize) -> u8
+        requires store { store < length self.now.rows }
+        ensures channel { result ≡ channel self.now store }
+        ensures most { result ≤ MAX_CHANNEL }
+    {
+        self.rows[store].channel
+    }
+
+    /// How many blocks may leave the stores of a channel together in one step; none where it has no limit.
+    pub fn limit(&self, channel: u8) -> Option<u32>
+        ensures limit { result ≡ limit self.now channel }
+        ensures most { IfSome result (λ blocks. blocks ≤ MAX_BLOCKS) }
+    {
+        self.limits.get(channel as usize).copied().unwrap_or(None)
+    }
+
+    /// How many blocks come to a store in a step.
+    pub fn arrivals(&self, store: usize, step: u32) -> u32
+        requires store { store < length self.now.rows }
+        requires first { 1 ≤ step }
+        requires last { step ≤ length self.now.windows }
+        ensures arrivals { result ≡ arrivals self.now store step }
+        ensures most { result ≤ MAX_BLOCKS }
+    {
+        self.arrived[(step as usize - 1) * self.rows.len() + store]
+    }
+
+    /// How many blocks may leave all stores together in a step.
+    pub fn window(&self, step: u32) -> u32
+        requires first { 1 ≤ step }
+        requires last { step ≤ length self.now.windows }
+        ensures window { result ≡ window self.now step }
+        ensures most { result ≤ MAX_BLOCKS }
+    {
+        self.windows[step as usize - 1]
+    }
+}
