@@ -4,7 +4,7 @@ ghost use Rattle.std.specs.List.{sum_by};
 ghost use Rattle.mm_problem.specs.declared.limits.TheConstants.{MAX_STORES, MAX_STEPS, MAX_BLOCKS, CHANNELS};
 ghost use Rattle.mm_problem.specs.Dumping.{IsDumping};
 ghost use Rattle.mm_cut.specs.Stretches.{is_inner_on, IsStretch};
-ghost use Rattle.mm_cut.specs.Cuts.{opening, coming, held, limit_or_0, limit_sum, leaving, leaving_sum, IsCut, bound};
+ghost use Rattle.mm_cut.specs.Cuts.{opening, coming, held, limit_sum, leaving, leaving_sum, IsCut, bound};
 
 use crate::counts::{is_inner, is_listed};
 use crate::stretches::{channel_of, covers, goes_past, store_of};

@@ -1,6 +1,6 @@
 -- A packet that was written is read again, whatever follows.
-use Rattle.std.proofs.Common.{◌≡◌, ℕ, ◌+◌, ◌*◌, ◌-◌, ◌/◌, ◌%◌, ◌^◌, ◌<◌, ◌≤◌, Bool, true, false, leb, List, [], ◌∷◌, ◌++◌, length, take, drop, Option, Some, None, Result, Ok, Err, refl, sym, ap, ◌∙◌, append_assoc, length-append, arith}
-use Rattle.std.specs.Prelude.{◌==◌, if◌then◌else◌, MatchResult}
+use Rattle.std.proofs.Common.{◌≡◌, ℕ, ◌+◌, ◌*◌, ◌/◌, ◌%◌, ◌^◌, ◌<◌, ◌≤◌, false, leb, List, ◌++◌, length, Some, None, Result, Ok, Err, refl, sym, ap, ◌∙◌, length-append, arith}
+use Rattle.std.specs.Prelude.{◌==◌, MatchResult}
 use Rattle.std.specs.Int.{w16, w64, to_be_bytes}
 use Rattle.std.proofs.lemmas.Bool.Decides.{nat_tests}
 use Rattle.std.proofs.lemmas.List.{take_at, drop_at}
@@ -12,8 +12,8 @@ use Rattle.mm_packet.specs.declared.header.TheConstants.{IDLE_APID}
 use Rattle.mm_packet.specs.declared.reading.Primary.{Primary}
 use Rattle.mm_packet.specs.declared.reading.Secondary.{Secondary}
 use Rattle.mm_packet.specs.Packet.{SpacePacket, FitsType, IsPacket, room_for_body}
-use Rattle.mm_packet.specs.Spelling.{type_bit, identification, sequence_control, data_length, type_fields, secondary_header, data_field, spelling}
-use Rattle.mm_packet.specs.Headers.{FitsPrimary, FitsSecondary, primary_octets, version_of, flag_of, sequence_flags_of, secondary_octets, primary_at, type_at, secondary_at, fault_of, is_telecommand, apid_of, count_of}
+use Rattle.mm_packet.specs.Spelling.{type_bit, identification, sequence_control, data_length, type_fields, data_field, spelling}
+use Rattle.mm_packet.specs.Headers.{FitsPrimary, primary_octets, version_of, flag_of, sequence_flags_of, secondary_octets, primary_at, type_at, secondary_at, fault_of, is_telecommand, apid_of, count_of}
 use Rattle.mm_packet.specs.Reading.{Fails, Gives, tested, data_field_at, packet_of, packet_at}
 use Rattle.mm_packet.proofs.NumberLemmas.{wide16, wide64, number_again}
 
@@ -25,21 +25,25 @@ primary_of packet = record { identification = identification packet; sequence_co
 secondary_of : SpacePacket → Secondary
 secondary_of packet = record { first = 2 * 2 ^ 4 + packet.header.low; service = packet.header.service; subtype = packet.header.subtype; kind = packet.kind }
 
+-- the numbers of a primary header are read again
 primary_again : (primary : Primary) (rest : List ℕ) → FitsPrimary primary → primary_at (primary_octets primary ++ rest) ≡ Some (primary, rest)
 unfolding primary_at
 primary_again primary rest small =
     rw (number_again w16 (2 ^ 16) wide16 primary.identification _ small.identification, number_again w16 (2 ^ 16) wide16 primary.sequence_control _ small.sequence_control, number_again w16 (2 ^ 16) wide16 primary.data_length _ small.data_length) refl
 
+-- the fields of a packet type are read again
 type_again : (kind : PacketType) (rest : List ℕ) → FitsType kind → type_at (type_bit kind == 1) (type_fields kind ++ rest) ≡ Some (kind, rest)
 unfolding type_at
 type_again (Telecommand source) rest small = rw (number_again w16 (2 ^ 16) wide16 source rest small) refl
 type_again (Telemetry counter destination time) rest small =
     rw (number_again w16 (2 ^ 16) wide16 counter (to_be_bytes w16 destination ++ (to_be_bytes w64 time ++ rest)) small.0, number_again w16 (2 ^ 16) wide16 destination (to_be_bytes w64 time ++ rest) small.1, number_again w64 (2 ^ 64) wide64 time rest small.2) refl
 
+-- a secondary header is read again
 secondary_again : (secondary : Secondary) (rest : List ℕ) → FitsType secondary.kind → secondary_at (type_bit secondary.kind == 1) (secondary_octets secondary ++ rest) ≡ Some (secondary, rest)
 unfolding secondary_at
 secondary_again secondary rest small = rw (type_again secondary.kind rest small) refl
 
+-- a data field is found again, and what follows it
 data_field_again : (primary : Primary) (field rest : List ℕ) → length field ≡ primary.data_length + 1 → data_field_at primary (field ++ rest) ≡ Some (field, rest)
 data_field_again primary field rest len =
     let long : leb (length (field ++ rest)) primary.data_length ≡ false = grind (arith, nat_tests, length-append field rest) in
@@ -55,12 +59,15 @@ field_len : (kind : PacketType) (body : List ℕ) → length body ≤ room_for_b
 field_len (Telecommand source) body small = omega arith
 field_len (Telemetry counter destination time) body small = omega arith
 
+-- a primary header with the bits of the profile passes its tests
 no_fault : (primary : Primary) → version_of primary ≡ 0 → apid_of primary < IDLE_APID → flag_of primary ≡ 1 → sequence_flags_of primary ≡ 3 → fault_of primary ≡ None
 no_fault primary version apid flag flags = grind (arith, nat_tests)
 
+-- a primary header that no test refuses is passed on
 tested_passes : (primary : Primary) → fault_of primary ≡ None → tested primary ≡ Ok primary
 tested_passes primary none = rw none refl
 
+-- a packet's primary header passes its tests
 tested_again : (packet : SpacePacket) → IsPacket packet → tested (primary_of packet) ≡ Ok (primary_of packet)
 unfolding primary_of
 tested_again packet fits =
@@ -75,6 +82,7 @@ record Parts (packet : SpacePacket) : Type 0 where
   version : (secondary_of packet).first / 2 ^ 4 ≡ 2
   low : (secondary_of packet).first % 2 ^ 4 ≡ packet.header.low
 
+-- a packet's headers have its fields
 parts_of : (packet : SpacePacket) → IsPacket packet → Parts packet
 unfolding primary_of secondary_of
 parts_of packet fits =
@@ -94,6 +102,7 @@ made_again packet fits =
     let parts = parts_of packet fits in
     rw (parts.apid, parts.count, parts.low) refl
 
+-- a packet that was written is read again, whatever follows
 pub packet_again : (packet : SpacePacket) (rest : List ℕ) → IsPacket packet → packet_at (spelling packet ++ rest) ≡ Ok (packet, rest)
 unfolding packet_at primary_of secondary_of
 packet_again packet rest fits =

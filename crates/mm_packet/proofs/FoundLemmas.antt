@@ -1,6 +1,6 @@
 -- What is read is spelled so.
-use Rattle.std.proofs.Common.{◌≡◌, ℕ, ◌+◌, ◌*◌, ◌-◌, ◌/◌, ◌%◌, ◌^◌, ◌<◌, ◌≤◌, Bool, true, false, cond, List, ◌∷◌, ◌++◌, length, Option, Some, None, refl, sym, ap, ◌∙◌, append_assoc, length-append, arith}
-use Rattle.std.specs.Prelude.{◌==◌, not, if◌then◌else◌}
+use Rattle.std.proofs.Common.{◌≡◌, ℕ, ◌+◌, ◌*◌, ◌/◌, ◌%◌, ◌^◌, ◌<◌, ◌≤◌, Bool, true, false, cond, List, ◌∷◌, ◌++◌, length, Option, Some, None, refl, sym, ap, ◌∙◌, length-append, arith}
+use Rattle.std.specs.Prelude.{if◌then◌else◌}
 use Rattle.std.specs.Int.{w16, to_be_bytes}
 use Rattle.std.proofs.lemmas.Bool.Decides.{nat_tests}
 use Rattle.mm_packet.specs.declared.fault.Fault.{Fault}
@@ -9,7 +9,7 @@ use Rattle.mm_packet.specs.declared.reading.Secondary.{Secondary}
 use Rattle.mm_packet.specs.declared.header.PacketType.{PacketType}
 use Rattle.mm_packet.specs.declared.header.TheConstants.{IDLE_APID}
 use Rattle.mm_packet.specs.declared.header.PacketType.TheVariants.{Telecommand, Telemetry}
-use Rattle.mm_packet.specs.Packet.{FitsType, room_for_body, IsPacket}
+use Rattle.mm_packet.specs.Packet.{room_for_body, IsPacket}
 use Rattle.mm_packet.specs.Spelling.{identification, sequence_control, data_length, type_bit, type_fields, spelling}
 use Rattle.mm_packet.specs.Headers.{primary_octets, secondary_octets, FitsPrimary, FitsSecondary, fault_of, version_of, flag_of, apid_of, sequence_flags_of, is_telecommand}
 use Rattle.mm_packet.specs.Reading.{packet_of}
@@ -26,6 +26,7 @@ pub record Passes (primary : Primary) : Type 0 where
   pub flag : flag_of primary ≡ 1
   pub sequence_flags : sequence_flags_of primary ≡ 3
 
+-- where no test refuses a primary header, it has the fixed bits
 pub passes : (primary : Primary) → fault_of primary ≡ None → Passes primary
 passes primary none =
     record { version = grind (arith, nat_tests); apid = grind (arith, nat_tests); flag = grind (arith, nat_tests); sequence_flags = grind (arith, nat_tests) }

@@ -12,6 +12,7 @@ use Rattle.mm_packet.specs.Packet.{FitsType}
 use Rattle.mm_packet.specs.Spelling.{type_fields}
 use Rattle.mm_packet.specs.Number.{front_octet, number_at}
 
+-- the next field, where the octets have not ended yet
 infixl 10 ◌>>=◌
 abbrev pub ◌>>=◌ : {A B : Type 0} → Option A → (A → Option B) → Option B
 None >>= f = None

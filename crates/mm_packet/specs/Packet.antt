@@ -1,5 +1,5 @@
 -- What a space packet is, by its fields.
-use Rattle.std.specs.Prelude.{◌≡◌, ℕ, ◌<◌, ◌≤◌, ◌^◌, List, length, Option, Some, None}
+use Rattle.std.specs.Prelude.{ℕ, ◌<◌, ◌≤◌, ◌^◌, List, length, Option, Some, None}
 use Rattle.mm_packet.specs.declared.header.Header.{Header}
 use Rattle.mm_packet.specs.declared.header.PacketType.{PacketType}
 use Rattle.mm_packet.specs.declared.header.PacketType.TheVariants.{Telecommand, Telemetry}

@@ -1,5 +1,5 @@
 -- Reading a packet: the first test that fails, or the packet at the front and what follows it.
-use Rattle.std.specs.Prelude.{◌≡◌, ℕ, ◌+◌, ◌/◌, ◌%◌, ◌^◌, Bool, nat_le, ◌==◌, List, length, take, drop, Result, Ok, Err, IsOk, if◌then◌else◌, not}
+use Rattle.std.specs.Prelude.{◌≡◌, ℕ, ◌+◌, ◌/◌, ◌%◌, ◌^◌, nat_le, ◌==◌, List, length, take, drop, Result, Ok, Err, IsOk, if◌then◌else◌}
 use Rattle.std.specs.Option.{ok_or}
 use Rattle.mm_packet.specs.declared.fault.Fault.{Fault}
 use Rattle.mm_packet.specs.declared.fault.Fault.TheVariants.{NoMemory, Short, HeaderCut, PusVersion}
@@ -10,6 +10,7 @@ use Rattle.mm_packet.specs.Packet.{SpacePacket}
 use Rattle.mm_packet.specs.Headers.{primary_at, secondary_at, fault_of, is_telecommand, apid_of, count_of}
 use Rattle.std.specs.Prelude.{Option, Some, None}
 
+-- the next step of reading, where no test has failed yet
 infixl 10 ◌>>=◌
 abbrev pub ◌>>=◌ : {A B : Type 0} → Result A Fault → (A → Result B Fault) → Result B Fault
 (Ok x) >>= f = f x

@@ -16,7 +16,7 @@ pub struct Header {
     pub apid: u16,
     /// The packet sequence count, below 16,384.
     pub count: u16,
-    /// The acknowledgement flags of a telecommand, the time reference status of telemetry: below 16.
+    /// The acknowledgement flags (telecommand) or the time reference status (telemetry), below 16.
     pub low: u8,
     /// The service type.
     pub service: u8,
@@ -31,7 +31,7 @@ pub enum PacketType {
     Telecommand {
         source: u16,
     },
-    /// `counter` is the message type counter, `destination` the destination identifier, `time` a count of ticks.
+    /// The message type counter, the destination identifier, and the time in ticks.
     Telemetry {
         counter: u16,
         destination: u16,

@@ -1,4 +1,4 @@
-//! Space packets of CCSDS 133.0-B with the secondary headers of this project's profile of ECSS-E-ST-70-41C.
+//! Space packets of CCSDS 133.0-B, with the secondary headers of ECSS-E-ST-70-41C in this profile.
 #![tactic(auto)]
 
 mod block;

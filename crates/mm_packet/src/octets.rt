@@ -3,7 +3,7 @@ ghost use Rattle.std.specs.Prelude.{◌≡◌};
 
 use std::marker::Model;
 
-/// A list of octets, which contracts see as that list. It is made from a `Vec` and gives it back without memory.
+/// A list of octets, which contracts see as that list. It is made from a `Vec` and gives it back.
 #[derive(Debug, Drop)]
 pub struct Octets {
     bytes: Vec<u8>,

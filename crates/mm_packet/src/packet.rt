@@ -32,7 +32,9 @@ impl Packet {
         requires count { header.count < 2 ^ 14 }
         requires low { header.low < 2 ^ 4 }
         requires room { length body ≤ TELECOMMAND_BODY }
-        ensures fields { result ≡ record { header = header; kind = PacketType.Telecommand source; body = body } }
+        ensures header { result.header ≡ header }
+        ensures kind { result.kind ≡ PacketType.Telecommand source }
+        ensures body { result.body ≡ body }
     {
         Packet {
             header,
@@ -47,7 +49,9 @@ impl Packet {
         requires count { header.count < 2 ^ 14 }
         requires low { header.low < 2 ^ 4 }
         requires room { length body ≤ TELEMETRY_BODY }
-        ensures fields { result ≡ record { header = header; kind = PacketType.Telemetry counter destination time; body = body } }
+        ensures header { result.header ≡ header }
+        ensures kind { result.kind ≡ PacketType.Telemetry counter destination time }
+        ensures body { result.body ≡ body }
     {
         Packet {
             header,

@@ -170,7 +170,8 @@ impl Packet {
         // A packet that is spelled there is read, unless memory runs out.
         ensures only { (packet : SpacePacket) (rest : List ℕ) → IsPacket packet
             → octets.now ≡ spelling packet ++ rest
-            → MatchResult result (λ x. (x.0 ≡ packet) × (x.1.now ≡ rest)) (λ fault. fault ≡ Fault.NoMemory) }
+            → MatchResult result (λ x. (x.0 ≡ packet) × (x.1.now ≡ rest))
+            (λ fault. fault ≡ Fault.NoMemory) }
         // Which refusal it is: the first test that fails.
         ensures exact { Gives (λ x. (x.0, x.1.now)) result (packet_at octets.now) }
     {

@@ -1,3 +1,14 @@
 pub mod RangeSums
 pub mod Steps
 pub mod Limits
+pub mod Options
+pub mod IdTexts
+pub mod NumberTexts
+pub mod Spelled
+pub mod Lines
+pub mod Drafts
+pub mod Runs
+pub mod Completions
+pub mod Texts
+pub mod Shapes
+pub mod Prints

@@ -3,3 +3,8 @@ pub mod Volumes
 pub mod Fit
 pub mod Least
 pub mod Filled
+pub mod Fault
+pub mod Sheet
+pub mod Reading
+pub mod Seen
+pub mod Printing

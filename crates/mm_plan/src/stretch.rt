@@ -2,6 +2,12 @@
 
 use mm_problem::StoreId;
 
+/// The most stretches of a sheet.
+pub const MAX_STRETCHES: usize = 4096;
+
+/// The most steps of a sheet that are counted by channels.
+pub const MAX_COUNTS: usize = 256;
+
 /// A run of steps of one store, both ends included, in a cut. Any steps may stand here.
 #[derive(Clone, Copy, Debug, PartialEq, Eq)]
 pub struct Stretch {

@@ -1,6 +1,6 @@
 -- The identifiers of packet stores.
 use Rattle.std.specs.Prelude.{◌≡◌, ℕ, ◌-◌, ◌≤◌, Bool, ◌==◌, nat_le, ◌&&◌, ◌||◌, List, ◌++◌, length, IsTrue, All}
-use Rattle.std.specs.List.{before_first}
+use Rattle.std.specs.List.{before_first, list_all}
 use Rattle.std.proofs.Math.ListN.{replicate}
 
 -- `A-Z`, `0-9`, `_` and `-`
@@ -12,6 +12,10 @@ pub record IsIdText (text : List ℕ) : Type 0 where
   pub has_some : 1 ≤ length text
   pub at_most_eight : length text ≤ 8
   pub each : All (λ c. IsTrue (is_id_char c)) text
+
+-- whether a text is one
+abbrev pub is_id_text : List ℕ → Bool
+is_id_text text = nat_le 1 (length text) && nat_le (length text) 8 && list_all is_id_char text
 
 -- a text padded with spaces to eight octets
 abbrev pub field_of : List ℕ → List ℕ

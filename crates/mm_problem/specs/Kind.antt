@@ -1,5 +1,5 @@
 -- The kinds of packet stores.
-use Rattle.std.specs.Prelude.{◌≡◌, ℕ, ◌<◌, Result, MatchResult}
+use Rattle.std.specs.Prelude.{◌≡◌, ℕ, ◌<◌, List, codes, Result, MatchResult}
 use Rattle.mm_problem.specs.declared.kind.Kind.{Kind}
 use Rattle.mm_problem.specs.declared.kind.Kind.TheVariants.{Circular, Bounded}
 use Rattle.mm_problem.specs.declared.fault.Fault.{Fault}
@@ -13,3 +13,8 @@ code_of Bounded = 1
 -- the kind with this code, or `BadEnum` where no kind has it
 abbrev pub DecodesKind : ℕ → Result Kind Fault → Type 0
 DecodesKind code r = MatchResult r (λ kind. code_of kind ≡ code) (λ e. (e ≡ BadEnum) × (1 < code))
+
+-- the word for a kind in a setup
+abbrev pub word_of : Kind → List ℕ
+word_of Circular = codes "circular"
+word_of Bounded = codes "bounded"

@@ -1,6 +1,6 @@
 //! Whether a packet store is circular or bounded.
 ghost use Rattle.std.specs.Prelude.{◌≡◌};
-ghost use Rattle.mm_problem.specs.Kind.{code_of, DecodesKind};
+ghost use Rattle.mm_problem.specs.Kind.{code_of, word_of, DecodesKind};
 
 use crate::fault::Fault;
 
@@ -31,6 +31,15 @@ impl Kind {
         match self {
             Kind::Circular => 0,
             Kind::Bounded => 1,
+        }
+    }
+    // The word for the kind in a setup.
+    pub(crate) fn word(self) -> &'static str
+        ensures word { result.now ≡ word_of self }
+    {
+        match self {
+            Kind::Circular => "circular",
+            Kind::Bounded => "bounded",
         }
     }
 }

@@ -1,13 +1,24 @@
 //! The setup and the forecast of a spacecraft's mass memory, read as one dumping problem.
 #![tactic(auto)]
 
+mod cells;
+mod document;
 mod fault;
 mod id;
+mod keys;
 mod kind;
+pub mod laws;
 mod limits;
+pub mod numbers;
 mod problem;
+mod reading;
+mod records;
 mod rows;
 mod setup;
+mod steps;
+mod tables;
+#[cfg(test)]
+mod tests;
 
 pub use fault::{Fault, Name};
 pub use id::StoreId;

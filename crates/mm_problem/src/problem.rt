@@ -2,10 +2,16 @@
 ghost use Rattle.std.specs.Prelude.{◌≡◌, ℕ, ◌+◌, ◌-◌, ◌*◌, ◌<◌, ◌≤◌, length, IfSome, IfNone};
 ghost use Rattle.mm_problem.specs.declared.limits.TheConstants.{MAX_STORES, MAX_STEPS, MAX_BLOCKS, MAX_CHANNEL, CHANNELS};
 ghost use Rattle.mm_problem.specs.Dumping.{row, place_in, place, size, start, channel, limit, window, arrivals, IsDumping};
+ghost use Rattle.mm_problem.specs.Forecast.{limit_of, limits_of, problem_of};
+ghost use Rattle.mm_problem.specs.Reading.{Gives};
 
+use crate::fault::Fault;
 use crate::id::StoreId;
 use crate::limits::CHANNELS;
-use crate::rows::StoreRow;
+use crate::rows::{LimitRow, StoreRow};
+use crate::setup::Setup;
+use crate::steps::{StepTable, forecast_of};
+use std::alloc::Global;
 use std::marker::Model;
 
 /// A problem of memory dumping: stores with sizes, start volumes and channels, limits of channels, and for each step
@@ -42,7 +48,47 @@ fn place_in(rows: &[StoreRow], id: &StoreId) -> usize
     rows.len()
 }
 
+// The limit of a channel, where there is one.
+fn limit_of(limits: &[LimitRow], channel: u8) -> Option<u32>
+    ensures { result ≡ limit_of limits.now channel }
+{
+    match limits.iter().find(|row| row.channel == channel) {
+        Some(row) => Some(row.blocks),
+        None => None,
+    }
+}
+
+// The limit of each channel.
+fn limits_of(limits: &[LimitRow]) -> [Option<u32>; CHANNELS]
+    ensures { result ≡ limits_of limits.now }
+{
+    let mut by_channel = [None; CHANNELS];
+    for channel in 0..CHANNELS {
+        by_channel[channel] = limit_of(limits, channel as u8);
+    }
+    by_channel
+}
+
 impl Problem {
+    /// The problem that a setup and the CSV text of a forecast say. Otherwise the first fault of the forecast: 29
+    /// `ForecastText`, 30 `Header`, 31 `Cell`, 32 `StepNumber` or 33 `Limit`; or 0 `NoMemory`.
+    #[tactic(auto, unfolding(crate::specs::Forecast::problem_of))]
+    pub fn read(alloc: Global, setup: &Setup, text: &[u8]) -> Result<Problem, Fault>
+        ensures problem { Gives (λ problem. problem) result (problem_of setup.now text.now) }
+    {
+        let stores = setup.stores();
+        let steps = forecast_of(alloc, stores, text)?;
+        let rows = Vec::from_slice(alloc, stores)?;
+        let limits = limits_of(setup.limits());
+        let StepTable { windows, arrived } = steps;
+        Ok(Problem {
+            rows,
+            limits,
+            windows,
+            arrived,
+        })
+    }
+
     /// How many stores there are, 1 to 16.
     pub fn stores(&self) -> usize
         ensures stores { result ≡ length self.now.rows }

@@ -1,8 +1,15 @@
 //! The setup: packet stores, routes of the storage control, and limits of channels.
 ghost use Rattle.std.specs.Prelude.{◌≡◌};
+ghost use Rattle.mm_problem.specs.Arrays.{lists_of};
+ghost use Rattle.mm_problem.specs.Document.{AreCounted, rows_of, setup_of};
+ghost use Rattle.mm_problem.specs.Reading.{Gives};
 ghost use Rattle.mm_problem.specs.Setup.{IsSetup};
 
+use crate::document::{Arrays, arrays_at, document_of, test_counts};
+use crate::fault::Fault;
 use crate::rows::{LimitRow, RouteRow, StoreRow};
+use crate::tables::{limits_of, routes_of, stores_of};
+use std::alloc::Global;
 use std::marker::Model;
 
 /// What a mission's setup says. Contracts see it as its rows.
@@ -23,7 +30,35 @@ impl Model for Setup {
     ghost invariant = { λ a. IsSetup (record { stores = a.stores.items; routes = a.routes.items; limits = a.limits.items }) };
 }
 
+// The setup that these arrays say.
+#[tactic(auto, unfolding(crate::specs::Document::rows_of))]
+fn setup_of(alloc: Global, arrays: Arrays<'_>) -> Result<Setup, Fault>
+    requires { AreCounted (lists_of arrays) }
+    ensures { Gives (λ setup. setup) result (rows_of (lists_of arrays.entry)) }
+{
+    let stores = stores_of(alloc, arrays.stores)?;
+    let routes = routes_of(alloc, stores.as_slice(), arrays.routes)?;
+    let limits = limits_of(alloc, arrays.limits)?;
+    Ok(Setup {
+        stores,
+        routes,
+        limits,
+    })
+}
+
 impl Setup {
+    /// The setup that a TOML text says. Otherwise the first fault of the text: 27 `SetupText`, 28 `SetupField` or
+    /// 33 `Limit`; or 0 `NoMemory`.
+    #[tactic(auto, unfolding(crate::specs::Document::setup_of, crate::specs::Document::setup_in))]
+    pub fn read(alloc: Global, text: &[u8]) -> Result<Setup, Fault>
+        ensures setup { Gives (λ setup. setup) result (setup_of text.now) }
+    {
+        let document = document_of(alloc, text)?;
+        let arrays = arrays_at(&document)?;
+        test_counts(arrays)?;
+        setup_of(alloc, arrays)
+    }
+
     /// The packet stores, in setup order.
     pub fn stores(&self) -> &[StoreRow]
         ensures rows { result.now ≡ self.now.stores }

@@ -1,4 +1,3 @@
-use Rattle.std.proofs.Common.{◌≡◌, ◌++◌, ℕ, List}
 use Rattle.std.specs.Int.{w16, w64, to_be_bytes}
 use Rattle.mm_packet.proofs.ListLemmas.{appended_thrice}
 use Rattle.mm_packet.proofs.writing.put_type_fields.Goals as goal

@@ -1,4 +1,4 @@
-use Rattle.std.proofs.Common.{◌≡◌, ap, ◌∙◌}
+use Rattle.std.proofs.Common.{ap, ◌∙◌}
 use Rattle.mm_packet.specs.Reading.{packet_at}
 use Rattle.mm_packet.proofs.AgainLemmas.{packet_again, is_only}
 use Rattle.mm_packet.proofs.packet.Packet.parse.Goals as goal

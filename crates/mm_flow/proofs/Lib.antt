@@ -1,0 +1,10 @@
+pub mod Augmenting
+pub mod Ends
+pub mod Entries
+pub mod LeastCuts
+pub mod Linking
+pub mod Marking
+pub mod Pushes
+pub mod Sides
+pub mod Sums
+pub mod Visiting

@@ -1,0 +1,167 @@
+-- Flows over a side: the net flow is the value, and so the value is within each cut's capacity.
+use Rattle.std.proofs.Common.{◌≡◌, ◌≢◌, ℕ, suc, ◌+◌, ◌<◌, ◌≤◌, Bool, true, false, cond, eqb, not, ◌&&◌, Option, Some, None, length, ap, sym, ◌∙◌, refl, arith, inl, inr, eq-eqb, sum_by}
+use Rattle.std.specs.Prelude.{IsSome, unwrap_or}
+use Rattle.std.proofs.lemmas.List.Sums.{get_or-le-sum_by}
+use Rattle.std.proofs.lemmas.Bool.{cases_Bool, cases_eq, cond-true, cond-false, ne_eqb, true≢false}
+use Rattle.mm_flow.specs.declared.arc.Arc.{Arc}
+use Rattle.mm_flow.specs.Graph.{Graph, arc, no_arc, starts_at, ends_at}
+use Rattle.mm_flow.specs.Flow.{Flow, IsFlow, IsWithin, leaving, entering}
+use Rattle.mm_flow.specs.Cut.{Side, IsCut, leaves, enters, flow_out, flow_in, capacity_of, limit_of}
+use Rattle.mm_flow.specs.Solution.{IsSolution}
+use Rattle.mm_flow.specs.Laws.{IsBest}
+use Rattle.mm_flow.proofs.Sums.{below, sum_by-filter_range, below_same, below-le, below-plus, below-zero, below_one, below_swap}
+
+-- what leaves a node, as a sum over all arcs
+pub leaving-below : (g : Graph) (f : Flow) (n : ℕ) → leaving g f n ≡ below (λ k. cond (eqb (arc g k).from n) (f k) 0) (length g.arcs)
+unfolding leaving
+leaving-below g f n = sum_by-filter_range f (starts_at g n) (length g.arcs)
+
+-- what enters a node, as a sum over all arcs
+pub entering-below : (g : Graph) (f : Flow) (n : ℕ) → entering g f n ≡ below (λ k. cond (eqb (arc g k).to n) (f k) 0) (length g.arcs)
+unfolding entering
+entering-below g f n = sum_by-filter_range f (ends_at g n) (length g.arcs)
+
+-- what leaves a side, as a sum over all arcs
+pub flow_out-below : (g : Graph) (side : Side) (f : Flow) → flow_out g side f ≡ below (λ k. cond (leaves g side k) (f k) 0) (length g.arcs)
+unfolding flow_out
+flow_out-below g side f = sum_by-filter_range f (leaves g side) (length g.arcs)
+
+-- what enters a side, as a sum over all arcs
+pub flow_in-below : (g : Graph) (side : Side) (f : Flow) → flow_in g side f ≡ below (λ k. cond (enters g side k) (f k) 0) (length g.arcs)
+unfolding flow_in
+flow_in-below g side f = sum_by-filter_range f (enters g side) (length g.arcs)
+
+-- a side's capacity, as a sum over all arcs
+pub capacity_of-below : (g : Graph) (side : Side) → capacity_of g side ≡ below (λ k. cond (leaves g side k) (limit_of g k) 0) (length g.arcs)
+unfolding capacity_of
+capacity_of-below g side = sum_by-filter_range (limit_of g) (leaves g side) (length g.arcs)
+
+-- what passes one test fails another or passes it
+split_by : (p q : Bool) (x : ℕ) → cond p x 0 ≡ cond (p && not q) x 0 + cond (p && q) x 0
+split_by true true x = omega arith
+split_by true false x = omega arith
+split_by false q x = refl
+
+-- two tests in either order
+both_orders : (p q : Bool) (x : ℕ) → cond (p && q) x 0 ≡ cond (q && p) x 0
+both_orders true true x = refl
+both_orders true false x = refl
+both_orders false true x = refl
+both_orders false false x = refl
+
+-- a test of each term of a sum
+cond-below : (b : Bool) (h : ℕ → ℕ) (m : ℕ) → cond b (below h m) 0 ≡ below (λ k. cond b (h k) 0) m
+cond-below true h m = refl
+cond-below false h m = sym (below-zero (λ k. 0) m (λ k lt. refl))
+
+module _ (side : Side) (f : Flow) (end : ℕ → ℕ) where
+  -- what an arc adds to a node of the side
+  at_end : ℕ → ℕ → ℕ
+  at_end n k = cond (side n) (cond (eqb (end k) n) (f k) 0) 0
+
+  -- an arc adds to no node but its end
+  at_end-other : (k n : ℕ) → n ≢ end k → at_end n k ≡ 0
+  unfolding at_end
+  at_end-other k n ne =
+      let differs : eqb (end k) n ≡ false = ne_eqb (end k) n (λ e. ne (sym e)) in
+      rw differs (elim (side n) as (λ b. ◌≡◌ {A = ℕ} (cond b 0 0) 0) [ true ↦ refl | false ↦ refl ])
+
+  -- an arc adds what it carries to its end, if that is on the side
+  at_end-own : (k : ℕ) → at_end (end k) k ≡ cond (side (end k)) (f k) 0
+  unfolding at_end
+  at_end-own k = let same : eqb (end k) (end k) ≡ true = eq-eqb (end k) (end k) refl in rw same refl
+
+  -- adding up over the nodes of a side is adding up over the arcs with that end on it
+  nodes_as_arcs : (m bound : ℕ) → ((k : ℕ) → k < m → end k < bound)
+      → below (λ n. cond (side n) (below (λ k. cond (eqb (end k) n) (f k) 0) m) 0) bound ≡ below (λ k. cond (side (end k)) (f k) 0) m
+  unfolding at_end
+  nodes_as_arcs m bound within =
+      below_same (λ n. cond (side n) (below (λ k. cond (eqb (end k) n) (f k) 0) m) 0) (λ n. below (λ k. at_end n k) m) bound (λ n lt. cond-below (side n) (λ k. cond (eqb (end k) n) (f k) 0) m)
+      ∙ below_swap (λ n k. at_end n k) bound m
+      ∙ below_same (λ k. below (λ n. at_end n k) bound) (λ k. cond (side (end k)) (f k) 0) m (λ k lt. below_one (λ n. at_end n k) bound (end k) (within k lt) (at_end-other k) ∙ at_end-own k)
+
+module _ (g : Graph) (source sink : ℕ) (f : Flow) (value : ℕ) (side : Side) (flow : IsFlow g source sink f value) (has_source : side source ≡ true) (lacks_sink : side sink ≡ false) where
+  -- a number above every node that an arc names, and above the source
+  above : ℕ
+  above = suc (source + sum_by (λ (a : Arc). a.from + a.to) g.arcs)
+
+  -- at a node of the side as much leaves as enters, and the value more at the source
+  at_node : (n : ℕ) → cond (side n) (leaving g f n) 0 ≡ cond (side n) (entering g f n) 0 + cond (eqb n source) value 0
+  at_node n =
+      elim (cases_Bool (side n)) [
+        | inl on ↦ elim (cases_eq n source) [
+          | inl e ↦ omega (arith, cond-true {A = ℕ} (side n) (leaving g f n) 0 on, cond-true {A = ℕ} (side n) (entering g f n) 0 on, cond-true {A = ℕ} (eqb n source) value 0 (eq-eqb n source e), flow.has_value, ap (leaving g f) e, ap (entering g f) e)
+          | inr ne ↦
+              let inner : n ≢ sink = λ e. true≢false (sym on ∙ ap side e ∙ lacks_sink) in
+              omega (arith, cond-true {A = ℕ} (side n) (leaving g f n) 0 on, cond-true {A = ℕ} (side n) (entering g f n) 0 on, cond-false {A = ℕ} (eqb n source) value 0 (ne_eqb n source ne), flow.conserved n ne inner)
+        ]
+        | inr off ↦
+            let other : n ≢ source = λ e. true≢false (sym has_source ∙ ap side (sym e) ∙ off) in
+            omega (arith, cond-false {A = ℕ} (side n) (leaving g f n) 0 off, cond-false {A = ℕ} (side n) (entering g f n) 0 off, cond-false {A = ℕ} (eqb n source) value 0 (ne_eqb n source other))
+      ]
+
+  -- what leaves the side's nodes is what enters them and the value
+  at_nodes : below (λ n. cond (side n) (leaving g f n) 0) above ≡ below (λ n. cond (side n) (entering g f n) 0) above + value
+  unfolding above
+  at_nodes =
+      let here = below_one (λ n. cond (eqb n source) value 0) above source (omega arith) (λ n ne. cond-false {A = ℕ} (eqb n source) value 0 (ne_eqb n source ne)) in
+      let all = below_same (λ n. cond (side n) (leaving g f n) 0) (λ n. cond (side n) (entering g f n) 0 + cond (eqb n source) value 0) above (λ n lt. at_node n) in
+      omega (arith, all, here, below-plus (λ n. cond (side n) (entering g f n) 0) (λ n. cond (eqb n source) value 0) above, cond-true {A = ℕ} (eqb source source) value 0 (eq-eqb source source refl))
+
+  -- what leaves the side's nodes is what leaves the side and what stays inside
+  leaving_all : below (λ n. cond (side n) (leaving g f n) 0) above ≡ flow_out g side f + below (λ k. cond (side (arc g k).from && side (arc g k).to) (f k) 0) (length g.arcs)
+  unfolding above
+  leaving_all =
+      let m = length g.arcs in
+      let within : (k : ℕ) → k < m → (arc g k).from < above = λ k lt. omega (arith, get_or-le-sum_by (λ (a : Arc). a.from + a.to) g.arcs k no_arc lt) in
+      let inner = λ (k : ℕ). cond (side (arc g k).from && side (arc g k).to) (f k) 0 in
+      below_same (λ n. cond (side n) (leaving g f n) 0) (λ n. cond (side n) (below (λ k. cond (eqb (arc g k).from n) (f k) 0) m) 0) above (λ n lt. ap (λ x. cond (side n) x 0) (leaving-below g f n))
+      ∙ nodes_as_arcs side f (λ k. (arc g k).from) m above within
+      ∙ below_same (λ k. cond (side (arc g k).from) (f k) 0) (λ k. cond (leaves g side k) (f k) 0 + inner k) m (λ k lt. split_by (side (arc g k).from) (side (arc g k).to) (f k))
+      ∙ below-plus (λ k. cond (leaves g side k) (f k) 0) inner m
+      ∙ ap (λ x. x + below inner m) (sym (flow_out-below g side f))
+
+  -- what enters the side's nodes is what enters the side and what stays inside
+  entering_all : below (λ n. cond (side n) (entering g f n) 0) above ≡ flow_in g side f + below (λ k. cond (side (arc g k).from && side (arc g k).to) (f k) 0) (length g.arcs)
+  unfolding above
+  entering_all =
+      let m = length g.arcs in
+      let within : (k : ℕ) → k < m → (arc g k).to < above = λ k lt. omega (arith, get_or-le-sum_by (λ (a : Arc). a.from + a.to) g.arcs k no_arc lt) in
+      let inner = λ (k : ℕ). cond (side (arc g k).from && side (arc g k).to) (f k) 0 in
+      below_same (λ n. cond (side n) (entering g f n) 0) (λ n. cond (side n) (below (λ k. cond (eqb (arc g k).to n) (f k) 0) m) 0) above (λ n lt. ap (λ x. cond (side n) x 0) (entering-below g f n))
+      ∙ nodes_as_arcs side f (λ k. (arc g k).to) m above within
+      ∙ below_same (λ k. cond (side (arc g k).to) (f k) 0) (λ k. cond (enters g side k) (f k) 0 + inner k) m
+      (λ k lt. split_by (side (arc g k).to) (side (arc g k).from) (f k) ∙ ap (λ x. cond (enters g side k) (f k) 0 + x) (both_orders (side (arc g k).to) (side (arc g k).from) (f k)))
+      ∙ below-plus (λ k. cond (enters g side k) (f k) 0) inner m
+      ∙ ap (λ x. x + below inner m) (sym (flow_in-below g side f))
+
+  -- the net flow over a side with the source and without the sink is the value
+  pub net_flow : flow_out g side f ≡ flow_in g side f + value
+  net_flow = omega (arith, at_nodes, leaving_all, entering_all)
+
+-- a number within a capacity that there is
+within_limit : (most : Option ℕ) (x : ℕ) → IsSome most → ((b : ℕ) → most ≡ Some b → x ≤ b) → x ≤ unwrap_or most 0
+within_limit None x some within = cc
+within_limit (Some b) x some within = within b refl
+
+-- what leaves a cut is within its capacity
+flow_out-le : (g : Graph) (source sink : ℕ) (f : Flow) (side : Side) → IsWithin g f → IsCut g source sink side → flow_out g side f ≤ capacity_of g side
+flow_out-le g source sink f side within cut =
+    let each : (k : ℕ) → k < length g.arcs → cond (leaves g side k) (f k) 0 ≤ cond (leaves g side k) (limit_of g k) 0 = λ k lt.
+    elim (cases_Bool (leaves g side k)) [
+      | inl on ↦ omega (arith, cond-true {A = ℕ} (leaves g side k) (f k) 0 on, cond-true {A = ℕ} (leaves g side k) (limit_of g k) 0 on, within_limit (arc g k).capacity (f k) (cut.limited k lt on) (within k))
+      | inr off ↦ omega (arith, cond-false {A = ℕ} (leaves g side k) (f k) 0 off)
+    ] in
+    omega (arith, flow_out-below g side f, capacity_of-below g side, below-le (λ k. cond (leaves g side k) (f k) 0) (λ k. cond (leaves g side k) (limit_of g k) 0) (length g.arcs) each)
+
+-- the value of a flow is within the capacity of each cut
+pub value_within_cut : (g : Graph) (source sink : ℕ) (f : Flow) (value : ℕ) (side : Side) → IsFlow g source sink f value → IsCut g source sink side → value ≤ capacity_of g side
+value_within_cut g source sink f value side flow cut =
+    omega (arith, net_flow g source sink f value side flow cut.has_source cut.lacks_sink, flow_out-le g source sink f side flow.within cut)
+
+-- a solution's flow is a maximum flow and its side a minimum cut
+pub solution_best : (g : Graph) (source sink : ℕ) (f : Flow) (side : Side) (value : ℕ) → IsSolution g source sink f side value → IsBest g source sink side value
+solution_best g source sink f side value solved = record {
+  greatest = λ other other_value flow. omega (arith, value_within_cut g source sink other other_value side flow solved.cut, solved.equal);
+  least = λ other cut. omega (arith, value_within_cut g source sink f value other solved.flow cut, solved.equal);
+}

@@ -1,0 +1,12 @@
+pub mod Balance
+pub mod Built
+pub mod Cut
+pub mod Fault
+pub mod Flow
+pub mod Graph
+pub mod Laws
+pub mod LeastCut
+pub mod Links
+pub mod Marks
+pub mod Residual
+pub mod Solution

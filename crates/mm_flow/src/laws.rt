@@ -1,0 +1,19 @@
+//! What holds of every network, whatever solves it. The clause of each function is a law; its body is empty.
+ghost use Rattle.mm_flow.specs.Laws.{NetFlowIsTheValue, ValueIsWithinEachCut, SolutionIsBest};
+
+/// Over each side with the source and without the sink, what leaves it is what enters it and the value
+/// (Cormen et al., "Introduction to Algorithms", flow across a cut).
+pub fn net_flow_is_the_value()
+    ensures { NetFlowIsTheValue }
+{}
+
+/// The value of any flow is at most the capacity of any cut (Ford and Fulkerson, 1956).
+pub fn value_is_within_each_cut()
+    ensures { ValueIsWithinEachCut }
+{}
+
+/// A solution's flow has the greatest value and its side the least capacity: maximum flow, minimum cut
+/// (Ford and Fulkerson, 1956).
+pub fn solution_is_best()
+    ensures { SolutionIsBest }
+{}

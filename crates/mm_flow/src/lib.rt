@@ -1,0 +1,24 @@
+//! Networks with capacities, and a maximum flow with a minimum cut that shows it to be one.
+#![tactic(auto)]
+
+mod arc;
+pub mod exhaustive;
+mod fault;
+pub mod laws;
+mod limits;
+mod links;
+mod network;
+pub mod paths;
+mod residual;
+mod search;
+mod solved;
+mod solver;
+#[cfg(test)]
+mod tests;
+
+pub use arc::Arc;
+pub use fault::{Fault, NoMemory};
+pub use limits::{MAX_ARCS, MAX_CAPACITY, MAX_NODES};
+pub use network::Network;
+pub use solved::Solved;
+pub use solver::solve;

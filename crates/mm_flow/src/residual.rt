@@ -1,0 +1,82 @@
+//! The residual network: each arc forward and backward, as entries numbered from 0.
+ghost use Rattle.std.specs.Prelude.{◌≡◌, ◌<◌, ◌≤◌, length, slice_index};
+ghost use Rattle.mm_flow.specs.Residual.{entries, tail, head, place, residual, IsPushed};
+ghost use Rattle.mm_flow.specs.Flow.{IsWithin};
+ghost use Rattle.mm_flow.specs.Graph.{IsNetwork};
+
+use crate::limits::{MAX_VALUE, UNLIMITED};
+use crate::network::Network;
+
+// How many entries the network has.
+pub(crate) fn entry_count(network: &Network) -> usize
+    ensures { result ≡ entries network.now.graph }
+{
+    2 * network.arc_count()
+}
+
+// The node that an entry leaves.
+#[tactic(auto, unfolding(crate::specs::Residual::tail))]
+pub(crate) fn tail(network: &Network, entry: usize) -> u32
+    requires { entry < entries network.now.graph }
+    ensures node { result ≡ tail network.now.graph entry }
+    ensures known { result < network.now.graph.nodes }
+    ensures network { IsNetwork network.now.graph }
+{
+    let arcs = network.arc_count();
+    if entry < arcs {
+        network.arc(entry).from
+    } else {
+        network.arc(entry - arcs).to
+    }
+}
+
+// The node that an entry leads to.
+#[tactic(auto, unfolding(crate::specs::Residual::head))]
+pub(crate) fn head(network: &Network, entry: usize) -> u32
+    requires { entry < entries network.now.graph }
+    ensures node { result ≡ head network.now.graph entry }
+    ensures known { result < network.now.graph.nodes }
+{
+    let arcs = network.arc_count();
+    if entry < arcs {
+        network.arc(entry).to
+    } else {
+        network.arc(entry - arcs).from
+    }
+}
+
+// What an entry can still carry.
+#[tactic(auto, unfolding(crate::specs::Residual::residual))]
+pub(crate) fn residual(network: &Network, flow: &[u64], entry: usize) -> u64
+    requires entry { entry < entries network.now.graph }
+    requires flow { length flow.now ≡ length network.now.graph.arcs }
+    requires within { IsWithin network.now.graph (slice_index flow.now) }
+    ensures { result ≡ residual network.now.graph (slice_index flow.now) entry }
+{
+    let arcs = network.arc_count();
+    if entry < arcs {
+        match network.arc(entry).capacity {
+            Some(most) => most - flow[entry],
+            None => UNLIMITED,
+        }
+    } else {
+        flow[entry - arcs]
+    }
+}
+
+// Moves this much along an entry: more on the arc forward, less on the arc backward.
+pub(crate) fn push(network: &Network, flow: &mut [u64], entry: usize, amount: u64)
+    requires entry { entry < entries network.now.graph }
+    requires flow { length flow.old ≡ length network.now.graph.arcs }
+    requires fits { amount ≤ residual network.now.graph (slice_index flow.old) entry }
+    requires small { slice_index flow.old (place network.now.graph entry) ≤ MAX_VALUE }
+    ensures pushed { IsPushed network.now.graph (slice_index flow.old) (slice_index flow.new) entry
+        amount }
+{
+    let arcs = network.arc_count();
+    if entry < arcs {
+        flow[entry] += amount;
+    } else {
+        flow[entry - arcs] -= amount;
+    }
+}

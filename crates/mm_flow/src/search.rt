@@ -1,0 +1,168 @@
+//! A search by breadth through the residual network (Edmonds and Karp, 1972).
+ghost use Rattle.std.specs.Prelude.{◌≡◌, ◌+◌, ◌<◌, ◌≤◌, length, slice_index, IfOk, replicate, map, nat_lt};
+ghost use Rattle.mm_flow.specs.Flow.{IsWithin};
+ghost use Rattle.mm_flow.specs.Residual.{entries, tail, head, residual};
+ghost use Rattle.mm_flow.specs.Links.{IsLinked};
+ghost use Rattle.mm_flow.specs.Marks.{no_mark};
+
+use crate::limits::UNLIMITED;
+use crate::links::Links;
+use crate::network::Network;
+use crate::residual::{head, residual, tail};
+use std::alloc::{AllocError, Global};
+
+/// How a node was reached: its level, one more than the entries on the path to it and 0 where there is none, the last
+/// entry of the path, and the least residual capacity on it.
+#[derive(Clone, Copy, Debug)]
+pub(crate) struct Mark {
+    pub(crate) level: u32,
+    pub(crate) via: usize,
+    pub(crate) width: u64,
+}
+
+const UNREACHED: Mark = Mark {
+    level: 0,
+    via: 0,
+    width: 0,
+};
+
+/// A search from a source along entries of at least a residual capacity: the nodes' marks, and the nodes in the order
+/// in which they were found, of which the first `done` were visited.
+#[derive(Drop)]
+pub(crate) struct Search {
+    pub(crate) source: u32,
+    pub(crate) least: u64,
+    pub(crate) marks: Vec<Mark>,
+    pub(crate) order: Vec<u32>,
+    pub(crate) found: usize,
+    pub(crate) done: usize,
+}
+
+impl Search {
+    ghost use Rattle.mm_flow.specs.declared.search.Mark.{Mark};
+    ghost use Rattle.mm_flow.specs.Marks.{IsSearching, IsSearched, GoesOn, HasMark};
+
+    // A search from this source that has not begun.
+    pub(crate) fn new(alloc: Global, network: &Network, source: u32) -> Result<Search, AllocError>
+        ensures source { IfOk result (λ s. s.source ≡ source) }
+        ensures marks { IfOk result (λ s. length s.marks.items ≡ network.now.graph.nodes) }
+        ensures order { IfOk result (λ s. length s.order.items ≡ network.now.graph.nodes) }
+    {
+        let nodes = network.node_count();
+        Ok(Search {
+            source,
+            least: 0,
+            marks: vec![in alloc; UNREACHED; nodes]?,
+            order: vec![in alloc; 0; nodes]?,
+            found: 0,
+            done: 0,
+        })
+    }
+
+    // Marks all nodes that the source reaches along entries of at least this residual capacity.
+    pub(crate) fn run(&mut self, network: &Network, links: &Links, flow: &[u64], least: u64)
+        requires linked { IsLinked network.now.graph links.now }
+        requires flow { length flow.now ≡ length network.now.graph.arcs }
+        requires within { IsWithin network.now.graph (slice_index flow.now) }
+        requires source { self.old.source < network.now.graph.nodes }
+        requires marks { length self.old.marks.items ≡ network.now.graph.nodes }
+        requires order { length self.old.order.items ≡ network.now.graph.nodes }
+        requires least { least ≤ UNLIMITED }
+        ensures searched { IsSearched network.now.graph (slice_index flow.now) self.old.source least
+            self.new.marks.items }
+        ensures source { self.new.source ≡ self.old.source }
+        ensures order { length self.new.order.items ≡ network.now.graph.nodes }
+    {
+        self.start(network, flow, least);
+        while self.done < self.found {
+            self.visit(network, links, flow);
+        }
+    }
+
+    // Marks the source alone.
+    fn start(&mut self, network: &Network, flow: &[u64], least: u64)
+        requires source { self.old.source < network.now.graph.nodes }
+        requires marks { length self.old.marks.items ≡ network.now.graph.nodes }
+        requires order { length self.old.order.items ≡ network.now.graph.nodes }
+        requires least { least ≤ UNLIMITED }
+        ensures begun { IsSearching network.now.graph (slice_index flow.now) self.new }
+        ensures source { self.new.source ≡ self.old.source }
+        ensures least { self.new.least ≡ least }
+    {
+        let source = self.source as usize;
+        self.least = least;
+        clear(&mut self.marks);
+        self.marks[source] = Mark {
+            level: 1,
+            via: 0,
+            width: UNLIMITED,
+        };
+        self.order[0] = self.source;
+        self.found = 1;
+        self.done = 0;
+    }
+
+    // Marks what the next node in the order leads to.
+    fn visit(&mut self, network: &Network, links: &Links, flow: &[u64])
+        requires linked { IsLinked network.now.graph links.now }
+        requires flow { length flow.now ≡ length network.now.graph.arcs }
+        requires within { IsWithin network.now.graph (slice_index flow.now) }
+        requires search { IsSearching network.now.graph (slice_index flow.now) self.old }
+        requires waits { self.old.done < self.old.found }
+        ensures search { IsSearching network.now.graph (slice_index flow.now) self.new }
+        ensures source { self.new.source ≡ self.old.source }
+        ensures least { self.new.least ≡ self.old.least }
+        ensures done { self.new.done ≡ self.old.done + 1 }
+    {
+        let node = self.order[self.done] as usize;
+        let mut cursor = links.last[node];
+        while cursor > 0 {
+            let entry = cursor as usize - 1;
+            self.reach(network, flow, entry);
+            cursor = links.before[entry];
+        }
+        self.done += 1;
+    }
+
+    // Marks the node that an entry leads to, if that has no mark and the entry the residual capacity.
+    fn reach(&mut self, network: &Network, flow: &[u64], entry: usize)
+        requires entry { entry < entries network.now.graph }
+        requires flow { length flow.now ≡ length network.now.graph.arcs }
+        requires within { IsWithin network.now.graph (slice_index flow.now) }
+        requires search { IsSearching network.now.graph (slice_index flow.now) self.old }
+        requires from { HasMark self.old.marks.items (tail network.now.graph entry) }
+        ensures search { IsSearching network.now.graph (slice_index flow.now) self.new }
+        ensures kept { GoesOn self.old self.new }
+        ensures leads { self.old.least ≤ residual network.now.graph (slice_index flow.now) entry
+            → HasMark self.new.marks.items (head network.now.graph entry) }
+    {
+        let from = self.marks[tail(network, entry) as usize];
+        let to = head(network, entry);
+        let capacity = residual(network, flow, entry);
+        if capacity < self.least || self.marks[to as usize].level > 0 {
+            return;
+        }
+        self.marks[to as usize] = Mark {
+            level: from.level + 1,
+            via: entry,
+            width: capacity.min(from.width),
+        };
+        self.order[self.found] = to;
+        self.found += 1;
+    }
+
+    // Which nodes have a mark.
+    pub(crate) fn side(&self, alloc: Global) -> Result<Vec<bool>, AllocError>
+        ensures { IfOk result
+            (λ side. side.items ≡ map (λ (m : Mark). nat_lt 0 m.level) self.now.marks.items) }
+    {
+        self.marks.iter().map(|mark| mark.level > 0).collect(alloc)
+    }
+}
+
+// Takes every mark away.
+fn clear(marks: &mut [Mark])
+    ensures { marks.new ≡ replicate (length marks.old) no_mark }
+{
+    marks.fill(UNREACHED);
+}

@@ -1,0 +1,27 @@
+//! The solver that callers use.
+ghost use Rattle.std.specs.Prelude.{◌≡◌, ◌≢◌, ◌<◌, ◌↔◌, IfOk, OnOk, IsErrOf};
+ghost use Rattle.mm_flow.specs.Solution.{IsSolved, HasUnlimitedPath};
+
+use crate::fault::Fault;
+use crate::network::Network;
+use crate::paths::solve_paths;
+use crate::solved::Solved;
+use std::alloc::Global;
+
+/// A maximum flow from the source to the sink, and a minimum cut.
+///
+/// `SameEnds` is tested first. Where a path of unlimited arcs leads from the source to the sink the answer is
+/// `Unbounded`. Want of memory aside, these are the only refusals.
+pub fn solve(alloc: Global, network: &Network, source: u32, sink: u32) -> Result<Solved, Fault>
+    requires source { source < network.now.graph.nodes }
+    requires sink { sink < network.now.graph.nodes }
+    ensures solved { IfOk result (IsSolved network.now.graph source sink) }
+    ensures same_ends { IsErrOf result Fault.SameEnds ↔ (source ≡ sink) }
+
+    // Want of memory aside, these two say exactly when the answer is `Unbounded`.
+    ensures unbounded { IsErrOf result Fault.Unbounded
+        → (source ≢ sink) × HasUnlimitedPath network.now.graph source sink }
+    ensures bounded { OnOk result (¬ HasUnlimitedPath network.now.graph source sink) }
+{
+    solve_paths(alloc, network, source, sink)
+}

@@ -1,0 +1,356 @@
+//! Networks with values from a textbook or counted by hand.
+
+use crate::exhaustive::{MAX_TRIED, least_cut};
+use crate::fault::{Fault, NoMemory};
+use crate::laws::{net_flow_is_the_value, solution_is_best, value_is_within_each_cut};
+use crate::limits::{MAX_ARCS, MAX_CAPACITY, MAX_NODES};
+use crate::network::Network;
+use crate::paths::solve_paths;
+use crate::solved::Solved;
+use crate::solver::solve;
+use std::alloc::Global;
+use std::process::Abort;
+use std::test::Fail;
+
+// A network, and the value of its maximum flow; `None` where unlimited arcs lead to the sink.
+#[derive(Drop)]
+struct Case<'a> {
+    name: &'a str,
+    nodes: u32,
+    arcs: &'a [(u32, u32, Option<u64>)],
+    source: u32,
+    sink: u32,
+    value: Option<u64>,
+}
+
+fn built(
+    rt: &impl Abort,
+    alloc: Global,
+    nodes: u32,
+    arcs: &[(u32, u32, Option<u64>)],
+) -> Result<Network, NoMemory> {
+    let mut network = Network::new(alloc);
+    for _ in 0..nodes {
+        assert!(rt; network.node_count() < MAX_NODES as usize);
+        network.add_node()?;
+    }
+    for (from, to, capacity) in arcs {
+        assert!(rt; network.arc_count() < MAX_ARCS as usize);
+        assert!(rt; (*from as usize) < network.node_count());
+        assert!(rt; (*to as usize) < network.node_count());
+        assert!(rt; capacity.unwrap_or(0) <= MAX_CAPACITY);
+        network.add_arc(*from, *to, *capacity)?;
+    }
+    Ok(network)
+}
+
+// Compares both solvers and the search of all sides with the value that is wanted.
+fn check(rt: &impl Abort, alloc: Global, case: &Case) -> Result<(), NoMemory> {
+    let network = built(rt, alloc, case.nodes, case.arcs)?;
+    assert!(rt; network.node_count() <= MAX_TRIED, "{}", case.name);
+    assert!(rt;
+        (case.source as usize) < network.node_count(),
+        "{}",
+        case.name
+    );
+    assert!(rt;
+        (case.sink as usize) < network.node_count(),
+        "{}",
+        case.name
+    );
+    let least = least_cut(&network, case.source, case.sink);
+    assert_eq!(rt; least, case.value, "{}", case.name);
+    let solved = value_of(rt, solve(alloc, &network, case.source, case.sink));
+    assert_eq!(rt; solved, case.value, "{}", case.name);
+    let by_paths = value_of(rt, solve_paths(alloc, &network, case.source, case.sink));
+    assert_eq!(rt; by_paths, case.value, "{}", case.name);
+    Ok(())
+}
+
+// The value that a solver answered, `None` where it is unbounded.
+fn value_of(rt: &impl Abort, answer: Result<Solved, Fault>) -> Option<u64> {
+    match answer {
+        Ok(solved) => Some(solved.value),
+        Err(fault) => {
+            assert_eq!(rt; fault, Fault::Unbounded);
+            None
+        }
+    }
+}
+
+// A case from node 0 to the last node.
+fn first_to_last<'a>(
+    name: &'a str,
+    nodes: u32,
+    arcs: &'a [(u32, u32, Option<u64>)],
+    value: Option<u64>,
+) -> Case<'a> {
+    Case {
+        name,
+        nodes,
+        arcs,
+        source: 0,
+        sink: nodes.saturating_sub(1),
+        value,
+    }
+}
+
+#[test]
+fn values_by_hand(rt: HostRuntime) -> Result<(), Fail> {
+    let cases = [
+        first_to_last("no arcs", 2, &[], Some(0)),
+        first_to_last("a single arc", 2, &[(0, 1, Some(7))], Some(7)),
+        // The narrower of two arcs in a row.
+        first_to_last("in a row", 3, &[(0, 1, Some(7)), (1, 2, Some(4))], Some(4)),
+        // Two paths without a common arc: 2 and 3.
+        first_to_last(
+            "side by side",
+            4,
+            &[
+                (0, 1, Some(2)),
+                (1, 3, Some(2)),
+                (0, 2, Some(3)),
+                (2, 3, Some(3)),
+            ],
+            Some(5),
+        ),
+        first_to_last(
+            "parallel arcs",
+            2,
+            &[(0, 1, Some(2)), (0, 1, Some(3))],
+            Some(5),
+        ),
+        // Loops carry nothing on.
+        first_to_last(
+            "loops",
+            3,
+            &[
+                (0, 0, Some(9)),
+                (0, 1, Some(4)),
+                (1, 1, None),
+                (1, 2, Some(6)),
+            ],
+            Some(4),
+        ),
+        // What comes back to the source adds nothing: the one arc out of it carries 3.
+        first_to_last(
+            "arcs into the source",
+            3,
+            &[(1, 0, Some(5)), (0, 1, Some(3)), (1, 2, Some(8))],
+            Some(3),
+        ),
+        first_to_last(
+            "no way out of the source",
+            3,
+            &[(1, 0, None), (1, 2, Some(5))],
+            Some(0),
+        ),
+        first_to_last(
+            "no way into the sink",
+            3,
+            &[(0, 1, Some(5)), (2, 1, None)],
+            Some(0),
+        ),
+        // Out of node 1 lead 4 towards the sink, and 3 back.
+        first_to_last(
+            "arcs both ways",
+            3,
+            &[
+                (0, 1, Some(5)),
+                (1, 0, Some(3)),
+                (1, 2, Some(4)),
+                (2, 1, Some(2)),
+            ],
+            Some(4),
+        ),
+        // Nodes 0 to 2 are the cut: 4 and 5.
+        first_to_last(
+            "narrow in the middle",
+            5,
+            &[
+                (0, 1, Some(10)),
+                (0, 2, Some(10)),
+                (1, 2, Some(2)),
+                (1, 3, Some(4)),
+                (2, 3, Some(5)),
+                (3, 4, Some(100)),
+            ],
+            Some(9),
+        ),
+        // 6 through the unlimited arc and 1 beside it.
+        first_to_last(
+            "an unlimited arc that is not alone",
+            3,
+            &[(0, 1, None), (1, 2, Some(6)), (0, 2, Some(1))],
+            Some(7),
+        ),
+        first_to_last(
+            "greatest capacities",
+            2,
+            &[(0, 1, Some(MAX_CAPACITY)), (0, 1, Some(MAX_CAPACITY))],
+            Some(2 * MAX_CAPACITY),
+        ),
+        // The shortest path 0 1 2 7 has to be taken back. The two of the answer are 0 1 5 6 7 and 0 3 4 2 7,
+        // and the source has arcs for 2.
+        first_to_last(
+            "a path that is taken back",
+            8,
+            &[
+                (0, 1, Some(1)),
+                (1, 2, Some(1)),
+                (2, 7, Some(1)),
+                (0, 3, Some(1)),
+                (3, 4, Some(1)),
+                (4, 2, Some(1)),
+                (1, 5, Some(1)),
+                (5, 6, Some(1)),
+                (6, 7, Some(1)),
+            ],
+            Some(2),
+        ),
+        // Nodes 1 to 3 are matched with 4 to 6. Each pair has node 3 or 4, so two pairs are the most.
+        first_to_last(
+            "a matching",
+            8,
+            &[
+                (0, 1, Some(1)),
+                (0, 2, Some(1)),
+                (0, 3, Some(1)),
+                (1, 4, None),
+                (2, 4, None),
+                (3, 4, None),
+                (3, 5, None),
+                (3, 6, None),
+                (4, 7, Some(1)),
+                (5, 7, Some(1)),
+                (6, 7, Some(1)),
+            ],
+            Some(2),
+        ),
+        // Cormen, Leiserson, Rivest and Stein, "Introduction to Algorithms", third edition, figures 26.1
+        // and 26.6: 23.
+        first_to_last(
+            "the lucky puck network",
+            6,
+            &[
+                (0, 1, Some(16)),
+                (0, 2, Some(13)),
+                (2, 1, Some(4)),
+                (1, 3, Some(12)),
+                (3, 2, Some(9)),
+                (2, 4, Some(14)),
+                (4, 3, Some(7)),
+                (3, 5, Some(20)),
+                (4, 5, Some(4)),
+            ],
+            Some(23),
+        ),
+        // The same book, figure 26.7, where a bad choice of paths needs 2,000,000 of them.
+        first_to_last(
+            "a bridge of 1",
+            4,
+            &[
+                (0, 1, Some(1_000_000)),
+                (0, 2, Some(1_000_000)),
+                (1, 2, Some(1)),
+                (1, 3, Some(1_000_000)),
+                (2, 3, Some(1_000_000)),
+            ],
+            Some(2_000_000),
+        ),
+        first_to_last(
+            "unlimited",
+            3,
+            &[(0, 1, None), (0, 2, Some(1)), (1, 2, None)],
+            None,
+        ),
+    ];
+    for case in &cases {
+        check(&rt, rt.alloc(), case)?;
+    }
+    Ok(())
+}
+
+#[test]
+fn ends_in_any_order(rt: HostRuntime) -> Result<(), Fail> {
+    let arcs = [(2, 1, Some(3)), (1, 0, Some(2))];
+    let backwards = Case {
+        name: "backwards",
+        nodes: 3,
+        arcs: &arcs,
+        source: 2,
+        sink: 0,
+        value: Some(2),
+    };
+    check(&rt, rt.alloc(), &backwards)?;
+    Ok(())
+}
+
+#[test]
+fn faults_have_numbers_and_names(rt: HostRuntime) -> Result<(), Fail> {
+    let table = [
+        (Fault::NoMemory, 0, "NoMemory", "0 NoMemory"),
+        (Fault::Unbounded, 36, "Unbounded", "36 Unbounded"),
+        (Fault::SameEnds, 37, "SameEnds", "37 SameEnds"),
+    ];
+    for (fault, number, name, shown) in table {
+        assert_eq!(rt; fault.number(), number);
+        assert_eq!(rt; fault.name(), name);
+        assert_eq!(rt; format!(in rt.alloc(); "{fault}")?.as_str(), shown);
+    }
+    assert_eq!(rt;
+        format!(in rt.alloc(); "{NoMemory}")?.as_str(),
+        "0 NoMemory"
+    );
+    Ok(())
+}
+
+#[test]
+fn laws_are_called() {
+    net_flow_is_the_value();
+    value_is_within_each_cut();
+    solution_is_best();
+}
+
+#[test]
+fn network_of_four_nodes(rt: HostRuntime) -> Result<(), Fail> {
+    let arcs = [
+        (0, 1, Some(3)),
+        (0, 2, Some(2)),
+        (1, 2, Some(5)),
+        (1, 3, Some(2)),
+        (2, 3, Some(3)),
+    ];
+    let mut network = built(&rt, rt.alloc(), 4, &arcs)?;
+    assert!(rt; network.node_count() == 4);
+    let solved = solve(rt.alloc(), &network, 0, 3)?;
+    assert_eq!(rt; solved.value, 5);
+    assert_eq!(rt; least_cut(&network, 0, 3), Some(5));
+    // The one flow of 5: the arcs out of node 0 and into node 3 are full, and 1 is left from 1 to 2.
+    assert_eq!(rt; solved.flow.as_slice(), [3, 2, 1, 2, 3].as_slice());
+    assert_eq!(rt; solved.side.as_slice().first(), Some(&true));
+    assert_eq!(rt; solved.side.as_slice().last(), Some(&false));
+    assert_eq!(rt;
+        solve(rt.alloc(), &network, 0, 0).err(),
+        Some(Fault::SameEnds)
+    );
+    assert!(rt; network.arc_count() < MAX_ARCS as usize);
+    assert_eq!(rt; network.add_arc(0, 3, None)?, 5);
+    assert_eq!(rt;
+        solve(rt.alloc(), &network, 0, 3).err(),
+        Some(Fault::Unbounded)
+    );
+    Ok(())
+}
+
+#[test]
+fn network_room(rt: HostRuntime) -> Result<(), Fail> {
+    let mut network = Network::with_room(rt.alloc(), 2, 1)?;
+    assert_eq!(rt; network.room(), (2, 1));
+    assert_eq!(rt; network.add_node()?, 0);
+    assert_eq!(rt; network.add_node()?, 1);
+    assert_eq!(rt; network.add_arc(0, 1, Some(4))?, 0);
+    assert_eq!(rt; network.room(), (0, 0));
+    assert_eq!(rt; Network::new(rt.alloc()).room(), (0, 0));
+    Ok(())
+}

@@ -1,0 +1,216 @@
+-- What has been taken can be completed to a sheet.
+use Rattle.std.proofs.Common.{◌≡◌, ℕ, zero, suc, ◌+◌, ◌≤◌, Bool, true, false, ◌==◌, List, [], ◌∷◌, ◌++◌, length, map, drop, ℤ, pos, Some, refl, sym, ap, ◌∙◌, inl, inr, arith, append_assoc, append-nil, length-append}
+use Rattle.std.specs.Prelude.{nat_lt, ◌&&◌, FitsSigned, replicate, codes}
+use Rattle.std.specs.Int.{w64}
+use Rattle.std.proofs.lemmas.Bool.{cases_Bool}
+use Rattle.std.proofs.lemmas.Bool.Decides.{nat_tests}
+use Rattle.std.proofs.lemmas.List.{length-replicate, length-map, map-append}
+use Rattle.std.proofs.lemmas.List.Elements.{All-nil, All-cons, All-replicate}
+use Rattle.std.proofs.lemmas.List.Sums.{AllPass-from_list_all}
+use Rattle.mm_problem.specs.declared.limits.TheConstants.{MAX_BLOCKS}
+use Rattle.mm_problem.specs.Id.{is_id_char, IsIdField, field_of}
+use Rattle.mm_problem.proofs.IdFields.{field_of-IsIdField}
+use Rattle.mm_plan.specs.declared.stretch.TheConstants.{MAX_COUNTS}
+use Rattle.mm_plan.specs.declared.draft.Stage.{Stage}
+use Rattle.mm_plan.specs.declared.draft.Stage.TheVariants.{ToTitle, ToStores, ToDumps, ToCut, ToEnd, Done}
+use Rattle.mm_plan.specs.Sheet.{SheetRows, IsSheet, Line, title_line, stores_line, dump_line, loss_line, stretch_line, count_line, bound_line, end_line, dump_lines, has_counts, lines_of, line_text, Begins}
+use Rattle.mm_plan.specs.Reading.{DraftRows, start, may_follow, after, run}
+use Rattle.mm_plan.proofs.Lines.{IsLine}
+use Rattle.mm_plan.proofs.Drafts.{dumps_of, upto_loss, upto_counts, so_far, IsRows, IsAt, IsBlank, IsUncut, IsPlanned, IsWhole, IsAdded, added}
+use Rattle.mm_plan.proofs.Runs.{lines_so_far, run_start}
+
+-- a sheet that begins with the lines so far
+pub record Leads (d : DraftRows) : Type 0 where
+  pub sheet : SheetRows
+  pub is : IsSheet sheet
+  pub more : List Line
+  pub lines : lines_of sheet ≡ lines_so_far d ++ more
+
+-- the draft of a whole sheet is the sheet's
+pub whole_is_sheet : (b : Bool) (s : SheetRows) → IsRows s → IsWhole b s → IsSheet s
+whole_is_sheet b s rows at = record {
+  stores = rows.stores;
+  steps = rows.steps;
+  cut = rows.cut;
+  counts = rows.counts;
+  same_stores = rows.same_stores;
+  plan = record { has_store = omega (arith, at.has_store, rows.same_stores); has_step = at.has_step; table = rows.table; each = rows.each_amount };
+  each_store = rows.each_store;
+  each_stretch = rows.each_stretch;
+  each_count = rows.each_count;
+  loss = rows.loss;
+  bound = rows.bound;
+}
+
+-- the lines of a whole sheet are those of its draft
+pub lines_of-whole : (b : Bool) (s : SheetRows) → IsWhole b s → lines_of s ≡ so_far Done b s
+unfolding lines_of
+lines_of-whole b s at = ap (λ c. so_far Done c s) (sym at.form)
+
+-- a line more that leads to a sheet
+leads_more : (d : DraftRows) (x : Line) → IsLine x → IsRows d.rows → IsAt d.stage d.second d.rows → may_follow d.stage d.second d.rows x ≡ true → (IsAdded d.stage d.second d.rows x → Leads (after d x)) → Leads d
+leads_more d x line rows at may next =
+    let more : IsAdded d.stage d.second d.rows x = added d.stage d.second d.rows x line rows at may in
+    let led : Leads (after d x) = next more in
+    record {
+      sheet = led.sheet;
+      is = led.is;
+      more = x ∷ led.more;
+      lines = led.lines ∙ ap (λ xs. xs ++ led.more) more.lines ∙ append_assoc (lines_so_far d) (x ∷ []) led.more;
+    }
+
+-- a draft with these parts
+abbrev at_stage : Stage → Bool → SheetRows → DraftRows
+at_stage stage b s = record { stage = stage; second = b; rows = s }
+
+-- a draft at each stage leads to a sheet
+leads_done : (b : Bool) (s : SheetRows) → IsRows s → IsWhole b s → Leads (at_stage Done b s)
+leads_done b s rows at = record {
+  sheet = s;
+  is = whole_is_sheet b s rows at;
+  more = [];
+  lines = lines_of-whole b s at ∙ sym (append-nil (so_far Done b s));
+}
+
+-- by its end line
+leads_end : (b : Bool) (s : SheetRows) → IsRows s → IsWhole b s → Leads (at_stage ToEnd b s)
+leads_end b s rows at = leads_more (at_stage ToEnd b s) end_line tt rows at refl (λ more. leads_done b s more.rows more.at)
+
+-- a first form has no counts
+no_counts : (n : ℕ) → false ≡ nat_lt 0 n → (n == 0) ≡ true
+no_counts n form = grind (arith, nat_tests)
+
+-- the bound may come where the form is kept
+bound_may : (b : Bool) (s : SheetRows) (z : ℤ) → b ≡ has_counts s → may_follow ToCut b s (bound_line z) ≡ true
+bound_may true s z form = sym form
+bound_may false s z form = no_counts (length s.by_channels) form
+
+-- the bound 0 fits
+zero_fits : FitsSigned w64 (pos 0)
+zero_fits = record { sfits = omega arith }
+
+-- by the bound 0
+leads_formed : (b : Bool) (s : SheetRows) → IsRows s → IsPlanned b s → b ≡ has_counts s → Leads (at_stage ToCut b s)
+leads_formed b s rows at form =
+    leads_more (at_stage ToCut b s) (bound_line (pos 0)) zero_fits rows at (bound_may b s (pos 0) form) (λ more. leads_end b (record s { bound = pos 0 }) more.rows more.at)
+
+-- where there is no count one may come
+count_may : (n : ℕ) → nat_lt 0 n ≡ false → nat_lt n MAX_COUNTS ≡ true
+count_may n none = grind (arith, nat_tests)
+
+-- one more is some
+has_more : (n : ℕ) → true ≡ nat_lt 0 (n + 1)
+has_more n = grind (arith, nat_tests)
+
+-- by a count, where the second form lacks one
+leads_cut : (b : Bool) (s : SheetRows) → IsRows s → IsPlanned b s → Leads (at_stage ToCut b s)
+leads_cut false s rows at = leads_formed false s rows at (ap (λ ts. nat_lt 0 (length ts)) (sym (at.counts refl)))
+leads_cut true s rows at = elim (cases_Bool (has_counts s)) [
+  | inl some ↦ leads_formed true s rows at (sym some)
+  | inr none ↦
+      leads_more (at_stage ToCut true s) (count_line 0) (omega arith) rows at (count_may (length s.by_channels) none)
+      (λ more. leads_formed true (record s { by_channels = s.by_channels ++ 0 ∷ [] }) more.rows more.at
+      (has_more (length s.by_channels) ∙ ap (nat_lt 0) (sym (length-append s.by_channels (0 ∷ [])))))
+]
+
+-- by the loss 0
+leads_dumped : (b : Bool) (s : SheetRows) → IsRows s → IsUncut s → nat_lt 0 s.plan.steps ≡ true → Leads (at_stage ToDumps b s)
+leads_dumped b s rows at may = leads_more (at_stage ToDumps b s) (loss_line 0) (omega arith) rows at may (λ more. leads_cut b (record s { loss = 0 }) more.rows more.at)
+
+-- a number that is not above 0
+no_steps : (k : ℕ) → nat_lt 0 k ≡ false → k ≡ 0
+no_steps k none = grind (arith, nat_tests)
+
+-- equal numbers pass the test
+eq_of : (m n : ℕ) → m ≡ n → (m == n) ≡ true
+eq_of m n e = grind (arith, nat_tests)
+
+-- by a dump line of zeros, where there is none
+leads_dumps : (b : Bool) (s : SheetRows) → IsRows s → IsUncut s → Leads (at_stage ToDumps b s)
+leads_dumps b s rows at = elim (cases_Bool (nat_lt 0 s.plan.steps)) [
+  | inl some ↦ leads_dumped b s rows at some
+  | inr none ↦
+      let blank : s.plan.steps ≡ 0 = no_steps s.plan.steps none in
+      let row = replicate (length s.stores) 0 in
+      let width : length row ≡ length s.stores = length-replicate {A = ℕ} (length s.stores) 0 in
+      leads_more (at_stage ToDumps b s) (dump_line (s.plan.steps + 1) row)
+      (omega (arith, blank), omega (arith, rows.stores, width), All-replicate (λ n. n ≤ MAX_BLOCKS) (length s.stores) 0 (omega arith))
+      rows at (ap (λ c. c && (length row == length s.stores)) (eq_of (s.plan.steps + 1) (s.plan.steps + 1) refl) ∙ eq_of (length row) (length s.stores) width)
+      (λ more. leads_dumped b (record s { plan = record { stores = s.plan.stores; steps = s.plan.steps + 1; amounts = s.plan.amounts ++ row } }) more.rows more.at (sym (has_more s.plan.steps)))
+]
+
+-- the identifier `A`
+abbrev some_id : List ℕ
+some_id = field_of (codes "A")
+
+-- it is an identifier
+some_id_is : IsIdField some_id
+some_id_is = field_of-IsIdField (codes "A") (record { has_some = omega arith; at_most_eight = omega arith; each = AllPass-from_list_all is_id_char (codes "A") refl })
+
+-- by one store
+leads_stores : (b : Bool) (s : SheetRows) → IsRows s → IsBlank s → Leads (at_stage ToStores b s)
+leads_stores b s rows at =
+    leads_more (at_stage ToStores b s) (stores_line (some_id ∷ [])) (omega arith, All-cons IsIdField some_id [] some_id_is (All-nil IsIdField)) rows at refl
+    (λ more. leads_dumps b (record s { stores = some_id ∷ []; plan = record { stores = 1; steps = s.plan.steps; amounts = s.plan.amounts } }) more.rows more.at)
+
+-- by the title of the first form
+leads_title : (b : Bool) (s : SheetRows) → IsRows s → IsBlank s → Leads (at_stage ToTitle b s)
+leads_title b s rows at = leads_more (at_stage ToTitle b s) (title_line false) tt rows at refl (λ more. leads_stores false s more.rows more.at)
+
+-- every stage leads to a sheet
+leads_at : (stage : Stage) (b : Bool) (s : SheetRows) → IsRows s → IsAt stage b s → Leads (at_stage stage b s)
+leads_at ToTitle b s rows at = leads_title b s rows at
+leads_at ToStores b s rows at = leads_stores b s rows at
+leads_at ToDumps b s rows at = leads_dumps b s rows at
+leads_at ToCut b s rows at = leads_cut b s rows at
+leads_at ToEnd b s rows at = leads_end b s rows at
+leads_at Done b s rows at = leads_done b s rows at
+
+-- lines that were taken begin a sheet
+pub taken_begins : (e : DraftRows) (ls : List (List ℕ)) → run start ls ≡ Some e → Begins ls
+taken_begins e ls was =
+    let taken = run_start e ls was in
+    let led : Leads e = leads_at e.stage e.second e.rows taken.1.rows taken.1.at in
+    (led.sheet, led.is, map line_text led.more, ap (map line_text) led.lines ∙ map-append line_text (lines_so_far e) led.more ∙ ap (λ ks. ks ++ map line_text led.more) (sym taken.0))
+
+-- ---- how many lines there are
+
+-- there is a line for each step
+length-dump_lines : (n t k : ℕ) (xs : List ℕ) → length (dump_lines n t k xs) ≡ k
+length-dump_lines n t zero xs = refl
+length-dump_lines n t (suc k) xs = omega (arith, length-dump_lines n (t + 1) k (drop n xs))
+
+-- at most a title, stores, 256 dumps, a loss, 4,096 stretches and 256 counts
+few_upto_counts : (b : Bool) (s : SheetRows) → IsRows s → length (upto_counts b s) ≤ 4611
+few_upto_counts b s rows =
+    let dumps = length-dump_lines s.plan.stores 1 s.plan.steps s.plan.amounts in
+    let cut = length-map s.cut stretch_line in
+    let counts = length-map s.by_channels count_line in
+    omega (
+      arith,
+      rows.steps,
+      rows.cut,
+      rows.counts,
+      dumps,
+      cut,
+      counts,
+      length-append (upto_loss b s ++ map stretch_line s.cut) (map count_line s.by_channels),
+      length-append (upto_loss b s) (map stretch_line s.cut),
+      length-append (dumps_of s) (loss_line s.loss ∷ []),
+    )
+
+-- and a bound and an end
+few_so_far : (stage : Stage) (b : Bool) (s : SheetRows) → IsRows s → length (so_far stage b s) ≤ 4613
+few_so_far ToTitle b s rows = omega arith
+few_so_far ToStores b s rows = omega arith
+few_so_far ToDumps b s rows = omega (arith, rows.steps, length-dump_lines s.plan.stores 1 s.plan.steps s.plan.amounts)
+few_so_far ToCut b s rows = omega (arith, few_upto_counts b s rows)
+few_so_far ToEnd b s rows = omega (arith, few_upto_counts b s rows, length-append (upto_counts b s) (bound_line s.bound ∷ []))
+few_so_far Done b s rows =
+    omega (arith, few_upto_counts b s rows, length-append (upto_counts b s) (bound_line s.bound ∷ []), length-append (upto_counts b s ++ bound_line s.bound ∷ []) (end_line ∷ []))
+
+-- no more lines are taken than a sheet has at the most
+pub few_taken : (e : DraftRows) (ls : List (List ℕ)) → run start ls ≡ Some e → length ls ≤ 4613
+few_taken e ls was =
+    let taken = run_start e ls was in
+    omega (arith, few_so_far e.stage e.second e.rows taken.1.rows, ap length taken.0, length-map (lines_so_far e) line_text)

@@ -1,0 +1,136 @@
+-- Lines, printed piece by piece.
+use Rattle.mm_plan.specs.Table.{Table}
+use Rattle.std.proofs.Common.{◌≡◌, ℕ, ℤ, Bool, suc, not, ◌==◌, subst, ◌+◌, ◌*◌, ◌<◌, List, [], ◌∷◌, ◌++◌, length, map, take, drop, refl, sym, ap, ◌∙◌, arith, append_assoc, append-nil, length-drop}
+use denote.Param.Members.{Mut}
+use Rattle.std.specs.Prelude.{codes, decimal, nat_lt, ◌^◌}
+use Rattle.std.specs.Fn.{Called, ReturnsEach, AlwaysReturns}
+use Rattle.std.specs.List.{join_with_byte}
+use Rattle.std.proofs.lemmas.Bool.Decides.{nat_tests}
+use Rattle.std.proofs.lemmas.List.Sorted.{length_permutation, All-permutation}
+use Rattle.mm_problem.specs.Id.{id_text}
+use Rattle.mm_plan.specs.declared.stretch.Stretch.{Stretch}
+use Rattle.mm_plan.specs.Sheet.{SheetRows, IsSheet, IsWritten, Line, title_line, stores_line, dump_line, loss_line, stretch_line, count_line, bound_line, end_line, line_text, lines_of, sheet_text, dump_lines, has_counts}
+use Rattle.mm_plan.specs.Printing.{AreOrdered, AreRising, IsPrinted, ended, all_ended, spaced, plan_lines}
+
+-- the joined words, each but the first with its space
+join-spaced : (k : List ℕ) (ws : List (List ℕ)) → join_with_byte 32 (k ∷ ws) ≡ k ++ spaced ws
+join-spaced k [] = sym (append-nil k)
+join-spaced k (w ∷ ws) = ap (λ rest. k ++ 32 ∷ rest) (join-spaced w ws)
+
+-- words printed one after another make a line
+ended_words : (old k : List ℕ) (ws : List (List ℕ)) → old ++ k ++ spaced ws ++ 10 ∷ [] ≡ old ++ (join_with_byte 32 (k ∷ ws) ++ 10 ∷ [])
+ended_words old k ws =
+    ap (λ text. text ++ 10 ∷ []) (append_assoc old k (spaced ws))
+    ∙ append_assoc old (k ++ spaced ws) (10 ∷ [])
+    ∙ ap (λ line. old ++ (line ++ 10 ∷ [])) (sym (join-spaced k ws))
+
+-- the pieces of the stores line
+pub ended_stores : (old : List ℕ) (ids : List (List ℕ)) → old ++ codes "stores" ++ spaced (map id_text ids) ++ 10 ∷ [] ≡ old ++ ended (stores_line ids)
+unfolding ended line_text
+ended_stores old ids = ended_words old (codes "stores") (map id_text ids)
+
+-- the pieces of a dump line
+pub ended_dump : (old : List ℕ) (t : ℕ) (xs : List ℕ) → old ++ codes "dump" ++ 32 ∷ decimal t ++ spaced (map decimal xs) ++ 10 ∷ [] ≡ old ++ ended (dump_line t xs)
+unfolding ended line_text
+ended_dump old t xs =
+    ap (λ text. text ++ 10 ∷ []) (append_assoc (old ++ codes "dump") (32 ∷ decimal t) (spaced (map decimal xs)))
+    ∙ ended_words old (codes "dump") (decimal t ∷ map decimal xs)
+
+-- one step's line more
+pub record AreDumped (n t k : ℕ) (text rest all : List ℕ) : Type 0 where
+  pub size : length rest ≡ k * n
+  pub lines : text ++ all_ended (dump_lines n t k rest) ≡ all
+
+-- one row was printed
+one_dumped : (n t j : ℕ) (text next rest after all : List ℕ) → length rest ≡ suc j * n → next ≡ text ++ ended (dump_line t (take n rest)) → after ≡ drop n rest → text ++ all_ended (dump_lines n t (suc j) rest) ≡ all → AreDumped n (t + 1) j next after all
+one_dumped n t j text next rest after all size printed left lines = record {
+  size = ap length left ∙ omega (arith, size, length-drop n rest);
+  lines =
+      ap (λ front. front ++ all_ended (dump_lines n (t + 1) j after)) printed
+      ∙ append_assoc text (ended (dump_line t (take n rest))) (all_ended (dump_lines n (t + 1) j after))
+      ∙ ap (λ xs. text ++ (ended (dump_line t (take n rest)) ++ all_ended (dump_lines n (t + 1) j xs))) left
+      ∙ lines;
+}
+
+-- the same, where rows are left by their number
+pub more_dumped : (n t k j : ℕ) (text next rest after all : List ℕ) → k ≡ suc j → AreDumped n t k text rest all → next ≡ text ++ ended (dump_line t (take n rest)) → after ≡ drop n rest → AreDumped n (t + 1) j next after all
+more_dumped n t k j text next rest after all is h printed left =
+    one_dumped n t j text next rest after all (h.size ∙ ap (λ i. i * n) is) printed left (ap (λ i. text ++ all_ended (dump_lines n t i rest)) (sym is) ∙ h.lines)
+
+-- ---- the whole text
+
+-- lines after lines
+all_ended-append : (xs ys : List Line) → all_ended (xs ++ ys) ≡ all_ended xs ++ all_ended ys
+all_ended-append [] ys = refl
+all_ended-append (x ∷ xs) ys = ap (λ rest. ended x ++ rest) (all_ended-append xs ys) ∙ sym (append_assoc (ended x) (all_ended xs) (all_ended ys))
+
+-- the joined lines, each ended
+join_ended : (xs : List Line) → join_with_byte 10 (map line_text xs ++ [] ∷ []) ≡ all_ended xs
+unfolding ended
+join_ended [] = refl
+join_ended (x ∷ []) = sym (append-nil (line_text x ++ 10 ∷ []))
+join_ended (x ∷ y ∷ ys) =
+    ap (λ rest. line_text x ++ 10 ∷ rest) (join_ended (y ∷ ys))
+    ∙ sym (append_assoc (line_text x) (10 ∷ []) (all_ended (y ∷ ys)))
+
+-- the lines of a sheet, printed one after another
+pub sheet_text-printed : (s : SheetRows) → sheet_text s ≡ (ended (title_line (has_counts s)) ++ ended (stores_line s.stores) ++ all_ended (plan_lines s.plan)) ++ (ended (loss_line s.loss) ++ all_ended (map stretch_line s.cut) ++ all_ended (map count_line s.by_channels) ++ ended (bound_line s.bound) ++ ended end_line)
+unfolding sheet_text lines_of
+sheet_text-printed s = join_ended (lines_of s) ∙ simp (all_ended-append, append_assoc, append-nil)
+
+-- whether there are some
+pub not_none : (n : ℕ) → not (n == 0) ≡ nat_lt 0 n
+not_none n = grind (arith, nat_tests)
+
+-- ---- the order
+
+-- a closure that stays as it is answers each call alike
+returns_each : {F X R : Type 0} (g : Mut F X R) (P : X → R → Type 0) (f : F) → ((a : X) (r : R) (h : F) → Called g f a r h → P a r × (h ≡ f)) → (xs : List X) → ReturnsEach g P f xs
+returns_each g P f answers [] = tt
+returns_each g P f answers (a ∷ xs) = λ r h called.
+    let p = answers a r h called in
+    (p.0, subst (λ e. ReturnsEach g P e xs) (sym p.1) (returns_each g P f answers xs))
+
+-- and so always
+pub answers_alike : {F X R : Type 0} (g : Mut F X R) (P : X → R → Type 0) (f : F) → ((a : X) (r : R) (h : F) → Called g f a r h → P a r × (h ≡ f)) → AlwaysReturns g P f
+answers_alike g P f answers = record { at = returns_each g P f answers }
+
+-- a sheet is one in another order too
+pub ordered_is_sheet : (s : SheetRows) (ds : List Stretch) (ts : List ℕ) → AreOrdered s.stores s.cut ds → AreRising s.by_channels ts → IsSheet s → IsSheet (record s { cut = ds; by_channels = ts })
+ordered_is_sheet s ds ts cut counts h = record {
+  stores = h.stores;
+  steps = h.steps;
+  cut = omega (arith, h.cut, length_permutation s.cut ds cut.same);
+  counts = omega (arith, h.counts, length_permutation s.by_channels ts counts.same);
+  plan = h.plan;
+  same_stores = h.same_stores;
+  each_store = h.each_store;
+  each_stretch = All-permutation IsWritten s.cut ds cut.same h.each_stretch;
+  each_count = All-permutation (λ t. t < 2 ^ 32) s.by_channels ts counts.same h.each_count;
+  loss = h.loss;
+  bound = h.bound;
+}
+
+-- the lines up to the dumps, and those from the loss on
+abbrev pub front_text : Bool → List (List ℕ) → Table → List ℕ
+front_text second ids x = ended (title_line second) ++ ended (stores_line ids) ++ all_ended (plan_lines x)
+
+-- the lines from the loss on
+abbrev pub certificate_text : ℕ → List Stretch → List ℕ → ℤ → List ℕ
+certificate_text loss ds ts bound = ended (loss_line loss) ++ all_ended (map stretch_line ds) ++ all_ended (map count_line ts) ++ ended (bound_line bound) ++ ended end_line
+
+-- what was printed piece by piece is the text of the sheet in order
+pub is_printed : (s : SheetRows) (ids : List (List ℕ)) (cut ds : List Stretch) (counts ts : List ℕ) (second : Bool) (none front text : List ℕ) → AreOrdered s.stores s.cut ds → AreRising s.by_channels ts → none ≡ [] → ids ≡ s.stores → cut ≡ ds → counts ≡ ts → second ≡ not (length ts == 0) → front ≡ none ++ front_text second ids s.plan → text ≡ front ++ certificate_text s.loss cut counts s.bound → IsPrinted s text
+is_printed s ids cut ds counts ts second none front text ordered rising no_text same_ids same_cut same_counts form front_is text_is =
+    let r : SheetRows = record s { cut = ds; by_channels = ts } in (
+      r,
+      record { stores = refl; plan = refl; loss = refl; bound = refl; cut = ordered; counts = rising },
+      ordered_is_sheet s ds ts ordered rising,
+      text_is
+          ∙ ap (λ t. t ++ certificate_text s.loss cut counts s.bound) (front_is ∙ ap (λ t. t ++ front_text second ids s.plan) no_text)
+          ∙ ap (λ i. front_text second i s.plan ++ certificate_text s.loss cut counts s.bound) same_ids
+          ∙ ap (λ b. front_text b s.stores s.plan ++ certificate_text s.loss cut counts s.bound) (form ∙ not_none (length ts))
+          ∙ ap (λ d. front_text (nat_lt 0 (length ts)) s.stores s.plan ++ certificate_text s.loss d counts s.bound) same_cut
+          ∙ ap (λ c. front_text (nat_lt 0 (length ts)) s.stores s.plan ++ certificate_text s.loss ds c s.bound) same_counts
+          ∙ sym (sheet_text-printed r),
+    )

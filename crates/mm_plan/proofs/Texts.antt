@@ -1,0 +1,201 @@
+-- From lines to octets: how far a text has been read, and where it ends.
+use Rattle.std.proofs.Common.{◌≡◌, ℕ, zero, suc, ◌+◌, ◌-◌, ◌<◌, ◌≤◌, Bool, false, ◌==◌, List, [], ◌∷◌, ◌++◌, length, get_or, map, take, drop, Option, Some, None, refl, sym, ap, ◌∙◌, subst, arith, add-one, length-append, length-drop, length-take}
+use Rattle.std.specs.Prelude.{All, option_and_then}
+use Rattle.std.specs.List.{join_with_byte}
+use Rattle.std.specs.Prelude.{◌≢◌}
+use Rattle.std.proofs.Math.Seq.{drop-cons}
+use Rattle.std.proofs.lemmas.Bool.Decides.{nat_tests}
+use Rattle.std.proofs.lemmas.List.{take-append-drop, take-append-le, take_all}
+use Rattle.std.proofs.lemmas.List.Elements.{All-more, All-nil, All-cons, All-append, All-map, All-weaker}
+use Rattle.std.proofs.lemmas.List.Splits.{slice_split_none, slice_split_at, join_with_byte-slice_split, length-slice_split}
+use Rattle.std.proofs.lemmas.Option.{same_Some}
+use Rattle.mm_plan.specs.declared.draft.Stage.{Stage}
+use Rattle.mm_plan.specs.declared.draft.Stage.TheVariants.{Done}
+use Rattle.mm_plan.specs.Sheet.{SheetRows, IsSheet, lines_of, line_text, sheet_text, text_lines, Begins, IsFirstBadLine}
+use Rattle.mm_plan.specs.Reading.{DraftRows, start, take_line, run}
+use Rattle.mm_plan.proofs.Spelled.{Lacks, slice_split-join}
+use Rattle.mm_plan.proofs.Lines.{IsLine, line_text_lacks}
+use Rattle.mm_plan.proofs.Drafts.{so_far, IsAt, IsWhole}
+use Rattle.mm_plan.proofs.Runs.{lines_so_far, whole, lines_are, run-sheet, run-append, run_start, stops_begins}
+use Rattle.mm_plan.proofs.Completions.{whole_is_sheet, lines_of-whole, taken_begins, few_taken}
+
+-- the lines before this one were taken, and the rest is to be read
+pub record IsReadTo (text : List ℕ) (d : DraftRows) (rest : List ℕ) (line : ℕ) : Type 0 where
+  pub first : 1 ≤ line
+  pub taken : run start (take (line - 1) (text_lines text)) ≡ Some d
+  pub left : drop (line - 1) (text_lines text) ≡ text_lines rest
+
+-- nothing has been read
+pub read_to_start : (text : List ℕ) → IsReadTo text start text 1
+unfolding run
+read_to_start text = record { first = omega arith; taken = refl; left = refl }
+
+-- ---- one place of a list
+
+-- the elements up to a place and the one at it
+take_at : {A : Type 0} (k : ℕ) (ls : List A) (l : A) (ms : List A) → drop k ls ≡ l ∷ ms → take (suc k) ls ≡ take k ls ++ l ∷ []
+take_at zero ls l ms e = ap (take 1) e
+take_at (suc k) [] l ms e = absurd (cc)
+take_at (suc k) (x ∷ ls) l ms e = ap (λ ys. x ∷ ys) (take_at k ls l ms e)
+
+-- the elements behind a place
+drop_at : {A : Type 0} (k : ℕ) (ls : List A) (l : A) (ms : List A) → drop k ls ≡ l ∷ ms → drop (suc k) ls ≡ ms
+drop_at zero ls l ms e = ap (drop 1) e
+drop_at (suc k) [] l ms e = absurd (cc)
+drop_at (suc k) (x ∷ ls) l ms e = drop_at k ls l ms e
+
+-- a text has a line
+some_lines : (text : List ℕ) → 1 ≤ length (text_lines text)
+some_lines text = omega (arith, length-slice_split (λ c. c == 10) text)
+
+-- how many lines there are, counted from the place
+place_is : (k : ℕ) (ls : List (List ℕ)) (l : List ℕ) (ms : List (List ℕ)) → drop k ls ≡ l ∷ ms → length ls ≡ k + 1 + length ms
+place_is k ls l ms e = omega (arith, length-drop k ls, ap length e)
+
+-- ---- cutting off a line
+
+-- an octet that is no line feed
+octet_cases : (b : ℕ) → (b ≢ 10) → (b == 10) ≡ false
+octet_cases b other = grind (arith, nat_tests)
+
+-- the octets before a place and the one at it, where it is no line feed
+pub lacks_more : (text : List ℕ) (i : ℕ) → i < length text → All (λ c. (c == 10) ≡ false) (take i text) → get_or text i 0 ≢ 10 → All (λ c. (c == 10) ≡ false) (take (i + 1) text)
+lacks_more text i within before other = All-more (λ c. (c == 10) ≡ false) text i 0 within before (octet_cases (get_or text i 0) other)
+
+-- the first line feed cuts the first line off
+pub split_at_feed : (text after : List ℕ) (i : ℕ) → i < length text → All (λ c. (c == 10) ≡ false) (take i text) → get_or text i 0 ≡ 10 → after ≡ drop (i + 1) text → text_lines text ≡ take i text ∷ text_lines after
+split_at_feed text after i within before feed rest =
+    let whole : text ≡ take i text ++ 10 ∷ after =
+    sym (take-append-drop i text)
+    ∙ ap (λ ys. take i text ++ ys) (drop-cons text i 0 within)
+    ∙ ap (λ c. take i text ++ c ∷ drop (suc i) text) feed
+    ∙ ap (λ k. take i text ++ 10 ∷ drop k text) (sym (add-one i))
+    ∙ ap (λ ys. take i text ++ 10 ∷ ys) (sym rest) in
+    ap text_lines whole ∙ slice_split_at (λ c. c == 10) (take i text) 10 after before refl
+
+-- without a line feed there is one line
+pub no_feed : (text : List ℕ) (i : ℕ) → length text ≤ i → All (λ c. (c == 10) ≡ false) (take i text) → text_lines text ≡ text ∷ []
+no_feed text i past before = slice_split_none (λ c. c == 10) text (subst (All (λ c. (c == 10) ≡ false)) (take_all i text past) before)
+
+-- ---- reading on
+
+-- nothing more to read
+same_step : (o : Option DraftRows) → option_and_then (λ e. Some e) o ≡ o
+same_step None = refl
+same_step (Some e) = refl
+
+-- one line
+run_one : (d : DraftRows) (l : List ℕ) → run d (l ∷ []) ≡ take_line d l
+unfolding run
+run_one d l = same_step (take_line d l)
+
+-- the next line
+next_run : (text : List ℕ) (d : DraftRows) (rest : List ℕ) (line : ℕ) (front after : List ℕ) → IsReadTo text d rest line → text_lines rest ≡ front ∷ text_lines after → run start (take line (text_lines text)) ≡ take_line d front
+next_run text d rest line front after h e =
+    let ls = text_lines text in
+    let here : suc (line - 1) ≡ line = omega (arith, h.first) in
+    ap (λ k. run start (take k ls)) (sym here)
+    ∙ ap (run start) (take_at (line - 1) ls front (text_lines after) (h.left ∙ e))
+    ∙ run-append start (take (line - 1) ls) (front ∷ [])
+    ∙ ap (option_and_then (λ f. run f (front ∷ []))) h.taken
+    ∙ run_one d front
+
+-- it was taken
+pub read_on : (text : List ℕ) (d e : DraftRows) (rest : List ℕ) (line : ℕ) (front after : List ℕ) → IsReadTo text d rest line → text_lines rest ≡ front ∷ text_lines after → take_line d front ≡ Some e → IsReadTo text e after (line + 1)
+read_on text d e rest line front after h split taken =
+    let back : line ≡ line + 1 - 1 = omega arith in
+    let here : suc (line - 1) ≡ line + 1 - 1 = omega (arith, h.first) in
+    record {
+      first = omega arith;
+      taken = ap (λ k. run start (take k (text_lines text))) (sym back) ∙ next_run text d rest line front after h split ∙ taken;
+      left = ap (λ k. drop k (text_lines text)) (sym here) ∙ drop_at (line - 1) (text_lines text) front (text_lines after) (h.left ∙ split);
+    }
+
+-- only so many lines are taken
+pub few_read : (text : List ℕ) (d : DraftRows) (rest : List ℕ) (line : ℕ) → IsReadTo text d rest line → line ≤ 4614
+few_read text d rest line h =
+    omega (arith, h.first, few_taken d (take (line - 1) (text_lines text)) h.taken, length-take (line - 1) (text_lines text), length-drop (line - 1) (text_lines text), ap length h.left, some_lines rest)
+
+-- ---- the lines of a sheet's text
+
+-- the lines of a sheet's text
+text_lines-sheet_text : (s : SheetRows) → IsSheet s → text_lines (sheet_text s) ≡ map line_text (lines_of s) ++ [] ∷ []
+unfolding sheet_text
+text_lines-sheet_text s h =
+    let lacking : All (Lacks 10) (map line_text (lines_of s)) =
+    All-map (Lacks 10) line_text (lines_of s) (All-weaker IsLine (λ x. Lacks 10 (line_text x)) line_text_lacks (lines_of s) (lines_are s h)) in
+    let last : All (Lacks 10) ([] ∷ []) = All-cons (Lacks 10) [] [] (All-nil (λ b. (b == 10) ≡ false)) (All-nil (Lacks 10)) in
+    slice_split-join 10 (map line_text (lines_of s) ++ [] ∷ []) (omega (arith, length-append (map line_text (lines_of s)) ([] ∷ [])))
+    (All-append (Lacks 10) (map line_text (lines_of s)) ([] ∷ []) lacking last)
+
+-- its first lines begin a sheet
+front_begins : (s : SheetRows) → IsSheet s → (k : ℕ) → Begins (take k (map line_text (lines_of s)))
+front_begins s h k = (s, h, drop k (map line_text (lines_of s)), sym (take-append-drop k (map line_text (lines_of s))))
+
+-- a line that cannot come next is the first bad one
+pub bad_line : (text : List ℕ) (d : DraftRows) (rest : List ℕ) (line : ℕ) (front after : List ℕ) → IsReadTo text d rest line → text_lines rest ≡ front ∷ text_lines after → take_line d front ≡ None → IsFirstBadLine text line
+bad_line text d rest line front after h split bad =
+    let ls = text_lines text in
+    let count = place_is (line - 1) ls front (text_lines after) (h.left ∙ split) in
+    let none : ¬ Begins (take line ls) = stops_begins (take line ls) (next_run text d rest line front after h split ∙ bad) in
+    record {
+      first = h.first;
+      last = omega (arith, count, h.first);
+      before = taken_begins d (take (line - 1) ls) h.taken;
+      here = λ _. none;
+      no_sheet = λ s is e.
+          let lines : ls ≡ map line_text (lines_of s) ++ [] ∷ [] = ap text_lines e ∙ text_lines-sheet_text s is in
+          let within : line ≤ length (map line_text (lines_of s)) =
+          omega (arith, count, h.first, some_lines after, ap length lines, length-append (map line_text (lines_of s)) ([] ∷ [])) in
+          none (subst Begins (sym (ap (take line) lines ∙ take-append-le line (map line_text (lines_of s)) ([] ∷ []) within)) (front_begins s is line));
+    }
+
+-- what stands behind a list
+drop_front : {A : Type 0} (xs ys : List A) → drop (length xs) (xs ++ ys) ≡ ys
+drop_front [] ys = refl
+drop_front (x ∷ xs) ys = drop_front xs ys
+
+-- where the text ends and is a sheet's, the whole sheet was read
+pub whole_at_end : (text : List ℕ) (d : DraftRows) (rest : List ℕ) (line : ℕ) (s : SheetRows) → IsReadTo text d rest line → text_lines rest ≡ rest ∷ [] → IsSheet s → text ≡ sheet_text s → (d ≡ whole s) × (rest ≡ [])
+whole_at_end text d rest line s h last is e =
+    let ls = text_lines text in
+    let ms = map line_text (lines_of s) in
+    let lines : ls ≡ ms ++ [] ∷ [] = ap text_lines e ∙ text_lines-sheet_text s is in
+    let count = place_is (line - 1) ls rest [] (h.left ∙ last) in
+    let size : line - 1 ≡ length ms = omega (arith, count, ap length lines, length-append ms ([] ∷ [])) in
+    let all : take (line - 1) ls ≡ ms = ap (take (line - 1)) lines ∙ take-append-le (line - 1) ms ([] ∷ []) (omega (arith, size)) ∙ take_all (line - 1) ms (omega (arith, size)) in
+    let ends : rest ∷ [] ≡ [] ∷ [] = sym (h.left ∙ last) ∙ ap (drop (line - 1)) lines ∙ ap (λ k. drop k (ms ++ [] ∷ [])) size ∙ drop_front ms ([] ∷ []) in
+    (same_Some d (whole s) (sym h.taken ∙ ap (run start) all ∙ run-sheet s is), cc)
+
+-- a text that ends too early is bad where it ends
+pub bad_end : (text : List ℕ) (d : DraftRows) (rest : List ℕ) (line : ℕ) → IsReadTo text d rest line → text_lines rest ≡ rest ∷ [] → ((d.stage ≡ Done) → (rest ≡ []) → ⊥) → IsFirstBadLine text line
+bad_end text d rest line h last bad =
+    let ls = text_lines text in
+    let count = place_is (line - 1) ls rest [] (h.left ∙ last) in
+    record {
+      first = h.first;
+      last = omega (arith, count, h.first);
+      before = taken_begins d (take (line - 1) ls) h.taken;
+      here = λ more. absurd (omega (arith, count, h.first, more));
+      no_sheet = λ s is e.
+          let p = whole_at_end text d rest line s h last is e in
+          bad (ap (λ f. f.stage) p.0) p.1;
+    }
+
+-- what holds where the last line was taken
+done_whole : (stage : Stage) (b : Bool) (s : SheetRows) → stage ≡ Done → IsAt stage b s → IsWhole b s
+done_whole stage b s done at = let P : Stage → Type 0 = λ t. IsAt t b s in subst P done at
+
+-- where the text ends after the last line, it is the sheet's
+pub good_end : (text : List ℕ) (d : DraftRows) (rest : List ℕ) (line : ℕ) → IsReadTo text d rest line → text_lines rest ≡ rest ∷ [] → d.stage ≡ Done → rest ≡ [] → IsSheet d.rows × (text ≡ sheet_text d.rows)
+unfolding sheet_text
+good_end text d rest line h last done empty =
+    let ls = text_lines text in
+    let read = run_start d (take (line - 1) ls) h.taken in
+    let at : IsWhole d.second d.rows = done_whole d.stage d.second d.rows done read.1.at in
+    let lines : lines_so_far d ≡ lines_of d.rows = ap (λ stage. so_far stage d.second d.rows) done ∙ sym (lines_of-whole d.second d.rows at) in
+    let front : take (line - 1) ls ≡ map line_text (lines_of d.rows) = read.0 ∙ ap (map line_text) lines in
+    let back : drop (line - 1) ls ≡ [] ∷ [] = h.left ∙ last ∙ ap (λ r. r ∷ []) empty in
+    let all : ls ≡ map line_text (lines_of d.rows) ++ [] ∷ [] =
+    sym (take-append-drop (line - 1) ls) ∙ ap (λ ms. ms ++ drop (line - 1) ls) front ∙ ap (λ ms. map line_text (lines_of d.rows) ++ ms) back in
+    (whole_is_sheet d.second d.rows read.1.rows at, sym (join_with_byte-slice_split 10 text) ∙ ap (join_with_byte 10) all)

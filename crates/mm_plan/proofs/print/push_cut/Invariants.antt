@@ -1,0 +1,10 @@
+use Rattle.std.proofs.Common.{◌≡◌, ◌++◌, map, length}
+use Rattle.mm_plan.specs.Sheet.{stretch_line}
+use Rattle.mm_plan.specs.Printing.{all_ended}
+use Rattle.mm_plan.proofs.print.push_cut.Given as goal
+
+abbrev pub invariant-loop-rest : goal.invariant-loop-rest
+invariant-loop-rest l = l.text.items ++ all_ended (map stretch_line l.rest) ≡ l.initial.text.items ++ all_ended (map stretch_line l.cut)
+
+abbrev pub decreases-loop-rest : goal.decreases-loop-rest
+decreases-loop-rest l = length l.rest

@@ -1,0 +1,49 @@
+use Rattle.std.proofs.Common.{arith, rules, ap, ◌∙◌}
+use Rattle.mm_plan.proofs.Options.{when_true, when_false}
+use Rattle.mm_plan.proofs.Texts.{read_to_start, read_on, few_read, bad_line, bad_end, good_end, whole_at_end}
+use Rattle.mm_plan.proofs.sheet.Sheet.parse.Goals as goal
+
+pub loop-front-init : goal.loop-front-init
+loop-front-init c = rw c.new-draft.ensures (read_to_start c.args.text.now)
+
+pub loop-front-preserved : goal.loop-front-preserved
+loop-front-preserved c =
+    read_on c.args.text.now c.loop-front.draft c.take.new.self c.loop-front.rest.now c.loop-front.line c.in-Some.front.now c.in-Some.after.now
+    c.loop-front.invariant (search rules) (when_true _ _ c.in_ok-take.field-0 c.in_ok-take.ensures c.if-not-branch.false)
+
+pub overflow_add-line : goal.overflow_add-line
+overflow_add-line c = omega (arith, few_read c.args.text.now c.loop-front.draft c.loop-front.rest.now c.loop-front.line c.loop-front.invariant)
+
+-- the line that cannot come next
+pub returns-then-not-branch-clause-bad : goal.returns-then-not-branch-clause-bad
+returns-then-not-branch-clause-bad c =
+    bad_line c.args.text.now c.loop-front.draft c.loop-front.rest.now c.loop-front.line c.in-Some.front.now c.in-Some.after.now
+    c.loop-front.invariant (search rules) (when_false _ _ c.in_ok-take.field-0 c.in_ok-take.ensures c.if-not-branch.true)
+
+pub returns-then-not-branch-clause-read : goal.returns-then-not-branch-clause-read
+returns-then-not-branch-clause-read c = λ s is e. absurd ((returns-then-not-branch-clause-bad c).no_sheet s is e)
+
+-- the line on which the text ends
+pub returns-then-not-ends-clause-bad : goal.returns-then-not-ends-clause-bad
+returns-then-not-ends-clause-bad c =
+    bad_end c.args.text.now c.loop-front.draft c.loop-front.rest.now c.loop-front.line c.loop-front.invariant (search rules)
+    (λ done empty. let ends = c.ends.ensures.1 (done, empty) in absurd (cc))
+
+pub returns-then-not-ends-clause-read : goal.returns-then-not-ends-clause-read
+returns-then-not-ends-clause-read c = λ s is e. absurd ((returns-then-not-ends-clause-bad c).no_sheet s is e)
+
+pub finish-requires : goal.finish-requires
+finish-requires c =
+    let ends = c.ends.ensures.0 (search rules) in
+    (good_end c.args.text.now c.loop-front.draft c.loop-front.rest.now c.loop-front.line c.loop-front.invariant (search rules) ends.0 ends.1).0
+
+pub returns-clause-found : goal.returns-clause-found
+returns-clause-found c =
+    let ends = c.ends.ensures.0 (search rules) in
+    rw c.finish.ensures
+    (good_end c.args.text.now c.loop-front.draft c.loop-front.rest.now c.loop-front.line c.loop-front.invariant (search rules) ends.0 ends.1)
+
+pub returns-clause-read : goal.returns-clause-read
+returns-clause-read c = λ s is e.
+    c.finish.ensures
+    ∙ ap (λ d. d.rows) (whole_at_end c.args.text.now c.loop-front.draft c.loop-front.rest.now c.loop-front.line s c.loop-front.invariant (search rules) is e).0

@@ -1,0 +1,113 @@
+-- The text of a plan with its certificate: what it says, its lines, and its octets.
+use Rattle.std.specs.Prelude.{◌≡◌, ◌≢◌, ℕ, zero, suc, ◌+◌, ◌-◌, ◌<◌, ◌≤◌, ◌^◌, ℤ, Bool, true, false, nat_lt, ◌==◌, List, [], ◌∷◌, ◌++◌, length, map, take, drop, All, codes, decimal, FitsSigned}
+use Rattle.std.specs.Fmt.{signed_decimal}
+use Rattle.std.specs.Int.{w64}
+use Rattle.std.specs.List.{join_with_byte, slice_split}
+use Rattle.mm_problem.specs.declared.limits.TheConstants.{MAX_STORES, MAX_STEPS}
+use Rattle.mm_problem.specs.Dumping.{Dumping}
+use Rattle.mm_problem.specs.Id.{IsIdField, id_text}
+use Rattle.mm_plan.specs.declared.stretch.Stretch.{Stretch}
+use Rattle.mm_plan.specs.declared.stretch.TheConstants.{MAX_STRETCHES, MAX_COUNTS}
+use Rattle.mm_plan.specs.Table.{Table, IsTable}
+
+-- what a sheet says; each identifier as its field
+pub record SheetRows : Type 0 where
+  pub stores : List (List ℕ)
+  pub plan : Table
+  pub loss : ℕ
+  pub cut : List Stretch
+  -- the inner steps that are counted by channels
+  pub by_channels : List ℕ
+  pub bound : ℤ
+
+-- a line of the text; `title_line true` is the second form's
+pub data Line : Type 0 where
+  title_line : Bool → Line
+  stores_line : List (List ℕ) → Line
+  dump_line : ℕ → List ℕ → Line
+  loss_line : ℕ → Line
+  stretch_line : Stretch → Line
+  count_line : ℕ → Line
+  bound_line : ℤ → Line
+  end_line : Line
+
+-- the words of a line
+abbrev pub words : Line → List (List ℕ)
+words (title_line false) = codes "mmplan" ∷ codes "1" ∷ []
+words (title_line true) = codes "mmplan" ∷ codes "2" ∷ []
+words (stores_line ids) = codes "stores" ∷ map id_text ids
+words (dump_line t amounts) = codes "dump" ∷ decimal t ∷ map decimal amounts
+words (loss_line n) = codes "loss" ∷ decimal n ∷ []
+words (stretch_line d) = codes "stretch" ∷ id_text d.store ∷ decimal d.first ∷ decimal d.last ∷ []
+words (count_line t) = codes "count" ∷ decimal t ∷ codes "channels" ∷ []
+words (bound_line z) = codes "bound" ∷ signed_decimal z ∷ []
+words end_line = codes "end" ∷ []
+
+-- the octets of a line: its words, with one space between two of them
+unfoldable pub line_text : Line → List ℕ
+line_text x = join_with_byte 32 (words x)
+
+-- a line for each of k steps from step t on, with the amounts of n stores each
+abbrev pub dump_lines : ℕ → ℕ → ℕ → List ℕ → List Line
+dump_lines n t zero amounts = []
+dump_lines n t (suc k) amounts = dump_line t (take n amounts) ∷ dump_lines n (t + 1) k (drop n amounts)
+
+-- whether steps are counted by channels, which makes it the second form
+abbrev pub has_counts : SheetRows → Bool
+has_counts s = nat_lt 0 (length s.by_channels)
+
+-- the lines of a sheet
+unfoldable pub lines_of : SheetRows → List Line
+lines_of s =
+    title_line (has_counts s) ∷ stores_line s.stores ∷ []
+    ++ dump_lines s.plan.stores 1 s.plan.steps s.plan.amounts
+    ++ loss_line s.loss ∷ []
+    ++ map stretch_line s.cut
+    ++ map count_line s.by_channels
+    ++ bound_line s.bound ∷ []
+    ++ end_line ∷ []
+
+-- the octets of a sheet: its lines, each with a line feed behind it
+unfoldable pub sheet_text : SheetRows → List ℕ
+sheet_text s = join_with_byte 10 (map line_text (lines_of s) ++ [] ∷ [])
+
+-- a stretch of a well-formed identifier and steps below 2^32
+pub record IsWritten (d : Stretch) : Type 0 where
+  pub store : IsIdField d.store
+  pub first : d.first < 2 ^ 32
+  pub last : d.last < 2 ^ 32
+
+-- a sheet within the limits of the text
+pub record IsSheet (s : SheetRows) : Type 0 where
+  pub stores : length s.stores ≤ MAX_STORES
+  pub steps : s.plan.steps ≤ MAX_STEPS
+  pub cut : length s.cut ≤ MAX_STRETCHES
+  pub counts : length s.by_channels ≤ MAX_COUNTS
+  pub plan : IsTable s.plan
+  pub same_stores : s.plan.stores ≡ length s.stores
+  pub each_store : All IsIdField s.stores
+  pub each_stretch : All IsWritten s.cut
+  pub each_count : All (λ t. t < 2 ^ 32) s.by_channels
+  pub loss : s.loss < 2 ^ 64
+  pub bound : FitsSigned w64 s.bound
+
+-- the sheet's stores, in order, and its number of steps are the problem's
+pub record IsShapedFor (q : Dumping) (s : SheetRows) : Type 0 where
+  pub stores : s.stores ≡ map (λ r. r.id) q.rows
+  pub steps : s.plan.steps ≡ length q.windows
+
+-- what stands between the line feeds of a text; the last of it is empty where the text ends with one
+abbrev pub text_lines : List ℕ → List (List ℕ)
+text_lines text = slice_split (λ c. c == 10) text
+
+-- these are the first lines of some sheet
+abbrev pub Begins : List (List ℕ) → Type 0
+Begins ls = (s : SheetRows) × IsSheet s × (more : List (List ℕ)) × (map line_text (lines_of s) ≡ ls ++ more)
+
+-- the first line, from 1, that cannot stand there, or the one on which the text ends, where it is no sheet's
+pub record IsFirstBadLine (text : List ℕ) (k : ℕ) : Type 0 where
+  pub first : 1 ≤ k
+  pub last : k ≤ length (text_lines text)
+  pub before : Begins (take (k - 1) (text_lines text))
+  pub here : k < length (text_lines text) → ¬ Begins (take k (text_lines text))
+  pub no_sheet : (s : SheetRows) → IsSheet s → text ≢ sheet_text s

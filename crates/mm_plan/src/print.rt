@@ -1,0 +1,256 @@
+//! The lines of a plan text, as they are printed.
+ghost use Rattle.std.specs.Prelude.{◌≡◌, ◌-◌, ◌*◌, ◌+◌, ◌<◌, ◌++◌, ◌∷◌, [], length, map, decimal, codes, IfOk, OnOk};
+ghost use Rattle.std.specs.Fmt.{signed_decimal};
+ghost use Rattle.mm_problem.specs.Id.{id_text};
+ghost use Rattle.mm_plan.specs.Sheet.{title_line, stores_line, dump_line, loss_line, stretch_line, count_line, bound_line, end_line, dump_lines};
+ghost use Rattle.mm_plan.specs.Printing.{place_of, stretch_key, AreOrdered, AreRising, ended, all_ended, spaced, plan_lines};
+
+use crate::plan::Plan;
+use crate::stretch::Stretch;
+use itoa::Buffer;
+use mm_problem::StoreId;
+use std::alloc::{AllocError, Global};
+
+fn push_word(text: &mut Vec<u8>, word: &[u8]) -> Result<(), AllocError>
+    ensures { OnOk result (text.new.items ≡ text.old.items ++ 32 ∷ word.now) }
+{
+    text.push(b' ')?;
+    text.extend_from_slice(word)?;
+    Ok(())
+}
+
+fn push_number(text: &mut Vec<u8>, number: u64) -> Result<(), AllocError>
+    ensures { OnOk result (text.new.items ≡ text.old.items ++ 32 ∷ decimal number) }
+{
+    let mut buffer = Buffer::new();
+    push_word(text, buffer.format(number).as_bytes())
+}
+
+#[tactic(auto, using(std::proofs::Common::append_assoc), unfolding(crate::specs::Printing::ended, crate::specs::Sheet::line_text))]
+fn push_title(text: &mut Vec<u8>, second: bool) -> Result<(), AllocError>
+    ensures { OnOk result (text.new.items ≡ text.old.items ++ ended (title_line second)) }
+{
+    if second {
+        text.extend_from_slice(b"mmplan 2\n")?;
+    } else {
+        text.extend_from_slice(b"mmplan 1\n")?;
+    }
+    Ok(())
+}
+
+fn push_ids(text: &mut Vec<u8>, ids: &[StoreId]) -> Result<(), AllocError>
+    ensures { OnOk result (text.new.items ≡ text.old.items ++ spaced (map id_text ids.now)) }
+{
+    let mut rest = ids;
+    while let [id, after @ ..] = rest {
+        push_word(text, id.text())?;
+        rest = after;
+    }
+    Ok(())
+}
+
+fn push_stores(text: &mut Vec<u8>, ids: &[StoreId]) -> Result<(), AllocError>
+    ensures { OnOk result (text.new.items ≡ text.old.items ++ ended (stores_line ids.now)) }
+{
+    text.extend_from_slice(b"stores")?;
+    push_ids(text, ids)?;
+    text.push(b'\n')?;
+    Ok(())
+}
+
+fn push_amounts(text: &mut Vec<u8>, amounts: &[u32]) -> Result<(), AllocError>
+    ensures { OnOk result (text.new.items ≡ text.old.items ++ spaced (map decimal amounts.now)) }
+{
+    let mut rest = amounts;
+    while let [amount, after @ ..] = rest {
+        push_number(text, u64::from(*amount))?;
+        rest = after;
+    }
+    Ok(())
+}
+
+fn push_dump(text: &mut Vec<u8>, step: u32, amounts: &[u32]) -> Result<(), AllocError>
+    ensures { OnOk result (text.new.items ≡ text.old.items ++ ended (dump_line step amounts.now)) }
+{
+    text.extend_from_slice(b"dump")?;
+    push_number(text, u64::from(step))?;
+    push_amounts(text, amounts)?;
+    text.push(b'\n')?;
+    Ok(())
+}
+
+// A line for each step, with the amounts of as many stores.
+fn push_dumps(
+    text: &mut Vec<u8>,
+    stores: usize,
+    steps: u32,
+    amounts: &[u32],
+) -> Result<(), AllocError>
+    requires { length amounts.now ≡ steps * stores }
+    ensures { OnOk result (text.new.items ≡ text.old.items ++ all_ended (dump_lines stores 1 steps amounts.now)) }
+{
+    let mut rest = amounts;
+    for step in 0..steps {
+        let (row, after) = rest.split_at(stores);
+        push_dump(text, step + 1, row)?;
+        rest = after;
+    }
+    Ok(())
+}
+
+// A line for each step of the plan.
+fn push_plan(text: &mut Vec<u8>, plan: &Plan) -> Result<(), AllocError>
+    ensures { OnOk result (text.new.items ≡ text.old.items ++ all_ended (plan_lines plan.now)) }
+{
+    push_dumps(text, plan.stores, plan.steps, plan.amounts.as_slice())
+}
+
+#[tactic(auto, using(std::proofs::Common::append_assoc), unfolding(crate::specs::Printing::ended, crate::specs::Sheet::line_text))]
+fn push_loss(text: &mut Vec<u8>, loss: u64) -> Result<(), AllocError>
+    ensures { OnOk result (text.new.items ≡ text.old.items ++ ended (loss_line loss)) }
+{
+    text.extend_from_slice(b"loss")?;
+    push_number(text, loss)?;
+    text.push(b'\n')?;
+    Ok(())
+}
+
+#[tactic(auto, using(std::proofs::Common::append_assoc), unfolding(crate::specs::Printing::ended, crate::specs::Sheet::line_text))]
+fn push_stretch(text: &mut Vec<u8>, stretch: Stretch) -> Result<(), AllocError>
+    ensures { OnOk result (text.new.items ≡ text.old.items ++ ended (stretch_line stretch)) }
+{
+    text.extend_from_slice(b"stretch")?;
+    push_word(text, stretch.store.text())?;
+    push_number(text, u64::from(stretch.first))?;
+    push_number(text, u64::from(stretch.last))?;
+    text.push(b'\n')?;
+    Ok(())
+}
+
+fn push_cut(text: &mut Vec<u8>, cut: &[Stretch]) -> Result<(), AllocError>
+    ensures { OnOk result (text.new.items ≡ text.old.items ++ all_ended (map stretch_line cut.now)) }
+{
+    let mut rest = cut;
+    while let [stretch, after @ ..] = rest {
+        push_stretch(text, *stretch)?;
+        rest = after;
+    }
+    Ok(())
+}
+
+#[tactic(auto, using(std::proofs::Common::append_assoc), unfolding(crate::specs::Printing::ended, crate::specs::Sheet::line_text))]
+fn push_count(text: &mut Vec<u8>, step: u32) -> Result<(), AllocError>
+    ensures { OnOk result (text.new.items ≡ text.old.items ++ ended (count_line step)) }
+{
+    text.extend_from_slice(b"count")?;
+    push_number(text, u64::from(step))?;
+    text.extend_from_slice(b" channels\n")?;
+    Ok(())
+}
+
+fn push_counts(text: &mut Vec<u8>, steps: &[u32]) -> Result<(), AllocError>
+    ensures { OnOk result (text.new.items ≡ text.old.items ++ all_ended (map count_line steps.now)) }
+{
+    let mut rest = steps;
+    while let [step, after @ ..] = rest {
+        push_count(text, *step)?;
+        rest = after;
+    }
+    Ok(())
+}
+
+#[tactic(auto, using(std::proofs::Common::append_assoc), unfolding(crate::specs::Printing::ended, crate::specs::Sheet::line_text))]
+fn push_bound(text: &mut Vec<u8>, bound: i64) -> Result<(), AllocError>
+    ensures { OnOk result (text.new.items ≡ text.old.items ++ ended (bound_line bound)) }
+{
+    text.extend_from_slice(b"bound")?;
+    let mut buffer = Buffer::new();
+    push_word(text, buffer.format(bound).as_bytes())?;
+    text.push(b'\n')?;
+    Ok(())
+}
+
+#[tactic(auto, using(std::proofs::Common::append_assoc), unfolding(crate::specs::Printing::ended, crate::specs::Sheet::line_text))]
+fn push_end(text: &mut Vec<u8>) -> Result<(), AllocError>
+    ensures { OnOk result (text.new.items ≡ text.old.items ++ ended end_line) }
+{
+    text.extend_from_slice(b"end\n")?;
+    Ok(())
+}
+
+// The lines up to the dumps.
+#[tactic(auto, using(std::proofs::Common::append_assoc))]
+pub(crate) fn push_front(
+    text: &mut Vec<u8>,
+    second: bool,
+    ids: &[StoreId],
+    plan: &Plan,
+) -> Result<(), AllocError>
+    ensures { OnOk result (text.new.items ≡ text.old.items
+        ++ (ended (title_line second) ++ ended (stores_line ids.now) ++ all_ended (plan_lines plan.now))) }
+{
+    push_title(text, second)?;
+    push_stores(text, ids)?;
+    push_plan(text, plan)?;
+    Ok(())
+}
+
+// The lines from the loss on.
+#[tactic(auto, using(std::proofs::Common::append_assoc))]
+pub(crate) fn push_certificate(
+    text: &mut Vec<u8>,
+    loss: u64,
+    cut: &[Stretch],
+    by_channels: &[u32],
+    bound: i64,
+) -> Result<(), AllocError>
+    ensures { OnOk result (text.new.items ≡ text.old.items
+        ++ (ended (loss_line loss) ++ all_ended (map stretch_line cut.now) ++ all_ended (map count_line by_channels.now)
+        ++ ended (bound_line bound) ++ ended end_line)) }
+{
+    push_loss(text, loss)?;
+    push_cut(text, cut)?;
+    push_counts(text, by_channels)?;
+    push_bound(text, bound)?;
+    push_end(text)?;
+    Ok(())
+}
+
+fn place_of(ids: &[StoreId], id: StoreId) -> usize
+    ensures { result ≡ place_of ids.now id }
+{
+    for (place, other) in ids.iter().enumerate() {
+        if *other == id {
+            return place;
+        }
+    }
+    ids.len()
+}
+
+fn stretch_key(ids: &[StoreId], stretch: &Stretch) -> (usize, u32, u32)
+    ensures { result ≡ stretch_key ids.now stretch.now }
+{
+    (place_of(ids, stretch.store), stretch.first, stretch.last)
+}
+
+// The stretches in store order, then by first and by last step.
+pub(crate) fn ordered(
+    alloc: Global,
+    ids: &[StoreId],
+    cut: &[Stretch],
+) -> Result<Vec<Stretch>, AllocError>
+    ensures { IfOk result (λ v. AreOrdered ids.now cut.now v.items) }
+{
+    let mut stretches = Vec::from_slice(alloc, cut)?;
+    stretches.sort_unstable_by_key(|stretch| stretch_key(ids, stretch));
+    Ok(stretches)
+}
+
+// The numbers in rising order.
+pub(crate) fn rising(alloc: Global, steps: &[u32]) -> Result<Vec<u32>, AllocError>
+    ensures { IfOk result (λ v. AreRising steps.now v.items) }
+{
+    let mut numbers = Vec::from_slice(alloc, steps)?;
+    numbers.sort_unstable();
+    Ok(numbers)
+}

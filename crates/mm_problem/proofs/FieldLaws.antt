@@ -1,0 +1,148 @@
+-- What is read at a key, and what the key says.
+use Rattle.std.proofs.Common.{◌≡◌, ℕ, ℤ, pos, negsuc, ◌≤◌, ◌<◌, zero, suc, length, get_or, nat_le, Bool, true, false, ◌||◌, List, [], ◌∷◌, map, Option, Some, None, Ok, refl, sym, ap, ◌∙◌, arith, inl, inr}
+use Rattle.std.specs.Prelude.{Contains, bytes_eq, option_and_then}
+use Rattle.std.specs.Bool.{Decides}
+use Rattle.std.specs.List.{list_any, list_all}
+use Rattle.std.proofs.lemmas.Bool.{and_parts, cases_Bool, false≢true}
+use Rattle.std.proofs.lemmas.Bool.Decides.{nat_tests, Decides-by_and}
+use Rattle.std.proofs.lemmas.List.Elements.{Contains-append_right}
+use Rattle.std.proofs.lemmas.Slice.Eq.{bytes_eq-Decides}
+use Rattle.toml.specs.Data.{Data, string, integer, float, boolean, datetime, array, table, Items, Members, as_str, as_integer, as_array, as_table}
+use Rattle.mm_problem.specs.declared.fault.Name.{Name}
+use Rattle.mm_problem.specs.Keys.{keys_of, is_named, has_only, value_at, text_at, integer_at, within, number_at}
+use Rattle.mm_problem.specs.Name.{text_of}
+use Rattle.mm_problem.specs.ReadableSetup.{HasOnly, SaysText, SaysNumber, SaysId}
+use Rattle.mm_problem.specs.Tables.{id_at}
+use Rattle.mm_problem.proofs.IdFields.{is_id_text_decides}
+use Rattle.mm_problem.proofs.ReadingSteps.{bind_ok, test_ok, ok_or_ok, cond_ok}
+
+-- ---- the kinds of values
+
+-- a value that is a text
+pub string_said : (o : Option Data) (text : List ℕ) → option_and_then as_str o ≡ Some text → o ≡ Some (string text)
+string_said None text h = absurd (cc)
+string_said (Some (string s)) text h = cc
+string_said (Some (integer z)) text h = absurd (cc)
+string_said (Some (float x)) text h = absurd (cc)
+string_said (Some (boolean b)) text h = absurd (cc)
+string_said (Some (datetime d)) text h = absurd (cc)
+string_said (Some (array ds)) text h = absurd (cc)
+string_said (Some (table ms)) text h = absurd (cc)
+
+-- a value that is a whole number
+pub integer_said : (o : Option Data) (z : ℤ) → option_and_then as_integer o ≡ Some z → o ≡ Some (integer z)
+integer_said None z h = absurd (cc)
+integer_said (Some (string s)) z h = absurd (cc)
+integer_said (Some (integer y)) z h = cc
+integer_said (Some (float x)) z h = absurd (cc)
+integer_said (Some (boolean b)) z h = absurd (cc)
+integer_said (Some (datetime d)) z h = absurd (cc)
+integer_said (Some (array ds)) z h = absurd (cc)
+integer_said (Some (table ms)) z h = absurd (cc)
+
+-- a value that is an array
+pub array_said : (d : Data) (ds : Items) → as_array d ≡ Some ds → d ≡ array ds
+array_said (string s) ds h = absurd (cc)
+array_said (integer z) ds h = absurd (cc)
+array_said (float x) ds h = absurd (cc)
+array_said (boolean b) ds h = absurd (cc)
+array_said (datetime t) ds h = absurd (cc)
+array_said (array es) ds h = cc
+array_said (table ms) ds h = absurd (cc)
+
+-- a value that is a table
+pub table_said : (d : Data) (ms : Members) → as_table d ≡ Some ms → d ≡ table ms
+table_said (string s) ms h = absurd (cc)
+table_said (integer z) ms h = absurd (cc)
+table_said (float x) ms h = absurd (cc)
+table_said (boolean b) ms h = absurd (cc)
+table_said (datetime t) ms h = absurd (cc)
+table_said (array ds) ms h = absurd (cc)
+table_said (table ns) ms h = cc
+
+-- ---- keys
+
+-- any test, or true
+or_true : (b : Bool) → (b || true) ≡ true
+or_true true = refl
+or_true false = refl
+
+module _ {X : Type 0} (f : X → List ℕ) where
+  -- a test that passed found the value
+  found_said : (xs : List X) (key : List ℕ) → list_any (λ x. bytes_eq (f x) key) xs ≡ true → Contains (map f xs) key
+  found_said [] key h = absurd (false≢true h)
+  found_said (x ∷ xs) key h = elim (cases_Bool (bytes_eq (f x) key)) [
+    | inl here ↦ (0, omega arith, (bytes_eq-Decides (f x) key).0 here)
+    | inr other ↦ Contains-append_right (f x ∷ []) (map f xs) key (found_said xs key (rw other at h))
+  ]
+
+  -- a value that is there is found
+  found_read : (xs : List X) (key : List ℕ) (k : ℕ) → k < length (map f xs) → get_or (map f xs) k key ≡ key → list_any (λ x. bytes_eq (f x) key) xs ≡ true
+  found_read [] key k within is = absurd (omega arith)
+  found_read (x ∷ xs) key zero within is = rw ((bytes_eq-Decides (f x) key).1 is) refl
+  found_read (x ∷ xs) key (suc k) within is = rw (found_read xs key k (omega arith) is) (or_true (bytes_eq (f x) key))
+
+  -- an element at which f has a value
+  pub found_decides : (xs : List X) (key : List ℕ) → Decides (list_any (λ x. bytes_eq (f x) key) xs) (Contains (map f xs) key)
+  found_decides xs key = (found_said xs key, λ h. found_read xs key h.0 h.1 h.2)
+
+-- the test of the keys of a table
+pub has_only_decides : (names : List Name) (ms : Members) → Decides (has_only names ms) (HasOnly names ms)
+has_only_decides names ms =
+    Decides-by_and (is_named names) (Contains (map text_of names)) (list_all (is_named names)) (found_decides text_of names) refl (λ _ _. refl) (keys_of ms)
+
+-- ---- texts and numbers
+
+module _ (row : ℕ) (name : Name) (ms : Members) where
+  -- a text that is read is what the key has
+  pub text_said : (text : List ℕ) → text_at row name ms ≡ Ok text → SaysText ms name text
+  text_said text h = string_said (value_at name ms) text (ok_or_ok _ _ _ h)
+
+  -- the text that the key has is read
+  pub text_read : (text : List ℕ) → SaysText ms name text → text_at row name ms ≡ Ok text
+  text_read text says = rw says refl
+
+  -- a whole number that is read is what the key has
+  integer_at_said : (z : ℤ) → integer_at row name ms ≡ Ok z → value_at name ms ≡ Some (integer z)
+  integer_at_said z h = integer_said (value_at name ms) z (ok_or_ok _ _ _ h)
+
+  -- an identifier that is read is what the key has
+  pub id_said : (id : List ℕ) → id_at row name ms ≡ Ok id → SaysId ms name id
+  unfolding id_at
+  id_said id h =
+      let (text, said, more) = bind_ok _ _ _ h in
+      let (u, passed, last) = bind_ok _ _ _ more in
+      record { text = text; says = text_said text said; well_formed = (is_id_text_decides text).0 (test_ok _ _ _ passed); padded = cc }
+
+  -- the identifier that the key has is read
+  pub id_read : (id : List ℕ) → SaysId ms name id → id_at row name ms ≡ Ok id
+  unfolding id_at
+  id_read id h = rw (h.says, (is_id_text_decides h.text).1 h.well_formed) (ap Ok (sym h.padded))
+
+  module _ (low high n : ℕ) where
+    within_said : (z : ℤ) → within low high name z ≡ Ok n → (z ≡ pos n) × (low ≤ n) × (n ≤ high)
+    within_said (pos m) h =
+        let (passed, same) = cond_ok _ _ _ _ h in
+        let (above, below) = and_parts (nat_le low m) (nat_le m high) passed in
+        (ap pos same, rw (← same) (grind (arith, nat_tests)), rw (← same) (grind (arith, nat_tests)))
+    within_said (negsuc m) h = absurd (cc)
+
+    -- a number within the range is read
+    within_read : low ≤ n → n ≤ high → within low high name (pos n) ≡ Ok n
+    within_read above below =
+        let a : nat_le low n ≡ true = grind (arith, nat_tests) in
+        let b : nat_le n high ≡ true = grind (arith, nat_tests) in
+        rw (a, b) refl
+
+    -- a number that is read is what the key has, and within the range
+    pub number_said : number_at row name low high ms ≡ Ok n → SaysNumber ms name n × (low ≤ n) × (n ≤ high)
+    unfolding number_at
+    number_said h =
+        let (z, at, in_range) = bind_ok _ _ _ h in
+        let (is, above, below) = within_said z in_range in
+        (integer_at_said z at ∙ ap (λ y. Some (integer y)) is, above, below)
+
+    -- the number that the key has is read, where it is within the range
+    pub number_read : SaysNumber ms name n → low ≤ n → n ≤ high → number_at row name low high ms ≡ Ok n
+    unfolding number_at
+    number_read says above below = rw says (within_read above below)

@@ -1,0 +1,195 @@
+-- What is read in the records of a forecast, and what they say.
+use Rattle.std.proofs.Common.{◌≡◌, ℕ, ◌+◌, ◌*◌, ◌<◌, ◌≤◌, suc, nat_le, nat_lt, ◌==◌, true, List, [], ◌∷◌, ◌++◌, length, drop, Ok, refl, sym, ap, subst, ◌∙◌, arith, inl, inr, append_assoc, length-append, length-drop}
+use Rattle.std.specs.Prelude.{All}
+use Rattle.std.specs.List.{AllZip, AllByRecursion, range_with_len}
+use Rattle.std.proofs.lemmas.Bool.{cases_Bool}
+use Rattle.std.proofs.lemmas.Bool.Decides.{nat_tests, Decides-eqb}
+use Rattle.std.proofs.lemmas.List.{append-nil}
+use Rattle.std.proofs.lemmas.List.Elements.{All-nil, All-cons, All-push, All-append, All-map, recursion_from_All}
+use Rattle.std.proofs.lemmas.List.FromFn.{length-map-range_with_len}
+use Rattle.mm_problem.specs.declared.fault.Fault.TheVariants.{Header, Limit}
+use Rattle.mm_problem.specs.declared.fault.Name.{Name}
+use Rattle.mm_problem.specs.declared.fault.Name.TheVariants as name
+use Rattle.mm_problem.specs.declared.limits.TheConstants.{MAX_STEPS, MAX_BLOCKS, CHANNELS}
+use Rattle.mm_problem.specs.declared.numbers.Numeral.{Numeral}
+use Rattle.mm_problem.specs.declared.numbers.Numeral.TheVariants.{NotNumber, TooLarge, Number}
+use Rattle.mm_problem.specs.declared.rows.LimitRow.{LimitRow}
+use Rattle.mm_problem.specs.declared.rows.StoreRow.{StoreRow}
+use Rattle.mm_problem.specs.Cells.{amount_from, amount_of, step_from}
+use Rattle.mm_problem.specs.Dumping.{AreSteps, IsLimit, AreChannels}
+use Rattle.mm_problem.specs.Forecast.{Steps, header_of, same_fields, cell_of, arrivals_in, next_step, steps_in, no_steps, some_steps, forecast_in, limit_of, limits_of}
+use Rattle.mm_problem.specs.Numbers.{numeral_within, numeral_of, is_number, value_after}
+use Rattle.mm_problem.specs.Reading.{◌>>=◌, test}
+use Rattle.mm_problem.specs.Records.{Fields}
+use Rattle.mm_problem.specs.Setup.{IsLimitRow}
+use Rattle.mm_problem.proofs.ReadingSteps.{bind_ok, test_ok}
+
+-- ---- numbers
+
+-- the text is this number, within the bound
+abbrev pub IsNumeral : ℕ → List ℕ → ℕ → Type 0
+IsNumeral most text n = numeral_of most text ≡ Number n
+
+-- a number that was within the bound
+within_said : (most v n : ℕ) → numeral_within most v ≡ Number n → (v ≡ n) × (n ≤ most)
+within_said most v n h = elim (cases_Bool (nat_le v most)) [
+  | inl fits ↦ (let given = rw fits at h in let same : v ≡ n = cc in let below : v ≤ most = grind (arith, nat_tests) in (same, omega arith))
+  | inr passes ↦ absurd (let refused = rw passes at h in cc)
+]
+
+-- what a number's text is
+pub numeral_said : (most : ℕ) (text : List ℕ) (n : ℕ) → IsNumeral most text n → (is_number text ≡ true) × (value_after 0 text ≡ n) × (n ≤ most)
+numeral_said most text n h = elim (cases_Bool (is_number text)) [
+  | inl number ↦ (let value = within_said most (value_after 0 text) n (rw number at h) in (number, value.0, value.1))
+  | inr other ↦ absurd (let refused = rw other at h in cc)
+]
+
+-- a number that was read is within the bound
+pub numeral_fits : (most : ℕ) (text : List ℕ) (n : ℕ) → IsNumeral most text n → n ≤ most
+numeral_fits most text n h = (numeral_said most text n h).2
+
+-- an amount that was taken was a number
+amount_from_said : (row column : ℕ) (name : Name) (v : Numeral) (n : ℕ) → amount_from row column name v ≡ Ok n → v ≡ Number n
+amount_from_said row column name NotNumber n h = absurd (cc)
+amount_from_said row column name TooLarge n h = absurd (cc)
+amount_from_said row column name (Number m) n h = cc
+
+-- an amount that was read is the number in its cell
+pub amount_said : (row column : ℕ) (name : Name) (cell : List ℕ) (n : ℕ) → amount_of row column name cell ≡ Ok n → IsNumeral MAX_BLOCKS cell n
+amount_said row column name cell n h = amount_from_said row column name (numeral_of MAX_BLOCKS cell) n h
+
+-- a step number that passed is the row's
+step_from_said : (row : ℕ) (v : Numeral) (u : Unit {0}) → step_from row v ≡ Ok u → v ≡ Number row
+step_from_said row NotNumber u h = absurd (cc)
+step_from_said row TooLarge u h = absurd (cc)
+step_from_said row (Number m) u h = ap Number ((Decides-eqb m row).0 (test_ok _ _ _ h))
+
+-- ---- one step
+
+-- these amounts were in the cells, and stand behind earlier ones
+pub record AreAmounts (cells : Fields) (earlier all : List ℕ) : Type 0 where
+  pub more : List ℕ
+  pub behind : all ≡ earlier ++ more
+  pub each : AllZip (IsNumeral MAX_BLOCKS) cells more
+
+-- amounts that were read are those in the cells
+pub arrivals_said : (row : ℕ) (cells : Fields) (column : ℕ) (earlier all : List ℕ) → arrivals_in row earlier column cells ≡ Ok all → AreAmounts cells earlier all
+unfolding arrivals_in
+arrivals_said row [] column earlier all h = let same : earlier ≡ all = cc in record { more = []; behind = sym same ∙ sym (append-nil earlier); each = tt }
+arrivals_said row (cell ∷ cells) column earlier all h =
+    let (n, given, rest) = bind_ok _ _ _ h in
+    let others = arrivals_said row cells (column + 1) (earlier ++ n ∷ []) all rest in
+    record { more = n ∷ others.more; behind = others.behind ∙ append_assoc earlier (n ∷ []) others.more; each = (amount_said _ _ _ cell n given, others.each) }
+
+-- a test of an order that passed
+below_said : (a b : ℕ) → nat_lt a b ≡ true → a < b
+below_said a b h = grind (arith, nat_tests)
+
+-- the record says the step behind earlier ones
+pub record IsNextStep (stores : ℕ) (earlier : Steps) (fields : Fields) (next : Steps) : Type 0 where
+  pub as_long : length fields ≡ stores + 2
+  pub few : length earlier.windows < MAX_STEPS
+  pub numbered : IsNumeral MAX_STEPS (cell_of fields 0) (length earlier.windows + 1)
+  pub window : ℕ
+  pub spelled : IsNumeral MAX_BLOCKS (cell_of fields 1) window
+  pub windows : next.windows ≡ earlier.windows ++ window ∷ []
+  pub arrivals : AreAmounts (drop 2 fields) earlier.arrived next.arrived
+
+-- a step that was read is what the record says
+pub next_step_said : (stores : ℕ) (earlier : Steps) (fields : Fields) (next : Steps) → next_step stores earlier fields ≡ Ok next → IsNextStep stores earlier fields next
+unfolding next_step
+next_step_said stores earlier fields next h =
+    let (u, long, h1) = bind_ok _ _ _ h in
+    let (v, few, h2) = bind_ok _ _ _ h1 in
+    let (w, numbered, h3) = bind_ok _ _ _ h2 in
+    let (window, spelled, h4) = bind_ok _ _ _ h3 in
+    let (arrived, arrivals, last) = bind_ok _ _ _ h4 in
+    let fewer = below_said (length earlier.windows) MAX_STEPS (test_ok _ _ _ few) in
+    let steps : Steps = record { windows = earlier.windows ++ window ∷ []; arrived = arrived } in
+    let same : steps ≡ next = cc in
+    subst (IsNextStep stores earlier fields) same (record {
+      as_long = (Decides-eqb (length fields) (stores + 2)).0 (test_ok _ _ _ long);
+      few = fewer;
+      numbered = step_from_said (length earlier.windows + 1) (numeral_of MAX_STEPS (cell_of fields 0)) w numbered;
+      window = window;
+      spelled = amount_said _ _ _ (cell_of fields 1) window spelled;
+      windows = refl;
+      arrivals = arrivals_said _ (drop 2 fields) 3 earlier.arrived arrived arrivals;
+    })
+
+-- ---- the ranges of what was read
+
+-- the numbers of some steps, all in their ranges
+pub record AreStepsOf (stores : ℕ) (s : Steps) : Type 0 where
+  pub at_most : length s.windows ≤ MAX_STEPS
+  pub table : length s.arrived ≡ length s.windows * stores
+  pub each_window : All (λ n. n ≤ MAX_BLOCKS) s.windows
+  pub each_arrival : All (λ n. n ≤ MAX_BLOCKS) s.arrived
+
+-- amounts that cells spell
+pub amounts_fit : (cells : Fields) (amounts : List ℕ) → AllZip (IsNumeral MAX_BLOCKS) cells amounts → All (λ n. n ≤ MAX_BLOCKS) amounts × (length cells ≡ length amounts)
+amounts_fit [] [] h = (All-nil (λ n. n ≤ MAX_BLOCKS), refl)
+amounts_fit [] (n ∷ ns) h = absurd h
+amounts_fit (c ∷ cs) [] h = absurd h
+amounts_fit (c ∷ cs) (n ∷ ns) h =
+    let others = amounts_fit cs ns h.1 in
+    (All-cons (λ n. n ≤ MAX_BLOCKS) n ns (numeral_fits MAX_BLOCKS c n h.0) others.0, ap suc others.1)
+
+-- one more step keeps the ranges
+next_fits : (stores : ℕ) (earlier : Steps) (fields : Fields) (next : Steps) → AreStepsOf stores earlier → IsNextStep stores earlier fields next → AreStepsOf stores next
+next_fits stores earlier fields next so_far this =
+    let arrivals = this.arrivals in
+    let amounts = amounts_fit (drop 2 fields) arrivals.more arrivals.each in
+    let as_many : length arrivals.more ≡ stores = omega (arith, amounts.1, length-drop 2 fields, this.as_long) in
+    let longer : length next.windows ≡ length earlier.windows + 1 = ap length this.windows ∙ length-append earlier.windows (this.window ∷ []) in
+    let wider : length next.arrived ≡ length earlier.arrived + stores = ap length arrivals.behind ∙ length-append earlier.arrived arrivals.more ∙ ap (λ n. length earlier.arrived + n) as_many in
+    record {
+      at_most = omega (arith, longer, this.few);
+      table = rw (wider, longer, so_far.table) (omega arith);
+      each_window = rw this.windows (All-push (λ n. n ≤ MAX_BLOCKS) earlier.windows this.window so_far.each_window (numeral_fits MAX_BLOCKS (cell_of fields 1) this.window this.spelled));
+      each_arrival = rw arrivals.behind (All-append (λ n. n ≤ MAX_BLOCKS) earlier.arrived arrivals.more so_far.each_arrival amounts.0);
+    }
+
+-- all steps that are read are within the ranges
+steps_fit : (stores : ℕ) (rows : List Fields) (earlier steps : Steps) → AreStepsOf stores earlier → steps_in stores earlier rows ≡ Ok steps → AreStepsOf stores steps
+unfolding steps_in
+steps_fit stores [] earlier steps so_far h = let same : earlier ≡ steps = cc in subst (AreStepsOf stores) same so_far
+steps_fit stores (fields ∷ rows) earlier steps so_far h =
+    let (next, given, rest) = bind_ok _ _ _ h in
+    steps_fit stores rows next steps (next_fits stores earlier fields next so_far (next_step_said stores earlier fields next given)) rest
+
+-- the steps of a forecast that is read are those of a problem
+pub forecast_fits : (stores : List StoreRow) (rows : List Fields) (steps : Steps) → forecast_in stores rows ≡ Ok steps → AreSteps stores steps.windows steps.arrived
+unfolding forecast_in some_steps
+forecast_fits stores [] steps h = absurd (cc)
+forecast_fits stores (header ∷ rows) steps h =
+    let (u, named, h1) = bind_ok (test (same_fields header (header_of stores)) Header) (λ _. steps_in (length stores) no_steps rows >>= some_steps) steps h in
+    let (read, are, h2) = bind_ok (steps_in (length stores) no_steps rows) some_steps steps h1 in
+    let (v, some, last) = bind_ok (test (nat_le 1 (length read.windows)) (Limit name.Steps)) (λ _. Ok read) steps h2 in
+    let one : nat_le 1 (length read.windows) ≡ true = test_ok _ _ _ some in
+    let same : read ≡ steps = cc in
+    let fit = steps_fit (length stores) rows no_steps read (record { at_most = omega arith; table = omega arith; each_window = All-nil (λ n. n ≤ MAX_BLOCKS); each_arrival = All-nil (λ n. n ≤ MAX_BLOCKS) }) are in
+    subst (λ s. AreSteps stores s.windows s.arrived) same (record {
+      has_step = grind (arith, nat_tests);
+      at_most = fit.at_most;
+      table = fit.table;
+      each_window = fit.each_window;
+      each_arrival = fit.each_arrival;
+    })
+
+-- ---- limits
+
+-- a limit that is found is within its range
+found_fits : (channel : ℕ) (limits : List LimitRow) → AllByRecursion IsLimitRow limits → IsLimit (limit_of limits channel)
+found_fits channel [] each = tt
+found_fits channel (r ∷ limits) each = elim (cases_Bool (r.channel == channel)) [
+  | inl here ↦ rw here each.0.blocks
+  | inr other ↦ rw other (found_fits channel limits each.1)
+]
+
+-- the limits of all channels are within their range
+pub channels_fit : (limits : List LimitRow) → All IsLimitRow limits → AreChannels (limits_of limits)
+channels_fit limits each = record {
+  all = length-map-range_with_len (limit_of limits) 0 CHANNELS;
+  each = All-map IsLimit (limit_of limits) (range_with_len 0 CHANNELS) (λ k d within. found_fits _ limits (recursion_from_All IsLimitRow limits each));
+}

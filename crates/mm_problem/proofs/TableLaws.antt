@@ -1,0 +1,304 @@
+-- What is read in a table, and what the table says.
+use Rattle.std.proofs.Common.{◌≡◌, ◌≢◌, ℕ, ◌+◌, ◌≤◌, ◌==◌, Bool, true, false, not, ◌&&◌, List, [], ◌∷◌, length, Option, Some, None, Ok, refl, sym, ap, subst, ◌∙◌, arith, inl, inr}
+use Rattle.std.specs.Prelude.{All, bytes_eq}
+use Rattle.std.specs.Bool.{Decides}
+use Rattle.std.specs.List.{list_any}
+use Rattle.std.proofs.lemmas.Bool.{and_parts, or_parts, cases_Bool, false≢true}
+use Rattle.std.proofs.lemmas.Bool.Decides.{Decides-eqb, not_from_Decides}
+use Rattle.std.proofs.lemmas.List.Elements.{All-nil, All-cons, All-weaker}
+use Rattle.std.proofs.lemmas.List.Folds.{list_any_none}
+use Rattle.std.proofs.lemmas.Slice.Eq.{bytes_eq-Decides}
+use Rattle.toml.specs.Data.{Data, string, Members}
+use Rattle.mm_problem.specs.declared.fault.Name.TheVariants as name
+use Rattle.mm_problem.specs.declared.kind.Kind.{Kind}
+use Rattle.mm_problem.specs.declared.kind.Kind.TheVariants.{Circular, Bounded}
+use Rattle.mm_problem.specs.declared.limits.TheConstants.{MAX_BLOCKS, MAX_CHANNEL, MAX_APID}
+use Rattle.mm_problem.specs.declared.rows.StoreRow.{StoreRow}
+use Rattle.mm_problem.specs.declared.rows.RouteRow.{RouteRow}
+use Rattle.mm_problem.specs.declared.rows.LimitRow.{LimitRow}
+use Rattle.mm_problem.specs.Keys.{value_at}
+use Rattle.mm_problem.specs.Kind.{word_of}
+use Rattle.mm_problem.specs.ReadableSetup.{SaysText, SaysNumberIfAny, SaysStore, SaysRoute, SaysLimit, IsTableOf}
+use Rattle.mm_problem.specs.Setup.{IsStoreRow, HaveOtherIds, IsRouteRow, IsLimitRow, HaveOtherChannels}
+use Rattle.mm_problem.specs.Tables.{store_keys, route_keys, limit_keys, kind_of, kind_at, start_from, store_at, next_store, same_route, route_at, next_route, limit_at, next_limit}
+use Rattle.mm_problem.proofs.FieldLaws.{table_said, has_only_decides, found_decides, text_said, id_said, id_read, number_said, number_read}
+use Rattle.mm_problem.proofs.ReadingSteps.{bind_ok, test_ok, ok_or_ok}
+use Rattle.mm_problem.proofs.RowLaws.{IsNext}
+
+-- ---- rows that differ from a row
+
+-- a test that no element passes
+none_said : {X : Type 0} (p : X → Bool) (xs : List X) → list_any p xs ≡ false → All (λ x. p x ≡ false) xs
+none_said p [] h = All-nil (λ x. p x ≡ false)
+none_said p (x ∷ xs) h =
+    let (here, others) = or_parts (p x) (list_any p xs) h in
+    All-cons (λ x. p x ≡ false) x xs here (none_said p xs others)
+
+-- a test that is not passed
+not_true : (b : Bool) → not b ≡ true → b ≡ false
+not_true true h = absurd (false≢true h)
+not_true false h = refl
+
+module _ {X : Type 0} (p : X → Bool) (P : X → Type 0) (each : (x : X) → Decides (p x) (P x)) where
+  -- a test of what does not hold
+  fails : (x : X) → ¬ (P x) → p x ≡ false
+  fails x refuted = elim (cases_Bool (p x)) [ inl t ↦ absurd (refuted ((each x).0 t)) | inr f ↦ f ]
+
+  -- the test that no element has a property
+  none_decides : (xs : List X) → Decides (not (list_any p xs)) (All (λ x. ¬ (P x)) xs)
+  none_decides xs = (
+    λ h. All-weaker (λ x. p x ≡ false) (λ x. ¬ (P x)) (λ x f. not_from_Decides (p x) (each x) f) xs (none_said p xs (not_true (list_any p xs) h)),
+    λ h. rw (list_any_none p xs (All-weaker (λ x. ¬ (P x)) (λ x. p x ≡ false) fails xs h)) refl,
+  )
+
+-- the test of two routes
+same_route_decides : (a b : RouteRow) → Decides (same_route a b) (a ≡ b)
+same_route_decides a b = (
+  λ h.
+      let (front, store) = and_parts ((a.apid == b.apid) && (a.service == b.service) && (a.subtype == b.subtype)) (bytes_eq a.store b.store) h in
+      let (ids, subtype) = and_parts ((a.apid == b.apid) && (a.service == b.service)) (a.subtype == b.subtype) front in
+      let (apid, service) = and_parts (a.apid == b.apid) (a.service == b.service) ids in
+      let apid_is = (Decides-eqb a.apid b.apid).0 apid in
+      let service_is = (Decides-eqb a.service b.service).0 service in
+      let subtype_is = (Decides-eqb a.subtype b.subtype).0 subtype in
+      let store_is = (bytes_eq-Decides a.store b.store).0 store in
+      let joined : ◌≡◌ {A = RouteRow} (record { apid = a.apid; service = a.service; subtype = a.subtype; store = a.store }) (record { apid = b.apid; service = b.service; subtype = b.subtype; store = b.store }) = cc in
+      joined,
+  λ same. subst (λ r. same_route a r ≡ true) same (rw (
+    (Decides-eqb a.apid a.apid).1 refl,
+    (Decides-eqb a.service a.service).1 refl,
+    (Decides-eqb a.subtype a.subtype).1 refl,
+    (bytes_eq-Decides a.store a.store).1 refl,
+  ) refl),
+)
+
+-- ---- stores
+
+-- a kind that is read has this word
+kind_of_said : (row : ℕ) (word : List ℕ) (kind : Kind) → kind_of row word ≡ Ok kind → word ≡ word_of kind
+kind_of_said row word kind h = elim (cases_Bool (bytes_eq word (word_of Circular))) [
+  | inl circular ↦ let is : Circular ≡ kind = (let found = rw circular at h in cc) in (bytes_eq-Decides word (word_of Circular)).0 circular ∙ ap word_of is
+  | inr other ↦ (let later = rw other at h in elim (cases_Bool (bytes_eq word (word_of Bounded))) [
+    | inl bounded ↦ let is : Bounded ≡ kind = (let found = rw bounded at later in cc) in (bytes_eq-Decides word (word_of Bounded)).0 bounded ∙ ap word_of is
+    | inr neither ↦ absurd (let none = rw neither at later in cc)
+  ])
+]
+
+-- the word of a kind is read as the kind
+kind_of_read : (row : ℕ) (kind : Kind) → kind_of row (word_of kind) ≡ Ok kind
+kind_of_read row Circular = refl
+kind_of_read row Bounded = refl
+
+-- a kind that is read is what the key has
+kind_said : (row : ℕ) (ms : Members) (kind : Kind) → kind_at row ms ≡ Ok kind → SaysText ms name.Type (word_of kind)
+unfolding kind_at
+kind_said row ms kind h =
+    let (word, at, is) = bind_ok _ _ _ h in
+    text_said row name.Type ms word at ∙ ap (λ text. Some (string text)) (kind_of_said row word kind is)
+
+-- the kind that the key has is read
+kind_read : (row : ℕ) (ms : Members) (kind : Kind) → SaysText ms name.Type (word_of kind) → kind_at row ms ≡ Ok kind
+unfolding kind_at
+kind_read row ms kind says = rw says (kind_of_read row kind)
+
+-- a start volume that is read is what the key has, or 0
+start_from_said : (row size : ℕ) (ms : Members) (n : ℕ) (o : Option Data) → o ≡ value_at name.Start ms → start_from row size ms o ≡ Ok n → SaysNumberIfAny o n × (n ≤ size)
+start_from_said row size ms n None is h = let zero_is : n ≡ 0 = cc in (zero_is, omega arith)
+start_from_said row size ms n (Some d) is h = let (says, above, below) = number_said row name.Start ms 0 size n h in (cc, below)
+
+-- the start volume that the key has, or 0, is read
+start_from_read : (row size : ℕ) (ms : Members) (n : ℕ) (o : Option Data) → o ≡ value_at name.Start ms → SaysNumberIfAny o n → n ≤ size → start_from row size ms o ≡ Ok n
+start_from_read row size ms n None is says below = ap Ok (sym says)
+start_from_read row size ms n (Some d) is says below = number_read row name.Start ms 0 size n (sym is ∙ ap Some says) (omega arith) below
+
+-- a store that is read is what the table says
+store_said : (row : ℕ) (d : Data) (r : StoreRow) → store_at row d ≡ Ok r → IsTableOf SaysStore d r × IsStoreRow r
+unfolding store_at
+store_said row d r h =
+    let (ms, is, h1) = bind_ok _ _ _ h in
+    let (u, known, h2) = bind_ok _ _ _ h1 in
+    let (id, id_is, h3) = bind_ok _ _ _ h2 in
+    let (size, size_is, h4) = bind_ok _ _ _ h3 in
+    let (kind, kind_is, h5) = bind_ok _ _ _ h4 in
+    let (channel, channel_is, h6) = bind_ok _ _ _ h5 in
+    let (start, start_is, last) = bind_ok _ _ _ h6 in
+    let size_says = number_said row name.Size ms 1 MAX_BLOCKS size size_is in
+    let channel_says = number_said row name.Channel ms 0 MAX_CHANNEL channel channel_is in
+    let start_says = start_from_said row size ms start (value_at name.Start ms) refl start_is in
+    let row_of : StoreRow = record { id = id; size = size; start = start; kind = kind; channel = channel } in
+    let same : row_of ≡ r = cc in
+    subst (λ r. IsTableOf SaysStore d r × IsStoreRow r) same (
+      record {
+        members = ms;
+        is_table = table_said d ms (ok_or_ok _ _ _ is);
+        says = record {
+          only = (has_only_decides store_keys ms).0 (test_ok _ _ _ known);
+          id = id_said row name.Id ms id id_is;
+          size = size_says.0;
+          kind = kind_said row ms kind kind_is;
+          channel = channel_says.0;
+          start = start_says.0;
+        };
+      },
+      record { has_room = size_says.1; size = size_says.2; start = start_says.1; channel = channel_says.2 },
+    )
+
+-- the store that a table says is read
+store_read : (row : ℕ) (d : Data) (r : StoreRow) → IsTableOf SaysStore d r → IsStoreRow r → store_at row d ≡ Ok r
+unfolding store_at
+store_read row d r h fits =
+    let says = h.says in
+    rw (
+      h.is_table,
+      (has_only_decides store_keys h.members).1 says.only,
+      id_read row name.Id h.members r.id says.id,
+      number_read row name.Size h.members 1 MAX_BLOCKS r.size says.size fits.has_room fits.size,
+      kind_read row h.members r.kind says.kind,
+      number_read row name.Channel h.members 0 MAX_CHANNEL r.channel says.channel (omega arith) fits.channel,
+      start_from_read row r.size h.members r.start (value_at name.Start h.members) refl says.start fits.start,
+    ) refl
+
+-- a store that is read next is new
+pub next_store_said : (earlier : List StoreRow) (d : Data) (r : StoreRow) → next_store earlier d ≡ Ok r → IsNext (IsTableOf SaysStore) IsStoreRow HaveOtherIds earlier d r
+unfolding next_store
+next_store_said earlier d r h =
+    let (row, at, more) = bind_ok _ _ _ h in
+    let (u, new, last) = bind_ok _ _ _ more in
+    let same : row ≡ r = cc in
+    let facts = store_said (length earlier + 1) d row at in
+    subst (IsNext (IsTableOf SaysStore) IsStoreRow HaveOtherIds earlier d) same (record {
+      says = facts.0;
+      fits = facts.1;
+      new = (none_decides (λ e. bytes_eq e.id row.id) (λ e. e.id ≡ row.id) (λ e. bytes_eq-Decides e.id row.id) earlier).0 (test_ok _ _ _ new);
+    })
+
+-- a new store is read next
+pub next_store_read : (earlier : List StoreRow) (d : Data) (r : StoreRow) → IsNext (IsTableOf SaysStore) IsStoreRow HaveOtherIds earlier d r → next_store earlier d ≡ Ok r
+unfolding next_store
+next_store_read earlier d r h = rw (
+  store_read (length earlier + 1) d r h.says h.fits,
+  (none_decides (λ e. bytes_eq e.id r.id) (λ e. e.id ≡ r.id) (λ e. bytes_eq-Decides e.id r.id) earlier).1 h.new,
+) refl
+
+-- ---- routes
+
+-- a route that is read is what the table says
+route_said : (row : ℕ) (d : Data) (r : RouteRow) → route_at row d ≡ Ok r → IsTableOf SaysRoute d r × (r.apid ≤ MAX_APID)
+unfolding route_at
+route_said row d r h =
+    let (ms, is, h1) = bind_ok _ _ _ h in
+    let (u, known, h2) = bind_ok _ _ _ h1 in
+    let (apid, apid_is, h3) = bind_ok _ _ _ h2 in
+    let (service, service_is, h4) = bind_ok _ _ _ h3 in
+    let (subtype, subtype_is, h5) = bind_ok _ _ _ h4 in
+    let (store, store_is, last) = bind_ok _ _ _ h5 in
+    let apid_says = number_said row name.Apid ms 0 MAX_APID apid apid_is in
+    let service_says = number_said row name.Service ms 0 255 service service_is in
+    let subtype_says = number_said row name.Subtype ms 0 255 subtype subtype_is in
+    let row_of : RouteRow = record { apid = apid; service = service; subtype = subtype; store = store } in
+    let same : row_of ≡ r = cc in
+    subst (λ r. IsTableOf SaysRoute d r × (r.apid ≤ MAX_APID)) same (
+      record {
+        members = ms;
+        is_table = table_said d ms (ok_or_ok _ _ _ is);
+        says = record {
+          only = (has_only_decides route_keys ms).0 (test_ok _ _ _ known);
+          apid = apid_says.0;
+          service = record { says = service_says.0; octet = service_says.2 };
+          subtype = record { says = subtype_says.0; octet = subtype_says.2 };
+          store = id_said row name.Store ms store store_is;
+        };
+      },
+      apid_says.2,
+    )
+
+-- the route that a table says is read
+route_read : (row : ℕ) (d : Data) (r : RouteRow) → IsTableOf SaysRoute d r → r.apid ≤ MAX_APID → route_at row d ≡ Ok r
+unfolding route_at
+route_read row d r h apid = rw (
+  h.is_table,
+  (has_only_decides route_keys h.members).1 h.says.only,
+  number_read row name.Apid h.members 0 MAX_APID r.apid h.says.apid (omega arith) apid,
+  number_read row name.Service h.members 0 255 r.service h.says.service.says (omega arith) h.says.service.octet,
+  number_read row name.Subtype h.members 0 255 r.subtype h.says.subtype.says (omega arith) h.says.subtype.octet,
+  id_read row name.Store h.members r.store h.says.store,
+) refl
+
+-- a route that is read next is new and of a store that there is
+pub next_route_said : (stores : List StoreRow) (earlier : List RouteRow) (d : Data) (r : RouteRow) → next_route stores earlier d ≡ Ok r → IsNext (IsTableOf SaysRoute) (IsRouteRow stores) ◌≢◌ earlier d r
+unfolding next_route
+next_route_said stores earlier d r h =
+    let (row, at, h1) = bind_ok _ _ _ h in
+    let (u, stored, h2) = bind_ok _ _ _ h1 in
+    let (v, new, last) = bind_ok _ _ _ h2 in
+    let same : row ≡ r = cc in
+    let facts = route_said (length earlier + 1) d row at in
+    subst (IsNext (IsTableOf SaysRoute) (IsRouteRow stores) ◌≢◌ earlier d) same (record {
+      says = facts.0;
+      fits = record { apid = facts.1; store = (found_decides (λ s. s.id) stores row.store).0 (test_ok _ _ _ stored) };
+      new = (none_decides (λ e. same_route e row) (λ e. e ≡ row) (λ e. same_route_decides e row) earlier).0 (test_ok _ _ _ new);
+    })
+
+-- a new route of a store that there is is read next
+pub next_route_read : (stores : List StoreRow) (earlier : List RouteRow) (d : Data) (r : RouteRow) → IsNext (IsTableOf SaysRoute) (IsRouteRow stores) ◌≢◌ earlier d r → next_route stores earlier d ≡ Ok r
+unfolding next_route
+next_route_read stores earlier d r h = rw (
+  route_read (length earlier + 1) d r h.says h.fits.apid,
+  (found_decides (λ s. s.id) stores r.store).1 h.fits.store,
+  (none_decides (λ e. same_route e r) (λ e. e ≡ r) (λ e. same_route_decides e r) earlier).1 h.new,
+) refl
+
+-- ---- limits
+
+-- a limit that is read is what the table says
+limit_said : (row : ℕ) (d : Data) (r : LimitRow) → limit_at row d ≡ Ok r → IsTableOf SaysLimit d r × IsLimitRow r
+unfolding limit_at
+limit_said row d r h =
+    let (ms, is, h1) = bind_ok _ _ _ h in
+    let (u, known, h2) = bind_ok _ _ _ h1 in
+    let (channel, channel_is, h3) = bind_ok _ _ _ h2 in
+    let (blocks, blocks_is, last) = bind_ok _ _ _ h3 in
+    let channel_says = number_said row name.Channel ms 0 MAX_CHANNEL channel channel_is in
+    let blocks_says = number_said row name.Blocks ms 0 MAX_BLOCKS blocks blocks_is in
+    let row_of : LimitRow = record { channel = channel; blocks = blocks } in
+    let same : row_of ≡ r = cc in
+    subst (λ r. IsTableOf SaysLimit d r × IsLimitRow r) same (
+      record {
+        members = ms;
+        is_table = table_said d ms (ok_or_ok _ _ _ is);
+        says = record { only = (has_only_decides limit_keys ms).0 (test_ok _ _ _ known); channel = channel_says.0; blocks = blocks_says.0 };
+      },
+      record { channel = channel_says.2; blocks = blocks_says.2 },
+    )
+
+-- the limit that a table says is read
+limit_read : (row : ℕ) (d : Data) (r : LimitRow) → IsTableOf SaysLimit d r → IsLimitRow r → limit_at row d ≡ Ok r
+unfolding limit_at
+limit_read row d r h fits = rw (
+  h.is_table,
+  (has_only_decides limit_keys h.members).1 h.says.only,
+  number_read row name.Channel h.members 0 MAX_CHANNEL r.channel h.says.channel (omega arith) fits.channel,
+  number_read row name.Blocks h.members 0 MAX_BLOCKS r.blocks h.says.blocks (omega arith) fits.blocks,
+) refl
+
+-- a limit that is read next is of a new channel
+pub next_limit_said : (earlier : List LimitRow) (d : Data) (r : LimitRow) → next_limit earlier d ≡ Ok r → IsNext (IsTableOf SaysLimit) IsLimitRow HaveOtherChannels earlier d r
+unfolding next_limit
+next_limit_said earlier d r h =
+    let (row, at, more) = bind_ok _ _ _ h in
+    let (u, new, last) = bind_ok _ _ _ more in
+    let same : row ≡ r = cc in
+    let facts = limit_said (length earlier + 1) d row at in
+    subst (IsNext (IsTableOf SaysLimit) IsLimitRow HaveOtherChannels earlier d) same (record {
+      says = facts.0;
+      fits = facts.1;
+      new = (none_decides (λ e. e.channel == row.channel) (λ e. e.channel ≡ row.channel) (λ e. Decides-eqb e.channel row.channel) earlier).0 (test_ok _ _ _ new);
+    })
+
+-- a limit of a new channel is read next
+pub next_limit_read : (earlier : List LimitRow) (d : Data) (r : LimitRow) → IsNext (IsTableOf SaysLimit) IsLimitRow HaveOtherChannels earlier d r → next_limit earlier d ≡ Ok r
+unfolding next_limit
+next_limit_read earlier d r h = rw (
+  limit_read (length earlier + 1) d r h.says h.fits,
+  (none_decides (λ e. e.channel == r.channel) (λ e. e.channel ≡ r.channel) (λ e. Decides-eqb e.channel r.channel) earlier).1 h.new,
+) refl

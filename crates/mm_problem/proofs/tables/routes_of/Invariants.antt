@@ -1,0 +1,10 @@
+use Rattle.std.proofs.Common.{◌≡◌, [], map, drop, vec_len}
+use Rattle.toml.specs.View.{view}
+use Rattle.mm_problem.specs.Tables.{rows_in, next_route}
+use Rattle.mm_problem.proofs.tables.routes_of.Given as goal
+
+abbrev pub invariant-loop-value : goal.invariant-loop-value
+invariant-loop-value l = record {
+  count : vec_len l.rows ≡ l.value-index;
+  left : rows_in (next_route l.stores) l.rows.items (map view (drop l.value-index l.values)) ≡ rows_in (next_route l.stores) [] (map view l.values);
+}

@@ -1,0 +1,79 @@
+-- The setup that octets say, read in the order of the faults.
+use Rattle.std.specs.Prelude.{ℕ, ◌≤◌, nat_le, ◌&&◌, if◌then◌else◌, List, [], ◌∷◌, length, Result, Ok, Err}
+use Rattle.std.specs.Option.{ok_or}
+use Rattle.std.specs.Str.{is_utf8}
+use Rattle.toml.specs.Data.{Data, Members}
+use Rattle.toml.specs.Parse.{parse_document}
+use Rattle.mm_problem.specs.declared.fault.Fault.{Fault}
+use Rattle.mm_problem.specs.declared.fault.Fault.TheVariants.{SetupText, SetupField, Limit}
+use Rattle.mm_problem.specs.declared.fault.Name.{Name}
+use Rattle.mm_problem.specs.declared.fault.Name.TheVariants as name
+use Rattle.mm_problem.specs.declared.limits.TheConstants.{MAX_STORES, MAX_ROUTES, CHANNELS}
+use Rattle.mm_problem.specs.Keys.{has_only, array_at, array_if_any}
+use Rattle.mm_problem.specs.Reading.{◌>>=◌, test}
+use Rattle.mm_problem.specs.Setup.{SetupRows}
+use Rattle.mm_problem.specs.Tables.{stores_in, routes_in, limits_in}
+
+-- the elements of the arrays of a document
+pub record Lists : Type 0 where
+  pub stores : List Data
+  pub routes : List Data
+  pub limits : List Data
+
+-- the keys of a document
+abbrev pub document_keys : List Name
+document_keys = name.Store ∷ name.Route ∷ name.Limit ∷ []
+
+-- the arrays at the keys of a document
+unfoldable pub lists_at : Members → Result Lists Fault
+lists_at document = do
+  known ← test (has_only document_keys document) (SetupField 0 name.Unknown)
+  stores ← array_at name.Store document
+  routes ← array_if_any name.Route document
+  limits ← array_if_any name.Limit document
+  Ok (record { stores = stores; routes = routes; limits = limits })
+
+-- no more tables than a setup may have, and a store among them
+pub record AreCounted (lists : Lists) : Type 0 where
+  pub has_store : 1 ≤ length lists.stores
+  pub stores : length lists.stores ≤ MAX_STORES
+  pub routes : length lists.routes ≤ MAX_ROUTES
+  pub limits : length lists.limits ≤ CHANNELS
+
+-- the tests of these counts
+unfoldable pub counts_of : Lists → Result (Unit {0}) Fault
+counts_of lists = do
+  stores ← test (nat_le 1 (length lists.stores) && nat_le (length lists.stores) MAX_STORES) (Limit name.Stores)
+  routes ← test (nat_le (length lists.routes) MAX_ROUTES) (Limit name.Routes)
+  test (nat_le (length lists.limits) CHANNELS) (Limit name.Limits)
+
+-- the rows of all tables
+unfoldable pub rows_of : Lists → Result SetupRows Fault
+rows_of lists = do
+  stores ← stores_in lists.stores
+  routes ← routes_in stores lists.routes
+  limits ← limits_in lists.limits
+  Ok (record { stores = stores; routes = routes; limits = limits })
+
+-- the setup that a document says
+unfoldable pub setup_in : Members → Result SetupRows Fault
+setup_in document = do
+  lists ← lists_at document
+  counted ← counts_of lists
+  rows_of lists
+
+-- octets as a text
+abbrev pub text_of : List ℕ → Result (List ℕ) Fault
+text_of octets = if is_utf8 octets then Ok octets else Err SetupText
+
+-- the document that octets say
+unfoldable pub document_of : List ℕ → Result Members Fault
+document_of octets = do
+  text ← text_of octets
+  ok_or (parse_document text) SetupText
+
+-- the setup that octets say
+unfoldable pub setup_of : List ℕ → Result SetupRows Fault
+setup_of octets = do
+  document ← document_of octets
+  setup_in document

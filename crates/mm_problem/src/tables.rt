@@ -1,0 +1,265 @@
+//! The rows of a setup, read from its tables.
+ghost use Rattle.std.specs.Prelude.{◌≡◌, ◌≤◌, ◌<◌, ◌==◌, length, map, IfOk, MatchResult};
+ghost use Rattle.std.specs.List.{list_any};
+ghost use Rattle.toml.specs.View.{view, table_view};
+ghost use Rattle.mm_problem.specs.Reading.{Gives};
+ghost use Rattle.mm_problem.specs.Tables.{table_at, id_at, kind_of, kind_at, start_at, store_at, has_store, next_store, stores_in, same_route, route_at, next_route, routes_in, limit_at, next_limit, limits_in};
+
+use crate::fault::{Fault, Name};
+use crate::id::StoreId;
+use crate::keys::{has_only, number_at, text_at, value_at};
+use crate::kind::Kind;
+use crate::limits::{MAX_APID, MAX_BLOCKS, MAX_CHANNEL};
+use crate::reading::test;
+use crate::rows::{LimitRow, RouteRow, StoreRow};
+use std::alloc::Global;
+use toml::{Table, Value};
+
+// The members of an element that is a table.
+fn table_at(row: u32, name: Name, value: &Value) -> Result<&Table, Fault>
+    ensures { Gives (λ t. table_view t.now) result (table_at row name (view value.now)) }
+{
+    value.as_table().ok_or(Fault::SetupField { row, name })
+}
+
+// The identifier at a key.
+#[tactic(auto, unfolding(crate::specs::Tables::id_at), using(crate::proofs::IdFields::is_id_text_decides))]
+fn id_at(row: u32, name: Name, table: &Table) -> Result<StoreId, Fault>
+    ensures { Gives (λ id. id) result (id_at row name (table_view table.now)) }
+{
+    let text = text_at(row, name, table)?;
+    match StoreId::of_text(text.as_bytes()) {
+        Ok(id) => Ok(id),
+        Err(_) => Err(Fault::SetupField { row, name }),
+    }
+}
+
+fn kind_of(row: u32, word: &str) -> Result<Kind, Fault>
+    ensures { Gives (λ kind. kind) result (kind_of row word.now) }
+{
+    if word == Kind::Circular.word() {
+        Ok(Kind::Circular)
+    } else if word == Kind::Bounded.word() {
+        Ok(Kind::Bounded)
+    } else {
+        Err(Fault::SetupField {
+            row,
+            name: Name::Type,
+        })
+    }
+}
+
+#[tactic(auto, unfolding(crate::specs::Tables::kind_at))]
+fn kind_at(row: u32, table: &Table) -> Result<Kind, Fault>
+    ensures { Gives (λ kind. kind) result (kind_at row (table_view table.now)) }
+{
+    let word = text_at(row, Name::Type, table)?;
+    kind_of(row, word)
+}
+
+fn start_at(row: u32, size: u32, table: &Table) -> Result<u32, Fault>
+    ensures { Gives (λ n. n) result (start_at row size (table_view table.now)) }
+{
+    match value_at(Name::Start, table) {
+        Some(_) => number_at(row, Name::Start, 0, size, table),
+        None => Ok(0),
+    }
+}
+
+#[tactic(auto, unfolding(crate::specs::Tables::store_at))]
+fn store_at(row: u32, value: &Value) -> Result<StoreRow, Fault>
+    ensures { Gives (λ r. r) result (store_at row (view value.now)) }
+{
+    let table = table_at(row, Name::Store, value)?;
+    let names = [Name::Id, Name::Size, Name::Type, Name::Channel, Name::Start];
+    test(
+        has_only(&names, table),
+        Fault::SetupField {
+            row,
+            name: Name::Unknown,
+        },
+    )?;
+    let id = id_at(row, Name::Id, table)?;
+    let size = number_at(row, Name::Size, 1, MAX_BLOCKS, table)?;
+    let kind = kind_at(row, table)?;
+    let channel = number_at(row, Name::Channel, 0, u32::from(MAX_CHANNEL), table)? as u8;
+    let start = start_at(row, size, table)?;
+    Ok(StoreRow {
+        id,
+        size,
+        start,
+        kind,
+        channel,
+    })
+}
+
+fn has_store(stores: &[StoreRow], id: &StoreId) -> bool
+    ensures { result ≡ has_store stores.now id.now }
+{
+    stores.iter().any(|row| row.id == *id)
+}
+
+#[tactic(auto, unfolding(crate::specs::Tables::next_store))]
+fn next_store(earlier: &[StoreRow], value: &Value) -> Result<StoreRow, Fault>
+    requires { length earlier.now < 256 }
+    ensures { Gives (λ r. r) result (next_store earlier.now (view value.now)) }
+{
+    let number = earlier.len() as u32 + 1;
+    let row = store_at(number, value)?;
+    test(
+        !has_store(earlier, &row.id),
+        Fault::SetupField {
+            row: number,
+            name: Name::Repeated,
+        },
+    )?;
+    Ok(row)
+}
+
+// The stores of these tables.
+#[tactic(auto, using(crate::proofs::RowsIn::all_rows))]
+pub(crate) fn stores_of(alloc: Global, values: &[Value]) -> Result<Vec<StoreRow>, Fault>
+    requires { length values.now ≤ 256 }
+    ensures { Gives (λ rows. rows.items) result (stores_in (map view values.now)) }
+{
+    let mut rows = Vec::new(alloc);
+    for value in values {
+        let row = next_store(rows.as_slice(), value)?;
+        rows.push(row)?;
+    }
+    Ok(rows)
+}
+
+#[tactic(auto, unfolding(crate::specs::Tables::route_at))]
+fn route_at(row: u32, value: &Value) -> Result<RouteRow, Fault>
+    ensures { Gives (λ r. r) result (route_at row (view value.now)) }
+{
+    let table = table_at(row, Name::Route, value)?;
+    let names = [Name::Apid, Name::Service, Name::Subtype, Name::Store];
+    test(
+        has_only(&names, table),
+        Fault::SetupField {
+            row,
+            name: Name::Unknown,
+        },
+    )?;
+    let apid = number_at(row, Name::Apid, 0, u32::from(MAX_APID), table)? as u16;
+    let service = number_at(row, Name::Service, 0, 255, table)? as u8;
+    let subtype = number_at(row, Name::Subtype, 0, 255, table)? as u8;
+    let store = id_at(row, Name::Store, table)?;
+    Ok(RouteRow {
+        apid,
+        service,
+        subtype,
+        store,
+    })
+}
+
+fn same_route(a: &RouteRow, b: &RouteRow) -> bool
+    ensures { result ≡ same_route a.now b.now }
+{
+    a.apid == b.apid && a.service == b.service && a.subtype == b.subtype && a.store == b.store
+}
+
+fn has_route(routes: &[RouteRow], route: &RouteRow) -> bool
+    ensures { result ≡ list_any (λ r. same_route r route.now) routes.now }
+{
+    routes.iter().any(|row| same_route(row, route))
+}
+
+#[tactic(auto, unfolding(crate::specs::Tables::next_route))]
+fn next_route(stores: &[StoreRow], earlier: &[RouteRow], value: &Value) -> Result<RouteRow, Fault>
+    requires { length earlier.now < 256 }
+    ensures { Gives (λ r. r) result (next_route stores.now earlier.now (view value.now)) }
+{
+    let number = earlier.len() as u32 + 1;
+    let row = route_at(number, value)?;
+    test(
+        has_store(stores, &row.store),
+        Fault::SetupField {
+            row: number,
+            name: Name::Store,
+        },
+    )?;
+    test(
+        !has_route(earlier, &row),
+        Fault::SetupField {
+            row: number,
+            name: Name::Repeated,
+        },
+    )?;
+    Ok(row)
+}
+
+// The routes of these tables, each to one of the stores.
+#[tactic(auto, using(crate::proofs::RowsIn::all_rows))]
+pub(crate) fn routes_of(
+    alloc: Global,
+    stores: &[StoreRow],
+    values: &[Value],
+) -> Result<Vec<RouteRow>, Fault>
+    requires { length values.now ≤ 256 }
+    ensures { Gives (λ rows. rows.items) result (routes_in stores.now (map view values.now)) }
+{
+    let mut rows = Vec::new(alloc);
+    for value in values {
+        let row = next_route(stores, rows.as_slice(), value)?;
+        rows.push(row)?;
+    }
+    Ok(rows)
+}
+
+#[tactic(auto, unfolding(crate::specs::Tables::limit_at))]
+fn limit_at(row: u32, value: &Value) -> Result<LimitRow, Fault>
+    ensures { Gives (λ r. r) result (limit_at row (view value.now)) }
+{
+    let table = table_at(row, Name::Limit, value)?;
+    let names = [Name::Channel, Name::Blocks];
+    test(
+        has_only(&names, table),
+        Fault::SetupField {
+            row,
+            name: Name::Unknown,
+        },
+    )?;
+    let channel = number_at(row, Name::Channel, 0, u32::from(MAX_CHANNEL), table)? as u8;
+    let blocks = number_at(row, Name::Blocks, 0, MAX_BLOCKS, table)?;
+    Ok(LimitRow { channel, blocks })
+}
+
+fn has_limit(limits: &[LimitRow], channel: u8) -> bool
+    ensures { result ≡ list_any (λ r. r.channel == channel) limits.now }
+{
+    limits.iter().any(|row| row.channel == channel)
+}
+
+#[tactic(auto, unfolding(crate::specs::Tables::next_limit))]
+fn next_limit(earlier: &[LimitRow], value: &Value) -> Result<LimitRow, Fault>
+    requires { length earlier.now < 256 }
+    ensures { Gives (λ r. r) result (next_limit earlier.now (view value.now)) }
+{
+    let number = earlier.len() as u32 + 1;
+    let row = limit_at(number, value)?;
+    test(
+        !has_limit(earlier, row.channel),
+        Fault::SetupField {
+            row: number,
+            name: Name::Repeated,
+        },
+    )?;
+    Ok(row)
+}
+
+// The limits of these tables.
+#[tactic(auto, using(crate::proofs::RowsIn::all_rows))]
+pub(crate) fn limits_of(alloc: Global, values: &[Value]) -> Result<Vec<LimitRow>, Fault>
+    requires { length values.now ≤ 256 }
+    ensures { Gives (λ rows. rows.items) result (limits_in (map view values.now)) }
+{
+    let mut rows = Vec::new(alloc);
+    for value in values {
+        let row = next_limit(rows.as_slice(), value)?;
+        rows.push(row)?;
+    }
+    Ok(rows)
+}

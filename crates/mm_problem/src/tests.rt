@@ -1,0 +1,91 @@
+use crate::{Fault, Kind, Name, StoreId};
+use std::alloc::Global;
+use std::test::Fail;
+
+mod forecasts;
+mod setups;
+
+// A store, and behind it a route.
+const STORE: &str = "[[store]]\nid = \"SCI\"\nsize = 4\ntype = \"bounded\"\nchannel = 0\n";
+
+const ROUTE: &str = "[[route]]\napid = 100\nservice = 3\nsubtype = 25\nstore = \"SCI\"\n";
+
+fn joined(alloc: Global, parts: &[&str]) -> Result<String, Fail> {
+    let mut text = String::new(alloc);
+    for part in parts {
+        text.push_str(part)?;
+    }
+    Ok(text)
+}
+
+fn repeated(alloc: Global, before: &str, part: &str, times: u32) -> Result<String, Fail> {
+    let mut text = String::from_str(alloc, before)?;
+    for _ in 0..times {
+        text.push_str(part)?;
+    }
+    Ok(text)
+}
+
+fn id(text: &str) -> Result<StoreId, Fail> {
+    Ok(StoreId::of_text(text.as_bytes())?)
+}
+
+#[test]
+fn faults_are_printed_with_their_fields(rt: HostRuntime) -> Result<(), Fail> {
+    let cases = [
+        (Fault::NoMemory, "0 NoMemory"),
+        (Fault::BadId, "15 BadId"),
+        (Fault::BadEnum, "16 BadEnum"),
+        (Fault::SetupText, "27 SetupText"),
+        (
+            Fault::SetupField {
+                row: 1,
+                name: Name::Size,
+            },
+            "28 SetupField row 1 name size",
+        ),
+        (
+            Fault::SetupField {
+                row: 0,
+                name: Name::Unknown,
+            },
+            "28 SetupField row 0 name unknown",
+        ),
+        (Fault::ForecastText, "29 ForecastText"),
+        (Fault::Header, "30 Header"),
+        (Fault::Cell { row: 1, column: 3 }, "31 Cell row 1 column 3"),
+        (Fault::StepNumber { row: 256 }, "32 StepNumber row 256"),
+        (
+            Fault::Limit {
+                name: Name::Arrivals,
+            },
+            "33 Limit name arrivals",
+        ),
+    ];
+    for (fault, text) in cases {
+        let shown = format!(in rt.alloc(); "{fault}")?;
+        assert_eq!(rt; shown.as_str(), text);
+    }
+    Ok(())
+}
+
+#[test]
+fn identifiers_and_kinds(rt: HostRuntime) -> Result<(), Fail> {
+    let sci = id("SCI")?;
+    assert_eq!(rt; sci.field(), *b"SCI     ");
+    assert_eq!(rt; sci.text(), b"SCI".as_slice());
+    assert_eq!(rt; StoreId::of_field(*b"SCI     "), Ok(sci));
+    for text in ["", "sci", "A B", "ABCDEFGHI", "\u{c4}"] {
+        assert_eq!(rt;
+            StoreId::of_text(text.as_bytes()),
+            Err(Fault::BadId),
+            "{text}"
+        );
+    }
+    for field in [*b"        ", *b" SCI    ", *b"SC I    ", *b"SCI\0\0\0\0\0"] {
+        assert_eq!(rt; StoreId::of_field(field), Err(Fault::BadId));
+    }
+    assert_eq!(rt; Kind::of_code(1), Ok(Kind::Bounded));
+    assert_eq!(rt; Kind::of_code(2), Err(Fault::BadEnum));
+    Ok(())
+}

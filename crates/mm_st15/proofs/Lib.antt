@@ -1,0 +1,5 @@
+pub mod EntryLemmas
+pub mod LayoutLemmas
+pub mod CountLemmas
+pub mod RequestLemmas
+pub mod ReportLemmas

@@ -1,0 +1,102 @@
+-- The octets of each instruction and of each entry of a report, field by field, and which values fit.
+use Rattle.std.specs.Prelude.{◌≡◌, ℕ, ◌<◌, ◌^◌, List, [], ◌∷◌, ◌++◌, length}
+use Rattle.std.specs.Int.{w16, w32, w64, to_be_bytes}
+use Rattle.mm_st15.specs.declared.instruction.Target.{Target}
+use Rattle.mm_st15.specs.declared.instruction.ReportType.{ReportType}
+use Rattle.mm_st15.specs.declared.instruction.TimeRange.{TimeRange}
+use Rattle.mm_st15.specs.declared.instruction.TimeLimit.{TimeLimit}
+use Rattle.mm_st15.specs.declared.instruction.Configuration.{Configuration}
+use Rattle.mm_st15.specs.declared.instruction.Size.{Size}
+use Rattle.mm_st15.specs.declared.instruction.Channel.{Channel}
+use Rattle.mm_st15.specs.declared.report_entry.Row.{Row}
+use Rattle.mm_st15.specs.declared.report_entry.Summary.{Summary}
+use Rattle.mm_st15.specs.declared.report_entry.Status.{Status}
+
+-- identifier
+abbrev pub target_octets : Target → List ℕ
+target_octets entry = entry.id
+
+-- identifier, APID, service type, subtype
+abbrev pub report_type_octets : ReportType → List ℕ
+report_type_octets entry = entry.id ++ to_be_bytes w16 entry.apid ++ entry.service ∷ entry.subtype ∷ []
+
+-- identifier, first time, last time
+abbrev pub time_range_octets : TimeRange → List ℕ
+time_range_octets entry = entry.id ++ to_be_bytes w64 entry.from ++ to_be_bytes w64 entry.to
+
+-- identifier, greatest time
+abbrev pub time_limit_octets : TimeLimit → List ℕ
+time_limit_octets entry = entry.id ++ to_be_bytes w64 entry.limit
+
+-- identifier, size, type, virtual channel
+abbrev pub configuration_octets : Configuration → List ℕ
+configuration_octets entry = entry.id ++ to_be_bytes w32 entry.size ++ entry.kind ∷ entry.channel ∷ []
+
+-- identifier, size
+abbrev pub size_octets : Size → List ℕ
+size_octets entry = entry.id ++ to_be_bytes w32 entry.size
+
+-- identifier, virtual channel
+abbrev pub channel_octets : Channel → List ℕ
+channel_octets entry = entry.id ++ entry.channel ∷ []
+
+-- APID, service type, subtype
+abbrev pub row_octets : Row → List ℕ
+row_octets entry = to_be_bytes w16 entry.apid ++ entry.service ∷ entry.subtype ∷ []
+
+-- identifier, oldest time, newest time, packets held
+abbrev pub summary_octets : Summary → List ℕ
+summary_octets entry = entry.id ++ to_be_bytes w64 entry.oldest ++ to_be_bytes w64 entry.newest ++ to_be_bytes w32 entry.held
+
+-- identifier, storage status, retrieval status
+abbrev pub status_octets : Status → List ℕ
+status_octets entry = entry.id ++ entry.storage ∷ entry.retrieval ∷ []
+
+-- In each record an identifier has eight octets, and a number its width.
+pub record FitsTarget (entry : Target) : Type 0 where
+  pub id : length entry.id ≡ 8
+
+pub record FitsReportType (entry : ReportType) : Type 0 where
+  pub id : length entry.id ≡ 8
+  pub apid : entry.apid < 2 ^ 16
+  pub service : entry.service < 2 ^ 8
+  pub subtype : entry.subtype < 2 ^ 8
+
+pub record FitsTimeRange (entry : TimeRange) : Type 0 where
+  pub id : length entry.id ≡ 8
+  pub from : entry.from < 2 ^ 64
+  pub to : entry.to < 2 ^ 64
+
+pub record FitsTimeLimit (entry : TimeLimit) : Type 0 where
+  pub id : length entry.id ≡ 8
+  pub limit : entry.limit < 2 ^ 64
+
+pub record FitsConfiguration (entry : Configuration) : Type 0 where
+  pub id : length entry.id ≡ 8
+  pub size : entry.size < 2 ^ 32
+  pub kind : entry.kind < 2 ^ 8
+  pub channel : entry.channel < 2 ^ 8
+
+pub record FitsSize (entry : Size) : Type 0 where
+  pub id : length entry.id ≡ 8
+  pub size : entry.size < 2 ^ 32
+
+pub record FitsChannel (entry : Channel) : Type 0 where
+  pub id : length entry.id ≡ 8
+  pub channel : entry.channel < 2 ^ 8
+
+pub record FitsRow (entry : Row) : Type 0 where
+  pub apid : entry.apid < 2 ^ 16
+  pub service : entry.service < 2 ^ 8
+  pub subtype : entry.subtype < 2 ^ 8
+
+pub record FitsSummary (entry : Summary) : Type 0 where
+  pub id : length entry.id ≡ 8
+  pub oldest : entry.oldest < 2 ^ 64
+  pub newest : entry.newest < 2 ^ 64
+  pub held : entry.held < 2 ^ 32
+
+pub record FitsStatus (entry : Status) : Type 0 where
+  pub id : length entry.id ≡ 8
+  pub storage : entry.storage < 2 ^ 8
+  pub retrieval : entry.retrieval < 2 ^ 8

@@ -1,0 +1,42 @@
+//! A count of one octet, and entries of fixed width after it.
+ghost use Rattle.std.specs.Prelude.{◌≡◌, ◌+◌, ◌*◌, ◌<◌, ◌≤◌, ◌∷◌, length, IfOk, IfSome};
+ghost use Rattle.std.specs.Option.{option_map};
+ghost use Rattle.std.specs.List.{flat_map, AllByRecursion};
+ghost use Rattle.mm_st15.specs.Counted.{counted_at};
+
+use crate::entries::Entries;
+use crate::entry::{Entry, put_entries};
+use mm_packet::octet_at;
+use std::alloc::{AllocError, Global};
+
+// The count and the octets after it, where these are so many entries.
+pub(crate) fn counted_at(least: u8, width: usize, octets: &[u8]) -> Option<(usize, &[u8])>
+    requires { width ≤ 28 }
+    ensures value { option_map (λ x. (x.0, x.1.now)) result ≡ counted_at least width octets.now }
+    ensures parts { IfSome result (λ x. octets.now ≡ x.0 ∷ x.1.now) }
+    ensures count { IfSome result (λ x. (least ≤ x.0) × (x.0 < 256)) }
+    ensures len { IfSome result (λ x. length x.1.now ≡ x.0 * width) }
+{
+    let (count, rest) = octet_at(octets)?;
+    if count < least || rest.len() != count as usize * width {
+        return None;
+    }
+    Some((count as usize, rest))
+}
+
+// The number of the entries, and their octets.
+pub(crate) fn counted_octets<E: Entry>(
+    alloc: Global,
+    entries: &Entries<E>,
+) -> Result<Vec<u8>, AllocError>
+    requires { length entries.now < 256 }
+    ensures octets { IfOk result (λ out. out.items
+        ≡ length entries.now ∷ flat_map E.spelling entries.now) }
+    ensures len { IfOk result (λ out. length out.items ≡ 1 + length entries.now * E.width) }
+    ensures fits { IfOk result (λ _. AllByRecursion E.fits entries.now) }
+{
+    let mut out = Vec::new(alloc);
+    out.push(entries.as_slice().len() as u8)?;
+    put_entries(&mut out, entries)?;
+    Ok(out)
+}

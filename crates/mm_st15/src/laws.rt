@@ -1,0 +1,22 @@
+//! Laws over the spelling of requests and reports.
+ghost use Rattle.mm_st15.specs.Laws.{OnePacketOneRequest, RequestIsNotRefused, OnePacketOneReport, ReportIsNotRefused};
+
+/// A packet spells at most one request.
+pub fn one_packet_one_request()
+    ensures law { OnePacketOneRequest }
+{}
+
+/// No test refuses a packet that spells a request.
+pub fn request_is_not_refused()
+    ensures law { RequestIsNotRefused }
+{}
+
+/// A packet spells at most one report.
+pub fn one_packet_one_report()
+    ensures law { OnePacketOneReport }
+{}
+
+/// No test refuses a packet that spells a report.
+pub fn report_is_not_refused()
+    ensures law { ReportIsNotRefused }
+{}

@@ -1,0 +1,595 @@
+use super::*;
+use mm_packet::Packet;
+use std::alloc::Global;
+use std::process::Abort;
+use std::test::Fail;
+
+const SCI: [u8; 8] = *b"SCI     ";
+
+const HK: [u8; 8] = *b"HK      ";
+
+// Requests of APID 100, count 0, source 0, spelled by hand.
+const ENABLE_STORAGE: [u8; 20] = [
+    0x18, 0x64, 0xC0, 0x00, 0x00, 0x0D, 0x20, 0x0F, 0x01, 0x00, 0x00, 0x01, 0x53, 0x43, 0x49, 0x20,
+    0x20, 0x20, 0x20, 0x20,
+];
+
+const DISABLE_STORAGE: [u8; 28] = [
+    0x18, 0x64, 0xC0, 0x00, 0x00, 0x15, 0x20, 0x0F, 0x02, 0x00, 0x00, 0x02, 0x53, 0x43, 0x49, 0x20,
+    0x20, 0x20, 0x20, 0x20, 0x48, 0x4B, 0x20, 0x20, 0x20, 0x20, 0x20, 0x20,
+];
+
+const ADD_REPORT_TYPES: [u8; 24] = [
+    0x18, 0x64, 0xC0, 0x00, 0x00, 0x11, 0x20, 0x0F, 0x03, 0x00, 0x00, 0x01, 0x53, 0x43, 0x49, 0x20,
+    0x20, 0x20, 0x20, 0x20, 0x00, 0x64, 0x03, 0x19,
+];
+
+const DELETE_REPORT_TYPES: [u8; 24] = [
+    0x18, 0x64, 0xC0, 0x00, 0x00, 0x11, 0x20, 0x0F, 0x04, 0x00, 0x00, 0x01, 0x48, 0x4B, 0x20, 0x20,
+    0x20, 0x20, 0x20, 0x20, 0x07, 0xFE, 0xFF, 0x00,
+];
+
+const REPORT_CONTROL: [u8; 20] = [
+    0x18, 0x64, 0xC0, 0x00, 0x00, 0x0D, 0x20, 0x0F, 0x05, 0x00, 0x00, 0x01, 0x53, 0x43, 0x49, 0x20,
+    0x20, 0x20, 0x20, 0x20,
+];
+
+const START_RETRIEVAL: [u8; 36] = [
+    0x18, 0x64, 0xC0, 0x00, 0x00, 0x1D, 0x20, 0x0F, 0x09, 0x00, 0x00, 0x01, 0x53, 0x43, 0x49, 0x20,
+    0x20, 0x20, 0x20, 0x20, 0x00, 0x00, 0x00, 0x00, 0x00, 0x00, 0x00, 0x01, 0x00, 0x00, 0x00, 0x00,
+    0x00, 0x00, 0x00, 0xFF,
+];
+
+const DELETE_CONTENT: [u8; 28] = [
+    0x18, 0x64, 0xC0, 0x00, 0x00, 0x15, 0x20, 0x0F, 0x0B, 0x00, 0x00, 0x01, 0x53, 0x43, 0x49, 0x20,
+    0x20, 0x20, 0x20, 0x20, 0x00, 0x00, 0x00, 0x00, 0x00, 0x00, 0x00, 0xFF,
+];
+
+const SUMMARISE_CONTENT: [u8; 28] = [
+    0x18, 0x64, 0xC0, 0x00, 0x00, 0x15, 0x20, 0x0F, 0x0C, 0x00, 0x00, 0x02, 0x53, 0x43, 0x49, 0x20,
+    0x20, 0x20, 0x20, 0x20, 0x48, 0x4B, 0x20, 0x20, 0x20, 0x20, 0x20, 0x20,
+];
+
+const ABORT_RETRIEVAL: [u8; 20] = [
+    0x18, 0x64, 0xC0, 0x00, 0x00, 0x0D, 0x20, 0x0F, 0x11, 0x00, 0x00, 0x01, 0x53, 0x43, 0x49, 0x20,
+    0x20, 0x20, 0x20, 0x20,
+];
+
+const REPORT_STATUS: [u8; 11] = [
+    0x18, 0x64, 0xC0, 0x00, 0x00, 0x04, 0x20, 0x0F, 0x12, 0x00, 0x00,
+];
+
+const CREATE_STORES: [u8; 40] = [
+    0x18, 0x64, 0xC0, 0x00, 0x00, 0x21, 0x20, 0x0F, 0x14, 0x00, 0x00, 0x02, 0x53, 0x43, 0x49, 0x20,
+    0x20, 0x20, 0x20, 0x20, 0x00, 0x00, 0x00, 0x04, 0x01, 0x00, 0x48, 0x4B, 0x20, 0x20, 0x20, 0x20,
+    0x20, 0x20, 0x00, 0x00, 0x00, 0x02, 0x00, 0x01,
+];
+
+const DELETE_STORES: [u8; 20] = [
+    0x18, 0x64, 0xC0, 0x00, 0x00, 0x0D, 0x20, 0x0F, 0x15, 0x00, 0x00, 0x01, 0x48, 0x4B, 0x20, 0x20,
+    0x20, 0x20, 0x20, 0x20,
+];
+
+const REPORT_CONFIGURATION: [u8; 11] = [
+    0x18, 0x64, 0xC0, 0x00, 0x00, 0x04, 0x20, 0x0F, 0x16, 0x00, 0x00,
+];
+
+const RESIZE_STORES: [u8; 24] = [
+    0x18, 0x64, 0xC0, 0x00, 0x00, 0x11, 0x20, 0x0F, 0x19, 0x00, 0x00, 0x01, 0x53, 0x43, 0x49, 0x20,
+    0x20, 0x20, 0x20, 0x20, 0x00, 0x0F, 0x42, 0x40,
+];
+
+const CHANGE_TO_CIRCULAR: [u8; 20] = [
+    0x18, 0x64, 0xC0, 0x00, 0x00, 0x0D, 0x20, 0x0F, 0x1A, 0x00, 0x00, 0x01, 0x53, 0x43, 0x49, 0x20,
+    0x20, 0x20, 0x20, 0x20,
+];
+
+const CHANGE_TO_BOUNDED: [u8; 20] = [
+    0x18, 0x64, 0xC0, 0x00, 0x00, 0x0D, 0x20, 0x0F, 0x1B, 0x00, 0x00, 0x01, 0x53, 0x43, 0x49, 0x20,
+    0x20, 0x20, 0x20, 0x20,
+];
+
+const CHANGE_CHANNEL: [u8; 21] = [
+    0x18, 0x64, 0xC0, 0x00, 0x00, 0x0E, 0x20, 0x0F, 0x1C, 0x00, 0x00, 0x01, 0x53, 0x43, 0x49, 0x20,
+    0x20, 0x20, 0x20, 0x20, 0x05,
+];
+
+// Reports of APID 100, count 0, counter 0, destination 0, moment 1, spelled by hand.
+const CONTROL: [u8; 39] = [
+    0x08, 0x64, 0xC0, 0x00, 0x00, 0x20, 0x20, 0x0F, 0x06, 0x00, 0x00, 0x00, 0x00, 0x00, 0x00, 0x00,
+    0x00, 0x00, 0x00, 0x00, 0x01, 0x53, 0x43, 0x49, 0x20, 0x20, 0x20, 0x20, 0x20, 0x00, 0x02, 0x00,
+    0x64, 0x03, 0x19, 0x07, 0xFE, 0xFF, 0x01,
+];
+
+const CONTROL_OF_NO_ROW: [u8; 31] = [
+    0x08, 0x64, 0xC0, 0x00, 0x00, 0x18, 0x20, 0x0F, 0x06, 0x00, 0x00, 0x00, 0x00, 0x00, 0x00, 0x00,
+    0x00, 0x00, 0x00, 0x00, 0x01, 0x53, 0x43, 0x49, 0x20, 0x20, 0x20, 0x20, 0x20, 0x00, 0x00,
+];
+
+const SUMMARIES: [u8; 78] = [
+    0x08, 0x64, 0xC0, 0x00, 0x00, 0x47, 0x20, 0x0F, 0x0D, 0x00, 0x00, 0x00, 0x00, 0x00, 0x00, 0x00,
+    0x00, 0x00, 0x00, 0x00, 0x01, 0x02, 0x53, 0x43, 0x49, 0x20, 0x20, 0x20, 0x20, 0x20, 0x00, 0x00,
+    0x00, 0x00, 0x00, 0x00, 0x00, 0x07, 0x00, 0x00, 0x00, 0x00, 0x00, 0x00, 0x00, 0x09, 0x00, 0x00,
+    0x00, 0x03, 0x48, 0x4B, 0x20, 0x20, 0x20, 0x20, 0x20, 0x20, 0x00, 0x00, 0x00, 0x00, 0x00, 0x00,
+    0x00, 0x00, 0x00, 0x00, 0x00, 0x00, 0x00, 0x00, 0x00, 0x00, 0x00, 0x00, 0x00, 0x00,
+];
+
+const NO_SUMMARY: [u8; 22] = [
+    0x08, 0x64, 0xC0, 0x00, 0x00, 0x0F, 0x20, 0x0F, 0x0D, 0x00, 0x00, 0x00, 0x00, 0x00, 0x00, 0x00,
+    0x00, 0x00, 0x00, 0x00, 0x01, 0x00,
+];
+
+const STATUSES: [u8; 32] = [
+    0x08, 0x64, 0xC0, 0x00, 0x00, 0x19, 0x20, 0x0F, 0x13, 0x00, 0x00, 0x00, 0x00, 0x00, 0x00, 0x00,
+    0x00, 0x00, 0x00, 0x00, 0x01, 0x01, 0x53, 0x43, 0x49, 0x20, 0x20, 0x20, 0x20, 0x20, 0x01, 0x00,
+];
+
+const NO_STATUS: [u8; 22] = [
+    0x08, 0x64, 0xC0, 0x00, 0x00, 0x0F, 0x20, 0x0F, 0x13, 0x00, 0x00, 0x00, 0x00, 0x00, 0x00, 0x00,
+    0x00, 0x00, 0x00, 0x00, 0x01, 0x00,
+];
+
+const CONFIGURATIONS: [u8; 36] = [
+    0x08, 0x64, 0xC0, 0x00, 0x00, 0x1D, 0x20, 0x0F, 0x17, 0x00, 0x00, 0x00, 0x00, 0x00, 0x00, 0x00,
+    0x00, 0x00, 0x00, 0x00, 0x01, 0x01, 0x53, 0x43, 0x49, 0x20, 0x20, 0x20, 0x20, 0x20, 0x00, 0x00,
+    0x00, 0x04, 0x01, 0x00,
+];
+
+const NO_CONFIGURATION: [u8; 22] = [
+    0x08, 0x64, 0xC0, 0x00, 0x00, 0x0F, 0x20, 0x0F, 0x17, 0x00, 0x00, 0x00, 0x00, 0x00, 0x00, 0x00,
+    0x00, 0x00, 0x00, 0x00, 0x01, 0x00,
+];
+
+// The request that these octets spell, which is written as them again.
+fn request_again(rt: &impl Abort, alloc: Global, octets: &[u8]) -> Result<Request, Fail> {
+    let (packet, _rest) = Packet::parse(alloc, octets)?;
+    let request = Request::read(alloc, &packet)?;
+    assert_eq!(rt; request.subtype(), packet.subtype());
+    let written = request.write(
+        alloc,
+        packet.apid(),
+        packet.count(),
+        packet.low(),
+        packet.source(),
+    )?;
+    assert_eq!(rt; written.write(alloc)?.as_slice(), octets);
+    Ok(request)
+}
+
+// The report that these octets spell, which is written as them again.
+fn report_again(rt: &impl Abort, alloc: Global, octets: &[u8]) -> Result<Report, Fail> {
+    let (packet, _rest) = Packet::parse(alloc, octets)?;
+    let report = Report::read(alloc, &packet)?;
+    assert_eq!(rt; report.subtype(), packet.subtype());
+    assert_eq!(rt; report.moment(), 1);
+    let written = report.write(alloc, packet.apid(), packet.count(), 0, 0)?;
+    assert_eq!(rt; written.write(alloc)?.as_slice(), octets);
+    Ok(report)
+}
+
+#[test]
+fn every_request_is_read_and_written(rt: HostRuntime) -> Result<(), Fail> {
+    let requests: [(u8, &[u8]); 17] = [
+        (1, &ENABLE_STORAGE),
+        (2, &DISABLE_STORAGE),
+        (3, &ADD_REPORT_TYPES),
+        (4, &DELETE_REPORT_TYPES),
+        (5, &REPORT_CONTROL),
+        (9, &START_RETRIEVAL),
+        (11, &DELETE_CONTENT),
+        (12, &SUMMARISE_CONTENT),
+        (17, &ABORT_RETRIEVAL),
+        (18, &REPORT_STATUS),
+        (20, &CREATE_STORES),
+        (21, &DELETE_STORES),
+        (22, &REPORT_CONFIGURATION),
+        (25, &RESIZE_STORES),
+        (26, &CHANGE_TO_CIRCULAR),
+        (27, &CHANGE_TO_BOUNDED),
+        (28, &CHANGE_CHANNEL),
+    ];
+    for (subtype, octets) in requests {
+        assert_eq!(rt; request_again(&rt, rt.alloc(), octets)?.subtype(), subtype);
+    }
+    Ok(())
+}
+
+#[test]
+fn every_report_is_read_and_written(rt: HostRuntime) -> Result<(), Fail> {
+    let reports: [(u8, &[u8]); 8] = [
+        (6, &CONTROL),
+        (6, &CONTROL_OF_NO_ROW),
+        (13, &SUMMARIES),
+        (13, &NO_SUMMARY),
+        (19, &STATUSES),
+        (19, &NO_STATUS),
+        (23, &CONFIGURATIONS),
+        (23, &NO_CONFIGURATION),
+    ];
+    for (subtype, octets) in reports {
+        assert_eq!(rt; report_again(&rt, rt.alloc(), octets)?.subtype(), subtype);
+    }
+    Ok(())
+}
+
+#[test]
+fn instructions_have_their_fields(rt: HostRuntime) -> Result<(), Fail> {
+    match request_again(&rt, rt.alloc(), &DISABLE_STORAGE)? {
+        Request::DisableStorage(list) => {
+            assert_eq!(rt;
+                list.as_slice(),
+                [Target { id: SCI }, Target { id: HK }].as_slice()
+            );
+        }
+        other => assert!(rt; false, "{other:?}"),
+    }
+    match request_again(&rt, rt.alloc(), &DELETE_REPORT_TYPES)? {
+        Request::DeleteReportTypes(list) => {
+            let wanted = ReportType {
+                id: HK,
+                apid: 2046,
+                service: 255,
+                subtype: 0,
+            };
+            assert_eq!(rt; list.as_slice(), [wanted].as_slice());
+        }
+        other => assert!(rt; false, "{other:?}"),
+    }
+    match request_again(&rt, rt.alloc(), &START_RETRIEVAL)? {
+        Request::StartRetrieval(list) => {
+            let wanted = TimeRange {
+                id: SCI,
+                from: 1,
+                to: 255,
+            };
+            assert_eq!(rt; list.as_slice(), [wanted].as_slice());
+        }
+        other => assert!(rt; false, "{other:?}"),
+    }
+    match request_again(&rt, rt.alloc(), &DELETE_CONTENT)? {
+        Request::DeleteContent(list) => {
+            assert_eq!(rt;
+                list.as_slice(),
+                [TimeLimit {
+                    id: SCI,
+                    limit: 255
+                }]
+                .as_slice()
+            );
+        }
+        other => assert!(rt; false, "{other:?}"),
+    }
+    match request_again(&rt, rt.alloc(), &RESIZE_STORES)? {
+        Request::ResizeStores(list) => {
+            assert_eq!(rt;
+                list.as_slice(),
+                [Size {
+                    id: SCI,
+                    size: 1_000_000
+                }]
+                .as_slice()
+            );
+        }
+        other => assert!(rt; false, "{other:?}"),
+    }
+    match request_again(&rt, rt.alloc(), &CHANGE_CHANNEL)? {
+        Request::ChangeChannel(list) => {
+            assert_eq!(rt;
+                list.as_slice(),
+                [Channel {
+                    id: SCI,
+                    channel: 5
+                }]
+                .as_slice()
+            );
+        }
+        other => assert!(rt; false, "{other:?}"),
+    }
+    Ok(())
+}
+
+#[test]
+fn entries_have_their_fields(rt: HostRuntime) -> Result<(), Fail> {
+    match report_again(&rt, rt.alloc(), &CONTROL)? {
+        Report::Control { id, rows, .. } => {
+            let first = Row {
+                apid: 100,
+                service: 3,
+                subtype: 25,
+            };
+            let second = Row {
+                apid: 2046,
+                service: 255,
+                subtype: 1,
+            };
+            assert_eq!(rt; id, SCI);
+            assert_eq!(rt; rows.as_slice(), [first, second].as_slice());
+        }
+        other => assert!(rt; false, "{other:?}"),
+    }
+    match report_again(&rt, rt.alloc(), &SUMMARIES)? {
+        Report::Summaries { entries, .. } => {
+            let first = Summary {
+                id: SCI,
+                oldest: 7,
+                newest: 9,
+                held: 3,
+            };
+            let second = Summary {
+                id: HK,
+                oldest: 0,
+                newest: 0,
+                held: 0,
+            };
+            assert_eq!(rt; entries.as_slice(), [first, second].as_slice());
+        }
+        other => assert!(rt; false, "{other:?}"),
+    }
+    match report_again(&rt, rt.alloc(), &STATUSES)? {
+        Report::Statuses { entries, .. } => {
+            let wanted = Status {
+                id: SCI,
+                storage: 1,
+                retrieval: 0,
+            };
+            assert_eq!(rt; entries.as_slice(), [wanted].as_slice());
+        }
+        other => assert!(rt; false, "{other:?}"),
+    }
+    Ok(())
+}
+
+#[test]
+fn create_two_stores(rt: HostRuntime) -> Result<(), Fail> {
+    let first = Configuration {
+        id: SCI,
+        size: 4,
+        kind: 1,
+        channel: 0,
+    };
+    let second = Configuration {
+        id: HK,
+        size: 2,
+        kind: 0,
+        channel: 1,
+    };
+    match request_again(&rt, rt.alloc(), &CREATE_STORES)? {
+        Request::CreateStores(list) => {
+            assert_eq!(rt; list.as_slice(), [first, second].as_slice());
+            assert_eq!(rt; list.into_vec().len(), 2);
+        }
+        other => assert!(rt; false, "{other:?}"),
+    }
+    let request = Request::CreateStores(Entries::new([first, second].to_vec(rt.alloc())?));
+    assert_eq!(rt; request.kind(), RequestKind::CreateStores);
+    let packet = request.write(rt.alloc(), 100, 0, 0, 0)?;
+    assert_eq!(rt;
+        packet.write(rt.alloc())?.as_slice(),
+        CREATE_STORES.as_slice()
+    );
+    Ok(())
+}
+
+#[test]
+fn configuration_report(rt: HostRuntime) -> Result<(), Fail> {
+    let wanted = Configuration {
+        id: SCI,
+        size: 4,
+        kind: 1,
+        channel: 0,
+    };
+    let report = Report::Configurations {
+        moment: 1,
+        entries: Entries::new([wanted].to_vec(rt.alloc())?),
+    };
+    assert_eq!(rt; report.kind(), ReportKind::Configurations);
+    let packet = report.write(rt.alloc(), 100, 0, 0, 0)?;
+    assert_eq!(rt;
+        packet.write(rt.alloc())?.as_slice(),
+        CONFIGURATIONS.as_slice()
+    );
+    Ok(())
+}
+
+#[test]
+fn the_most_instructions_are_written_and_read(rt: HostRuntime) -> Result<(), Fail> {
+    let range = TimeRange {
+        id: SCI,
+        from: 0,
+        to: u64::MAX,
+    };
+    let request = Request::StartRetrieval(Entries::new(vec![in rt.alloc(); range; 255]?));
+    let packet = request.write(rt.alloc(), 100, 0, 0, 0)?;
+    assert_eq!(rt; packet.body().len(), 6121);
+    assert_eq!(rt; packet.body().first(), Some(&255));
+    match Request::read(rt.alloc(), &packet)? {
+        Request::StartRetrieval(list) => {
+            assert_eq!(rt; list.as_slice().len(), 255);
+            assert_eq!(rt; list.as_slice().last(), Some(&range));
+        }
+        other => assert!(rt; false, "{other:?}"),
+    }
+    Ok(())
+}
+
+// The refusal of a request with these octets.
+fn refusal(rt: &impl Abort, alloc: Global, octets: &[u8]) -> Result<Option<Fault>, Fail> {
+    let (packet, _rest) = Packet::parse(alloc, octets)?;
+    Ok(Request::read(alloc, &packet).err())
+}
+
+#[test]
+fn request_lines_refused(rt: HostRuntime) -> Result<(), Fail> {
+    let rows: [(&[u8], Fault); 9] = [
+        (
+            &[
+                0x18, 0x64, 0xC0, 0x00, 0x00, 0x04, 0x20, 0x11, 0x01, 0x00, 0x00,
+            ],
+            Fault::NotSt15,
+        ),
+        (
+            &[
+                0x18, 0x64, 0xC0, 0x00, 0x00, 0x04, 0x20, 0x0F, 0x0E, 0x00, 0x00,
+            ],
+            Fault::UnknownSubtype,
+        ),
+        (
+            &[
+                0x18, 0x64, 0xC0, 0x00, 0x00, 0x04, 0x20, 0x0F, 0x01, 0x00, 0x00,
+            ],
+            Fault::CountMismatch,
+        ),
+        (
+            &[
+                0x18, 0x64, 0xC0, 0x00, 0x00, 0x05, 0x20, 0x0F, 0x12, 0x00, 0x00, 0x00,
+            ],
+            Fault::CountMismatch,
+        ),
+        (
+            &[
+                0x18, 0x64, 0xC0, 0x00, 0x00, 0x05, 0x20, 0x0F, 0x01, 0x00, 0x00, 0x00,
+            ],
+            Fault::CountMismatch,
+        ),
+        (
+            &[
+                0x18, 0x64, 0xC0, 0x00, 0x00, 0x0D, 0x20, 0x0F, 0x01, 0x00, 0x00, 0x02, 0x53, 0x43,
+                0x49, 0x20, 0x20, 0x20, 0x20, 0x20,
+            ],
+            Fault::CountMismatch,
+        ),
+        (
+            &[
+                0x18, 0x64, 0xC0, 0x00, 0x00, 0x15, 0x20, 0x0F, 0x01, 0x00, 0x00, 0x01, 0x53, 0x43,
+                0x49, 0x20, 0x20, 0x20, 0x20, 0x20, 0x48, 0x4B, 0x20, 0x20, 0x20, 0x20, 0x20, 0x20,
+            ],
+            Fault::CountMismatch,
+        ),
+        (
+            &[
+                0x18, 0x64, 0xC0, 0x00, 0x00, 0x0E, 0x20, 0x0F, 0x01, 0x00, 0x00, 0x01, 0x53, 0x43,
+                0x49, 0x20, 0x20, 0x20, 0x20, 0x20, 0x20,
+            ],
+            Fault::CountMismatch,
+        ),
+        (
+            &[
+                0x18, 0x64, 0xC0, 0x00, 0x00, 0x0C, 0x20, 0x0F, 0x01, 0x00, 0x00, 0x01, 0x53, 0x43,
+                0x49, 0x20, 0x20, 0x20, 0x20,
+            ],
+            Fault::CountMismatch,
+        ),
+    ];
+    for (octets, fault) in rows {
+        assert_eq!(rt;
+            refusal(&rt, rt.alloc(), octets)?,
+            Some(fault),
+            "{octets:?}"
+        );
+    }
+    assert_eq!(rt;
+        refusal(&rt, rt.alloc(), &CONFIGURATIONS)?,
+        Some(Fault::NotSt15)
+    );
+    Ok(())
+}
+
+#[test]
+fn reports_refused(rt: HostRuntime) -> Result<(), Fail> {
+    let rows: [(&[u8], Fault); 8] = [
+        (
+            &[
+                0x18, 0x64, 0xC0, 0x00, 0x00, 0x05, 0x20, 0x0F, 0x13, 0x00, 0x00, 0x00,
+            ],
+            Fault::NotSt15,
+        ),
+        (
+            &[
+                0x08, 0x64, 0xC0, 0x00, 0x00, 0x0F, 0x20, 0x03, 0x13, 0x00, 0x00, 0x00, 0x00, 0x00,
+                0x00, 0x00, 0x00, 0x00, 0x00, 0x00, 0x01, 0x00,
+            ],
+            Fault::NotSt15,
+        ),
+        (
+            &[
+                0x08, 0x64, 0xC0, 0x00, 0x00, 0x0F, 0x20, 0x0F, 0x01, 0x00, 0x00, 0x00, 0x00, 0x00,
+                0x00, 0x00, 0x00, 0x00, 0x00, 0x00, 0x01, 0x00,
+            ],
+            Fault::UnknownSubtype,
+        ),
+        (
+            &[
+                0x08, 0x64, 0xC0, 0x00, 0x00, 0x0E, 0x20, 0x0F, 0x13, 0x00, 0x00, 0x00, 0x00, 0x00,
+                0x00, 0x00, 0x00, 0x00, 0x00, 0x00, 0x01,
+            ],
+            Fault::CountMismatch,
+        ),
+        (
+            &[
+                0x08, 0x64, 0xC0, 0x00, 0x00, 0x19, 0x20, 0x0F, 0x13, 0x00, 0x00, 0x00, 0x00, 0x00,
+                0x00, 0x00, 0x00, 0x00, 0x00, 0x00, 0x01, 0x02, 0x53, 0x43, 0x49, 0x20, 0x20, 0x20,
+                0x20, 0x20, 0x01, 0x00,
+            ],
+            Fault::CountMismatch,
+        ),
+        (
+            &[
+                0x08, 0x64, 0xC0, 0x00, 0x00, 0x19, 0x20, 0x0F, 0x13, 0x00, 0x00, 0x00, 0x00, 0x00,
+                0x00, 0x00, 0x00, 0x00, 0x00, 0x00, 0x01, 0x00, 0x53, 0x43, 0x49, 0x20, 0x20, 0x20,
+                0x20, 0x20, 0x01, 0x00,
+            ],
+            Fault::CountMismatch,
+        ),
+        (
+            &[
+                0x08, 0x64, 0xC0, 0x00, 0x00, 0x18, 0x20, 0x0F, 0x06, 0x00, 0x00, 0x00, 0x00, 0x00,
+                0x00, 0x00, 0x00, 0x00, 0x00, 0x00, 0x01, 0x53, 0x43, 0x49, 0x20, 0x20, 0x20, 0x20,
+                0x20, 0x00, 0x01,
+            ],
+            Fault::CountMismatch,
+        ),
+        (
+            &[
+                0x08, 0x64, 0xC0, 0x00, 0x00, 0x17, 0x20, 0x0F, 0x06, 0x00, 0x00, 0x00, 0x00, 0x00,
+                0x00, 0x00, 0x00, 0x00, 0x00, 0x00, 0x01, 0x53, 0x43, 0x49, 0x20, 0x20, 0x20, 0x20,
+                0x20, 0x00,
+            ],
+            Fault::CountMismatch,
+        ),
+    ];
+    for (octets, fault) in rows {
+        let (packet, _rest) = Packet::parse(rt.alloc(), octets)?;
+        assert_eq!(rt;
+            Report::read(rt.alloc(), &packet).err(),
+            Some(fault),
+            "{octets:?}"
+        );
+    }
+    Ok(())
+}
+
+#[test]
+fn refusals_are_shown_by_number_and_name(rt: HostRuntime) -> Result<(), Fail> {
+    let rows = [
+        (Fault::NoMemory, 0, "NoMemory"),
+        (Fault::NotSt15, 12, "NotSt15"),
+        (Fault::UnknownSubtype, 13, "UnknownSubtype"),
+        (Fault::CountMismatch, 14, "CountMismatch"),
+    ];
+    for (fault, number, name) in rows {
+        assert_eq!(rt; fault.number(), number);
+        assert_eq!(rt; fault.name(), name);
+        let shown = format!(in rt.alloc(); "{fault}")?;
+        let wanted = format!(in rt.alloc(); "{number} {name}")?;
+        assert_eq!(rt; shown.as_str(), wanted.as_str());
+    }
+    assert_eq!(rt;
+        format!(in rt.alloc(); "{NoMemory}")?.as_str(),
+        "0 NoMemory"
+    );
+    laws::one_packet_one_request();
+    laws::request_is_not_refused();
+    laws::one_packet_one_report();
+    laws::report_is_not_refused();
+    Ok(())
+}

@@ -1,0 +1,99 @@
+//! The command line.
+
+use clap::error::ErrorKind;
+use clap::{Arg, Command, Error};
+use std::alloc::{AllocError, Global};
+use std::convert::AsStr;
+
+/// What the program is asked to do.
+#[derive(Clone, Copy, Debug, PartialEq, Eq)]
+pub enum Task<'a> {
+    /// Say whether the plan loses least.
+    Check {
+        setup: &'a str,
+        forecast: &'a str,
+        plan: &'a str,
+    },
+}
+
+const ABOUT: &str = "Plans when a spacecraft's packet stores are dumped, and checks such plans";
+
+const TOOL_HELP: &str = "\
+Without words the program reads a script from standard input: a first line with the words, and then
+each file under a line `=== NAME`.
+
+Example:
+  mm_tool check setup.toml forecast.csv plan.txt
+
+Exit status: 0 where the task is done and, for check, the plan is least; 1 where a file is refused, the
+verdict is another, or a write failed; 2 where the command line is no good, or help was asked for.";
+
+const CHECK_ABOUT: &str = "Says whether a dump plan loses least";
+
+const CHECK_HELP: &str = "\
+Prints one line:
+  least N                     no plan that fits loses fewer than N blocks, and the cut shows it
+  does not fit, step T        step T dumps more than its window or a channel's limit
+  loss is N                   the plan loses N blocks, and not what its text says
+  bad stretch K               the K-th stretch is none of the problem's, or overlaps an earlier one
+  bad count K                 the K-th count cannot stand in this cut
+  bound is N                  the bound of the cut is N, and not what the text says
+  not shown, loss N bound M   the plan loses N, and the cut shows only that none loses fewer than M
+  refused NUMBER NAME ..      a file was not read, or is not what it should be
+
+Example:
+  mm_tool check setup.toml forecast.csv plan.txt
+
+The formats are described in docs/FORMATS.md. Exit status: 0 for `least`, 1 for any other line.";
+
+fn file<'a>(alloc: Global, name: &'a str, help: &'a str) -> Arg<'a> {
+    Arg::new(alloc, name).required(true).help(help)
+}
+
+fn check_command<'a>(alloc: Global) -> Result<Command<'a>, AllocError> {
+    Command::new(alloc, "check")
+        .about(CHECK_ABOUT)
+        .after_help(CHECK_HELP)
+        .arg(file(
+            alloc,
+            "SETUP",
+            "The packet stores, routes and limits of channels, in TOML",
+        ))?
+        .arg(file(
+            alloc,
+            "FORECAST",
+            "The windows and arrivals of each step, in CSV",
+        ))?
+        .arg(file(alloc, "PLAN", "The dump plan with its loss and its cut"))
+}
+
+fn tool_command<'a>(alloc: Global) -> Result<Command<'a>, AllocError> {
+    Command::new(alloc, "mm_tool")
+        .bin_name("mm_tool")?
+        .about(ABOUT)
+        .after_help(TOOL_HELP)
+        .no_binary_name(true)
+        .subcommand_required(true)
+        .arg_required_else_help(true)
+        .subcommand(check_command(alloc)?)
+}
+
+/// What the words ask for; the error has the text for the user.
+pub fn parse<'a, S: AsStr>(alloc: Global, words: &'a [S]) -> Result<Task<'a>, Error> {
+    let mut command = tool_command(alloc)?;
+    let matches = command.try_get_matches_from_mut(words)?;
+    if let Some(("check", files)) = matches.subcommand() {
+        if let (Some(setup), Some(forecast), Some(plan)) = (
+            files.get_str("SETUP"),
+            files.get_str("FORECAST"),
+            files.get_str("PLAN"),
+        ) {
+            return Ok(Task::Check {
+                setup,
+                forecast,
+                plan,
+            });
+        }
+    }
+    Err(command.error(ErrorKind::InvalidSubcommand, "no such command")?)
+}

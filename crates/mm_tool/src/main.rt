@@ -1,0 +1,37 @@
+//! The programs for mission planning: they read a setup, a forecast and a dump plan, and judge the plan.
+#![tactic(auto)]
+
+mod check;
+mod command;
+mod files;
+mod lines;
+mod run;
+mod script;
+#[cfg(test)]
+mod tests;
+
+use files::{ReadFault, SystemFiles, read_to_end};
+use std::io;
+use std::process::ExitCode;
+
+/// Runs the program on its words, or where it has none on the script that standard input holds.
+fn main(rt: HostRuntime) -> io::Result<ExitCode> {
+    let alloc = rt.alloc();
+    let words: Vec<String> = std::env::args(&rt)?.skip(1).collect(alloc)?;
+    let (mut out, mut err) = (rt.stdout(), rt.stderr());
+    let status = if words.is_empty() {
+        match read_to_end(alloc, &mut rt.reader()) {
+            Ok(script) => run::run_script(alloc, &script, &mut out, &mut err),
+            Err(fault) => run::refuse_input(&mut out, fault),
+        }
+    } else {
+        run::run_tool(
+            alloc,
+            words.as_slice(),
+            &mut SystemFiles::new(&rt),
+            &mut out,
+            &mut err,
+        )
+    };
+    Ok(ExitCode::from(status))
+}

@@ -1,0 +1,178 @@
+//! The program, over any files and any writers.
+ghost use Rattle.std.specs.Prelude.{◌≤◌};
+
+use crate::check::{Fault, check_bytes};
+use crate::command::{Task, parse};
+use crate::files::{Files, ReadFault};
+use crate::script::{ScriptFiles, split_line};
+use clap::error::ErrorKind;
+use mm_cut::Verdict;
+use std::alloc::{AllocError, Global};
+use std::convert::AsStr;
+use std::io::{self, Write};
+use thiserror::Error;
+
+/// How a run of the program ended.
+#[derive(Clone, Copy, Debug, PartialEq, Eq)]
+enum Status {
+    Done,
+    Refused,
+    BadCommandLine,
+}
+
+impl Status {
+    fn code(self) -> u8
+        ensures { result ≤ 2 }
+    {
+        match self {
+            Status::Done => 0,
+            Status::Refused => 1,
+            Status::BadCommandLine => 2,
+        }
+    }
+}
+
+/// Why a task is refused. It is shown as its number, its name and its fields.
+#[derive(Debug, Drop, Error)]
+enum Refusal<'a> {
+    #[error("0 NoMemory")]
+    NoMemory,
+    #[error("50 NotRead name {name}")]
+    NotRead { name: &'a str },
+    #[error(transparent)]
+    Check(#[from] Fault),
+}
+
+fn read_file<'a, F: Files>(
+    alloc: Global,
+    files: &mut F,
+    name: &'a str,
+) -> Result<Vec<u8>, Refusal<'a>> {
+    match files.read(alloc, name) {
+        Ok(text) => Ok(text),
+        Err(ReadFault::NoMemory) => Err(Refusal::NoMemory),
+        Err(ReadFault::NotRead) => Err(Refusal::NotRead { name }),
+    }
+}
+
+/// The verdict on the plan in the files, with its line.
+fn check<'a, F: Files>(
+    alloc: Global,
+    files: &mut F,
+    setup: &'a str,
+    forecast: &'a str,
+    plan: &'a str,
+) -> Result<(Verdict, Vec<u8>), Refusal<'a>> {
+    let setup = read_file(alloc, files, setup)?;
+    let forecast = read_file(alloc, files, forecast)?;
+    let plan = read_file(alloc, files, plan)?;
+    Ok(check_bytes(alloc, &setup, &forecast, &plan)?)
+}
+
+fn carry_out<F: Files, W: Write>(
+    alloc: Global,
+    task: Task<'_>,
+    files: &mut F,
+    out: &mut W,
+) -> io::Result<Status> {
+    let Task::Check {
+        setup,
+        forecast,
+        plan,
+    } = task;
+    match check(alloc, files, setup, forecast, plan) {
+        Ok((verdict, line)) => {
+            out.write_all(&line)?;
+            if let Verdict::Least(_) = verdict {
+                Ok(Status::Done)
+            } else {
+                Ok(Status::Refused)
+            }
+        }
+        Err(refusal) => {
+            writeln!(out, "refused {refusal}")?;
+            Ok(Status::Refused)
+        }
+    }
+}
+
+fn run<S: AsStr, F: Files, W: Write, E: Write>(
+    alloc: Global,
+    words: &[S],
+    files: &mut F,
+    out: &mut W,
+    err: &mut E,
+) -> io::Result<Status> {
+    match parse(alloc, words) {
+        Ok(task) => carry_out(alloc, task, files, out),
+        Err(error) if error.kind() == ErrorKind::OutOfMemory => {
+            writeln!(out, "refused {}", Refusal::NoMemory)?;
+            Ok(Status::Refused)
+        }
+        Err(error) => {
+            write!(err, "{error}")?;
+            Ok(Status::BadCommandLine)
+        }
+    }
+}
+
+/// Runs the program on its words, without its own name. What it finds goes to `out`, the texts of a bad command line
+/// and of help to `err`. The exit status is 0 where the task is done, 1 where something is refused, a verdict is not
+/// `Least` or a write failed, and 2 for a bad command line or a call for help.
+pub fn run_tool<S: AsStr, F: Files, W: Write, E: Write>(
+    alloc: Global,
+    words: &[S],
+    files: &mut F,
+    out: &mut W,
+    err: &mut E,
+) -> u8
+    ensures status { result ≤ 2 }
+{
+    match run(alloc, words, files, out, err) {
+        Ok(status) => status.code(),
+        Err(_) => Status::Refused.code(),
+    }
+}
+
+/// Runs the program on a script: a first line with the words, parted by single spaces, and then the files.
+pub fn run_script<W: Write, E: Write>(alloc: Global, script: &[u8], out: &mut W, err: &mut E) -> u8
+    ensures status { result ≤ 2 }
+{
+    let (line, files) = split_line(script);
+    let Ok(line) = std::str::from_utf8(line) else {
+        let _ = err.write_all(b"error: the first line of the script is not UTF-8\n");
+        return Status::BadCommandLine.code();
+    };
+    let words: Vec<&str> = match words_of(alloc, line) {
+        Ok(words) => words,
+        Err(_) => return refuse_input(out, ReadFault::NoMemory),
+    };
+    run_tool(
+        alloc,
+        words.as_slice(),
+        &mut ScriptFiles::new(files),
+        out,
+        err,
+    )
+}
+
+// The words of a line, parted by single spaces; an empty line has none.
+fn words_of(alloc: Global, line: &str) -> Result<Vec<&str>, AllocError> {
+    if line.is_empty() {
+        Ok(Vec::new(alloc))
+    } else {
+        line.split(' ').collect(alloc)
+    }
+}
+
+/// Says that the program's own input was not read, and gives the exit status.
+pub fn refuse_input<W: Write>(out: &mut W, fault: ReadFault) -> u8
+    ensures status { result ≤ 2 }
+{
+    let refusal = match fault {
+        ReadFault::NoMemory => Refusal::NoMemory,
+        ReadFault::NotRead => Refusal::NotRead { name: "-" },
+    };
+    let _ = writeln!(out, "refused {refusal}");
+    Status::Refused.code()
+}
