@@ -12,3 +12,4 @@ pub mod Completions
 pub mod Texts
 pub mod Shapes
 pub mod Prints
+pub mod Writes

@@ -1,5 +1,5 @@
 -- A table of amounts: a row for each step, in it a place for each store.
-use Rattle.std.specs.Prelude.{◌≡◌, ℕ, ◌+◌, ◌-◌, ◌*◌, ◌<◌, ◌≤◌, List, length, All, slice_index}
+use Rattle.std.specs.Prelude.{◌≡◌, ◌≢◌, ℕ, ◌+◌, ◌-◌, ◌*◌, ◌<◌, ◌≤◌, List, length, All, slice_index}
 use Rattle.mm_problem.specs.declared.limits.TheConstants.{MAX_BLOCKS}
 use Rattle.mm_problem.specs.Dumping.{Dumping}
 
@@ -29,3 +29,10 @@ pub record IsPlace (x : Table) (s t : ℕ) : Type 0 where
   pub store : s < x.stores
   pub first : 1 ≤ t
   pub last : t ≤ x.steps
+
+-- the same table, but for the amount of one place
+pub record ChangesAmount (old new : Table) (s t n : ℕ) : Type 0 where
+  pub stores : new.stores ≡ old.stores
+  pub steps : new.steps ≡ old.steps
+  pub here : amount new s t ≡ n
+  pub elsewhere : (r u : ℕ) → IsPlace old r u → (r ≡ s → u ≢ t) → amount new r u ≡ amount old r u

@@ -1,9 +1,11 @@
 //! A dump plan: for each step and store, how many blocks are to be sent down.
-ghost use Rattle.std.specs.Prelude.{◌≡◌, ◌≤◌, ◌↔◌, IsTrue};
+ghost use Rattle.std.specs.Prelude.{◌≡◌, ◌≤◌, ◌↔◌, All, IsTrue, IfOk};
 ghost use Rattle.mm_problem.specs.declared.limits.TheConstants.{MAX_BLOCKS};
-ghost use Rattle.mm_plan.specs.Table.{amount, HasShape, IsPlace, IsTable};
+ghost use Rattle.mm_plan.specs.Table.{amount, HasShape, IsPlace, IsTable, ChangesAmount};
 
+use crate::fault::NoMemory;
 use mm_problem::Problem;
+use std::alloc::Global;
 use std::marker::Model;
 
 /// A dump plan: a table of amounts in blocks, a row for each step and in it a place for each store. Stores count
@@ -33,7 +35,8 @@ impl Plan {
         ensures amount { result ≡ amount self.now store step }
         ensures most { result ≤ MAX_BLOCKS }
     {
-        self.amounts[(step as usize - 1) * self.stores + store]
+        let place = (step as usize - 1) * self.stores + store;
+        self.amounts[place]
     }
 
     /// Whether the plan has as many stores and steps as the problem.
@@ -42,5 +45,29 @@ impl Plan {
         ensures is_table { IsTable self.now }
     {
         self.stores == problem.stores() && self.steps == problem.steps()
+    }
+
+    /// The plan of a problem by which nothing leaves.
+    pub fn zero(alloc: Global, problem: &Problem) -> Result<Plan, NoMemory>
+        ensures shape { IfOk result (HasShape problem.now) }
+        ensures zero { IfOk result (λ plan. All (λ n. n ≡ 0) plan.amounts) }
+    {
+        let stores = problem.stores();
+        let steps = problem.steps();
+        let amounts = vec![in alloc; 0; steps as usize * stores]?;
+        Ok(Plan {
+            stores,
+            steps,
+            amounts,
+        })
+    }
+
+    /// Changes one amount.
+    pub fn set(&mut self, store: usize, step: u32, blocks: u32)
+        requires place { IsPlace self.old store step }
+        requires most { blocks ≤ MAX_BLOCKS }
+        ensures changed { ChangesAmount self.old self.new store step blocks }
+    {
+        self.amounts[(step as usize - 1) * self.stores + store] = blocks;
     }
 }

@@ -52,50 +52,59 @@ summary_octets entry = entry.id ++ to_be_bytes w64 entry.oldest ++ to_be_bytes w
 abbrev pub status_octets : Status → List ℕ
 status_octets entry = entry.id ++ entry.storage ∷ entry.retrieval ∷ []
 
--- In each record an identifier has eight octets, and a number its width.
+-- the identifier has eight octets
 pub record FitsTarget (entry : Target) : Type 0 where
   pub id : length entry.id ≡ 8
 
+-- the identifier has eight octets, and each number fits its field
 pub record FitsReportType (entry : ReportType) : Type 0 where
   pub id : length entry.id ≡ 8
   pub apid : entry.apid < 2 ^ 16
   pub service : entry.service < 2 ^ 8
   pub subtype : entry.subtype < 2 ^ 8
 
+-- the identifier has eight octets, and each time fits its field
 pub record FitsTimeRange (entry : TimeRange) : Type 0 where
   pub id : length entry.id ≡ 8
   pub from : entry.from < 2 ^ 64
   pub to : entry.to < 2 ^ 64
 
+-- the identifier has eight octets, and the time fits its field
 pub record FitsTimeLimit (entry : TimeLimit) : Type 0 where
   pub id : length entry.id ≡ 8
   pub limit : entry.limit < 2 ^ 64
 
+-- the identifier has eight octets, and each number fits its field
 pub record FitsConfiguration (entry : Configuration) : Type 0 where
   pub id : length entry.id ≡ 8
   pub size : entry.size < 2 ^ 32
   pub kind : entry.kind < 2 ^ 8
   pub channel : entry.channel < 2 ^ 8
 
+-- the identifier has eight octets, and the size fits its field
 pub record FitsSize (entry : Size) : Type 0 where
   pub id : length entry.id ≡ 8
   pub size : entry.size < 2 ^ 32
 
+-- the identifier has eight octets, and the channel fits its field
 pub record FitsChannel (entry : Channel) : Type 0 where
   pub id : length entry.id ≡ 8
   pub channel : entry.channel < 2 ^ 8
 
+-- each number fits its field
 pub record FitsRow (entry : Row) : Type 0 where
   pub apid : entry.apid < 2 ^ 16
   pub service : entry.service < 2 ^ 8
   pub subtype : entry.subtype < 2 ^ 8
 
+-- the identifier has eight octets, and each number fits its field
 pub record FitsSummary (entry : Summary) : Type 0 where
   pub id : length entry.id ≡ 8
   pub oldest : entry.oldest < 2 ^ 64
   pub newest : entry.newest < 2 ^ 64
   pub held : entry.held < 2 ^ 32
 
+-- the identifier has eight octets, and each status fits its field
 pub record FitsStatus (entry : Status) : Type 0 where
   pub id : length entry.id ≡ 8
   pub storage : entry.storage < 2 ^ 8

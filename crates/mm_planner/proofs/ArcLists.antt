@@ -1,0 +1,65 @@
+-- Graphs to which arcs are added.
+use Rattle.std.proofs.Common.{◌≡◌, ℕ, zero, suc, ◌+◌, ◌-◌, ◌*◌, ◌≤◌, List, [], ◌∷◌, ◌++◌, length, sym, ap, ◌∙◌, arith, append_assoc, append-nil, length-append}
+use Rattle.std.specs.Prelude.{map}
+use Rattle.std.specs.List.{range_with_len, flat_map}
+use Rattle.std.proofs.Math.Nat.{mul-le-mul}
+use Rattle.std.proofs.lemmas.List.Concat.{flat_map-append}
+use Rattle.std.proofs.lemmas.List.FromFn.{length-map-range_with_len, map-range_with_len_more}
+use Rattle.mm_flow.specs.declared.arc.Arc.{Arc}
+use Rattle.mm_flow.specs.Graph.{Graph}
+use Rattle.mm_flow.specs.Built.{Built, with_arc}
+use Rattle.mm_flow.specs.declared.limits.TheConstants.{MAX_ARCS}
+use Rattle.mm_problem.specs.declared.limits.TheConstants.{MAX_STORES}
+use Rattle.mm_problem.specs.Dumping.{Dumping, IsDumping}
+use Rattle.mm_planner.specs.Network.{step_arcs, arcs_of}
+use Rattle.mm_planner.specs.Taken.{step_width}
+use Rattle.mm_planner.proofs.ArcSums.{length-step}
+use Rattle.mm_planner.proofs.Elements.{range_before}
+use Rattle.mm_planner.specs.Growing.{with_arcs}
+
+-- how many arcs there are
+pub length_with_arcs : (h g : Graph) (arcs : List Arc) → h ≡ with_arcs g arcs → length h.arcs ≡ length g.arcs + length arcs
+length_with_arcs h g arcs e = ap (λ (k : Graph). length k.arcs) e ∙ length-append g.arcs arcs
+
+-- how many arcs there are once a kind is added as far as a number
+pub length_added : (h g : Graph) (make : ℕ → Arc) (n : ℕ) → h ≡ with_arcs g (map make (range_with_len 0 n)) → length h.arcs ≡ length g.arcs + n
+length_added h g make n e = length_with_arcs h g (map make (range_with_len 0 n)) e ∙ ap (λ k. length g.arcs + k) (length-map-range_with_len make 0 n)
+
+-- arcs after arcs
+pub with_arcs-append : (h k g : Graph) (xs ys : List Arc) → h ≡ with_arcs g xs → k ≡ with_arcs h ys → k ≡ with_arcs g (xs ++ ys)
+with_arcs-append h k g xs ys first next =
+    next ∙ ap (λ b. with_arcs b ys) first ∙ ap (λ (zs : List Arc). let w : Graph = record { nodes = g.nodes; arcs = zs } in w) (append_assoc g.arcs xs ys)
+
+-- one arc more
+pub arcs_push : (b d : Built) (g : Graph) (make : ℕ → Arc) (n : ℕ) (a : Arc) → b.graph ≡ with_arcs g (map make (range_with_len 0 n)) → d ≡ with_arc b a → a ≡ make n → d.graph ≡ with_arcs g (map make (range_with_len 0 (n + 1)))
+arcs_push b d g make n a so_far added is =
+    with_arcs-append b.graph d.graph g (map make (range_with_len 0 n)) (make n ∷ []) so_far
+    (ap (λ (e : Built). e.graph) added ∙ ap (λ (e : Arc). with_arcs b.graph (e ∷ [])) is)
+    ∙ ap (with_arcs g) (sym (map-range_with_len_more make 0 n n refl_zero))
+  where
+    refl_zero : 0 + n ≡ n
+    refl_zero = omega arith
+
+-- how many arcs the steps of a range have
+length-steps : (q : Dumping) (t n : ℕ) → length (flat_map (step_arcs q) (range_with_len t n)) ≡ n * step_width q
+length-steps q t zero = omega arith
+length-steps q t (suc n) =
+    omega (arith, length-append (step_arcs q t) (flat_map (step_arcs q) (range_with_len (t + 1) n)), length-step q t, length-steps q (t + 1) n)
+
+-- how many arcs the first steps have
+pub length-arcs_of : (q : Dumping) (n : ℕ) → length (arcs_of q n) ≡ n * step_width q
+length-arcs_of q n = length-steps q 1 n
+
+-- there is room for the arcs of a step
+pub few_arcs : (q : Dumping) (t : ℕ) → IsDumping q → t ≤ length q.windows → (t - 1) * step_width q + (step_width q + MAX_STORES) ≤ MAX_ARCS
+few_arcs q t is within =
+    let width : step_width q ≤ 73 = omega (arith, is.stores.at_most, is.channels.all) in
+    let before : t - 1 ≤ 256 = omega (arith, is.steps.at_most) in
+    omega (arith, mul-le-mul before width)
+
+-- the arcs of one step more
+pub arcs_of_more : (q : Dumping) (t : ℕ) → 1 ≤ t → arcs_of q (t + 1 - 1) ≡ arcs_of q (t - 1) ++ step_arcs q t
+arcs_of_more q t first =
+    ap (flat_map (step_arcs q)) (range_before t first)
+    ∙ flat_map-append (step_arcs q) (range_with_len 1 (t - 1)) (t ∷ [])
+    ∙ ap (λ one. flat_map (step_arcs q) (range_with_len 1 (t - 1)) ++ one) (append-nil (step_arcs q t))

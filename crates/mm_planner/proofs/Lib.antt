@@ -1,0 +1,15 @@
+pub mod Ranges
+pub mod ArcSums
+pub mod KindSums
+pub mod Conserved
+pub mod Capacities
+pub mod FromFlow
+pub mod Elements
+pub mod RunSums
+pub mod FromSide
+pub mod Optimality
+pub mod ArcLists
+pub mod RunLists
+pub mod NoPath
+pub mod TakenAmounts
+pub mod Filling

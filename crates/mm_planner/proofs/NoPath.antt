@@ -1,0 +1,62 @@
+-- No unlimited arc leaves the source of a problem's network.
+use Rattle.std.proofs.Common.{◌≡◌, ℕ, zero, suc, cond, eqb, Option, length, refl, ap, ◌∙◌, arith}
+use Rattle.std.specs.Prelude.{is_some}
+use Rattle.std.specs.List.{sum_by}
+use Rattle.mm_problem.specs.Dumping.{Dumping}
+use Rattle.mm_flow.specs.declared.arc.Arc.{Arc}
+use Rattle.mm_flow.specs.Graph.{arc, places}
+use Rattle.mm_flow.specs.Solution.{HasUnlimited, IsWalk, HasUnlimitedPath}
+use Rattle.mm_planner.specs.declared.nodes.TheConstants.{SOURCE, SINK}
+use Rattle.mm_planner.specs.Network.{in_node, out_node, channel_node, pass_node, come_arc, hold_arc, keep_arc, take_arc, limit_arc, window_arc, net}
+use Rattle.mm_planner.specs.Taken.{take_place}
+use Rattle.mm_planner.proofs.Ranges.{grid-none, sum_by-none, sum_by-term, at_same, at_other}
+use Rattle.mm_planner.proofs.ArcSums.{come_place, hold_place, keep_place, limit_place, window_place, kind_sum, arcs_by_kind}
+
+-- whether an arc has no limit, as a number
+no_limit : Option ℕ → ℕ
+no_limit o = cond (is_some o) 0 1
+
+-- whether it leaves the source, besides
+unlimited_from_source : ℕ → Arc → ℕ
+unlimited_from_source k a = cond (eqb a.from SOURCE) (no_limit a.capacity) 0
+
+-- no arc from the source is unlimited
+none_from_source : (q : Dumping) → sum_by (λ k. unlimited_from_source k (arc (net q) k)) (places (net q)) ≡ 0
+unfolding unlimited_from_source no_limit
+none_from_source q =
+    let F = unlimited_from_source in
+    let m = length q.windows in
+    let r = length q.rows in
+    omega (
+      arith,
+      arcs_by_kind q F,
+      grid-none (kind_sum F (come_place q) (come_arc q)) m r (λ t s _ _ _. refl),
+      grid-none (kind_sum F (hold_place q) (hold_arc q)) m r (λ t s low _ _. at_other (in_node s t) SOURCE 0 (λ same. omega arith)),
+      grid-none (kind_sum F (keep_place q) (keep_arc q)) m r (λ t s low _ _. at_other (out_node s t) SOURCE 1 (λ same. omega arith)),
+      grid-none (kind_sum F (take_place q) (take_arc q)) m r (λ t s low _ _. at_other (out_node s t) SOURCE 1 (λ same. omega arith)),
+      grid-none (kind_sum F (limit_place q) (limit_arc q)) m (length q.limits) (λ t c low _ _. at_other (channel_node c t) SOURCE _ (λ same. omega arith)),
+      sum_by-none (λ t. F (window_place q t) (window_arc q t)) 1 m (λ t low _. at_other (pass_node t) SOURCE 0 (λ same. omega arith)),
+    )
+
+-- so none leads anywhere
+none_leaves : (q : Dumping) (to : ℕ) → ¬ HasUnlimited (net q) SOURCE to
+unfolding unlimited_from_source no_limit
+none_leaves q to has =
+    let k = has.0 in
+    let a = arc (net q) k in
+    let term = sum_by-term (λ j. unlimited_from_source j (arc (net q) j)) 0 (length (net q).arcs) k (omega arith) (omega (arith, has.1)) in
+    let one : unlimited_from_source k a ≡ 1 = at_same a.from SOURCE (no_limit a.capacity) has.2 ∙ ap no_limit has.4 in
+    omega (arith, none_from_source q, term, one)
+
+-- a walk of unlimited arcs from the source stays there
+stays_at_source : (q : Dumping) (n to : ℕ) → IsWalk (net q) SOURCE to n → SOURCE ≡ to
+stays_at_source q zero to walk = walk
+stays_at_source q (suc n) to walk =
+    let here = stays_at_source q n walk.0 walk.1 in
+    absurd (none_leaves q to (rw (← here) at walk.2))
+
+-- no path of unlimited arcs leads from the source to the sink
+pub no_unlimited_path : (q : Dumping) → ¬ HasUnlimitedPath (net q) SOURCE SINK
+no_unlimited_path q path =
+    let same = stays_at_source q path.0 SINK path.1 in
+    omega (arith, same)

@@ -1,0 +1,5 @@
+pub mod Network
+pub mod Taken
+pub mod Runs
+pub mod Planned
+pub mod Growing

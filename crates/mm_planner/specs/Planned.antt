@@ -1,0 +1,26 @@
+-- What a planner gives: a plan that loses least, and a cut that shows it.
+use Rattle.std.specs.Prelude.{◌≡◌, ℕ, List, pos}
+use Rattle.mm_problem.specs.Dumping.{Dumping, IsDumping}
+use Rattle.mm_plan.specs.Volumes.{Amounts, loss}
+use Rattle.mm_plan.specs.Least.{IsLeast}
+use Rattle.mm_plan.specs.declared.stretch.Stretch.{Stretch}
+use Rattle.mm_cut.specs.Cuts.{IsCut, bound}
+use Rattle.mm_flow.specs.Flow.{Flow}
+use Rattle.mm_flow.specs.Cut.{Side}
+use Rattle.mm_flow.specs.Solution.{IsSolution}
+use Rattle.mm_planner.specs.declared.nodes.TheConstants.{SOURCE, SINK}
+use Rattle.mm_planner.specs.Network.{net}
+use Rattle.mm_planner.specs.Taken.{AreTaken}
+use Rattle.mm_planner.specs.Runs.{stretches, counts}
+
+-- the plan loses least, the cut is well formed, and its bound is what the plan loses
+pub record IsPlanned (q : Dumping) (x : Amounts) (ds : List Stretch) (ts : List ℕ) : Type 0 where
+  pub plan : IsLeast q x
+  pub cut : IsCut q ds ts
+  pub tight : bound q ds ts ≡ pos (loss q x)
+
+-- every solution of a problem's network gives a plan that loses least and the cut that shows it
+abbrev pub SolutionsPlan : Type 0
+SolutionsPlan =
+    (q : Dumping) (f : Flow) (side : Side) (value : ℕ) (x : Amounts) → IsDumping q → IsSolution (net q) SOURCE SINK f side value → AreTaken q f x
+    → IsPlanned q x (stretches q side) (counts q side)

@@ -1,0 +1,45 @@
+-- The cut that a side of the network says: its stretches are the greatest runs of one store's nodes on the side.
+use Rattle.std.specs.Prelude.{ℕ, zero, suc, Bool, not, ◌&&◌, if◌then◌else◌, List, map, filter}
+use Rattle.std.specs.List.{flat_map}
+use Rattle.mm_problem.specs.Dumping.{Dumping, row, stores, steps}
+use Rattle.mm_plan.specs.declared.stretch.Stretch.{Stretch}
+use Rattle.mm_cut.specs.Stretches.{is_inner}
+use Rattle.mm_flow.specs.Cut.{Side}
+use Rattle.mm_planner.specs.Network.{in_node, out_node, pass_node}
+
+-- whether both nodes of a store in a step are on the side, so that its run goes on into the next step
+abbrev pub goes_on : Side → ℕ → ℕ → Bool
+goes_on side s t = side (in_node s t) && side (out_node s t)
+
+-- whether a run of the store ends with the step: it comes into the step and does not go on
+abbrev pub is_end : Side → ℕ → ℕ → Bool
+is_end side s t = side (in_node s t) && not (side (out_node s t))
+
+-- the first step of the run that a step is in; for step 1 it is 1, whatever the side
+abbrev pub first_step : Side → ℕ → ℕ → ℕ
+first_step side s zero = 1
+first_step side s (suc t) = if goes_on side s t then first_step side s t else suc t
+
+-- the run of a store that ends with a step
+abbrev pub stretch : Dumping → Side → ℕ → ℕ → Stretch
+stretch q side s t = record { store = (row q s).id; first = first_step side s t; last = t }
+
+-- the runs of a store
+abbrev pub stretches_of : Dumping → Side → ℕ → List Stretch
+stretches_of q side s = map (stretch q side s) (filter (is_end side s) (steps q))
+
+-- the runs of all stores
+abbrev pub stretches : Dumping → Side → List Stretch
+stretches q side = flat_map (stretches_of q side) (stores q)
+
+-- whether a step is inner and its pass is off the side
+abbrev pub is_by_channels : Side → List Stretch → ℕ → Bool
+is_by_channels side ds t = is_inner ds t && not (side (pass_node t))
+
+-- the steps that count by channels, of given stretches
+abbrev pub counts_of : Dumping → Side → List Stretch → List ℕ
+counts_of q side ds = filter (is_by_channels side ds) (steps q)
+
+-- those of the side's own stretches
+abbrev pub counts : Dumping → Side → List ℕ
+counts q side = counts_of q side (stretches q side)

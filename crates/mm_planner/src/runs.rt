@@ -1,0 +1,164 @@
+//! The cut that a side of the network says: the greatest runs of each store's nodes on the side.
+ghost use Rattle.std.specs.Prelude.{◌≡◌, ◌+◌, ◌<◌, ◌≤◌, ◌++◌, ◌∷◌, [], if◌then◌else◌, length, IfOk, OnOk};
+ghost use Rattle.mm_problem.specs.declared.limits.TheConstants.{MAX_STORES, MAX_STEPS};
+ghost use Rattle.mm_cut.specs.Stretches.{goes_past, is_inner};
+ghost use Rattle.mm_flow.specs.Solution.{side_of};
+ghost use Rattle.mm_planner.specs.Runs.{goes_on, is_end, is_by_channels, stretches_of, stretches, counts_of};
+
+use crate::fault::NoMemory;
+use crate::nodes::{in_node, out_node, pass_node};
+use mm_plan::Stretch;
+use mm_problem::Problem;
+use std::alloc::Global;
+
+// Whether a node is on the side.
+fn is_on_side(side: &[bool], node: u32) -> bool
+    ensures { result ≡ side_of side.now node }
+{
+    side.get(node as usize).copied().unwrap_or(false)
+}
+
+// Whether a run of the store goes on after the step.
+fn goes_on(side: &[bool], store: usize, step: u32) -> bool
+    requires store { store < MAX_STORES }
+    requires step { step ≤ MAX_STEPS }
+    ensures { result ≡ goes_on (side_of side.now) store step }
+{
+    is_on_side(side, in_node(store, step)) && is_on_side(side, out_node(store, step))
+}
+
+// Whether a run of the store ends with the step.
+fn is_end(side: &[bool], store: usize, step: u32) -> bool
+    requires store { store < MAX_STORES }
+    requires step { step ≤ MAX_STEPS }
+    ensures { result ≡ is_end (side_of side.now) store step }
+{
+    is_on_side(side, in_node(store, step)) && !is_on_side(side, out_node(store, step))
+}
+
+// Adds the run where it ends with its last step.
+fn add_run(
+    stretches: &mut Vec<Stretch>,
+    side: &[bool],
+    store: usize,
+    run: Stretch,
+) -> Result<(), NoMemory>
+    requires store { store < MAX_STORES }
+    requires step { run.last ≤ MAX_STEPS }
+    ensures added { OnOk result (stretches.new.items
+        ≡ (if is_end (side_of side.now) store run.last
+        then stretches.old.items ++ run ∷ []
+        else stretches.old.items)) }
+{
+    if is_end(side, store, run.last) {
+        stretches.push(run)?;
+    }
+    Ok(())
+}
+
+// The first step of the run that the next step is in, where a step's run begins with `first`.
+fn next_first(side: &[bool], store: usize, step: u32, first: u32) -> u32
+    requires store { store < MAX_STORES }
+    requires step { step ≤ MAX_STEPS }
+    ensures { result ≡ (if goes_on (side_of side.now) store step then first else step + 1) }
+{
+    if goes_on(side, store, step) {
+        first
+    } else {
+        step + 1
+    }
+}
+
+// Adds the runs of one store.
+fn add_runs(
+    stretches: &mut Vec<Stretch>,
+    problem: &Problem,
+    side: &[bool],
+    store: usize,
+) -> Result<(), NoMemory>
+    requires store { store < length problem.now.rows }
+    requires most { store < MAX_STORES }
+    ensures added { OnOk result (stretches.new.items
+        ≡ stretches.old.items ++ stretches_of problem.now (side_of side.now) store) }
+{
+    let id = problem.id(store);
+    let mut first = 1;
+    for step in 1..problem.steps() + 1 {
+        let run = Stretch {
+            store: id,
+            first,
+            last: step,
+        };
+        add_run(stretches, side, store, run)?;
+        first = next_first(side, store, step, first);
+    }
+    Ok(())
+}
+
+// The runs of all stores.
+pub(crate) fn stretches(
+    alloc: Global,
+    problem: &Problem,
+    side: &[bool],
+) -> Result<Vec<Stretch>, NoMemory>
+    ensures { IfOk result (λ runs. runs.items ≡ stretches problem.now (side_of side.now)) }
+{
+    let mut runs = Vec::new(alloc);
+    for store in 0..problem.stores() {
+        add_runs(&mut runs, problem, side, store)?;
+    }
+    Ok(runs)
+}
+
+// Whether the step is inner in some stretch.
+fn is_inner(stretches: &[Stretch], step: u32) -> bool
+    ensures { result ≡ is_inner stretches.now step }
+{
+    stretches
+        .iter()
+        .any(|stretch| stretch.first <= step && step < stretch.last)
+}
+
+// Whether the step is inner and its pass is off the side.
+fn is_by_channels(side: &[bool], stretches: &[Stretch], step: u32) -> bool
+    requires { step ≤ MAX_STEPS }
+    ensures { result ≡ is_by_channels (side_of side.now) stretches.now step }
+{
+    is_inner(stretches, step) && !is_on_side(side, pass_node(step))
+}
+
+// Adds the step where it counts by channels.
+fn add_count(
+    counts: &mut Vec<u32>,
+    side: &[bool],
+    stretches: &[Stretch],
+    step: u32,
+) -> Result<(), NoMemory>
+    requires { step ≤ MAX_STEPS }
+    ensures added { OnOk result (counts.new.items
+        ≡ (if is_by_channels (side_of side.now) stretches.now step
+        then counts.old.items ++ step ∷ []
+        else counts.old.items)) }
+{
+    if is_by_channels(side, stretches, step) {
+        counts.push(step)?;
+    }
+    Ok(())
+}
+
+// The steps that count by channels.
+pub(crate) fn counts(
+    alloc: Global,
+    problem: &Problem,
+    side: &[bool],
+    stretches: &[Stretch],
+) -> Result<Vec<u32>, NoMemory>
+    ensures { IfOk result
+        (λ counts. counts.items ≡ counts_of problem.now (side_of side.now) stretches.now) }
+{
+    let mut counts = Vec::new(alloc);
+    for step in 1..problem.steps() + 1 {
+        add_count(&mut counts, side, stretches, step)?;
+    }
+    Ok(counts)
+}

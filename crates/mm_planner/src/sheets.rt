@@ -1,0 +1,44 @@
+//! The sheet of a plan that loses least.
+ghost use Rattle.std.specs.Prelude.{◌≡◌, pos, map, IfOk};
+ghost use Rattle.mm_problem.specs.Dumping.{IsDumping};
+ghost use Rattle.mm_plan.specs.Table.{amount, HasShape};
+ghost use Rattle.mm_plan.specs.Volumes.{loss};
+ghost use Rattle.mm_plan.specs.Least.{IsLeast};
+ghost use Rattle.mm_plan.specs.Sheet.{IsShapedFor};
+ghost use Rattle.mm_cut.specs.Cuts.{IsCut, bound};
+
+use crate::fault::NoMemory;
+use crate::planner::plan;
+use mm_plan::Sheet;
+use mm_problem::{Problem, StoreId};
+use std::alloc::Global;
+
+// The identifiers of the stores, in the problem's order.
+fn store_ids(alloc: Global, problem: &Problem) -> Result<Vec<StoreId>, NoMemory>
+    ensures { IfOk result (λ ids. ids.items ≡ map (λ row. row.id) problem.now.rows) }
+{
+    let mut ids = Vec::new(alloc);
+    for store in 0..problem.stores() {
+        ids.push(problem.id(store))?;
+    }
+    Ok(ids)
+}
+
+/// The sheet of a dump plan that loses least: the stores, the plan with its loss, and a cut whose bound is the loss.
+pub fn sheet(alloc: Global, problem: &Problem) -> Result<Sheet, NoMemory>
+    ensures stores { IfOk result (IsShapedFor problem.now) }
+    ensures shape { IfOk result (λ sheet. HasShape problem.now sheet.plan) }
+    ensures least { IfOk result (λ sheet. IsLeast problem.now (amount sheet.plan)) }
+    ensures cut { IfOk result (λ sheet. IsCut problem.now sheet.cut sheet.by_channels) }
+
+    // What the sheet says of loss and bound is so, and the two are one number.
+    ensures loss { IfOk result (λ sheet. loss problem.now (amount sheet.plan) ≡ sheet.loss) }
+    ensures bound { IfOk result
+        (λ sheet. bound problem.now sheet.cut sheet.by_channels ≡ sheet.bound) }
+    ensures tight { IfOk result (λ sheet. sheet.bound ≡ pos sheet.loss) }
+{
+    let stores = store_ids(alloc, problem)?;
+    let (plan, cut, by_channels, loss) = plan(alloc, problem)?;
+    let bound = loss as i64;
+    Ok(Sheet::new(stores, plan, loss, cut, by_channels, bound))
+}

@@ -1,0 +1,8 @@
+pub use Rattle.mm_problem.specs.Kind
+pub use Rattle.mm_packet.specs.Packet
+pub mod Fault
+pub mod Content
+pub mod Queue
+pub mod Table
+pub mod Any
+pub mod Laws

@@ -1,0 +1,8 @@
+//! Laws of packet stores, over the definitions alone. Each is the contract of a function with an empty body.
+ghost use Rattle.mm_store.specs.Laws.{LoseAlike};
+
+/// A put before the end of the clock leaves one packet more or a full store, and hands back the one that does not fit,
+/// whatever the kind of the store and the times.
+pub fn stores_lose_alike()
+    ensures law { LoseAlike }
+{}

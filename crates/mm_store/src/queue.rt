@@ -1,0 +1,150 @@
+//! Queues of packets, and the reading and deleting of packets that every queue serves alike.
+ghost use Rattle.std.specs.Prelude.{◌≡◌, ◌+◌, ◌<◌, ◌≤◌, [], ◌∷◌, ◌++◌, length, take, drop, slice_get, All};
+ghost use Rattle.circular_buffer.specs.Buffer.{Buffer, buffer};
+ghost use Rattle.mm_store.specs.declared.stored.Stored.{Stored};
+ghost use Rattle.mm_store.specs.Content.{IsRising, first_in, shown, kept_after, count_up_to, oldest, newest};
+ghost use Rattle.mm_store.specs.Queue.{begins_by};
+
+use crate::stored::Stored;
+use circular_buffer::HeapCircularBuffer;
+use mm_packet::BlockPacket;
+
+// A queue of packets with their times, with room for a fixed number of them. It takes no memory.
+pub(crate) trait PacketQueue {
+    ghost held: { Self → Buffer Stored };
+
+    fn len(&self) -> usize
+        ensures len { result ≡ length (held self.now).items };
+
+    // The packet at this place, counted from the oldest.
+    fn at(&self, place: usize) -> &Stored
+        requires { place < length (held self.now).items }
+        ensures at { slice_get (held self.now).items place ≡ Some result.now };
+
+    fn append(&mut self, newest: Stored)
+        requires { length (held self.old).items < (held self.old).capacity }
+        ensures appended { held self.new ≡ buffer ((held self.old).items ++ newest ∷ []) (held self.old).capacity };
+
+    fn take_oldest(&mut self) -> Stored
+        requires { 0 < length (held self.old).items }
+        ensures oldest { (held self.old).items ≡ result ∷ (held self.new).items }
+        ensures capacity { (held self.new).capacity ≡ (held self.old).capacity };
+}
+
+impl PacketQueue for HeapCircularBuffer<Stored> {
+    ghost held = { λ b. b };
+
+    fn len(&self) -> usize {
+        self.len()
+    }
+
+    fn at(&self, place: usize) -> &Stored {
+        self.get(place).unwrap()
+    }
+
+    fn append(&mut self, newest: Stored) {
+        let _overwritten = self.push_back(newest);
+    }
+
+    fn take_oldest(&mut self) -> Stored {
+        self.pop_front().unwrap()
+    }
+}
+
+// Whether there is an oldest packet, with a time of at most `limit`.
+fn begins_by<Q: PacketQueue>(queue: &Q, limit: u64) -> bool
+    ensures { result ≡ begins_by limit (Q.held queue.now).items }
+{
+    queue.len() > 0 && queue.at(0).time <= limit
+}
+
+// Removes the packets with times of at most `limit`, and returns their number.
+pub(crate) fn delete_up_to<Q: PacketQueue>(queue: &mut Q, limit: u64) -> usize
+    requires { IsRising (Q.held queue.old).items }
+    ensures kept { Q.held queue.new ≡ buffer (kept_after limit (Q.held queue.old).items) (Q.held queue.old).capacity }
+    ensures count { result ≡ count_up_to limit (Q.held queue.old).items }
+{
+    let held = queue.len();
+    while begins_by(queue, limit) {
+        let _removed = queue.take_oldest();
+    }
+    held - queue.len()
+}
+
+// The place of the oldest packet with a time later than `passed`, or the number of packets.
+fn first_place<Q: PacketQueue>(queue: &Q, passed: u64) -> usize
+    requires { IsRising (Q.held queue.now).items }
+    ensures within { result ≤ length (Q.held queue.now).items }
+    ensures before { All (λ p. p.time ≤ passed) (take result (Q.held queue.now).items) }
+    ensures from { All (λ p. passed < p.time) (drop result (Q.held queue.now).items) }
+{
+    let mut low = 0;
+    let mut high = queue.len();
+    // The oldest packet is found at once.
+    if high > 0 && passed < queue.at(0).time {
+        return 0;
+    }
+    while low < high {
+        let middle = low + (high - low) / 2;
+        if queue.at(middle).time <= passed {
+            low = middle + 1;
+        } else {
+            high = middle;
+        }
+    }
+    low
+}
+
+// The oldest packet from `from` to `to` that is newer than `after`, with its time.
+pub(crate) fn first_in<Q: PacketQueue>(
+    queue: &Q,
+    from: u64,
+    to: u64,
+    after: u64,
+) -> Option<(u64, &BlockPacket)>
+    requires { IsRising (Q.held queue.now).items }
+    ensures { shown result ≡ first_in from to after (Q.held queue.now).items }
+{
+    let passed = from.saturating_sub(1).max(after);
+    let place = first_place(queue, passed);
+    if place == queue.len() {
+        return None;
+    }
+    let stored = queue.at(place);
+    if stored.time > to {
+        return None;
+    }
+    Some((stored.time, &stored.packet))
+}
+
+// The oldest time held, 0 where there is none.
+pub(crate) fn oldest<Q: PacketQueue>(queue: &Q) -> u64
+    ensures { result ≡ oldest (Q.held queue.now).items }
+{
+    if queue.len() == 0 {
+        return 0;
+    }
+    queue.at(0).time
+}
+
+// The newest time held, 0 where there is none.
+pub(crate) fn newest<Q: PacketQueue>(queue: &Q) -> u64
+    ensures { result ≡ newest (Q.held queue.now).items }
+{
+    let held = queue.len();
+    if held == 0 {
+        return 0;
+    }
+    queue.at(held - 1).time
+}
+
+// Moves all packets of one queue to the end of another, in their order.
+pub(crate) fn move_all<F: PacketQueue, T: PacketQueue>(from: &mut F, to: &mut T)
+    requires { length (T.held to.old).items + length (F.held from.old).items ≤ (T.held to.old).capacity }
+    ensures moved { T.held to.new ≡ buffer ((T.held to.old).items ++ (F.held from.old).items) (T.held to.old).capacity }
+    ensures emptied { F.held from.new ≡ buffer [] (F.held from.old).capacity }
+{
+    while from.len() > 0 {
+        to.append(from.take_oldest());
+    }
+}
