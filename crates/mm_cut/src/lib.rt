@@ -5,6 +5,8 @@ mod bounds;
 mod counts;
 mod laws;
 mod stretches;
+#[cfg(test)]
+mod tests;
 mod verdict;
 
 pub use bounds::bound;
