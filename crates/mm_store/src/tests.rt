@@ -10,7 +10,38 @@ use std::test::Fail;
 // The last storage time there is.
 const LAST: u64 = u64::MAX;
 
-// Telemetry with this sequence count, by which the tests know it again.
+// A call on a store. A packet is known by its sequence count.
+#[derive(Clone, Copy)]
+enum Call {
+    // At this time, the packet of this count.
+    PutAt(u64, u16),
+    // From this time, to this time, after this time.
+    FirstIn(u64, u64, u64),
+    DeleteUpTo(u64),
+    AskState,
+}
+
+// What a store answers.
+#[derive(Clone, Copy, Debug, PartialEq)]
+enum Told {
+    Kept(u64),
+    KeptOver(u64, u16),
+    Lost(u16),
+    ClockEnd(u16),
+    First(u64, u16),
+    Nothing,
+    Deleted(usize),
+    // The size, how many packets are held, the oldest and the newest time, and the last time given.
+    State(u32, u32, u64, u64, u64),
+}
+
+use Call::{AskState, DeleteUpTo, FirstIn, PutAt};
+use Told::{ClockEnd, Deleted, First, Kept, KeptOver, Lost, Nothing, State};
+
+// A call with the answer to it.
+type Step = (Call, Told);
+
+// Telemetry with this sequence count.
 fn packet(rt: &impl Abort, alloc: Global, count: u16) -> BlockPacket {
     let header = Header {
         apid: 100,
@@ -23,147 +54,159 @@ fn packet(rt: &impl Abort, alloc: Global, count: u16) -> BlockPacket {
     BlockPacket::of(packet).expect(rt, "a short packet")
 }
 
-// What a put answered, with packets by their sequence counts.
-#[derive(Debug, Drop, PartialEq)]
-enum Told {
-    Kept(u64),
-    KeptOver(u64, u16),
-    Lost(u16),
-    ClockEnd(u16),
+fn answer_of(answer: &Put) -> Told {
+    match answer {
+        Put::Kept(time) => Kept(*time),
+        Put::KeptOver(time, oldest) => KeptOver(*time, oldest.packet().count()),
+        Put::Lost(packet) => Lost(packet.packet().count()),
+        Put::ClockEnd(packet) => ClockEnd(packet.packet().count()),
+    }
 }
 
-// Puts the packet of this sequence count.
-fn put<S: PacketStore>(
-    rt: &impl Abort,
+fn first_in<S: PacketStore>(store: &S, from: u64, to: u64, after: u64) -> Told {
+    match store.first_in(from, to, after) {
+        Some((time, packet)) => First(time, packet.packet().count()),
+        None => Nothing,
+    }
+}
+
+fn state<S: PacketStore>(store: &S) -> Told {
+    State(
+        store.size(),
+        store.len(),
+        store.oldest(),
+        store.newest(),
+        store.last_time(),
+    )
+}
+
+// Makes the calls, each of which must be answered as its step says.
+fn run<R: Abort, S: PacketStore>(rt: &R, alloc: Global, store: &mut S, steps: &[Step]) {
+    for (place, step) in steps.iter().enumerate() {
+        let told = match step.0 {
+            PutAt(now, count) => answer_of(&store.put(now, packet(rt, alloc, count))),
+            FirstIn(from, to, after) => first_in(store, from, to, after),
+            DeleteUpTo(limit) => Deleted(store.delete_up_to(limit) as usize),
+            AskState => state(store),
+        };
+        assert_eq!(rt; told, step.1, "at the call {place}");
+    }
+}
+
+// Makes the calls on a new store of each type: the first ones on all, and then those of its kind.
+fn on_each_type<R: Abort>(
+    rt: &R,
     alloc: Global,
-    store: &mut S,
-    now: u64,
-    count: u16,
-) -> Told {
-    match store.put(now, packet(rt, alloc, count)) {
-        Put::Kept(time) => Told::Kept(time),
-        Put::KeptOver(time, oldest) => Told::KeptOver(time, oldest.packet().count()),
-        Put::Lost(packet) => Told::Lost(packet.packet().count()),
-        Put::ClockEnd(packet) => Told::ClockEnd(packet.packet().count()),
-    }
-}
-
-// What the store holds: times and sequence counts, the oldest first.
-fn listed<S: PacketStore>(rt: &impl Abort, alloc: Global, store: &S) -> Vec<(u64, u16)> {
-    let mut all = Vec::new(alloc);
-    let mut after = 0;
-    for _ in 0..store.len() {
-        if let Some((time, packet)) = store.first_in(0, LAST, after) {
-            all.push((time, packet.packet().count()))
-                .expect(rt, "memory");
-            after = time;
-        }
-    }
-    all
-}
-
-// What a full store of this kind answers to a packet, where the oldest one has the other count.
-fn told_when_full(kind: Kind, time: u64, count: u16, oldest: u16) -> Told {
-    match kind {
-        Kind::Circular => Told::KeptOver(time, oldest),
-        Kind::Bounded => Told::Lost(count),
-    }
-}
-
-// A sequence of calls that every type of store answers by the same rules.
-trait Sequence {
-    fn run<R: Abort, S: PacketStore>(rt: &R, alloc: Global, store: &mut S);
-}
-
-// Runs the sequence on a new store of each type.
-fn on_each_type<Q: Sequence, R: Abort>(rt: &R, alloc: Global, size: u32)
+    size: u32,
+    all: &[Step],
+    circular: &[Step],
+    bounded: &[Step],
+)
     requires lowest { 1 ≤ size }
     requires highest { size ≤ MAX_BLOCKS }
 {
     let mut ring = RingStore::new(alloc, size).expect(rt, "memory");
-    Q::run(rt, alloc, &mut ring);
+    run(rt, alloc, &mut ring, all);
+    run(rt, alloc, &mut ring, circular);
     let mut blocks = BlockStore::new(alloc, size).expect(rt, "memory");
-    Q::run(rt, alloc, &mut blocks);
-    for kind in [Kind::Circular, Kind::Bounded] {
+    run(rt, alloc, &mut blocks, all);
+    run(rt, alloc, &mut blocks, bounded);
+    for (kind, others) in [(Kind::Circular, circular), (Kind::Bounded, bounded)] {
         let mut store = AnyStore::new(alloc, kind, size).expect(rt, "memory");
-        Q::run(rt, alloc, &mut store);
+        assert!(rt; store.kind() == kind);
+        run(rt, alloc, &mut store, all);
+        run(rt, alloc, &mut store, others);
     }
 }
 
-struct TimesRise;
-
-impl Sequence for TimesRise {
-    fn run<R: Abort, S: PacketStore>(rt: &R, alloc: Global, store: &mut S) {
-        assert_eq!(rt; (store.len(), store.oldest(), store.newest()), (0, 0, 0));
-        assert_eq!(rt; put(rt, alloc, store, 7, 1), Told::Kept(7));
-        assert_eq!(rt; put(rt, alloc, store, 7, 2), Told::Kept(8));
-        assert_eq!(rt; (store.oldest(), store.newest()), (7, 8));
-        assert_eq!(rt; store.delete_up_to(7), 1);
-        assert_eq!(rt; put(rt, alloc, store, LAST, 3), Told::Kept(LAST));
-        assert_eq!(rt; put(rt, alloc, store, LAST, 4), Told::ClockEnd(4));
-        assert_eq!(rt;
-            listed(rt, alloc, store).as_slice(),
-            [(8, 2), (LAST, 3)].as_slice()
-        );
-    }
-}
+static TIMES_RISE: [Step; 10] = [
+    (AskState, State(4, 0, 0, 0, 0)),
+    (PutAt(7, 1), Kept(7)),
+    (PutAt(7, 2), Kept(8)),
+    (AskState, State(4, 2, 7, 8, 8)),
+    (DeleteUpTo(7), Deleted(1)),
+    (PutAt(LAST, 3), Kept(LAST)),
+    (PutAt(LAST, 4), ClockEnd(4)),
+    (FirstIn(0, LAST, 0), First(8, 2)),
+    (FirstIn(0, LAST, 8), First(LAST, 3)),
+    (FirstIn(0, LAST, LAST), Nothing),
+];
 
 #[test]
 fn times_rise(rt: HostRuntime) {
-    on_each_type::<TimesRise, HostRuntime>(&rt, rt.alloc(), 4);
+    on_each_type(&rt, rt.alloc(), 4, &TIMES_RISE, &[], &[]);
 }
 
-struct BlocksReused;
+static BLOCKS_REUSED: [Step; 10] = [
+    (PutAt(1, 1), Kept(1)),
+    (PutAt(2, 2), Kept(2)),
+    (PutAt(3, 3), Kept(3)),
+    (DeleteUpTo(2), Deleted(2)),
+    (PutAt(4, 4), Kept(4)),
+    (PutAt(5, 5), Kept(5)),
+    (FirstIn(1, 9, 0), First(3, 3)),
+    (FirstIn(1, 9, 3), First(4, 4)),
+    (FirstIn(1, 9, 4), First(5, 5)),
+    (FirstIn(1, 9, 5), Nothing),
+];
 
-impl Sequence for BlocksReused {
-    fn run<R: Abort, S: PacketStore>(rt: &R, alloc: Global, store: &mut S) {
-        for time in 1..4 {
-            assert_eq!(rt; put(rt, alloc, store, time, 1), Told::Kept(time));
-        }
-        assert_eq!(rt; store.delete_up_to(2), 2);
-        assert_eq!(rt; put(rt, alloc, store, 4, 4), Told::Kept(4));
-        assert_eq!(rt; put(rt, alloc, store, 5, 5), Told::Kept(5));
-        for (after, first) in [(0, 3), (3, 4), (4, 5), (5, 0)] {
-            let found = store.first_in(1, 9, after).map_or(0, |found| found.0);
-            assert_eq!(rt; found, first, "after {after}");
-        }
-        let full = told_when_full(store.kind(), 6, 6, 1);
-        assert_eq!(rt; put(rt, alloc, store, 6, 6), full);
-        assert_eq!(rt; store.delete_up_to(9), 3);
-        assert_eq!(rt; (store.oldest(), store.newest()), (0, 0));
-    }
-}
+static A_FULL_RING: [Step; 3] = [
+    (PutAt(6, 6), KeptOver(6, 3)),
+    (DeleteUpTo(9), Deleted(3)),
+    (AskState, State(3, 0, 0, 0, 6)),
+];
+
+static A_FULL_TABLE: [Step; 3] = [
+    (PutAt(6, 6), Lost(6)),
+    (DeleteUpTo(9), Deleted(3)),
+    (AskState, State(3, 0, 0, 0, 5)),
+];
 
 #[test]
 fn blocks_reused(rt: HostRuntime) {
-    on_each_type::<BlocksReused, HostRuntime>(&rt, rt.alloc(), 3);
+    on_each_type(
+        &rt,
+        rt.alloc(),
+        3,
+        &BLOCKS_REUSED,
+        &A_FULL_RING,
+        &A_FULL_TABLE,
+    );
 }
 
-struct OneBlock;
+// A packet that a full bounded store refuses gets no time. The clock ends for a full store and for an empty one.
+static ONE_BLOCK_CIRCULAR: [Step; 8] = [
+    (PutAt(0, 1), Kept(1)),
+    (PutAt(0, 2), KeptOver(2, 1)),
+    (AskState, State(1, 1, 2, 2, 2)),
+    (DeleteUpTo(2), Deleted(1)),
+    (PutAt(LAST, 3), Kept(LAST)),
+    (PutAt(0, 4), ClockEnd(4)),
+    (DeleteUpTo(LAST), Deleted(1)),
+    (PutAt(0, 5), ClockEnd(5)),
+];
 
-impl Sequence for OneBlock {
-    fn run<R: Abort, S: PacketStore>(rt: &R, alloc: Global, store: &mut S) {
-        assert_eq!(rt; put(rt, alloc, store, 0, 1), Told::Kept(1));
-        let full = told_when_full(store.kind(), 2, 2, 1);
-        assert_eq!(rt; put(rt, alloc, store, 0, 2), full);
-        // A packet that a full bounded store refuses gets no time.
-        let last = if store.kind() == Kind::Circular { 2 } else { 1 };
-        assert_eq!(rt;
-            (store.size(), store.len(), store.last_time()),
-            (1, 1, last)
-        );
-        assert_eq!(rt; store.delete_up_to(last), 1);
-        // The clock ends for a full store and for an empty one.
-        assert_eq!(rt; put(rt, alloc, store, LAST, 3), Told::Kept(LAST));
-        assert_eq!(rt; put(rt, alloc, store, 0, 4), Told::ClockEnd(4));
-        assert_eq!(rt; store.delete_up_to(LAST), 1);
-        assert_eq!(rt; put(rt, alloc, store, 0, 5), Told::ClockEnd(5));
-    }
-}
+static ONE_BLOCK_BOUNDED: [Step; 8] = [
+    (PutAt(0, 1), Kept(1)),
+    (PutAt(0, 2), Lost(2)),
+    (AskState, State(1, 1, 1, 1, 1)),
+    (DeleteUpTo(1), Deleted(1)),
+    (PutAt(LAST, 3), Kept(LAST)),
+    (PutAt(0, 4), ClockEnd(4)),
+    (DeleteUpTo(LAST), Deleted(1)),
+    (PutAt(0, 5), ClockEnd(5)),
+];
 
 #[test]
 fn a_store_of_one_block_and_the_end_of_the_clock(rt: HostRuntime) {
-    on_each_type::<OneBlock, HostRuntime>(&rt, rt.alloc(), 1);
+    on_each_type(
+        &rt,
+        rt.alloc(),
+        1,
+        &[],
+        &ONE_BLOCK_CIRCULAR,
+        &ONE_BLOCK_BOUNDED,
+    );
 }
 
 // A store as a plain list, by the rules alone.
@@ -180,109 +223,145 @@ impl PlainStore {
         let time = now.max(self.last.saturating_add(1));
         let full = self.held.len() >= self.size;
         if full && self.kind == Kind::Bounded {
-            return Told::Lost(count);
+            return Lost(count);
         }
         self.last = time;
-        let mut answer = Told::Kept(time);
+        let mut answer = Kept(time);
         if full && !self.held.is_empty() {
-            answer = Told::KeptOver(time, self.held.remove(0).1);
+            answer = KeptOver(time, self.held.remove(0).1);
         }
         self.held.push((time, count)).expect(rt, "memory");
         answer
     }
 
-    fn delete_up_to(&mut self, limit: u64) -> usize {
+    fn delete_up_to(&mut self, limit: u64) -> Told {
         let before = self.held.len();
         self.held.retain(|held| held.0 > limit);
-        before.saturating_sub(self.held.len())
+        Deleted(before.saturating_sub(self.held.len()))
     }
 
-    fn first_in(&self, from: u64, to: u64, after: u64) -> u64 {
+    fn first_in(&self, from: u64, to: u64, after: u64) -> Told {
         for held in &self.held {
             if from <= held.0 && held.0 <= to && after < held.0 {
-                return held.0;
+                return First(held.0, held.1);
             }
         }
-        0
+        Nothing
+    }
+
+    // Adds the look-ups by which all that is held is read.
+    fn list(&self, rt: &impl Abort, steps: &mut Vec<Step>) {
+        let mut after = 0;
+        for held in &self.held {
+            let step = (FirstIn(0, LAST, after), First(held.0, held.1));
+            steps.push(step).expect(rt, "memory");
+            after = held.0;
+        }
+        steps
+            .push((FirstIn(0, LAST, after), Nothing))
+            .expect(rt, "memory");
     }
 }
 
-struct Thousand;
-
-impl Sequence for Thousand {
-    // A thousand puts and deletes, by numbers that a linear congruence draws.
-    fn run<R: Abort, S: PacketStore>(rt: &R, alloc: Global, store: &mut S) {
-        let mut plain = PlainStore {
-            kind: store.kind(),
-            size: store.size() as usize,
-            last: 0,
-            held: Vec::new(alloc),
+// A thousand puts and deletions, by numbers that a linear congruence draws, and look-ups behind each.
+fn drawn(rt: &impl Abort, alloc: Global, kind: Kind) -> Vec<Step> {
+    let mut plain = PlainStore {
+        kind,
+        size: 7,
+        last: 0,
+        held: Vec::new(alloc),
+    };
+    let mut steps = Vec::new(alloc);
+    let mut drawn: u64 = 12345;
+    for count in 0..1000u16 {
+        drawn = drawn
+            .wrapping_mul(6364136223846793005)
+            .wrapping_add(1442695040888963407);
+        let shift = (drawn >> 40) % 9;
+        let now = plain.last.saturating_add(shift);
+        let limit = now.saturating_sub(12);
+        let step = if drawn >> 61 == 0 {
+            (DeleteUpTo(limit), plain.delete_up_to(limit))
+        } else {
+            (PutAt(now, count), plain.put(rt, now, count))
         };
-        let mut drawn: u64 = 12345;
-        for count in 0..1000u16 {
-            drawn = drawn
-                .wrapping_mul(6364136223846793005)
-                .wrapping_add(1442695040888963407);
-            let shift = (drawn >> 40) % 9;
-            let now = plain.last.saturating_add(shift);
-            if drawn >> 61 == 0 {
-                let limit = now.saturating_sub(12);
-                let removed = store.delete_up_to(limit) as usize;
-                assert_eq!(rt; removed, plain.delete_up_to(limit), "up to {limit}");
-            } else {
-                let told = plain.put(rt, now, count);
-                assert_eq!(rt; put(rt, alloc, store, now, count), told, "at {now}");
-            }
-            assert_eq!(rt; listed(rt, alloc, store).as_slice(), plain.held.as_slice());
-            let (from, after) = (now.saturating_sub(15), now.saturating_sub(3 * shift));
-            let found = store.first_in(from, now, after).map_or(0, |found| found.0);
-            assert_eq!(rt; found, plain.first_in(from, now, after));
-        }
+        steps.push(step).expect(rt, "memory");
+        let (from, after) = (now.saturating_sub(15), now.saturating_sub(3 * shift));
+        let step = (FirstIn(from, now, after), plain.first_in(from, now, after));
+        steps.push(step).expect(rt, "memory");
+        plain.list(rt, &mut steps);
     }
+    steps
 }
 
 #[test]
 fn a_thousand_puts_and_deletes_are_those_of_a_plain_list(rt: HostRuntime) {
-    on_each_type::<Thousand, HostRuntime>(&rt, rt.alloc(), 7);
+    let alloc = rt.alloc();
+    let circular = drawn(&rt, alloc, Kind::Circular);
+    let bounded = drawn(&rt, alloc, Kind::Bounded);
+    on_each_type(&rt, alloc, 7, &[], &circular, &bounded);
 }
 
+static TWO_PUTS: [Step; 2] = [(PutAt(7, 1), Kept(7)), (PutAt(8, 2), Kept(8))];
+
+static TWO_HELD: [Step; 3] = [
+    (AskState, State(2, 2, 7, 8, 8)),
+    (FirstIn(0, LAST, 0), First(7, 1)),
+    (FirstIn(0, LAST, 7), First(8, 2)),
+];
+
+static ROOM_OF_A_RING: [Step; 2] = [(AskState, State(3, 2, 8, 9, 9)), (PutAt(20, 4), Kept(20))];
+
+static ROOM_OF_A_TABLE: [Step; 2] = [(AskState, State(3, 2, 7, 8, 8)), (PutAt(20, 4), Kept(20))];
+
 // A store of two packets, at 7 and 8, that changes its kind and its size.
-fn changes_kind_and_size(rt: &impl Abort, alloc: Global, kind: Kind, other: Kind) {
+fn changes(rt: &impl Abort, alloc: Global, kind: Kind, other: Kind, full: Told, room: &[Step]) {
     let mut store = AnyStore::new(alloc, kind, 2).expect(rt, "memory");
-    assert_eq!(rt; put(rt, alloc, &mut store, 7, 1), Told::Kept(7));
-    assert_eq!(rt; put(rt, alloc, &mut store, 8, 2), Told::Kept(8));
-    assert_eq!(rt; store.change_kind(other), Ok(()));
-    assert_eq!(rt; store.kind(), other);
-    assert_eq!(rt;
-        listed(rt, alloc, &store).as_slice(),
-        [(7, 1), (8, 2)].as_slice()
-    );
-    assert_eq!(rt; store.resize(1), Err(Fault::HoldsMore));
-    assert_eq!(rt; (store.size(), store.len(), store.last_time()), (2, 2, 8));
-    let full = told_when_full(other, 9, 3, 1);
-    assert_eq!(rt; put(rt, alloc, &mut store, 9, 3), full);
-    assert_eq!(rt; store.resize(3), Ok(()));
-    assert_eq!(rt; (store.size(), store.len()), (3, 2));
-    assert_eq!(rt; put(rt, alloc, &mut store, 20, 4), Told::Kept(20));
+    run(rt, alloc, &mut store, &TWO_PUTS);
+    store.change_kind(other).expect(rt, "memory");
+    assert!(rt; store.kind() == other);
+    run(rt, alloc, &mut store, &TWO_HELD);
+    assert!(rt; store.resize(1) == Err(Fault::HoldsMore));
+    run(rt, alloc, &mut store, &TWO_HELD);
+    run(rt, alloc, &mut store, &[(PutAt(9, 3), full)]);
+    store.resize(3).expect(rt, "memory");
+    run(rt, alloc, &mut store, room);
 }
 
 #[test]
 fn change_kind_and_resize(rt: HostRuntime) {
-    changes_kind_and_size(&rt, rt.alloc(), Kind::Circular, Kind::Bounded);
-    changes_kind_and_size(&rt, rt.alloc(), Kind::Bounded, Kind::Circular);
+    let (alloc, circular, bounded) = (rt.alloc(), Kind::Circular, Kind::Bounded);
+    changes(&rt, alloc, circular, bounded, Lost(3), &ROOM_OF_A_TABLE);
+    changes(
+        &rt,
+        alloc,
+        bounded,
+        circular,
+        KeptOver(9, 1),
+        &ROOM_OF_A_RING,
+    );
 }
+
+static ONE_PUT: [Step; 1] = [(PutAt(1, 1), Kept(1))];
+
+static OLDEST_GIVEN_UP: [Step; 2] = [
+    (AskState, State(1, 1, 1, 1, 1)),
+    (PutAt(2, 2), KeptOver(2, 1)),
+];
+
+static NEWEST_LOST: [Step; 2] = [(AskState, State(1, 1, 1, 1, 1)), (PutAt(2, 2), Lost(2))];
 
 #[test]
 fn each_type_is_resized(rt: HostRuntime) {
     let alloc = rt.alloc();
     let mut ring = RingStore::new(alloc, 2).expect(&rt, "memory");
-    assert_eq!(rt; put(&rt, alloc, &mut ring, 1, 1), Told::Kept(1));
-    assert_eq!(rt; ring.resize(1), Ok(()));
-    assert_eq!(rt; put(&rt, alloc, &mut ring, 2, 2), Told::KeptOver(2, 1));
+    run(&rt, alloc, &mut ring, &ONE_PUT);
+    ring.resize(1).expect(&rt, "memory");
+    run(&rt, alloc, &mut ring, &OLDEST_GIVEN_UP);
     let mut blocks = BlockStore::new(alloc, 2).expect(&rt, "memory");
-    assert_eq!(rt; put(&rt, alloc, &mut blocks, 1, 1), Told::Kept(1));
-    assert_eq!(rt; blocks.resize(1), Ok(()));
-    assert_eq!(rt; put(&rt, alloc, &mut blocks, 2, 2), Told::Lost(2));
+    run(&rt, alloc, &mut blocks, &ONE_PUT);
+    blocks.resize(1).expect(&rt, "memory");
+    run(&rt, alloc, &mut blocks, &NEWEST_LOST);
 }
 
 #[test]
