@@ -1,0 +1,19 @@
+-- Laws of the storage control.
+use Rattle.std.specs.Prelude.{◌≡◌, not, ◌&&◌, ◌||◌, List}
+use Rattle.mm_problem.specs.declared.rows.RouteRow.{RouteRow}
+use Rattle.mm_problem.specs.Tables.{same_route}
+use Rattle.mm_control.specs.Routes.{IsInOrder, has_row, with_row, without_row}
+
+-- an addition adds its row and no other, and keeps the order
+pub record AddsOne (row : RouteRow) (rows : List RouteRow) : Type 0 where
+  pub has : (r : RouteRow) → has_row r (with_row row rows) ≡ (same_route row r || has_row r rows)
+  pub in_order : IsInOrder (with_row row rows)
+
+-- a deletion deletes its row and no other, and keeps the order
+pub record DeletesOne (row : RouteRow) (rows : List RouteRow) : Type 0 where
+  pub has : (r : RouteRow) → has_row r (without_row row rows) ≡ (not (same_route row r) && has_row r rows)
+  pub in_order : IsInOrder (without_row row rows)
+
+-- rows in order are a set
+abbrev pub AreSets : Type 0
+AreSets = (row : RouteRow) (rows : List RouteRow) → IsInOrder rows → AddsOne row rows × DeletesOne row rows

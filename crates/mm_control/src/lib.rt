@@ -1,0 +1,12 @@
+//! The storage control of a spacecraft's mass memory: which report types go into which packet stores.
+#![tactic(auto)]
+
+mod fault;
+pub mod laws;
+mod table;
+
+pub use fault::{Fault, NoMemory};
+pub use table::ControlTable;
+
+#[cfg(test)]
+mod tests;

@@ -1,0 +1,123 @@
+//! The storage control.
+ghost use Rattle.std.specs.Prelude.{◌≡◌, ◌+◌, ◌≤◌, [], length, is_ok, IfOk, IfErr, OnOk, OnErr};
+ghost use Rattle.mm_control.specs.Routes.{IsInOrder, IsTable, Stands, WouldStand, has_row, takes, with_row, without_row, without_store, count_of_store, stores_for};
+ghost use Rattle.mm_control.specs.declared.fault.Fault.TheVariants.{NoSuchRoute, TableFull};
+
+use crate::fault::{Fault, NoMemory};
+use mm_problem::{MAX_ROUTES, RouteRow, StoreId};
+use std::alloc::Global;
+use std::marker::Model;
+
+/// The storage control (ECSS-E-ST-70-41C, 6.15.3.4): which report types go into which packet stores. Contracts see the
+/// rows in the order of APID, service, subtype and store, none twice.
+#[derive(Drop)]
+pub struct ControlTable {
+    rows: Vec<RouteRow>,
+}
+
+impl Model for ControlTable {
+    ghost use Rattle.std.specs.Prelude.{List, ◌≤◌, vec_capacity};
+    ghost use Rattle.mm_problem.specs.declared.limits.TheConstants.{MAX_ROUTES};
+    ghost use Rattle.mm_problem.specs.declared.rows.RouteRow.{RouteRow};
+    ghost use Rattle.mm_control.specs.Routes.{IsTable};
+
+    ghost Value = { List RouteRow };
+
+    ghost view = { λ a. a.rows.items };
+
+    ghost invariant = { λ a. IsTable a.rows.items × (MAX_ROUTES ≤ vec_capacity a.rows) };
+}
+
+// The place where a row stands, or the place where it would.
+fn place_of(rows: &[RouteRow], row: &RouteRow) -> Result<usize, usize>
+    requires { IsInOrder rows.now }
+    ensures found { is_ok result ≡ has_row row.now rows.now }
+    ensures stands { IfOk result (λ place. Stands row.now rows.now place) }
+    ensures would_stand { IfErr result (λ place. WouldStand row.now rows.now place) }
+{
+    rows.binary_search(row)
+}
+
+impl ControlTable {
+    /// An empty table with room for 256 rows. All its memory is taken here.
+    pub fn new(alloc: Global) -> Result<ControlTable, NoMemory>
+        ensures empty { IfOk result (λ table. table ≡ []) }
+    {
+        let rows = Vec::with_capacity(alloc, MAX_ROUTES)?;
+        Ok(ControlTable { rows })
+    }
+
+    /// Adds a row. A row that is there stays as it is; otherwise 11 `TableFull` where there are 256.
+    pub fn add(&mut self, row: RouteRow) -> Result<(), Fault>
+        // Which rows are taken, and the table with them.
+        ensures taken { is_ok result ≡ takes row self.old }
+        ensures ok { OnOk result (self.new ≡ with_row row self.old) }
+        ensures grows { length self.new ≤ length self.old + 1 }
+        // A refused row changes nothing.
+        ensures refusal { IfErr result (λ e. e ≡ TableFull) }
+        ensures err { OnErr result (self.new ≡ self.old) }
+    {
+        match place_of(self.rows.as_slice(), &row) {
+            Ok(_) => Ok(()),
+            Err(_) if self.rows.len() == MAX_ROUTES => Err(Fault::TableFull),
+            Err(place) => {
+                self.rows.insert(place, row).unwrap();
+                Ok(())
+            }
+        }
+    }
+
+    /// Deletes a row; 10 `NoSuchRoute` where it is not there.
+    pub fn delete(&mut self, row: RouteRow) -> Result<(), Fault>
+        ensures found { is_ok result ≡ has_row row self.old }
+        ensures ok { OnOk result (self.new ≡ without_row row self.old) }
+        ensures refusal { IfErr result (λ e. e ≡ NoSuchRoute) }
+        ensures err { OnErr result (self.new ≡ self.old) }
+    {
+        match place_of(self.rows.as_slice(), &row) {
+            Ok(place) => {
+                let _deleted = self.rows.remove(place);
+                Ok(())
+            }
+            Err(_) => Err(Fault::NoSuchRoute),
+        }
+    }
+
+    /// Deletes the rows of a store, and returns their number.
+    pub fn delete_store(&mut self, store: &StoreId) -> u32
+        ensures rows { self.new ≡ without_store store.now self.old }
+        ensures count { result ≡ count_of_store store.now self.old }
+    {
+        let before = self.rows.len();
+        self.rows.retain(|row| row.store != *store);
+        (before - self.rows.len()) as u32
+    }
+
+    /// The stores that a report type goes into, in the order of their identifiers.
+    pub fn stores_for(
+        &self,
+        alloc: Global,
+        apid: u16,
+        service: u8,
+        subtype: u8,
+    ) -> Result<Vec<StoreId>, NoMemory>
+        ensures stores { IfOk result
+            (λ stores. stores.items ≡ stores_for apid service subtype self.now) }
+    {
+        let stores = self
+            .rows
+            .iter()
+            .filter(|row| row.apid == apid && row.service == service && row.subtype == subtype)
+            .map(|row| row.store)
+            .collect(alloc)?;
+        Ok(stores)
+    }
+
+    /// The rows, in the order of APID, service, subtype and store.
+    pub fn list(&self) -> &[RouteRow]
+        ensures rows { result.now ≡ self.now }
+        ensures is_table { IsTable self.now }
+    {
+        &self.rows
+    }
+}

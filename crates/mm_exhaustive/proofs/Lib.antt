@@ -1,0 +1,4 @@
+pub mod Sums
+pub mod Alike
+pub mod Tried
+pub mod Nothing
