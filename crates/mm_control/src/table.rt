@@ -8,7 +8,7 @@ use mm_problem::{MAX_ROUTES, RouteRow, StoreId};
 use std::alloc::Global;
 use std::marker::Model;
 
-/// The storage control (ECSS-E-ST-70-41C, 6.15.3.4): which report types go into which packet stores. Contracts see the
+/// The storage control (ECSS-E-ST-70-41C, 6.15): which report types go into which packet stores. Contracts see the
 /// rows in the order of APID, service, subtype and store, none twice.
 #[derive(Drop)]
 pub struct ControlTable {
