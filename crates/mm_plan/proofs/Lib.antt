@@ -13,3 +13,8 @@ pub mod Texts
 pub mod Shapes
 pub mod Prints
 pub mod Writes
+pub mod Raises
+pub mod Tabling
+pub mod Cuts
+pub mod Rests
+pub mod Fills

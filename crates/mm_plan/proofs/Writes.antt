@@ -1,8 +1,8 @@
 -- What a write to one place of a table changes.
-use Rattle.std.proofs.Common.{◌≡◌, ◌≢◌, ℕ, ◌+◌, ◌-◌, ◌*◌, ◌<◌, ◌≤◌, List, length, set, refl, arith, get_or-set_same, get_or-set_other}
+use Rattle.std.proofs.Common.{ℕ, ◌+◌, ◌-◌, ◌*◌, ◌<◌, length, set, refl, arith, get_or-set_same, get_or-set_other}
 use Rattle.std.proofs.lemmas.Nat.{same_from_place, mul-add-lt}
 use Rattle.std.proofs.Math.Nat.{mul_comm}
-use Rattle.mm_plan.specs.Table.{Table, amount, IsPlace, IsTable, ChangesAmount}
+use Rattle.mm_plan.specs.Table.{Table, IsPlace, IsTable, ChangesAmount}
 
 pub changes_amount : (old : Table) (s t n : ℕ) → IsTable old → IsPlace old s t → ChangesAmount old (record { stores = old.stores; steps = old.steps; amounts = set old.amounts ((t - 1) * old.stores + s) n }) s t n
 changes_amount old s t n is here =

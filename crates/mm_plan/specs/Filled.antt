@@ -2,7 +2,7 @@
 use Rattle.std.specs.Prelude.{◌≡◌, ℕ, ◌<◌, ◌≤◌, length, Some, ◌⊎◌}
 use Rattle.std.specs.List.{sum_by}
 use Rattle.mm_problem.specs.Dumping.{Dumping, stores, stores_of, window, limit, channel}
-use Rattle.mm_plan.specs.Volumes.{Amounts, left, written}
+use Rattle.mm_plan.specs.Volumes.{Amounts, left, written, lost}
 use Rattle.mm_plan.specs.Fit.{in_step}
 
 -- the amounts of a step add up to its window
@@ -20,3 +20,8 @@ pub record IsFilledAt (q : Dumping) (x : Amounts) (t : ℕ) : Type 0 where
 
 abbrev pub IsFilled : Dumping → Amounts → Type 0
 IsFilled q x = (t : ℕ) → 1 ≤ t → t ≤ length q.windows → IsFilledAt q x t
+
+-- by the second plan no store has more left in any step, or loses more, than by the first
+pub record IsNowhereWorse (q : Dumping) (x y : Amounts) : Type 0 where
+  pub volumes : (s t : ℕ) → s < length q.rows → 1 ≤ t → t ≤ length q.windows → left q y s t ≤ left q x s t
+  pub losses : (s t : ℕ) → s < length q.rows → 1 ≤ t → t ≤ length q.windows → lost q y s t ≤ lost q x s t

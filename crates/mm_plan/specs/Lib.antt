@@ -3,6 +3,9 @@ pub mod Volumes
 pub mod Fit
 pub mod Least
 pub mod Filled
+pub mod Simulated
+pub mod Tabled
+pub mod Filling
 pub mod Fault
 pub mod Sheet
 pub mod Reading

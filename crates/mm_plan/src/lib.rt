@@ -3,18 +3,24 @@
 
 mod draft;
 mod fault;
+mod filling;
 mod fit;
 mod line;
 mod loss;
 mod plan;
 mod print;
 mod sheet;
+mod simulation;
 mod stretch;
+#[cfg(test)]
+mod tests;
 mod words;
 
 pub use fault::{Fault, NoMemory};
+pub use filling::fill;
 pub use fit::fits;
 pub use loss::loss_of;
 pub use plan::Plan;
 pub use sheet::Sheet;
+pub use simulation::{Simulated, simulate};
 pub use stretch::{MAX_COUNTS, MAX_STRETCHES, Stretch};

@@ -70,4 +70,16 @@ impl Plan {
     {
         self.amounts[(step as usize - 1) * self.stores + store] = blocks;
     }
+
+    // The same plan once more.
+    pub(crate) fn copy(&self, alloc: Global) -> Result<Plan, NoMemory>
+        ensures { IfOk result (λ plan. plan ≡ self.now) }
+    {
+        let amounts = Vec::from_slice(alloc, self.amounts.as_slice())?;
+        Ok(Plan {
+            stores: self.stores,
+            steps: self.steps,
+            amounts,
+        })
+    }
 }

@@ -1,6 +1,4 @@
-use Rattle.std.proofs.Common.{sym}
 use Rattle.mm_plan.proofs.Writes.{changes_amount}
-use Rattle.mm_plan.specs.Table.{IsPlace}
 use Rattle.mm_plan.proofs.plan.Plan.set.Goals as goal
 
 pub returns : goal.returns

@@ -1,0 +1,30 @@
+-- Filling a plan, one step after the other.
+use Rattle.std.specs.Prelude.{◌≡◌, ◌≢◌, ℕ, ◌+◌, ◌<◌, ◌≤◌, List, length, slice_index, min, Some, ◌⊎◌}
+use Rattle.std.specs.List.{sum_by}
+use Rattle.mm_problem.specs.Dumping.{Dumping, stores, stores_of, channel, window, limit}
+use Rattle.mm_plan.specs.Volumes.{Amounts, written, left}
+use Rattle.mm_plan.specs.Fit.{in_step}
+
+-- in each other step both plans have the same amounts
+abbrev pub SameElsewhere : Dumping → Amounts → Amounts → ℕ → Type 0
+SameElsewhere q x y t = (s u : ℕ) → s < length q.rows → 1 ≤ u → u ≤ length q.windows → u ≢ t → y s u ≡ x s u
+
+-- the amounts of the step by the second plan are those by the first, cut down to what is written
+abbrev pub IsCutAt : Dumping → Amounts → Amounts → ℕ → Type 0
+IsCutAt q x y t = (s : ℕ) → s < length q.rows → y s t ≡ min (x s t) (written q x s t)
+
+-- what stands in each store when a step has ended
+abbrev pub AreLeft : Dumping → Amounts → ℕ → List ℕ → Type 0
+AreLeft q x t blocks = (s : ℕ) → s < length q.rows → slice_index blocks s ≡ left q x s t
+
+-- what is to leave each store in a step and what stays are together what was written
+abbrev pub AreSplit : Dumping → Amounts → ℕ → List ℕ → Type 0
+AreSplit q x t blocks = (s : ℕ) → s < length q.rows → x s t + slice_index blocks s ≡ written q x s t
+
+-- so many blocks more may leave a store in a step, and no more
+pub record IsRoom (q : Dumping) (x : Amounts) (s t n : ℕ) : Type 0 where
+  pub windowed : sum_by (in_step x t) (stores q) + n ≤ window q t
+  pub limited : (b : ℕ) → limit q (channel q s) ≡ Some b → sum_by (in_step x t) (stores_of q (channel q s)) + n ≤ b
+  pub used :
+      sum_by (in_step x t) (stores q) + n ≡ window q t
+      ⊎ limit q (channel q s) ≡ Some (sum_by (in_step x t) (stores_of q (channel q s)) + n)
