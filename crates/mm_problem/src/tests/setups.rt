@@ -3,375 +3,361 @@ use super::{ROUTE, STORE, id, joined, repeated};
 use crate::{Kind, LimitRow, RouteRow, Setup, StoreRow};
 use std::alloc::Global;
 use std::process::Abort;
-use std::test::Fail;
 
 // The text is refused with this fault.
-fn refused(rt: &impl Abort, alloc: Global, text: &[u8], fault: &str) -> Result<(), Fail> {
+fn refused(rt: &impl Abort, alloc: Global, text: &[u8], fault: &str) {
     let answer = match Setup::read(alloc, text) {
-        Ok(_) => String::from_str(alloc, "read")?,
-        Err(fault) => format!(in alloc; "{fault}")?,
+        Ok(_) => String::from_str(alloc, "read").expect(rt, "memory"),
+        Err(fault) => fault.to_string(alloc).expect(rt, "memory"),
     };
     assert_eq!(rt; answer.as_str(), fault);
-    Ok(())
 }
 
 // A store's table with these lines is refused.
-fn refused_store(rt: &impl Abort, alloc: Global, lines: &str, fault: &str) -> Result<(), Fail> {
-    let text = joined(alloc, &["[[store]]\n", lines])?;
-    refused(rt, alloc, text.as_bytes(), fault)
+fn refused_store(rt: &impl Abort, alloc: Global, lines: &str, fault: &str) {
+    let text = joined(rt, alloc, &["[[store]]\n", lines]);
+    refused(rt, alloc, text.as_bytes(), fault);
 }
 
 // These lines are refused behind a good store.
-fn refused_behind_store(
-    rt: &impl Abort,
-    alloc: Global,
-    lines: &str,
-    fault: &str,
-) -> Result<(), Fail> {
-    let text = joined(alloc, &[STORE, lines])?;
-    refused(rt, alloc, text.as_bytes(), fault)
+fn refused_behind_store(rt: &impl Abort, alloc: Global, lines: &str, fault: &str) {
+    let text = joined(rt, alloc, &[STORE, lines]);
+    refused(rt, alloc, text.as_bytes(), fault);
 }
 
-#[test]
-fn setup_texts_refused(rt: HostRuntime) -> Result<(), Fail> {
-    let alloc = rt.alloc();
-    refused(&rt, alloc, b"[[store", "27 SetupText")?;
-    refused(&rt, alloc, b"", "28 SetupField row 0 name store")?;
-    refused(&rt, alloc, b"store = []", "33 Limit name stores")?;
-    let colour = joined(alloc, &[STORE, "colour = 1\n", ROUTE])?;
-    refused(
-        &rt,
-        alloc,
-        colour.as_bytes(),
+// Texts of three parts, each joined, are refused with their faults.
+fn refused_parts(rt: &impl Abort, alloc: Global, cases: &[([&str; 3], &str)]) {
+    for (parts, fault) in cases {
+        let text = joined(rt, alloc, parts);
+        refused(rt, alloc, text.as_bytes(), fault);
+    }
+}
+
+static SETUP_TEXTS_REFUSED: [([&str; 3], &str); 6] = [
+    (["[[store", "", ""], "27 SetupText"),
+    (["", "", ""], "28 SetupField row 0 name store"),
+    (["store = []", "", ""], "33 Limit name stores"),
+    (
+        [STORE, "colour = 1\n", ROUTE],
         "28 SetupField row 1 name unknown",
-    )?;
-    let unknown_store = joined(
-        alloc,
-        &[
+    ),
+    (
+        [
             STORE,
             "[[route]]\napid = 100\nservice = 3\nsubtype = 25\nstore = \"HK\"\n",
+            "",
         ],
-    )?;
-    refused(
-        &rt,
-        alloc,
-        unknown_store.as_bytes(),
         "28 SetupField row 1 name store",
-    )?;
-    let twice = joined(alloc, &[STORE, STORE, ROUTE])?;
-    refused(
-        &rt,
-        alloc,
-        twice.as_bytes(),
-        "28 SetupField row 2 name repeated",
-    )?;
-    Ok(())
-}
+    ),
+    ([STORE, STORE, ROUTE], "28 SetupField row 2 name repeated"),
+];
 
 #[test]
-fn documents_refused(rt: HostRuntime) -> Result<(), Fail> {
+fn setup_texts_refused(rt: HostRuntime) {
+    refused_parts(&rt, rt.alloc(), &SETUP_TEXTS_REFUSED)
+}
+
+static DOCUMENTS_REFUSED: [(&str, &str); 13] = [
+    ("store", "27 SetupText"),
+    ("store = [1", "27 SetupText"),
+    ("title = 1", "28 SetupField row 0 name unknown"),
+    ("store = 3\ntitle = 1", "28 SetupField row 0 name unknown"),
+    ("store = 3", "28 SetupField row 0 name store"),
+    ("[store]\nid = \"SCI\"", "28 SetupField row 0 name store"),
+    ("route = 3", "28 SetupField row 0 name store"),
+    (
+        "store = []\nroute = 3\nlimit = 3",
+        "28 SetupField row 0 name route",
+    ),
+    ("store = []\nlimit = {}", "28 SetupField row 0 name limit"),
+    (
+        "store = [1, 2, 3, 4, 5, 6, 7, 8, 9, 10, 11, 12, 13, 14, 15, 16, 17]",
+        "33 Limit name stores",
+    ),
+    (
+        "store = []\nlimit = [1, 2, 3, 4, 5, 6, 7, 8, 9]",
+        "33 Limit name stores",
+    ),
+    (
+        "store = [1]\nlimit = [1, 2, 3, 4, 5, 6, 7, 8, 9]",
+        "33 Limit name limits",
+    ),
+    ("store = [1]\nroute = [1]", "28 SetupField row 1 name store"),
+];
+
+#[test]
+fn documents_refused(rt: HostRuntime) {
     let alloc = rt.alloc();
-    refused(&rt, alloc, b"\xff", "27 SetupText")?;
-    let cases = [
-        ("store", "27 SetupText"),
-        ("store = [1", "27 SetupText"),
-        ("title = 1", "28 SetupField row 0 name unknown"),
-        ("store = 3\ntitle = 1", "28 SetupField row 0 name unknown"),
-        ("store = 3", "28 SetupField row 0 name store"),
-        ("[store]\nid = \"SCI\"", "28 SetupField row 0 name store"),
-        ("route = 3", "28 SetupField row 0 name store"),
-        (
-            "store = []\nroute = 3\nlimit = 3",
-            "28 SetupField row 0 name route",
-        ),
-        ("store = []\nlimit = {}", "28 SetupField row 0 name limit"),
-        (
-            "store = [1, 2, 3, 4, 5, 6, 7, 8, 9, 10, 11, 12, 13, 14, 15, 16, 17]",
-            "33 Limit name stores",
-        ),
-        (
-            "store = []\nlimit = [1, 2, 3, 4, 5, 6, 7, 8, 9]",
-            "33 Limit name stores",
-        ),
-        (
-            "store = [1]\nlimit = [1, 2, 3, 4, 5, 6, 7, 8, 9]",
-            "33 Limit name limits",
-        ),
-        ("store = [1]\nroute = [1]", "28 SetupField row 1 name store"),
-    ];
-    for (text, fault) in cases {
-        refused(&rt, alloc, text.as_bytes(), fault)?;
+    refused(&rt, alloc, b"\xff", "27 SetupText");
+    for (text, fault) in &DOCUMENTS_REFUSED {
+        refused(&rt, alloc, text.as_bytes(), fault);
     }
     let mut routes = repeated(
+        &rt,
         alloc,
         "store = [1]\nlimit = [1, 2, 3, 4, 5, 6, 7, 8, 9]\nroute = [",
         "1, ",
         257,
-    )?;
-    routes.push_str("]")?;
-    refused(&rt, alloc, routes.as_bytes(), "33 Limit name routes")?;
-    Ok(())
+    );
+    routes.push_str("]").expect(&rt, "memory");
+    refused(&rt, alloc, routes.as_bytes(), "33 Limit name routes");
 }
 
-#[test]
-fn stores_refused(rt: HostRuntime) -> Result<(), Fail> {
-    let alloc = rt.alloc();
-    let cases = [
-        (
-            "size = 4\ntype = \"bounded\"\nchannel = 0\nid = 7",
-            "28 SetupField row 1 name id",
-        ),
-        (
-            "size = 4\ntype = \"bounded\"\nchannel = 0",
-            "28 SetupField row 1 name id",
-        ),
-        (
-            "id = \"sci\"\nsize = 4\ntype = \"bounded\"\nchannel = 0",
-            "28 SetupField row 1 name id",
-        ),
-        (
-            "id = \"\"\nsize = 4\ntype = \"bounded\"\nchannel = 0",
-            "28 SetupField row 1 name id",
-        ),
-        (
-            "id = \"ABCDEFGHI\"\nsize = 4\ntype = \"bounded\"\nchannel = 0",
-            "28 SetupField row 1 name id",
-        ),
-        (
-            "id = \"SCI\"\ntype = \"bounded\"\nchannel = 0",
-            "28 SetupField row 1 name size",
-        ),
-        (
-            "id = \"SCI\"\nsize = \"4\"\ntype = \"bounded\"\nchannel = 0",
-            "28 SetupField row 1 name size",
-        ),
-        (
-            "id = \"SCI\"\nsize = 4.0\ntype = \"bounded\"\nchannel = 0",
-            "28 SetupField row 1 name size",
-        ),
-        (
-            "id = \"SCI\"\nsize = true\ntype = \"bounded\"\nchannel = 0",
-            "28 SetupField row 1 name size",
-        ),
-        (
-            "id = \"SCI\"\nsize = 1979-05-27\ntype = \"bounded\"\nchannel = 0",
-            "28 SetupField row 1 name size",
-        ),
-        (
-            "id = \"SCI\"\nsize = 0\ntype = \"bounded\"\nchannel = 0",
-            "33 Limit name size",
-        ),
-        (
-            "id = \"SCI\"\nsize = -4\ntype = \"bounded\"\nchannel = 0",
-            "33 Limit name size",
-        ),
-        (
-            "id = \"SCI\"\nsize = 1000001\ntype = \"bounded\"\nchannel = 0",
-            "33 Limit name size",
-        ),
-        (
-            "id = \"SCI\"\nsize = 9223372036854775807\ntype = 1\nchannel = 0",
-            "33 Limit name size",
-        ),
-        (
-            "id = \"SCI\"\nsize = 9223372036854775808\ntype = \"bounded\"\nchannel = 0",
-            "27 SetupText",
-        ),
-        (
-            "id = \"SCI\"\nsize = 4\nsize = 4\ntype = \"bounded\"\nchannel = 0",
-            "27 SetupText",
-        ),
-        (
-            "id = \"SCI\"\nsize = 4\nchannel = 0",
-            "28 SetupField row 1 name type",
-        ),
-        (
-            "id = \"SCI\"\nsize = 4\ntype = 1\nchannel = 0",
-            "28 SetupField row 1 name type",
-        ),
-        (
-            "id = \"SCI\"\nsize = 4\ntype = \"Bounded\"\nchannel = 0",
-            "28 SetupField row 1 name type",
-        ),
-        (
-            "id = \"SCI\"\nsize = 4\ntype = \"bounded\"",
-            "28 SetupField row 1 name channel",
-        ),
-        (
-            "id = \"SCI\"\nsize = 4\ntype = \"bounded\"\nchannel = \"0\"",
-            "28 SetupField row 1 name channel",
-        ),
-        (
-            "id = \"SCI\"\nsize = 4\ntype = \"bounded\"\nchannel = 8",
-            "33 Limit name channel",
-        ),
-        (
-            "id = \"SCI\"\nsize = 4\ntype = \"bounded\"\nchannel = -1",
-            "33 Limit name channel",
-        ),
-        (
-            "id = \"SCI\"\nsize = 4\ntype = \"bounded\"\nchannel = 0\nstart = \"1\"",
-            "28 SetupField row 1 name start",
-        ),
-        (
-            "id = \"SCI\"\nsize = 4\ntype = \"bounded\"\nchannel = 0\nstart = 5",
-            "33 Limit name start",
-        ),
-        (
-            "id = \"SCI\"\nsize = 4\ntype = \"bounded\"\nchannel = 0\nstart = -1",
-            "33 Limit name start",
-        ),
-        // several faults: a strange key first, then the keys in their order
-        (
-            "id = \"sci\"\nsize = 0\ntype = \"ring\"\nchannel = 8\nstart = 5\ncolour = 1",
-            "28 SetupField row 1 name unknown",
-        ),
-        (
-            "start = 5\nchannel = 8\ntype = \"ring\"\nsize = 0\nid = \"sci\"",
-            "28 SetupField row 1 name id",
-        ),
-        (
-            "start = 5\nchannel = 8\ntype = \"ring\"\nsize = 0\nid = \"SCI\"",
-            "33 Limit name size",
-        ),
-        (
-            "start = 5\nchannel = 8\ntype = \"ring\"\nsize = 4\nid = \"SCI\"",
-            "28 SetupField row 1 name type",
-        ),
-        (
-            "start = 5\nchannel = 8\ntype = \"bounded\"\nsize = 4\nid = \"SCI\"",
-            "33 Limit name channel",
-        ),
-    ];
-    for (lines, fault) in cases {
-        refused_store(&rt, alloc, lines, fault)?;
-    }
-    Ok(())
-}
+static STORES_REFUSED: [(&str, &str); 31] = [
+    (
+        "size = 4\ntype = \"bounded\"\nchannel = 0\nid = 7",
+        "28 SetupField row 1 name id",
+    ),
+    (
+        "size = 4\ntype = \"bounded\"\nchannel = 0",
+        "28 SetupField row 1 name id",
+    ),
+    (
+        "id = \"sci\"\nsize = 4\ntype = \"bounded\"\nchannel = 0",
+        "28 SetupField row 1 name id",
+    ),
+    (
+        "id = \"\"\nsize = 4\ntype = \"bounded\"\nchannel = 0",
+        "28 SetupField row 1 name id",
+    ),
+    (
+        "id = \"ABCDEFGHI\"\nsize = 4\ntype = \"bounded\"\nchannel = 0",
+        "28 SetupField row 1 name id",
+    ),
+    (
+        "id = \"SCI\"\ntype = \"bounded\"\nchannel = 0",
+        "28 SetupField row 1 name size",
+    ),
+    (
+        "id = \"SCI\"\nsize = \"4\"\ntype = \"bounded\"\nchannel = 0",
+        "28 SetupField row 1 name size",
+    ),
+    (
+        "id = \"SCI\"\nsize = 4.0\ntype = \"bounded\"\nchannel = 0",
+        "28 SetupField row 1 name size",
+    ),
+    (
+        "id = \"SCI\"\nsize = true\ntype = \"bounded\"\nchannel = 0",
+        "28 SetupField row 1 name size",
+    ),
+    (
+        "id = \"SCI\"\nsize = 1979-05-27\ntype = \"bounded\"\nchannel = 0",
+        "28 SetupField row 1 name size",
+    ),
+    (
+        "id = \"SCI\"\nsize = 0\ntype = \"bounded\"\nchannel = 0",
+        "33 Limit name size",
+    ),
+    (
+        "id = \"SCI\"\nsize = -4\ntype = \"bounded\"\nchannel = 0",
+        "33 Limit name size",
+    ),
+    (
+        "id = \"SCI\"\nsize = 1000001\ntype = \"bounded\"\nchannel = 0",
+        "33 Limit name size",
+    ),
+    (
+        "id = \"SCI\"\nsize = 9223372036854775807\ntype = 1\nchannel = 0",
+        "33 Limit name size",
+    ),
+    (
+        "id = \"SCI\"\nsize = 9223372036854775808\ntype = \"bounded\"\nchannel = 0",
+        "27 SetupText",
+    ),
+    (
+        "id = \"SCI\"\nsize = 4\nsize = 4\ntype = \"bounded\"\nchannel = 0",
+        "27 SetupText",
+    ),
+    (
+        "id = \"SCI\"\nsize = 4\nchannel = 0",
+        "28 SetupField row 1 name type",
+    ),
+    (
+        "id = \"SCI\"\nsize = 4\ntype = 1\nchannel = 0",
+        "28 SetupField row 1 name type",
+    ),
+    (
+        "id = \"SCI\"\nsize = 4\ntype = \"Bounded\"\nchannel = 0",
+        "28 SetupField row 1 name type",
+    ),
+    (
+        "id = \"SCI\"\nsize = 4\ntype = \"bounded\"",
+        "28 SetupField row 1 name channel",
+    ),
+    (
+        "id = \"SCI\"\nsize = 4\ntype = \"bounded\"\nchannel = \"0\"",
+        "28 SetupField row 1 name channel",
+    ),
+    (
+        "id = \"SCI\"\nsize = 4\ntype = \"bounded\"\nchannel = 8",
+        "33 Limit name channel",
+    ),
+    (
+        "id = \"SCI\"\nsize = 4\ntype = \"bounded\"\nchannel = -1",
+        "33 Limit name channel",
+    ),
+    (
+        "id = \"SCI\"\nsize = 4\ntype = \"bounded\"\nchannel = 0\nstart = \"1\"",
+        "28 SetupField row 1 name start",
+    ),
+    (
+        "id = \"SCI\"\nsize = 4\ntype = \"bounded\"\nchannel = 0\nstart = 5",
+        "33 Limit name start",
+    ),
+    (
+        "id = \"SCI\"\nsize = 4\ntype = \"bounded\"\nchannel = 0\nstart = -1",
+        "33 Limit name start",
+    ),
+    // several faults: a strange key first, then the keys in their order
+    (
+        "id = \"sci\"\nsize = 0\ntype = \"ring\"\nchannel = 8\nstart = 5\ncolour = 1",
+        "28 SetupField row 1 name unknown",
+    ),
+    (
+        "start = 5\nchannel = 8\ntype = \"ring\"\nsize = 0\nid = \"sci\"",
+        "28 SetupField row 1 name id",
+    ),
+    (
+        "start = 5\nchannel = 8\ntype = \"ring\"\nsize = 0\nid = \"SCI\"",
+        "33 Limit name size",
+    ),
+    (
+        "start = 5\nchannel = 8\ntype = \"ring\"\nsize = 4\nid = \"SCI\"",
+        "28 SetupField row 1 name type",
+    ),
+    (
+        "start = 5\nchannel = 8\ntype = \"bounded\"\nsize = 4\nid = \"SCI\"",
+        "33 Limit name channel",
+    ),
+];
 
 #[test]
-fn routes_refused(rt: HostRuntime) -> Result<(), Fail> {
+fn stores_refused(rt: HostRuntime) {
     let alloc = rt.alloc();
-    let cases = [
-        (
-            "[[route]]\nservice = 3\nsubtype = 25\nstore = \"SCI\"",
-            "28 SetupField row 1 name apid",
-        ),
-        (
-            "[[route]]\napid = 2047\nservice = 3\nsubtype = 25\nstore = \"SCI\"",
-            "33 Limit name apid",
-        ),
-        (
-            "[[route]]\napid = 100\nsubtype = 25\nstore = \"SCI\"",
-            "28 SetupField row 1 name service",
-        ),
-        (
-            "[[route]]\napid = 100\nservice = 256\nsubtype = 25\nstore = \"SCI\"",
-            "33 Limit name service",
-        ),
-        (
-            "[[route]]\napid = 100\nservice = 3\nsubtype = []\nstore = \"SCI\"",
-            "28 SetupField row 1 name subtype",
-        ),
-        (
-            "[[route]]\napid = 100\nservice = 3\nsubtype = -1\nstore = \"SCI\"",
-            "33 Limit name subtype",
-        ),
-        (
-            "[[route]]\napid = 100\nservice = 3\nsubtype = 25",
-            "28 SetupField row 1 name store",
-        ),
-        (
-            "[[route]]\napid = 100\nservice = 3\nsubtype = 25\nstore = 1",
-            "28 SetupField row 1 name store",
-        ),
-        (
-            "[[route]]\napid = 100\nservice = 3\nsubtype = 25\nstore = \"SCI\"\nsize = 1",
-            "28 SetupField row 1 name unknown",
-        ),
-    ];
-    for (lines, fault) in cases {
-        refused_behind_store(&rt, alloc, lines, fault)?;
+    for (lines, fault) in &STORES_REFUSED {
+        refused_store(&rt, alloc, lines, fault);
     }
-    let twice = joined(alloc, &[STORE, ROUTE, ROUTE])?;
-    refused(
-        &rt,
-        alloc,
-        twice.as_bytes(),
-        "28 SetupField row 2 name repeated",
-    )?;
-    let no_table = joined(alloc, &["route = [1]\n", STORE])?;
-    refused(
-        &rt,
-        alloc,
-        no_table.as_bytes(),
+}
+
+static ROUTES_REFUSED: [(&str, &str); 9] = [
+    (
+        "[[route]]\nservice = 3\nsubtype = 25\nstore = \"SCI\"",
+        "28 SetupField row 1 name apid",
+    ),
+    (
+        "[[route]]\napid = 2047\nservice = 3\nsubtype = 25\nstore = \"SCI\"",
+        "33 Limit name apid",
+    ),
+    (
+        "[[route]]\napid = 100\nsubtype = 25\nstore = \"SCI\"",
+        "28 SetupField row 1 name service",
+    ),
+    (
+        "[[route]]\napid = 100\nservice = 256\nsubtype = 25\nstore = \"SCI\"",
+        "33 Limit name service",
+    ),
+    (
+        "[[route]]\napid = 100\nservice = 3\nsubtype = []\nstore = \"SCI\"",
+        "28 SetupField row 1 name subtype",
+    ),
+    (
+        "[[route]]\napid = 100\nservice = 3\nsubtype = -1\nstore = \"SCI\"",
+        "33 Limit name subtype",
+    ),
+    (
+        "[[route]]\napid = 100\nservice = 3\nsubtype = 25",
+        "28 SetupField row 1 name store",
+    ),
+    (
+        "[[route]]\napid = 100\nservice = 3\nsubtype = 25\nstore = 1",
+        "28 SetupField row 1 name store",
+    ),
+    (
+        "[[route]]\napid = 100\nservice = 3\nsubtype = 25\nstore = \"SCI\"\nsize = 1",
+        "28 SetupField row 1 name unknown",
+    ),
+];
+
+static ROUTE_TEXTS_REFUSED: [([&str; 3], &str); 2] = [
+    ([STORE, ROUTE, ROUTE], "28 SetupField row 2 name repeated"),
+    (
+        ["route = [1]\n", STORE, ""],
         "28 SetupField row 1 name route",
-    )?;
-    Ok(())
-}
+    ),
+];
 
 #[test]
-fn limits_refused(rt: HostRuntime) -> Result<(), Fail> {
+fn routes_refused(rt: HostRuntime) {
     let alloc = rt.alloc();
-    let cases = [
-        ("[[limit]]\nblocks = 1", "28 SetupField row 1 name channel"),
-        (
-            "[[limit]]\nchannel = 8\nblocks = 1",
-            "33 Limit name channel",
-        ),
-        ("[[limit]]\nchannel = 0", "28 SetupField row 1 name blocks"),
-        (
-            "[[limit]]\nchannel = 0\nblocks = 1.5",
-            "28 SetupField row 1 name blocks",
-        ),
-        (
-            "[[limit]]\nchannel = 0\nblocks = 1000001",
-            "33 Limit name blocks",
-        ),
-        (
-            "[[limit]]\nchannel = 0\nblocks = 1\nsize = 1",
-            "28 SetupField row 1 name unknown",
-        ),
-        (
-            "[[limit]]\nchannel = 0\nblocks = 1\n[[limit]]\nchannel = 0\nblocks = 2",
-            "28 SetupField row 2 name repeated",
-        ),
-        (
-            "[limit]\nchannel = 0\nblocks = 1",
-            "28 SetupField row 0 name limit",
-        ),
-    ];
-    for (lines, fault) in cases {
-        refused_behind_store(&rt, alloc, lines, fault)?;
+    for (lines, fault) in &ROUTES_REFUSED {
+        refused_behind_store(&rt, alloc, lines, fault);
     }
-    let no_table = joined(alloc, &["limit = [1]\n", STORE])?;
-    refused(
+    refused_parts(&rt, alloc, &ROUTE_TEXTS_REFUSED)
+}
+
+static LIMITS_REFUSED: [(&str, &str); 8] = [
+    ("[[limit]]\nblocks = 1", "28 SetupField row 1 name channel"),
+    (
+        "[[limit]]\nchannel = 8\nblocks = 1",
+        "33 Limit name channel",
+    ),
+    ("[[limit]]\nchannel = 0", "28 SetupField row 1 name blocks"),
+    (
+        "[[limit]]\nchannel = 0\nblocks = 1.5",
+        "28 SetupField row 1 name blocks",
+    ),
+    (
+        "[[limit]]\nchannel = 0\nblocks = 1000001",
+        "33 Limit name blocks",
+    ),
+    (
+        "[[limit]]\nchannel = 0\nblocks = 1\nsize = 1",
+        "28 SetupField row 1 name unknown",
+    ),
+    (
+        "[[limit]]\nchannel = 0\nblocks = 1\n[[limit]]\nchannel = 0\nblocks = 2",
+        "28 SetupField row 2 name repeated",
+    ),
+    (
+        "[limit]\nchannel = 0\nblocks = 1",
+        "28 SetupField row 0 name limit",
+    ),
+];
+
+#[test]
+fn limits_refused(rt: HostRuntime) {
+    let alloc = rt.alloc();
+    for (lines, fault) in &LIMITS_REFUSED {
+        refused_behind_store(&rt, alloc, lines, fault);
+    }
+    refused_parts(
         &rt,
         alloc,
-        no_table.as_bytes(),
-        "28 SetupField row 1 name limit",
-    )?;
-    Ok(())
+        &[(
+            ["limit = [1]\n", STORE, ""],
+            "28 SetupField row 1 name limit",
+        )],
+    )
 }
 
 #[test]
-fn a_setup_is_read(rt: HostRuntime) -> Result<(), Fail> {
+fn a_setup_is_read(rt: HostRuntime) {
     let alloc = rt.alloc();
     let limits = "[[limit]]\nchannel = 7\nblocks = 0\n";
     let second =
         "[[store]]\r\nchannel = 0x7\r\ntype = 'circular'\r\nsize = +1_000_000\r\nstart = 2\r\nid = 'HK-1_'\r\n";
-    let text = joined(alloc, &[STORE, second, ROUTE, limits])?;
-    let setup = Setup::read(alloc, text.as_bytes())?;
+    let text = joined(&rt, alloc, &[STORE, second, ROUTE, limits]);
+    let setup = Setup::read(alloc, text.as_bytes()).expect(&rt, "a setup");
     let stores = [
         StoreRow {
-            id: id("SCI")?,
+            id: id(&rt, "SCI"),
             size: 4,
             start: 0,
             kind: Kind::Bounded,
             channel: 0,
         },
         StoreRow {
-            id: id("HK-1_")?,
+            id: id(&rt, "HK-1_"),
             size: 1_000_000,
             start: 2,
             kind: Kind::Circular,
@@ -383,7 +369,7 @@ fn a_setup_is_read(rt: HostRuntime) -> Result<(), Fail> {
         apid: 100,
         service: 3,
         subtype: 25,
-        store: id("SCI")?,
+        store: id(&rt, "SCI"),
     }];
     assert_eq!(rt; setup.routes(), routes.as_slice());
     assert_eq!(rt;
@@ -394,15 +380,13 @@ fn a_setup_is_read(rt: HostRuntime) -> Result<(), Fail> {
         }]
         .as_slice()
     );
-    Ok(())
 }
 
 #[test]
-fn empty_arrays_are_as_none(rt: HostRuntime) -> Result<(), Fail> {
-    let text = joined(rt.alloc(), &["route = []\nlimit = []\n", STORE])?;
-    let setup = Setup::read(rt.alloc(), text.as_bytes())?;
+fn empty_arrays_are_as_none(rt: HostRuntime) {
+    let text = joined(&rt, rt.alloc(), &["route = []\nlimit = []\n", STORE]);
+    let setup = Setup::read(rt.alloc(), text.as_bytes()).expect(&rt, "a setup");
     assert_eq!(rt; setup.stores().len(), 1);
     assert!(rt; setup.routes().is_empty());
     assert!(rt; setup.limits().is_empty());
-    Ok(())
 }
