@@ -3,3 +3,7 @@ pub mod Taken
 pub mod Runs
 pub mod Planned
 pub mod Growing
+pub mod Lines
+pub mod CheckFault
+pub mod Checking
+pub mod PlanTexts

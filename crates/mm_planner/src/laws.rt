@@ -1,9 +1,17 @@
-//! What holds of every solution of a problem's network, whatever solves it.
+//! What holds of every solution of a problem's network, whatever solves it, and of every text that plans least.
 ghost use Rattle.mm_planner.specs.Planned.{SolutionsPlan};
+ghost use Rattle.mm_planner.specs.PlanTexts.{PlansCheckLeast};
 
 /// Every solution of a problem's network gives a plan that loses least and the cut that shows it.
 pub fn solutions_plan()
     ensures { SolutionsPlan }
 {
     mm_cut::cuts_bound_losses()
+}
+
+/// Whatever `check_bytes` may say of a text that `plan_bytes` may answer is `Least` of the plan's loss.
+pub fn plans_check_least()
+    ensures { PlansCheckLeast }
+{
+    mm_cut::verdicts_exclude()
 }

@@ -1,10 +1,12 @@
 //! The sheet of a plan that loses least.
-ghost use Rattle.std.specs.Prelude.{◌≡◌, pos, map, IfOk};
-ghost use Rattle.mm_problem.specs.Dumping.{IsDumping};
+ghost use Rattle.std.specs.Prelude.{◌≡◌, ◌<◌, length, pos, map, All, IfOk};
+ghost use Rattle.mm_problem.specs.Dumping.{IsDumping, row};
+ghost use Rattle.mm_problem.specs.Id.{IsIdField};
 ghost use Rattle.mm_plan.specs.Table.{amount, HasShape};
 ghost use Rattle.mm_plan.specs.Volumes.{loss};
 ghost use Rattle.mm_plan.specs.Least.{IsLeast};
-ghost use Rattle.mm_plan.specs.Sheet.{IsShapedFor};
+ghost use Rattle.mm_plan.specs.Filled.{IsFilled};
+ghost use Rattle.mm_plan.specs.Sheet.{IsSheet, IsShapedFor};
 ghost use Rattle.mm_cut.specs.Cuts.{IsCut, bound};
 
 use crate::fault::NoMemory;
@@ -13,22 +15,38 @@ use mm_plan::Sheet;
 use mm_problem::{Problem, StoreId};
 use std::alloc::Global;
 
+// The identifier of a store, which is well formed.
+fn store_id(problem: &Problem, store: usize) -> StoreId
+    requires store { store < length problem.now.rows }
+    ensures id { result ≡ (row problem.now store).id }
+    ensures is_field { IsIdField result }
+{
+    let id = problem.id(store);
+    let _field = id.field();
+    id
+}
+
 // The identifiers of the stores, in the problem's order.
 fn store_ids(alloc: Global, problem: &Problem) -> Result<Vec<StoreId>, NoMemory>
-    ensures { IfOk result (λ ids. ids.items ≡ map (λ row. row.id) problem.now.rows) }
+    ensures ids { IfOk result (λ ids. ids.items ≡ map (λ row. row.id) problem.now.rows) }
+    ensures each { IfOk result (λ ids. All IsIdField ids.items) }
+    ensures problem { IsDumping problem.now }
 {
     let mut ids = Vec::new(alloc);
     for store in 0..problem.stores() {
-        ids.push(problem.id(store))?;
+        ids.push(store_id(problem, store))?;
     }
     Ok(ids)
 }
 
-/// The sheet of a dump plan that loses least: the stores, the plan with its loss, and a cut whose bound is the loss.
+/// The sheet of a dump plan that loses least and leaves no window idle: the stores, the plan with its loss, and a cut
+/// whose bound is the loss.
 pub fn sheet(alloc: Global, problem: &Problem) -> Result<Sheet, NoMemory>
+    ensures is_sheet { IfOk result IsSheet }
     ensures stores { IfOk result (IsShapedFor problem.now) }
     ensures shape { IfOk result (λ sheet. HasShape problem.now sheet.plan) }
     ensures least { IfOk result (λ sheet. IsLeast problem.now (amount sheet.plan)) }
+    ensures filled { IfOk result (λ sheet. IsFilled problem.now (amount sheet.plan)) }
     ensures cut { IfOk result (λ sheet. IsCut problem.now sheet.cut sheet.by_channels) }
 
     // What the sheet says of loss and bound is so, and the two are one number.

@@ -1,13 +1,18 @@
 //! The command line.
 
 use clap::error::ErrorKind;
-use clap::{Arg, Command, Error};
+use clap::{Arg, ArgMatches, Command, Error};
 use std::alloc::{AllocError, Global};
 use std::convert::AsStr;
 
 /// What the program is asked to do.
 #[derive(Clone, Copy, Debug, PartialEq, Eq)]
 pub enum Task<'a> {
+    /// Plan the dumps so that least is lost.
+    Plan {
+        setup: &'a str,
+        forecast: &'a str,
+    },
     /// Say whether the plan loses least.
     Check {
         setup: &'a str,
@@ -22,11 +27,36 @@ const TOOL_HELP: &str = "\
 Without words the program reads a script from standard input: a first line with the words, and then
 each file under a line `=== NAME`.
 
-Example:
+Examples:
+  mm_tool plan setup.toml forecast.csv
   mm_tool check setup.toml forecast.csv plan.txt
 
 Exit status: 0 where the task is done and, for check, the plan is least; 1 where a file is refused, the
 verdict is another, or a write failed; 2 where the command line is no good, or help was asked for.";
+
+const SETUP_HELP: &str = "The packet stores, routes and limits of channels, in TOML";
+
+const FORECAST_HELP: &str = "The windows and arrivals of each step, in CSV";
+
+const PLAN_ABOUT: &str = "Plans the dumps so that the fewest blocks are lost";
+
+const PLAN_HELP: &str = "\
+Prints a plan text:
+  mmplan 1 or 2               the form; 2 has `count` lines
+  stores ID ..                the stores
+  dump T N ..                 how many blocks leave each store in step T
+  loss N                      how many blocks are lost
+  stretch ID I J              the cut: steps I to J of a store
+  count T channels            in step T of the cut the limits of channels count, and not the window
+  bound N                     no plan that fits loses fewer than N blocks; it is the loss
+  end
+or one line:
+  refused NUMBER NAME ..      a file was not read, or is not what it should be
+
+Example:
+  mm_tool plan setup.toml forecast.csv
+
+The formats are described in docs/FORMATS.md. Exit status: 0 for a plan text, 1 for a refusal.";
 
 const CHECK_ABOUT: &str = "Says whether a dump plan loses least";
 
@@ -50,20 +80,20 @@ fn file<'a>(alloc: Global, name: &'a str, help: &'a str) -> Arg<'a> {
     Arg::new(alloc, name).required(true).help(help)
 }
 
+fn plan_command<'a>(alloc: Global) -> Result<Command<'a>, AllocError> {
+    Command::new(alloc, "plan")
+        .about(PLAN_ABOUT)
+        .after_help(PLAN_HELP)
+        .arg(file(alloc, "SETUP", SETUP_HELP))?
+        .arg(file(alloc, "FORECAST", FORECAST_HELP))
+}
+
 fn check_command<'a>(alloc: Global) -> Result<Command<'a>, AllocError> {
     Command::new(alloc, "check")
         .about(CHECK_ABOUT)
         .after_help(CHECK_HELP)
-        .arg(file(
-            alloc,
-            "SETUP",
-            "The packet stores, routes and limits of channels, in TOML",
-        ))?
-        .arg(file(
-            alloc,
-            "FORECAST",
-            "The windows and arrivals of each step, in CSV",
-        ))?
+        .arg(file(alloc, "SETUP", SETUP_HELP))?
+        .arg(file(alloc, "FORECAST", FORECAST_HELP))?
         .arg(file(alloc, "PLAN", "The dump plan with its loss and its cut"))
 }
 
@@ -75,25 +105,36 @@ fn tool_command<'a>(alloc: Global) -> Result<Command<'a>, AllocError> {
         .no_binary_name(true)
         .subcommand_required(true)
         .arg_required_else_help(true)
+        .subcommand(plan_command(alloc)?)?
         .subcommand(check_command(alloc)?)
+}
+
+fn plan_task<'a>(files: &ArgMatches<'a>) -> Option<Task<'a>> {
+    Some(Task::Plan {
+        setup: files.get_str("SETUP")?,
+        forecast: files.get_str("FORECAST")?,
+    })
+}
+
+fn check_task<'a>(files: &ArgMatches<'a>) -> Option<Task<'a>> {
+    Some(Task::Check {
+        setup: files.get_str("SETUP")?,
+        forecast: files.get_str("FORECAST")?,
+        plan: files.get_str("PLAN")?,
+    })
 }
 
 /// What the words ask for; the error has the text for the user.
 pub fn parse<'a, S: AsStr>(alloc: Global, words: &'a [S]) -> Result<Task<'a>, Error> {
     let mut command = tool_command(alloc)?;
     let matches = command.try_get_matches_from_mut(words)?;
-    if let Some(("check", files)) = matches.subcommand() {
-        if let (Some(setup), Some(forecast), Some(plan)) = (
-            files.get_str("SETUP"),
-            files.get_str("FORECAST"),
-            files.get_str("PLAN"),
-        ) {
-            return Ok(Task::Check {
-                setup,
-                forecast,
-                plan,
-            });
-        }
+    let task = match matches.subcommand() {
+        Some(("plan", files)) => plan_task(files),
+        Some(("check", files)) => check_task(files),
+        _ => None,
+    };
+    match task {
+        Some(task) => Ok(task),
+        None => Err(command.error(ErrorKind::InvalidSubcommand, "no such command")?),
     }
-    Err(command.error(ErrorKind::InvalidSubcommand, "no such command")?)
 }

@@ -1,10 +1,8 @@
-//! The programs for mission planning: they read a setup, a forecast and a dump plan, and judge the plan.
+//! The programs for mission planning: they read a setup and a forecast and plan the dumps, or judge a plan.
 #![tactic(auto)]
 
-mod check;
 mod command;
 mod files;
-mod lines;
 mod run;
 mod script;
 #[cfg(test)]

@@ -1,12 +1,12 @@
 //! The program, over any files and any writers.
 ghost use Rattle.std.specs.Prelude.{◌≤◌};
 
-use crate::check::{Fault, check_bytes};
 use crate::command::{Task, parse};
 use crate::files::{Files, ReadFault};
 use crate::script::{ScriptFiles, split_line};
 use clap::error::ErrorKind;
 use mm_cut::Verdict;
+use mm_planner::{Fault, check_bytes, plan_bytes};
 use std::alloc::{AllocError, Global};
 use std::convert::AsStr;
 use std::io::{self, Write};
@@ -40,7 +40,7 @@ enum Refusal<'a> {
     #[error("50 NotRead name {name}")]
     NotRead { name: &'a str },
     #[error(transparent)]
-    Check(#[from] Fault),
+    Texts(#[from] Fault),
 }
 
 fn read_file<'a, F: Files>(
@@ -55,18 +55,39 @@ fn read_file<'a, F: Files>(
     }
 }
 
-/// The verdict on the plan in the files, with its line.
+/// The plan text for the setup and the forecast in the files.
+fn plan<'a, F: Files>(
+    alloc: Global,
+    files: &mut F,
+    setup: &'a str,
+    forecast: &'a str,
+) -> Result<(Status, Vec<u8>), Refusal<'a>> {
+    let setup = read_file(alloc, files, setup)?;
+    let forecast = read_file(alloc, files, forecast)?;
+    let text = plan_bytes(alloc, &setup, &forecast)?;
+    Ok((Status::Done, text))
+}
+
+fn status_of(verdict: Verdict) -> Status {
+    match verdict {
+        Verdict::Least(_) => Status::Done,
+        _ => Status::Refused,
+    }
+}
+
+/// The line of the verdict on the plan in the files.
 fn check<'a, F: Files>(
     alloc: Global,
     files: &mut F,
     setup: &'a str,
     forecast: &'a str,
     plan: &'a str,
-) -> Result<(Verdict, Vec<u8>), Refusal<'a>> {
+) -> Result<(Status, Vec<u8>), Refusal<'a>> {
     let setup = read_file(alloc, files, setup)?;
     let forecast = read_file(alloc, files, forecast)?;
     let plan = read_file(alloc, files, plan)?;
-    Ok(check_bytes(alloc, &setup, &forecast, &plan)?)
+    let (verdict, line) = check_bytes(alloc, &setup, &forecast, &plan)?;
+    Ok((status_of(verdict), line))
 }
 
 fn carry_out<F: Files, W: Write>(
@@ -75,19 +96,18 @@ fn carry_out<F: Files, W: Write>(
     files: &mut F,
     out: &mut W,
 ) -> io::Result<Status> {
-    let Task::Check {
-        setup,
-        forecast,
-        plan,
-    } = task;
-    match check(alloc, files, setup, forecast, plan) {
-        Ok((verdict, line)) => {
-            out.write_all(&line)?;
-            if let Verdict::Least(_) = verdict {
-                Ok(Status::Done)
-            } else {
-                Ok(Status::Refused)
-            }
+    let done = match task {
+        Task::Plan { setup, forecast } => plan(alloc, files, setup, forecast),
+        Task::Check {
+            setup,
+            forecast,
+            plan,
+        } => check(alloc, files, setup, forecast, plan),
+    };
+    match done {
+        Ok((status, text)) => {
+            out.write_all(&text)?;
+            Ok(status)
         }
         Err(refusal) => {
             writeln!(out, "refused {refusal}")?;

@@ -28,13 +28,59 @@ const SCI_OF_SIZE_2: &str = "[[store]]\nid = \"SCI\"\nsize = 2\ntype = \"bounded
 
 const A: &str = "[[store]]\nid = \"A\"\nsize = 3\ntype = \"bounded\"\nchannel = 0\n";
 
-const LIMIT_1: &str = "[[limit]]\nchannel = 0\nblocks = 1\n";
+const A_OF_SIZE_1: &str = "[[store]]\nid = \"A\"\nsize = 1\ntype = \"bounded\"\nchannel = 0\n";
+
+const A_WITH_LIMIT_1: &str = "\
+[[store]]
+id = \"A\"
+size = 3
+type = \"bounded\"
+channel = 0
+
+[[limit]]
+channel = 0
+blocks = 1
+";
+
+const A_AND_B: &str = "\
+[[store]]
+id = \"A\"
+size = 3
+type = \"bounded\"
+channel = 0
+
+[[store]]
+id = \"B\"
+size = 3
+type = \"bounded\"
+channel = 0
+";
+
+const A_WITH_LIMIT_1_AND_B: &str = "\
+[[store]]
+id = \"A\"
+size = 3
+type = \"bounded\"
+channel = 0
+
+[[store]]
+id = \"B\"
+size = 3
+type = \"bounded\"
+channel = 1
+
+[[limit]]
+channel = 0
+blocks = 1
+";
 
 const THREE_STEPS: &str = "step,window,SCI\n1,2,3\n2,2,3\n3,0,4\n";
 
 const APART: &str = "step,window,SCI\n1,0,5\n2,9,0\n3,0,5\n";
 
 const TWO_STEPS_OF_A: &str = "step,window,A\n1,5,3\n2,0,3\n";
+
+const SHARED_WINDOW: &str = "step,window,A,B\n1,2,3,3\n2,0,2,2\n";
 
 const FIRST_PLAN: &str = "\
 mmplan 1
@@ -89,6 +135,177 @@ fn first_run_answers<R: Abort + AllocGlobal>(
 ) -> Result<(), Fail> {
     let plan = FIRST_PLAN.replace(rt.alloc(), old, new)?;
     check_answers(rt, SCI, THREE_STEPS, plan.as_str(), want)
+}
+
+// What `plan` is to print: the text begins and ends like this, and nothing stands between where it is fixed whole.
+// What is printed is then given to `check`, which answers with the verdict.
+#[derive(Drop)]
+struct Planned<'a> {
+    example: &'a str,
+    setup: &'a str,
+    forecast: &'a str,
+    begins: &'a str,
+    ends: &'a str,
+    is_whole: bool,
+    verdict: &'a str,
+}
+
+fn plans<R: Abort + AllocGlobal>(rt: &R, row: &Planned<'_>) -> Result<(), Fail> {
+    let alloc = rt.alloc();
+    let script = format!(in alloc; "plan S F\n=== S\n{}=== F\n{}", row.setup, row.forecast)?;
+    let (mut out, mut err) = (Vec::new(alloc), Vec::new(alloc));
+    let status = run_script(alloc, script.as_bytes(), &mut out, &mut err);
+    let plan = String::from_utf8(out)?;
+    let example = row.example;
+    assert_eq!(rt; status, 0, "for {example}");
+    assert!(rt; err.is_empty(), "for {example}");
+    assert!(rt; plan.starts_with(row.begins), "for {example}: {plan}");
+    assert!(rt; plan.ends_with(row.ends), "for {example}: {plan}");
+    let between = plan
+        .len()
+        .saturating_sub(row.begins.len())
+        .saturating_sub(row.ends.len());
+    assert!(rt; between == 0 || !row.is_whole, "for {example}: {plan}");
+    check_answers(rt, row.setup, row.forecast, plan.as_str(), row.verdict)
+}
+
+#[test]
+fn plans_of_the_examples(rt: HostRuntime) -> Result<(), Fail> {
+    let rows = [
+        Planned {
+            example: "first_run",
+            setup: SCI,
+            forecast: THREE_STEPS,
+            begins: "mmplan 1\nstores SCI\ndump 1 2\ndump 2 2\ndump 3 0\nloss 2\n",
+            ends: "stretch SCI 1 3\nbound 2\nend\n",
+            is_whole: true,
+            verdict: "least 2\n",
+        },
+        Planned {
+            example: "nothing_arrives",
+            setup: A_OF_SIZE_1,
+            forecast: "step,window,A\n1,5,0\n2,5,0\n",
+            begins: "mmplan 1\nstores A\ndump 1 0\ndump 2 0\nloss 0\n",
+            ends: "bound 0\nend\n",
+            is_whole: true,
+            verdict: "least 0\n",
+        },
+        Planned {
+            example: "more_than_the_store_holds",
+            setup: SCI,
+            forecast: "step,window,SCI\n1,9,9\n",
+            begins: "mmplan 1\nstores SCI\ndump 1 4\nloss 5\n",
+            ends: "stretch SCI 1 1\nbound 5\nend\n",
+            is_whole: true,
+            verdict: "least 5\n",
+        },
+        Planned {
+            example: "foresight_beats_even_split",
+            setup: A_AND_B,
+            forecast: "step,window,A,B\n1,2,3,3\n2,0,2,0\n",
+            begins: "mmplan 1\nstores A B\ndump 1 2 0\ndump 2 0 0\nloss 0\n",
+            ends: "bound 0\nend\n",
+            is_whole: false,
+            verdict: "least 0\n",
+        },
+        Planned {
+            example: "two_stretches_share_a_window",
+            setup: A_AND_B,
+            forecast: SHARED_WINDOW,
+            begins: "mmplan 1\nstores A B\ndump 1 ",
+            ends: "\ndump 2 0 0\nloss 2\nstretch A 1 2\nstretch B 1 2\nbound 2\nend\n",
+            is_whole: false,
+            verdict: "least 2\n",
+        },
+        Planned {
+            example: "two_stretches_of_one_store",
+            setup: SCI_OF_SIZE_2,
+            forecast: APART,
+            begins: "mmplan 1\nstores SCI\ndump 1 0\ndump 2 2\ndump 3 0\nloss 6\nstretch SCI 1 ",
+            ends: "\nbound 6\nend\n",
+            is_whole: false,
+            verdict: "least 6\n",
+        },
+        Planned {
+            example: "opening_contents_plan",
+            setup: SCI_STARTS_WITH_2,
+            forecast: THREE_STEPS,
+            begins: "mmplan 1\nstores SCI\ndump 1 2\ndump 2 2\ndump 3 0\nloss 4\n",
+            ends: "stretch SCI 1 3\nbound 4\nend\n",
+            is_whole: true,
+            verdict: "least 4\n",
+        },
+        Planned {
+            example: "channel_limit_cut",
+            setup: A_WITH_LIMIT_1,
+            forecast: TWO_STEPS_OF_A,
+            begins: "mmplan 2\nstores A\ndump 1 1\ndump 2 0\nloss 2\n",
+            ends: "stretch A 1 2\ncount 1 channels\nbound 2\nend\n",
+            is_whole: true,
+            verdict: "least 2\n",
+        },
+        Planned {
+            example: "channel_limit_shares",
+            setup: A_WITH_LIMIT_1_AND_B,
+            forecast: SHARED_WINDOW,
+            begins: "mmplan 1\nstores A B\ndump 1 ",
+            ends: "\ndump 2 0 0\nloss 2\nstretch A 1 2\nstretch B 1 2\nbound 2\nend\n",
+            is_whole: false,
+            verdict: "least 2\n",
+        },
+    ];
+    for row in &rows {
+        plans(&rt, row)?;
+    }
+    Ok(())
+}
+
+// The numbers from the first up to before the end, each between two texts.
+fn numbered(
+    alloc: Global,
+    first: u32,
+    end: u32,
+    before: &str,
+    after: &str,
+) -> Result<String, Fail> {
+    let mut text = String::new(alloc);
+    for number in first..end {
+        let part = format!(in alloc; "{before}{number}{after}")?;
+        text.push_str(part.as_str())?;
+    }
+    Ok(text)
+}
+
+#[test]
+fn largest_loss(rt: HostRuntime) -> Result<(), Fail> {
+    let alloc = rt.alloc();
+    let setup = numbered(
+        alloc,
+        0,
+        16,
+        "[[store]]\nid = \"S",
+        "\"\nsize = 1\ntype = \"bounded\"\nchannel = 0\n",
+    )?;
+    let columns = numbered(alloc, 0, 16, ",S", "")?;
+    let full = ",1000000".repeat(alloc, 16)?;
+    let arrivals = numbered(alloc, 1, 257, "", format!(in alloc; ",0{full}\n")?.as_str())?;
+    let ids = numbered(alloc, 0, 16, " S", "")?;
+    let none = " 0".repeat(alloc, 16)?;
+    let dumps = numbered(
+        alloc,
+        1,
+        257,
+        "dump ",
+        format!(in alloc; "{none}\n")?.as_str(),
+    )?;
+    let cut = numbered(alloc, 0, 16, "stretch S", " 1 256\n")?;
+    let script = format!(in alloc;
+        "plan S F\n=== S\n{setup}=== F\nstep,window{columns}\n{arrivals}"
+    )?;
+    let want = format!(in alloc;
+        "mmplan 1\nstores{ids}\n{dumps}loss 4095999984\n{cut}bound 4095999984\nend\n"
+    )?;
+    answers(&rt, script.as_str(), want.as_str(), 0)
 }
 
 #[test]
@@ -174,8 +391,7 @@ fn opening_contents_plan(rt: HostRuntime) -> Result<(), Fail> {
 
 #[test]
 fn channel_limit_cut(rt: HostRuntime) -> Result<(), Fail> {
-    let limited = format!(in rt.alloc(); "{A}{LIMIT_1}")?;
-    let setup = limited.as_str();
+    let setup = A_WITH_LIMIT_1;
     let plan =
         "mmplan 2\nstores A\ndump 1 1\ndump 2 0\nloss 2\nstretch A 1 2\ncount 1 channels\nbound 2\nend\n";
     let first_form =
@@ -201,6 +417,30 @@ fn channel_limit_cut(rt: HostRuntime) -> Result<(), Fail> {
     )?;
     check_answers(&rt, setup, TWO_STEPS_OF_A, no_inner, "bad count 1\n")?;
     check_answers(&rt, A, TWO_STEPS_OF_A, plan, "bad count 1\n")
+}
+
+#[test]
+fn plans_refused(rt: HostRuntime) -> Result<(), Fail> {
+    let scripts = [
+        (
+            "plan S F\n=== S\n[[store\n=== F\n",
+            "refused 27 SetupText\n",
+        ),
+        (
+            "plan S F\n=== S\n[[store]]\nid = \"SCI\"\nsize = 4\ntype = \"bounded\"\nchannel = 0\nstart = 5\n=== F\n",
+            "refused 33 Limit name start\n",
+        ),
+        (
+            "plan S F\n=== S\n[[store]]\nid = \"SCI\"\nsize = 4\ntype = \"bounded\"\nchannel = 0\n=== F\nstep,window,HK\n",
+            "refused 30 Header\n",
+        ),
+        ("plan S F\n=== F\n", "refused 50 NotRead name S\n"),
+        ("plan S F\n=== S\n", "refused 50 NotRead name F\n"),
+    ];
+    for (script, want) in scripts {
+        answers(&rt, script, want, 1)?;
+    }
+    Ok(())
 }
 
 #[test]
@@ -234,7 +474,9 @@ fn command_lines(rt: HostRuntime) -> Result<(), Fail> {
     let lines = [
         "",
         "\n",
-        "plan S F\n",
+        "plan S\n",
+        "plan S F P\n",
+        "plan --help\n",
         "check S F\n",
         "check --help\n",
         "--help\n",
@@ -336,7 +578,15 @@ fn writers_that_fail(rt: HostRuntime) -> Result<(), Fail> {
         &mut FailingWriter { left: 1 },
         &mut err,
     );
+    let no_plan = run_tool(
+        alloc,
+        ["plan", "S", "F"].as_slice(),
+        &mut FailingFiles { left: 2 },
+        &mut FailingWriter { left: 0 },
+        &mut err,
+    );
     assert_eq!(rt; refused, 1);
     assert_eq!(rt; taken, 0);
+    assert_eq!(rt; no_plan, 1);
     Ok(())
 }

@@ -14,8 +14,8 @@ use Rattle.mm_plan.specs.Sheet.{SheetRows, IsSheet, sheet_text, IsFirstBadLine}
 use Rattle.mm_plan.specs.Sheet.{IsShapedFor}
 use Rattle.mm_cut.specs.Verdicts.{IsVerdict}
 use Rattle.mm_cut.specs.declared.verdict.Verdict.{Verdict}
-use Rattle.mm_tool.specs.declared.check.Fault.{Fault}
-use Rattle.mm_tool.specs.declared.check.Fault.TheVariants.{NoMemory, Problem, Plan}
+use Rattle.mm_planner.specs.declared.fault.Fault.{Fault}
+use Rattle.mm_planner.specs.declared.fault.Fault.TheVariants.{NoMemory, Problem, Plan}
 
 -- the problem that a setup and a forecast say, or their first fault
 unfoldable pub problem_in : List ℕ → List ℕ → Result Dumping ProblemFault

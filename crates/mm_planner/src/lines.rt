@@ -1,12 +1,12 @@
 //! The lines that verdicts are printed as.
 ghost use Rattle.std.specs.Prelude.{◌≡◌, IfOk};
-ghost use Rattle.mm_tool.specs.Lines.{line_of};
+ghost use Rattle.mm_planner.specs.Lines.{line_of};
 
 use mm_cut::Verdict;
 use std::alloc::{AllocError, Global};
 
 /// The line of a verdict, with its line end.
-pub fn verdict_line(alloc: Global, verdict: Verdict) -> Result<Vec<u8>, AllocError>
+pub(crate) fn verdict_line(alloc: Global, verdict: Verdict) -> Result<Vec<u8>, AllocError>
     ensures { IfOk result (λ line. line.items ≡ line_of verdict) }
 {
     let line = match verdict {

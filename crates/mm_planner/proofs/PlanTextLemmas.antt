@@ -1,0 +1,76 @@
+-- From a sheet to its text, and from the text to what is said of it.
+use Rattle.std.proofs.Common.{◌≡◌, ℕ, List, sym, ap, ◌∙◌, subst}
+use Rattle.std.specs.Prelude.{pos}
+use Rattle.mm_problem.specs.Dumping.{Dumping}
+use Rattle.mm_plan.specs.Table.{amount}
+use Rattle.mm_plan.specs.Sheet.{SheetRows, IsSheet, IsShapedFor}
+use Rattle.std.specs.List.Sorted.{IsSortedByKey}
+use Rattle.mm_plan.specs.Printing.{IsOrdered, IsPrinted, stretch_key, key_cmp}
+use Rattle.mm_plan.specs.Filled.{IsFilled}
+use Rattle.mm_plan.specs.Volumes.{loss}
+use Rattle.mm_plan.specs.Least.{IsLeast}
+use Rattle.mm_cut.specs.Verdicts.{VerdictsExclude, IsVerdict}
+use Rattle.mm_cut.specs.declared.verdict.Verdict.TheVariants.{Least}
+use Rattle.mm_planner.specs.Checking.{SaysProblem}
+use Rattle.mm_planner.specs.PlanTexts.{ShowsLeast, PlansLeast, PlansCheckLeast}
+use Rattle.mm_planner.proofs.CutOrder.{cut_in_order, bound_in_order}
+use Rattle.mm_planner.proofs.SheetTexts.{one_sheet}
+
+-- in the order in which it is printed, a sheet shows the same
+shows_in_order : (q : Dumping) (s r : SheetRows) → ShowsLeast q s → IsOrdered s r → ShowsLeast q r
+shows_in_order q s r shows ordered =
+    let same_plan = sym ordered.plan in
+    let same_loss = sym ordered.loss in
+    record {
+      least = subst (λ x. IsLeast q (amount x)) same_plan shows.least;
+      cut = cut_in_order q s.cut r.cut s.by_channels r.by_channels ordered.cut.same ordered.counts.same shows.cut;
+      loss = ap (λ x. loss q (amount x)) ordered.plan ∙ shows.loss ∙ same_loss;
+      bound = bound_in_order q s.cut r.cut s.by_channels r.by_channels ordered.cut.same ordered.counts.same ∙ shows.bound ∙ sym ordered.bound;
+      tight = ordered.bound ∙ shows.tight ∙ ap pos same_loss;
+    }
+
+-- the printed text of a sheet that shows it plans least
+pub printed_plans_least : (setup forecast text : List ℕ) (q : Dumping) (s : SheetRows) → SaysProblem setup forecast q → IsSheet s → IsShapedFor q s → ShowsLeast q s → IsFilled q (amount s.plan) → IsPrinted s text → PlansLeast setup forecast text
+printed_plans_least setup forecast text q s says is shaped shows filled printed =
+    let r = printed.0 in
+    let ordered : IsOrdered s r = printed.1 in
+    record {
+      problem = q;
+      sheet = r;
+      says_problem = says;
+      says_sheet = record {
+        is_sheet = printed.2 is;
+        text = printed.3;
+        shape = record { stores = ordered.stores ∙ shaped.stores; steps = ap (λ x. x.steps) ordered.plan ∙ shaped.steps };
+      };
+      shows_least = shows_in_order q s r shows ordered;
+      filled = subst (λ x. IsFilled q (amount x)) (sym ordered.plan) filled;
+      in_order = record { cut = subst (λ ids. IsSortedByKey (stretch_key ids) key_cmp r.cut) (sym ordered.stores) ordered.cut.order; counts = ordered.counts.order };
+    }
+
+-- ---- the law
+
+-- a problem for each setup and forecast
+one_problem : (setup forecast : List ℕ) (p q : Dumping) → SaysProblem setup forecast p → SaysProblem setup forecast q → p ≡ q
+one_problem setup forecast p q says_p says_q = cc
+
+-- what is `Least` of a sheet that shows it
+least_verdict : (q : Dumping) (s : SheetRows) → ShowsLeast q s → IsVerdict q (amount s.plan) s.cut s.by_channels s.loss s.bound (Least (loss q (amount s.plan)))
+least_verdict q s shows = (
+  record { plan = record { fits = shows.least.fits; loss = sym shows.loss }; cut = shows.cut; bound = sym shows.bound },
+  shows.loss,
+  ap pos shows.loss ∙ sym shows.tight,
+  shows.least,
+)
+
+-- from the law that verdicts exclude one another
+pub plans_check_least : VerdictsExclude → PlansCheckLeast
+plans_check_least exclude setup forecast text planned v checks =
+    let q = planned.problem in
+    let s = planned.sheet in
+    let same_problem = one_problem setup forecast checks.problem q checks.says_problem planned.says_problem in
+    let same_sheet = one_sheet checks.sheet s checks.says_sheet.is_sheet planned.says_sheet.is_sheet (sym checks.says_sheet.text ∙ planned.says_sheet.text) in
+    let said : IsVerdict q (amount s.plan) s.cut s.by_channels s.loss s.bound v =
+    subst (λ r. IsVerdict q (amount r.plan) r.cut r.by_channels r.loss r.bound v) same_sheet
+    (subst (λ p. IsVerdict p (amount checks.sheet.plan) checks.sheet.cut checks.sheet.by_channels checks.sheet.loss checks.sheet.bound v) same_problem checks.verdict) in
+    exclude q (amount s.plan) s.cut s.by_channels s.loss s.bound v (Least (loss q (amount s.plan))) said (least_verdict q s planned.shows_least)

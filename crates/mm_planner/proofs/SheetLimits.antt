@@ -1,0 +1,66 @@
+-- The sheet of a planned problem is within the limits of the text.
+use Rattle.std.proofs.Common.{◌≡◌, ℕ, ◌*◌, ◌<◌, ◌≤◌, ℤ, pos, List, [], length, get_or, map, sym, ap, ◌∙◌, subst, arith}
+use Rattle.std.specs.Prelude.{All, ◌^◌, FitsSigned}
+use Rattle.std.specs.Int.{w64}
+use Rattle.std.specs.Str.{bytes_eq}
+use Rattle.std.proofs.lemmas.List.{length-map, get_or-map}
+use Rattle.std.proofs.lemmas.List.Elements.{All-contains, All-weaker}
+use Rattle.std.proofs.lemmas.Bool.Decides.{nat_tests}
+use Rattle.std.proofs.lemmas.List.Folds.{Any-from_list_any}
+use Rattle.std.proofs.lemmas.List.Sums.{passes_at_first}
+use Rattle.std.proofs.lemmas.Slice.Eq.{bytes_eq-Decides}
+use Rattle.mm_problem.specs.declared.limits.TheConstants.{MAX_STORES, MAX_STEPS, MAX_BLOCKS}
+use Rattle.mm_problem.specs.Dumping.{Dumping, IsDumping, no_row}
+use Rattle.mm_problem.specs.Id.{IsIdField}
+use Rattle.mm_plan.specs.declared.stretch.Stretch.{Stretch}
+use Rattle.mm_plan.specs.Table.{IsTable, HasShape}
+use Rattle.mm_plan.specs.Sheet.{SheetRows, IsSheet, IsShapedFor, IsWritten}
+use Rattle.mm_cut.specs.Stretches.{store_of, goes_past, IsStretch, AreStretches}
+use Rattle.mm_cut.specs.Counts.{IsCounted}
+use Rattle.mm_cut.specs.Cuts.{IsCut}
+use Rattle.mm_cut.proofs.Counting.{few_stretches, length-counted}
+
+-- a number below 2^63 fits
+fits_signed : (z : ℤ) (n : ℕ) → z ≡ pos n → n < 2 ^ 63 → FitsSigned w64 z
+fits_signed z n is small =
+    let fits : FitsSigned w64 (pos n) = record { sfits = small } in
+    subst (FitsSigned w64) (sym is) fits
+
+-- the store of a stretch is one of the problem's
+stretch_store : (q : Dumping) (d : Stretch) → IsStretch q d → All IsIdField (map (λ r. r.id) q.rows) → IsIdField d.store
+stretch_store q d is each =
+    let place = store_of q d in
+    let ids = map (λ r. r.id) q.rows in
+    let size : length ids ≡ length q.rows = length-map q.rows (λ r. r.id) in
+    let at : IsIdField (get_or ids place []) = each place [] (omega (arith, size, is.store)) in
+    let found : (get_or q.rows place no_row).id ≡ d.store = (bytes_eq-Decides (get_or q.rows place no_row).id d.store).0 (passes_at_first (λ r. bytes_eq r.id d.store) q.rows no_row is.store) in
+    subst IsIdField (get_or-map (λ r. r.id) q.rows place no_row [] is.store ∙ found) at
+
+-- a counted step is not the last
+counted_below : (q : Dumping) (ds : List Stretch) (t : ℕ) → AreStretches q ds → IsCounted q ds t → t < length q.windows
+counted_below q ds t are is =
+    let some = Any-from_list_any (goes_past t) ds is.inner in
+    let last = (All-contains (IsStretch q) ds some.1 are.each (some.0, some.2, some.3)).last in
+    let passed = some.4 in
+    grind (arith, nat_tests)
+
+-- a sheet with the problem's stores and steps, a cut of the problem, and a loss and a bound that a problem may have
+pub planned_is_sheet : (q : Dumping) (s : SheetRows) → IsDumping q → IsShapedFor q s → HasShape q s.plan → IsTable s.plan → All IsIdField s.stores → IsCut q s.cut s.by_channels → s.loss ≤ 2 * MAX_BLOCKS * MAX_STEPS * MAX_STORES → s.bound ≡ pos s.loss → IsSheet s
+planned_is_sheet q s is shaped shape table ids cut most tight =
+    let stores : length s.stores ≡ length q.rows = ap length shaped.stores ∙ length-map q.rows (λ r. r.id) in
+    let few_steps = is.steps.at_most in
+    let named : All IsIdField (map (λ r. r.id) q.rows) = subst (All IsIdField) shaped.stores ids in
+    record {
+      stores = omega (arith, stores, is.stores.at_most);
+      steps = omega (arith, shaped.steps, few_steps);
+      cut = omega (arith, few_stretches q s.cut is cut.stretches);
+      counts = omega (arith, few_steps, length-counted q s.cut s.by_channels cut.stretches cut.counted);
+      plan = table;
+      same_stores = shape.stores ∙ sym stores;
+      each_store = ids;
+      each_stretch = All-weaker (IsStretch q) IsWritten (λ d is_stretch.
+          record { store = stretch_store q d is_stretch named; first = omega (arith, few_steps, is_stretch.order, is_stretch.last); last = omega (arith, few_steps, is_stretch.last) }) s.cut cut.stretches.each;
+      each_count = All-weaker (IsCounted q s.cut) (λ t. t < 2 ^ 32) (λ t counted. omega (arith, few_steps, counted_below q s.cut t cut.stretches counted)) s.by_channels cut.counted.each;
+      loss = omega (arith, most);
+      bound = fits_signed s.bound s.loss tight (omega (arith, most));
+    }

@@ -1,3 +1,0 @@
-pub mod Lines
-pub mod CheckFault
-pub mod Checking
