@@ -1,12 +1,13 @@
 -- An augmentation: back along the entries by which the nodes were reached.
-use Rattle.std.proofs.Common.{◌≡◌, ◌≢◌, ℕ, ◌+◌, ◌<◌, ◌≤◌, cond, eqb, length, List, ap, sym, ◌∙◌, refl, arith, inl, inr, ◌⊎◌}
+use Rattle.std.proofs.Common.{◌≡◌, ◌≢◌, ℕ, ◌+◌, ◌<◌, ◌≤◌, cond, eqb, length, List, ap, sym, ◌∙◌, refl, arith, inl, inr, ◌⊎◌, subst}
 use Rattle.std.proofs.lemmas.Bool.{cases_eq, cases_lt, cond-true, cond-false, eq-eqb, ne_eqb}
 use Rattle.mm_flow.specs.declared.search.Mark.{Mark}
 use Rattle.mm_flow.specs.Graph.{Graph, arc}
 use Rattle.mm_flow.specs.Flow.{Flow, IsFlow, IsWithin}
+use Rattle.mm_flow.specs.declared.limits.TheConstants.{MAX_VALUE}
 use Rattle.mm_flow.specs.Residual.{entries, place, tail, head, residual, spare, IsPushed}
-use Rattle.mm_flow.specs.Balance.{IsBalanced, IsBalancedAt}
-use Rattle.mm_flow.specs.Marks.{mark, level, HasMark, IsMarking}
+use Rattle.mm_flow.specs.Balance.{IsBalanced, IsBalancedAt, IsAugmented, IsBounded}
+use Rattle.mm_flow.specs.Marks.{mark, level, HasMark, IsReached}
 use Rattle.mm_flow.proofs.Entries.{place-forward, place-backward, tail-forward, tail-backward, head-forward, head-backward, residual-forward, residual-backward}
 
 -- arcs with both ends up to a level carry what they did
@@ -117,10 +118,9 @@ pub record IsReady (g : Graph) (marks : List Mark) (old now : Flow) (at e amount
   pub marked : HasMark marks (tail g e)
   pub wide : amount ≤ (mark marks (tail g e)).width
 
--- as far as a node other than the source, that node's entry is ready
-pub followed_ready : (g : Graph) (marks : List Mark) (old now : Flow) (source least at e amount : ℕ) → IsMarking g old source least marks → IsFollowed g marks old now source at amount → at ≢ source → e ≡ (mark marks at).via → IsReady g marks old now at e amount
-followed_ready g marks old now source least at e amount marking followed ne via =
-    let reached = marking.reached at ne followed.marked in
+-- as far as a node that was reached by an entry, that entry is ready
+pub followed_ready : (g : Graph) (marks : List Mark) (old now : Flow) (source at e amount : ℕ) → IsReached g old marks at → IsFollowed g marks old now source at amount → e ≡ (mark marks at).via → IsReady g marks old now at e amount
+followed_ready g marks old now source at e amount reached followed via =
     let tail_is = ap (λ (d : ℕ). mark marks (tail g d)) via in
     let leads : head g e ≡ at = ap (head g) via ∙ reached.leads in
     let below : level marks (tail g e) + 1 ≡ level marks at = omega (arith, ap (λ (m : Mark). m.level) tail_is, reached.next) in
@@ -146,3 +146,21 @@ followed_next g marks old now new source at e from amount followed ready pushed 
       most = most_next g old now new e amount pushed ready.same followed.most;
       untouched = untouched_next g marks old now new (level marks at) (level marks from) e amount followed.untouched pushed (ap (level marks) ready.leads) (omega (arith, ready.below, from_level));
     }
+
+-- what augmentations have made is a flow
+pub augmented_flow : (g : Graph) (source sink : ℕ) (f : Flow) (value : ℕ) → source ≢ sink → IsAugmented g source sink f value → IsFlow g source sink f value
+augmented_flow g source sink f value ends augmented = balanced_flow g source sink f value ends augmented.within augmented.balanced
+
+-- and its value is bounded
+pub augmented_small : (g : Graph) (source sink : ℕ) (f : Flow) (value : ℕ) → source ≢ sink → IsBounded g source sink → IsAugmented g source sink f value → value ≤ MAX_VALUE
+augmented_small g source sink f value ends bounded augmented = bounded f value (augmented_flow g source sink f value ends augmented)
+
+-- no arc of it carries more than that bound
+pub arcs_small : (g : Graph) (source sink : ℕ) (f : Flow) (value : ℕ) → source ≢ sink → IsBounded g source sink → IsAugmented g source sink f value → (k : ℕ) → f k ≤ MAX_VALUE
+arcs_small g source sink f value ends bounded augmented k = omega (arith, augmented.most k, augmented_small g source sink f value ends bounded augmented)
+
+-- one more augmentation from the same source
+pub augmented_more : (g : Graph) (source same sink : ℕ) (old new : Flow) (value amount : ℕ) → same ≡ source → IsAugmented g source sink old value
+    → ((before : ℕ) → IsAugmented g same sink old before → IsAugmented g same sink new (before + amount)) → IsAugmented g source sink new (value + amount)
+augmented_more g source same sink old new value amount is augmented more =
+    subst (λ (s : ℕ). IsAugmented g s sink new (value + amount)) is (more value (subst (λ (s : ℕ). IsAugmented g s sink old value) (sym is) augmented))

@@ -3,13 +3,13 @@ use Rattle.std.proofs.Common.{◌≡◌, ℕ, zero, suc, ◌+◌, ◌-◌, ◌<�
 use Rattle.std.specs.Prelude.{IsSome, unwrap_or}
 use Rattle.std.proofs.lemmas.Bool.{cases_Bool, cases_eq, cases_lt, cond-true, cond-false, and_parts, ltb-true, ltb-false, not-true}
 use Rattle.mm_flow.specs.declared.search.Mark.{Mark}
-use Rattle.mm_flow.specs.declared.limits.TheConstants.{UNLIMITED, MAX_CAPACITY, MAX_VALUE}
+use Rattle.mm_flow.specs.declared.limits.TheConstants.{UNLIMITED, MAX_CAPACITY}
 use Rattle.mm_flow.specs.Graph.{Graph, arc, IsNetwork}
 use Rattle.mm_flow.specs.Flow.{Flow, IsFlow}
 use Rattle.mm_flow.specs.Cut.{Side, IsCut, leaves, enters, limit_of}
 use Rattle.mm_flow.specs.Solution.{IsSolution, HasUnlimited, IsWalk, HasUnlimitedPath}
 use Rattle.mm_flow.specs.Residual.{entries, tail, head, residual, spare}
-use Rattle.mm_flow.specs.Balance.{IsBalanced}
+use Rattle.mm_flow.specs.Balance.{IsBalanced, IsAugmented, IsBounded}
 use Rattle.mm_flow.specs.Marks.{mark, level, HasMark, IsMarking, IsSearched}
 use Rattle.mm_flow.proofs.Sums.{below_same, below-zero, below-le-times}
 use Rattle.mm_flow.proofs.Sides.{net_flow, value_within_cut, flow_out-below, flow_in-below, capacity_of-below, entering-below, leaving-below}
@@ -115,7 +115,7 @@ limit_small None limit = omega arith
 limit_small (Some b) limit = limit b refl
 
 -- where unlimited arcs do not lead to the sink, the nodes that they lead to bound every flow
-pub value_bounded : (g : Graph) (source sink : ℕ) (nothing : Flow) (marks : List Mark) → IsNetwork g → IsSearched g nothing source UNLIMITED marks → ¬ HasMark marks sink → (f : Flow) (value : ℕ) → IsFlow g source sink f value → value ≤ MAX_VALUE
+pub value_bounded : (g : Graph) (source sink : ℕ) (nothing : Flow) (marks : List Mark) → IsNetwork g → IsSearched g nothing source UNLIMITED marks → ¬ HasMark marks sink → IsBounded g source sink
 value_bounded g source sink nothing marks network searched ended f value flow =
     let side = reached_side marks in
     let cut = reached_cut g nothing source UNLIMITED marks searched sink ended (omega arith) in
@@ -172,8 +172,16 @@ cond-nothing true x none = none
 cond-nothing false x none = refl
 
 -- a flow of nothing is balanced, with no value
-pub nothing_balanced : (g : Graph) (source sink : ℕ) (nothing : Flow) → ((k : ℕ) → nothing k ≡ 0) → IsBalanced g source sink nothing 0
+nothing_balanced : (g : Graph) (source sink : ℕ) (nothing : Flow) → ((k : ℕ) → nothing k ≡ 0) → IsBalanced g source sink nothing 0
 nothing_balanced g source sink nothing none n =
     let into = below-zero (λ k. cond (eqb (arc g k).to n) (nothing k) 0) (length g.arcs) (λ k lt. cond-nothing (eqb (arc g k).to n) (nothing k) (none k)) in
     let out = below-zero (λ k. cond (eqb (arc g k).from n) (nothing k) 0) (length g.arcs) (λ k lt. cond-nothing (eqb (arc g k).from n) (nothing k) (none k)) in
     omega (arith, entering-below g nothing n, leaving-below g nothing n, into, out, cond-nothing (eqb source n) 0 refl, cond-nothing (eqb sink n) 0 refl)
+
+-- augmentations begin with a flow of nothing
+pub nothing_augmented : (g : Graph) (source sink : ℕ) (nothing : Flow) → ((k : ℕ) → nothing k ≡ 0) → IsAugmented g source sink nothing 0
+nothing_augmented g source sink nothing none = record {
+  within = λ k most is. omega (arith, none k);
+  balanced = nothing_balanced g source sink nothing none;
+  most = λ k. omega (arith, none k);
+}

@@ -6,7 +6,9 @@ pub mod Flow
 pub mod Graph
 pub mod Laws
 pub mod LeastCut
+pub mod Levels
 pub mod Links
 pub mod Marks
 pub mod Residual
 pub mod Solution
+pub mod Tables

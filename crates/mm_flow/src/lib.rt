@@ -5,6 +5,7 @@ mod arc;
 pub mod exhaustive;
 mod fault;
 pub mod laws;
+mod levels;
 mod limits;
 mod links;
 mod network;
@@ -13,6 +14,7 @@ mod residual;
 mod search;
 mod solved;
 mod solver;
+mod tables;
 #[cfg(test)]
 mod tests;
 

@@ -1,5 +1,5 @@
 //! A search by breadth through the residual network (Edmonds and Karp, 1972).
-ghost use Rattle.std.specs.Prelude.{◌≡◌, ◌+◌, ◌<◌, ◌≤◌, length, slice_index, IfOk, replicate, map, nat_lt};
+ghost use Rattle.std.specs.Prelude.{◌≡◌, ◌+◌, ◌<◌, ◌≤◌, ℕ, ◌≢◌, true, false, length, slice_index, IfOk, replicate, map, nat_lt};
 ghost use Rattle.mm_flow.specs.Flow.{IsWithin};
 ghost use Rattle.mm_flow.specs.Residual.{entries, tail, head, residual};
 ghost use Rattle.mm_flow.specs.Links.{IsLinked};
@@ -40,7 +40,8 @@ pub(crate) struct Search {
 
 impl Search {
     ghost use Rattle.mm_flow.specs.declared.search.Mark.{Mark};
-    ghost use Rattle.mm_flow.specs.Marks.{IsSearching, IsSearched, GoesOn, HasMark};
+    ghost use Rattle.mm_flow.specs.Marks.{IsSearching, IsSearched, GoesOn, HasMark, mark, level};
+    ghost use Rattle.mm_flow.specs.Levels.{IsLevelled, IsTaken};
 
     // A search from this source that has not begun.
     pub(crate) fn new(alloc: Global, network: &Network, source: u32) -> Result<Search, AllocError>
@@ -149,6 +150,52 @@ impl Search {
         };
         self.order[self.found] = to;
         self.found += 1;
+    }
+
+    // Takes an entry as the next of a path, if it has residual capacity and leads one level further, to the sink or
+    // to a node below the sink's level. Answers whether it does.
+    pub(crate) fn advance(
+        &mut self,
+        network: &Network,
+        flow: &[u64],
+        entry: usize,
+        sink: u32,
+    ) -> bool
+        requires entry { entry < entries network.now.graph }
+        requires flow { length flow.now ≡ length network.now.graph.arcs }
+        requires within { IsWithin network.now.graph (slice_index flow.now) }
+        requires sink { sink < network.now.graph.nodes }
+        requires levelled { IsLevelled network.now.graph self.old.source self.old.marks.items }
+        requires from { HasMark self.old.marks.items (tail network.now.graph entry) }
+        ensures levelled { IsLevelled network.now.graph self.new.source self.new.marks.items }
+        ensures source { self.new.source ≡ self.old.source }
+        ensures order { self.new.order ≡ self.old.order }
+        ensures levels { (n : ℕ) → level self.new.marks.items n ≡ level self.old.marks.items n }
+        ensures others { (n : ℕ) → n ≢ head network.now.graph entry
+            → mark self.new.marks.items n ≡ mark self.old.marks.items n }
+        ensures taken { result ≡ true → IsTaken network.now.graph (slice_index flow.now)
+            self.new.marks.items sink entry (head network.now.graph entry) }
+        ensures left { result ≡ false → self.new.marks.items ≡ self.old.marks.items }
+    {
+        let from = self.marks[tail(network, entry) as usize];
+        let to = head(network, entry);
+        let own = self.marks[to as usize];
+        if own.level.saturating_sub(1) != from.level {
+            return false;
+        }
+        if to != sink && own.level >= self.marks[sink as usize].level {
+            return false;
+        }
+        let capacity = residual(network, flow, entry);
+        if capacity == 0 {
+            return false;
+        }
+        self.marks[to as usize] = Mark {
+            level: own.level,
+            via: entry,
+            width: from.width.min(capacity),
+        };
+        true
     }
 
     // Which nodes have a mark.

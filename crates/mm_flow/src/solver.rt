@@ -3,12 +3,13 @@ ghost use Rattle.std.specs.Prelude.{◌≡◌, ◌≢◌, ◌<◌, ◌↔◌, If
 ghost use Rattle.mm_flow.specs.Solution.{IsSolved, HasUnlimitedPath};
 
 use crate::fault::Fault;
+use crate::levels::block_all;
 use crate::network::Network;
-use crate::paths::solve_paths;
 use crate::solved::Solved;
+use crate::tables::Tables;
 use std::alloc::Global;
 
-/// A maximum flow from the source to the sink, and a minimum cut.
+/// A maximum flow from the source to the sink, and a minimum cut, by level graphs and blocking flows (Dinitz, 1970).
 ///
 /// `SameEnds` is tested first. Where a path of unlimited arcs leads from the source to the sink the answer is
 /// `Unbounded`. Want of memory aside, these are the only refusals.
@@ -23,5 +24,15 @@ pub fn solve(alloc: Global, network: &Network, source: u32, sink: u32) -> Result
         → (source ≢ sink) × HasUnlimitedPath network.now.graph source sink }
     ensures bounded { OnOk result (¬ HasUnlimitedPath network.now.graph source sink) }
 {
-    solve_paths(alloc, network, source, sink)
+    let mut tables = Tables::new(alloc, network, source, sink)?;
+    let mut next = vec![in alloc; 0; network.node_count()]?;
+    let value = block_all(
+        network,
+        &tables.links,
+        &mut next,
+        &mut tables.flow,
+        &mut tables.search,
+        sink,
+    );
+    Ok(tables.solved(alloc, value)?)
 }

@@ -31,17 +31,34 @@ fn built(
 ) -> Result<Network, NoMemory> {
     let mut network = Network::new(alloc);
     for _ in 0..nodes {
-        assert!(rt; network.node_count() < MAX_NODES as usize);
-        network.add_node()?;
+        node(rt, &mut network)?;
     }
     for (from, to, capacity) in arcs {
-        assert!(rt; network.arc_count() < MAX_ARCS as usize);
-        assert!(rt; (*from as usize) < network.node_count());
-        assert!(rt; (*to as usize) < network.node_count());
-        assert!(rt; capacity.unwrap_or(0) <= MAX_CAPACITY);
-        network.add_arc(*from, *to, *capacity)?;
+        arc(rt, &mut network, *from, *to, *capacity)?;
     }
     Ok(network)
+}
+
+// Adds a node.
+fn node(rt: &impl Abort, network: &mut Network) -> Result<u32, NoMemory> {
+    assert!(rt; network.node_count() < MAX_NODES as usize);
+    network.add_node()
+}
+
+// Adds an arc.
+fn arc(
+    rt: &impl Abort,
+    network: &mut Network,
+    from: u32,
+    to: u32,
+    capacity: Option<u64>,
+) -> Result<(), NoMemory> {
+    assert!(rt; network.arc_count() < MAX_ARCS as usize);
+    assert!(rt; (from as usize) < network.node_count());
+    assert!(rt; (to as usize) < network.node_count());
+    assert!(rt; capacity.unwrap_or(0) <= MAX_CAPACITY);
+    network.add_arc(from, to, capacity)?;
+    Ok(())
 }
 
 // Compares both solvers and the search of all sides with the value that is wanted.
@@ -60,11 +77,25 @@ fn check(rt: &impl Abort, alloc: Global, case: &Case) -> Result<(), NoMemory> {
     );
     let least = least_cut(&network, case.source, case.sink);
     assert_eq!(rt; least, case.value, "{}", case.name);
-    let solved = value_of(rt, solve(alloc, &network, case.source, case.sink));
-    assert_eq!(rt; solved, case.value, "{}", case.name);
-    let by_paths = value_of(rt, solve_paths(alloc, &network, case.source, case.sink));
-    assert_eq!(rt; by_paths, case.value, "{}", case.name);
+    let value = same_value(rt, alloc, &network, case.source, case.sink);
+    assert_eq!(rt; value, case.value, "{}", case.name);
     Ok(())
+}
+
+// The value that both solvers answer.
+fn same_value(
+    rt: &impl Abort,
+    alloc: Global,
+    network: &Network,
+    source: u32,
+    sink: u32,
+) -> Option<u64> {
+    assert!(rt; (source as usize) < network.node_count());
+    assert!(rt; (sink as usize) < network.node_count());
+    let by_levels = value_of(rt, solve(alloc, network, source, sink));
+    let by_paths = value_of(rt, solve_paths(alloc, network, source, sink));
+    assert_eq!(rt; by_levels, by_paths);
+    by_levels
 }
 
 // The value that a solver answered, `None` where it is unbounded.
@@ -271,6 +302,146 @@ fn values_by_hand(rt: HostRuntime) -> Result<(), Fail> {
     Ok(())
 }
 
+// Stores of one size: what arrives at each store in each step, the pass windows, and the most blocks that do not get
+// lost. They flow through the stores to the windows, or stay there after the last step.
+#[derive(Drop)]
+struct Stores<'a> {
+    name: &'a str,
+    stores: usize,
+    size: u64,
+    arrivals: &'a [u64],
+    windows: &'a [u64],
+    value: u64,
+}
+
+// The network of the stores, with the source as node 0 and the sink as node 1.
+fn network_of(rt: &impl Abort, alloc: Global, stores: &Stores) -> Result<Network, NoMemory> {
+    let mut network = Network::new(alloc);
+    let source = node(rt, &mut network)?;
+    let sink = node(rt, &mut network)?;
+    let mut arrivals = stores.arrivals.iter();
+    let mut kept: Vec<u32> = Vec::new(alloc);
+    for window in stores.windows {
+        let pass = node(rt, &mut network)?;
+        arc(rt, &mut network, pass, sink, Some(*window))?;
+        for store in 0..stores.stores {
+            let come = node(rt, &mut network)?;
+            let held = node(rt, &mut network)?;
+            let arrived = arrivals.next().copied().unwrap_or(0);
+            arc(rt, &mut network, source, come, Some(arrived))?;
+            arc(rt, &mut network, come, held, Some(stores.size))?;
+            arc(rt, &mut network, held, pass, None)?;
+            if let Some(before) = kept.get_mut(store) {
+                arc(rt, &mut network, *before, come, None)?;
+                *before = held;
+            } else {
+                kept.push(held)?;
+            }
+        }
+    }
+    for last in &kept {
+        arc(rt, &mut network, *last, sink, None)?;
+    }
+    Ok(network)
+}
+
+#[test]
+fn networks_of_stores(rt: HostRuntime) -> Result<(), Fail> {
+    let cases = [
+        // 10 arrive and 2 are lost.
+        Stores {
+            name: "first_run",
+            stores: 1,
+            size: 4,
+            arrivals: &[3, 3, 4],
+            windows: &[2, 2, 0],
+            value: 8,
+        },
+        // 9 arrive and 5 are lost.
+        Stores {
+            name: "more_than_the_store_holds",
+            stores: 1,
+            size: 4,
+            arrivals: &[9],
+            windows: &[9],
+            value: 4,
+        },
+        // All 8 are kept or dumped.
+        Stores {
+            name: "foresight_beats_even_split",
+            stores: 2,
+            size: 3,
+            arrivals: &[3, 3, 2, 0],
+            windows: &[2, 0],
+            value: 8,
+        },
+        // 10 arrive and 6 are lost.
+        Stores {
+            name: "two_stretches_of_one_store",
+            stores: 1,
+            size: 2,
+            arrivals: &[5, 0, 5],
+            windows: &[0, 9, 0],
+            value: 4,
+        },
+        // 4,096,000,000 arrive, and each store keeps 1.
+        Stores {
+            name: "largest_loss",
+            stores: 16,
+            size: 1,
+            arrivals: &[1_000_000; 4096],
+            windows: &[0; 256],
+            value: 16,
+        },
+    ];
+    for case in &cases {
+        let network = network_of(&rt, rt.alloc(), case)?;
+        let value = same_value(&rt, rt.alloc(), &network, 0, 1);
+        assert_eq!(rt; value, Some(case.value), "{}", case.name);
+    }
+    Ok(())
+}
+
+// The next of the linear congruential numbers, of 24 bits (Numerical Recipes, section 7.1).
+fn next_number(state: &mut u32) -> u32 {
+    *state = state.wrapping_mul(1_664_525).wrapping_add(1_013_904_223);
+    *state >> 8
+}
+
+// A network of so many nodes, with arcs between them at random, of which one in 64 is unlimited.
+fn made(
+    rt: &impl Abort,
+    alloc: Global,
+    nodes: u32,
+    arcs: u32,
+    state: &mut u32,
+) -> Result<Network, NoMemory> {
+    let mut network = built(rt, alloc, nodes, &[])?;
+    for _ in 0..arcs {
+        assert!(rt; nodes > 0);
+        let from = next_number(state) % nodes;
+        let to = next_number(state) % nodes;
+        let number = next_number(state);
+        let capacity = (number % 64 > 0).then_some(u64::from(number) / 64 % 100);
+        arc(rt, &mut network, from, to, capacity)?;
+    }
+    Ok(network)
+}
+
+#[test]
+fn solvers_agree_on_made_networks(rt: HostRuntime) -> Result<(), Fail> {
+    let mut state = 1;
+    let mut positive = 0_u32;
+    for number in 1_u32..201 {
+        let nodes = 5 * number;
+        let network = made(&rt, rt.alloc(), nodes, 3 * nodes, &mut state)?;
+        let value = same_value(&rt, rt.alloc(), &network, 0, 1);
+        positive = positive.saturating_add(u32::from(value > Some(0)));
+    }
+    assert!(rt; positive > 100);
+    Ok(())
+}
+
 #[test]
 fn ends_in_any_order(rt: HostRuntime) -> Result<(), Fail> {
     let arcs = [(2, 1, Some(3)), (1, 0, Some(2))];
@@ -325,6 +496,7 @@ fn network_of_four_nodes(rt: HostRuntime) -> Result<(), Fail> {
     assert!(rt; network.node_count() == 4);
     let solved = solve(rt.alloc(), &network, 0, 3)?;
     assert_eq!(rt; solved.value, 5);
+    assert_eq!(rt; solve_paths(rt.alloc(), &network, 0, 3)?.value, 5);
     assert_eq!(rt; least_cut(&network, 0, 3), Some(5));
     // The one flow of 5: the arcs out of node 0 and into node 3 are full, and 1 is left from 1 to 2.
     assert_eq!(rt; solved.flow.as_slice(), [3, 2, 1, 2, 3].as_slice());

@@ -1,61 +1,44 @@
-use Rattle.std.proofs.Common.{ℕ, ◌+◌, ◌≤◌, slice_index, sym, ◌∙◌, subst, arith}
-use Rattle.mm_flow.specs.Flow.{IsFlow}
-use Rattle.mm_flow.specs.Balance.{IsBalanced}
-use Rattle.mm_flow.specs.Marks.{IsSearched}
-use Rattle.mm_flow.specs.declared.limits.TheConstants.{MAX_VALUE}
-use Rattle.mm_flow.proofs.Augmenting.{balanced_flow}
-use Rattle.mm_flow.proofs.Ends.{nothing_balanced}
+use Rattle.std.proofs.Common.{ap, arith, ◌≡◌, ◌+◌}
+use Rattle.std.proofs.lemmas.List.{get_or_read}
+use Rattle.mm_flow.specs.declared.search.Mark.{Mark}
+use Rattle.mm_flow.specs.Marks.{no_mark, level}
+use Rattle.mm_flow.proofs.Working.{at_work_first, at_work_next, levelled_there, path_there, small_there, more_there, value_small, work_ended}
 use Rattle.mm_flow.proofs.paths.augment_all.Goals as goal
-use Rattle.mm_flow.proofs.paths.augment_all.Goals.{After-augment-value}
+use Rattle.mm_flow.proofs.paths.augment_all.Goals.{After-index}
 
--- the flow after an augmentation, with its value
-flow_after : (c : After-augment-value) → IsFlow c.args.network.now.graph c.loop-search.search.source c.args.sink (slice_index c.augment-value.new.flow) (c.loop-search.value + c.augment-value.result)
-flow_after c =
-    let invariant = c.loop-search.invariant in
-    balanced_flow c.args.network.now.graph c.loop-search.search.source c.args.sink (slice_index c.augment-value.new.flow) (c.loop-search.value + c.augment-value.result)
-    (λ same. c.requires.ends (sym invariant.source ∙ same))
-    c.augment-value.ensures.within
-    (c.augment-value.ensures.balanced c.loop-search.value invariant.balanced)
-
--- its value is bounded
-value_after : (c : After-augment-value) → c.loop-search.value + c.augment-value.result ≤ MAX_VALUE
-value_after c =
-    let new = slice_index c.augment-value.new.flow in
-    let value = c.loop-search.value + c.augment-value.result in
-    c.requires.bounded new value (subst (λ (s : ℕ). IsFlow c.args.network.now.graph s c.args.sink new value) c.loop-search.invariant.source (flow_after c))
+-- the level of the sink
+level_is : (c : After-index) → c.index.result.now.level ≡ level c.loop-search.search.marks.items c.args.sink
+level_is c =
+    ap (λ (m : Mark). m.level) (get_or_read c.loop-search.search.marks.items c.args.sink c.index.result.now (omega (arith, c.loop-search.invariant.searched.marking.size, c.requires.ready.sink_known)) c.index.ensures no_mark)
 
 pub loop-search-init : goal.loop-search-init
-loop-search-init c =
-    let g = c.args.network.now.graph in
-    let f = slice_index c.args.flow.now in
-    let s = c.run.new.self in
-    record {
-      source = c.run.ensures.source;
-      order = c.run.ensures.order;
-      searched = subst (λ (source : ℕ). IsSearched g f source 1 s.marks.items) (sym c.run.ensures.source) c.run.ensures.searched;
-      within = λ k most is. omega (arith, c.requires.nothing k);
-      balanced = nothing_balanced g s.source c.args.sink f c.requires.nothing;
-      most = λ k. omega (arith, c.requires.nothing k);
-      bounded = omega arith;
-    }
+loop-search-init c = at_work_first c.args.network.now.graph c.args.search.now.source c.args.sink c.args.links.now c.args.search.now c.args.flow.now c.requires.ready c.run.new.self c.run.ensures.source c.run.ensures.order c.run.ensures.searched
+
+pub augment-value-requires-clause-small : goal.augment-value-requires-clause-small
+augment-value-requires-clause-small c = small_there c.args.network.now.graph c.args.search.now.source c.args.sink c.args.links.now c.args.search.now c.args.flow.now c.requires.ready c.loop-search.search c.loop-search.flow c.loop-search.value c.loop-search.invariant
+
+pub augment-value-requires-clause-levelled : goal.augment-value-requires-clause-levelled
+augment-value-requires-clause-levelled c = levelled_there c.args.network.now.graph c.args.search.now.source c.args.sink c.args.links.now c.args.search.now c.args.flow.now c.requires.ready c.loop-search.search c.loop-search.flow c.loop-search.value c.loop-search.invariant
+
+pub augment-value-requires-clause-path : goal.augment-value-requires-clause-path
+augment-value-requires-clause-path c = path_there c.args.network.now.graph c.args.search.now.source c.args.sink c.args.links.now c.args.search.now c.args.flow.now c.requires.ready c.loop-search.search c.loop-search.flow c.loop-search.value c.loop-search.invariant (omega (arith, level_is (goal.at.augment-value-requires-clause-path c).After-index, c.loop-search-test.true))
+
+pub overflow_add-value : goal.overflow_add-value
+overflow_add-value c = omega (arith, c.augment-value.ensures.positive.1, value_small c.args.network.now.graph c.args.search.now.source c.args.sink c.args.links.now c.args.search.now c.args.flow.now c.requires.ready c.loop-search.flow c.loop-search.value c.loop-search.invariant.augmented)
+
+pub run-requires-in-loop-search-clause-within : goal.run-requires-in-loop-search-clause-within
+run-requires-in-loop-search-clause-within c = (more_there c.args.network.now.graph c.args.search.now.source c.args.sink c.args.links.now c.args.search.now c.args.flow.now c.requires.ready c.loop-search.search c.loop-search.flow c.loop-search.value c.loop-search.invariant c.augment-value.new.flow c.augment-value.result c.augment-value.ensures.augmented).within
 
 pub loop-search-smaller : goal.loop-search-smaller
-loop-search-smaller c = omega (arith, value_after (goal.at.loop-search-smaller c).After-augment-value, c.augment-value.ensures.positive.0)
+loop-search-smaller c =
+    let after = more_there c.args.network.now.graph c.args.search.now.source c.args.sink c.args.links.now c.args.search.now c.args.flow.now c.requires.ready c.loop-search.search c.loop-search.flow c.loop-search.value c.loop-search.invariant c.augment-value.new.flow c.augment-value.result c.augment-value.ensures.augmented in
+    omega (arith, c.augment-value.ensures.positive.0, value_small c.args.network.now.graph c.args.search.now.source c.args.sink c.args.links.now c.args.search.now c.args.flow.now c.requires.ready c.augment-value.new.flow (c.loop-search.value + c.augment-value.result) after)
 
 pub loop-search-preserved : goal.loop-search-preserved
 loop-search-preserved c =
-    let g = c.args.network.now.graph in
-    let new = slice_index c.augment-value.new.flow in
-    let value = c.loop-search.value + c.augment-value.result in
-    let s = c.run-in-loop-search.new.self in
-    let run = c.run-in-loop-search.ensures in
-    let invariant = c.loop-search.invariant in
-    record {
-      source = run.source ∙ invariant.source;
-      order = run.order;
-      searched = subst (λ (source : ℕ). IsSearched g new source 1 s.marks.items) (sym run.source) run.searched;
-      within = c.augment-value.ensures.within;
-      balanced = subst (λ (source : ℕ). IsBalanced g source c.args.sink new value) (sym run.source) (c.augment-value.ensures.balanced c.loop-search.value invariant.balanced);
-      most = λ k. omega (arith, c.augment-value.ensures.most k, invariant.most k);
-      bounded = value_after (goal.at.loop-search-preserved c).After-augment-value;
-    }
+    let run = c.run-in-loop-search in
+    let after = more_there c.args.network.now.graph c.args.search.now.source c.args.sink c.args.links.now c.args.search.now c.args.flow.now c.requires.ready c.loop-search.search c.loop-search.flow c.loop-search.value c.loop-search.invariant c.augment-value.new.flow c.augment-value.result c.augment-value.ensures.augmented in
+    at_work_next c.args.network.now.graph c.args.search.now.source c.args.sink c.args.links.now c.args.search.now c.args.flow.now c.requires.ready c.loop-search.search c.loop-search.flow c.loop-search.value c.loop-search.invariant run.new.self c.augment-value.new.flow (c.loop-search.value + c.augment-value.result) (omega (arith, c.augment-value.auto.flow, c.loop-search.invariant.arcs)) after run.ensures.source run.ensures.order run.ensures.searched
+
+pub returns : goal.returns
+returns c = record { ended = work_ended c.args.network.now.graph c.args.search.now.source c.args.sink c.args.links.now c.args.search.now c.args.flow.now c.requires.ready c.loop-search.search c.loop-search.flow c.loop-search.value c.loop-search.invariant (λ has. omega (arith, level_is (goal.at.returns c).After-index, has, c.loop-search-test.false)) }
