@@ -1,5 +1,5 @@
 -- The order of rows is total, and only a row itself ties with it.
-use Rattle.std.proofs.Common.{◌≡◌, ℕ, Bool, true, false, ◌&&◌, List, refl, sym, ap, ◌∙◌, arith}
+use Rattle.std.proofs.Common.{◌≡◌, Bool, true, false, ◌&&◌, refl, sym, ap, ◌∙◌}
 use Rattle.std.specs.Prelude.{◌==◌, bytes_eq}
 use Rattle.std.specs.Cmp.{IsTotalOrder, unsigned_tied, Equal-is}
 use Rattle.std.specs.Cmp.Lexicographic.{slice_cmp}

@@ -1,6 +1,6 @@
 -- What an addition and a deletion do to rows in order.
-use Rattle.std.proofs.Common.{◌≡◌, ℕ, zero, suc, ◌+◌, ◌<◌, ◌≤◌, Bool, true, false, not, ◌&&◌, ◌||◌, List, [], ◌∷◌, ◌++◌, length, get_or, take, drop, refl, sym, ap, ◌∙◌, add-one, arith}
-use Rattle.std.specs.List.{filter, list_any, insert, remove, All, AllPairs, HoldsAt}
+use Rattle.std.proofs.Common.{◌≡◌, ℕ, suc, ◌+◌, ◌<◌, ◌≤◌, Bool, true, false, not, ◌&&◌, ◌||◌, List, [], ◌∷◌, ◌++◌, length, get_or, take, drop, refl, sym, ap, ◌∙◌, add-one, arith}
+use Rattle.std.specs.List.{filter, All, AllPairs, HoldsAt}
 use Rattle.std.specs.Prelude.{Result, Ok, Err, is_ok, IfOk, IfErr}
 use Rattle.std.specs.List.Sorted.{IsPartitionPoint, IsNonDecreasingBy, IsSearchInRange, IsBinarySearchResult}
 use Rattle.std.proofs.lemmas.List.Sorted.{searchable_from_sorted}
@@ -9,7 +9,7 @@ use Rattle.std.specs.declared.cmp.Ordering.{Ordering}
 use Rattle.std.specs.declared.cmp.Ordering.TheVariants.{Less, Equal, Greater}
 use Rattle.std.proofs.lemmas.List.{append-nil, take-append-drop, get_or-take, get_or-drop, length-take, length-drop, drop_more}
 use Rattle.std.proofs.lemmas.Cmp.{tied_itself}
-use Rattle.std.proofs.lemmas.List.Elements.{All-append, All-cons, All-head, All-tail, All-filter, All-weaker, filter-append, filter_passes}
+use Rattle.std.proofs.lemmas.List.Elements.{All-append, All-cons, All-head, All-tail, All-weaker, filter-append, filter_passes}
 use Rattle.std.proofs.lemmas.List.Folds.{list_any-append, list_any_none}
 use Rattle.std.proofs.lemmas.List.Kept.{AllPairs-cons, AllPairs-filter}
 use Rattle.std.proofs.lemmas.Map.Views.{any-filter_same}
@@ -143,19 +143,23 @@ module _ (row : RouteRow) (front back : List RouteRow) (early : All (λ r. row_c
   -- a row that is there stays
   pub with_row-hit : with_row row (front ++ row ∷ back) ≡ front ++ row ∷ back
   with_row-hit =
-      rw (filter_front (λ r. is_before r row) front (row ∷ back) early_before (All-cons (λ r. is_before r row ≡ false) row back itself.before late_before),
+      rw (
+        filter_front (λ r. is_before r row) front (row ∷ back) early_before (All-cons (λ r. is_before r row ≡ false) row back itself.before late_before),
         filter-append (λ r. is_before row r) front (row ∷ back),
         filter_none (λ r. is_before row r) front early_after,
         itself.after,
-        filter_all (λ r. is_before row r) back late_after)
+        filter_all (λ r. is_before row r) back late_after,
+      )
 
   -- a deletion takes it out
   pub without_row-hit : without_row row (front ++ row ∷ back) ≡ front ++ back
   without_row-hit =
       filter-append (λ r. not (same_route r row)) front (row ∷ back)
-      ∙ rw (itself.same,
+      ∙ rw (
+        itself.same,
         filter_all (λ r. not (same_route r row)) front (All-weaker (λ r. same_route r row ≡ false) (λ r. not (same_route r row) ≡ true) (λ r e. ap not e) front early_other),
-        filter_all (λ r. not (same_route r row)) back (All-weaker (λ r. same_route r row ≡ false) (λ r. not (same_route r row) ≡ true) (λ r e. ap not e) back late_other))
+        filter_all (λ r. not (same_route r row)) back (All-weaker (λ r. same_route r row ≡ false) (λ r. not (same_route r row) ≡ true) (λ r e. ap not e) back late_other),
+      )
 
   pub has_row-gap : has_row row (front ++ back) ≡ false
   has_row-gap = list_any_none (λ r. same_route r row) (front ++ back) (All-append (λ r. same_route r row ≡ false) front back early_other late_other)
@@ -167,9 +171,10 @@ module _ (row : RouteRow) (front back : List RouteRow) (early : All (λ r. row_c
 module _ (row : RouteRow) (rows : List RouteRow) (place : ℕ) where
   pub gap : place ≤ length rows → IsPartitionPoint (λ r. row_cmp r row ≡ Less) (λ r. row_cmp r row ≡ Greater) rows place → WouldStand row rows place × (has_row row rows ≡ false)
   gap within parts =
-      let whole = take-append-drop place rows in
-      (record { within = within; with = ap (with_row row) (sym whole) ∙ with_row-gap row (take place rows) (drop place rows) early late },
-        ap (has_row row) (sym whole) ∙ has_row-gap row (take place rows) (drop place rows) early late)
+      let whole = take-append-drop place rows in (
+        record { within = within; with = ap (with_row row) (sym whole) ∙ with_row-gap row (take place rows) (drop place rows) early late },
+        ap (has_row row) (sym whole) ∙ has_row-gap row (take place rows) (drop place rows) early late,
+      )
     where
       early : All (λ r. row_cmp r row ≡ Less) (take place rows)
       early = λ k d inside.
@@ -180,13 +185,14 @@ module _ (row : RouteRow) (rows : List RouteRow) (place : ℕ) where
       late = λ k d inside. rw (get_or-drop place rows k d) (parts.1 (place + k) d (omega arith) (omega (arith, length-drop place rows)))
 
   pub hit : IsInOrder rows → place < length rows → HoldsAt (λ r. row_cmp r row ≡ Equal) rows place → Stands row rows place × (has_row row rows ≡ true)
-  hit in_order within ties =
-      (record {
-        within = within;
-        with = ap (with_row row) whole ∙ with_row-hit row (take place rows) (drop (suc place) rows) early late ∙ sym whole;
-        without = ap (without_row row) whole ∙ without_row-hit row (take place rows) (drop (suc place) rows) early late;
-      },
-        ap (has_row row) whole ∙ has_row-hit row (take place rows) (drop (suc place) rows) early late)
+  hit in_order within ties = (
+    record {
+      within = within;
+      with = ap (with_row row) whole ∙ with_row-hit row (take place rows) (drop (suc place) rows) early late ∙ sym whole;
+      without = ap (without_row row) whole ∙ without_row-hit row (take place rows) (drop (suc place) rows) early late;
+    },
+    ap (has_row row) whole ∙ has_row-hit row (take place rows) (drop (suc place) rows) early late,
+  )
     where
       at : (d : RouteRow) → get_or rows place d ≡ row
       at d = row_cmp_same (get_or rows place d) row (ties d)

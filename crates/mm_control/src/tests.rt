@@ -67,7 +67,13 @@ fn rows_stand_by_report_type_and_then_by_store(rt: HostRuntime) -> Result<(), Fa
         let new = row(&rt, apid, subtype, text.as_bytes());
         assert_eq!(rt; table.add(new), Ok(()));
     }
-    let all = [(99, 255, "B"), (100, 25, "A"), (100, 25, "AB"), (100, 25, "B"), (101, 0, "A")];
+    let all = [
+        (99, 255, "B"),
+        (100, 25, "A"),
+        (100, 25, "AB"),
+        (100, 25, "B"),
+        (101, 0, "A"),
+    ];
     lists(&rt, &table, &all);
     let stores = table.stores_for(rt.alloc(), 100, 3, 25)?;
     assert_eq!(rt; stores.len(), 3);
@@ -77,7 +83,11 @@ fn rows_stand_by_report_type_and_then_by_store(rt: HostRuntime) -> Result<(), Fa
     }
     let a = store(&rt, b"A");
     assert_eq!(rt; table.delete_store(&a), 2);
-    lists(&rt, &table, &[(99, 255, "B"), (100, 25, "AB"), (100, 25, "B")]);
+    lists(
+        &rt,
+        &table,
+        &[(99, 255, "B"), (100, 25, "AB"), (100, 25, "B")],
+    );
     assert_eq!(rt; table.delete_store(&a), 0);
     Ok(())
 }

@@ -154,7 +154,10 @@ const FULL: [(Ask, Told); 8] = [
     (Ask::Offer(7, 1), Told::Kept(7)),
     (Ask::Offer(8, 2), Told::Kept(8)),
     (Ask::Resize(3), Told::Refused(Fault::StorageOn)),
-    (Ask::ChangeKind(Kind::Bounded), Told::Refused(Fault::StorageOn)),
+    (
+        Ask::ChangeKind(Kind::Bounded),
+        Told::Refused(Fault::StorageOn),
+    ),
     (Ask::Disable, Told::Done),
     (Ask::Resize(1), Told::Refused(Fault::HoldsMore)),
 ];
@@ -181,12 +184,18 @@ fn change_kind_and_resize(rt: HostRuntime) {
     asks(&rt, rt.alloc(), &mut state, &FULL);
     asks(&rt, rt.alloc(), &mut state, &BOUNDED);
     assert_eq!(rt; counts(&state), (3, 1, 0, 2));
-    assert_eq!(rt; (state.store().kind(), state.store().size()), (Kind::Bounded, 3));
+    assert_eq!(rt;
+        (state.store().kind(), state.store().size()),
+        (Kind::Bounded, 3)
+    );
     let mut state = new_state(&rt, rt.alloc(), Kind::Bounded);
     asks(&rt, rt.alloc(), &mut state, &FULL);
     asks(&rt, rt.alloc(), &mut state, &CIRCULAR);
     assert_eq!(rt; counts(&state), (3, 1, 0, 2));
-    assert_eq!(rt; (state.store().kind(), state.store().size()), (Kind::Circular, 3));
+    assert_eq!(rt;
+        (state.store().kind(), state.store().size()),
+        (Kind::Circular, 3)
+    );
 }
 
 const BUSY: [(Ask, Told); 8] = [

@@ -1,4 +1,4 @@
-use Rattle.std.proofs.Common.{◌≡◌, ◌+◌, ◌<◌, ◌≤◌, length, arith}
+use Rattle.std.proofs.Common.{◌≡◌, ◌<◌, length, arith}
 use Rattle.std.specs.List.{insert}
 use Rattle.std.proofs.lemmas.List.Edits.{length-insert}
 use Rattle.mm_problem.specs.declared.limits.TheConstants.{MAX_ROUTES}
@@ -15,7 +15,7 @@ invariant_of-self c =
     let grown = length-insert rows.items place c.args.row would.within in
     let room : length rows.items < MAX_ROUTES = omega (arith, table.at_most, rows.ok.0, c.len.ensures) in
     let larger : IsTable (insert rows.items place c.args.row) =
-        record { in_order = rw would.with at (IsInOrder-with_row c.args.row rows.items table.in_order); at_most = omega (arith, grown, room) } in
+    record { in_order = rw would.with at (IsInOrder-with_row c.args.row rows.items table.in_order); at_most = omega (arith, grown, room) } in
     let items : c.insert.new.self.items ≡ insert rows.items place c.args.row = rw c.unwrap.ensures at c.insert.ensures.items in
     (rw items larger, omega (arith, c.self.invariant.1, c.insert.ensures.capacity))
 

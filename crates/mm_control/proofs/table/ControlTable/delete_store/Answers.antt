@@ -25,9 +25,10 @@ invariant_of-self c =
     let rows = c.self.inside.rows in
     let kept = filter_same _ (λ r. not (is_to c.args.store.now r)) _ (λ r b f' called. search rules) _ _ c.retain.ensures.filtered in
     let shorter = length-filter (λ r. not (is_to c.args.store.now r)) rows.items in
-    let most = count_by-le-length (λ r. not (is_to c.args.store.now r)) rows.items in
-    (rw kept (record {
+    let most = count_by-le-length (λ r. not (is_to c.args.store.now r)) rows.items in (
+      rw kept (record {
         in_order = AllPairs-filter (λ a b. row_cmp a b ≡ Less) (λ r. not (is_to c.args.store.now r)) rows.items c.self.invariant.0.in_order;
         at_most = omega (arith, shorter, most, c.self.invariant.0.at_most);
       }),
-      omega (arith, c.self.invariant.1, c.retain.ensures.capacity))
+      omega (arith, c.self.invariant.1, c.retain.ensures.capacity),
+    )

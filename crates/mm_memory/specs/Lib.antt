@@ -1,0 +1,3 @@
+pub use Rattle.mm_control.specs.Routes
+pub use Rattle.mm_desk.specs.Machine
+pub mod Holdings
