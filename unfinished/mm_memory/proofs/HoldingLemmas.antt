@@ -1,0 +1,24 @@
+-- The stores of a setup, opened, are those of a memory.
+use Rattle.std.proofs.Common.{ℕ, ◌<◌, List, length, arith}
+use Rattle.std.specs.Prelude.{map}
+use Rattle.std.specs.List.{AllPairs}
+use Rattle.std.proofs.lemmas.List.{get_or-map, length-map}
+use Rattle.mm_problem.specs.declared.rows.StoreRow.{StoreRow}
+use Rattle.mm_problem.specs.Setup.{AreStores}
+use Rattle.mm_memory.specs.declared.held.Held.{Held}
+use Rattle.mm_memory.specs.Holdings.{AreHeld, HaveOtherIds, opened}
+
+pub AreHeld-opened : (rows : List StoreRow) → AreStores rows → AreHeld (map opened rows)
+AreHeld-opened rows sound = record {
+  at_most = omega (arith, length-map rows opened, sound.at_most);
+  named = named;
+}
+  where
+    row_at : ℕ → Held → StoreRow
+    row_at i d = record { id = d.id; size = 0; start = 0; kind = d.state.store.kind; channel = d.channel }
+
+    named : AllPairs HaveOtherIds (map opened rows)
+    named = λ i j d less within.
+        let inside : j < length rows = omega (arith, length-map rows opened) in
+        let before : i < length rows = omega arith in
+        rw (get_or-map opened rows i (row_at i d) d before, get_or-map opened rows j (row_at i d) d inside) (sound.named i j (row_at i d) less inside)

@@ -1,0 +1,12 @@
+//! Named packet stores.
+
+use mm_desk::StoreState;
+use mm_problem::StoreId;
+
+/// A packet store of the memory: its identifier, the virtual channel that it is sent on, and its state.
+#[derive(Drop)]
+pub struct Held {
+    pub id: StoreId,
+    pub channel: u8,
+    pub state: StoreState,
+}

@@ -1,0 +1,22 @@
+//! The mass memory of a spacecraft: named packet stores with their storage control.
+#![tactic(auto)]
+
+mod answer;
+mod apply;
+mod change;
+mod fault;
+mod held;
+mod instruction;
+mod memory;
+mod places;
+mod reports;
+mod request;
+mod setup;
+
+pub use answer::{Answer, Answers};
+pub use fault::{Fault, NoMemory};
+pub use held::Held;
+pub use memory::Memory;
+
+#[cfg(test)]
+mod tests;
