@@ -1,5 +1,0 @@
-pub mod HoldingLemmas
-pub mod PlaceLemmas
-pub mod IdLemmas
-pub mod ApplyLemmas
-pub mod ReportLemmas

@@ -1,9 +1,0 @@
-use Rattle.std.proofs.Common.{◌≡◌, ◌≤◌, length, take}
-use Rattle.mm_memory.specs.Holdings.{table_of}
-use Rattle.mm_memory.proofs.setup.control_of.Given as goal
-
-abbrev pub invariant-loop-route : goal.invariant-loop-route
-invariant-loop-route l = record {
-  rows : l.control ≡ table_of (take l.route-index l.routes);
-  few : length l.control ≤ l.route-index;
-}
