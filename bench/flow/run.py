@@ -1,46 +1,64 @@
-"""Times both solvers of mm_flow and the plain Rust twin on the same networks, as whole processes in one run.
+#!/usr/bin/env python3
+"""Times both solvers of mm_flow and the plain Rust twin on the same networks in one run, each in a process of its own.
 
-Usage: python3 run.py [ROUNDS]. It wants crates/bench_flow/out/bench_flow, which `rt run` there proves and builds, and
-compiles the twin with `rustc -O`. The networks and the value of each stand in the table that it prints; a line is the
-least of the rounds, in milliseconds.
+    python3 bench/flow/run.py [ROUNDS]        ROUNDS is 3 where it is not said
+
+It wants crates/bench_flow/out/bench_flow, which `rt run` there proves and builds, and compiles the twin with `rustc -O`.
+The networks of the planner's problems are written into bench/out (networks.py). A cell of the table is the least of the
+rounds, in milliseconds that the solver alone took by the clock of its process. Where two values differ, the run ends.
 """
-import pathlib
+
 import subprocess
 import sys
 import tempfile
-import time
+from pathlib import Path
 
-HERE = pathlib.Path(__file__).resolve().parent
-PROGRAM = HERE.parents[1] / "crates" / "bench_flow" / "out" / "bench_flow"
-NETWORKS = [("tight", 64), ("tight", 256), ("spare", 256), ("made", 2000), ("made", 60000)]
+from networks import BENCH, write
+
+HERE = Path(__file__).resolve().parent
+PROGRAM = BENCH.parent / "crates" / "bench_flow" / "out" / "bench_flow"
+OWN = [("tight", 64), ("tight", 256), ("spare", 256), ("made", 2000), ("made", 60000)]
 
 
-def timed(command, rounds):
-    """The least time of the rounds, in milliseconds, and what the process printed."""
-    best, printed = None, ""
+def runs():
+    """Each network: its name, the words that ask for it, and the file to read, if any."""
+    planned = [(f"planner {name}", ["text"], file) for name, file in write(BENCH / "out")]
+    return planned + [(f"own {family} {size}", [family, str(size)], None) for family, size in OWN]
+
+
+def solved(command, file):
+    """The value of a maximum flow, and the milliseconds that the solver took."""
+    text = file.read_bytes() if file else b""
+    printed = subprocess.run(command, check=True, input=text, stdout=subprocess.PIPE).stdout
+    value, spent = printed.split()
+    return int(value), float(spent)
+
+
+def line(name, words, file, twin, rounds):
+    """The row of a network."""
+    commands = [[PROGRAM, "levels", *words], [twin, *words], [PROGRAM, "paths", *words]]
+    values, least = set(), [float("inf")] * len(commands)
     for _ in range(rounds):
-        start = time.perf_counter()
-        printed = subprocess.run(command, check=True, capture_output=True, text=True).stdout.strip()
-        spent = (time.perf_counter() - start) * 1000
-        best = spent if best is None else min(best, spent)
-    return best, printed
+        for place, command in enumerate(commands):
+            value, spent = solved(command, file)
+            values.add(value)
+            least[place] = min(least[place], spent)
+    if len(values) > 1:
+        sys.exit(f"{name}: the values differ: {sorted(values)}")
+    levels, plain, paths = least
+    times = f"{levels:.2f} | {plain:.2f} | {levels / plain:.2f} | {paths:.1f} | {paths / levels:.1f}"
+    return f"| {name} | {values.pop()} | {times} |"
 
 
-def main():
-    rounds = int(sys.argv[1]) if len(sys.argv) > 1 else 5
+def main(rounds):
     with tempfile.TemporaryDirectory() as folder:
-        twin = pathlib.Path(folder) / "twin"
+        twin = Path(folder) / "twin"
         subprocess.run(["rustc", "-O", "-o", twin, HERE / "twin.rs"], check=True)
-        print("| Network | Value | `solve` ms | twin ms | `solve_paths` ms |")
-        print("|---|---|---|---|---|")
-        for family, size in NETWORKS:
-            words = [family, str(size)]
-            levels, value = timed([PROGRAM, "levels", *words], rounds)
-            plain, other = timed([twin, *words], rounds)
-            paths, third = timed([PROGRAM, "paths", *words], 1)
-            if not value == other == third:
-                sys.exit(f"{family} {size}: the values differ: {value} {other} {third}")
-            print(f"| {family} {size} | {value} | {levels:.1f} | {plain:.1f} | {paths:.1f} |")
+        print("| Network | Value | `solve` | twin | `solve` / twin | `solve_paths` | `solve_paths` / `solve` |")
+        print("|---|---|---|---|---|---|---|")
+        for name, words, file in runs():
+            print(line(name, words, file, twin, rounds), flush=True)
 
 
-main()
+if __name__ == "__main__":
+    main(int(sys.argv[1]) if len(sys.argv) > 1 else 3)

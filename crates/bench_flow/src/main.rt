@@ -1,85 +1,57 @@
-//! Solves one made network, so that a clock outside can time the process.
+//! Solves one network, and prints the flow's value and how many milliseconds the solver took.
 #![tactic(auto)]
 
-mod networks;
+ghost use Rattle.std.specs.Prelude.{◌<◌, IfOk};
 
-use mm_flow::paths::solve_paths;
-use mm_flow::solve;
+mod networks;
+mod solver;
+mod text;
+
+use anyhow::Result;
+use mm_flow::Network;
 use networks::Family;
+use solver::Solver;
 use std::alloc::Global;
 use std::io;
+use thiserror::Error;
 
-/// Which solver is timed.
-#[derive(Clone, Copy)]
-enum Solver {
-    Levels,
-    Paths,
+/// Words that ask for nothing.
+#[derive(Clone, Copy, Debug, Error)]
+#[error("SOLVER text, or SOLVER FAMILY SIZE, where SOLVER is levels or paths and FAMILY is tight, spare or made")]
+struct UnknownWords;
+
+// The network of a family.
+fn made(alloc: Global, family: &str, size: &str) -> Result<Network>
+    ensures ends { IfOk result (λ network. 1 < network.graph.nodes) }
+{
+    let family = Family::named(family).ok_or(UnknownWords)?;
+    Ok(family.network(alloc, size.parse()?)?)
 }
 
-impl Solver {
-    fn named(word: &str) -> Option<Solver> {
-        match word {
-            "levels" => Some(Solver::Levels),
-            "paths" => Some(Solver::Paths),
-            _ => None,
-        }
-    }
+// The network whose text is the standard input.
+fn read<R: Input + AllocGlobal>(rt: &R) -> Result<Network>
+    ensures ends { IfOk result (λ network. 1 < network.graph.nodes) }
+{
+    let text = io::read_to_string(rt.alloc(), rt.reader())?;
+    Ok(text::read(rt.alloc(), text.as_str())?)
 }
 
-/// What the words ask for.
-#[derive(Clone, Copy)]
-struct Task {
-    solver: Solver,
-    family: Family,
-    size: u32,
-}
-
-impl Task {
-    fn read(words: &[String]) -> Option<Task> {
-        let solver = Solver::named(words.first()?.as_str())?;
-        let family = Family::named(words.get(1)?.as_str())?;
-        let size = words.get(2)?.as_str().parse().ok()?;
-        Some(Task {
-            solver,
-            family,
-            size,
-        })
-    }
-
-    // The value of a maximum flow; `None` for want of memory.
-    fn value(self, alloc: Global) -> Option<u64> {
-        match self.family.network(alloc, self.size) {
-            Ok(network) => {
-                let answer = match self.solver {
-                    Solver::Levels => solve(alloc, &network, 0, 1),
-                    Solver::Paths => solve_paths(alloc, &network, 0, 1),
-                };
-                answer.ok().map(|solved| solved.value)
-            }
-            Err(_) => None,
-        }
-    }
-}
-
-/// The words are a solver (`levels` or `paths`), a family (`tight`, `spare` or `made`) and a size, and the value is
-/// printed. With other words, or with none, a tiny network is solved and nothing is printed.
-fn main(rt: HostRuntime) -> io::Result<()> {
+/// The words are a solver (`levels` or `paths`), and either `text` or a family (`tight`, `spare` or `made`) and a size.
+/// With no words a tiny network is solved and nothing is printed.
+fn main(rt: HostRuntime) -> Result<()> {
     let alloc = rt.alloc();
     let words: Vec<String> = std::env::args(&rt)?.skip(1).collect(alloc)?;
-    let tiny = Task {
-        solver: Solver::Levels,
-        family: Family::Tight,
-        size: 2,
+    let (solver, network) = match words.as_slice() {
+        [] => {
+            Solver::Levels.timed(&rt, alloc, &Family::Tight.network(alloc, 2)?)?;
+            return Ok(());
+        }
+        [solver, text] if text.as_str() == "text" => (solver, read(&rt)?),
+        [solver, family, size] => (solver, made(alloc, family.as_str(), size.as_str())?),
+        _ => return Err(UnknownWords.into()),
     };
-    match Task::read(words.as_slice()) {
-        Some(task) => {
-            if let Some(value) = task.value(alloc) {
-                println!(rt; "{value}")?;
-            }
-        }
-        None => {
-            let _ = tiny.value(alloc);
-        }
-    }
+    let solver = Solver::named(solver.as_str()).ok_or(UnknownWords)?;
+    let report = solver.timed(&rt, alloc, &network)?;
+    println!(rt; "{report}")?;
     Ok(())
 }

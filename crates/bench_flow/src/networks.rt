@@ -60,7 +60,7 @@ fn built(alloc: Global, nodes: u32, arcs: &[Arc]) -> Result<Network, NoMemory>
 }
 
 // Adds so many nodes.
-fn add_nodes(network: &mut Network, nodes: u32) -> Result<(), NoMemory>
+pub(crate) fn add_nodes(network: &mut Network, nodes: u32) -> Result<(), NoMemory>
     requires empty { network.old.graph.nodes ≡ 0 }
     requires none { network.old.graph.arcs ≡ [] }
     requires most { nodes ≤ MAX_NODES }

@@ -1,5 +1,5 @@
 -- The stores of a setup, opened, are those of a memory.
-use Rattle.std.proofs.Common.{ℕ, ◌<◌, ◌≤◌, List, length, arith}
+use Rattle.std.proofs.Common.{ℕ, ◌<◌, List, length, arith}
 use Rattle.std.specs.Prelude.{map}
 use Rattle.std.specs.List.{AllPairs}
 use Rattle.std.proofs.lemmas.List.{get_or-map, length-map}

@@ -1,5 +1,5 @@
 -- A mass memory: its named packet stores in order, and the rows of its storage control.
-use Rattle.std.specs.Prelude.{◌≢◌, ◌≤◌, ℕ, List, [], length, map, find, fold, bytes_eq, AllPairs, Option}
+use Rattle.std.specs.Prelude.{◌≡◌, ◌≢◌, ◌<◌, ◌≤◌, ℕ, Bool, if◌then◌else◌, List, [], length, map, find, fold, slice_get, bytes_eq, AllPairs, Option}
 use Rattle.std.specs.Option.{option_map}
 use Rattle.mm_problem.specs.declared.limits.TheConstants.{MAX_STORES}
 use Rattle.mm_problem.specs.declared.rows.RouteRow.{RouteRow}
@@ -36,10 +36,23 @@ table_of routes = fold (λ rows row. with_row row rows) [] routes
 abbrev pub memory_of : SetupRows → Holdings
 memory_of setup = record { stores = map opened setup.stores; routes = table_of setup.routes }
 
+-- whether a store has the identifier
+abbrev pub has_id : List ℕ → Held → Bool
+has_id id h = bytes_eq h.id id
+
 -- the store with this identifier
 abbrev pub store_of : List ℕ → List Held → Option Held
-store_of id stores = find (λ h. bytes_eq h.id id) stores
+store_of id stores = find (has_id id) stores
 
 -- the state of the store with this identifier
 abbrev pub state_of : List ℕ → Holdings → Option State
 state_of id memory = option_map (λ h. h.state) (store_of id memory.stores)
+
+-- the store with this identifier stands at this place
+pub record StandsAt (id : List ℕ) (stores : List Held) (place : ℕ) : Type 0 where
+  pub within : place < length stores
+  pub store : store_of id stores ≡ slice_get stores place
+
+-- the stores, of which the one with this identifier is changed
+abbrev pub with_changed : List ℕ → (Held → Held) → List Held → List Held
+with_changed id change stores = map (λ h. if has_id id h then change h else h) stores

@@ -4,6 +4,7 @@
 mod fault;
 mod held;
 mod memory;
+mod places;
 mod setup;
 
 pub use fault::NoMemory;

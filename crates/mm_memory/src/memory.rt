@@ -1,10 +1,11 @@
 //! The mass memory.
 ghost use Rattle.std.specs.Prelude.{◌≡◌, [], IfOk, slice_get};
-ghost use Rattle.std.specs.Option.{option_copied, option_map};
+ghost use Rattle.std.specs.Option.{option_copied, option_copied_mut, option_map};
 ghost use Rattle.mm_memory.specs.Holdings.{AreHeld, memory_of, state_of};
 
 use crate::fault::NoMemory;
 use crate::held::Held;
+use crate::places::place_of;
 use crate::setup::{control_of, stores_of};
 use mm_control::ControlTable;
 use mm_desk::StoreState;
@@ -31,6 +32,9 @@ impl Model for Memory {
 }
 
 impl Memory {
+    ghost use Rattle.std.specs.Borrow.{sem};
+    ghost use Rattle.mm_memory.specs.Lending.{LendsState};
+
     /// The memory of a setup: its stores in order, empty, with their storage on, and its routes.
     pub fn of_setup(alloc: Global, setup: &Setup) -> Result<Memory, NoMemory>
         ensures memory { IfOk result (λ memory. memory ≡ memory_of setup.now) }
@@ -46,6 +50,16 @@ impl Memory {
     {
         let held = self.stores.iter().find(|held| held.id == *id)?;
         Some(&held.state)
+    }
+
+    /// The state of the store with this identifier, to be changed.
+    pub fn state_mut(&mut self, id: &StoreId) -> Option<&mut StoreState>
+        ensures* lends { sem 𝓛 (LendsState self.entry id.now result) }
+        ensures state { option_copied_mut result ≡ state_of id.now self.old }
+    {
+        let place = place_of(&self.stores, id)?;
+        let held = self.stores.get_mut(place)?;
+        Some(&mut held.state)
     }
 
     /// The identifier and the virtual channel of the store at this place, counted from 0.

@@ -59,3 +59,16 @@ fn lifted_stores_are_put_back(rt: HostRuntime) {
     assert_eq!(rt; memory.entry(0), Some((sci, 0)));
     assert_eq!(rt; shape(&memory, &sci), Some((Kind::Bounded, 4, 0, true)));
 }
+
+#[test]
+fn a_lent_state_is_the_store_s_state(rt: HostRuntime) {
+    let mut memory = memory(&rt, rt.alloc());
+    let (sci, hk) = (id(&rt, b"SCI"), id(&rt, b"HK"));
+    match memory.state_mut(&hk) {
+        Some(state) => state.disable(),
+        None => {}
+    }
+    assert_eq!(rt; shape(&memory, &hk), Some((Kind::Circular, 2, 0, false)));
+    assert_eq!(rt; shape(&memory, &sci), Some((Kind::Bounded, 4, 0, true)));
+    assert!(rt; memory.state_mut(&id(&rt, b"XY")).is_none());
+}
