@@ -28,7 +28,7 @@ stands_at_first id stores r e =
 same_id : (a b : List ℕ) → bytes_eq a b ≡ true → a ≡ b
 same_id a b same = (bytes_eq-Decides a b).0 same
 
-is_itself : (a b : List ℕ) → a ≡ b → bytes_eq a b ≡ true
+pub is_itself : (a b : List ℕ) → a ≡ b → bytes_eq a b ≡ true
 is_itself a b = (bytes_eq-Decides a b).1
 
 is_other : (a b : List ℕ) → a ≢ b → bytes_eq a b ≡ false

@@ -2,3 +2,8 @@ pub use Rattle.mm_control.specs.Routes
 pub use Rattle.mm_desk.specs.Machine
 pub mod Holdings
 pub mod Lending
+pub mod Fault
+pub mod Instruction
+pub mod Acting
+pub mod Applying
+pub mod Reports

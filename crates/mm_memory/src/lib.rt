@@ -1,13 +1,20 @@
 //! The mass memory of a spacecraft: named packet stores with their storage control.
 #![tactic(auto)]
 
+mod answer;
+mod apply;
+mod change;
 mod fault;
 mod held;
+mod instruction;
 mod memory;
 mod places;
+mod reports;
+mod request;
 mod setup;
 
-pub use fault::NoMemory;
+pub use answer::{Answer, Answers};
+pub use fault::{Fault, NoMemory};
 pub use held::Held;
 pub use memory::Memory;
 

@@ -1,7 +1,7 @@
 //! The mass memory.
 ghost use Rattle.std.specs.Prelude.{◌≡◌, [], IfOk, slice_get};
 ghost use Rattle.std.specs.Option.{option_copied, option_copied_mut, option_map};
-ghost use Rattle.mm_memory.specs.Holdings.{AreHeld, memory_of, state_of};
+ghost use Rattle.mm_memory.specs.Holdings.{AreHeld, memory_of, store_of, state_of};
 
 use crate::fault::NoMemory;
 use crate::held::Held;
@@ -44,11 +44,18 @@ impl Memory {
         Ok(Memory { stores, control })
     }
 
+    // The store with this identifier.
+    pub(crate) fn held(&self, id: &StoreId) -> Option<&Held>
+        ensures { option_copied result ≡ store_of id.now self.now.stores }
+    {
+        self.stores.iter().find(|held| held.id == *id)
+    }
+
     /// The state of the store with this identifier.
     pub fn state(&self, id: &StoreId) -> Option<&StoreState>
         ensures state { option_copied result ≡ state_of id.now self.now }
     {
-        let held = self.stores.iter().find(|held| held.id == *id)?;
+        let held = self.held(id)?;
         Some(&held.state)
     }
 

@@ -1,0 +1,108 @@
+-- What changes of the list of stores leave, and the outcomes that they have.
+use Rattle.std.proofs.Common.{◌≡◌, ◌≢◌, inl, inr, ℕ, zero, suc, ◌+◌, ◌<◌, ◌≤◌, Bool, true, false, cond, not, List, [], ◌∷◌, ◌++◌, length, get_or, take, refl, sym, subst, ap, ◌∙◌, arith}
+use Rattle.std.specs.Prelude.{bytes_eq, filter, if◌then◌else◌, slice_get, Option, Some, None, MatchOption, Result, Ok, Err, IsOk, AllPairs}
+use Rattle.std.specs.List.{find}
+use Rattle.std.proofs.Math.ListN.{set}
+use Rattle.std.proofs.lemmas.Bool.{false≢true}
+use Rattle.std.proofs.lemmas.List.{length_push, set-get_or, take_more}
+use Rattle.std.proofs.lemmas.List.Kept.{AllPairs-filter}
+use Rattle.std.proofs.lemmas.List.Quantifiers.{all_pairs_push}
+use Rattle.std.proofs.lemmas.List.Sums.{length-filter, count_by-le-length}
+use Rattle.std.proofs.lemmas.Option.{get_or_from_slice_get, slice_get_within, slice_get_cases, none-some}
+use Rattle.mm_problem.specs.declared.limits.TheConstants.{MAX_STORES}
+use Rattle.mm_problem.specs.declared.rows.RouteRow.{RouteRow}
+use Rattle.mm_control.specs.Routes.{without_store}
+use Rattle.mm_desk.specs.declared.fault.Fault.{Fault as StateFault}
+use Rattle.mm_desk.specs.Rest.{rest_fault}
+use Rattle.mm_memory.specs.declared.answer.Answer.{Answer}
+use Rattle.mm_memory.specs.declared.fault.Fault.{Fault}
+use Rattle.mm_memory.specs.declared.fault.Fault.TheVariants.{NoMemory, BadId}
+use Rattle.mm_memory.specs.declared.held.Held.{Held}
+use Rattle.mm_memory.specs.declared.instruction.Instruction.{Instruction}
+use Rattle.mm_memory.specs.Acting.{Outcome, refusal_of, done_or}
+use Rattle.mm_memory.specs.Applying.{ComesUnlessNoMemory, Applies, AppliesEach, changed, deleted, without, on_store, on_no_store, for_store, for_tested, outcome_told}
+use Rattle.mm_memory.specs.Holdings.{Holdings, AreHeld, HaveOtherIds, StandsAt, has_id, store_of}
+use Rattle.mm_memory.specs.Instruction.{is_id, tested}
+use Rattle.mm_memory.proofs.PlaceLemmas.{is_itself, with_changed-stands}
+
+-- the store at the place of an identifier
+pub stood : (id : List ℕ) (stores : List Held) (place : ℕ) (h : Held) → StandsAt id stores place → store_of id stores ≡ Some h → slice_get stores place ≡ Some h
+stood id stores place h stands found = sym stands.store ∙ found
+
+module _ (id : List ℕ) (stores : List Held) (routes : List RouteRow) (place : ℕ) (h left : Held) (Lacks : Type 0) (acted : Outcome × Held) (result : Outcome) where
+  abbrev left_with : Outcome → List Held → Outcome × Holdings
+  left_with o all = (o, record { stores = all; routes = routes })
+
+  abbrev put : Outcome × Held → Outcome × Holdings
+  put x = left_with x.0 (set stores place x.1)
+
+  -- what one store answers is what the memory answers
+  pub changed_comes : AllPairs HaveOtherIds stores → StandsAt id stores place → slice_get stores place ≡ Some h → ComesUnlessNoMemory Lacks acted h (result, left) → ComesUnlessNoMemory Lacks (changed id acted (record { stores = stores; routes = routes })) (record { stores = stores; routes = routes }) (result, record { stores = set stores place left; routes = routes })
+  changed_comes named stands at (inl e) =
+      inl (ap put e ∙ ap (left_with acted.0) (sym (with_changed-stands id (λ _. acted.1) stores place h named stands at)))
+  changed_comes named stands at (inr lacks) =
+      let same = ap (set stores place) (sym (get_or_from_slice_get stores place h h at)) ∙ set-get_or stores place h in
+      inr (lacks.0, lacks.1, ap put lacks.2 ∙ ap (left_with (Err NoMemory)) same)
+
+-- where nothing is found, neither the first passes nor is anything found in the rest
+neither : (h : Held) (t : Bool) (o : Option Held) → cond t (Some h) o ≡ None → (t ≡ false) × (o ≡ None)
+neither h true o e = absurd (none-some h (sym e))
+neither h false o e = (refl, e)
+
+-- a store that is not found has another identifier
+not_found : (id : List ℕ) (stores : List Held) → store_of id stores ≡ None → (k : ℕ) (d : Held) → k < length stores → (get_or stores k d).id ≢ id
+not_found id [] absent k d inside = absurd (omega arith)
+not_found id (h ∷ hs) absent zero d inside =
+    λ same. false≢true (sym (neither h (has_id id h) (find (has_id id) hs) absent).0 ∙ is_itself h.id id same)
+not_found id (h ∷ hs) absent (suc k) d inside =
+    not_found id hs (neither h (has_id id h) (find (has_id id) hs) absent).1 k d (omega arith)
+
+-- a new store has an identifier of its own
+pub AreHeld-pushed : (pushed : Bool) (id : List ℕ) (stores : List Held) (h : Held) → AreHeld stores → h.id ≡ id → store_of id stores ≡ None → length stores < MAX_STORES → AreHeld (if pushed then stores ++ h ∷ [] else stores)
+AreHeld-pushed true id stores h sound same absent room = record {
+  at_most = omega (arith, length_push stores h);
+  named = all_pairs_push HaveOtherIds stores h sound.named (λ k d inside. λ other. not_found id stores absent k d inside (other ∙ same));
+}
+AreHeld-pushed false id stores h sound same absent room = sound
+
+-- what is left without a store
+pub AreHeld-without : (id : List ℕ) (stores : List Held) → AreHeld stores → AreHeld (without id stores)
+AreHeld-without id stores sound =
+    let p : Held → Bool = λ h. not (has_id id h) in
+    record {
+      at_most = omega (arith, length-filter p stores, count_by-le-length p stores, sound.at_most);
+      named = AllPairs-filter HaveOtherIds p stores sound.named;
+    }
+
+-- a store that answers that it is at rest has no reason not to be
+pub at_rest : {A : Type 0} (o : Option StateFault) (r : Result A StateFault) (x : A) → r ≡ Ok x → MatchOption o (IsOk r) (λ fault. r ≡ Err fault) → o ≡ None
+at_rest None r x done h = refl
+at_rest (Some fault) r x done h = cc
+
+-- a store at rest is deleted
+pub deleted_is : (id : List ℕ) (stores kept : List Held) (routes left : List RouteRow) (h : Held) → rest_fault h.state ≡ None → kept ≡ without id stores → left ≡ without_store id routes → deleted id h (record { stores = stores; routes = routes }) ≡ (Ok tt, record { stores = kept; routes = left })
+deleted_is id stores kept routes left h rests same_stores same_routes =
+    let before : Holdings = record { stores = stores; routes = routes } in
+    let wanted : Holdings = record { stores = without id stores; routes = without_store id routes } in
+    let came : Outcome × Holdings = (Ok tt, record { stores = kept; routes = left }) in
+    let P : Option StateFault → Type 0 = λ o. done_or (refusal_of o) wanted before ≡ came in
+    subst P (sym rests) (λ i. (Ok tt, record { stores = sym same_stores i; routes = sym same_routes i }))
+
+-- one instruction more is applied, with one answer more
+pub AppliesEach-push : (is : List Instruction) (i : Instruction) (m next left : Holdings) (answers : List Answer) (answer : Answer) → AppliesEach is m answers next → Applies i next (outcome_told answer, left) → AppliesEach (is ++ i ∷ []) m (answers ++ answer ∷ []) left
+AppliesEach-push [] i m next left [] answer before one =
+    let P : Holdings → Type 0 = λ x. Applies i x (outcome_told answer, left) in
+    (left, subst P before one, refl)
+AppliesEach-push [] i m next left (a ∷ rest) answer before one = absurd before
+AppliesEach-push (j ∷ is) i m next left [] answer before one = absurd before
+AppliesEach-push (j ∷ is) i m next left (a ∷ rest) answer before one =
+    (before.0, before.1, AppliesEach-push is i before.0 next left rest answer before.2 one)
+
+-- the same in a loop over the instructions
+pub applies_one_more : (is : List Instruction) (k : ℕ) (d : Instruction) (m next left : Holdings) (answers more : List Answer) (answer : Answer) (outcome : Outcome) → k < length is → more ≡ answers ++ answer ∷ [] → outcome_told answer ≡ outcome → AppliesEach (take k is) m answers next → Applies (get_or is k d) next (outcome, left) → AppliesEach (take (k + 1) is) m more left
+applies_one_more is k d m next left answers more answer outcome inside grown told before one =
+    let i = get_or is k d in
+    let P : Outcome → Type 0 = λ o. Applies i next (o, left) in
+    let Q : List Instruction → Type 0 = λ l. AppliesEach l m (answers ++ answer ∷ []) left in
+    let R : List Answer → Type 0 = λ a. AppliesEach (take (k + 1) is) m a left in
+    subst R (sym grown) (subst Q (sym (take_more is k d inside)) (AppliesEach-push (take k is) i m next left answers answer before (subst P (sym told) one)))

@@ -1,0 +1,11 @@
+use Rattle.std.proofs.Common.{◌≡◌, take}
+use Rattle.std.specs.Prelude.{filter_map, All}
+use Rattle.mm_st15.specs.Report.{HasCount}
+use Rattle.mm_memory.specs.Reports.{control_at}
+use Rattle.mm_memory.proofs.memory.Memory.controls.Given as goal
+
+abbrev pub invariant-loop-target : goal.invariant-loop-target
+invariant-loop-target l = record {
+  reports : l.all.items ≡ filter_map (control_at l.moment l.self) (take l.target-index l.targets);
+  fit : All HasCount l.all.items;
+}

@@ -1,0 +1,190 @@
+//! Applying requests to a memory.
+ghost use Rattle.std.specs.Prelude.{◌≡◌, ◌<◌, ◌≤◌, [], length, vec_capacity, Some, None, All, IfOk, OnErr, MatchOption};
+ghost use Rattle.mm_memory.specs.Applying.{kind_of, new_store, created, deleted, changed, on_store, on_no_store, ComesUnlessNoMemory, Applies, AppliesEach, MayLack, route_to};
+ghost use Rattle.mm_memory.specs.Acting.{act, TakesMemory};
+ghost use Rattle.mm_memory.specs.Holdings.{StandsAt, store_of};
+ghost use Rattle.mm_st15.specs.Report.{HasCount};
+ghost use Rattle.mm_st15.specs.Request.{count_of};
+ghost use Rattle.mm_memory.specs.Reports.{reports_on};
+ghost use Rattle.mm_memory.specs.Instruction.{instructions_of, HasGoodForm, HasGoodChange, HasGoodFields};
+
+use crate::answer::{Answer, Answers};
+use crate::fault::{Fault, NoMemory};
+use crate::held::Held;
+use crate::instruction::{Action, Change, Form, Instruction, id_of};
+use crate::memory::Memory;
+use crate::places::place_of;
+use crate::request::instructions_of;
+use mm_desk::StoreState;
+use mm_problem::{Kind, MAX_STORES, RouteRow, StoreId};
+use mm_st15::{Request, Row};
+use mm_store::AnyStore;
+use std::alloc::Global;
+
+fn kind_of(code: u8) -> Kind
+    ensures { result ≡ kind_of code }
+{
+    if code == 0 {
+        Kind::Circular
+    } else {
+        Kind::Bounded
+    }
+}
+
+// A new store, empty, with its storage off.
+fn new_store(alloc: Global, id: StoreId, form: &Form) -> Result<Held, NoMemory>
+    requires { HasGoodForm form.now }
+    ensures { IfOk result (λ held. held ≡ new_store id form.now) }
+{
+    let store = AnyStore::new(alloc, kind_of(form.kind), form.size)?;
+    Ok(Held {
+        id,
+        channel: form.channel,
+        state: StoreState::of(store),
+    })
+}
+
+fn route_to(id: StoreId, row: &Row) -> RouteRow
+    ensures { result ≡ route_to id row.now }
+{
+    RouteRow {
+        apid: row.apid,
+        service: row.service,
+        subtype: row.subtype,
+        store: id,
+    }
+}
+
+impl Memory {
+    // The place of the store with this identifier.
+    fn place(&self, id: &StoreId) -> Option<usize>
+        ensures { MatchOption result (store_of id.now self.now.stores ≡ None)
+            (λ place. StandsAt id.now self.now.stores place) }
+    {
+        place_of(&self.stores, id)
+    }
+
+    // Creates a store that is not there.
+    fn create(&mut self, alloc: Global, id: StoreId, form: &Form) -> Result<(), Fault>
+        requires good { HasGoodForm form.now }
+        requires absent { store_of id self.old.stores ≡ None }
+        ensures { ComesUnlessNoMemory (Unit {0}) (created id form.now self.old)
+            self.old (result, self.new) }
+    {
+        if self.stores.len() >= MAX_STORES {
+            return Err(Fault::TooManyStores);
+        }
+        let held = new_store(alloc, id, form)?;
+        match self.stores.push(held) {
+            Ok(()) => Ok(()),
+            Err(_) => Err(Fault::NoMemory),
+        }
+    }
+
+    // Deletes the store at this place, with its routes.
+    fn delete(&mut self, place: usize, id: &StoreId) -> Result<(), Fault>
+        requires { StandsAt id.now self.old.stores place }
+        ensures { (h : Held) → store_of id.now self.old.stores ≡ Some h
+            → deleted id.now h self.old ≡ (result, self.new) }
+    {
+        self.stores[place].state.at_rest()?;
+        self.stores.retain(|held| held.id != *id);
+        let _rows = self.control.delete_store(id);
+        Ok(())
+    }
+
+    // Changes the store at this place.
+    fn change(&mut self, place: usize, id: &StoreId, change: &Change) -> Result<(), Fault>
+        requires place { StandsAt id.now self.old.stores place }
+        requires good { HasGoodChange change.now }
+        ensures { (h : Held) → store_of id.now self.old.stores ≡ Some h
+            → ComesUnlessNoMemory (TakesMemory change.now h)
+            (changed id.now (act change.now h) self.old) self.old (result, self.new) }
+    {
+        self.stores[place].change(change)
+    }
+
+    // Applies an action to the store at this place.
+    fn on_store(&mut self, place: usize, id: &StoreId, action: &Action) -> Result<(), Fault>
+        requires place { StandsAt id.now self.old.stores place }
+        requires good { HasGoodFields action.now }
+        ensures { (h : Held) → store_of id.now self.old.stores ≡ Some h
+            → ComesUnlessNoMemory (MayLack action.now (Some h))
+            (on_store id.now action.now h self.old) self.old (result, self.new) }
+    {
+        match action {
+            Action::Create(_) => Err(Fault::Exists),
+            Action::Delete => self.delete(place, id),
+            Action::AddRoute(row) => {
+                self.control.add(route_to(*id, row))?;
+                Ok(())
+            }
+            Action::DeleteRoute(row) => {
+                self.control.delete(route_to(*id, row))?;
+                Ok(())
+            }
+            Action::Report => Ok(()),
+            Action::Change(change) => self.change(place, id, change),
+        }
+    }
+
+    // Applies an action for a store that is not there.
+    fn on_no_store(&mut self, alloc: Global, id: StoreId, action: &Action) -> Result<(), Fault>
+        requires absent { store_of id self.old.stores ≡ None }
+        requires good { HasGoodFields action.now }
+        ensures { ComesUnlessNoMemory (MayLack action.now None) (on_no_store id action.now self.old)
+            self.old (result, self.new) }
+    {
+        match action {
+            Action::Create(form) => self.create(alloc, id, form),
+            _ => Err(Fault::NoSuchStore),
+        }
+    }
+
+    // Applies an instruction.
+    pub(crate) fn carry_out(
+        &mut self,
+        alloc: Global,
+        instruction: &Instruction,
+    ) -> Result<(), Fault>
+        ensures { Applies instruction.now self.old (result, self.new) }
+    {
+        let id = id_of(instruction.id)?;
+        instruction.action.test()?;
+        match self.place(&id) {
+            Some(place) => self.on_store(place, &id, &instruction.action),
+            None => self.on_no_store(alloc, id, &instruction.action),
+        }
+    }
+
+    // Applies instructions in order, each by itself.
+    fn answers(&mut self, alloc: Global, instructions: &[Instruction], each: &mut Vec<Answer>)
+        requires none { each.old.items ≡ [] }
+        requires room { length instructions.now ≤ vec_capacity each.old }
+        ensures { AppliesEach instructions.now self.old each.new.items self.new }
+    {
+        for instruction in instructions {
+            let outcome = self.carry_out(alloc, instruction);
+            each.push_reserved(Answer::of(outcome));
+        }
+    }
+
+    /// Applies a request at a moment, in ticks: one answer for each instruction, in order, and the reports. An instruction
+    /// that is refused changes nothing, and the others are carried out all the same. `NoMemory` has changed nothing.
+    pub fn apply(&mut self, alloc: Global, now: u64, request: &Request) -> Result<Answers, NoMemory>
+        ensures each { IfOk result (λ answers.
+            AppliesEach (instructions_of request.now) self.old answers.each.items self.new) }
+        ensures reports { IfOk result (λ answers.
+            answers.reports.items ≡ reports_on request.now now self.old) }
+        ensures fit { IfOk result (λ answers.
+            count_of request.now < 256 → All HasCount answers.reports.items) }
+        ensures err { OnErr result (self.new ≡ self.old) }
+    {
+        let instructions = instructions_of(alloc, request)?;
+        let mut each = Vec::with_capacity(alloc, instructions.len())?;
+        // A request that is answered by reports changes nothing, so that they may be made first.
+        let reports = self.reports_on(alloc, now, request)?;
+        self.answers(alloc, &instructions, &mut each);
+        Ok(Answers { each, reports })
+    }
+}

@@ -1,0 +1,143 @@
+use super::*;
+use mm_st15::{Configuration, Report};
+
+#[test]
+fn create_two_stores(rt: HostRuntime) {
+    let alloc = rt.alloc();
+    let mut memory = memory_of(&rt, alloc, ONE_STORE);
+    let both = b"\x02SCI     \x00\x00\x00\x04\x01\x00HK      \x00\x00\x00\x02\x00\x01";
+    let answers = asked(&rt, alloc, &mut memory, 1, 20, both);
+    assert_eq!(rt; answers.each.as_slice(), [EXISTS, DONE].as_slice());
+    assert!(rt; answers.reports.is_empty());
+    let hk = id(&rt, b"HK");
+    assert_eq!(rt; memory.entry(1), Some((hk, 1)));
+    assert_eq!(rt; shape(&memory, &hk), Some((Kind::Circular, 2, 0, false)));
+}
+
+#[test]
+fn malformed_identifier_beside_a_good_one(rt: HostRuntime) {
+    let alloc = rt.alloc();
+    let mut memory = memory_of(&rt, alloc, ONE_STORE);
+    let answers = asked(&rt, alloc, &mut memory, 1, 2, b"\x02sci     SCI     ");
+    assert_eq!(rt; answers.each.as_slice(), [BAD_ID, DONE].as_slice());
+    assert!(rt; answers.reports.is_empty());
+    let sci = id(&rt, b"SCI");
+    assert_eq!(rt; shape(&memory, &sci), Some((Kind::Bounded, 4, 0, false)));
+}
+
+// The moment of the first report and its first entry, where it is on the configuration of one store.
+fn configuration(answers: &Answers) -> Option<(u64, Configuration)> {
+    match answers.reports.get(0) {
+        Some(Report::Configurations { moment, entries }) if entries.as_slice().len() == 1 => {
+            Some((*moment, *entries.as_slice().first()?))
+        }
+        _ => None,
+    }
+}
+
+// The store SCI on this virtual channel.
+fn sci_on(channel: u8) -> Configuration {
+    Configuration {
+        id: *b"SCI     ",
+        size: 4,
+        kind: 1,
+        channel,
+    }
+}
+
+#[test]
+fn configuration_report(rt: HostRuntime) {
+    let alloc = rt.alloc();
+    let mut memory = memory_of(&rt, alloc, ONE_STORE);
+    let answers = asked(&rt, alloc, &mut memory, 1, 22, b"");
+    assert_eq!(rt; (answers.each.len(), answers.reports.len()), (0, 1));
+    assert_eq!(rt; configuration(&answers), Some((1, sci_on(0))));
+}
+
+const CHANNEL_CHANGE: [Row; 3] = [
+    (28, b"\x01SCI     \x05", STORAGE_ON),
+    (2, b"\x01SCI     ", DONE),
+    (28, b"\x01SCI     \x05", DONE),
+];
+
+#[test]
+fn channel_of_a_store_changed(rt: HostRuntime) {
+    let alloc = rt.alloc();
+    let mut memory = memory_of(&rt, alloc, ONE_STORE);
+    asks(&rt, alloc, &mut memory, &CHANNEL_CHANGE);
+    let answers = asked(&rt, alloc, &mut memory, 4, 22, b"");
+    assert_eq!(rt; configuration(&answers), Some((4, sci_on(5))));
+}
+
+const DELETION: [Row; 5] = [
+    (21, b"\x01SCI     ", STORAGE_ON),
+    (2, b"\x01SCI     ", DONE),
+    (21, b"\x01SCI     ", DONE),
+    (1, b"\x01SCI     ", NO_SUCH_STORE),
+    (20, b"\x01SCI     \x00\x00\x00\x00\x01\x00", BAD_SIZE),
+];
+
+#[test]
+fn delete_store_with_routes(rt: HostRuntime) {
+    let alloc = rt.alloc();
+    let mut memory = memory_of(&rt, alloc, TWO_STORES);
+    assert_eq!(rt; memory.control().list().len(), 1);
+    asks(&rt, alloc, &mut memory, &DELETION);
+    assert!(rt; memory.control().list().is_empty());
+    assert_eq!(rt; memory.entry(0), Some((id(&rt, b"HK"), 3)));
+    assert_eq!(rt; memory.entry(1), None);
+}
+
+const RETRIEVAL: [Row; 5] = [
+    (9, b"\x01SCI     \0\0\0\0\0\0\0\x01\0\0\0\0\0\0\0\xFF", DONE),
+    (11, b"\x01SCI     \0\0\0\0\0\0\0\xFF", BUSY),
+    (17, b"\x01SCI     ", DONE),
+    (11, b"\x01SCI     \0\0\0\0\0\0\0\xFF", DONE),
+    (17, b"\x01SCI     ", IDLE),
+];
+
+#[test]
+fn retrieval_makes_busy(rt: HostRuntime) {
+    let alloc = rt.alloc();
+    let mut memory = memory_of(&rt, alloc, ONE_STORE);
+    asks(&rt, alloc, &mut memory, &RETRIEVAL);
+}
+
+// Report types by their number, and how many rows there are after each request.
+const ROUTES: [(Row, usize); 5] = [
+    ((4, b"\x01SCI     \x00\x64\x03\x1A", NO_SUCH_ROUTE), 1),
+    ((3, b"\x01SCI     \x00\x64\x03\x19", DONE), 1),
+    ((3, b"\x01SCI     \x00\x64\x03\x1A", DONE), 2),
+    ((4, b"\x01SCI     \x00\x64\x03\x19", DONE), 1),
+    ((4, b"\x01SCI     \x00\x64\x03\x19", NO_SUCH_ROUTE), 1),
+];
+
+#[test]
+fn routes_added_and_deleted(rt: HostRuntime) {
+    let alloc = rt.alloc();
+    let mut memory = memory_of(&rt, alloc, ONE_STORE);
+    for (row, rows) in &ROUTES {
+        asks(&rt, alloc, &mut memory, &[*row]);
+        assert_eq!(rt; memory.control().list().len(), *rows);
+    }
+}
+
+const CREATED_LAST: [Row; 6] = [
+    (2, b"\x01SCI     ", DONE),
+    (21, b"\x01SCI     ", DONE),
+    (20, b"\x01SCI     \x00\x00\x00\x02\x00\x07", DONE),
+    (27, b"\x01SCI     ", DONE),
+    (27, b"\x01SCI     ", DONE),
+    (25, b"\x01SCI     \x00\x00\x00\x03", DONE),
+];
+
+#[test]
+fn a_created_store_stands_last(rt: HostRuntime) {
+    let alloc = rt.alloc();
+    let mut memory = memory_of(&rt, alloc, TWO_STORES);
+    asks(&rt, alloc, &mut memory, &CREATED_LAST);
+    let (sci, hk) = (id(&rt, b"SCI"), id(&rt, b"HK"));
+    assert_eq!(rt; memory.entry(0), Some((hk, 3)));
+    assert_eq!(rt; memory.entry(1), Some((sci, 7)));
+    assert_eq!(rt; shape(&memory, &sci), Some((Kind::Bounded, 3, 0, false)));
+}
