@@ -1,17 +1,15 @@
 -- From lines to octets: how far a text has been read, and where it ends.
-use Rattle.std.proofs.Common.{◌≡◌, ℕ, zero, suc, ◌+◌, ◌-◌, ◌<◌, ◌≤◌, Bool, false, ◌==◌, List, [], ◌∷◌, ◌++◌, length, get_or, map, take, drop, Option, Some, None, refl, sym, ap, ◌∙◌, subst, arith, add-one, length-append, length-drop, length-take}
+use Rattle.std.proofs.Common.{◌≡◌, ℕ, zero, suc, ◌+◌, ◌-◌, ◌≤◌, Bool, false, ◌==◌, List, [], ◌∷◌, ◌++◌, length, map, take, drop, Option, Some, None, refl, sym, ap, ◌∙◌, subst, arith, length-append, length-drop, length-take}
 use Rattle.std.specs.Prelude.{All, option_and_then}
 use Rattle.std.specs.List.{join_with_byte}
-use Rattle.std.specs.Prelude.{◌≢◌}
-use Rattle.std.proofs.Math.Seq.{drop-cons}
-use Rattle.std.proofs.lemmas.Bool.Decides.{nat_tests}
 use Rattle.std.proofs.lemmas.List.{take-append-drop, take-append-le, take_all}
-use Rattle.std.proofs.lemmas.List.Elements.{All-more, All-nil, All-cons, All-append, All-map, All-weaker}
-use Rattle.std.proofs.lemmas.List.Splits.{slice_split_none, slice_split_at, join_with_byte-slice_split, length-slice_split}
+use Rattle.std.proofs.lemmas.List.Elements.{All-nil, All-cons, All-append, All-map, All-weaker}
+use Rattle.std.proofs.lemmas.List.Splits.{join_with_byte-slice_split, length-slice_split}
 use Rattle.std.proofs.lemmas.Option.{same_Some}
+use Rattle.mm_problem.specs.Lines.{text_lines}
 use Rattle.mm_plan.specs.declared.draft.Stage.{Stage}
 use Rattle.mm_plan.specs.declared.draft.Stage.TheVariants.{Done}
-use Rattle.mm_plan.specs.Sheet.{SheetRows, IsSheet, lines_of, line_text, sheet_text, text_lines, Begins, IsFirstBadLine}
+use Rattle.mm_plan.specs.Sheet.{SheetRows, IsSheet, lines_of, line_text, sheet_text, Begins, IsFirstBadLine}
 use Rattle.mm_plan.specs.Reading.{DraftRows, start, take_line, run}
 use Rattle.mm_plan.proofs.Spelled.{Lacks, slice_split-join}
 use Rattle.mm_plan.proofs.Lines.{IsLine, line_text_lacks}
@@ -51,31 +49,6 @@ some_lines text = omega (arith, length-slice_split (λ c. c == 10) text)
 -- how many lines there are, counted from the place
 place_is : (k : ℕ) (ls : List (List ℕ)) (l : List ℕ) (ms : List (List ℕ)) → drop k ls ≡ l ∷ ms → length ls ≡ k + 1 + length ms
 place_is k ls l ms e = omega (arith, length-drop k ls, ap length e)
-
--- ---- cutting off a line
-
--- an octet that is no line feed
-octet_cases : (b : ℕ) → (b ≢ 10) → (b == 10) ≡ false
-octet_cases b other = grind (arith, nat_tests)
-
--- the octets before a place and the one at it, where it is no line feed
-pub lacks_more : (text : List ℕ) (i : ℕ) → i < length text → All (λ c. (c == 10) ≡ false) (take i text) → get_or text i 0 ≢ 10 → All (λ c. (c == 10) ≡ false) (take (i + 1) text)
-lacks_more text i within before other = All-more (λ c. (c == 10) ≡ false) text i 0 within before (octet_cases (get_or text i 0) other)
-
--- the first line feed cuts the first line off
-pub split_at_feed : (text after : List ℕ) (i : ℕ) → i < length text → All (λ c. (c == 10) ≡ false) (take i text) → get_or text i 0 ≡ 10 → after ≡ drop (i + 1) text → text_lines text ≡ take i text ∷ text_lines after
-split_at_feed text after i within before feed rest =
-    let whole : text ≡ take i text ++ 10 ∷ after =
-    sym (take-append-drop i text)
-    ∙ ap (λ ys. take i text ++ ys) (drop-cons text i 0 within)
-    ∙ ap (λ c. take i text ++ c ∷ drop (suc i) text) feed
-    ∙ ap (λ k. take i text ++ 10 ∷ drop k text) (sym (add-one i))
-    ∙ ap (λ ys. take i text ++ 10 ∷ ys) (sym rest) in
-    ap text_lines whole ∙ slice_split_at (λ c. c == 10) (take i text) 10 after before refl
-
--- without a line feed there is one line
-pub no_feed : (text : List ℕ) (i : ℕ) → length text ≤ i → All (λ c. (c == 10) ≡ false) (take i text) → text_lines text ≡ text ∷ []
-no_feed text i past before = slice_split_none (λ c. c == 10) text (subst (All (λ c. (c == 10) ≡ false)) (take_all i text past) before)
 
 -- ---- reading on
 

@@ -1,11 +1,12 @@
 -- The text of a plan with its certificate: what it says, its lines, and its octets.
-use Rattle.std.specs.Prelude.{◌≡◌, ◌≢◌, ℕ, zero, suc, ◌+◌, ◌-◌, ◌<◌, ◌≤◌, ◌^◌, ℤ, Bool, true, false, nat_lt, ◌==◌, List, [], ◌∷◌, ◌++◌, length, map, take, drop, All, codes, decimal, FitsSigned}
+use Rattle.std.specs.Prelude.{◌≡◌, ◌≢◌, ℕ, zero, suc, ◌+◌, ◌-◌, ◌<◌, ◌≤◌, ◌^◌, ℤ, Bool, true, false, nat_lt, List, [], ◌∷◌, ◌++◌, length, map, take, drop, All, codes, decimal, FitsSigned}
 use Rattle.std.specs.Fmt.{signed_decimal}
 use Rattle.std.specs.Int.{w64}
-use Rattle.std.specs.List.{join_with_byte, slice_split}
+use Rattle.std.specs.List.{join_with_byte}
 use Rattle.mm_problem.specs.declared.limits.TheConstants.{MAX_STORES, MAX_STEPS}
 use Rattle.mm_problem.specs.Dumping.{Dumping}
 use Rattle.mm_problem.specs.Id.{IsIdField, id_text}
+use Rattle.mm_problem.specs.Lines.{text_lines}
 use Rattle.mm_plan.specs.declared.stretch.Stretch.{Stretch}
 use Rattle.mm_plan.specs.declared.stretch.TheConstants.{MAX_STRETCHES, MAX_COUNTS}
 use Rattle.mm_plan.specs.Table.{Table, IsTable}
@@ -95,10 +96,6 @@ pub record IsSheet (s : SheetRows) : Type 0 where
 pub record IsShapedFor (q : Dumping) (s : SheetRows) : Type 0 where
   pub stores : s.stores ≡ map (λ r. r.id) q.rows
   pub steps : s.plan.steps ≡ length q.windows
-
--- what stands between the line feeds of a text; the last of it is empty where the text ends with one
-abbrev pub text_lines : List ℕ → List (List ℕ)
-text_lines text = slice_split (λ c. c == 10) text
 
 -- these are the first lines of some sheet
 abbrev pub Begins : List (List ℕ) → Type 0

@@ -1,6 +1,6 @@
 //! A plan with its certificate: what a plan text says.
 ghost use Rattle.std.specs.Prelude.{◌≡◌, ◌<◌, ◌↔◌, ◌∷◌, [], IfOk, IfErr, IfSome, IsOk, IsTrue, OnOk, MatchOption, MatchResult, length, map};
-ghost use Rattle.mm_plan.specs.Sheet.{SheetRows, IsSheet, IsShapedFor, sheet_text, text_lines};
+ghost use Rattle.mm_plan.specs.Sheet.{SheetRows, IsSheet, IsShapedFor, sheet_text};
 ghost use Rattle.mm_plan.specs.Printing.{IsPrinted};
 ghost use Rattle.mm_plan.specs.Table.{HasShape};
 ghost use Rattle.mm_plan.specs.Fault.{IsTextFault};
@@ -12,6 +12,7 @@ use crate::fault::{Fault, NoMemory};
 use crate::plan::Plan;
 use crate::print::{ordered, push_certificate, push_front, rising};
 use crate::stretch::Stretch;
+use mm_problem::lines::split_line;
 use mm_problem::{Problem, StoreId};
 use std::alloc::Global;
 use std::marker::Model;
@@ -55,21 +56,6 @@ fn are_stores(ids: &[StoreId], problem: &Problem) -> bool
         }
     }
     true
-}
-
-// The text up to the first line feed, and the text behind it.
-fn split_line(text: &[u8]) -> Option<(&[u8], &[u8])>
-    ensures lines { MatchOption result
-        (text_lines text.now ≡ text.now ∷ [])
-        (λ parts. text_lines text.now ≡ parts.0.now ∷ text_lines parts.1.now) }
-    ensures shorter { IfSome result (λ parts. length parts.1.now < length text.now) }
-{
-    for (i, octet) in text.iter().enumerate() {
-        if *octet == b'\n' {
-            return Some((&text[..i], &text[i + 1..]));
-        }
-    }
-    None
 }
 
 // Whether the last line has been taken, and nothing is left.

@@ -13,3 +13,4 @@ pub mod ForecastRows
 pub mod ForecastLaws
 pub mod NumberTexts
 pub mod ForecastTexts
+mod LineLemmas

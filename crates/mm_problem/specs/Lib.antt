@@ -10,6 +10,7 @@ pub mod Document
 pub mod Arrays
 pub mod ReadableSetup
 pub mod Numbers
+pub mod Lines
 pub mod Cells
 pub mod Records
 pub mod Forecast

@@ -4,7 +4,7 @@ ghost use Rattle.mm_problem.specs.Kind.{code_of, word_of, DecodesKind};
 
 use crate::fault::Fault;
 
-/// The kind of a packet store (ECSS-E-ST-70-41C, 6.15.3.2): a full circular store overwrites its oldest packet,
+/// The kind of a packet store (ECSS-E-ST-70-41C, 6.15): a full circular store overwrites its oldest packet,
 /// a full bounded store keeps what it holds.
 #[derive(Clone, Copy, Debug, PartialEq, Eq)]
 pub enum Kind {

@@ -9,6 +9,7 @@ mod keys;
 mod kind;
 pub mod laws;
 mod limits;
+pub mod lines;
 pub mod numbers;
 mod problem;
 mod reading;

@@ -13,7 +13,7 @@ use mm_problem::{Kind, MAX_BLOCKS};
 use std::alloc::Global;
 use std::marker::Model;
 
-/// A packet store of either kind (ECSS-E-ST-70-41C, 6.15.3.2), which may be resized and change its kind.
+/// A packet store of either kind (ECSS-E-ST-70-41C, 6.15), which may be resized and change its kind.
 #[derive(Drop)]
 pub struct AnyStore {
     form: Form,

@@ -16,7 +16,7 @@ use mm_problem::{Kind, MAX_BLOCKS};
 use std::alloc::Global;
 use std::marker::Model;
 
-/// A circular packet store (ECSS-E-ST-70-41C, 6.15.3.2), kept in a ring of as many blocks as its size.
+/// A circular packet store (ECSS-E-ST-70-41C, 6.15), kept in a ring of as many blocks as its size.
 #[derive(Drop)]
 pub struct RingStore {
     pub(crate) ring: HeapCircularBuffer<Stored>,

@@ -1,7 +1,7 @@
 use Rattle.std.proofs.Common.{◌+◌, ◌-◌, length, drop, arith, length-drop}
 use Rattle.std.proofs.lemmas.List.{take_all}
-use Rattle.mm_plan.proofs.Texts.{split_at_feed, lacks_more, no_feed}
-use Rattle.mm_plan.proofs.sheet.split_line.Goals as goal
+use Rattle.mm_problem.proofs.LineLemmas.{split_at_feed, lacks_more, no_feed}
+use Rattle.mm_problem.proofs.lines.split_line.Goals as goal
 
 pub returns-then-octet-eq10-clause-lines : goal.returns-then-octet-eq10-clause-lines
 returns-then-octet-eq10-clause-lines c =
