@@ -1,9 +1,10 @@
 //! Plans of small problems: what they do to the stores, and how they are filled.
+ghost use Rattle.mm_plan.specs.Simulated.{IsVolumePlace};
 
-use crate::{Plan, Sheet, fill, fits, simulate};
+use crate::{Plan, Sheet, Simulated, fill, fits, simulate};
 use mm_problem::{Problem, Setup};
 use std::alloc::Global;
-use std::test::Fail;
+use std::process::Abort;
 
 const SCI: &str =
     "[[store]]\nid = \"SCI\"\nsize = 4\ntype = \"bounded\"\nchannel = 0\n\n[[route]]\napid = 100\nservice = 3\nsubtype = 25\nstore = \"SCI\"\n";
@@ -21,44 +22,55 @@ const THREE_STEPS: &str = "step,window,SCI\n1,2,3\n2,2,3\n3,0,4\n";
 const FIRST_PLAN: &[u8] =
     b"mmplan 1\nstores SCI\ndump 1 2\ndump 2 2\ndump 3 0\nloss 2\nstretch SCI 1 3\nbound 2\nend\n";
 
-fn problem_of(alloc: Global, setup: &str, forecast: &str) -> Result<Problem, Fail> {
-    let setup = Setup::read(alloc, setup.as_bytes())?;
-    Ok(Problem::read(alloc, &setup, forecast.as_bytes())?)
+fn problem_of<R: Abort>(rt: &R, alloc: Global, setup: &str, forecast: &str) -> Problem {
+    let setup = Setup::read(alloc, setup.as_bytes()).expect(rt, "a setup");
+    Problem::read(alloc, &setup, forecast.as_bytes()).expect(rt, "a forecast")
 }
 
-#[test]
-fn volumes_by_hand(rt: HostRuntime) -> Result<(), Fail> {
-    let alloc = rt.alloc();
-    let problem = problem_of(alloc, SCI, THREE_STEPS)?;
-    let sheet = Sheet::parse(alloc, FIRST_PLAN)?;
+// What is written, left and lost at the first store in a step.
+fn volumes(simulated: &Simulated, step: u32) -> (u32, u32, u32)
+    requires { IsVolumePlace simulated.now 0 step }
+{
+    (
+        simulated.written(0, step),
+        simulated.left(0, step),
+        simulated.lost(0, step),
+    )
+}
+
+fn simulated_of<R: Abort>(
+    rt: &R,
+    alloc: Global,
+    setup: &str,
+    forecast: &str,
+    plan: &[u8],
+) -> Simulated {
+    let problem = problem_of(rt, alloc, setup, forecast);
+    let sheet = Sheet::parse(alloc, plan).expect(rt, "a sheet");
     assert!(rt; sheet.plan().has_shape(&problem));
-    let simulated = simulate(alloc, &problem, sheet.plan())?;
-    let mut volumes = Vec::new(alloc);
-    for step in 1..problem.steps() + 1 {
-        volumes.push((
-            simulated.written(0, step),
-            simulated.left(0, step),
-            simulated.lost(0, step),
-        ))?;
-    }
-    assert_eq!(rt;
-        volumes.as_slice(),
-        [(3, 1, 0), (4, 2, 0), (4, 4, 2)].as_slice()
-    );
-    assert_eq!(rt; simulated.total(), 2);
-    Ok(())
+    simulate(alloc, &problem, sheet.plan()).expect(rt, "memory")
 }
 
 #[test]
-fn one_amount_is_set(rt: HostRuntime) -> Result<(), Fail> {
+fn volumes_by_hand(rt: HostRuntime) {
+    let simulated = simulated_of(&rt, rt.alloc(), SCI, THREE_STEPS, FIRST_PLAN);
+    assert!(rt; simulated.stores == 1);
+    assert!(rt; simulated.steps == 3);
+    assert!(rt; volumes(&simulated, 1) == (3, 1, 0));
+    assert!(rt; volumes(&simulated, 2) == (4, 2, 0));
+    assert!(rt; volumes(&simulated, 3) == (4, 4, 2));
+    assert!(rt; simulated.total() == 2);
+}
+
+#[test]
+fn one_amount_is_set(rt: HostRuntime) {
     let alloc = rt.alloc();
     let forecast = "step,window,A,B\n1,2,0,0\n2,2,0,0\n3,2,0,0\n";
-    let problem = problem_of(alloc, TWO_STORES, forecast)?;
+    let problem = problem_of(&rt, alloc, TWO_STORES, forecast);
     assert!(rt; problem.stores() == 2 && problem.steps() == 3);
-    let mut plan = Plan::zero(alloc, &problem)?;
+    let mut plan = Plan::zero(alloc, &problem).expect(&rt, "memory");
     plan.set(1, 2, 7);
-    assert_eq!(rt; plan.amounts.as_slice(), [0, 0, 0, 7, 0, 0].as_slice());
-    Ok(())
+    assert!(rt; plan.amounts.as_slice() == [0, 0, 0, 7, 0, 0].as_slice());
 }
 
 // A plan, and the amounts that it has once it is filled.
@@ -70,7 +82,7 @@ struct Filling {
     filled: &'static [u32],
 }
 
-const FILLINGS: [Filling; 5] = [
+static FILLINGS: [Filling; 5] = [
     Filling {
         name: "an idle window is used",
         setup: SCI,
@@ -108,27 +120,20 @@ const FILLINGS: [Filling; 5] = [
     },
 ];
 
-// The plan, filled, where it has the problem's shape and fits.
-fn filled_plan(alloc: Global, problem: &Problem, plan: &Plan) -> Result<Option<Plan>, Fail> {
-    if !plan.has_shape(problem) {
-        return Ok(None);
-    }
-    match fits(problem, plan) {
-        Ok(()) => Ok(Some(fill(alloc, problem, plan)?)),
-        Err(_) => Ok(None),
-    }
+// The plan has the problem's shape and fits, and it is filled to these amounts.
+fn is_filled<R: Abort>(rt: &R, alloc: Global, problem: &Problem, plan: &Plan, case: &Filling) {
+    assert!(rt; plan.has_shape(problem));
+    assert!(rt; fits(problem, plan).is_ok());
+    let plan = fill(alloc, problem, plan).expect(rt, "memory");
+    assert!(rt; plan.amounts.as_slice() == case.filled, "{}", case.name);
 }
 
 #[test]
-fn windows_are_used_as_far_as_limits_allow(rt: HostRuntime) -> Result<(), Fail> {
+fn windows_are_used_as_far_as_limits_allow(rt: HostRuntime) {
     let alloc = rt.alloc();
     for case in &FILLINGS {
-        let problem = problem_of(alloc, case.setup, case.forecast)?;
-        let sheet = Sheet::parse(alloc, case.plan)?;
-        match filled_plan(alloc, &problem, sheet.plan())? {
-            Some(plan) => assert_eq!(rt; plan.amounts.as_slice(), case.filled, "{}", case.name),
-            None => assert_eq!(rt; "refused", case.name),
-        }
+        let problem = problem_of(&rt, alloc, case.setup, case.forecast);
+        let sheet = Sheet::parse(alloc, case.plan).expect(&rt, "a sheet");
+        is_filled(&rt, alloc, &problem, sheet.plan(), case);
     }
-    Ok(())
 }

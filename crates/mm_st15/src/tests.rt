@@ -2,7 +2,6 @@ use super::*;
 use mm_packet::Packet;
 use std::alloc::Global;
 use std::process::Abort;
-use std::test::Fail;
 
 const SCI: [u8; 8] = *b"SCI     ";
 
@@ -140,456 +139,480 @@ const NO_CONFIGURATION: [u8; 22] = [
     0x00, 0x00, 0x00, 0x00, 0x01, 0x00,
 ];
 
-// The request that these octets spell, which is written as them again.
-fn request_again(rt: &impl Abort, alloc: Global, octets: &[u8]) -> Result<Request, Fail> {
-    let (packet, _rest) = Packet::parse(alloc, octets)?;
-    let request = Request::read(alloc, &packet)?;
-    assert_eq!(rt; request.subtype(), packet.subtype());
-    let written = request.write(
-        alloc,
-        packet.apid(),
-        packet.count(),
-        packet.low(),
-        packet.source(),
-    )?;
-    assert_eq!(rt; written.write(alloc)?.as_slice(), octets);
-    Ok(request)
+fn packet_of<R: Abort>(rt: &R, alloc: Global, octets: &[u8]) -> Packet {
+    let (packet, _rest) = Packet::parse(alloc, octets).expect(rt, "a packet");
+    packet
 }
 
-// The report that these octets spell, which is written as them again.
-fn report_again(rt: &impl Abort, alloc: Global, octets: &[u8]) -> Result<Report, Fail> {
-    let (packet, _rest) = Packet::parse(alloc, octets)?;
-    let report = Report::read(alloc, &packet)?;
-    assert_eq!(rt; report.subtype(), packet.subtype());
-    assert_eq!(rt; report.moment(), 1);
-    let written = report.write(alloc, packet.apid(), packet.count(), 0, 0)?;
-    assert_eq!(rt; written.write(alloc)?.as_slice(), octets);
-    Ok(report)
+fn written<R: Abort>(rt: &R, alloc: Global, packet: &Packet) -> Vec<u8> {
+    packet.write(alloc).expect(rt, "memory")
 }
 
-#[test]
-fn every_request_is_read_and_written(rt: HostRuntime) -> Result<(), Fail> {
-    let requests: [(u8, &[u8]); 17] = [
-        (1, &ENABLE_STORAGE),
-        (2, &DISABLE_STORAGE),
-        (3, &ADD_REPORT_TYPES),
-        (4, &DELETE_REPORT_TYPES),
-        (5, &REPORT_CONTROL),
-        (9, &START_RETRIEVAL),
-        (11, &DELETE_CONTENT),
-        (12, &SUMMARISE_CONTENT),
-        (17, &ABORT_RETRIEVAL),
-        (18, &REPORT_STATUS),
-        (20, &CREATE_STORES),
-        (21, &DELETE_STORES),
-        (22, &REPORT_CONFIGURATION),
-        (25, &RESIZE_STORES),
-        (26, &CHANGE_TO_CIRCULAR),
-        (27, &CHANGE_TO_BOUNDED),
-        (28, &CHANGE_CHANNEL),
-    ];
-    for (subtype, octets) in requests {
-        assert_eq!(rt; request_again(&rt, rt.alloc(), octets)?.subtype(), subtype);
-    }
-    Ok(())
+// The request that these octets spell, which is written as them again under APID 100.
+fn request_again<R: Abort>(rt: &R, alloc: Global, octets: &[u8]) -> Request {
+    let packet = packet_of(rt, alloc, octets);
+    let request = Request::read(alloc, &packet).expect(rt, "a request");
+    assert!(rt; request.subtype() == packet.subtype());
+    let again = request.write(alloc, 100, 0, 0, 0).expect(rt, "memory");
+    assert!(rt; written(rt, alloc, &again).as_slice() == octets);
+    request
 }
+
+// The report that these octets spell, which is written as them again under APID 100.
+fn report_again<R: Abort>(rt: &R, alloc: Global, octets: &[u8]) -> Report {
+    let packet = packet_of(rt, alloc, octets);
+    let report = Report::read(alloc, &packet).expect(rt, "a report");
+    assert!(rt; report.subtype() == packet.subtype());
+    assert!(rt; report.moment() == 1);
+    let again = report.write(alloc, 100, 0, 0, 0).expect(rt, "memory");
+    assert!(rt; written(rt, alloc, &again).as_slice() == octets);
+    report
+}
+
+static REQUESTS: [(u8, &[u8]); 17] = [
+    (1, &ENABLE_STORAGE),
+    (2, &DISABLE_STORAGE),
+    (3, &ADD_REPORT_TYPES),
+    (4, &DELETE_REPORT_TYPES),
+    (5, &REPORT_CONTROL),
+    (9, &START_RETRIEVAL),
+    (11, &DELETE_CONTENT),
+    (12, &SUMMARISE_CONTENT),
+    (17, &ABORT_RETRIEVAL),
+    (18, &REPORT_STATUS),
+    (20, &CREATE_STORES),
+    (21, &DELETE_STORES),
+    (22, &REPORT_CONFIGURATION),
+    (25, &RESIZE_STORES),
+    (26, &CHANGE_TO_CIRCULAR),
+    (27, &CHANGE_TO_BOUNDED),
+    (28, &CHANGE_CHANNEL),
+];
 
 #[test]
-fn every_report_is_read_and_written(rt: HostRuntime) -> Result<(), Fail> {
-    let reports: [(u8, &[u8]); 8] = [
-        (6, &CONTROL),
-        (6, &CONTROL_OF_NO_ROW),
-        (13, &SUMMARIES),
-        (13, &NO_SUMMARY),
-        (19, &STATUSES),
-        (19, &NO_STATUS),
-        (23, &CONFIGURATIONS),
-        (23, &NO_CONFIGURATION),
-    ];
-    for (subtype, octets) in reports {
-        assert_eq!(rt; report_again(&rt, rt.alloc(), octets)?.subtype(), subtype);
+fn every_request_is_read_and_written(rt: HostRuntime) {
+    for (subtype, octets) in &REQUESTS {
+        let request = request_again(&rt, rt.alloc(), octets);
+        assert!(rt; request.subtype() == *subtype, "{request:?}");
     }
-    Ok(())
 }
 
-#[test]
-fn instructions_have_their_fields(rt: HostRuntime) -> Result<(), Fail> {
-    match request_again(&rt, rt.alloc(), &DISABLE_STORAGE)? {
-        Request::DisableStorage(list) => {
-            assert_eq!(rt;
-                list.as_slice(),
-                [Target { id: SCI }, Target { id: HK }].as_slice()
-            );
-        }
-        other => assert!(rt; false, "{other:?}"),
-    }
-    match request_again(&rt, rt.alloc(), &DELETE_REPORT_TYPES)? {
-        Request::DeleteReportTypes(list) => {
-            let wanted = ReportType {
-                id: HK,
-                apid: 2046,
-                service: 255,
-                subtype: 0,
-            };
-            assert_eq!(rt; list.as_slice(), [wanted].as_slice());
-        }
-        other => assert!(rt; false, "{other:?}"),
-    }
-    match request_again(&rt, rt.alloc(), &START_RETRIEVAL)? {
-        Request::StartRetrieval(list) => {
-            let wanted = TimeRange {
-                id: SCI,
-                from: 1,
-                to: 255,
-            };
-            assert_eq!(rt; list.as_slice(), [wanted].as_slice());
-        }
-        other => assert!(rt; false, "{other:?}"),
-    }
-    match request_again(&rt, rt.alloc(), &DELETE_CONTENT)? {
-        Request::DeleteContent(list) => {
-            assert_eq!(rt;
-                list.as_slice(),
-                [TimeLimit {
-                    id: SCI,
-                    limit: 255
-                }]
-                .as_slice()
-            );
-        }
-        other => assert!(rt; false, "{other:?}"),
-    }
-    match request_again(&rt, rt.alloc(), &RESIZE_STORES)? {
-        Request::ResizeStores(list) => {
-            assert_eq!(rt;
-                list.as_slice(),
-                [Size {
-                    id: SCI,
-                    size: 1_000_000
-                }]
-                .as_slice()
-            );
-        }
-        other => assert!(rt; false, "{other:?}"),
-    }
-    match request_again(&rt, rt.alloc(), &CHANGE_CHANNEL)? {
-        Request::ChangeChannel(list) => {
-            assert_eq!(rt;
-                list.as_slice(),
-                [Channel {
-                    id: SCI,
-                    channel: 5
-                }]
-                .as_slice()
-            );
-        }
-        other => assert!(rt; false, "{other:?}"),
-    }
-    Ok(())
-}
+static REPORTS: [(u8, &[u8]); 8] = [
+    (6, &CONTROL),
+    (6, &CONTROL_OF_NO_ROW),
+    (13, &SUMMARIES),
+    (13, &NO_SUMMARY),
+    (19, &STATUSES),
+    (19, &NO_STATUS),
+    (23, &CONFIGURATIONS),
+    (23, &NO_CONFIGURATION),
+];
 
 #[test]
-fn entries_have_their_fields(rt: HostRuntime) -> Result<(), Fail> {
-    match report_again(&rt, rt.alloc(), &CONTROL)? {
+fn every_report_is_read_and_written(rt: HostRuntime) {
+    for (subtype, octets) in &REPORTS {
+        let report = report_again(&rt, rt.alloc(), octets);
+        assert!(rt; report.subtype() == *subtype, "{report:?}");
+    }
+}
+
+// The instructions of a request, for each of these layouts.
+enum Instructions {
+    DisableStorage(&'static [Target]),
+    DeleteReportTypes(&'static [ReportType]),
+    StartRetrieval(&'static [TimeRange]),
+    DeleteContent(&'static [TimeLimit]),
+    ResizeStores(&'static [Size]),
+    ChangeChannel(&'static [Channel]),
+}
+
+// The request is this one.
+fn asks(request: &Request, wanted: &Instructions) -> bool {
+    match (request, wanted) {
+        (Request::DisableStorage(list), Instructions::DisableStorage(wanted)) => {
+            list.as_slice() == *wanted
+        }
+        (Request::DeleteReportTypes(list), Instructions::DeleteReportTypes(wanted)) => {
+            list.as_slice() == *wanted
+        }
+        (Request::StartRetrieval(list), Instructions::StartRetrieval(wanted)) => {
+            list.as_slice() == *wanted
+        }
+        (Request::DeleteContent(list), Instructions::DeleteContent(wanted)) => {
+            list.as_slice() == *wanted
+        }
+        (Request::ResizeStores(list), Instructions::ResizeStores(wanted)) => {
+            list.as_slice() == *wanted
+        }
+        (Request::ChangeChannel(list), Instructions::ChangeChannel(wanted)) => {
+            list.as_slice() == *wanted
+        }
+        _ => false,
+    }
+}
+
+static INSTRUCTIONS: [(&[u8], Instructions); 6] = [
+    (
+        &DISABLE_STORAGE,
+        Instructions::DisableStorage(&[Target { id: SCI }, Target { id: HK }]),
+    ),
+    (
+        &DELETE_REPORT_TYPES,
+        Instructions::DeleteReportTypes(&[ReportType {
+            id: HK,
+            apid: 2046,
+            service: 255,
+            subtype: 0,
+        }]),
+    ),
+    (
+        &START_RETRIEVAL,
+        Instructions::StartRetrieval(&[TimeRange {
+            id: SCI,
+            from: 1,
+            to: 255,
+        }]),
+    ),
+    (
+        &DELETE_CONTENT,
+        Instructions::DeleteContent(&[TimeLimit {
+            id: SCI,
+            limit: 255,
+        }]),
+    ),
+    (
+        &RESIZE_STORES,
+        Instructions::ResizeStores(&[Size {
+            id: SCI,
+            size: 1_000_000,
+        }]),
+    ),
+    (
+        &CHANGE_CHANNEL,
+        Instructions::ChangeChannel(&[Channel {
+            id: SCI,
+            channel: 5,
+        }]),
+    ),
+];
+
+#[test]
+fn instructions_have_their_fields(rt: HostRuntime) {
+    for (octets, wanted) in &INSTRUCTIONS {
+        let request = request_again(&rt, rt.alloc(), octets);
+        assert!(rt; asks(&request, wanted), "{request:?}");
+    }
+}
+
+const ROWS: [Row; 2] = [
+    Row {
+        apid: 100,
+        service: 3,
+        subtype: 25,
+    },
+    Row {
+        apid: 2046,
+        service: 255,
+        subtype: 1,
+    },
+];
+
+const TWO_SUMMARIES: [Summary; 2] = [
+    Summary {
+        id: SCI,
+        oldest: 7,
+        newest: 9,
+        held: 3,
+    },
+    Summary {
+        id: HK,
+        oldest: 0,
+        newest: 0,
+        held: 0,
+    },
+];
+
+const STATUS: Status = Status {
+    id: SCI,
+    storage: 1,
+    retrieval: 0,
+};
+
+#[test]
+fn entries_have_their_fields(rt: HostRuntime) {
+    match report_again(&rt, rt.alloc(), &CONTROL) {
         Report::Control { id, rows, .. } => {
-            let first = Row {
-                apid: 100,
-                service: 3,
-                subtype: 25,
-            };
-            let second = Row {
-                apid: 2046,
-                service: 255,
-                subtype: 1,
-            };
-            assert_eq!(rt; id, SCI);
-            assert_eq!(rt; rows.as_slice(), [first, second].as_slice());
+            assert!(rt; id == SCI);
+            assert!(rt; rows.as_slice() == ROWS.as_slice());
         }
-        other => assert!(rt; false, "{other:?}"),
+        other => panic!(rt; "{other:?}"),
     }
-    match report_again(&rt, rt.alloc(), &SUMMARIES)? {
+    match report_again(&rt, rt.alloc(), &SUMMARIES) {
         Report::Summaries { entries, .. } => {
-            let first = Summary {
-                id: SCI,
-                oldest: 7,
-                newest: 9,
-                held: 3,
-            };
-            let second = Summary {
-                id: HK,
-                oldest: 0,
-                newest: 0,
-                held: 0,
-            };
-            assert_eq!(rt; entries.as_slice(), [first, second].as_slice());
+            assert!(rt; entries.as_slice() == TWO_SUMMARIES.as_slice());
         }
-        other => assert!(rt; false, "{other:?}"),
+        other => panic!(rt; "{other:?}"),
     }
-    match report_again(&rt, rt.alloc(), &STATUSES)? {
+    match report_again(&rt, rt.alloc(), &STATUSES) {
         Report::Statuses { entries, .. } => {
-            let wanted = Status {
-                id: SCI,
-                storage: 1,
-                retrieval: 0,
-            };
-            assert_eq!(rt; entries.as_slice(), [wanted].as_slice());
+            assert!(rt; entries.as_slice() == [STATUS].as_slice());
         }
-        other => assert!(rt; false, "{other:?}"),
+        other => panic!(rt; "{other:?}"),
     }
-    Ok(())
 }
 
-#[test]
-fn create_two_stores(rt: HostRuntime) -> Result<(), Fail> {
-    let first = Configuration {
+const STORES: [Configuration; 2] = [
+    Configuration {
         id: SCI,
         size: 4,
         kind: 1,
         channel: 0,
-    };
-    let second = Configuration {
+    },
+    Configuration {
         id: HK,
         size: 2,
         kind: 0,
         channel: 1,
-    };
-    match request_again(&rt, rt.alloc(), &CREATE_STORES)? {
+    },
+];
+
+#[test]
+fn create_two_stores(rt: HostRuntime) {
+    let alloc = rt.alloc();
+    match request_again(&rt, alloc, &CREATE_STORES) {
         Request::CreateStores(list) => {
-            assert_eq!(rt; list.as_slice(), [first, second].as_slice());
-            assert_eq!(rt; list.into_vec().len(), 2);
+            assert!(rt; list.as_slice() == STORES.as_slice());
+            assert!(rt; list.into_vec().len() == 2);
         }
-        other => assert!(rt; false, "{other:?}"),
+        other => panic!(rt; "{other:?}"),
     }
-    let request = Request::CreateStores(Entries::new([first, second].to_vec(rt.alloc())?));
-    assert_eq!(rt; request.kind(), RequestKind::CreateStores);
-    let packet = request.write(rt.alloc(), 100, 0, 0, 0)?;
-    assert_eq!(rt;
-        packet.write(rt.alloc())?.as_slice(),
-        CREATE_STORES.as_slice()
-    );
-    Ok(())
+    let list = STORES.to_vec(alloc).expect(&rt, "memory");
+    let request = Request::CreateStores(Entries::new(list));
+    assert!(rt; request.kind() == RequestKind::CreateStores);
+    let packet = request.write(alloc, 100, 0, 0, 0).expect(&rt, "memory");
+    assert!(rt; written(&rt, alloc, &packet).as_slice() == CREATE_STORES.as_slice());
 }
 
 #[test]
-fn configuration_report(rt: HostRuntime) -> Result<(), Fail> {
-    let wanted = Configuration {
-        id: SCI,
-        size: 4,
-        kind: 1,
-        channel: 0,
-    };
+fn configuration_report(rt: HostRuntime) {
+    let alloc = rt.alloc();
+    let list = STORES[..1].to_vec(alloc).expect(&rt, "memory");
     let report = Report::Configurations {
         moment: 1,
-        entries: Entries::new([wanted].to_vec(rt.alloc())?),
+        entries: Entries::new(list),
     };
-    assert_eq!(rt; report.kind(), ReportKind::Configurations);
-    let packet = report.write(rt.alloc(), 100, 0, 0, 0)?;
-    assert_eq!(rt;
-        packet.write(rt.alloc())?.as_slice(),
-        CONFIGURATIONS.as_slice()
-    );
-    Ok(())
+    assert!(rt; report.kind() == ReportKind::Configurations);
+    let packet = report.write(alloc, 100, 0, 0, 0).expect(&rt, "memory");
+    assert!(rt; written(&rt, alloc, &packet).as_slice() == CONFIGURATIONS.as_slice());
+}
+
+const ALL_TIMES: TimeRange = TimeRange {
+    id: SCI,
+    from: 0,
+    to: u64::MAX,
+};
+
+// A request of 255 instructions, written.
+fn most_instructions<R: Abort>(rt: &R, alloc: Global) -> Packet {
+    let list = vec![in alloc; ALL_TIMES; 255].expect(rt, "memory");
+    let request = Request::StartRetrieval(Entries::new(list));
+    request.write(alloc, 100, 0, 0, 0).expect(rt, "memory")
 }
 
 #[test]
-fn the_most_instructions_are_written_and_read(rt: HostRuntime) -> Result<(), Fail> {
-    let range = TimeRange {
-        id: SCI,
-        from: 0,
-        to: u64::MAX,
-    };
-    let request = Request::StartRetrieval(Entries::new(vec![in rt.alloc(); range; 255]?));
-    let packet = request.write(rt.alloc(), 100, 0, 0, 0)?;
-    assert_eq!(rt; packet.body().len(), 6121);
-    assert_eq!(rt; packet.body().first(), Some(&255));
-    match Request::read(rt.alloc(), &packet)? {
+fn the_most_instructions_are_written_and_read(rt: HostRuntime) {
+    let packet = most_instructions(&rt, rt.alloc());
+    assert!(rt; packet.body().len() == 6121);
+    assert!(rt; packet.body()[0] == 255);
+    match Request::read(rt.alloc(), &packet).expect(&rt, "a request") {
         Request::StartRetrieval(list) => {
-            assert_eq!(rt; list.as_slice().len(), 255);
-            assert_eq!(rt; list.as_slice().last(), Some(&range));
+            assert!(rt; list.as_slice().len() == 255);
+            assert!(rt; list.as_slice()[254] == ALL_TIMES);
         }
-        other => assert!(rt; false, "{other:?}"),
+        other => panic!(rt; "{other:?}"),
     }
-    Ok(())
 }
 
-// The refusal of a request with these octets.
-fn refusal(rt: &impl Abort, alloc: Global, octets: &[u8]) -> Result<Option<Fault>, Fail> {
-    let (packet, _rest) = Packet::parse(alloc, octets)?;
-    Ok(Request::read(alloc, &packet).err())
+// The octets are refused as a request with this fault.
+fn request_refused<R: Abort>(rt: &R, alloc: Global, octets: &[u8], fault: Fault) {
+    let packet = packet_of(rt, alloc, octets);
+    let refusal = Request::read(alloc, &packet).expect_err(rt, "no request");
+    assert_eq!(rt; refusal, fault, "{octets:?}");
 }
 
-#[test]
-fn request_lines_refused(rt: HostRuntime) -> Result<(), Fail> {
-    let rows: [(&[u8], Fault); 9] = [
-        (
-            &[
-                0x18, 0x64, 0xC0, 0x00, 0x00, 0x04, 0x20, 0x11, 0x01, 0x00, 0x00,
-            ],
-            Fault::NotSt15,
-        ),
-        (
-            &[
-                0x18, 0x64, 0xC0, 0x00, 0x00, 0x04, 0x20, 0x0F, 0x0E, 0x00, 0x00,
-            ],
-            Fault::UnknownSubtype,
-        ),
-        (
-            &[
-                0x18, 0x64, 0xC0, 0x00, 0x00, 0x04, 0x20, 0x0F, 0x01, 0x00, 0x00,
-            ],
-            Fault::CountMismatch,
-        ),
-        (
-            &[
-                0x18, 0x64, 0xC0, 0x00, 0x00, 0x05, 0x20, 0x0F, 0x12, 0x00, 0x00, 0x00,
-            ],
-            Fault::CountMismatch,
-        ),
-        (
-            &[
-                0x18, 0x64, 0xC0, 0x00, 0x00, 0x05, 0x20, 0x0F, 0x01, 0x00, 0x00, 0x00,
-            ],
-            Fault::CountMismatch,
-        ),
-        (
-            &[
-                0x18, 0x64, 0xC0, 0x00, 0x00, 0x0D, 0x20, 0x0F, 0x01, 0x00, 0x00, 0x02, 0x53, 0x43,
-                0x49, 0x20, 0x20, 0x20, 0x20, 0x20,
-            ],
-            Fault::CountMismatch,
-        ),
-        (
-            &[
-                0x18, 0x64, 0xC0, 0x00, 0x00, 0x15, 0x20, 0x0F, 0x01, 0x00, 0x00, 0x01, 0x53, 0x43,
-                0x49, 0x20, 0x20, 0x20, 0x20, 0x20, 0x48, 0x4B, 0x20, 0x20, 0x20, 0x20, 0x20, 0x20,
-            ],
-            Fault::CountMismatch,
-        ),
-        (
-            &[
-                0x18, 0x64, 0xC0, 0x00, 0x00, 0x0E, 0x20, 0x0F, 0x01, 0x00, 0x00, 0x01, 0x53, 0x43,
-                0x49, 0x20, 0x20, 0x20, 0x20, 0x20, 0x20,
-            ],
-            Fault::CountMismatch,
-        ),
-        (
-            &[
-                0x18, 0x64, 0xC0, 0x00, 0x00, 0x0C, 0x20, 0x0F, 0x01, 0x00, 0x00, 0x01, 0x53, 0x43,
-                0x49, 0x20, 0x20, 0x20, 0x20,
-            ],
-            Fault::CountMismatch,
-        ),
-    ];
-    for (octets, fault) in rows {
-        assert_eq!(rt;
-            refusal(&rt, rt.alloc(), octets)?,
-            Some(fault),
-            "{octets:?}"
-        );
-    }
-    assert_eq!(rt;
-        refusal(&rt, rt.alloc(), &CONFIGURATIONS)?,
-        Some(Fault::NotSt15)
-    );
-    Ok(())
-}
+static REFUSED_REQUESTS: [(&[u8], Fault); 10] = [
+    (
+        &[
+            0x18, 0x64, 0xC0, 0x00, 0x00, 0x04, 0x20, 0x11, 0x01, 0x00, 0x00,
+        ],
+        Fault::NotSt15,
+    ),
+    (
+        &[
+            0x18, 0x64, 0xC0, 0x00, 0x00, 0x04, 0x20, 0x0F, 0x0E, 0x00, 0x00,
+        ],
+        Fault::UnknownSubtype,
+    ),
+    (
+        &[
+            0x18, 0x64, 0xC0, 0x00, 0x00, 0x04, 0x20, 0x0F, 0x01, 0x00, 0x00,
+        ],
+        Fault::CountMismatch,
+    ),
+    (
+        &[
+            0x18, 0x64, 0xC0, 0x00, 0x00, 0x05, 0x20, 0x0F, 0x12, 0x00, 0x00, 0x00,
+        ],
+        Fault::CountMismatch,
+    ),
+    (
+        &[
+            0x18, 0x64, 0xC0, 0x00, 0x00, 0x05, 0x20, 0x0F, 0x01, 0x00, 0x00, 0x00,
+        ],
+        Fault::CountMismatch,
+    ),
+    (
+        &[
+            0x18, 0x64, 0xC0, 0x00, 0x00, 0x0D, 0x20, 0x0F, 0x01, 0x00, 0x00, 0x02, 0x53, 0x43,
+            0x49, 0x20, 0x20, 0x20, 0x20, 0x20,
+        ],
+        Fault::CountMismatch,
+    ),
+    (
+        &[
+            0x18, 0x64, 0xC0, 0x00, 0x00, 0x15, 0x20, 0x0F, 0x01, 0x00, 0x00, 0x01, 0x53, 0x43,
+            0x49, 0x20, 0x20, 0x20, 0x20, 0x20, 0x48, 0x4B, 0x20, 0x20, 0x20, 0x20, 0x20, 0x20,
+        ],
+        Fault::CountMismatch,
+    ),
+    (
+        &[
+            0x18, 0x64, 0xC0, 0x00, 0x00, 0x0E, 0x20, 0x0F, 0x01, 0x00, 0x00, 0x01, 0x53, 0x43,
+            0x49, 0x20, 0x20, 0x20, 0x20, 0x20, 0x20,
+        ],
+        Fault::CountMismatch,
+    ),
+    (
+        &[
+            0x18, 0x64, 0xC0, 0x00, 0x00, 0x0C, 0x20, 0x0F, 0x01, 0x00, 0x00, 0x01, 0x53, 0x43,
+            0x49, 0x20, 0x20, 0x20, 0x20,
+        ],
+        Fault::CountMismatch,
+    ),
+    (&CONFIGURATIONS, Fault::NotSt15),
+];
 
 #[test]
-fn reports_refused(rt: HostRuntime) -> Result<(), Fail> {
-    let rows: [(&[u8], Fault); 8] = [
-        (
-            &[
-                0x18, 0x64, 0xC0, 0x00, 0x00, 0x05, 0x20, 0x0F, 0x13, 0x00, 0x00, 0x00,
-            ],
-            Fault::NotSt15,
-        ),
-        (
-            &[
-                0x08, 0x64, 0xC0, 0x00, 0x00, 0x0F, 0x20, 0x03, 0x13, 0x00, 0x00, 0x00, 0x00, 0x00,
-                0x00, 0x00, 0x00, 0x00, 0x00, 0x00, 0x01, 0x00,
-            ],
-            Fault::NotSt15,
-        ),
-        (
-            &[
-                0x08, 0x64, 0xC0, 0x00, 0x00, 0x0F, 0x20, 0x0F, 0x01, 0x00, 0x00, 0x00, 0x00, 0x00,
-                0x00, 0x00, 0x00, 0x00, 0x00, 0x00, 0x01, 0x00,
-            ],
-            Fault::UnknownSubtype,
-        ),
-        (
-            &[
-                0x08, 0x64, 0xC0, 0x00, 0x00, 0x0E, 0x20, 0x0F, 0x13, 0x00, 0x00, 0x00, 0x00, 0x00,
-                0x00, 0x00, 0x00, 0x00, 0x00, 0x00, 0x01,
-            ],
-            Fault::CountMismatch,
-        ),
-        (
-            &[
-                0x08, 0x64, 0xC0, 0x00, 0x00, 0x19, 0x20, 0x0F, 0x13, 0x00, 0x00, 0x00, 0x00, 0x00,
-                0x00, 0x00, 0x00, 0x00, 0x00, 0x00, 0x01, 0x02, 0x53, 0x43, 0x49, 0x20, 0x20, 0x20,
-                0x20, 0x20, 0x01, 0x00,
-            ],
-            Fault::CountMismatch,
-        ),
-        (
-            &[
-                0x08, 0x64, 0xC0, 0x00, 0x00, 0x19, 0x20, 0x0F, 0x13, 0x00, 0x00, 0x00, 0x00, 0x00,
-                0x00, 0x00, 0x00, 0x00, 0x00, 0x00, 0x01, 0x00, 0x53, 0x43, 0x49, 0x20, 0x20, 0x20,
-                0x20, 0x20, 0x01, 0x00,
-            ],
-            Fault::CountMismatch,
-        ),
-        (
-            &[
-                0x08, 0x64, 0xC0, 0x00, 0x00, 0x18, 0x20, 0x0F, 0x06, 0x00, 0x00, 0x00, 0x00, 0x00,
-                0x00, 0x00, 0x00, 0x00, 0x00, 0x00, 0x01, 0x53, 0x43, 0x49, 0x20, 0x20, 0x20, 0x20,
-                0x20, 0x00, 0x01,
-            ],
-            Fault::CountMismatch,
-        ),
-        (
-            &[
-                0x08, 0x64, 0xC0, 0x00, 0x00, 0x17, 0x20, 0x0F, 0x06, 0x00, 0x00, 0x00, 0x00, 0x00,
-                0x00, 0x00, 0x00, 0x00, 0x00, 0x00, 0x01, 0x53, 0x43, 0x49, 0x20, 0x20, 0x20, 0x20,
-                0x20, 0x00,
-            ],
-            Fault::CountMismatch,
-        ),
-    ];
-    for (octets, fault) in rows {
-        let (packet, _rest) = Packet::parse(rt.alloc(), octets)?;
-        assert_eq!(rt;
-            Report::read(rt.alloc(), &packet).err(),
-            Some(fault),
-            "{octets:?}"
-        );
+fn request_lines_refused(rt: HostRuntime) {
+    for (octets, fault) in &REFUSED_REQUESTS {
+        request_refused(&rt, rt.alloc(), octets, *fault);
     }
-    Ok(())
 }
 
+// The octets are refused as a report with this fault.
+fn report_refused<R: Abort>(rt: &R, alloc: Global, octets: &[u8], fault: Fault) {
+    let packet = packet_of(rt, alloc, octets);
+    let refusal = Report::read(alloc, &packet).expect_err(rt, "no report");
+    assert_eq!(rt; refusal, fault, "{octets:?}");
+}
+
+static REFUSED_REPORTS: [(&[u8], Fault); 8] = [
+    (
+        &[
+            0x18, 0x64, 0xC0, 0x00, 0x00, 0x05, 0x20, 0x0F, 0x13, 0x00, 0x00, 0x00,
+        ],
+        Fault::NotSt15,
+    ),
+    (
+        &[
+            0x08, 0x64, 0xC0, 0x00, 0x00, 0x0F, 0x20, 0x03, 0x13, 0x00, 0x00, 0x00, 0x00, 0x00,
+            0x00, 0x00, 0x00, 0x00, 0x00, 0x00, 0x01, 0x00,
+        ],
+        Fault::NotSt15,
+    ),
+    (
+        &[
+            0x08, 0x64, 0xC0, 0x00, 0x00, 0x0F, 0x20, 0x0F, 0x01, 0x00, 0x00, 0x00, 0x00, 0x00,
+            0x00, 0x00, 0x00, 0x00, 0x00, 0x00, 0x01, 0x00,
+        ],
+        Fault::UnknownSubtype,
+    ),
+    (
+        &[
+            0x08, 0x64, 0xC0, 0x00, 0x00, 0x0E, 0x20, 0x0F, 0x13, 0x00, 0x00, 0x00, 0x00, 0x00,
+            0x00, 0x00, 0x00, 0x00, 0x00, 0x00, 0x01,
+        ],
+        Fault::CountMismatch,
+    ),
+    (
+        &[
+            0x08, 0x64, 0xC0, 0x00, 0x00, 0x19, 0x20, 0x0F, 0x13, 0x00, 0x00, 0x00, 0x00, 0x00,
+            0x00, 0x00, 0x00, 0x00, 0x00, 0x00, 0x01, 0x02, 0x53, 0x43, 0x49, 0x20, 0x20, 0x20,
+            0x20, 0x20, 0x01, 0x00,
+        ],
+        Fault::CountMismatch,
+    ),
+    (
+        &[
+            0x08, 0x64, 0xC0, 0x00, 0x00, 0x19, 0x20, 0x0F, 0x13, 0x00, 0x00, 0x00, 0x00, 0x00,
+            0x00, 0x00, 0x00, 0x00, 0x00, 0x00, 0x01, 0x00, 0x53, 0x43, 0x49, 0x20, 0x20, 0x20,
+            0x20, 0x20, 0x01, 0x00,
+        ],
+        Fault::CountMismatch,
+    ),
+    (
+        &[
+            0x08, 0x64, 0xC0, 0x00, 0x00, 0x18, 0x20, 0x0F, 0x06, 0x00, 0x00, 0x00, 0x00, 0x00,
+            0x00, 0x00, 0x00, 0x00, 0x00, 0x00, 0x01, 0x53, 0x43, 0x49, 0x20, 0x20, 0x20, 0x20,
+            0x20, 0x00, 0x01,
+        ],
+        Fault::CountMismatch,
+    ),
+    (
+        &[
+            0x08, 0x64, 0xC0, 0x00, 0x00, 0x17, 0x20, 0x0F, 0x06, 0x00, 0x00, 0x00, 0x00, 0x00,
+            0x00, 0x00, 0x00, 0x00, 0x00, 0x00, 0x01, 0x53, 0x43, 0x49, 0x20, 0x20, 0x20, 0x20,
+            0x20, 0x00,
+        ],
+        Fault::CountMismatch,
+    ),
+];
+
 #[test]
-fn refusals_are_shown_by_number_and_name(rt: HostRuntime) -> Result<(), Fail> {
-    let rows = [
-        (Fault::NoMemory, 0, "NoMemory"),
-        (Fault::NotSt15, 12, "NotSt15"),
-        (Fault::UnknownSubtype, 13, "UnknownSubtype"),
-        (Fault::CountMismatch, 14, "CountMismatch"),
-    ];
-    for (fault, number, name) in rows {
-        assert_eq!(rt; fault.number(), number);
-        assert_eq!(rt; fault.name(), name);
-        let shown = format!(in rt.alloc(); "{fault}")?;
-        let wanted = format!(in rt.alloc(); "{number} {name}")?;
-        assert_eq!(rt; shown.as_str(), wanted.as_str());
+fn reports_refused(rt: HostRuntime) {
+    for (octets, fault) in &REFUSED_REPORTS {
+        report_refused(&rt, rt.alloc(), octets, *fault);
     }
-    assert_eq!(rt;
-        format!(in rt.alloc(); "{NoMemory}")?.as_str(),
-        "0 NoMemory"
-    );
+}
+
+static NAMES: [(Fault, u8, &str, &str); 4] = [
+    (Fault::NoMemory, 0, "NoMemory", "0 NoMemory"),
+    (Fault::NotSt15, 12, "NotSt15", "12 NotSt15"),
+    (
+        Fault::UnknownSubtype,
+        13,
+        "UnknownSubtype",
+        "13 UnknownSubtype",
+    ),
+    (
+        Fault::CountMismatch,
+        14,
+        "CountMismatch",
+        "14 CountMismatch",
+    ),
+];
+
+#[test]
+fn refusals_are_shown_by_number_and_name(rt: HostRuntime) {
+    let alloc = rt.alloc();
+    for (fault, number, name, shown) in &NAMES {
+        assert!(rt; fault.number() == *number);
+        assert!(rt; fault.name() == *name);
+        assert!(rt; fault.to_string(alloc).expect(&rt, "memory").as_str() == *shown);
+    }
+    assert!(rt; NoMemory.to_string(alloc).expect(&rt, "memory").as_str() == "0 NoMemory");
     laws::one_packet_one_request();
     laws::request_is_not_refused();
     laws::one_packet_one_report();
     laws::report_is_not_refused();
-    Ok(())
 }
