@@ -1,0 +1,11 @@
+//! The shortest caller of each crate that can be used by itself, as docs/LIBRARY.md shows them.
+#![tactic(auto)]
+
+pub mod checker;
+pub mod flow;
+pub mod memory;
+pub mod packets;
+pub mod requests;
+pub mod stores;
+#[cfg(test)]
+mod tests;

@@ -1,0 +1,110 @@
+//! Each caller once, with what it must answer worked out by hand.
+
+use crate::checker::least_loss;
+use crate::flow::{greatest_value, in_a_row};
+use crate::memory::with_one_off;
+use crate::packets::again;
+use crate::requests::enable_again;
+use crate::stores::third_of_two;
+use mm_packet::{BlockPacket, Header, Octets, Packet};
+use mm_problem::{Kind, Setup, StoreId};
+use mm_st15::{Request, Target};
+use mm_store::Put;
+use std::alloc::Global;
+use std::process::Abort;
+
+const SETUP: &[u8] = b"[[store]]\nid = \"SCI\"\nsize = 4\ntype = \"bounded\"\nchannel = 0\n";
+
+const FORECAST: &[u8] = b"step,window,SCI\n1,2,3\n2,2,3\n3,0,4\n";
+
+// Two blocks leave in each of the first two steps, and two are lost.
+const LEAST: &[u8] =
+    b"mmplan 1\nstores SCI\ndump 1 2\ndump 2 2\ndump 3 0\nloss 2\nstretch SCI 1 3\nbound 2\nend\n";
+
+// One block fewer leaves in the second step, and three are lost.
+const MORE: &[u8] =
+    b"mmplan 1\nstores SCI\ndump 1 2\ndump 2 1\ndump 3 0\nloss 3\nstretch SCI 1 3\nbound 2\nend\n";
+
+// Telemetry with this sequence count and two octets of data.
+fn telemetry(rt: &impl Abort, alloc: Global, count: u16) -> Packet {
+    let header = Header {
+        apid: 100,
+        count: count % 1000,
+        low: 0,
+        service: 3,
+        subtype: 25,
+    };
+    let data = vec![in alloc; 7, 9].expect(rt, "memory");
+    Packet::tm(header, 1, 2, 3, Octets::new(data))
+}
+
+fn block(rt: &impl Abort, alloc: Global, count: u16) -> BlockPacket {
+    BlockPacket::of(telemetry(rt, alloc, count)).expect(rt, "a short packet")
+}
+
+#[test]
+fn the_narrower_arc_decides(rt: HostRuntime) {
+    for (first, second, most) in [(7, 4, 4), (2, 9, 2), (0, 5, 0)] {
+        let network = in_a_row(rt.alloc(), first, second).expect(&rt, "memory");
+        let value = greatest_value(rt.alloc(), &network, 0, 2).expect(&rt, "a solution");
+        assert_eq!(rt; value, most);
+    }
+}
+
+#[test]
+fn a_packet_is_read_again(rt: HostRuntime) {
+    let packet = telemetry(&rt, rt.alloc(), 5);
+    let read = again(rt.alloc(), &packet).expect(&rt, "memory");
+    assert_eq!(rt;
+        (read.apid(), read.count(), read.is_telecommand()),
+        (100, 5, false)
+    );
+    assert_eq!(rt; read.body(), [7, 9].as_slice());
+}
+
+// The sequence count of the packet that a full store hands back.
+fn handed_back(answer: &Put) -> Option<u16> {
+    match answer {
+        Put::KeptOver(_, packet) => Some(packet.packet().count()),
+        Put::Lost(packet) => Some(packet.packet().count()),
+        _ => None,
+    }
+}
+
+#[test]
+fn one_of_three_packets_is_handed_back(rt: HostRuntime) {
+    for (kind, count) in [(Kind::Bounded, 3), (Kind::Circular, 1)] {
+        let alloc = rt.alloc();
+        let (first, second) = (block(&rt, alloc, 1), block(&rt, alloc, 2));
+        let third = block(&rt, alloc, 3);
+        let answer = third_of_two(alloc, kind, first, second, third).expect(&rt, "memory");
+        assert_eq!(rt; handed_back(&answer), Some(count));
+    }
+}
+
+#[test]
+fn a_request_is_read_again(rt: HostRuntime) {
+    let id = *b"SCI     ";
+    match enable_again(rt.alloc(), id).expect(&rt, "memory") {
+        Request::EnableStorage(stores) => {
+            assert_eq!(rt; stores.as_slice(), [Target { id }].as_slice());
+        }
+        _ => assert!(rt; false, "another request"),
+    }
+}
+
+#[test]
+fn only_the_least_plan_is_believed(rt: HostRuntime) {
+    for (plan, loss) in [(LEAST, Some(2)), (MORE, None)] {
+        let found = least_loss(rt.alloc(), SETUP, FORECAST, plan).expect(&rt, "texts");
+        assert_eq!(rt; found, loss);
+    }
+}
+
+#[test]
+fn one_store_is_switched_off(rt: HostRuntime) {
+    let setup = Setup::read(rt.alloc(), SETUP).expect(&rt, "a setup");
+    let id = StoreId::of_text(b"SCI").expect(&rt, "an identifier");
+    let memory = with_one_off(rt.alloc(), &setup, &id).expect(&rt, "memory");
+    assert!(rt; memory.state(&id).is_some_and(|state| !state.storage()));
+}

@@ -1,0 +1,158 @@
+#!/usr/bin/env bash
+# Compares what README.md, docs/ and examples/ show with what is there:
+# - a fenced block under `<!-- file: PATH -->` with that file, whole;
+# - a fenced block under `<!-- output: COMMAND -->` with what the command prints; it must end with status 0, or with N under
+#   `<!-- output N: COMMAND -->`. In the block a line `...` stands for any lines, and what follows two spaces is a note;
+# - the commands of a fenced block in which a line begins with `./mm_tool ` are run, and each must end with status 0;
+# - each file that a link or a path of any document names is there.
+# The commands of one document are run one after another in one new folder, in which the top of the repository is seen.
+# The program must be built from the sources that are there: `./mm_tool --help` builds it. Prints one line where all is well.
+set -u
+top=$(cd "$(dirname "${BASH_SOURCE[0]}")/.." && pwd)
+built=$top/crates/mm_tool/out/mm_tool
+work=$(mktemp -d)
+trap 'rm -rf "$work"' EXIT
+blocks=0 failures=0 unbuilt=0
+
+fail() {
+  printf 'docs: %s\n' "$*"
+  failures=$((failures + 1))
+}
+
+is_built() {
+  [ -x "$built" ] && [ -z "$(find "$top/crates" -path '*/out' -prune -o -type f -newer "$built" \
+    \( -name '*.rt' -o -name '*.antt' \) -print -quit)" ]
+}
+
+# The lines of $work/block without notes, in `wanted`.
+read_wanted() {
+  mapfile -t wanted < <(sed 's/  .*$//' "$work/block")
+}
+
+# Whether the lines of $work/printed are those of $work/block.
+is_printed() {
+  local got at=0 skips=0 line wanted
+  read_wanted
+  mapfile -t got <"$work/printed"
+  for line in "${wanted[@]}"; do
+    if [ "$line" = ... ]; then
+      skips=1
+      continue
+    fi
+    while [ "$skips" = 1 ] && [ "$at" -lt "${#got[@]}" ] && [ "${got[$at]}" != "$line" ]; do
+      at=$((at + 1))
+    done
+    [ "$at" -lt "${#got[@]}" ] && [ "${got[$at]}" = "$line" ] || return 1
+    at=$((at + 1)) skips=0
+  done
+  [ "$skips" = 1 ] || [ "$at" = "${#got[@]}" ]
+}
+
+# Runs a command in the document's folder; what it prints goes to $work/printed.
+run() {
+  (cd "$room" && bash -c "$1") >"$work/printed" 2>"$work/errors" </dev/null
+}
+
+check_file() {
+  blocks=$((blocks + 1))
+  if ! diff -u "$top/$1" "$work/block" >"$work/differs" 2>&1; then
+    fail "$place: the block is not $1"
+    cat "$work/differs"
+  fi
+}
+
+# Takes a marker `output: COMMAND` or `output N: COMMAND`.
+check_output() {
+  local command=${1#*: } wants=${1%%:*} status
+  wants=${wants#output} wants=${wants# } wants=${wants:-0}
+  blocks=$((blocks + 1))
+  run "$command"
+  status=$?
+  if [ "$status" != "$wants" ]; then
+    fail "$place: status $status and not $wants of: $command"
+    head -n 5 "$work/printed" "$work/errors"
+  elif ! is_printed; then
+    fail "$place: another output of: $command"
+    read_wanted
+    diff <(printf '%s\n' "${wanted[@]}") "$work/printed" | head -n 20
+  fi
+}
+
+check_commands() {
+  local command status
+  blocks=$((blocks + 1))
+  while IFS= read -r command; do
+    run "$command"
+    status=$?
+    if [ "$status" != 0 ]; then
+      fail "$place: status $status of: $command"
+      head -n 5 "$work/printed" "$work/errors"
+    fi
+  done <"$work/block"
+}
+
+when_built() {
+  if [ "$is_ready" = 1 ]; then "$@"; else unbuilt=$((unbuilt + 1)); fi
+}
+
+# One fenced block, in $work/block, with the marker above it.
+check_block() {
+  case $marker in
+    file:*) check_file "${marker#file: }" ;;
+    output*) when_built check_output "$marker" ;;
+    *) if grep -q '^\./mm_tool ' "$work/block"; then when_built check_commands; fi ;;
+  esac
+  marker=""
+}
+
+check_blocks() {
+  local line fenced=0 number=0 marker="" marked='^<!-- ((file|output|output [0-9]+): .*) -->$'
+  while IFS= read -r line || [ -n "$line" ]; do
+    number=$((number + 1))
+    case $fenced$line in
+      '0```'*) fenced=1 place="$document line $number" && : >"$work/block" ;;
+      '1```') fenced=0 && check_block ;;
+      1*) printf '%s\n' "$line" >>"$work/block" ;;
+      *)
+        if [[ $line =~ $marked ]]; then
+          marker=${BASH_REMATCH[1]}
+        elif [ -n "$line" ]; then
+          marker=""
+        fi
+        ;;
+    esac
+  done <"$top/$document"
+}
+
+# The files that the links and the paths of the document name. A path with a word in capitals for a folder is a pattern.
+check_paths() {
+  local path
+  while IFS= read -r path; do
+    [ -e "$top/$(dirname "$document")/$path" ] || fail "$document: no file for the link $path"
+  done < <(grep -oE '\]\([^)#: ]+' "$top/$document" | sed 's/^](//' | sort -u)
+  while IFS= read -r path; do
+    [ -e "$top/$path" ] || fail "$document: there is no $path"
+  done < <(grep -oE '(^|[ `(])(docs|examples|bench|crates)/[A-Za-z0-9_./-]+' "$top/$document" |
+    sed -E 's/^[ `(]//; s/[./]+$//' | grep -vE '/(NAME|THING|out/)' | sort -u)
+}
+
+if is_built; then is_ready=1; else is_ready=0; fi
+while IFS= read -r document; do
+  check_paths
+  case $document in
+    README.md | docs/* | examples/*)
+      room=$work/$(printf '%s' "$document" | tr / _)
+      mkdir "$room"
+      ln -s "$top"/* "$room/"
+      check_blocks
+      ;;
+  esac
+done < <(cd "$top" && find . -name out -prune -o -name .git -prune -o -name '*.md' -print | sed 's|^\./||' | sort)
+if [ "$unbuilt" != 0 ]; then
+  fail "the program is not built from these sources, so $unbuilt blocks were not compared: ./mm_tool --help builds it"
+fi
+if [ "$failures" != 0 ]; then
+  echo "docs: $failures failures, $blocks blocks compared"
+  exit 1
+fi
+echo "docs: $blocks blocks compared"
