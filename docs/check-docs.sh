@@ -3,7 +3,8 @@
 # - a fenced block under `<!-- file: PATH -->` with that file, whole;
 # - a fenced block under `<!-- output: COMMAND -->` with what the command prints; it must end with status 0, or with N under
 #   `<!-- output N: COMMAND -->`. In the block a line `...` stands for any lines, and what follows two spaces is a note;
-# - the commands of a fenced block in which a line begins with `./mm_tool ` are run, and each must end with status 0;
+# - the commands of a fenced block in which a line begins with `./mm_tool ` are run, and each must end with status 0, or with N
+#   under `<!-- status N -->`;
 # - each file that a link or a path of any document names is there.
 # The commands of one document are run one after another in one new folder, in which the top of the repository is seen.
 # The program must be built from the sources that are there: `./mm_tool --help` builds it. Prints one line where all is well.
@@ -78,14 +79,15 @@ check_output() {
   fi
 }
 
+# Takes the status with which each command of the block must end.
 check_commands() {
   local command status
   blocks=$((blocks + 1))
   while IFS= read -r command; do
     run "$command"
     status=$?
-    if [ "$status" != 0 ]; then
-      fail "$place: status $status of: $command"
+    if [ "$status" != "$1" ]; then
+      fail "$place: status $status and not $1 of: $command"
       head -n 5 "$work/printed" "$work/errors"
     fi
   done <"$work/block"
@@ -100,13 +102,14 @@ check_block() {
   case $marker in
     file:*) check_file "${marker#file: }" ;;
     output*) when_built check_output "$marker" ;;
-    *) if grep -q '^\./mm_tool ' "$work/block"; then when_built check_commands; fi ;;
+    status*) when_built check_commands "${marker#status }" ;;
+    *) if grep -q '^\./mm_tool ' "$work/block"; then when_built check_commands 0; fi ;;
   esac
   marker=""
 }
 
 check_blocks() {
-  local line fenced=0 number=0 marker="" marked='^<!-- ((file|output|output [0-9]+): .*) -->$'
+  local line fenced=0 number=0 marker="" marked='^<!-- ((file|output|output [0-9]+): .*|status [0-9]+) -->$'
   while IFS= read -r line || [ -n "$line" ]; do
     number=$((number + 1))
     case $fenced$line in
