@@ -1,7 +1,7 @@
 -- Paths of a level graph.
-use Rattle.std.proofs.Common.{◌≡◌, ◌≢◌, ℕ, zero, suc, ◌+◌, ◌-◌, ◌<◌, ◌≤◌, List, length, slice_index, slice_set, ap, sym, ◌∙◌, refl, arith, inl, inr, subst}
+use Rattle.std.proofs.Common.{◌≡◌, ◌≢◌, ℕ, zero, suc, ◌+◌, ◌-◌, ◌<◌, ◌≤◌, List, length, slice_index, slice_set, replicate, ap, sym, ◌∙◌, refl, arith, inl, inr, subst}
 use Rattle.std.proofs.lemmas.Bool.{cases_eq}
-use Rattle.std.proofs.lemmas.List.{get_or-set_same, get_or-set_other, length-set}
+use Rattle.std.proofs.lemmas.List.{get_or-set_same, get_or-set_other, length-set, length-replicate}
 use Rattle.std.specs.List.{sum_by}
 use Rattle.std.proofs.lemmas.List.Sums.{sum_by-set}
 use Rattle.mm_flow.specs.declared.search.Mark.{Mark}
@@ -12,7 +12,7 @@ use Rattle.mm_flow.specs.Residual.{entries, tail}
 use Rattle.mm_flow.specs.Links.{IsLinkedBelow}
 use Rattle.mm_flow.specs.Marks.{mark, level, HasMark, IsReached, IsMarking}
 use Rattle.mm_flow.specs.Levels.{IsPath, HasPath, IsLevelled, IsCursors, IsPhase}
-use Rattle.mm_flow.proofs.Visiting.{marked_lt}
+use Rattle.mm_flow.proofs.Visiting.{marked_lt, next_smaller}
 
 -- the marks of a search hold all through the phase that follows
 pub marking_levelled : (g : Graph) (f : Flow) (source : ℕ) (marks : List Mark) → IsMarking g f source 1 marks → IsLevelled g source marks
@@ -111,6 +111,32 @@ pub trail_back : (g : Graph) (f : Flow) (marks : List Mark) (next : List ℕ) (s
 trail_back g f marks next source zero n ne trail = absurd (ne trail)
 trail_back g f marks next source (suc steps) n ne trail = (trail.0, trail.1, (steps, trail.2))
 
+-- each place of a list of zeros has zero
+replicate_none : (count n : ℕ) → slice_index (replicate {A = ℕ} count 0) n ≡ 0
+replicate_none zero n = refl
+replicate_none (suc count) zero = refl
+replicate_none (suc count) (suc n) = replicate_none count n
+
+-- no cursor stands anywhere
+pub cursors_none : (g : Graph) (next : List ℕ) (count : ℕ) → next ≡ replicate count 0 → count ≡ g.nodes → IsCursors g next
+cursors_none g next count same all = record {
+  size = omega (arith, ap length same, length-replicate {A = ℕ} count 0, all);
+  own = λ n e at. absurd (omega (arith, at, ap (λ (xs : List ℕ). slice_index xs n) same, replicate_none count n));
+}
+
+-- a cursor is put at an entry that leaves its node
+pub cursors_put : (g : Graph) (next : List ℕ) (e at cursor : ℕ) → IsCursors g next → e < entries g → tail g e ≡ at → at < g.nodes → cursor ≡ e + 1 → IsCursors g (slice_set next at cursor)
+cursors_put g next e at cursor cursors known leaves within is = record {
+  size = omega (arith, length-set next at cursor, cursors.size);
+  own = λ n d there. elim (cases_eq n at) [
+    | inl same ↦
+        let set = get_or-set_same next at cursor 0 (omega (arith, cursors.size)) in
+        let same_entry : d ≡ e = omega (arith, is, set, ap (slice_index (slice_set next at cursor)) same, there) in
+        (omega (arith, same_entry), ap (tail g) same_entry ∙ leaves ∙ sym same)
+    | inr ne ↦ cursors.own n d (sym (get_or-set_other next at n cursor 0 ne) ∙ there)
+  ];
+}
+
 module _ (g : Graph) (last before : List ℕ) (linked : IsLinkedBelow g last before (entries g)) where
   -- the first cursors
   pub cursors_first : (next : List ℕ) → next ≡ last → IsCursors g next
@@ -132,3 +158,11 @@ module _ (g : Graph) (last before : List ℕ) (linked : IsLinkedBelow g last bef
       | inr ne ↦ cursors.own n d (sym (get_or-set_other next at n cursor 0 ne) ∙ there)
     ];
   }
+
+  -- a node's cursor moves on in its chain, and the cursors add up to less
+  pub cursor_steps : (next : List ℕ) (at cursor : ℕ) → IsCursors g next → at < g.nodes → 0 < slice_index next at → cursor ≡ slice_index before (slice_index next at - 1)
+      → IsCursors g (slice_set next at cursor) × (sum_by (λ (c : ℕ). c) (slice_set next at cursor) < sum_by (λ (c : ℕ). c) next)
+  cursor_steps next at cursor cursors within some is =
+      let own = cursor_own g next at cursors some in
+      let smaller = next_smaller g last before linked (slice_index next at - 1) cursor own.0 is in
+      (cursors_moved next (slice_index next at - 1) at cursor cursors own.0 (sym own.1) within is, cursors_less g next at cursor cursors within (omega (arith, smaller, some)))

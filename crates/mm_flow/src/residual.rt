@@ -45,6 +45,22 @@ pub(crate) fn head(network: &Network, entry: usize) -> u32
     }
 }
 
+// The entry of the same arc that leads the other way.
+#[tactic(auto, unfolding(crate::specs::Residual::tail, crate::specs::Residual::head))]
+pub(crate) fn twin(network: &Network, entry: usize) -> usize
+    requires { entry < entries network.now.graph }
+    ensures known { result < entries network.now.graph }
+    ensures back { tail network.now.graph result ≡ head network.now.graph entry }
+    ensures network { IsNetwork network.now.graph }
+{
+    let arcs = network.arc_count();
+    if entry < arcs {
+        entry + arcs
+    } else {
+        entry - arcs
+    }
+}
+
 // What an entry can still carry.
 #[tactic(auto, unfolding(crate::specs::Residual::residual))]
 pub(crate) fn residual(network: &Network, flow: &[u64], entry: usize) -> u64

@@ -137,12 +137,15 @@ impl Search {
         ensures leads { self.old.least ≤ residual network.now.graph (slice_index flow.now) entry
             → HasMark self.new.marks.items (head network.now.graph entry) }
     {
-        let from = self.marks[tail(network, entry) as usize];
         let to = head(network, entry);
-        let capacity = residual(network, flow, entry);
-        if capacity < self.least || self.marks[to as usize].level > 0 {
+        if self.marks[to as usize].level > 0 {
             return;
         }
+        let capacity = residual(network, flow, entry);
+        if capacity < self.least {
+            return;
+        }
+        let from = self.marks[tail(network, entry) as usize];
         self.marks[to as usize] = Mark {
             level: from.level + 1,
             via: entry,
@@ -150,6 +153,23 @@ impl Search {
         };
         self.order[self.found] = to;
         self.found += 1;
+    }
+
+    // Puts a node one level above another, to be reached anew.
+    pub(crate) fn put_above(&mut self, network: &Network, below: u32, node: u32)
+        requires below { below < network.now.graph.nodes }
+        requires node { node < network.now.graph.nodes }
+        requires levelled { IsLevelled network.now.graph self.old.source self.old.marks.items }
+        ensures levelled { IsLevelled network.now.graph self.new.source self.new.marks.items }
+        ensures source { self.new.source ≡ self.old.source }
+        ensures order { self.new.order ≡ self.old.order }
+    {
+        let level = self.marks[below as usize].level.saturating_add(1);
+        self.marks[node as usize] = Mark {
+            level,
+            via: 0,
+            width: UNLIMITED,
+        };
     }
 
     // Takes an entry as the next of a path, if it has residual capacity and leads one level further, to the sink or

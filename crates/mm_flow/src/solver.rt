@@ -26,10 +26,12 @@ pub fn solve(alloc: Global, network: &Network, source: u32, sink: u32) -> Result
 {
     let mut tables = Tables::new(alloc, network, source, sink)?;
     let mut next = vec![in alloc; 0; network.node_count()]?;
+    let mut ahead = vec![in alloc; 0; network.node_count()]?;
     let value = block_all(
         network,
         &tables.links,
         &mut next,
+        &mut ahead,
         &mut tables.flow,
         &mut tables.search,
         sink,

@@ -26,6 +26,7 @@ loop-search-smaller c =
 pub loop-search-preserved : goal.loop-search-preserved
 loop-search-preserved c = record {
   phase = c.find_path.ensures.phase;
+  next = c.find_path.ensures.next;
   source = c.find_path.ensures.source ∙ c.loop-search.invariant.source;
   augmented = augmented_after (goal.at.loop-search-preserved c).After-augment-value;
   more = omega (arith, c.loop-search.invariant.more);

@@ -4,7 +4,7 @@ use Rattle.mm_flow.specs.declared.search.Mark.{Mark}
 use Rattle.mm_flow.specs.Balance.{IsAugmented, IsBounded}
 use Rattle.mm_flow.specs.Marks.{no_mark, level, IsSearched}
 use Rattle.mm_flow.proofs.Working.{at_work_first, at_work_next, levelled_there, path_there, small_there, more_there, value_small, work_ended}
-use Rattle.mm_flow.proofs.LevelPaths.{cursors_first}
+use Rattle.mm_flow.proofs.LevelPaths.{cursors_first, cursors_none}
 use Rattle.mm_flow.proofs.levels.block_all.Goals as goal
 use Rattle.mm_flow.proofs.levels.block_all.Goals.{After-index, After-block-value}
 
@@ -32,8 +32,11 @@ pub block-value-requires-clause-phase : goal.block-value-requires-clause-phase
 block-value-requires-clause-phase c = record {
   levelled = levelled_there c.args.network.now.graph c.args.search.now.source c.args.sink c.args.links.now c.args.search.now c.args.flow.now c.requires.ready c.loop-search.search c.loop-search.flow c.loop-search.value c.loop-search.invariant;
   order = c.loop-search.invariant.order;
-  cursors = cursors_first c.args.network.now.graph c.args.links.now.last.items c.args.links.now.before.items c.requires.ready.linked c.copy_from_slice.new.self (c.copy_from_slice.ensures.after ∙ c.deref.ensures.value);
+  cursors = cursors_none c.args.network.now.graph c.take_away.new.cursors _ c.take_away.ensures (omega (arith, c.requires.ahead, c.loop-search.auto.ahead));
 }
+
+pub block-value-requires-clause-next : goal.block-value-requires-clause-next
+block-value-requires-clause-next c = cursors_first c.args.network.now.graph c.args.links.now.last.items c.args.links.now.before.items c.requires.ready.linked c.copy_from_slice.new.self (c.copy_from_slice.ensures.after ∙ c.deref.ensures.value)
 
 pub block-value-requires-clause-bounded : goal.block-value-requires-clause-bounded
 block-value-requires-clause-bounded c = subst (λ (s : ℕ). IsBounded c.args.network.now.graph s c.args.sink) (sym c.loop-search.invariant.from) c.requires.ready.bounded

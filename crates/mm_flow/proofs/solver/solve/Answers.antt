@@ -3,7 +3,7 @@ use Rattle.mm_flow.proofs.solver.solve.Goals as goal
 
 pub block_all-value-requires-clause-ready : goal.block_all-value-requires-clause-ready
 block_all-value-requires-clause-ready c =
-    ready_there c.args.network.now.graph c.args.source c.args.sink c.in_ok-tables.tables c.deref_mut-2.result.now c.deref_mut-2.ensures.value c.in_ok-tables.ensures.ready
+    ready_there c.args.network.now.graph c.args.source c.args.sink c.in_ok-tables.tables c.deref_mut-3.result.now c.deref_mut-3.ensures.value c.in_ok-tables.ensures.ready
 
 pub returns-clause-solved : goal.returns-clause-solved
 returns-clause-solved c =

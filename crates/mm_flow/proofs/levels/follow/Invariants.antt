@@ -3,7 +3,7 @@ use Rattle.std.specs.List.{sum_by}
 use Rattle.mm_flow.specs.Marks.{level}
 use Rattle.mm_flow.specs.Levels.{IsPhase}
 use Rattle.mm_flow.proofs.LevelPaths.{IsTrail}
-use Rattle.mm_flow.proofs.levels.find_path.Given as goal
+use Rattle.mm_flow.proofs.levels.follow.Given as goal
 
 abbrev pub invariant-loop-at : goal.invariant-loop-at
 invariant-loop-at l = record {
