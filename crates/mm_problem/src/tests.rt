@@ -11,19 +11,12 @@ const STORE: &str = "[[store]]\nid = \"SCI\"\nsize = 4\ntype = \"bounded\"\nchan
 const ROUTE: &str = "[[route]]\napid = 100\nservice = 3\nsubtype = 25\nstore = \"SCI\"\n";
 
 fn joined(rt: &impl Abort, alloc: Global, parts: &[&str]) -> String {
-    let mut text = String::new(alloc);
-    for part in parts {
-        text.push_str(part).expect(rt, "memory");
-    }
-    text
+    parts.join(alloc, "").expect(rt, "memory")
 }
 
-fn repeated(rt: &impl Abort, alloc: Global, before: &str, part: &str, times: u32) -> String {
-    let mut text = String::from_str(alloc, before).expect(rt, "memory");
-    for _ in 0..times {
-        text.push_str(part).expect(rt, "memory");
-    }
-    text
+fn repeated(rt: &impl Abort, alloc: Global, before: &str, part: &str, times: usize) -> String {
+    let parts = part.repeat(alloc, times).expect(rt, "memory");
+    joined(rt, alloc, &[before, parts.as_str()])
 }
 
 fn id(rt: &impl Abort, text: &str) -> StoreId {
@@ -73,19 +66,28 @@ static BAD_TEXTS: [&str; 5] = ["", "sci", "A B", "ABCDEFGHI", "\u{c4}"];
 
 static BAD_FIELDS: [[u8; 8]; 4] = [*b"        ", *b" SCI    ", *b"SC I    ", *b"SCI\0\0\0\0\0"];
 
+fn text_refused(rt: &impl Abort, text: &str) {
+    let refusal = StoreId::of_text(text.as_bytes()).expect_err(rt, text);
+    assert!(rt; refusal == Fault::BadId, "{text}");
+}
+
+fn field_refused(rt: &impl Abort, field: [u8; 8]) {
+    let refusal = StoreId::of_field(field).expect_err(rt, "no identifier");
+    assert!(rt; refusal == Fault::BadId, "{field:?}");
+}
+
 #[test]
 fn identifiers_and_kinds(rt: HostRuntime) {
     let sci = id(&rt, "SCI");
-    assert_eq!(rt; sci.field(), *b"SCI     ");
-    assert_eq!(rt; sci.text(), b"SCI".as_slice());
-    assert_eq!(rt; StoreId::of_field(*b"SCI     "), Ok(sci));
+    assert!(rt; sci.field() == *b"SCI     ");
+    assert!(rt; sci.text() == b"SCI".as_slice());
+    assert!(rt; StoreId::of_field(*b"SCI     ").expect(&rt, "an identifier") == sci);
     for text in &BAD_TEXTS {
-        let answer = StoreId::of_text(text.as_bytes());
-        assert_eq!(rt; answer, Err(Fault::BadId), "{text}");
+        text_refused(&rt, text);
     }
     for field in &BAD_FIELDS {
-        assert_eq!(rt; StoreId::of_field(*field), Err(Fault::BadId));
+        field_refused(&rt, *field);
     }
-    assert_eq!(rt; Kind::of_code(1), Ok(Kind::Bounded));
-    assert_eq!(rt; Kind::of_code(2), Err(Fault::BadEnum));
+    assert!(rt; Kind::of_code(1).expect(&rt, "a kind") == Kind::Bounded);
+    assert!(rt; Kind::of_code(2).expect_err(&rt, "no kind") == Fault::BadEnum);
 }

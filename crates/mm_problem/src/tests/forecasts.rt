@@ -146,41 +146,38 @@ fn at_most_256_steps(rt: HostRuntime) {
     }
 }
 
+// With line ends of both kinds, quotes, and an empty line.
+const TWO_STEPS: &[u8] = b"step,\"window\",SCI,HK\r\n1,2,\"1\"0,1000000\r\n\n\"2\",0,5,6";
+
+// A problem of two stores, two steps and one limit.
+fn problem_of_two(rt: &impl Abort, alloc: Global) -> Problem {
+    let limits = "[[limit]]\nchannel = 3\nblocks = 9\n";
+    let text = joined(rt, alloc, &[STORE, SECOND, limits]);
+    let setup = Setup::read(alloc, text.as_bytes()).expect(rt, "a setup");
+    Problem::read(alloc, &setup, TWO_STEPS).expect(rt, "a forecast")
+}
+
+// Its stores and limits are those of the setup.
+fn has_the_stores(rt: &impl Abort, problem: &Problem) {
+    assert!(rt; problem.stores() == 2);
+    assert!(rt; problem.channels() == 8);
+    assert!(rt; problem.id(1) == id(rt, "HK"));
+    assert!(rt; (problem.size(0), problem.start(0), problem.channel(0)) == (4, 0, 0));
+    assert!(rt; (problem.size(1), problem.start(1), problem.channel(1)) == (2, 1, 3));
+    assert!(rt; problem.limit(0) == None);
+    assert!(rt; problem.limit(3) == Some(9));
+    assert!(rt; problem.limit(200) == None);
+    assert!(rt; problem.place(&id(rt, "HK")) == Some(1));
+    assert!(rt; problem.place(&id(rt, "NONE")) == None);
+}
+
 #[test]
 fn a_forecast_is_read(rt: HostRuntime) {
-    let alloc = rt.alloc();
-    let limits = "[[limit]]\nchannel = 3\nblocks = 9\n";
-    let text = joined(&rt, alloc, &[STORE, SECOND, limits]);
-    let setup = Setup::read(alloc, text.as_bytes()).expect(&rt, "a setup");
-    // with line ends of both kinds, quotes, and an empty line
-    let problem = Problem::read(
-        alloc,
-        &setup,
-        b"step,\"window\",SCI,HK\r\n1,2,\"1\"0,1000000\r\n\n\"2\",0,5,6",
-    )
-    .expect(&rt, "a forecast");
-    assert_eq!(rt; problem.stores(), 2);
-    assert_eq!(rt; problem.steps(), 2);
-    assert_eq!(rt; problem.channels(), 8);
-    assert_eq!(rt; problem.id(1), id(&rt, "HK"));
-    assert_eq!(rt;
-        (problem.size(0), problem.start(0), problem.channel(0)),
-        (4, 0, 0)
-    );
-    assert_eq!(rt;
-        (problem.size(1), problem.start(1), problem.channel(1)),
-        (2, 1, 3)
-    );
-    assert_eq!(rt;
-        (problem.limit(0), problem.limit(3), problem.limit(200)),
-        (None, Some(9), None)
-    );
-    assert_eq!(rt; (problem.window(1), problem.window(2)), (2, 0));
-    assert_eq!(rt;
-        (problem.arrivals(0, 1), problem.arrivals(1, 1)),
-        (10, 1_000_000)
-    );
-    assert_eq!(rt; (problem.arrivals(0, 2), problem.arrivals(1, 2)), (5, 6));
-    assert_eq!(rt; problem.place(&id(&rt, "HK")), Some(1));
-    assert_eq!(rt; problem.place(&id(&rt, "NONE")), None);
+    let problem = problem_of_two(&rt, rt.alloc());
+    has_the_stores(&rt, &problem);
+    assert!(rt; problem.stores() == 2);
+    assert!(rt; problem.steps() == 2);
+    assert!(rt; (problem.window(1), problem.window(2)) == (2, 0));
+    assert!(rt; (problem.arrivals(0, 1), problem.arrivals(1, 1)) == (10, 1_000_000));
+    assert!(rt; (problem.arrivals(0, 2), problem.arrivals(1, 2)) == (5, 6));
 }

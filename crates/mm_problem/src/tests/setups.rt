@@ -6,11 +6,9 @@ use std::process::Abort;
 
 // The text is refused with this fault.
 fn refused(rt: &impl Abort, alloc: Global, text: &[u8], fault: &str) {
-    let answer = match Setup::read(alloc, text) {
-        Ok(_) => String::from_str(alloc, "read").expect(rt, "memory"),
-        Err(fault) => fault.to_string(alloc).expect(rt, "memory"),
-    };
-    assert_eq!(rt; answer.as_str(), fault);
+    let refusal = Setup::read(alloc, text).expect_err(rt, "no setup");
+    let shown = refusal.to_string(alloc).expect(rt, "memory");
+    assert_eq!(rt; shown.as_str(), fault);
 }
 
 // A store's table with these lines is refused.
@@ -340,46 +338,47 @@ fn limits_refused(rt: HostRuntime) {
     )
 }
 
+const SECOND: &str =
+    "[[store]]\r\nchannel = 0x7\r\ntype = 'circular'\r\nsize = +1_000_000\r\nstart = 2\r\nid = 'HK-1_'\r\n";
+
+const LIMIT: &str = "[[limit]]\nchannel = 7\nblocks = 0\n";
+
+// The two stores of the setup, in order.
+fn two_stores(rt: &impl Abort) -> [StoreRow; 2] {
+    let first = StoreRow {
+        id: id(rt, "SCI"),
+        size: 4,
+        start: 0,
+        kind: Kind::Bounded,
+        channel: 0,
+    };
+    let second = StoreRow {
+        id: id(rt, "HK-1_"),
+        size: 1_000_000,
+        start: 2,
+        kind: Kind::Circular,
+        channel: 7,
+    };
+    [first, second]
+}
+
 #[test]
 fn a_setup_is_read(rt: HostRuntime) {
-    let alloc = rt.alloc();
-    let limits = "[[limit]]\nchannel = 7\nblocks = 0\n";
-    let second =
-        "[[store]]\r\nchannel = 0x7\r\ntype = 'circular'\r\nsize = +1_000_000\r\nstart = 2\r\nid = 'HK-1_'\r\n";
-    let text = joined(&rt, alloc, &[STORE, second, ROUTE, limits]);
-    let setup = Setup::read(alloc, text.as_bytes()).expect(&rt, "a setup");
-    let stores = [
-        StoreRow {
-            id: id(&rt, "SCI"),
-            size: 4,
-            start: 0,
-            kind: Kind::Bounded,
-            channel: 0,
-        },
-        StoreRow {
-            id: id(&rt, "HK-1_"),
-            size: 1_000_000,
-            start: 2,
-            kind: Kind::Circular,
-            channel: 7,
-        },
-    ];
-    assert_eq!(rt; setup.stores(), stores.as_slice());
-    let routes = [RouteRow {
+    let text = joined(&rt, rt.alloc(), &[STORE, SECOND, ROUTE, LIMIT]);
+    let setup = Setup::read(rt.alloc(), text.as_bytes()).expect(&rt, "a setup");
+    assert!(rt; setup.stores() == two_stores(&rt).as_slice());
+    let route = RouteRow {
         apid: 100,
         service: 3,
         subtype: 25,
         store: id(&rt, "SCI"),
-    }];
-    assert_eq!(rt; setup.routes(), routes.as_slice());
-    assert_eq!(rt;
-        setup.limits(),
-        [LimitRow {
-            channel: 7,
-            blocks: 0
-        }]
-        .as_slice()
-    );
+    };
+    assert!(rt; setup.routes() == [route].as_slice());
+    let limit = LimitRow {
+        channel: 7,
+        blocks: 0,
+    };
+    assert!(rt; setup.limits() == [limit].as_slice());
 }
 
 #[test]
