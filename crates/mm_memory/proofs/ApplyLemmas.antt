@@ -1,6 +1,6 @@
 -- What changes of the list of stores leave, and the outcomes that they have.
-use Rattle.std.proofs.Common.{◌≡◌, ◌≢◌, inl, inr, ℕ, zero, suc, ◌+◌, ◌<◌, ◌≤◌, Bool, true, false, cond, not, List, [], ◌∷◌, ◌++◌, length, get_or, take, refl, sym, subst, ap, ◌∙◌, arith}
-use Rattle.std.specs.Prelude.{bytes_eq, filter, if◌then◌else◌, slice_get, Option, Some, None, MatchOption, Result, Ok, Err, IsOk, AllPairs}
+use Rattle.std.proofs.Common.{◌≡◌, ◌≢◌, inl, inr, ℕ, zero, suc, ◌+◌, ◌<◌, Bool, true, false, cond, not, List, [], ◌∷◌, ◌++◌, length, get_or, take, refl, sym, subst, ap, ◌∙◌, arith}
+use Rattle.std.specs.Prelude.{if◌then◌else◌, slice_get, Option, Some, None, Err, AllPairs}
 use Rattle.std.specs.List.{find}
 use Rattle.std.proofs.Math.ListN.{set}
 use Rattle.std.proofs.lemmas.Bool.{false≢true}
@@ -8,21 +8,16 @@ use Rattle.std.proofs.lemmas.List.{length_push, set-get_or, take_more}
 use Rattle.std.proofs.lemmas.List.Kept.{AllPairs-filter}
 use Rattle.std.proofs.lemmas.List.Quantifiers.{all_pairs_push}
 use Rattle.std.proofs.lemmas.List.Sums.{length-filter, count_by-le-length}
-use Rattle.std.proofs.lemmas.Option.{get_or_from_slice_get, slice_get_within, slice_get_cases, none-some}
+use Rattle.std.proofs.lemmas.Option.{get_or_from_slice_get, none-some}
 use Rattle.mm_problem.specs.declared.limits.TheConstants.{MAX_STORES}
 use Rattle.mm_problem.specs.declared.rows.RouteRow.{RouteRow}
-use Rattle.mm_control.specs.Routes.{without_store}
-use Rattle.mm_desk.specs.declared.fault.Fault.{Fault as StateFault}
-use Rattle.mm_desk.specs.Rest.{rest_fault}
 use Rattle.mm_memory.specs.declared.answer.Answer.{Answer}
-use Rattle.mm_memory.specs.declared.fault.Fault.{Fault}
-use Rattle.mm_memory.specs.declared.fault.Fault.TheVariants.{NoMemory, BadId}
+use Rattle.mm_memory.specs.declared.fault.Fault.TheVariants.{NoMemory}
 use Rattle.mm_memory.specs.declared.held.Held.{Held}
 use Rattle.mm_memory.specs.declared.instruction.Instruction.{Instruction}
-use Rattle.mm_memory.specs.Acting.{Outcome, refusal_of, done_or}
-use Rattle.mm_memory.specs.Applying.{ComesUnlessNoMemory, Applies, AppliesEach, changed, deleted, without, on_store, on_no_store, for_store, for_tested, outcome_told}
+use Rattle.mm_memory.specs.Acting.{Outcome}
+use Rattle.mm_memory.specs.Applying.{ComesUnlessNoMemory, Applies, AppliesEach, changed, without, outcome_told}
 use Rattle.mm_memory.specs.Holdings.{Holdings, AreHeld, HaveOtherIds, StandsAt, has_id, store_of}
-use Rattle.mm_memory.specs.Instruction.{is_id, tested}
 use Rattle.mm_memory.proofs.PlaceLemmas.{is_itself, with_changed-stands}
 
 -- the store at the place of an identifier
@@ -73,20 +68,6 @@ AreHeld-without id stores sound =
       at_most = omega (arith, length-filter p stores, count_by-le-length p stores, sound.at_most);
       named = AllPairs-filter HaveOtherIds p stores sound.named;
     }
-
--- a store that answers that it is at rest has no reason not to be
-pub at_rest : {A : Type 0} (o : Option StateFault) (r : Result A StateFault) (x : A) → r ≡ Ok x → MatchOption o (IsOk r) (λ fault. r ≡ Err fault) → o ≡ None
-at_rest None r x done h = refl
-at_rest (Some fault) r x done h = cc
-
--- a store at rest is deleted
-pub deleted_is : (id : List ℕ) (stores kept : List Held) (routes left : List RouteRow) (h : Held) → rest_fault h.state ≡ None → kept ≡ without id stores → left ≡ without_store id routes → deleted id h (record { stores = stores; routes = routes }) ≡ (Ok tt, record { stores = kept; routes = left })
-deleted_is id stores kept routes left h rests same_stores same_routes =
-    let before : Holdings = record { stores = stores; routes = routes } in
-    let wanted : Holdings = record { stores = without id stores; routes = without_store id routes } in
-    let came : Outcome × Holdings = (Ok tt, record { stores = kept; routes = left }) in
-    let P : Option StateFault → Type 0 = λ o. done_or (refusal_of o) wanted before ≡ came in
-    subst P (sym rests) (λ i. (Ok tt, record { stores = sym same_stores i; routes = sym same_routes i }))
 
 -- one instruction more is applied, with one answer more
 pub AppliesEach-push : (is : List Instruction) (i : Instruction) (m next left : Holdings) (answers : List Answer) (answer : Answer) → AppliesEach is m answers next → Applies i next (outcome_told answer, left) → AppliesEach (is ++ i ∷ []) m (answers ++ answer ∷ []) left

@@ -1,5 +1,5 @@
 -- What one store answers to a change, and the store that it leaves.
-use Rattle.std.specs.Prelude.{◌≢◌, ℕ, Option, Some, None, Result, Ok, Err}
+use Rattle.std.specs.Prelude.{◌≢◌, Option, Some, None, Result, Ok, Err}
 use Rattle.mm_desk.specs.declared.event.Event.TheVariants as event
 use Rattle.mm_desk.specs.declared.fault.Fault.{Fault as StateFault}
 use Rattle.mm_desk.specs.Machine.{State, begin, abort, delete, step}

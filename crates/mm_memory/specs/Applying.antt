@@ -1,5 +1,5 @@
 -- Applying an instruction, and a request, which is its instructions in order.
-use Rattle.std.specs.Prelude.{◌≡◌, ◌⊎◌, ℕ, Bool, not, nat_lt, ◌==◌, if◌then◌else◌, List, [], ◌∷◌, ◌++◌, length, filter, Option, Some, None, Result, Ok, Err}
+use Rattle.std.specs.Prelude.{◌≡◌, ◌⊎◌, ℕ, Bool, not, nat_lt, ◌==◌, if◌then◌else◌, List, [], ◌∷◌, ◌++◌, length, filter, Option, Some, None, Ok, Err}
 use Rattle.mm_problem.specs.declared.kind.Kind.{Kind}
 use Rattle.mm_problem.specs.declared.kind.Kind.TheVariants.{Circular, Bounded}
 use Rattle.mm_problem.specs.declared.limits.TheConstants.{MAX_STORES}

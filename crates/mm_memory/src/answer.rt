@@ -14,7 +14,7 @@ pub enum Answer {
     Refused(Fault),
 }
 
-/// The answers to a request: one for each instruction, in order, and the reports.
+/// The answers to a request: one for each instruction, in order, and the reports on what was asked.
 #[derive(Debug, Drop)]
 pub struct Answers {
     pub each: Vec<Answer>,

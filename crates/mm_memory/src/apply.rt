@@ -1,7 +1,8 @@
 //! Applying requests to a memory.
 ghost use Rattle.std.specs.Prelude.{◌≡◌, ◌<◌, ◌≤◌, [], length, vec_capacity, Some, None, All, IfOk, OnErr, MatchOption};
-ghost use Rattle.mm_memory.specs.Applying.{kind_of, new_store, created, deleted, changed, on_store, on_no_store, ComesUnlessNoMemory, Applies, AppliesEach, MayLack, route_to};
+ghost use Rattle.mm_memory.specs.Applying.{kind_of, new_store, without, created, deleted, changed, on_store, on_no_store, ComesUnlessNoMemory, Applies, AppliesEach, MayLack, route_to};
 ghost use Rattle.mm_memory.specs.Acting.{act, TakesMemory};
+ghost use Rattle.mm_control.specs.Routes.{without_store};
 ghost use Rattle.mm_memory.specs.Holdings.{StandsAt, store_of};
 ghost use Rattle.mm_st15.specs.Report.{HasCount};
 ghost use Rattle.mm_st15.specs.Request.{count_of};
@@ -81,6 +82,15 @@ impl Memory {
         }
     }
 
+    // Takes out the store with this identifier, and its routes.
+    fn take_out(&mut self, id: &StoreId)
+        ensures stores { self.new.stores ≡ without id.now self.old.stores }
+        ensures routes { self.new.routes ≡ without_store id.now self.old.routes }
+    {
+        self.stores.retain(|held| held.id != *id);
+        let _rows = self.control.delete_store(id);
+    }
+
     // Deletes the store at this place, with its routes.
     fn delete(&mut self, place: usize, id: &StoreId) -> Result<(), Fault>
         requires { StandsAt id.now self.old.stores place }
@@ -88,8 +98,7 @@ impl Memory {
             → deleted id.now h self.old ≡ (result, self.new) }
     {
         self.stores[place].state.at_rest()?;
-        self.stores.retain(|held| held.id != *id);
-        let _rows = self.control.delete_store(id);
+        self.take_out(id);
         Ok(())
     }
 
@@ -169,8 +178,9 @@ impl Memory {
         }
     }
 
-    /// Applies a request at a moment, in ticks: one answer for each instruction, in order, and the reports. An instruction
-    /// that is refused changes nothing, and the others are carried out all the same. `NoMemory` has changed nothing.
+    /// Applies a request (ECSS-E-ST-70-41C, 6.15) at a moment, in ticks: one answer for each
+    /// instruction, in order, and the reports. An instruction that is refused changes nothing, and
+    /// the others are carried out all the same. `NoMemory` has changed nothing.
     pub fn apply(&mut self, alloc: Global, now: u64, request: &Request) -> Result<Answers, NoMemory>
         ensures each { IfOk result (λ answers.
             AppliesEach (instructions_of request.now) self.old answers.each.items self.new) }

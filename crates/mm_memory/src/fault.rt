@@ -5,7 +5,8 @@ ghost use Rattle.mm_memory.specs.Fault.{number_of, name_of};
 use std::alloc::{AllocError, AllocFailed};
 use thiserror::Error;
 
-/// A refusal of this crate, or of a store's state or the storage control. It is shown as its number, a space and its name.
+/// A refusal of this crate, or of a store's state or the storage control. It is shown as its
+/// number, a space and its name.
 #[derive(Clone, Copy, Debug, PartialEq, Eq, Error)]
 pub enum Fault {
     /// A growth was refused.

@@ -3,7 +3,8 @@
 use mm_desk::StoreState;
 use mm_problem::StoreId;
 
-/// A packet store of the memory: its identifier, the virtual channel that it is sent on, and its state.
+/// A packet store of the memory: its identifier, the virtual channel that it is sent on, and its
+/// state.
 #[derive(Drop)]
 pub struct Held {
     pub id: StoreId,

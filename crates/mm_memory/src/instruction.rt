@@ -30,7 +30,7 @@ pub(crate) enum Action {
     Change(Change),
 }
 
-// A store to be created: its size in blocks, its type (0 circular, 1 bounded) and its virtual channel.
+// A store to be created: its size in blocks, its type (0 circular, 1 bounded) and its channel.
 #[derive(Clone, Copy, Debug, PartialEq, Eq)]
 pub(crate) struct Form {
     pub(crate) size: u32,

@@ -87,16 +87,14 @@ fn asked(
 // A subtype, the data of a request with one instruction, and the answer to it.
 type Row = (u8, &'static [u8], Answer);
 
-// Asks in turn, at the moments 1, 2 and so on, and compares the answers.
+// Asks in turn, at the moment 1, and compares the answers.
 fn asks(rt: &impl Abort, alloc: Global, memory: &mut Memory, rows: &[Row]) {
-    let mut now = 0;
     for (subtype, data, want) in rows {
-        now += 1;
-        let answers = asked(rt, alloc, memory, now, *subtype, data);
+        let answers = asked(rt, alloc, memory, 1, *subtype, data);
         assert_eq!(rt;
             answers.each.as_slice(),
             [*want].as_slice(),
-            "request {now}"
+            "{subtype} {data:?}"
         );
     }
 }

@@ -25,7 +25,7 @@ fn malformed_identifier_beside_a_good_one(rt: HostRuntime) {
     assert_eq!(rt; shape(&memory, &sci), Some((Kind::Bounded, 4, 0, false)));
 }
 
-// The moment of the first report and its first entry, where it is on the configuration of one store.
+// The moment of the first report and its entry, where it is on the configuration of one store.
 fn configuration(answers: &Answers) -> Option<(u64, Configuration)> {
     match answers.reports.get(0) {
         Some(Report::Configurations { moment, entries }) if entries.as_slice().len() == 1 => {

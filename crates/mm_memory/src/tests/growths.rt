@@ -1,6 +1,7 @@
 use super::*;
 
-// These tests pass as well where one growth is refused, whichever it is: `rt try --test --fail-alloc N`.
+// These tests pass as well where one growth is refused, whichever it is: `rt try --test --fail-alloc N`
+// refuses the N-th.
 
 const NO_MEMORY: Answer = Answer::Refused(Fault::NoMemory);
 
@@ -24,7 +25,8 @@ fn request_in_room(rt: &impl Abort, alloc: Global, subtype: u8, data: &[u8]) -> 
     Request::read(alloc, &packet).ok()
 }
 
-// The identifier and the channel of the first store, the shape of one store, and the number of routes.
+// The identifier and the channel of the first store, the shape of one store, and the number of
+// routes.
 type Seen = (Option<(StoreId, u8)>, Option<(Kind, u32, u32, bool)>, usize);
 
 fn seen(memory: &Memory, id: &StoreId) -> Seen {
@@ -35,7 +37,8 @@ fn seen(memory: &Memory, id: &StoreId) -> Seen {
     )
 }
 
-// The first answer and the number of reports; nothing where there is no memory for the whole request.
+// The first answer and the number of reports; nothing where there is no memory for the whole
+// request.
 type Told = Option<(Option<Answer>, usize)>;
 
 fn told(alloc: Global, memory: &mut Memory, request: &Request) -> Told {

@@ -58,7 +58,8 @@ fn next_of(memory: &mut Memory, id: &StoreId) -> Told {
     }
 }
 
-// A memory whose stores SCI (bounded, of four blocks) and HK (circular, of two) hold packets at the times 7 and 8.
+// A memory whose stores SCI (bounded, of four blocks) and HK (circular, of two) hold packets at the
+// times 7 and 8.
 fn two_packets_each(rt: &impl Abort, alloc: Global) -> Memory {
     let mut memory = memory_of(rt, alloc, TWO_STORES);
     for text in [b"SCI".as_slice(), b"HK".as_slice()] {

@@ -25,7 +25,8 @@ const RANGE: &[u8] = b"\0\0\0\0\0\0\0\x01\0\0\0\0\0\0\0\xFF";
 
 const LATE: &[u8] = b"\0\0\0\0\0\0\0\x09\0\0\0\0\0\0\0\x08";
 
-// Sizes, types and virtual channels of stores: one that is good, and others with a field that is not allowed.
+// Sizes, types and virtual channels of stores: one that is good, and others with a field that is not
+// allowed.
 const FORM: &[u8] = b"\x00\x00\x00\x04\x01\x00";
 
 const BAD_KIND_AND_SIZE: &[u8] = b"\x00\x00\x00\x00\x02\x00";
@@ -39,16 +40,18 @@ const TOO_LARGE: &[u8] = b"\x00\x0F\x42\x41\x01\x00";
 // A subtype, an identifier, the fields behind it, and the answer.
 type Case = (u8, [u8; 8], &'static [u8], Answer);
 
-// Asks for each by itself, and compares the answers.
+// Asks for each by itself, at the moment 1, and compares the answers.
 fn asks_each(rt: &impl Abort, alloc: Global, memory: &mut Memory, cases: &[Case]) {
-    let mut place = 0;
     for (subtype, id, fields, want) in cases {
-        place += 1;
         let mut data = [1].to_vec(alloc).expect(rt, "memory");
         data.extend_from_slice(id).expect(rt, "memory");
         data.extend_from_slice(fields).expect(rt, "memory");
         let answers = asked(rt, alloc, memory, 1, *subtype, &data);
-        assert_eq!(rt; answers.each.as_slice(), [*want].as_slice(), "case {place}");
+        assert_eq!(rt;
+            answers.each.as_slice(),
+            [*want].as_slice(),
+            "{subtype} {data:?}"
+        );
     }
 }
 
@@ -91,7 +94,8 @@ const NOT_ALLOWED: [Case; 14] = [
     (25, BOTH, b"\x00\x0F\x42\x41", BAD_SIZE),
 ];
 
-// A store that is not there comes before what it would answer; storage on comes before a retrieval, and that before a range.
+// A store that is not there comes before what it would answer. Storage on comes before a retrieval,
+// and a retrieval before its range.
 const OF_STORES: [Case; 11] = [
     (9, NONE, LATE, NO_SUCH_STORE),
     (4, NONE, OTHER_TYPE, NO_SUCH_STORE),
