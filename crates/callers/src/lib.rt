@@ -6,6 +6,7 @@ pub mod flow;
 pub mod memory;
 pub mod packets;
 pub mod requests;
+pub mod service;
 pub mod stores;
 #[cfg(test)]
 mod tests;

@@ -5,7 +5,9 @@ use crate::flow::{greatest_value, in_a_row};
 use crate::memory::with_one_off;
 use crate::packets::again;
 use crate::requests::enable_again;
+use crate::service::carried_out;
 use crate::stores::third_of_two;
+use mm_memory::{Answer, Memory};
 use mm_packet::{BlockPacket, Header, Octets, Packet};
 use mm_problem::{Kind, Setup, StoreId};
 use mm_st15::{Request, Target};
@@ -106,5 +108,22 @@ fn one_store_is_switched_off(rt: HostRuntime) {
     let setup = Setup::read(rt.alloc(), SETUP).expect(&rt, "a setup");
     let id = StoreId::of_text(b"SCI").expect(&rt, "an identifier");
     let memory = with_one_off(rt.alloc(), &setup, &id).expect(&rt, "memory");
+    assert!(rt; memory.state(&id).is_some_and(|state| !state.storage()));
+}
+
+// Disable storage into SCI: subtype 2, one instruction.
+const DISABLE: [u8; 20] = [
+    0x18, 0x64, 0xC0, 0x00, 0x00, 0x0D, 0x20, 0x0F, 0x02, 0x00, 0x00, 0x01, 0x53, 0x43, 0x49, 0x20,
+    0x20, 0x20, 0x20, 0x20,
+];
+
+#[test]
+fn a_telecommand_is_carried_out(rt: HostRuntime) {
+    let setup = Setup::read(rt.alloc(), SETUP).expect(&rt, "a setup");
+    let mut memory = Memory::of_setup(rt.alloc(), &setup).expect(&rt, "memory");
+    let (packet, _rest) = Packet::parse(rt.alloc(), &DISABLE).expect(&rt, "a packet");
+    let answers = carried_out(rt.alloc(), &mut memory, 1, &packet).expect(&rt, "a request");
+    assert_eq!(rt; answers.each.as_slice(), [Answer::Done].as_slice());
+    let id = StoreId::of_text(b"SCI").expect(&rt, "an identifier");
     assert!(rt; memory.state(&id).is_some_and(|state| !state.storage()));
 }
