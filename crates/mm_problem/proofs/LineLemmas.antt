@@ -1,32 +1,43 @@
--- Where a text's first line ends.
-use Rattle.std.proofs.Common.{◌≡◌, ℕ, suc, ◌+◌, ◌<◌, ◌≤◌, false, ◌==◌, List, [], ◌∷◌, ◌++◌, length, get_or, take, drop, refl, sym, ap, ◌∙◌, subst, arith, add-one}
-use Rattle.std.specs.Prelude.{All, ◌≢◌}
-use Rattle.std.proofs.Math.Seq.{drop-cons}
+-- The first line feed cuts off the first line.
+use Rattle.std.proofs.Common.{◌≡◌, ℕ, ◌+◌, ◌-◌, ◌<◌, ◌≤◌, Bool, true, false, not, ◌==◌, cond, List, [], ◌∷◌, length, get_or, take, drop, Some, None, refl, sym, ap, ◌∙◌, arith, length-drop}
+use Rattle.std.specs.Prelude.{nat_lt, position}
+use Rattle.std.specs.List.{position_or_len}
 use Rattle.std.proofs.lemmas.Bool.Decides.{nat_tests}
-use Rattle.std.proofs.lemmas.List.{take-append-drop, take_all}
-use Rattle.std.proofs.lemmas.List.Elements.{All-more}
-use Rattle.std.proofs.lemmas.List.Splits.{slice_split_none, slice_split_at}
+use Rattle.std.proofs.lemmas.List.{take_all}
+use Rattle.std.proofs.lemmas.List.Sums.{prefix_len_passes}
+use Rattle.std.proofs.lemmas.List.Splits.{slice_split_none, slice_split_first}
 use Rattle.mm_problem.specs.Lines.{text_lines}
 
+is_feed : ℕ → Bool
+is_feed c = c == 10
+
+-- where the first line feed stands
+found_at : (test : Bool) (k i : ℕ) → cond test (Some k) None ≡ Some i → (test ≡ true) × (k ≡ i)
+found_at true k i e = (refl, cc)
+found_at false k i e = absurd (cc)
+
+-- where there is none
+not_found : (test : Bool) (k : ℕ) → cond test (Some k) None ≡ None → test ≡ false
+not_found true k e = absurd (cc)
+not_found false k e = refl
+
+pub split_at_feed : (text : List ℕ) (i : ℕ) → position (λ c. c == 10) text ≡ Some i → text_lines text ≡ take i text ∷ text_lines (take (length text - (i + 1)) (drop (i + 1) text))
+split_at_feed text i e =
+    let at = found_at (nat_lt (position_or_len (λ c. c == 10) text) (length text)) (position_or_len (λ c. c == 10) text) i e in
+    let within : position_or_len (λ c. c == 10) text < length text = grind (arith, nat_tests) in
+    let parts = slice_split_first (λ c. c == 10) text 0 within in
+    let k = at.1 in
+    let whole = take_all (length text - (i + 1)) (drop (i + 1) text) (omega (arith, length-drop (i + 1) text)) in
+    parts ∙ ap (λ n. take n text ∷ text_lines (drop (n + 1) text)) k ∙ ap (λ rest. take i text ∷ text_lines rest) (sym whole)
+
 -- an octet that is no line feed
-octet_cases : (b : ℕ) → (b ≢ 10) → (b == 10) ≡ false
-octet_cases b other = grind (arith, nat_tests)
+passed_over : (b : Bool) → not b ≡ true → b ≡ false
+passed_over true e = absurd (cc)
+passed_over false e = refl
 
--- the octets before a place and the one at it, where it is no line feed
-pub lacks_more : (text : List ℕ) (i : ℕ) → i < length text → All (λ c. (c == 10) ≡ false) (take i text) → get_or text i 0 ≢ 10 → All (λ c. (c == 10) ≡ false) (take (i + 1) text)
-lacks_more text i within before other = All-more (λ c. (c == 10) ≡ false) text i 0 within before (octet_cases (get_or text i 0) other)
-
--- the first line feed cuts the first line off
-pub split_at_feed : (text after : List ℕ) (i : ℕ) → i < length text → All (λ c. (c == 10) ≡ false) (take i text) → get_or text i 0 ≡ 10 → after ≡ drop (i + 1) text → text_lines text ≡ take i text ∷ text_lines after
-split_at_feed text after i within before feed rest =
-    let whole : text ≡ take i text ++ 10 ∷ after =
-    sym (take-append-drop i text)
-    ∙ ap (λ ys. take i text ++ ys) (drop-cons text i 0 within)
-    ∙ ap (λ c. take i text ++ c ∷ drop (suc i) text) feed
-    ∙ ap (λ k. take i text ++ 10 ∷ drop k text) (sym (add-one i))
-    ∙ ap (λ ys. take i text ++ 10 ∷ ys) (sym rest) in
-    ap text_lines whole ∙ slice_split_at (λ c. c == 10) (take i text) 10 after before refl
-
--- without a line feed there is one line
-pub no_feed : (text : List ℕ) (i : ℕ) → length text ≤ i → All (λ c. (c == 10) ≡ false) (take i text) → text_lines text ≡ text ∷ []
-no_feed text i past before = slice_split_none (λ c. c == 10) text (subst (All (λ c. (c == 10) ≡ false)) (take_all i text past) before)
+pub no_feed : (text : List ℕ) → position (λ c. c == 10) text ≡ None → text_lines text ≡ text ∷ []
+no_feed text e =
+    let beyond = not_found (nat_lt (position_or_len (λ c. c == 10) text) (length text)) (position_or_len (λ c. c == 10) text) e in
+    let far : length text ≤ position_or_len (λ c. c == 10) text = grind (arith, nat_tests) in
+    slice_split_none (λ c. c == 10) text
+    (λ k d within. passed_over (get_or text k d == 10) (prefix_len_passes (λ c. not (c == 10)) text k d (omega arith)))

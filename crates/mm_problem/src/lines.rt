@@ -1,6 +1,12 @@
 //! Lines of texts.
-ghost use Rattle.std.specs.Prelude.{◌≡◌, ◌<◌, ◌∷◌, [], length, IfSome, MatchOption};
+ghost use Rattle.std.specs.Prelude.{◌≡◌, ◌<◌, ◌==◌, ◌∷◌, [], length, position, IfSome, MatchOption};
 ghost use Rattle.mm_problem.specs.Lines.{text_lines};
+
+fn first_feed(text: &[u8]) -> Option<usize>
+    ensures { result ≡ position (λ c. c == 10) text.now }
+{
+    text.iter().position(|octet| *octet == b'\n')
+}
 
 /// The text up to the first line feed, and the text behind it; nothing where the text is a single line.
 pub fn split_line(text: &[u8]) -> Option<(&[u8], &[u8])>
@@ -9,10 +15,8 @@ pub fn split_line(text: &[u8]) -> Option<(&[u8], &[u8])>
         (λ parts. text_lines text.now ≡ parts.0.now ∷ text_lines parts.1.now) }
     ensures shorter { IfSome result (λ parts. length parts.1.now < length text.now) }
 {
-    for (i, octet) in text.iter().enumerate() {
-        if *octet == b'\n' {
-            return Some((&text[..i], &text[i + 1..]));
-        }
+    match first_feed(text) {
+        Some(feed) => Some((&text[..feed], &text[feed + 1..])),
+        None => None,
     }
-    None
 }

@@ -1,0 +1,35 @@
+-- A whole conversation, from the setup and the lines.
+use Rattle.std.specs.Prelude.{◌≡◌, ℕ, ◌+◌, ◌==◌, List, [], ◌∷◌, Ok, Err}
+use Rattle.mm_problem.specs.Document.{setup_of}
+use Rattle.mm_problem.specs.Lines.{text_lines}
+use Rattle.mm_problem.specs.Setup.{SetupRows}
+use Rattle.mm_memory.specs.Holdings.{memory_of}
+use Rattle.mm_ask.specs.declared.answering.Outcome.{Outcome}
+use Rattle.mm_ask.specs.declared.fault.Fault.{Fault}
+use Rattle.mm_ask.specs.declared.fault.Fault.TheVariants.{NoMemory, Setup}
+use Rattle.mm_ask.specs.Answering.{Standing, opened, Follows}
+
+-- what one line leaves; an empty one is passed over
+abbrev pub Passes : ℕ → List ℕ → Standing → Standing → Type 0
+Passes line [] s t = t ≡ s
+Passes line (c ∷ cs) s t = Follows line (c ∷ cs) s t
+
+-- what lines leave, of which the first has this number
+abbrev pub Converses : ℕ → List (List ℕ) → Standing → Standing → Type 0
+Converses line [] s t = t ≡ s
+Converses line (octets ∷ more) s t = (next : Standing) × Passes line octets s next × Converses (line + 1) more next t
+
+-- the text answers the requests, line by line, from the memory of the setup on, and the outcome is
+-- theirs
+pub record Answers (setup requests : List ℕ) (outcome : Outcome) (text : List ℕ) : Type 0 where
+  pub rows : SetupRows
+  pub setup_says : setup_of setup ≡ Ok rows
+  pub end : Standing
+  pub conversation : Converses 1 (text_lines requests) (opened (memory_of rows)) end
+  pub ends : outcome ≡ end.outcome
+  pub says_all : text ≡ end.text
+
+-- the fault of the setup, want of memory aside
+abbrev pub IsSetupFault : List ℕ → Fault → Type 0
+IsSetupFault setup NoMemory = Unit {0}
+IsSetupFault setup (Setup e) = setup_of setup ≡ Err e

@@ -1,0 +1,55 @@
+-- What a line of hexadecimal digits asks.
+use Rattle.std.specs.Prelude.{◌≡◌, ◌≢◌, ℕ, List, [], ◌∷◌, Option, Some, None, Result, Ok, Err}
+use Rattle.hex.specs.declared.error.FromHexError.{FromHexError}
+use Rattle.hex.specs.Hex.{decode_of}
+use Rattle.mm_packet.specs.declared.fault.Fault.{Fault as PacketFault}
+use Rattle.mm_packet.specs.Packet.{SpacePacket}
+use Rattle.mm_packet.specs.Reading.{packet_at}
+use Rattle.mm_st15.specs.declared.fault.Fault.{Fault as RequestFault}
+use Rattle.mm_st15.specs.Request.{request_fault}
+use Rattle.mm_ask.specs.declared.fault.LineFault.{LineFault}
+use Rattle.mm_ask.specs.declared.fault.LineFault.TheVariants.{NoMemory, HexLine}
+use Rattle.mm_ask.specs.Fault.{of_packet, of_request}
+
+-- the next step of reading, where no test has failed yet
+infixl 10 ◌>>=◌
+abbrev pub ◌>>=◌ : {A B : Type 0} → Result A LineFault → (A → Result B LineFault) → Result B LineFault
+(Ok x) >>= f = f x
+(Err e) >>= f = Err e
+
+-- what a function returned, seen by `view`, is what reading gives, unless memory ran out
+abbrev pub Gives : {X Y : Type 0} → (X → Y) → Result X LineFault → Result Y LineFault → Type 0
+Gives view (Ok x) read = read ≡ Ok (view x)
+Gives view (Err fault) read = fault ≢ NoMemory → read ≡ Err fault
+
+-- what the digits spell; whatever is wrong with them is one refusal
+abbrev pub digits_tested : Result (List ℕ) FromHexError → Result (List ℕ) LineFault
+digits_tested (Ok octets) = Ok octets
+digits_tested (Err e) = Err HexLine
+
+-- the octets of a line
+abbrev pub octets_in : List ℕ → Result (List ℕ) LineFault
+octets_in line = digits_tested (decode_of line)
+
+-- a packet with nothing after it
+abbrev pub alone : Result (SpacePacket × List ℕ) PacketFault → Result SpacePacket LineFault
+alone (Err fault) = Err (of_packet fault)
+alone (Ok (packet, [])) = Ok packet
+alone (Ok (packet, octet ∷ octets)) = Err HexLine
+
+-- the packet that the octets are
+abbrev pub packet_alone : List ℕ → Result SpacePacket LineFault
+packet_alone octets = alone (packet_at octets)
+
+-- a packet that passes the tests of a request
+abbrev pub request_tested : SpacePacket → Option RequestFault → Result SpacePacket LineFault
+request_tested packet None = Ok packet
+request_tested packet (Some fault) = Err (of_request fault)
+
+-- the packet with which a line asks a request, or the first test that fails: the digits, the
+-- packet, octets after it, the request
+unfoldable pub request_of : List ℕ → Result SpacePacket LineFault
+request_of line = do
+  octets ← octets_in line
+  packet ← packet_alone octets
+  request_tested packet (request_fault packet)

@@ -1,0 +1,56 @@
+//! From the octets of a setup and of requests to the text that answers them.
+ghost use Rattle.std.specs.Prelude.{◌≡◌, IfOk, IfErr, OnOk};
+ghost use Rattle.mm_ask.specs.Answering.{opened};
+ghost use Rattle.mm_ask.specs.Asking.{Answers, Converses, IsSetupFault, Passes};
+ghost use Rattle.mm_problem.specs.Lines.{text_lines};
+
+use crate::answering::{Conversation, Outcome};
+use crate::fault::{Fault, NoMemory};
+use mm_memory::Memory;
+use mm_problem::Setup;
+use mm_problem::lines::split_line;
+use std::alloc::Global;
+
+// Answers a line, which has this number; an empty one is passed over.
+fn pass(
+    alloc: Global,
+    conversation: &mut Conversation,
+    line: u64,
+    octets: &[u8],
+) -> Result<(), NoMemory>
+    ensures { OnOk result (Passes line octets.now conversation.old conversation.new) }
+{
+    if octets.is_empty() {
+        Ok(())
+    } else {
+        conversation.answer(alloc, line, octets)
+    }
+}
+
+// Answers each line of the requests, in order.
+fn converse(alloc: Global, conversation: &mut Conversation, requests: &[u8]) -> Result<(), NoMemory>
+    ensures { OnOk result (Converses 1 (text_lines requests.now) conversation.old conversation.new) }
+{
+    let mut rest = requests;
+    let mut line: u64 = 1;
+    while let Some((octets, after)) = split_line(rest) {
+        pass(alloc, conversation, line, octets)?;
+        rest = after;
+        line += 1;
+    }
+    pass(alloc, conversation, line, rest)
+}
+
+/// The text that answers the requests, one a line, to the memory of the setup; and whether all was
+/// done that they asked. The moment of a request is its line's number. Otherwise the fault of the
+/// setup, or want of memory.
+pub fn ask_bytes(alloc: Global, setup: &[u8], requests: &[u8]) -> Result<(Outcome, Vec<u8>), Fault>
+    ensures answers { IfOk result (λ a. Answers setup.now requests.now a.0 a.1.items) }
+    ensures refused { IfErr result (IsSetupFault setup.now) }
+{
+    let setup = Setup::read(alloc, setup)?;
+    let memory = Memory::of_setup(alloc, &setup)?;
+    let mut conversation = Conversation::new(alloc, memory);
+    converse(alloc, &mut conversation, requests)?;
+    Ok(conversation.into_parts())
+}

@@ -1,0 +1,161 @@
+//! Reports, to the octet, and their numbers.
+use super::{CONFIGURATIONS, all_done, some_refused};
+use crate::{Counters, Numbers, request_of};
+use mm_st15::ReportKind;
+
+#[test]
+fn the_configuration_of_each_store(rt: HostRuntime) {
+    all_done(
+        &rt,
+        CONFIGURATIONS,
+        "1 report 0864C000001D200F17000000000000000000000001015343492020202020000000040100\n",
+    );
+}
+
+// The report goes to the request's source, from its APID; acknowledgement flags and sequence count
+// are not repeated.
+#[test]
+fn a_report_goes_to_the_request_s_source(rt: HostRuntime) {
+    all_done(
+        &rt,
+        "187BC00500042F0F161234",
+        "1 report 087BC000001D200F17000012340000000000000001015343492020202020000000040100\n",
+    );
+}
+
+// The sequence count runs over all reports, the message type counter over those of a subtype.
+#[test]
+fn numbers_of_reports_rise(rt: HostRuntime) {
+    all_done(
+        &rt,
+        "1864C0000004200F160000\n1864C0000004200F160000\n1864C0000004200F120000\n1864C0000004200F160000\n",
+        "1 report 0864C000001D200F17000000000000000000000001015343492020202020000000040100\n\
+        2 report 0864C001001D200F17000100000000000000000002015343492020202020000000040100\n\
+        3 report 0864C0020019200F130000000000000000000000030153434920202020200100\n\
+        4 report 0864C003001D200F17000200000000000000000004015343492020202020000000040100\n",
+    );
+}
+
+const EVERY_REQUEST: &str = "\
+1864C000000D200F010000015343492020202020
+1864C0000011200F03000001534349202020202000650319
+1864C000000D200F050000015343492020202020
+1864C0000011200F04000001534349202020202000650319
+1864C000001D200F090000015343492020202020000000000000000100000000000000FF
+1864C0000004200F120000
+1864C000000D200F110000015343492020202020
+1864C0000015200F0B000001534349202020202000000000000000FF
+1864C000000D200F0C0000015343492020202020
+1864C0000013200F14000001484B202020202020000000020003
+1864C000000D200F020000015343492020202020
+1864C0000011200F19000001534349202020202000000005
+1864C000000D200F1A0000015343492020202020
+1864C000000D200F1B000001484B202020202020
+1864C000000E200F1C000001534349202020202005
+1864C000000D200F15000001484B202020202020
+1864C0000004200F160000
+";
+
+const EVERY_ANSWER: &str = "\
+1.1 done
+2.1 done
+3.1 done
+3 report 0864C0000020200F0600000000000000000000000353434920202020200002\
+0064031900650319
+4.1 done
+5.1 done
+6 report 0864C0010019200F130000000000000000000000060153434920202020200101
+7.1 done
+8.1 done
+9.1 done
+9 report 0864C002002B200F0D0000000000000000000000090153434920202020200000000000000000\
+000000000000000000000000
+10.1 done
+11.1 done
+12.1 done
+13.1 done
+14.1 done
+15.1 done
+16.1 done
+17 report 0864C003001D200F17000000000000000000000011015343492020202020000000050005
+";
+
+// Request 5 is answered by report 6, 12 by 13, 18 by 19, and 22 by 23.
+#[test]
+fn every_request_once(rt: HostRuntime) {
+    all_done(&rt, EVERY_REQUEST, EVERY_ANSWER);
+}
+
+// Two reports on one request; the refused instruction between them has none.
+#[test]
+fn a_report_for_each_accepted_instruction(rt: HostRuntime) {
+    some_refused(
+        &rt,
+        "1864C000001D200F05000003\
+        5343492020202020484B2020202020205343492020202020\n",
+        "1.1 done\n1.2 refused 23 NoSuchStore\n1.3 done\n\
+        1 report 0864C000001C200F060000000000000000000000015343492020202020000100640319\n\
+        1 report 0864C001001C200F060001000000000000000000015343492020202020000100640319\n",
+    );
+}
+
+#[test]
+fn counters_by_kind(rt: HostRuntime) {
+    let mut counters = Counters::new();
+    let first = counters.next(ReportKind::Control);
+    let second = counters.next(ReportKind::Summaries);
+    let third = counters.next(ReportKind::Control);
+    assert_eq!(rt;
+        first,
+        Numbers {
+            sequence: 0,
+            counter: 0
+        }
+    );
+    assert_eq!(rt;
+        second,
+        Numbers {
+            sequence: 1,
+            counter: 0
+        }
+    );
+    assert_eq!(rt;
+        third,
+        Numbers {
+            sequence: 2,
+            counter: 1
+        }
+    );
+}
+
+// Behind the greatest number comes 0: after 65,536 reports of a subtype, which are four times
+// 16,384.
+#[test]
+fn counters_begin_again(rt: HostRuntime) {
+    let mut counters = Counters::new();
+    for _ in 0..65_535u32 {
+        let _ = counters.next(ReportKind::Statuses);
+    }
+    let last = counters.next(ReportKind::Statuses);
+    let next = counters.next(ReportKind::Statuses);
+    assert_eq!(rt;
+        last,
+        Numbers {
+            sequence: 16_383,
+            counter: 65_535
+        }
+    );
+    assert_eq!(rt;
+        next,
+        Numbers {
+            sequence: 0,
+            counter: 0
+        }
+    );
+}
+
+#[test]
+fn a_line_s_request(rt: HostRuntime) {
+    let asked = request_of(rt.alloc(), CONFIGURATIONS.as_bytes()).expect(&rt, "a request");
+    assert_eq!(rt; (asked.request.subtype(), asked.packet.apid()), (22, 100));
+}

@@ -1,0 +1,100 @@
+//! The lines that are printed.
+ghost use Rattle.std.specs.Prelude.{◌≡◌, ◌+◌, ◌<◌, ◌^◌, ◌++◌, decimal, length, OnOk};
+ghost use Rattle.mm_ask.specs.Text.{refused_text, answer_text, refused_line, answer_line, answer_lines, report_line};
+
+use crate::fault::LineFault;
+use itoa::Buffer;
+use mm_memory::Answer;
+use std::alloc::{AllocError, Global};
+
+fn push_number(text: &mut Vec<u8>, number: u64) -> Result<(), AllocError>
+    ensures { OnOk result (text.new.items ≡ text.old.items ++ decimal number) }
+{
+    let mut buffer = Buffer::new();
+    text.extend_from_slice(buffer.format(number).as_bytes())
+}
+
+#[tactic(auto, using(std::proofs::Common::append_assoc))]
+fn push_refused(text: &mut Vec<u8>, number: u8, name: &str) -> Result<(), AllocError>
+    ensures { OnOk result (text.new.items ≡ text.old.items ++ refused_text number name.now) }
+{
+    text.extend_from_slice(b" refused ")?;
+    push_number(text, u64::from(number))?;
+    text.push(b' ')?;
+    text.extend_from_slice(name.as_bytes())?;
+    text.push(b'\n')?;
+    Ok(())
+}
+
+fn push_answer(text: &mut Vec<u8>, answer: Answer) -> Result<(), AllocError>
+    ensures { OnOk result (text.new.items ≡ text.old.items ++ answer_text answer) }
+{
+    match answer {
+        Answer::Done => text.extend_from_slice(b" done\n"),
+        Answer::Refused(fault) => push_refused(text, fault.number(), fault.name()),
+    }
+}
+
+/// The line on a request that is refused whole.
+#[tactic(auto, using(std::proofs::Common::append_assoc))]
+pub(crate) fn push_refused_line(
+    text: &mut Vec<u8>,
+    line: u64,
+    fault: LineFault,
+) -> Result<(), AllocError>
+    ensures { OnOk result (text.new.items ≡ text.old.items ++ refused_line line fault) }
+{
+    push_number(text, line)?;
+    push_refused(text, fault.number(), fault.name())
+}
+
+#[tactic(auto, using(std::proofs::Common::append_assoc))]
+fn push_answer_line(
+    text: &mut Vec<u8>,
+    line: u64,
+    place: u64,
+    answer: Answer,
+) -> Result<(), AllocError>
+    ensures { OnOk result (text.new.items ≡ text.old.items ++ answer_line line place answer) }
+{
+    push_number(text, line)?;
+    text.push(b'.')?;
+    push_number(text, place)?;
+    push_answer(text, answer)
+}
+
+/// The lines on the instructions of a request, whose places count from 1.
+pub(crate) fn push_answer_lines(
+    text: &mut Vec<u8>,
+    line: u64,
+    answers: &[Answer],
+) -> Result<(), AllocError>
+    ensures { OnOk result (text.new.items ≡ text.old.items ++ answer_lines line 1 answers.now) }
+{
+    let mut rest = answers;
+    let mut place: u64 = 1;
+    while let [answer, after @ ..] = rest {
+        push_answer_line(text, line, place, *answer)?;
+        rest = after;
+        place += 1;
+    }
+    Ok(())
+}
+
+/// The line on a report, which has these octets.
+#[tactic(auto, using(std::proofs::Common::append_assoc))]
+pub(crate) fn push_report_line(
+    alloc: Global,
+    text: &mut Vec<u8>,
+    line: u64,
+    octets: &[u8],
+) -> Result<(), AllocError>
+    ensures { OnOk result (text.new.items ≡ text.old.items ++ report_line line octets.now) }
+{
+    let digits = hex::encode_upper(alloc, octets)?;
+    push_number(text, line)?;
+    text.extend_from_slice(b" report ")?;
+    text.extend_from_slice(digits.as_bytes())?;
+    text.push(b'\n')?;
+    Ok(())
+}
