@@ -19,9 +19,15 @@ pub enum Task<'a> {
         forecast: &'a str,
         plan: &'a str,
     },
+    /// Answer the requests of the storage service, one after another, in a memory of the setup.
+    Ask {
+        setup: &'a str,
+        requests: &'a str,
+    },
 }
 
-const ABOUT: &str = "Plans when a spacecraft's packet stores are dumped, and checks such plans";
+const ABOUT: &str =
+    "Plans when a spacecraft's packet stores are dumped, checks such plans, and answers requests of the storage service";
 
 const TOOL_HELP: &str = "\
 Without words the program reads a script from standard input: a first line with the words, and then
@@ -30,9 +36,11 @@ each file under a line `=== NAME`.
 Examples:
   mm_tool plan setup.toml forecast.csv
   mm_tool check setup.toml forecast.csv plan.txt
+  mm_tool ask setup.toml requests.hex
 
-Exit status: 0 where the task is done and, for check, the plan is least; 1 where a file is refused, the
-verdict is another, or a write failed; 2 where the command line is no good, or help was asked for.";
+Exit status: 0 where the task is done and, for check, the plan is least, for ask, nothing is refused; 1
+where something is refused, the verdict is another, or a write failed; 2 where the command line is no good,
+or help was asked for.";
 
 const SETUP_HELP: &str = "The packet stores, routes and limits of channels, in TOML";
 
@@ -76,6 +84,26 @@ Example:
 
 The formats are described in docs/FORMATS.md. Exit status: 0 for `least`, 1 for any other line.";
 
+const REQUESTS_HELP: &str = "The requests: a telecommand per line, in hexadecimal digits";
+
+const ASK_ABOUT: &str = "Answers requests of the storage service in a memory of the setup";
+
+const ASK_HELP: &str = "\
+The memory begins with the stores of the setup, empty and with their storage on. Line n of REQUESTS is
+a telecommand of service 15, applied at the moment n; empty lines are passed over and counted. For each
+other line, the answers to its instructions and then its reports are printed:
+  N.K done                    instruction K of line N is carried out
+  N.K refused NUMBER NAME     instruction K is refused, and has changed nothing
+  N report HEX                a report, a telemetry packet in hexadecimal digits
+  N refused NUMBER NAME       line N is no request, and nothing of it is done
+or one line:
+  refused NUMBER NAME ..      a file was not read, or is not what it should be
+
+Example:
+  mm_tool ask setup.toml requests.hex
+
+The formats are described in docs/FORMATS.md. Exit status: 0 where nothing is refused, 1 otherwise.";
+
 fn file<'a>(alloc: Global, name: &'a str, help: &'a str) -> Arg<'a> {
     Arg::new(alloc, name).required(true).help(help)
 }
@@ -97,6 +125,14 @@ fn check_command<'a>(alloc: Global) -> Result<Command<'a>, AllocError> {
         .arg(file(alloc, "PLAN", "The dump plan with its loss and its cut"))
 }
 
+fn ask_command<'a>(alloc: Global) -> Result<Command<'a>, AllocError> {
+    Command::new(alloc, "ask")
+        .about(ASK_ABOUT)
+        .after_help(ASK_HELP)
+        .arg(file(alloc, "SETUP", SETUP_HELP))?
+        .arg(file(alloc, "REQUESTS", REQUESTS_HELP))
+}
+
 fn tool_command<'a>(alloc: Global) -> Result<Command<'a>, AllocError> {
     Command::new(alloc, "mm_tool")
         .bin_name("mm_tool")?
@@ -106,7 +142,8 @@ fn tool_command<'a>(alloc: Global) -> Result<Command<'a>, AllocError> {
         .subcommand_required(true)
         .arg_required_else_help(true)
         .subcommand(plan_command(alloc)?)?
-        .subcommand(check_command(alloc)?)
+        .subcommand(check_command(alloc)?)?
+        .subcommand(ask_command(alloc)?)
 }
 
 fn plan_task<'a>(files: &ArgMatches<'a>) -> Option<Task<'a>> {
@@ -124,6 +161,13 @@ fn check_task<'a>(files: &ArgMatches<'a>) -> Option<Task<'a>> {
     })
 }
 
+fn ask_task<'a>(files: &ArgMatches<'a>) -> Option<Task<'a>> {
+    Some(Task::Ask {
+        setup: files.get_str("SETUP")?,
+        requests: files.get_str("REQUESTS")?,
+    })
+}
+
 /// What the words ask for; the error has the text for the user.
 pub fn parse<'a, S: AsStr>(alloc: Global, words: &'a [S]) -> Result<Task<'a>, Error> {
     let mut command = tool_command(alloc)?;
@@ -131,6 +175,7 @@ pub fn parse<'a, S: AsStr>(alloc: Global, words: &'a [S]) -> Result<Task<'a>, Er
     let task = match matches.subcommand() {
         Some(("plan", files)) => plan_task(files),
         Some(("check", files)) => check_task(files),
+        Some(("ask", files)) => ask_task(files),
         _ => None,
     };
     match task {

@@ -3,10 +3,11 @@ ghost use Rattle.std.specs.Prelude.{◌≤◌};
 
 use crate::command::{Task, parse};
 use crate::files::{Files, ReadFault};
-use crate::script::{ScriptFiles, split_line};
+use crate::script::{ScriptFiles, first_line};
 use clap::error::ErrorKind;
+use mm_ask::{Outcome, ask_bytes};
 use mm_cut::Verdict;
-use mm_planner::{Fault, check_bytes, plan_bytes};
+use mm_planner::{check_bytes, plan_bytes};
 use std::alloc::{AllocError, Global};
 use std::convert::AsStr;
 use std::io::{self, Write};
@@ -40,7 +41,9 @@ enum Refusal<'a> {
     #[error("50 NotRead name {name}")]
     NotRead { name: &'a str },
     #[error(transparent)]
-    Texts(#[from] Fault),
+    Texts(#[from] mm_planner::Fault),
+    #[error(transparent)]
+    Setup(#[from] mm_ask::Fault),
 }
 
 fn read_file<'a, F: Files>(
@@ -90,6 +93,26 @@ fn check<'a, F: Files>(
     Ok((status_of(verdict), line))
 }
 
+fn status_of_answers(outcome: Outcome) -> Status {
+    match outcome {
+        Outcome::AllDone => Status::Done,
+        Outcome::SomeRefused => Status::Refused,
+    }
+}
+
+/// The lines that answer the requests in the files.
+fn ask<'a, F: Files>(
+    alloc: Global,
+    files: &mut F,
+    setup: &'a str,
+    requests: &'a str,
+) -> Result<(Status, Vec<u8>), Refusal<'a>> {
+    let setup = read_file(alloc, files, setup)?;
+    let requests = read_file(alloc, files, requests)?;
+    let (outcome, lines) = ask_bytes(alloc, &setup, &requests)?;
+    Ok((status_of_answers(outcome), lines))
+}
+
 fn carry_out<F: Files, W: Write>(
     alloc: Global,
     task: Task<'_>,
@@ -103,6 +126,7 @@ fn carry_out<F: Files, W: Write>(
             forecast,
             plan,
         } => check(alloc, files, setup, forecast, plan),
+        Task::Ask { setup, requests } => ask(alloc, files, setup, requests),
     };
     match done {
         Ok((status, text)) => {
@@ -158,7 +182,7 @@ pub fn run_tool<S: AsStr, F: Files, W: Write, E: Write>(
 pub fn run_script<W: Write, E: Write>(alloc: Global, script: &[u8], out: &mut W, err: &mut E) -> u8
     ensures status { result ≤ 2 }
 {
-    let (line, files) = split_line(script);
+    let (line, files) = first_line(script);
     let Ok(line) = std::str::from_utf8(line) else {
         let _ = err.write_all(b"error: the first line of the script is not UTF-8\n");
         return Status::BadCommandLine.code();

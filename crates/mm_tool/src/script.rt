@@ -1,30 +1,28 @@
 //! Scripts: the words of a command line, and then its files, in one text.
-ghost use Rattle.std.specs.Prelude.{◌≡◌, ◌+◌, ◌<◌, ◌≤◌, length};
+ghost use Rattle.std.specs.Prelude.{◌<◌, ◌≤◌, length};
 
 use crate::files::{Files, ReadFault};
+use mm_problem::lines::split_line;
 use std::alloc::Global;
 
 /// What the line that begins a file starts with; the rest of the line is the file's name.
 const HEADING: &[u8] = b"=== ";
 
 /// The first line of a text without its LF, and what stands behind it.
-pub fn split_line(text: &[u8]) -> (&[u8], &[u8])
-    ensures line { length result.0.now ≤ length text.now }
+pub fn first_line(text: &[u8]) -> (&[u8], &[u8])
     ensures shorter { 1 ≤ length text.now → length result.1.now < length text.now }
 {
-    for (i, octet) in text.iter().enumerate() {
-        if *octet == b'\n' {
-            return (&text[..i], &text[i + 1..]);
-        }
+    match split_line(text) {
+        Some(parts) => parts,
+        None => (text, &[]),
     }
-    (text, &[])
 }
 
 /// The octets before the next heading, or all.
 fn before_heading(text: &[u8]) -> &[u8] {
     let mut rest = text;
     while !rest.is_empty() && !rest.starts_with(HEADING) {
-        rest = split_line(rest).1;
+        rest = first_line(rest).1;
     }
     &text[..text.len() - rest.len()]
 }
@@ -45,7 +43,7 @@ impl<'a> ScriptFiles<'a> {
     fn find(&self, name: &[u8]) -> Option<&'a [u8]> {
         let mut rest = self.text;
         while !rest.is_empty() {
-            let (line, after) = split_line(rest);
+            let (line, after) = first_line(rest);
             if line.strip_prefix(HEADING) == Some(name) {
                 return Some(before_heading(after));
             }

@@ -1,0 +1,241 @@
+//! What `plan` prints.
+
+use super::{
+    A_WITH_LIMIT_1, APART, SCI, SCI_OF_SIZE_2, SCI_STARTS_WITH_2, THREE_STEPS, TWO_STEPS_OF_A,
+    checks, prints, run,
+};
+use std::process::Abort;
+
+const A_OF_SIZE_1: &str = "[[store]]\nid = \"A\"\nsize = 1\ntype = \"bounded\"\nchannel = 0\n";
+
+const A_AND_B: &str = "\
+[[store]]
+id = \"A\"
+size = 3
+type = \"bounded\"
+channel = 0
+
+[[store]]
+id = \"B\"
+size = 3
+type = \"bounded\"
+channel = 0
+";
+
+const A_WITH_LIMIT_1_AND_B: &str = "\
+[[store]]
+id = \"A\"
+size = 3
+type = \"bounded\"
+channel = 0
+
+[[store]]
+id = \"B\"
+size = 3
+type = \"bounded\"
+channel = 1
+
+[[limit]]
+channel = 0
+blocks = 1
+";
+
+const SHARED_WINDOW: &str = "step,window,A,B\n1,2,3,3\n2,0,2,2\n";
+
+// What `plan` is to print: the text begins and ends like this, and nothing stands between where it is fixed whole.
+// What is printed is then given to `check`, which answers with the verdict.
+struct Planned {
+    example: &'static str,
+    setup: &'static str,
+    forecast: &'static str,
+    begins: &'static str,
+    ends: &'static str,
+    is_whole: bool,
+    verdict: &'static str,
+}
+
+const PLANNED: [Planned; 9] = [
+    Planned {
+        example: "first_run",
+        setup: SCI,
+        forecast: THREE_STEPS,
+        begins: "mmplan 1\nstores SCI\ndump 1 2\ndump 2 2\ndump 3 0\nloss 2\n",
+        ends: "stretch SCI 1 3\nbound 2\nend\n",
+        is_whole: true,
+        verdict: "least 2\n",
+    },
+    Planned {
+        example: "nothing_arrives",
+        setup: A_OF_SIZE_1,
+        forecast: "step,window,A\n1,5,0\n2,5,0\n",
+        begins: "mmplan 1\nstores A\ndump 1 0\ndump 2 0\nloss 0\n",
+        ends: "bound 0\nend\n",
+        is_whole: true,
+        verdict: "least 0\n",
+    },
+    Planned {
+        example: "more_than_the_store_holds",
+        setup: SCI,
+        forecast: "step,window,SCI\n1,9,9\n",
+        begins: "mmplan 1\nstores SCI\ndump 1 4\nloss 5\n",
+        ends: "stretch SCI 1 1\nbound 5\nend\n",
+        is_whole: true,
+        verdict: "least 5\n",
+    },
+    Planned {
+        example: "foresight_beats_even_split",
+        setup: A_AND_B,
+        forecast: "step,window,A,B\n1,2,3,3\n2,0,2,0\n",
+        begins: "mmplan 1\nstores A B\ndump 1 2 0\ndump 2 0 0\nloss 0\n",
+        ends: "bound 0\nend\n",
+        is_whole: false,
+        verdict: "least 0\n",
+    },
+    Planned {
+        example: "two_stretches_share_a_window",
+        setup: A_AND_B,
+        forecast: SHARED_WINDOW,
+        begins: "mmplan 1\nstores A B\ndump 1 ",
+        ends: "\ndump 2 0 0\nloss 2\nstretch A 1 2\nstretch B 1 2\nbound 2\nend\n",
+        is_whole: false,
+        verdict: "least 2\n",
+    },
+    Planned {
+        example: "two_stretches_of_one_store",
+        setup: SCI_OF_SIZE_2,
+        forecast: APART,
+        begins: "mmplan 1\nstores SCI\ndump 1 0\ndump 2 2\ndump 3 0\nloss 6\nstretch SCI 1 ",
+        ends: "\nbound 6\nend\n",
+        is_whole: false,
+        verdict: "least 6\n",
+    },
+    Planned {
+        example: "opening_contents_plan",
+        setup: SCI_STARTS_WITH_2,
+        forecast: THREE_STEPS,
+        begins: "mmplan 1\nstores SCI\ndump 1 2\ndump 2 2\ndump 3 0\nloss 4\n",
+        ends: "stretch SCI 1 3\nbound 4\nend\n",
+        is_whole: true,
+        verdict: "least 4\n",
+    },
+    Planned {
+        example: "channel_limit_cut",
+        setup: A_WITH_LIMIT_1,
+        forecast: TWO_STEPS_OF_A,
+        begins: "mmplan 2\nstores A\ndump 1 1\ndump 2 0\nloss 2\n",
+        ends: "stretch A 1 2\ncount 1 channels\nbound 2\nend\n",
+        is_whole: true,
+        verdict: "least 2\n",
+    },
+    Planned {
+        example: "channel_limit_shares",
+        setup: A_WITH_LIMIT_1_AND_B,
+        forecast: SHARED_WINDOW,
+        begins: "mmplan 1\nstores A B\ndump 1 ",
+        ends: "\ndump 2 0 0\nloss 2\nstretch A 1 2\nstretch B 1 2\nbound 2\nend\n",
+        is_whole: false,
+        verdict: "least 2\n",
+    },
+];
+
+// Whether a plan text is as it is to be.
+fn is_planned(plan: &str, row: &Planned) -> bool {
+    let fixed = row.begins.len().saturating_add(row.ends.len());
+    plan.starts_with(row.begins)
+        && plan.ends_with(row.ends)
+        && plan.len() >= fixed
+        && (plan.len() == fixed || !row.is_whole)
+}
+
+fn plans<R: Abort + AllocGlobal>(rt: &R, row: &Planned) {
+    let script = format!(in rt.alloc();
+        "plan S F\n=== S\n{}=== F\n{}",
+        row.setup, row.forecast
+    ).expect(rt, "memory");
+    let (plan, status) = run(rt, script.as_str());
+    let example = row.example;
+    assert_eq!(rt; status, 0, "for {example}");
+    assert!(rt; is_planned(plan.as_str(), row), "for {example}: {plan}");
+    checks(rt, row.setup, row.forecast, plan.as_str(), row.verdict)
+}
+
+#[test]
+fn plans_of_the_examples(rt: HostRuntime) {
+    for row in &PLANNED {
+        plans(&rt, row);
+    }
+}
+
+const REFUSED: [(&str, &str); 5] = [
+    (
+        "plan S F\n=== S\n[[store\n=== F\n",
+        "refused 27 SetupText\n",
+    ),
+    (
+        "plan S F\n=== S\n[[store]]\nid = \"SCI\"\nsize = 4\ntype = \"bounded\"\nchannel = 0\nstart = 5\n=== F\n",
+        "refused 33 Limit name start\n",
+    ),
+    (
+        "plan S F\n=== S\n[[store]]\nid = \"SCI\"\nsize = 4\ntype = \"bounded\"\nchannel = 0\n=== F\nstep,window,HK\n",
+        "refused 30 Header\n",
+    ),
+    ("plan S F\n=== F\n", "refused 50 NotRead name S\n"),
+    ("plan S F\n=== S\n", "refused 50 NotRead name F\n"),
+];
+
+#[test]
+fn plans_refused(rt: HostRuntime) {
+    for (script, want) in REFUSED {
+        prints(&rt, script, want, 1);
+    }
+}
+
+// The numbers from the first up to before the end, each between two texts.
+fn numbered<R: Abort + AllocGlobal>(
+    rt: &R,
+    first: u32,
+    end: u32,
+    before: &str,
+    after: &str,
+) -> String {
+    let mut text = String::new(rt.alloc());
+    for number in first..end {
+        write!(text, "{before}{number}{after}").expect(rt, "memory");
+    }
+    text
+}
+
+// The text of the most stores over the most steps, without any window, when as much arrives as may.
+fn fullest_forecast<R: Abort + AllocGlobal>(rt: &R) -> String {
+    let columns = numbered(rt, 0, 16, ",S", "");
+    let full =
+        ",0,1000000,1000000,1000000,1000000,1000000,1000000,1000000,1000000,1000000,1000000,1000000,1000000,1000000,1000000,1000000,1000000\n";
+    let rows = numbered(rt, 1, 257, "", full);
+    format!(in rt.alloc(); "step,window{columns}\n{rows}").expect(rt, "memory")
+}
+
+// Its plan, which dumps nothing.
+fn fullest_plan<R: Abort + AllocGlobal>(rt: &R) -> String {
+    let ids = numbered(rt, 0, 16, " S", "");
+    let dumps = numbered(rt, 1, 257, "dump ", " 0 0 0 0 0 0 0 0 0 0 0 0 0 0 0 0\n");
+    let cut = numbered(rt, 0, 16, "stretch S", " 1 256\n");
+    format!(in rt.alloc();
+        "mmplan 1\nstores{ids}\n{dumps}loss 4095999984\n{cut}bound 4095999984\nend\n"
+    ).expect(rt, "memory")
+}
+
+#[test]
+fn largest_loss(rt: HostRuntime) {
+    let setup = numbered(
+        &rt,
+        0,
+        16,
+        "[[store]]\nid = \"S",
+        "\"\nsize = 1\ntype = \"bounded\"\nchannel = 0\n",
+    );
+    let forecast = fullest_forecast(&rt);
+    let script = format!(in rt.alloc(); "plan S F\n=== S\n{setup}=== F\n{forecast}").expect(
+        &rt, "memory",
+    );
+    prints(&rt, script.as_str(), fullest_plan(&rt).as_str(), 0);
+}
