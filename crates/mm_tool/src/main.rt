@@ -1,4 +1,4 @@
-//! The programs for mission planning: they read a setup and a forecast and plan the dumps, or judge a plan.
+//! The program of the mass memory: it plans dumps, judges plans, and answers requests of the storage service.
 #![tactic(auto)]
 
 mod command;
