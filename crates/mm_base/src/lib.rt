@@ -11,6 +11,8 @@ mod memory;
 pub mod numbers;
 mod refusal;
 mod rows;
+#[cfg(test)]
+mod tests;
 
 pub use fault::Fault;
 pub use id::StoreId;
