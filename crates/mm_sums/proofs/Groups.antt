@@ -6,7 +6,7 @@ use Rattle.std.proofs.lemmas.Bool.{cases_lt}
 use Rattle.std.proofs.lemmas.Bool.Decides.{nat_tests, eqb_tells}
 use Rattle.mm_sums.proofs.Tests.{cond-eqb_same, true-from_cond}
 use Rattle.mm_sums.proofs.Sums.{sum_by-le_each, sum_by-swap, sum_by-le_one}
-use Rattle.mm_sums.proofs.RangeSums.{sum_by-range-le, term-le-sum_by_range}
+use Rattle.mm_sums.proofs.RangeSums.{sum_by_range-le, term-le-sum_by_range}
 
 -- one element is counted in its own group
 in_its_group : (m c n : ℕ) → (0 < m → c < n) → m ≤ sum_by (λ k. cond (eqb c k) m 0) (range_with_len 0 n)
@@ -60,4 +60,4 @@ sum_by-le_places {X} f p place n xs within apart =
     let x : X = get_or xs i d in
     let y : X = get_or xs j d in
     one_at f (p x) (p y) (place x) (place y) c (apart i j d before inside)) in
-    omega (arith, groups, sum_by-range-le (λ c. sum_by (at c) xs) f 0 n (λ c _ _. at_place c))
+    omega (arith, groups, sum_by_range-le (λ c. sum_by (at c) xs) f 0 n (λ c _ _. at_place c))
