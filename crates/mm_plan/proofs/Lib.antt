@@ -1,4 +1,3 @@
-pub mod RangeSums
 pub mod Steps
 pub mod Limits
 pub mod Options

@@ -8,10 +8,10 @@ ghost use Rattle.mm_plan.specs.Fit.{in_step, FitsAt, Fits};
 ghost use Rattle.mm_plan.specs.Filled.{IsWindowUsed, IsLimitUsed, IsFilled, IsNowhereWorse};
 ghost use Rattle.mm_plan.specs.Filling.{SameElsewhere, IsCutAt, AreLeft, AreSplit, IsRoom};
 
-use crate::fault::NoMemory;
 use crate::fit::{channel_amount, step_amount};
 use crate::plan::Plan;
-use mm_problem::{MAX_STORES, Problem};
+use mm_base::{MAX_STORES, NoMemory};
+use mm_problem::Problem;
 use std::alloc::Global;
 
 // What stands in each store as the first step begins.

@@ -16,10 +16,11 @@ mod stretch;
 mod tests;
 mod words;
 
-pub use fault::{Fault, NoMemory};
+pub use fault::Fault;
 pub use filling::fill;
 pub use fit::fits;
 pub use loss::loss_of;
+pub use mm_base::NoMemory;
 pub use plan::Plan;
 pub use sheet::Sheet;
 pub use simulation::{Simulated, simulate};

@@ -3,7 +3,7 @@ ghost use Rattle.std.specs.Prelude.{◌≡◌, ◌≤◌, ◌↔◌, All, IsTrue
 ghost use Rattle.mm_base.specs.declared.limits.TheConstants.{MAX_BLOCKS};
 ghost use Rattle.mm_plan.specs.Table.{amount, HasShape, IsPlace, IsTable, ChangesAmount};
 
-use crate::fault::NoMemory;
+use mm_base::NoMemory;
 use mm_problem::Problem;
 use std::alloc::Global;
 use std::marker::Model;

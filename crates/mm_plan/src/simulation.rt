@@ -6,9 +6,9 @@ ghost use Rattle.mm_plan.specs.Volumes.{written, left, lost, loss};
 ghost use Rattle.mm_plan.specs.Simulated.{written_in, left_in, lost_in, IsVolumePlace, CoversProblem, AgreeEach};
 ghost use Rattle.mm_plan.specs.Tabled.{AreTabled};
 
-use crate::fault::NoMemory;
 use crate::loss::loss_of;
 use crate::plan::Plan;
+use mm_base::NoMemory;
 use mm_problem::Problem;
 use std::alloc::{AllocError, Global};
 use std::marker::Model;
