@@ -14,6 +14,6 @@ pub mod Prints
 pub mod Writes
 pub mod Raises
 pub mod Tabling
-pub mod Cuts
+pub mod Lowering
 pub mod Rests
 pub mod Fills

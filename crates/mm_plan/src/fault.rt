@@ -1,9 +1,7 @@
 //! Why a plan text or a sheet is refused.
 ghost use Rattle.std.specs.Prelude.{◌≡◌};
-ghost use Rattle.mm_base.specs.Refusals.{number_of};
-ghost use Rattle.mm_plan.specs.Fault.{refusal_of};
 
-use mm_base::Refusal;
+use mm_base::{Refusal, Refused};
 use std::alloc::{AllocError, AllocFailed};
 use thiserror::Error;
 
@@ -20,23 +18,17 @@ pub enum Fault {
     Shape,
 }
 
-impl Fault {
-    /// Which refusal it is.
-    pub fn refusal(self) -> Refusal
-        ensures refusal { result ≡ refusal_of self }
-    {
+impl Refused for Fault {
+    ghost use Rattle.mm_plan.specs.Fault.{refusal_of};
+
+    ghost refusal_of = { refusal_of };
+
+    fn refusal(self) -> Refusal {
         match self {
             Fault::NoMemory => Refusal::NoMemory,
             Fault::PlanText { .. } => Refusal::PlanText,
             Fault::Shape => Refusal::Shape,
         }
-    }
-
-    /// The refusal's number.
-    pub fn number(self) -> u8
-        ensures number { result ≡ number_of (refusal_of self) }
-    {
-        self.refusal().number()
     }
 }
 

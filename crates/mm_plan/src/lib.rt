@@ -5,6 +5,7 @@ mod draft;
 mod fault;
 mod filling;
 mod fit;
+pub mod laws;
 mod line;
 mod loss;
 mod plan;
