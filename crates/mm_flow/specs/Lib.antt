@@ -9,6 +9,8 @@ pub mod LeastCut
 pub mod Levels
 pub mod Links
 pub mod Marks
+pub mod Phase
 pub mod Residual
 pub mod Solution
 pub mod Tables
+pub mod Task
