@@ -1,7 +1,6 @@
 pub mod Augmenting
 pub mod Ends
 pub mod Entries
-pub mod LeastCuts
 pub mod Leading
 pub mod LevelPaths
 pub mod Linking

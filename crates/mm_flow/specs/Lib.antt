@@ -5,7 +5,6 @@ pub mod Fault
 pub mod Flow
 pub mod Graph
 pub mod Laws
-pub mod LeastCut
 pub mod Levels
 pub mod Links
 pub mod Marks

@@ -2,7 +2,6 @@
 #![tactic(auto)]
 
 mod arc;
-pub mod exhaustive;
 mod fault;
 pub mod laws;
 mod limits;

@@ -104,7 +104,7 @@ impl Network {
     }
 
     /// How many nodes the network has.
-    pub(crate) fn node_count(&self) -> usize
+    pub fn node_count(&self) -> usize
         ensures count { result ≡ self.now.graph.nodes }
         ensures network { IsNetwork self.now.graph }
     {
@@ -112,7 +112,7 @@ impl Network {
     }
 
     /// How many arcs the network has.
-    pub(crate) fn arc_count(&self) -> usize
+    pub fn arc_count(&self) -> usize
         ensures count { result ≡ length self.now.graph.arcs }
         ensures network { IsNetwork self.now.graph }
     {
@@ -120,7 +120,7 @@ impl Network {
     }
 
     /// The arc with this number.
-    pub(crate) fn arc(&self, number: usize) -> Arc
+    pub fn arc(&self, number: usize) -> Arc
         requires { number < length self.now.graph.arcs }
         ensures arc { result ≡ arc self.now.graph number }
         ensures within { IsArcWithin self.now.graph.nodes result }

@@ -1,9 +1,9 @@
 use Rattle.std.proofs.Common.{arith, true, false, slice_set, ℕ, subst, sym, Option}
 use Rattle.std.proofs.lemmas.List.{get_or-set_same, get_or-set_other}
 use Rattle.mm_flow.specs.Solution.{side_of}
-use Rattle.mm_flow.specs.LeastCut.{IsLeastOver}
-use Rattle.mm_flow.proofs.LeastCuts.{least_settled, least_both}
-use Rattle.mm_flow.proofs.exhaustive.+least_over.Goals as goal
+use Rattle.mm_exhaustive.specs.LeastCut.{IsLeastOver}
+use Rattle.mm_exhaustive.proofs.LeastCuts.{least_settled, least_both}
+use Rattle.mm_exhaustive.proofs.cuts.+least_over.Goals as goal
 
 pub returns-then-node-node_count : goal.returns-then-node-node_count
 returns-then-node-node_count t c =

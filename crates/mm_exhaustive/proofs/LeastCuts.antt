@@ -1,14 +1,14 @@
 -- The least capacity over all sides, one node after another.
 use Rattle.std.proofs.Common.{◌≡◌, ◌≢◌, ℕ, ◌+◌, ◌*◌, ◌<◌, ◌≤◌, min, cond, not, ◌&&◌, Bool, true, false, Option, Some, None, length, ap, sym, ◌∙◌, refl, arith, inl, inr, subst}
 use Rattle.std.specs.Prelude.{IsSome, IfSome, IsSomeAnd, unwrap_or}
+use Rattle.std.specs.List.{range_with_len, filter, sum_by}
 use Rattle.std.proofs.lemmas.Bool.{cases_Bool, cases_eq, cases_lt}
 use Rattle.mm_flow.specs.declared.arc.Arc.{Arc}
 use Rattle.mm_flow.specs.declared.limits.TheConstants.{MAX_CAPACITY}
-use Rattle.mm_flow.specs.Graph.{Graph, arc, IsNetwork}
+use Rattle.mm_flow.specs.Graph.{Graph, arc, places, IsNetwork}
 use Rattle.mm_flow.specs.Cut.{Side, IsCut, leaves, capacity_of, limit_of}
-use Rattle.mm_flow.specs.LeastCut.{AgreesBelow, IsLeastOver, IsLeastCut, IsCutCapacity, least_of}
-use Rattle.mm_flow.proofs.Sums.{below, below_same, below_more, below_none}
-use Rattle.mm_flow.proofs.Sides.{capacity_of-below}
+use Rattle.mm_exhaustive.specs.LeastCut.{AgreesBelow, IsLeastOver, IsLeastCut, IsCutCapacity, least_of}
+use Rattle.mm_exhaustive.proofs.Sums.{sum_by-filter_more, filter-same, All-range}
 
 -- what an arc adds to a side's capacity, where it adds a number
 pub added_some : (b : Bool) (most : Option ℕ) (c : ℕ) → cond b most (Some 0) ≡ Some c → (c ≡ cond b (unwrap_or most 0) 0) × (b ≡ true → IsSome most)
@@ -23,14 +23,14 @@ added_none false most is = absurd (cc)
 
 -- the capacities of the first arcs out of a side, none of which is unlimited, add up to the total
 pub record IsCounted (g : Graph) (side : Side) (n total : ℕ) : Type 0 where
-  pub total_is : total ≡ below (λ k. cond (leaves g side k) (limit_of g k) 0) n
+  pub total_is : total ≡ sum_by (limit_of g) (filter (leaves g side) (range_with_len 0 n))
   pub small : total ≤ n * MAX_CAPACITY
   pub limited : (k : ℕ) → k < n → leaves g side k ≡ true → IsSome (arc g k).capacity
 
 -- no arc is counted
 pub counted_none : (g : Graph) (side : Side) → IsCounted g side 0 0
 counted_none g side = record {
-  total_is = sym (below_none (λ k. cond (leaves g side k) (limit_of g k) 0));
+  total_is = refl;
   small = omega arith;
   limited = λ k lt out. absurd (omega arith);
 }
@@ -47,7 +47,7 @@ counted_more g side n total added a network lt counted is adds =
     let adds_here : cond (leaves g side n) (arc g n).capacity (Some 0) ≡ Some added = sym (adds ∙ ap (λ (b : Arc). cond (side b.from && not (side b.to)) b.capacity (Some 0)) is) in
     let parts = added_some (leaves g side n) (arc g n).capacity added adds_here in
     record {
-      total_is = omega (arith, counted.total_is, parts.0, below_more (λ k. cond (leaves g side k) (limit_of g k) 0) n);
+      total_is = omega (arith, counted.total_is, parts.0, sum_by-filter_more (limit_of g) (leaves g side) n);
       small = omega (arith, counted.small, parts.0, added_small (leaves g side n) (arc g n).capacity (network.each n lt).capacity);
       limited = λ k less out. elim (cases_eq k n) [
         | inl same ↦ subst (λ (j : ℕ). IsSome (arc g j).capacity) (sym same) (parts.1 (sym (ap (leaves g side) same) ∙ out))
@@ -57,9 +57,10 @@ counted_more g side n total added a network lt counted is adds =
 
 -- where all arcs are counted, the side is a cut with the total as its capacity
 pub counted_all : (g : Graph) (source sink : ℕ) (side : Side) (n total : ℕ) → n ≡ length g.arcs → side source ≡ true → side sink ≡ false → IsCounted g side n total → IsCut g source sink side × (capacity_of g side ≡ total)
+unfolding capacity_of
 counted_all g source sink side n total all has lacks counted = (
   record { has_source = has; lacks_sink = lacks; limited = λ k lt out. counted.limited k (omega arith) out },
-  omega (arith, capacity_of-below g side, counted.total_is, ap (below (λ k. cond (leaves g side k) (limit_of g k) 0)) all),
+  ap (λ (m : ℕ). sum_by (limit_of g) (filter (leaves g side) (range_with_len 0 m))) (sym all) ∙ sym counted.total_is,
 )
 
 module _ (g : Graph) (source sink : ℕ) (network : IsNetwork g) (source_lt : source < g.nodes) (sink_lt : sink < g.nodes) (side cut : Side) (agrees : AgreesBelow side cut g.nodes) where
@@ -72,9 +73,10 @@ module _ (g : Graph) (source sink : ℕ) (network : IsNetwork g) (source_lt : so
 
   -- their capacities are equal
   capacity_same : capacity_of g cut ≡ capacity_of g side
+  unfolding capacity_of
   capacity_same =
-      let same = below_same (λ k. cond (leaves g cut k) (limit_of g k) 0) (λ k. cond (leaves g side k) (limit_of g k) 0) (length g.arcs) (λ k lt. ap (λ b. cond b (limit_of g k) 0) (leaves_same k lt)) in
-      omega (arith, capacity_of-below g cut, capacity_of-below g side, same)
+      ap (sum_by (limit_of g)) (filter-same (leaves g cut) (leaves g side) (places g)
+      (All-range (λ k. leaves g cut k ≡ leaves g side k) 0 (length g.arcs) (λ k _ lt. leaves_same k (omega arith))))
 
   -- if one is a cut, the other is
   cut_same : IsCut g source sink cut → IsCut g source sink side

@@ -1,10 +1,9 @@
 //! The least capacity of a cut by trying every side, a plain program to compare the solver with.
 ghost use Rattle.std.specs.Prelude.{◌≡◌, ◌<◌, ◌≤◌, ◌&&◌, not, if◌then◌else◌, length};
-ghost use Rattle.mm_flow.specs.LeastCut.{IsLeastCut, IsLeastOver, IsCutCapacity, least_of};
+ghost use Rattle.mm_exhaustive.specs.LeastCut.{IsLeastCut, IsLeastOver, IsCutCapacity, least_of};
 ghost use Rattle.mm_flow.specs.Solution.{side_of};
 
-use crate::arc::Arc;
-use crate::network::Network;
+use mm_flow::{Arc, Network};
 
 /// The most nodes of a network whose sides are tried one by one.
 pub const MAX_TRIED: usize = 10;

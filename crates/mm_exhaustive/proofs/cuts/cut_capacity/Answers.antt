@@ -1,7 +1,7 @@
 use Rattle.std.proofs.Common.{arith}
 use Rattle.mm_flow.specs.Solution.{side_of}
-use Rattle.mm_flow.proofs.LeastCuts.{counted_none, counted_more, counted_all}
-use Rattle.mm_flow.proofs.exhaustive.cut_capacity.Goals as goal
+use Rattle.mm_exhaustive.proofs.LeastCuts.{counted_none, counted_more, counted_all}
+use Rattle.mm_exhaustive.proofs.cuts.cut_capacity.Goals as goal
 
 pub loop-number-init : goal.loop-number-init
 loop-number-init c = counted_none c.args.network.now.graph (side_of c.args.side.now)
