@@ -5,8 +5,8 @@ ghost use Rattle.mm_flow.specs.Graph.{arc, IsNetwork, IsArcWithin};
 ghost use Rattle.mm_flow.specs.Built.{empty, with_node, with_arc};
 
 use crate::arc::Arc;
-use crate::fault::NoMemory;
 use crate::limits::{MAX_ARCS, MAX_CAPACITY, MAX_NODES};
+use mm_base::NoMemory;
 use std::alloc::Global;
 use std::marker::Model;
 
