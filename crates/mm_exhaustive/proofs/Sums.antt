@@ -28,7 +28,7 @@ term_in_sum f n s below =
 
 -- a sum of zeros
 pub sum_by-zeros : (f : ℕ → ℕ) (xs : List ℕ) → ((t : ℕ) → f t ≡ 0) → sum_by f xs ≡ 0
-sum_by-zeros f xs zero = omega (arith, sum_by-le f 0 xs (λ k d within. omega (arith, zero (get_or xs k d))))
+sum_by-zeros f xs zeros = omega (arith, sum_by-le f 0 xs (λ k d within. omega (arith, zeros (get_or xs k d))))
 
 -- a range of one number more
 range_with_len_more : (a n j : ℕ) → a + n ≡ j → range_with_len a (suc n) ≡ range_with_len a n ++ j ∷ []
@@ -38,7 +38,7 @@ range_with_len_more a (suc n) j is = ap (λ xs. a ∷ xs) (range_with_len_more (
 -- a sum over one number more that may pass a test
 pub sum_by-filter_more : (f : ℕ → ℕ) (p : ℕ → Bool) (n : ℕ) → sum_by f (filter p (range_with_len 0 (n + 1))) ≡ sum_by f (filter p (range_with_len 0 n)) + cond (p n) (f n) 0
 sum_by-filter_more f p n =
-    let whole : range_with_len 0 (n + 1) ≡ range_with_len 0 n ++ n ∷ [] = ap (range_with_len 0) add-one ∙ range_with_len_more 0 n n (omega arith) in
+    let whole : range_with_len 0 (n + 1) ≡ range_with_len 0 n ++ n ∷ [] = ap (range_with_len 0) (add-one n) ∙ range_with_len_more 0 n n (omega arith) in
     let last : sum_by f (cond (p n) (n ∷ []) []) ≡ cond (p n) (f n) 0 = elim (p n) as (λ b. sum_by f (cond b (n ∷ []) []) ≡ cond b (f n) 0) [ true ↦ omega (arith, sum_by-cons f n []) | false ↦ refl ] in
     rw (whole, filter-append) (sum_by-append f (filter p (range_with_len 0 n)) (cond (p n) (n ∷ []) []) ∙ ap (λ m. sum_by f (filter p (range_with_len 0 n)) + m) last)
 
