@@ -1,5 +1,6 @@
 //! The least cut beside both solvers, on tiny networks.
 
+use crate::laws::constants_are;
 use crate::{MAX_TRIED, least_cut};
 use mm_flow::paths::solve_paths;
 use mm_flow::{Fault, MAX_ARCS, MAX_CAPACITY, Network, Solved, solve};
@@ -50,6 +51,7 @@ fn value_of(rt: &impl Abort, answer: Result<Solved, Fault>) -> Option<u64> {
 
 #[test]
 fn cuts_counted_by_hand(rt: HostRuntime) -> Result<(), Fail> {
+    constants_are();
     let alloc = rt.alloc();
     // No arc leads out of the source.
     assert_eq!(rt; least_capacity(&rt, alloc, 2, &[])?, Some(0));

@@ -6,6 +6,7 @@ mod copying;
 #[cfg(test)]
 mod cut_tests;
 mod cuts;
+pub mod laws;
 #[cfg(test)]
 mod tests;
 mod trying;

@@ -7,6 +7,5 @@ pub mod Linking
 pub mod Marking
 pub mod Pushes
 pub mod Sides
-pub mod Sums
 pub mod Visiting
 pub mod Working

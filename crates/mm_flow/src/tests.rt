@@ -7,6 +7,7 @@ use crate::network::Network;
 use crate::paths::solve_paths;
 use crate::solved::Solved;
 use crate::solver::solve;
+use mm_base::Refused;
 use std::alloc::Global;
 use std::process::Abort;
 use std::test::Fail;
