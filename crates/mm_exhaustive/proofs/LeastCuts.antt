@@ -8,7 +8,8 @@ use Rattle.mm_flow.specs.declared.limits.TheConstants.{MAX_CAPACITY}
 use Rattle.mm_flow.specs.Graph.{Graph, arc, places, IsNetwork}
 use Rattle.mm_flow.specs.Cut.{Side, IsCut, leaves, capacity_of, limit_of}
 use Rattle.mm_exhaustive.specs.LeastCut.{AgreesBelow, IsLeastOver, IsLeastCut, IsCutCapacity, least_of}
-use Rattle.mm_exhaustive.proofs.Sums.{sum_by-filter_more, filter-same, All-range}
+use Rattle.mm_sums.proofs.Sums.{sum_by-filter}
+use Rattle.mm_sums.proofs.RangeSums.{sum_by_filter_range_more, sum_by_range_same}
 
 -- what an arc adds to a side's capacity, where it adds a number
 pub added_some : (b : Bool) (most : Option ℕ) (c : ℕ) → cond b most (Some 0) ≡ Some c → (c ≡ cond b (unwrap_or most 0) 0) × (b ≡ true → IsSome most)
@@ -47,7 +48,7 @@ counted_more g side n total added a network lt counted is adds =
     let adds_here : cond (leaves g side n) (arc g n).capacity (Some 0) ≡ Some added = sym (adds ∙ ap (λ (b : Arc). cond (side b.from && not (side b.to)) b.capacity (Some 0)) is) in
     let parts = added_some (leaves g side n) (arc g n).capacity added adds_here in
     record {
-      total_is = omega (arith, counted.total_is, parts.0, sum_by-filter_more (limit_of g) (leaves g side) n);
+      total_is = omega (arith, counted.total_is, parts.0, sum_by_filter_range_more (leaves g side) (limit_of g) 0 n n (omega arith));
       small = omega (arith, counted.small, parts.0, added_small (leaves g side n) (arc g n).capacity (network.each n lt).capacity);
       limited = λ k less out. elim (cases_eq k n) [
         | inl same ↦ subst (λ (j : ℕ). IsSome (arc g j).capacity) (sym same) (parts.1 (sym (ap (leaves g side) same) ∙ out))
@@ -75,8 +76,9 @@ module _ (g : Graph) (source sink : ℕ) (network : IsNetwork g) (source_lt : so
   capacity_same : capacity_of g cut ≡ capacity_of g side
   unfolding capacity_of
   capacity_same =
-      ap (sum_by (limit_of g)) (filter-same (leaves g cut) (leaves g side) (places g)
-      (All-range (λ k. leaves g cut k ≡ leaves g side k) 0 (length g.arcs) (λ k _ lt. leaves_same k (omega arith))))
+      sum_by-filter (limit_of g) (leaves g cut) (places g)
+      ∙ sum_by_range_same (λ k. cond (leaves g cut k) (limit_of g k) 0) (λ k. cond (leaves g side k) (limit_of g k) 0) 0 (length g.arcs) (λ k _ lt. ap (λ b. cond b (limit_of g k) 0) (leaves_same k (omega arith)))
+      ∙ sym (sum_by-filter (limit_of g) (leaves g side) (places g))
 
   -- if one is a cut, the other is
   cut_same : IsCut g source sink cut → IsCut g source sink side

@@ -1,4 +1,3 @@
-pub mod Sums
 pub mod Alike
 pub mod Tried
 pub mod Nothing
