@@ -125,6 +125,13 @@ IfSome-weaker : (P Q : ℕ → Type 0) (o : Option ℕ) → ((c : ℕ) → P c �
 IfSome-weaker P Q None weaker has = tt
 IfSome-weaker P Q (Some c) weaker has = weaker c has
 
+-- a side agrees at one node more with one that is settled there
+agrees_more : (side settled cut : Side) (n : ℕ) → ((k : ℕ) → k ≢ n → settled k ≡ side k) → cut n ≡ settled n → AgreesBelow side cut n → AgreesBelow settled cut (n + 1)
+agrees_more side settled cut n same here agrees k lt = elim (cases_eq k n) [
+  | inl at ↦ ap cut at ∙ here ∙ ap settled (sym at)
+  | inr ne ↦ agrees k (omega arith) ∙ sym (same k ne)
+]
+
 -- one node more is put on the source's side and off it
 pub least_both : (g : Graph) (source sink : ℕ) (side inside outside : Side) (n : ℕ) (one other : Option ℕ)
     → ((k : ℕ) → k ≢ n → inside k ≡ side k) → inside n ≡ true → ((k : ℕ) → k ≢ n → outside k ≡ side k) → outside n ≡ false
@@ -140,18 +147,8 @@ least_both g source sink side inside outside n one other inside_same on outside_
           (IfSome-weaker InFound Found one (λ c has. (has.0, agrees_in has.0 has.1, has.2, has.3)) least_in.found)
           (IfSome-weaker OutFound Found other (λ c has. (has.0, agrees_out has.0 has.1, has.2, has.3)) least_out.found);
       within = λ cut agrees is_cut. elim (cases_Bool (cut n)) [
-        | inl there ↦
-            let agrees_there : AgreesBelow inside cut (n + 1) = λ k lt. elim (cases_eq k n) [
-              | inl same ↦ ap cut same ∙ there ∙ sym on ∙ ap inside (sym same)
-              | inr ne ↦ agrees k (omega arith) ∙ sym (inside_same k ne)
-            ] in
-            least_of-first one other (capacity_of g cut) (least_in.within cut agrees_there is_cut)
-        | inr away ↦
-            let agrees_away : AgreesBelow outside cut (n + 1) = λ k lt. elim (cases_eq k n) [
-              | inl same ↦ ap cut same ∙ away ∙ sym off ∙ ap outside (sym same)
-              | inr ne ↦ agrees k (omega arith) ∙ sym (outside_same k ne)
-            ] in
-            least_of-second one other (capacity_of g cut) (least_out.within cut agrees_away is_cut)
+        | inl there ↦ least_of-first one other (capacity_of g cut) (least_in.within cut (agrees_more side inside cut n inside_same (there ∙ sym on) agrees) is_cut)
+        | inr away ↦ least_of-second one other (capacity_of g cut) (least_out.within cut (agrees_more side outside cut n outside_same (away ∙ sym off) agrees) is_cut)
       ];
     }
 

@@ -1,6 +1,7 @@
 -- Residual entries, forward and backward.
 use Rattle.std.proofs.Common.{◌≡◌, ℕ, ◌+◌, ◌-◌, ◌^◌, ◌<◌, ◌≤◌, Option, Some, None, length, ap, sym, ◌∙◌, refl, arith, inl, inr, lt-ltb, le-ltb}
 use Rattle.std.proofs.lemmas.Bool.{cases_lt}
+use Rattle.mm_flow.specs.declared.arc.Arc.{Arc}
 use Rattle.mm_flow.specs.declared.limits.TheConstants.{MAX_CAPACITY, MAX_VALUE}
 use Rattle.mm_flow.specs.Graph.{Graph, arc, IsNetwork}
 use Rattle.mm_flow.specs.Flow.{Flow, IsWithin}
@@ -66,30 +67,18 @@ twin-backward : (g : Graph) (e : ℕ) → length g.arcs ≤ e → twin g e ≡ e
 unfolding twin
 twin-backward g e backward = rw (le-ltb e (length g.arcs) backward) refl
 
--- the twin of an entry leaves the node that the entry leads to
-pub tail-twin : (g : Graph) (e : ℕ) → e < entries g → tail g (twin g e) ≡ head g e
-tail-twin g e known =
+-- the twin of an entry leaves the node that the entry leads to, and leads to the node that it leaves
+pub twin_ends : (g : Graph) (e : ℕ) → e < entries g → (tail g (twin g e) ≡ head g e) × (head g (twin g e) ≡ tail g e)
+twin_ends g e known =
     elim (cases_lt e (length g.arcs)) [
       | inl forward ↦
           let is = twin-forward g e forward in
-          let back : twin g e - length g.arcs ≡ e = omega arith in
-          tail-backward g (twin g e) (omega arith) ∙ ap (λ (k : ℕ). (arc g k).to) back ∙ sym (head-forward g e forward)
+          let at = ap (arc g) (let back : twin g e - length g.arcs ≡ e = omega arith in back) in
+          (tail-backward g (twin g e) (omega arith) ∙ ap (λ (a : Arc). a.to) at ∙ sym (head-forward g e forward), head-backward g (twin g e) (omega arith) ∙ ap (λ (a : Arc). a.from) at ∙ sym (tail-forward g e forward))
       | inr backward ↦
           let is = twin-backward g e backward in
-          tail-forward g (twin g e) (omega arith) ∙ ap (λ (k : ℕ). (arc g k).from) is ∙ sym (head-backward g e backward)
-    ]
-
--- the twin of an entry leads to the node that the entry leaves
-pub head-twin : (g : Graph) (e : ℕ) → e < entries g → head g (twin g e) ≡ tail g e
-head-twin g e known =
-    elim (cases_lt e (length g.arcs)) [
-      | inl forward ↦
-          let is = twin-forward g e forward in
-          let back : twin g e - length g.arcs ≡ e = omega arith in
-          head-backward g (twin g e) (omega arith) ∙ ap (λ (k : ℕ). (arc g k).from) back ∙ sym (tail-forward g e forward)
-      | inr backward ↦
-          let is = twin-backward g e backward in
-          head-forward g (twin g e) (omega arith) ∙ ap (λ (k : ℕ). (arc g k).to) is ∙ sym (tail-backward g e backward)
+          let at = ap (arc g) is in
+          (tail-forward g (twin g e) (omega arith) ∙ ap (λ (a : Arc). a.from) at ∙ sym (head-backward g e backward), head-forward g (twin g e) (omega arith) ∙ ap (λ (a : Arc). a.to) at ∙ sym (tail-backward g e backward))
     ]
 
 -- an entry leaves a node of the network

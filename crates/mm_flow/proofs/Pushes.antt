@@ -20,7 +20,7 @@ module _ (g : Graph) (old new : Flow) (i : ℕ) (known : i < length g.arcs) (els
       omega (arith, leaving-sum_by g new n, leaving-sum_by g old n, sum_by_range_changed (λ k. cond (eqb (arc g k).from n) (old k) 0) (λ k. cond (eqb (arc g k).from n) (new k) 0) 0 (length g.arcs) i (omega arith) (omega arith) (λ k _ _ ne. ap (λ x. cond (eqb (arc g k).from n) x 0) (elsewhere k ne)))
 
 -- a choice of a sum
-cond-plus : (b : Bool) (x y z : ℕ) → x + y ≡ z → cond b x 0 + cond b y 0 ≡ cond b z 0
+pub cond-plus : (b : Bool) (x y z : ℕ) → x + y ≡ z → cond b x 0 + cond b y 0 ≡ cond b z 0
 cond-plus true x y z e = e
 cond-plus false x y z e = refl
 

@@ -4,7 +4,7 @@ use Rattle.std.proofs.lemmas.List.{get_or_read}
 use Rattle.mm_flow.specs.declared.search.Mark.{Mark}
 use Rattle.mm_flow.specs.Residual.{residual}
 use Rattle.mm_flow.specs.Marks.{no_mark, mark, level}
-use Rattle.mm_flow.proofs.Entries.{tail-twin, head-twin}
+use Rattle.mm_flow.proofs.Entries.{twin_ends}
 use Rattle.mm_flow.proofs.phase.Phase.leads_up.Goals as goal
 
 pub returns-then-below-height : goal.returns-then-below-height
@@ -16,8 +16,8 @@ returns-then-below-height c = λ some.
     let twin_is = c.twin-back.ensures.twin in
     let read = ap (λ (m : Mark). m.level) (get_or_read marks c.head-from.result c.index.result.now (omega (arith, t.at_work.levelled.size, c.head-from.ensures.known)) c.index.ensures no_mark) in
     let from = ap (level marks) c.head-from.ensures.node in
-    let below = ap (level marks) (tail-twin g e c.requires.known) in
-    let above = ap (level marks) (head-twin g e c.requires.known) in
+    let below = ap (level marks) (twin_ends g e c.requires.known).0 in
+    let above = ap (level marks) (twin_ends g e c.requires.known).1 in
     record {
       known = omega (arith, c.twin-back.ensures.known, twin_is);
       marked = omega (arith, c.if-below-height.true.0, read, from, below);

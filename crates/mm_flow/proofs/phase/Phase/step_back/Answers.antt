@@ -3,7 +3,7 @@ use Rattle.std.proofs.lemmas.List.{length-set}
 use Rattle.mm_flow.specs.Residual.{tail, head}
 use Rattle.mm_flow.specs.Marks.{level}
 use Rattle.mm_flow.specs.Levels.{IsCursors, IsUp}
-use Rattle.mm_flow.proofs.Entries.{tail-twin, head-twin}
+use Rattle.mm_flow.proofs.Entries.{twin_ends}
 use Rattle.mm_flow.proofs.LevelPaths.{cursors_put}
 use Rattle.mm_flow.proofs.Leading.{lead_known, lead_moved, lead_longer}
 use Rattle.mm_flow.proofs.phase.Phase.step_back.Goals as goal
@@ -53,8 +53,8 @@ returns-clause-leads c =
     let e = c.way_back-cursor.result - 1 in
     let twin_is = c.twin.ensures.twin in
     let back : IsUp g f marks c.twin.result = subst (λ (d : ℕ). IsUp g f marks d) (sym twin_is) up.back in
-    let leaves = ap (tail g) twin_is ∙ tail-twin g e up.known ∙ sym c.head-from.ensures.node in
-    let leads = ap (head g) twin_is ∙ head-twin g e up.known ∙ up.leaves in
+    let leaves = ap (tail g) twin_is ∙ (twin_ends g e up.known).0 ∙ sym c.head-from.ensures.node in
+    let leads = ap (head g) twin_is ∙ (twin_ends g e up.known).1 ∙ up.leaves in
     lead_longer g f t.sink marks p.next.items p.ahead.items c.args.at c.way_back-cursor.result c.twin.result c.head-from.result c.requires.leads back leaves leads
     (omega arith) (omega (arith, lead_known p c.args.at c.requires.leads, p.cursors.size)) (omega (arith, c.head-from.ensures.known, p.places))
 
@@ -65,6 +65,6 @@ returns-clause-lower c =
     let marks = t.search.marks.items in
     let up = c.way_back-cursor.ensures.leads (omega arith) in
     let e = c.way_back-cursor.result - 1 in
-    let from = ap (level marks) (tail-twin g e up.known ∙ sym c.head-from.ensures.node) in
-    let to = ap (level marks) (head-twin g e up.known ∙ up.leaves) in
+    let from = ap (level marks) ((twin_ends g e up.known).0 ∙ sym c.head-from.ensures.node) in
+    let to = ap (level marks) ((twin_ends g e up.known).1 ∙ up.leaves) in
     omega (arith, up.back.up, from, to)
