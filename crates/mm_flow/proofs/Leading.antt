@@ -1,5 +1,5 @@
 -- Paths that lead up to the sink.
-use Rattle.std.proofs.Common.{◌≡◌, ◌≢◌, ℕ, zero, suc, ◌+◌, ◌*◌, ◌<◌, ◌≤◌, List, get_or, mul_comm, slice_index, slice_set, length, ap, sym, ◌∙◌, refl, subst, arith}
+use Rattle.std.proofs.Common.{◌≡◌, ◌≢◌, ℕ, zero, suc, ◌+◌, ◌*◌, ◌<◌, ◌≤◌, List, get_or, mul_comm, slice_index, slice_set, length, ap, sym, refl, subst, arith}
 use Rattle.std.proofs.lemmas.List.{get_or-set_same, get_or-set_other, get_or_read}
 use Rattle.std.proofs.lemmas.Nat.{mul-add-lt}
 use Rattle.mm_flow.specs.declared.search.Mark.{Mark}
@@ -56,8 +56,8 @@ module _ (g : Graph) (f : Flow) (sink : ℕ) where
   lead_moved marks next ahead n cursor (steps, lead) = (
     steps,
     lead_kept marks marks next (slice_set next n cursor) ahead ahead steps n (λ m. refl)
-    (λ m up. get_or-set_other next n m cursor 0 (λ same. absurd (omega (arith, ap (level marks) same))))
-    (λ m up. refl) lead,
+        (λ m up. get_or-set_other next n m cursor 0 (λ same. absurd (omega (arith, ap (level marks) same))))
+        (λ m up. refl) lead,
   )
 
   -- a way up begins one entry before

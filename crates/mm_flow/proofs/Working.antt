@@ -1,5 +1,5 @@
 -- A solver at work, from its first search to its last.
-use Rattle.std.proofs.Common.{◌≡◌, ℕ, ◌+◌, ◌<◌, ◌≤◌, List, length, slice_index, sym, ◌∙◌, subst, arith}
+use Rattle.std.proofs.Common.{◌≡◌, ℕ, ◌≤◌, List, length, slice_index, sym, ◌∙◌, subst, arith}
 use Rattle.mm_flow.specs.declared.limits.TheConstants.{MAX_VALUE}
 use Rattle.mm_flow.specs.declared.links.Links.{Links}
 use Rattle.mm_flow.specs.declared.search.Search.{Search}

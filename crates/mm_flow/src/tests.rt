@@ -1,7 +1,9 @@
 //! Networks with values from a textbook or counted by hand.
 
 use crate::fault::Fault;
-use crate::laws::{constants_are, net_flow_is_the_value, solution_is_best, value_is_within_each_cut};
+use crate::laws::{
+    constants_are, net_flow_is_the_value, solution_is_best, value_is_within_each_cut,
+};
 use crate::limits::{MAX_ARCS, MAX_CAPACITY, MAX_NODES};
 use crate::network::Network;
 use crate::paths::solve_paths;

@@ -1,5 +1,5 @@
-use Rattle.std.proofs.Common.{◌≡◌, ◌<◌, ap, sym, ◌∙◌, arith}
-use Rattle.std.proofs.lemmas.List.{get_or_read, length-set}
+use Rattle.std.proofs.Common.{◌<◌, ap, sym, ◌∙◌, arith}
+use Rattle.std.proofs.lemmas.List.{get_or_read}
 use Rattle.mm_flow.specs.declared.tables.Tables.{Tables}
 use Rattle.mm_flow.specs.Graph.{Graph}
 use Rattle.mm_flow.proofs.LevelPaths.{cursors_put}

@@ -1,9 +1,9 @@
-use Rattle.std.proofs.Common.{List, ℕ, slice_index, ap, ◌∙◌, arith}
+use Rattle.std.proofs.Common.{List, ℕ, slice_index, ap, arith}
 use Rattle.std.proofs.lemmas.Bool.{ltb-true}
 use Rattle.std.proofs.lemmas.List.{get_or_read}
 use Rattle.mm_flow.specs.declared.search.Mark.{Mark}
 use Rattle.mm_flow.specs.Residual.{residual}
-use Rattle.mm_flow.specs.Marks.{no_mark, mark, level}
+use Rattle.mm_flow.specs.Marks.{no_mark, level}
 use Rattle.mm_flow.proofs.Entries.{twin_ends}
 use Rattle.mm_flow.proofs.phase.Phase.leads_up.Goals as goal
 

@@ -1,7 +1,7 @@
-use Rattle.std.proofs.Common.{◌≡◌, ℕ, ◌+◌, ◌-◌, ◌<◌, slice_index, ap, sym, ◌∙◌, arith}
+use Rattle.std.proofs.Common.{◌≡◌, ◌-◌, ◌<◌, slice_index, ap, sym, ◌∙◌, arith}
 use Rattle.std.proofs.lemmas.List.{get_or_read}
 use Rattle.mm_flow.specs.declared.search.Mark.{Mark}
-use Rattle.mm_flow.specs.Residual.{entries, tail}
+use Rattle.mm_flow.specs.Residual.{entries}
 use Rattle.mm_flow.specs.Marks.{no_mark, level}
 use Rattle.mm_flow.proofs.LevelPaths.{cursor_before}
 use Rattle.mm_flow.proofs.Visiting.{next_smaller}

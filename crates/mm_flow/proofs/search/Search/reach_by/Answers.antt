@@ -1,8 +1,8 @@
-use Rattle.std.proofs.Common.{◌≡◌, ◌≢◌, ℕ, suc, slice_index, slice_set, ap, sym, ◌∙◌, refl, subst, arith}
+use Rattle.std.proofs.Common.{◌≡◌, ◌≢◌, ℕ, suc, slice_index, slice_set, ap, sym, ◌∙◌, refl, arith}
 use Rattle.std.proofs.lemmas.List.{get_or_read, get_or-set_same, get_or-set_other}
 use Rattle.mm_flow.specs.declared.search.Mark.{Mark}
 use Rattle.mm_flow.specs.Residual.{tail, head}
-use Rattle.mm_flow.specs.Marks.{no_mark, mark, IsReachedFrom}
+use Rattle.mm_flow.specs.Marks.{no_mark, mark}
 use Rattle.mm_flow.proofs.LevelPaths.{path_taken}
 use Rattle.mm_flow.proofs.Marking.{IsReached-from}
 use Rattle.mm_flow.proofs.search.Search.reach_by.Goals as goal

@@ -1,7 +1,5 @@
-use Rattle.std.proofs.Common.{◌≡◌, ℕ, ◌+◌, List, slice_index, subst, sym, ap, arith}
-use Rattle.std.specs.Vec.{with_items}
+use Rattle.std.proofs.Common.{ℕ, ◌+◌, List, subst, sym, arith}
 use Rattle.std.proofs.lemmas.List.{with_items_is}
-use Rattle.mm_flow.specs.declared.limits.TheConstants.{MAX_VALUE}
 use Rattle.mm_flow.specs.Tables.{IsAtWork}
 use Rattle.mm_flow.proofs.Working.{value_small, flow_small, work_more}
 use Rattle.mm_flow.proofs.tables.Tables.augment.Goals as goal
@@ -31,5 +29,5 @@ invariant_of-self c =
     let more = t.value + c.augment-amount.result in
     record {
       at_work = subst (λ (flow : List ℕ). IsAtWork t.network.now.graph t.sink t.links t.search flow more) (sym written)
-      (work_more t.network.now.graph t.sink t.links t.search c.deref_mut.result.now t.value work c.augment-amount.new.flow more (omega (arith, c.augment-amount.auto.flow, work.arcs)) (c.augment-amount.ensures.augmented t.value work.augmented));
+          (work_more t.network.now.graph t.sink t.links t.search c.deref_mut.result.now t.value work c.augment-amount.new.flow more (omega (arith, c.augment-amount.auto.flow, work.arcs)) (c.augment-amount.ensures.augmented t.value work.augmented));
     }
