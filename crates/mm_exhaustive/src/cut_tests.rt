@@ -1,4 +1,5 @@
 //! The least cut beside both solvers, on tiny networks.
+ghost use Rattle.std.specs.Prelude.{◌<◌};
 
 use crate::laws::constants_are;
 use crate::{MAX_TRIED, least_cut};
