@@ -49,7 +49,10 @@ fn cuts_counted_by_hand(rt: HostRuntime) -> Result<(), Fail> {
     assert_eq!(rt; least_capacity(&rt, alloc, 2, &[])?, Some(0));
     // An unlimited arc leaves each side without node 2, so the cut is 4 out of node 2 and 1 out of the source.
     let behind_an_unlimited_arc = [(0, 2, None), (2, 1, Some(4)), (0, 1, Some(1))];
-    assert_eq!(rt; least_capacity(&rt, alloc, 3, &behind_an_unlimited_arc)?, Some(5));
+    assert_eq!(rt;
+        least_capacity(&rt, alloc, 3, &behind_an_unlimited_arc)?,
+        Some(5)
+    );
     // Arcs into the side do not count: 3 out of the source, and not the 9 back into it.
     let into_the_side = [(0, 2, Some(3)), (2, 0, Some(9)), (2, 1, Some(8))];
     assert_eq!(rt; least_capacity(&rt, alloc, 3, &into_the_side)?, Some(3));
