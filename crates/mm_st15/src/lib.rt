@@ -13,6 +13,7 @@ mod report_kind;
 mod request;
 mod request_kind;
 mod service;
+mod table;
 
 pub use entries::Entries;
 pub use fault::{Fault, NoMemory};
