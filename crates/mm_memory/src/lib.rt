@@ -12,6 +12,7 @@ mod places;
 mod reports;
 mod request;
 mod setup;
+mod testing;
 
 pub use answer::{Answer, Answers};
 pub use fault::{Fault, NoMemory};

@@ -8,8 +8,8 @@ ghost use Rattle.mm_memory.specs.Reports.{status_of, types_to, summary_of, statu
 
 use crate::fault::NoMemory;
 use crate::held::Held;
-use crate::instruction::id_of;
 use crate::memory::Memory;
+use crate::testing::id_of;
 use mm_problem::StoreId;
 use mm_st15::{Configuration, Entries, Report, Request, Row, Status, Summary, Target};
 use mm_store::PacketStore;
