@@ -6,7 +6,7 @@ mod rounds;
 
 use anyhow::Result;
 use form::Form;
-use mm_problem::Kind;
+use mm_base::Kind;
 use mm_store::{AnyStore, BlockStore, RingStore};
 use rounds::{Report, SIZE, run};
 use std::alloc::Global;

@@ -1,6 +1,6 @@
 //! A store with room for two packets, into which three are put.
 ghost use Rattle.std.specs.Prelude.{◌≡◌, IfOk};
-ghost use Rattle.mm_problem.specs.declared.kind.Kind.TheVariants.{Circular, Bounded};
+ghost use Rattle.mm_base.specs.declared.kind.Kind.TheVariants.{Circular, Bounded};
 ghost use Rattle.mm_store.specs.declared.put.Put.TheVariants.{KeptOver, Lost};
 
 use mm_packet::{BlockPacket, NoMemory};

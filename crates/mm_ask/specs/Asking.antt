@@ -1,7 +1,7 @@
 -- A whole conversation, from the setup and the lines.
 use Rattle.std.specs.Prelude.{◌≡◌, ℕ, ◌+◌, ◌==◌, List, [], ◌∷◌, Ok, Err}
 use Rattle.mm_problem.specs.Document.{setup_of}
-use Rattle.mm_problem.specs.Lines.{text_lines}
+use Rattle.mm_base.specs.Lines.{text_lines}
 use Rattle.mm_problem.specs.Setup.{SetupRows}
 use Rattle.mm_memory.specs.Holdings.{memory_of}
 use Rattle.mm_ask.specs.declared.answering.Outcome.{Outcome}

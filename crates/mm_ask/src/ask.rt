@@ -2,7 +2,7 @@
 ghost use Rattle.std.specs.Prelude.{◌≡◌, IfOk, IfErr, OnOk};
 ghost use Rattle.mm_ask.specs.Answering.{opened};
 ghost use Rattle.mm_ask.specs.Asking.{Answers, Converses, IsSetupFault, Passes};
-ghost use Rattle.mm_problem.specs.Lines.{text_lines};
+ghost use Rattle.mm_base.specs.Lines.{text_lines};
 
 use crate::answering::{Conversation, Outcome};
 use crate::fault::{Fault, NoMemory};

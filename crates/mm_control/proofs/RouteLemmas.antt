@@ -13,8 +13,8 @@ use Rattle.std.proofs.lemmas.List.Elements.{All-append, All-cons, All-head, All-
 use Rattle.std.proofs.lemmas.List.Folds.{list_any-append, list_any_none}
 use Rattle.std.proofs.lemmas.List.Kept.{AllPairs-cons, AllPairs-filter}
 use Rattle.std.proofs.lemmas.Map.Views.{any-filter_same}
-use Rattle.mm_problem.specs.declared.rows.RouteRow.{RouteRow}
-use Rattle.mm_problem.specs.Tables.{same_route}
+use Rattle.mm_base.specs.declared.rows.RouteRow.{RouteRow}
+use Rattle.mm_base.specs.SameRoutes.{same_route}
 use Rattle.mm_control.specs.Routes.{row_cmp, is_before, IsInOrder, has_row, with_row, without_row, Stands, WouldStand}
 use Rattle.mm_control.specs.Laws.{AddsOne, DeletesOne}
 use Rattle.mm_control.proofs.OrderLemmas.{row_cmp_total, row_cmp_same, IsBeside, beside, same_route-sym, same_route-true}

@@ -1,7 +1,7 @@
 -- Laws of the storage control.
 use Rattle.std.specs.Prelude.{◌≡◌, not, ◌&&◌, ◌||◌, List}
-use Rattle.mm_problem.specs.declared.rows.RouteRow.{RouteRow}
-use Rattle.mm_problem.specs.Tables.{same_route}
+use Rattle.mm_base.specs.declared.rows.RouteRow.{RouteRow}
+use Rattle.mm_base.specs.SameRoutes.{same_route}
 use Rattle.mm_control.specs.Routes.{IsInOrder, has_row, with_row, without_row}
 
 -- an addition adds its row and no other, and keeps the order

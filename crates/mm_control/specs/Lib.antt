@@ -1,4 +1,4 @@
-pub use Rattle.mm_problem.specs.Tables
+pub use Rattle.mm_base.specs.SameRoutes
 pub mod Fault
 pub mod Routes
 pub mod Laws

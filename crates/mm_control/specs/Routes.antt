@@ -5,9 +5,9 @@ use Rattle.std.specs.Ordering.{nat_cmp, ordering_then, is_lt}
 use Rattle.std.specs.Cmp.Lexicographic.{slice_cmp}
 use Rattle.std.specs.declared.cmp.Ordering.{Ordering}
 use Rattle.std.specs.declared.cmp.Ordering.TheVariants.{Less}
-use Rattle.mm_problem.specs.declared.limits.TheConstants.{MAX_ROUTES}
-use Rattle.mm_problem.specs.declared.rows.RouteRow.{RouteRow}
-use Rattle.mm_problem.specs.Tables.{same_route}
+use Rattle.mm_base.specs.declared.limits.TheConstants.{MAX_ROUTES}
+use Rattle.mm_base.specs.declared.rows.RouteRow.{RouteRow}
+use Rattle.mm_base.specs.SameRoutes.{same_route}
 
 -- the order of rows: by APID, service and subtype, and then by the store's identifier
 abbrev pub row_cmp : RouteRow → RouteRow → Ordering

@@ -4,7 +4,7 @@ ghost use Rattle.mm_control.specs.Routes.{IsInOrder, IsTable, Stands, WouldStand
 ghost use Rattle.mm_control.specs.declared.fault.Fault.TheVariants.{NoSuchRoute, TableFull};
 
 use crate::fault::{Fault, NoMemory};
-use mm_problem::{MAX_ROUTES, RouteRow, StoreId};
+use mm_base::{MAX_ROUTES, RouteRow, StoreId};
 use std::alloc::Global;
 use std::marker::Model;
 
@@ -17,8 +17,8 @@ pub struct ControlTable {
 
 impl Model for ControlTable {
     ghost use Rattle.std.specs.Prelude.{List, ◌≤◌, vec_capacity};
-    ghost use Rattle.mm_problem.specs.declared.limits.TheConstants.{MAX_ROUTES};
-    ghost use Rattle.mm_problem.specs.declared.rows.RouteRow.{RouteRow};
+    ghost use Rattle.mm_base.specs.declared.limits.TheConstants.{MAX_ROUTES};
+    ghost use Rattle.mm_base.specs.declared.rows.RouteRow.{RouteRow};
     ghost use Rattle.mm_control.specs.Routes.{IsTable};
 
     ghost Value = { List RouteRow };

@@ -1,7 +1,7 @@
 //! The bound of a cut.
 ghost use Rattle.std.specs.Prelude.{◌≡◌, ◌+◌, ◌*◌, ◌≤◌, length, All};
 ghost use Rattle.std.specs.List.{sum_by};
-ghost use Rattle.mm_problem.specs.declared.limits.TheConstants.{MAX_STORES, MAX_STEPS, MAX_BLOCKS, CHANNELS};
+ghost use Rattle.mm_base.specs.declared.limits.TheConstants.{MAX_STORES, MAX_STEPS, MAX_BLOCKS, CHANNELS};
 ghost use Rattle.mm_problem.specs.Dumping.{IsDumping};
 ghost use Rattle.mm_cut.specs.Stretches.{is_inner_on, IsStretch};
 ghost use Rattle.mm_cut.specs.Cuts.{opening, coming, held, limit_sum, leaving, leaving_sum, IsCut, bound};

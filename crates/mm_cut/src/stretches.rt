@@ -1,6 +1,6 @@
 //! The stretches of a cut.
 ghost use Rattle.std.specs.Prelude.{◌≡◌, ◌<◌, ◌≤◌, ◌↔◌, length, All, IsTrue, IsNone, IfSome};
-ghost use Rattle.mm_problem.specs.declared.limits.TheConstants.{MAX_CHANNEL};
+ghost use Rattle.mm_base.specs.declared.limits.TheConstants.{MAX_CHANNEL};
 ghost use Rattle.mm_cut.specs.Stretches.{store_of, channel_of, covers, goes_past, IsStretch, AreApart, IsStretchAfter, AreStretches};
 ghost use Rattle.mm_cut.specs.FirstBad.{IsFirstBad};
 

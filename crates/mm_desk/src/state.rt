@@ -7,7 +7,7 @@ use crate::event::Event;
 use crate::fault::Fault;
 use crate::reply::{Offered, Reply, Returned, answer_of, handed_back};
 use mm_packet::BlockPacket;
-use mm_problem::{Kind, MAX_BLOCKS};
+use mm_base::{Kind, MAX_BLOCKS};
 use mm_store::laws::stores_lose_alike;
 use mm_store::{AnyStore, PacketStore};
 use std::marker::Model;

@@ -9,8 +9,8 @@ use Rattle.std.proofs.lemmas.List.Kept.{AllPairs-filter}
 use Rattle.std.proofs.lemmas.List.Quantifiers.{all_pairs_push}
 use Rattle.std.proofs.lemmas.List.Sums.{length-filter, count_by-le-length}
 use Rattle.std.proofs.lemmas.Option.{get_or_from_slice_get, none-some}
-use Rattle.mm_problem.specs.declared.limits.TheConstants.{MAX_STORES}
-use Rattle.mm_problem.specs.declared.rows.RouteRow.{RouteRow}
+use Rattle.mm_base.specs.declared.limits.TheConstants.{MAX_STORES}
+use Rattle.mm_base.specs.declared.rows.RouteRow.{RouteRow}
 use Rattle.mm_memory.specs.declared.answer.Answer.{Answer}
 use Rattle.mm_memory.specs.declared.fault.Fault.TheVariants.{NoMemory}
 use Rattle.mm_memory.specs.declared.held.Held.{Held}

@@ -5,7 +5,7 @@ use Rattle.std.specs.Prelude.{IsTrue}
 use Rattle.std.specs.List.{list_all}
 use Rattle.std.proofs.lemmas.Bool.Decides.{nat_tests, Decides-and, Decides-by_and, Decides-like}
 use Rattle.std.proofs.lemmas.Slice.Eq.{bytes_eq-Decides}
-use Rattle.mm_problem.specs.Id.{is_id_char, is_id_text, id_text, field_of, IsIdText, IsIdField}
+use Rattle.mm_base.specs.Id.{is_id_char, is_id_text, id_text, field_of, IsIdText, IsIdField}
 use Rattle.mm_memory.specs.Instruction.{is_id}
 
 -- the test of an order

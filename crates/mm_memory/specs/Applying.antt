@@ -1,7 +1,7 @@
 -- Applying an instruction, and a request, which is its instructions in order.
 use Rattle.std.specs.Prelude.{◌≡◌, ◌⊎◌, ℕ, Bool, not, nat_lt, if◌then◌else◌, List, [], ◌∷◌, ◌++◌, length, filter, Option, Some, None, Ok, Err}
-use Rattle.mm_problem.specs.declared.limits.TheConstants.{MAX_STORES}
-use Rattle.mm_problem.specs.declared.rows.RouteRow.{RouteRow}
+use Rattle.mm_base.specs.declared.limits.TheConstants.{MAX_STORES}
+use Rattle.mm_base.specs.declared.rows.RouteRow.{RouteRow}
 use Rattle.mm_store.specs.Content.{empty_store}
 use Rattle.mm_control.specs.declared.fault.Fault.TheVariants.{NoSuchRoute, TableFull}
 use Rattle.mm_control.specs.Routes.{has_row, takes, with_row, without_row, without_store}

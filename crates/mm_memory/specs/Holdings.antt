@@ -1,9 +1,9 @@
 -- A mass memory: its named packet stores in order, and the rows of its storage control.
 use Rattle.std.specs.Prelude.{◌≡◌, ◌≢◌, ◌<◌, ◌≤◌, ℕ, Bool, if◌then◌else◌, List, [], length, map, find, fold, slice_get, bytes_eq, AllPairs, Option}
 use Rattle.std.specs.Option.{option_map}
-use Rattle.mm_problem.specs.declared.limits.TheConstants.{MAX_STORES}
-use Rattle.mm_problem.specs.declared.rows.RouteRow.{RouteRow}
-use Rattle.mm_problem.specs.declared.rows.StoreRow.{StoreRow}
+use Rattle.mm_base.specs.declared.limits.TheConstants.{MAX_STORES}
+use Rattle.mm_base.specs.declared.rows.RouteRow.{RouteRow}
+use Rattle.mm_base.specs.declared.rows.StoreRow.{StoreRow}
 use Rattle.mm_problem.specs.Setup.{SetupRows}
 use Rattle.mm_store.specs.Content.{empty_store}
 use Rattle.mm_control.specs.Routes.{with_row}

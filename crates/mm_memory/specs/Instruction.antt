@@ -1,9 +1,9 @@
 -- The instructions of a request, one by one, and the tests of their fields.
 use Rattle.std.specs.Prelude.{ℕ, Bool, nat_lt, ◌==◌, ◌&&◌, ◌||◌, if◌then◌else◌, List, [], map, bytes_eq, Result, Ok, Err}
-use Rattle.mm_problem.specs.declared.kind.Kind.{Kind}
-use Rattle.mm_problem.specs.declared.kind.Kind.TheVariants.{Circular, Bounded}
-use Rattle.mm_problem.specs.declared.limits.TheConstants.{MAX_APID, MAX_BLOCKS, MAX_CHANNEL}
-use Rattle.mm_problem.specs.Id.{is_id_text, id_text, field_of}
+use Rattle.mm_base.specs.declared.kind.Kind.{Kind}
+use Rattle.mm_base.specs.declared.kind.Kind.TheVariants.{Circular, Bounded}
+use Rattle.mm_base.specs.declared.limits.TheConstants.{MAX_APID, MAX_BLOCKS, MAX_CHANNEL}
+use Rattle.mm_base.specs.Id.{is_id_text, id_text, field_of}
 use Rattle.mm_st15.specs.declared.instruction.Target.{Target}
 use Rattle.mm_st15.specs.declared.instruction.ReportType.{ReportType}
 use Rattle.mm_st15.specs.declared.instruction.TimeRange.{TimeRange}

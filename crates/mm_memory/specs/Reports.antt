@@ -1,7 +1,7 @@
 -- The reports that answer a request, by the memory that it finds. A request that is answered by reports changes nothing.
 use Rattle.std.specs.Prelude.{ℕ, Bool, if◌then◌else◌, List, [], ◌∷◌, length, map, filter, filter_map, Option, None, is_some, option_map}
-use Rattle.mm_problem.specs.declared.rows.RouteRow.{RouteRow}
-use Rattle.mm_problem.specs.Kind.{code_of}
+use Rattle.mm_base.specs.declared.rows.RouteRow.{RouteRow}
+use Rattle.mm_base.specs.Kind.{code_of}
 use Rattle.mm_store.specs.Content.{oldest, newest}
 use Rattle.mm_control.specs.Routes.{is_to}
 use Rattle.mm_st15.specs.declared.instruction.Configuration.{Configuration}

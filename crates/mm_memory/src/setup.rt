@@ -1,7 +1,7 @@
 //! The stores and the routes of a setup.
 ghost use Rattle.std.specs.Prelude.{◌≡◌, ◌≤◌, length, map, All, IfOk};
 ghost use Rattle.mm_problem.specs.Setup.{IsStoreRow};
-ghost use Rattle.mm_problem.specs.declared.limits.TheConstants.{MAX_ROUTES};
+ghost use Rattle.mm_base.specs.declared.limits.TheConstants.{MAX_ROUTES};
 ghost use Rattle.mm_memory.specs.Holdings.{opened, table_of};
 
 use crate::fault::NoMemory;

@@ -7,9 +7,9 @@ use Rattle.std.proofs.lemmas.Bool.Decides.{nat_tests}
 use Rattle.std.proofs.lemmas.List.{length-replicate, length-map, map-append}
 use Rattle.std.proofs.lemmas.List.Elements.{All-nil, All-cons, All-replicate}
 use Rattle.std.proofs.lemmas.List.Sums.{AllPass-from_list_all}
-use Rattle.mm_problem.specs.declared.limits.TheConstants.{MAX_BLOCKS}
-use Rattle.mm_problem.specs.Id.{is_id_char, IsIdField, field_of}
-use Rattle.mm_problem.proofs.IdFields.{field_of-IsIdField}
+use Rattle.mm_base.specs.declared.limits.TheConstants.{MAX_BLOCKS}
+use Rattle.mm_base.specs.Id.{is_id_char, IsIdField, field_of}
+use Rattle.mm_base.proofs.IdFields.{field_of-IsIdField}
 use Rattle.mm_plan.specs.declared.stretch.TheConstants.{MAX_COUNTS}
 use Rattle.mm_plan.specs.declared.draft.Stage.{Stage}
 use Rattle.mm_plan.specs.declared.draft.Stage.TheVariants.{ToTitle, ToStores, ToDumps, ToCut, ToEnd, Done}

@@ -6,8 +6,8 @@ use Rattle.std.proofs.lemmas.Bool.{and_parts}
 use Rattle.std.proofs.lemmas.Bool.Decides.{nat_tests}
 use Rattle.std.proofs.lemmas.List.Sums.{AllPass-from_list_all, list_all-from_AllPass}
 use Rattle.std.proofs.lemmas.Option.{cond_some}
-use Rattle.mm_problem.specs.Id.{is_id_char, IsIdText, IsIdField, field_of, id_text}
-use Rattle.mm_problem.proofs.IdFields.{id_text-field_of, field_of-IsIdField}
+use Rattle.mm_base.specs.Id.{is_id_char, IsIdText, IsIdField, field_of, id_text}
+use Rattle.mm_base.proofs.IdFields.{id_text-field_of, field_of-IsIdField}
 use Rattle.mm_plan.specs.Reading.{is_id_text, read_id}
 
 -- the text of an identifier passes the test

@@ -10,8 +10,8 @@ use Rattle.std.proofs.lemmas.List.{length-map, take_all}
 use Rattle.std.proofs.lemmas.List.Elements.{All-from_recursion, All-nil, All-cons, All-head, All-tail, All-map, All-weaker}
 use Rattle.std.proofs.lemmas.List.Splits.{join_with_byte-slice_split}
 use Rattle.std.proofs.lemmas.Option.{same_Some, option_and_then_some}
-use Rattle.mm_problem.specs.declared.limits.TheConstants.{MAX_STORES, MAX_STEPS, MAX_BLOCKS}
-use Rattle.mm_problem.specs.Id.{IsIdField, id_text}
+use Rattle.mm_base.specs.declared.limits.TheConstants.{MAX_STORES, MAX_STEPS, MAX_BLOCKS}
+use Rattle.mm_base.specs.Id.{IsIdField, id_text}
 use Rattle.mm_plan.specs.Reading.{number_to}
 use Rattle.mm_plan.specs.Sheet.{Line, title_line, stores_line, dump_line, loss_line, stretch_line, count_line, bound_line, end_line, words, line_text, IsWritten}
 use Rattle.mm_plan.specs.Reading.{MAX_U32, MAX_U64, line_words, read_id, read_bound, read_each, read_row, stretch_of, read_title, read_stores, read_dump, read_loss, read_stretch, read_count, read_bound_line, read_end, read_words, read_line}

@@ -10,9 +10,9 @@ use Rattle.std.proofs.lemmas.Bool.Decides.{nat_tests, eqb_tells}
 use Rattle.std.proofs.lemmas.Option.{same_Some, option_and_then_some}
 use Rattle.std.proofs.lemmas.Str.Parse.{IsNumeralModel, numerals_by_fold}
 use Rattle.std.proofs.lemmas.Fmt.{digits_decimal, digits_value-decimal, decimal-digits_value, decimal_nonempty, first_decimal, decimal_digit}
-use Rattle.mm_problem.specs.Numbers.{is_number, value_after, numeral_within}
-use Rattle.mm_problem.specs.declared.numbers.Numeral.{Numeral}
-use Rattle.mm_problem.specs.declared.numbers.Numeral.TheVariants.{NotNumber, TooLarge, Number}
+use Rattle.mm_base.specs.Numbers.{is_number, value_after, numeral_within}
+use Rattle.mm_base.specs.declared.numbers.Numeral.{Numeral}
+use Rattle.mm_base.specs.declared.numbers.Numeral.TheVariants.{NotNumber, TooLarge, Number}
 use Rattle.mm_plan.specs.Reading.{number_in, number_to, read_bound, pos_of, negative_of}
 use Rattle.mm_plan.proofs.Options.{none_is_some, cond_else}
 

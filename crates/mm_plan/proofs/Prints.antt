@@ -7,7 +7,7 @@ use Rattle.std.specs.Fn.{Called, ReturnsEach, AlwaysReturns}
 use Rattle.std.specs.List.{join_with_byte}
 use Rattle.std.proofs.lemmas.Bool.Decides.{nat_tests}
 use Rattle.std.proofs.lemmas.List.Sorted.{length_permutation, All-permutation}
-use Rattle.mm_problem.specs.Id.{id_text}
+use Rattle.mm_base.specs.Id.{id_text}
 use Rattle.mm_plan.specs.declared.stretch.Stretch.{Stretch}
 use Rattle.mm_plan.specs.Sheet.{SheetRows, IsSheet, IsWritten, Line, title_line, stores_line, dump_line, loss_line, stretch_line, count_line, bound_line, end_line, line_text, lines_of, sheet_text, dump_lines, has_counts}
 use Rattle.mm_plan.specs.Printing.{AreOrdered, AreRising, IsPrinted, ended, all_ended, spaced, plan_lines}

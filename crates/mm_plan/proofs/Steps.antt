@@ -1,6 +1,6 @@
 -- One step more of a plan's volumes, and what they depend on.
 use Rattle.std.proofs.Common.{◌≡◌, ℕ, zero, suc, ◌+◌, ◌-◌, ◌<◌, ◌≤◌, min, length, refl, sym, ◌∙◌, subst, arith, add-one}
-use Rattle.mm_problem.specs.declared.limits.TheConstants.{MAX_BLOCKS}
+use Rattle.mm_base.specs.declared.limits.TheConstants.{MAX_BLOCKS}
 use Rattle.mm_problem.specs.Dumping.{Dumping, IsDumping, no_row, size, start, arrivals}
 use Rattle.mm_plan.specs.Volumes.{Amounts, left, written, lost}
 

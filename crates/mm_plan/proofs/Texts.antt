@@ -6,7 +6,7 @@ use Rattle.std.proofs.lemmas.List.{take-append-drop, take-append-le, take_all}
 use Rattle.std.proofs.lemmas.List.Elements.{All-nil, All-cons, All-append, All-map, All-weaker}
 use Rattle.std.proofs.lemmas.List.Splits.{join_with_byte-slice_split, length-slice_split}
 use Rattle.std.proofs.lemmas.Option.{same_Some}
-use Rattle.mm_problem.specs.Lines.{text_lines}
+use Rattle.mm_base.specs.Lines.{text_lines}
 use Rattle.mm_plan.specs.declared.draft.Stage.{Stage}
 use Rattle.mm_plan.specs.declared.draft.Stage.TheVariants.{Done}
 use Rattle.mm_plan.specs.Sheet.{SheetRows, IsSheet, lines_of, line_text, sheet_text, Begins, IsFirstBadLine}

@@ -3,11 +3,11 @@ use Rattle.std.specs.Prelude.{ℕ, ◌+◌, ◌-◌, ℤ, pos, negsuc, Bool, tru
 use Rattle.std.specs.List.{list_all, slice_split}
 use Rattle.std.specs.Option.{option_map}
 use Rattle.std.specs.Str.{bytes_eq}
-use Rattle.mm_problem.specs.declared.limits.TheConstants.{MAX_STORES, MAX_STEPS, MAX_BLOCKS}
-use Rattle.mm_problem.specs.Id.{is_id_char, field_of}
-use Rattle.mm_problem.specs.Numbers.{numeral_of}
-use Rattle.mm_problem.specs.declared.numbers.Numeral.{Numeral}
-use Rattle.mm_problem.specs.declared.numbers.Numeral.TheVariants.{NotNumber, TooLarge, Number}
+use Rattle.mm_base.specs.declared.limits.TheConstants.{MAX_STORES, MAX_STEPS, MAX_BLOCKS}
+use Rattle.mm_base.specs.Id.{is_id_char, field_of}
+use Rattle.mm_base.specs.Numbers.{numeral_of}
+use Rattle.mm_base.specs.declared.numbers.Numeral.{Numeral}
+use Rattle.mm_base.specs.declared.numbers.Numeral.TheVariants.{NotNumber, TooLarge, Number}
 use Rattle.mm_plan.specs.declared.stretch.TheConstants.{MAX_STRETCHES, MAX_COUNTS}
 use Rattle.mm_plan.specs.declared.draft.Stage.{Stage}
 use Rattle.mm_plan.specs.declared.draft.Stage.TheVariants.{ToTitle, ToStores, ToDumps, ToCut, ToEnd, Done}

@@ -3,10 +3,10 @@ use Rattle.std.specs.Prelude.{◌≡◌, ◌≢◌, ℕ, zero, suc, ◌+◌, ◌
 use Rattle.std.specs.Fmt.{signed_decimal}
 use Rattle.std.specs.Int.{w64}
 use Rattle.std.specs.List.{join_with_byte}
-use Rattle.mm_problem.specs.declared.limits.TheConstants.{MAX_STORES, MAX_STEPS}
+use Rattle.mm_base.specs.declared.limits.TheConstants.{MAX_STORES, MAX_STEPS}
 use Rattle.mm_problem.specs.Dumping.{Dumping}
-use Rattle.mm_problem.specs.Id.{IsIdField, id_text}
-use Rattle.mm_problem.specs.Lines.{text_lines}
+use Rattle.mm_base.specs.Id.{IsIdField, id_text}
+use Rattle.mm_base.specs.Lines.{text_lines}
 use Rattle.mm_plan.specs.declared.stretch.Stretch.{Stretch}
 use Rattle.mm_plan.specs.declared.stretch.TheConstants.{MAX_STRETCHES, MAX_COUNTS}
 use Rattle.mm_plan.specs.Table.{Table, IsTable}

@@ -1,7 +1,7 @@
 //! Filling a plan, so that no window stays idle that a store could use.
 ghost use Rattle.std.specs.Prelude.{◌≡◌, ℕ, ◌+◌, ◌-◌, ◌<◌, ◌≤◌, length, slice_index, IfOk, ◌⊎◌};
 ghost use Rattle.std.specs.List.{sum_by};
-ghost use Rattle.mm_problem.specs.declared.limits.TheConstants.{MAX_STORES, MAX_BLOCKS};
+ghost use Rattle.mm_base.specs.declared.limits.TheConstants.{MAX_STORES, MAX_BLOCKS};
 ghost use Rattle.mm_problem.specs.Dumping.{start, stores, window, channel};
 ghost use Rattle.mm_plan.specs.Table.{amount, HasShape, ChangesAmount};
 ghost use Rattle.mm_plan.specs.Fit.{in_step, FitsAt, Fits};

@@ -1,7 +1,7 @@
 //! Whether a plan fits the pass windows and the limits of the channels.
 ghost use Rattle.std.specs.Prelude.{◌≡◌, ℕ, ◌≤◌, ◌↔◌, length, IsTrue, IsOk, IfErr};
 ghost use Rattle.std.specs.List.{sum_by};
-ghost use Rattle.mm_problem.specs.declared.limits.TheConstants.{MAX_STORES, MAX_BLOCKS};
+ghost use Rattle.mm_base.specs.declared.limits.TheConstants.{MAX_STORES, MAX_BLOCKS};
 ghost use Rattle.mm_problem.specs.Dumping.{stores, stores_of};
 ghost use Rattle.mm_plan.specs.Table.{amount, HasShape};
 ghost use Rattle.mm_plan.specs.Fit.{in_step, FitsAt, Fits, FitsLimit, IsFirstMisfit};

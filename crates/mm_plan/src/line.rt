@@ -1,7 +1,7 @@
 //! The lines of a plan text.
 ghost use Rattle.std.specs.Prelude.{◌≡◌, ◌≤◌, map, drop, IfOk, length};
 ghost use Rattle.std.specs.Option.{option_map};
-ghost use Rattle.mm_problem.specs.declared.limits.TheConstants.{MAX_STORES, MAX_BLOCKS};
+ghost use Rattle.mm_base.specs.declared.limits.TheConstants.{MAX_STORES, MAX_BLOCKS};
 ghost use Rattle.mm_plan.specs.Reading.{number_to, read_id, read_row, read_title, read_stores, read_dump, read_loss, read_stretch, read_count, read_bound_line, read_end, read_words, read_line};
 ghost use Rattle.mm_plan.specs.Seen.{seen};
 

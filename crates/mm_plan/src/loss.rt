@@ -1,6 +1,6 @@
 //! What a plan loses.
 ghost use Rattle.std.specs.Prelude.{◌≡◌, ◌+◌, ◌*◌, ◌<◌, ◌≤◌, length};
-ghost use Rattle.mm_problem.specs.declared.limits.TheConstants.{MAX_STORES, MAX_STEPS, MAX_BLOCKS};
+ghost use Rattle.mm_base.specs.declared.limits.TheConstants.{MAX_STORES, MAX_STEPS, MAX_BLOCKS};
 ghost use Rattle.mm_problem.specs.Dumping.{Dumping};
 ghost use Rattle.mm_plan.specs.Table.{amount, HasShape};
 ghost use Rattle.mm_plan.specs.Volumes.{store_loss, loss};

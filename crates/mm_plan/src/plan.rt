@@ -1,6 +1,6 @@
 //! A dump plan: for each step and store, how many blocks are to be sent down.
 ghost use Rattle.std.specs.Prelude.{◌≡◌, ◌≤◌, ◌↔◌, All, IsTrue, IfOk};
-ghost use Rattle.mm_problem.specs.declared.limits.TheConstants.{MAX_BLOCKS};
+ghost use Rattle.mm_base.specs.declared.limits.TheConstants.{MAX_BLOCKS};
 ghost use Rattle.mm_plan.specs.Table.{amount, HasShape, IsPlace, IsTable, ChangesAmount};
 
 use crate::fault::NoMemory;

@@ -1,7 +1,7 @@
 //! The lines of a plan text, as they are printed.
 ghost use Rattle.std.specs.Prelude.{◌≡◌, ◌-◌, ◌*◌, ◌+◌, ◌<◌, ◌++◌, ◌∷◌, [], length, map, decimal, codes, IfOk, OnOk};
 ghost use Rattle.std.specs.Fmt.{signed_decimal};
-ghost use Rattle.mm_problem.specs.Id.{id_text};
+ghost use Rattle.mm_base.specs.Id.{id_text};
 ghost use Rattle.mm_plan.specs.Sheet.{title_line, stores_line, dump_line, loss_line, stretch_line, count_line, bound_line, end_line, dump_lines};
 ghost use Rattle.mm_plan.specs.Printing.{place_of, stretch_key, AreOrdered, AreRising, ended, all_ended, spaced, plan_lines};
 

@@ -1,6 +1,6 @@
 //! What a plan does to the stores, step by step.
 ghost use Rattle.std.specs.Prelude.{◌≡◌, ◌+◌, ◌-◌, ◌*◌, ◌<◌, ◌≤◌, length, IfOk, OnOk};
-ghost use Rattle.mm_problem.specs.declared.limits.TheConstants.{MAX_BLOCKS};
+ghost use Rattle.mm_base.specs.declared.limits.TheConstants.{MAX_BLOCKS};
 ghost use Rattle.mm_plan.specs.Table.{amount, HasShape};
 ghost use Rattle.mm_plan.specs.Volumes.{written, left, lost, loss};
 ghost use Rattle.mm_plan.specs.Simulated.{written_in, left_in, lost_in, IsVolumePlace, CoversProblem, AgreeEach};

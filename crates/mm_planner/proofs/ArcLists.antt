@@ -9,7 +9,7 @@ use Rattle.mm_flow.specs.declared.arc.Arc.{Arc}
 use Rattle.mm_flow.specs.Graph.{Graph}
 use Rattle.mm_flow.specs.Built.{Built, with_arc}
 use Rattle.mm_flow.specs.declared.limits.TheConstants.{MAX_ARCS}
-use Rattle.mm_problem.specs.declared.limits.TheConstants.{MAX_STORES}
+use Rattle.mm_base.specs.declared.limits.TheConstants.{MAX_STORES}
 use Rattle.mm_problem.specs.Dumping.{Dumping, IsDumping}
 use Rattle.mm_planner.specs.Network.{step_arcs, arcs_of}
 use Rattle.mm_planner.specs.Taken.{step_width}

@@ -9,9 +9,9 @@ use Rattle.std.proofs.lemmas.Bool.Decides.{nat_tests}
 use Rattle.std.proofs.lemmas.List.Folds.{Any-from_list_any}
 use Rattle.std.proofs.lemmas.List.Sums.{passes_at_first}
 use Rattle.std.proofs.lemmas.Slice.Eq.{bytes_eq-Decides}
-use Rattle.mm_problem.specs.declared.limits.TheConstants.{MAX_STORES, MAX_STEPS, MAX_BLOCKS}
+use Rattle.mm_base.specs.declared.limits.TheConstants.{MAX_STORES, MAX_STEPS, MAX_BLOCKS}
 use Rattle.mm_problem.specs.Dumping.{Dumping, IsDumping, no_row}
-use Rattle.mm_problem.specs.Id.{IsIdField}
+use Rattle.mm_base.specs.Id.{IsIdField}
 use Rattle.mm_plan.specs.declared.stretch.Stretch.{Stretch}
 use Rattle.mm_plan.specs.Table.{IsTable, HasShape}
 use Rattle.mm_plan.specs.Sheet.{SheetRows, IsSheet, IsShapedFor, IsWritten}

@@ -1,7 +1,7 @@
 -- What a flow takes from the stores is within the range of blocks.
 use Rattle.std.proofs.Common.{ℕ, ◌<◌, ◌≤◌, length, slice_index, arith}
 use Rattle.std.proofs.lemmas.List.Elements.{All-get_or}
-use Rattle.mm_problem.specs.declared.limits.TheConstants.{MAX_BLOCKS}
+use Rattle.mm_base.specs.declared.limits.TheConstants.{MAX_BLOCKS}
 use Rattle.mm_problem.specs.Setup.{IsStoreRow}
 use Rattle.mm_problem.specs.Dumping.{Dumping, IsDumping, no_row, size}
 use Rattle.mm_flow.specs.declared.solved.Solved.{Solved}

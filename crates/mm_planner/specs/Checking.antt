@@ -1,7 +1,7 @@
 -- What the three texts of a check say together.
 use Rattle.std.specs.Prelude.{◌≡◌, ℕ, List, Result, Ok, Err}
 use Rattle.mm_problem.specs.declared.fault.Fault.{Fault as ProblemFault}
-use Rattle.mm_problem.specs.Reading.{◌>>=◌}
+use Rattle.mm_base.specs.Reading.{◌>>=◌}
 use Rattle.mm_problem.specs.Document.{setup_of}
 use Rattle.mm_problem.specs.Forecast.{problem_of}
 use Rattle.mm_problem.specs.Dumping.{Dumping}

@@ -1,6 +1,6 @@
 -- The network as it is built, step by step.
 use Rattle.std.specs.Prelude.{◌≡◌, ℕ, ◌+◌, ◌≤◌, List, [], ◌++◌, length}
-use Rattle.mm_problem.specs.declared.limits.TheConstants.{MAX_STEPS}
+use Rattle.mm_base.specs.declared.limits.TheConstants.{MAX_STEPS}
 use Rattle.mm_problem.specs.Dumping.{Dumping}
 use Rattle.mm_flow.specs.declared.arc.Arc.{Arc}
 use Rattle.mm_flow.specs.declared.limits.TheConstants.{MAX_ARCS}

@@ -1,7 +1,7 @@
 //! The arcs of one step of a problem's network, kind by kind.
 ghost use Rattle.std.specs.Prelude.{◌≡◌, ◌+◌, ◌*◌, ◌<◌, ◌≤◌, length, map, OnOk, [], ◌∷◌};
 ghost use Rattle.std.specs.Option.{ForSome};
-ghost use Rattle.mm_problem.specs.declared.limits.TheConstants.{MAX_STORES, MAX_BLOCKS};
+ghost use Rattle.mm_base.specs.declared.limits.TheConstants.{MAX_STORES, MAX_BLOCKS};
 ghost use Rattle.mm_problem.specs.Dumping.{stores, channels, limit};
 ghost use Rattle.mm_planner.specs.Network.{inflow, step_arcs};
 ghost use Rattle.mm_planner.specs.Network.{come_arc, hold_arc, keep_arc, take_arc, limit_arc, window_arc};

@@ -1,6 +1,6 @@
 //! The network of a problem, built within room that is reserved before.
 ghost use Rattle.std.specs.Prelude.{◌≡◌, ◌+◌, ◌*◌, ◌≤◌, length, IfOk, OnOk, []};
-ghost use Rattle.mm_problem.specs.declared.limits.TheConstants.{MAX_STORES, MAX_STEPS, CHANNELS};
+ghost use Rattle.mm_base.specs.declared.limits.TheConstants.{MAX_STORES, MAX_STEPS, CHANNELS};
 ghost use Rattle.mm_problem.specs.Dumping.{IsDumping};
 ghost use Rattle.mm_flow.specs.declared.limits.TheConstants.{MAX_NODES};
 ghost use Rattle.mm_planner.specs.Network.{net, arcs_of};

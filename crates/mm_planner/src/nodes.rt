@@ -1,6 +1,6 @@
 //! The numbers of the nodes of a problem's network: the two ends, and for each step from 1 a block of nodes.
 ghost use Rattle.std.specs.Prelude.{◌≡◌, ◌+◌, ◌*◌, ◌<◌, ◌≤◌, length};
-ghost use Rattle.mm_problem.specs.declared.limits.TheConstants.{MAX_STORES, MAX_STEPS, MAX_CHANNEL};
+ghost use Rattle.mm_base.specs.declared.limits.TheConstants.{MAX_STORES, MAX_STEPS, MAX_CHANNEL};
 ghost use Rattle.mm_planner.specs.Network.{in_node, out_node, channel_node, pass_node, next_node};
 
 use mm_problem::Problem;

@@ -1,6 +1,6 @@
 //! The planner.
 ghost use Rattle.std.specs.Prelude.{◌≡◌, ◌*◌, ◌≤◌, pos, IfOk};
-ghost use Rattle.mm_problem.specs.declared.limits.TheConstants.{MAX_STORES, MAX_STEPS, MAX_BLOCKS};
+ghost use Rattle.mm_base.specs.declared.limits.TheConstants.{MAX_STORES, MAX_STEPS, MAX_BLOCKS};
 ghost use Rattle.mm_problem.specs.Dumping.{IsDumping};
 ghost use Rattle.mm_plan.specs.Table.{amount, HasShape, IsTable};
 ghost use Rattle.mm_plan.specs.Volumes.{loss};

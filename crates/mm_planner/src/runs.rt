@@ -1,6 +1,6 @@
 //! The cut that a side of the network says: the greatest runs of each store's nodes on the side.
 ghost use Rattle.std.specs.Prelude.{◌≡◌, ◌+◌, ◌<◌, ◌≤◌, ◌++◌, ◌∷◌, [], if◌then◌else◌, length, IfOk, OnOk};
-ghost use Rattle.mm_problem.specs.declared.limits.TheConstants.{MAX_STORES, MAX_STEPS};
+ghost use Rattle.mm_base.specs.declared.limits.TheConstants.{MAX_STORES, MAX_STEPS};
 ghost use Rattle.mm_cut.specs.Stretches.{goes_past, is_inner};
 ghost use Rattle.mm_flow.specs.Solution.{side_of};
 ghost use Rattle.mm_planner.specs.Runs.{goes_on, is_end, is_by_channels, stretches_of, stretches, counts_of};

@@ -1,7 +1,7 @@
 //! The sheet of a plan that loses least.
 ghost use Rattle.std.specs.Prelude.{◌≡◌, ◌<◌, length, pos, map, All, IfOk};
 ghost use Rattle.mm_problem.specs.Dumping.{IsDumping, row};
-ghost use Rattle.mm_problem.specs.Id.{IsIdField};
+ghost use Rattle.mm_base.specs.Id.{IsIdField};
 ghost use Rattle.mm_plan.specs.Table.{amount, HasShape};
 ghost use Rattle.mm_plan.specs.Volumes.{loss};
 ghost use Rattle.mm_plan.specs.Least.{IsLeast};

@@ -1,6 +1,6 @@
 //! The plan that a solution of the network says: what leaves a store is what flows from it to its channel.
 ghost use Rattle.std.specs.Prelude.{◌≡◌, ◌+◌, ◌<◌, ◌≤◌, length, slice_index, IfOk};
-ghost use Rattle.mm_problem.specs.declared.limits.TheConstants.{MAX_BLOCKS};
+ghost use Rattle.mm_base.specs.declared.limits.TheConstants.{MAX_BLOCKS};
 ghost use Rattle.mm_problem.specs.Dumping.{IsDumping};
 ghost use Rattle.mm_plan.specs.Table.{amount, HasShape};
 ghost use Rattle.mm_flow.specs.Solution.{IsSolved};

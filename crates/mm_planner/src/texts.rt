@@ -1,6 +1,7 @@
 //! From the octets of a setup and a forecast to the text of a plan.
 ghost use Rattle.std.specs.Prelude.{◌≡◌, IfOk, IfErr};
-ghost use Rattle.mm_problem.specs.Reading.{Gives};
+ghost use Rattle.mm_base.specs.Reading.{Gives};
+ghost use Rattle.mm_problem.specs.declared.fault.Fault.TheVariants as problem;
 ghost use Rattle.mm_planner.specs.Checking.{problem_in};
 ghost use Rattle.mm_planner.specs.PlanTexts.{PlansLeast, IsPlanningFault};
 
@@ -16,7 +17,7 @@ pub(crate) fn read_problem(
     setup: &[u8],
     forecast: &[u8],
 ) -> Result<Problem, mm_problem::Fault>
-    ensures { Gives (λ problem. problem) result (problem_in setup.now forecast.now) }
+    ensures { Gives problem.NoMemory (λ problem. problem) result (problem_in setup.now forecast.now) }
 {
     let setup = Setup::read(alloc, setup)?;
     Problem::read(alloc, &setup, forecast)

@@ -13,8 +13,8 @@ use Rattle.mm_problem.specs.Keys.{keys_of, is_named, has_only, value_at, text_at
 use Rattle.mm_problem.specs.Name.{text_of}
 use Rattle.mm_problem.specs.ReadableSetup.{HasOnly, SaysText, SaysNumber, SaysId}
 use Rattle.mm_problem.specs.Tables.{id_at}
-use Rattle.mm_problem.proofs.IdFields.{is_id_text_decides}
-use Rattle.mm_problem.proofs.ReadingSteps.{bind_ok, test_ok, ok_or_ok, cond_ok}
+use Rattle.mm_base.proofs.IdFields.{is_id_text_decides}
+use Rattle.mm_base.proofs.ReadingSteps.{bind_ok, test_ok, ok_or_ok, cond_ok}
 
 -- ---- the kinds of values
 

@@ -10,39 +10,22 @@ use Rattle.std.proofs.lemmas.List.FromFn.{length-map-range_with_len}
 use Rattle.mm_problem.specs.declared.fault.Fault.TheVariants.{Header, Limit}
 use Rattle.mm_problem.specs.declared.fault.Name.{Name}
 use Rattle.mm_problem.specs.declared.fault.Name.TheVariants as name
-use Rattle.mm_problem.specs.declared.limits.TheConstants.{MAX_STEPS, MAX_BLOCKS, CHANNELS}
-use Rattle.mm_problem.specs.declared.numbers.Numeral.{Numeral}
-use Rattle.mm_problem.specs.declared.numbers.Numeral.TheVariants.{NotNumber, TooLarge, Number}
-use Rattle.mm_problem.specs.declared.rows.LimitRow.{LimitRow}
-use Rattle.mm_problem.specs.declared.rows.StoreRow.{StoreRow}
+use Rattle.mm_base.specs.declared.limits.TheConstants.{MAX_STEPS, MAX_BLOCKS, CHANNELS}
+use Rattle.mm_base.specs.declared.numbers.Numeral.{Numeral}
+use Rattle.mm_base.specs.declared.numbers.Numeral.TheVariants.{NotNumber, TooLarge, Number}
+use Rattle.mm_base.specs.declared.rows.LimitRow.{LimitRow}
+use Rattle.mm_base.specs.declared.rows.StoreRow.{StoreRow}
 use Rattle.mm_problem.specs.Cells.{amount_from, amount_of, step_from}
 use Rattle.mm_problem.specs.Dumping.{AreSteps, IsLimit, AreChannels}
 use Rattle.mm_problem.specs.Forecast.{Steps, header_of, same_fields, cell_of, arrivals_in, next_step, steps_in, no_steps, some_steps, forecast_in, limit_of, limits_of}
-use Rattle.mm_problem.specs.Numbers.{numeral_within, numeral_of, is_number, value_after}
-use Rattle.mm_problem.specs.Reading.{◌>>=◌, test}
+use Rattle.mm_base.specs.Numbers.{numeral_within, numeral_of, is_number, value_after}
+use Rattle.mm_base.specs.Reading.{◌>>=◌, test}
 use Rattle.mm_problem.specs.Records.{Fields}
 use Rattle.mm_problem.specs.Setup.{IsLimitRow}
-use Rattle.mm_problem.proofs.ReadingSteps.{bind_ok, test_ok}
+use Rattle.mm_base.proofs.NumberTexts.{IsNumeral, numeral_said}
+use Rattle.mm_base.proofs.ReadingSteps.{bind_ok, test_ok}
 
 -- ---- numbers
-
--- the text is this number, within the bound
-abbrev pub IsNumeral : ℕ → List ℕ → ℕ → Type 0
-IsNumeral most text n = numeral_of most text ≡ Number n
-
--- a number that was within the bound
-within_said : (most v n : ℕ) → numeral_within most v ≡ Number n → (v ≡ n) × (n ≤ most)
-within_said most v n h = elim (cases_Bool (nat_le v most)) [
-  | inl fits ↦ (let given = rw fits at h in let same : v ≡ n = cc in let below : v ≤ most = grind (arith, nat_tests) in (same, omega arith))
-  | inr passes ↦ absurd (let refused = rw passes at h in cc)
-]
-
--- what a number's text is
-pub numeral_said : (most : ℕ) (text : List ℕ) (n : ℕ) → IsNumeral most text n → (is_number text ≡ true) × (value_after 0 text ≡ n) × (n ≤ most)
-numeral_said most text n h = elim (cases_Bool (is_number text)) [
-  | inl number ↦ (let value = within_said most (value_after 0 text) n (rw number at h) in (number, value.0, value.1))
-  | inr other ↦ absurd (let refused = rw other at h in cc)
-]
 
 -- a number that was read is within the bound
 pub numeral_fits : (most : ℕ) (text : List ℕ) (n : ℕ) → IsNumeral most text n → n ≤ most

@@ -3,9 +3,9 @@ use Rattle.std.proofs.Common.{◌≡◌, ℕ, Bool, true, false, List, ◌∷◌
 use Rattle.csv.specs.declared.reader.Reader.{Reader}
 use Rattle.mm_problem.specs.declared.fault.Fault.{Fault}
 use Rattle.mm_problem.specs.declared.fault.Fault.TheVariants.{Header}
-use Rattle.mm_problem.specs.declared.rows.StoreRow.{StoreRow}
+use Rattle.mm_base.specs.declared.rows.StoreRow.{StoreRow}
 use Rattle.mm_problem.specs.Forecast.{Steps, header_of, same_fields, next_step, steps_in, no_steps, some_steps, forecast_in}
-use Rattle.mm_problem.specs.Reading.{◌>>=◌, test}
+use Rattle.mm_base.specs.Reading.{◌>>=◌, test}
 use Rattle.mm_problem.specs.Records.{Fields, HasRecords, TakesRecord}
 use Rattle.mm_problem.proofs.RecordSteps.{found_record, found_end}
 

@@ -13,19 +13,19 @@ use Rattle.std.proofs.lemmas.List.Elements.{recursion_from_All, All-head, All-ta
 use Rattle.std.proofs.lemmas.List.FromFn.{fill_by_all}
 use Rattle.std.proofs.Math.Seq.{take-append_seam}
 use Rattle.mm_problem.specs.declared.fault.Name.TheVariants as name
-use Rattle.mm_problem.specs.declared.limits.TheConstants.{MAX_STEPS, MAX_BLOCKS}
+use Rattle.mm_base.specs.declared.limits.TheConstants.{MAX_STEPS, MAX_BLOCKS}
 use Rattle.mm_problem.specs.Dumping.{Dumping, window, arrivals, stores, steps, IsDumping}
 use Rattle.mm_problem.specs.ReadableForecast.{record_of, IsReadableForecast}
 use Rattle.mm_problem.specs.Forecast.{Steps, header_of, same_fields, cell_of, arrivals_in, next_step, steps_in, no_steps, some_steps, forecast_in, limits_of, problem_of}
-use Rattle.mm_problem.specs.Reading.{◌>>=◌, test}
+use Rattle.mm_base.specs.Reading.{◌>>=◌, test}
 use Rattle.mm_problem.specs.Records.{Fields, records_of}
 use Rattle.mm_problem.specs.Setup.{SetupRows, IsSetup}
 use Rattle.mm_problem.specs.declared.fault.Fault.TheVariants.{Header, Limit}
-use Rattle.mm_problem.specs.declared.rows.StoreRow.{StoreRow}
-use Rattle.mm_problem.proofs.ForecastLaws.{IsNumeral, IsNextStep, next_step_said, amounts_fit, forecast_fits, channels_fit}
-use Rattle.mm_problem.proofs.IdFields.{Decides-nat_le}
-use Rattle.mm_problem.proofs.NumberTexts.{numeral_printed, printed_numeral}
-use Rattle.mm_problem.proofs.ReadingSteps.{bind_ok, test_ok}
+use Rattle.mm_base.specs.declared.rows.StoreRow.{StoreRow}
+use Rattle.mm_problem.proofs.ForecastLaws.{IsNextStep, next_step_said, amounts_fit, forecast_fits, channels_fit}
+use Rattle.mm_base.proofs.IdFields.{Decides-nat_le}
+use Rattle.mm_base.proofs.NumberTexts.{IsNumeral, numeral_printed, printed_numeral}
+use Rattle.mm_base.proofs.ReadingSteps.{bind_ok, test_ok}
 
 -- the records of steps from a number on
 abbrev pub step_rows : ℕ → ℕ → List ℕ → List ℕ → List Fields

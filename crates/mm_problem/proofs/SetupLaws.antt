@@ -12,16 +12,16 @@ use Rattle.toml.specs.Parse.{parse_document}
 use Rattle.mm_problem.specs.declared.fault.Fault.TheVariants.{SetupText, SetupField, Limit}
 use Rattle.mm_problem.specs.declared.fault.Name.{Name}
 use Rattle.mm_problem.specs.declared.fault.Name.TheVariants as name
-use Rattle.mm_problem.specs.declared.limits.TheConstants.{MAX_STORES, MAX_ROUTES, CHANNELS}
+use Rattle.mm_base.specs.declared.limits.TheConstants.{MAX_STORES, MAX_ROUTES, CHANNELS}
 use Rattle.mm_problem.specs.Document.{Lists, AreCounted, counts_of, rows_of, lists_at, setup_in, document_keys, text_of, document_of, setup_of}
 use Rattle.mm_problem.specs.Keys.{elements, elements_of, value_at, array_at}
-use Rattle.mm_problem.specs.Reading.{◌>>=◌, test}
+use Rattle.mm_base.specs.Reading.{◌>>=◌, test}
 use Rattle.mm_problem.specs.ReadableSetup.{SaysStore, SaysRoute, SaysLimit, IsTableOf, IsArrayOf, SaysRows, SaysRowsIfAny, IsReadableDocument, IsReadableSetup}
 use Rattle.mm_problem.specs.Setup.{SetupRows, IsStoreRow, HaveOtherIds, IsRouteRow, IsLimitRow, HaveOtherChannels, IsSetup}
 use Rattle.mm_problem.specs.Tables.{next_store, next_route, next_limit}
 use Rattle.mm_problem.proofs.FieldLaws.{array_said as array_is, has_only_decides}
-use Rattle.mm_problem.proofs.IdFields.{Decides-nat_le}
-use Rattle.mm_problem.proofs.ReadingSteps.{bind_ok, test_ok, ok_or_ok, cond_ok}
+use Rattle.mm_base.proofs.IdFields.{Decides-nat_le}
+use Rattle.mm_base.proofs.ReadingSteps.{bind_ok, test_ok, ok_or_ok, cond_ok}
 use Rattle.mm_problem.proofs.RowLaws.{AreRows, rows_said, rows_read}
 use Rattle.mm_problem.proofs.TableLaws.{next_store_said, next_store_read, next_route_said, next_route_read, next_limit_said, next_limit_read}
 

@@ -10,19 +10,20 @@ use Rattle.std.proofs.lemmas.List.Folds.{list_any_none}
 use Rattle.std.proofs.lemmas.Slice.Eq.{bytes_eq-Decides}
 use Rattle.toml.specs.Data.{Data, string, Members}
 use Rattle.mm_problem.specs.declared.fault.Name.TheVariants as name
-use Rattle.mm_problem.specs.declared.kind.Kind.{Kind}
-use Rattle.mm_problem.specs.declared.kind.Kind.TheVariants.{Circular, Bounded}
-use Rattle.mm_problem.specs.declared.limits.TheConstants.{MAX_BLOCKS, MAX_CHANNEL, MAX_APID}
-use Rattle.mm_problem.specs.declared.rows.StoreRow.{StoreRow}
-use Rattle.mm_problem.specs.declared.rows.RouteRow.{RouteRow}
-use Rattle.mm_problem.specs.declared.rows.LimitRow.{LimitRow}
+use Rattle.mm_base.specs.declared.kind.Kind.{Kind}
+use Rattle.mm_base.specs.declared.kind.Kind.TheVariants.{Circular, Bounded}
+use Rattle.mm_base.specs.declared.limits.TheConstants.{MAX_BLOCKS, MAX_CHANNEL, MAX_APID}
+use Rattle.mm_base.specs.declared.rows.StoreRow.{StoreRow}
+use Rattle.mm_base.specs.declared.rows.RouteRow.{RouteRow}
+use Rattle.mm_base.specs.declared.rows.LimitRow.{LimitRow}
 use Rattle.mm_problem.specs.Keys.{value_at}
-use Rattle.mm_problem.specs.Kind.{word_of}
+use Rattle.mm_base.specs.Kind.{word_of}
 use Rattle.mm_problem.specs.ReadableSetup.{SaysText, SaysNumberIfAny, SaysStore, SaysRoute, SaysLimit, IsTableOf}
 use Rattle.mm_problem.specs.Setup.{IsStoreRow, HaveOtherIds, IsRouteRow, IsLimitRow, HaveOtherChannels}
-use Rattle.mm_problem.specs.Tables.{store_keys, route_keys, limit_keys, kind_of, kind_at, start_from, store_at, next_store, same_route, route_at, next_route, limit_at, next_limit}
+use Rattle.mm_base.specs.SameRoutes.{same_route}
+use Rattle.mm_problem.specs.Tables.{store_keys, route_keys, limit_keys, kind_of, kind_at, start_from, store_at, next_store, route_at, next_route, limit_at, next_limit}
 use Rattle.mm_problem.proofs.FieldLaws.{table_said, has_only_decides, found_decides, text_said, id_said, id_read, number_said, number_read}
-use Rattle.mm_problem.proofs.ReadingSteps.{bind_ok, test_ok, ok_or_ok}
+use Rattle.mm_base.proofs.ReadingSteps.{bind_ok, test_ok, ok_or_ok, ok_same}
 use Rattle.mm_problem.proofs.RowLaws.{IsNext}
 
 -- ---- rows that differ from a row
@@ -126,7 +127,7 @@ store_said row d r h =
     let channel_says = number_said row name.Channel ms 0 MAX_CHANNEL channel channel_is in
     let start_says = start_from_said row size ms start (value_at name.Start ms) refl start_is in
     let row_of : StoreRow = record { id = id; size = size; start = start; kind = kind; channel = channel } in
-    let same : row_of ≡ r = cc in
+    let same : row_of ≡ r = ok_same _ _ last in
     subst (λ r. IsTableOf SaysStore d r × IsStoreRow r) same (
       record {
         members = ms;

@@ -3,11 +3,11 @@ use Rattle.std.specs.Prelude.{ℕ, ◌==◌, List, Result, Ok, Err}
 use Rattle.mm_problem.specs.declared.fault.Fault.{Fault}
 use Rattle.mm_problem.specs.declared.fault.Fault.TheVariants.{Cell, StepNumber, Limit}
 use Rattle.mm_problem.specs.declared.fault.Name.{Name}
-use Rattle.mm_problem.specs.declared.limits.TheConstants.{MAX_STEPS, MAX_BLOCKS}
-use Rattle.mm_problem.specs.declared.numbers.Numeral.{Numeral}
-use Rattle.mm_problem.specs.declared.numbers.Numeral.TheVariants.{NotNumber, TooLarge, Number}
-use Rattle.mm_problem.specs.Numbers.{numeral_of}
-use Rattle.mm_problem.specs.Reading.{test}
+use Rattle.mm_base.specs.declared.limits.TheConstants.{MAX_STEPS, MAX_BLOCKS}
+use Rattle.mm_base.specs.declared.numbers.Numeral.{Numeral}
+use Rattle.mm_base.specs.declared.numbers.Numeral.TheVariants.{NotNumber, TooLarge, Number}
+use Rattle.mm_base.specs.Numbers.{numeral_of}
+use Rattle.mm_base.specs.Reading.{test}
 
 -- an amount of blocks, from what its cell is as a number
 abbrev pub amount_from : ℕ → ℕ → Name → Numeral → Result ℕ Fault

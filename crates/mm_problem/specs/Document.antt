@@ -8,9 +8,9 @@ use Rattle.mm_problem.specs.declared.fault.Fault.{Fault}
 use Rattle.mm_problem.specs.declared.fault.Fault.TheVariants.{SetupText, SetupField, Limit}
 use Rattle.mm_problem.specs.declared.fault.Name.{Name}
 use Rattle.mm_problem.specs.declared.fault.Name.TheVariants as name
-use Rattle.mm_problem.specs.declared.limits.TheConstants.{MAX_STORES, MAX_ROUTES, CHANNELS}
+use Rattle.mm_base.specs.declared.limits.TheConstants.{MAX_STORES, MAX_ROUTES, CHANNELS}
 use Rattle.mm_problem.specs.Keys.{has_only, array_at, array_if_any}
-use Rattle.mm_problem.specs.Reading.{◌>>=◌, test}
+use Rattle.mm_base.specs.Reading.{◌>>=◌, test}
 use Rattle.mm_problem.specs.Setup.{SetupRows}
 use Rattle.mm_problem.specs.Tables.{stores_in, routes_in, limits_in}
 

@@ -2,9 +2,9 @@
 use Rattle.std.specs.Prelude.{◌≡◌, ℕ, ◌+◌, ◌-◌, ◌*◌, ◌≤◌, Bool, ◌==◌, List, [], length, filter, All, Option, None, slice_index, slice_index_or, IfSome}
 use Rattle.std.specs.List.{position_or_len, range_with_len}
 use Rattle.std.specs.Str.{bytes_eq}
-use Rattle.mm_problem.specs.declared.limits.TheConstants.{MAX_STEPS, MAX_BLOCKS, CHANNELS}
-use Rattle.mm_problem.specs.declared.kind.Kind.TheVariants.{Circular}
-use Rattle.mm_problem.specs.declared.rows.StoreRow.{StoreRow}
+use Rattle.mm_base.specs.declared.limits.TheConstants.{MAX_STEPS, MAX_BLOCKS, CHANNELS}
+use Rattle.mm_base.specs.declared.kind.Kind.TheVariants.{Circular}
+use Rattle.mm_base.specs.declared.rows.StoreRow.{StoreRow}
 use Rattle.mm_problem.specs.Setup.{AreStores}
 
 pub record Dumping : Type 0 where

@@ -4,13 +4,13 @@ use Rattle.std.specs.List.{range_with_len}
 use Rattle.mm_problem.specs.declared.fault.Fault.{Fault}
 use Rattle.mm_problem.specs.declared.fault.Fault.TheVariants.{ForecastText, Header, Limit}
 use Rattle.mm_problem.specs.declared.fault.Name.TheVariants as name
-use Rattle.mm_problem.specs.declared.limits.TheConstants.{MAX_STEPS, CHANNELS}
-use Rattle.mm_problem.specs.declared.rows.LimitRow.{LimitRow}
-use Rattle.mm_problem.specs.declared.rows.StoreRow.{StoreRow}
+use Rattle.mm_base.specs.declared.limits.TheConstants.{MAX_STEPS, CHANNELS}
+use Rattle.mm_base.specs.declared.rows.LimitRow.{LimitRow}
+use Rattle.mm_base.specs.declared.rows.StoreRow.{StoreRow}
 use Rattle.mm_problem.specs.Cells.{amount_of, step_of}
 use Rattle.mm_problem.specs.Dumping.{Dumping}
-use Rattle.mm_problem.specs.Id.{id_text}
-use Rattle.mm_problem.specs.Reading.{◌>>=◌, test}
+use Rattle.mm_base.specs.Id.{id_text}
+use Rattle.mm_base.specs.Reading.{◌>>=◌, test}
 use Rattle.mm_problem.specs.Records.{Fields, records_of}
 use Rattle.mm_problem.specs.Setup.{SetupRows}
 

@@ -7,7 +7,7 @@ use Rattle.mm_problem.specs.declared.fault.Fault.{Fault}
 use Rattle.mm_problem.specs.declared.fault.Fault.TheVariants.{SetupField, Limit}
 use Rattle.mm_problem.specs.declared.fault.Name.{Name}
 use Rattle.mm_problem.specs.Name.{text_of}
-use Rattle.mm_problem.specs.Reading.{◌>>=◌}
+use Rattle.mm_base.specs.Reading.{◌>>=◌}
 
 -- the elements of an array, in order
 abbrev pub elements : Items → List Data

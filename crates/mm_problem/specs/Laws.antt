@@ -1,18 +1,11 @@
 -- What the readings of this crate mean, in the words of their subjects.
-use Rattle.std.specs.Prelude.{◌≡◌, ◌↔◌, ℕ, ◌^◌, ◌<◌, ◌≤◌, List, Ok}
-use Rattle.std.specs.Fmt.{decimal}
-use Rattle.mm_problem.specs.declared.numbers.Numeral.TheVariants.{Number}
+use Rattle.std.specs.Prelude.{◌≡◌, ◌↔◌, ℕ, List, Ok}
 use Rattle.mm_problem.specs.Document.{setup_of}
 use Rattle.mm_problem.specs.Dumping.{Dumping}
 use Rattle.mm_problem.specs.Forecast.{problem_of}
-use Rattle.mm_problem.specs.Numbers.{numeral_of}
 use Rattle.mm_problem.specs.ReadableForecast.{IsReadableForecast}
 use Rattle.mm_problem.specs.ReadableSetup.{IsReadableSetup}
 use Rattle.mm_problem.specs.Setup.{SetupRows, IsSetup}
-
--- a text is a number up to a bound exactly where it is what that number is printed as
-abbrev pub ReadsNumbers : Type 0
-ReadsNumbers = (most : ℕ) (text : List ℕ) (n : ℕ) → most < 2 ^ 64 → (numeral_of most text ≡ Number n) ↔ ((text ≡ decimal n) × (n ≤ most))
 
 -- a setup is read exactly where the octets are the text of a readable document, and then as what that says
 abbrev pub ReadsSetups : Type 0

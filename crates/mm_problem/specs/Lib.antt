@@ -1,16 +1,11 @@
 pub mod Fault
 pub mod Name
-pub mod Reading
-pub mod Id
-pub mod Kind
 pub mod Setup
 pub mod Keys
 pub mod Tables
 pub mod Document
 pub mod Arrays
 pub mod ReadableSetup
-pub mod Numbers
-pub mod Lines
 pub mod Cells
 pub mod Records
 pub mod Forecast

@@ -5,11 +5,11 @@ use Rattle.toml.specs.Data.{Data, string, integer, array, table, Items, Members}
 use Rattle.toml.specs.Parse.{parse_document}
 use Rattle.mm_problem.specs.declared.fault.Name.{Name}
 use Rattle.mm_problem.specs.declared.fault.Name.TheVariants as name
-use Rattle.mm_problem.specs.declared.rows.StoreRow.{StoreRow}
-use Rattle.mm_problem.specs.declared.rows.RouteRow.{RouteRow}
-use Rattle.mm_problem.specs.declared.rows.LimitRow.{LimitRow}
-use Rattle.mm_problem.specs.Id.{IsIdText, field_of}
-use Rattle.mm_problem.specs.Kind.{word_of}
+use Rattle.mm_base.specs.declared.rows.StoreRow.{StoreRow}
+use Rattle.mm_base.specs.declared.rows.RouteRow.{RouteRow}
+use Rattle.mm_base.specs.declared.rows.LimitRow.{LimitRow}
+use Rattle.mm_base.specs.Id.{IsIdText, field_of}
+use Rattle.mm_base.specs.Kind.{word_of}
 use Rattle.mm_problem.specs.Keys.{elements, keys_of, value_at}
 use Rattle.mm_problem.specs.Name.{text_of}
 use Rattle.mm_problem.specs.Setup.{SetupRows, IsSetup}

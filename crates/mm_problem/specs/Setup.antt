@@ -1,9 +1,9 @@
 -- What a setup says: packet stores, routes and limits of channels.
 use Rattle.std.specs.Prelude.{◌≢◌, ◌≤◌, List, length, map, All, AllPairs, Contains}
-use Rattle.mm_problem.specs.declared.limits.TheConstants.{MAX_STORES, MAX_BLOCKS, MAX_CHANNEL, MAX_APID, MAX_ROUTES, CHANNELS}
-use Rattle.mm_problem.specs.declared.rows.StoreRow.{StoreRow}
-use Rattle.mm_problem.specs.declared.rows.RouteRow.{RouteRow}
-use Rattle.mm_problem.specs.declared.rows.LimitRow.{LimitRow}
+use Rattle.mm_base.specs.declared.limits.TheConstants.{MAX_STORES, MAX_BLOCKS, MAX_CHANNEL, MAX_APID, MAX_ROUTES, CHANNELS}
+use Rattle.mm_base.specs.declared.rows.StoreRow.{StoreRow}
+use Rattle.mm_base.specs.declared.rows.RouteRow.{RouteRow}
+use Rattle.mm_base.specs.declared.rows.LimitRow.{LimitRow}
 
 -- the rows of a setup, in its order
 pub record SetupRows : Type 0 where

@@ -7,16 +7,17 @@ use Rattle.mm_problem.specs.declared.fault.Fault.{Fault}
 use Rattle.mm_problem.specs.declared.fault.Fault.TheVariants.{SetupField}
 use Rattle.mm_problem.specs.declared.fault.Name.{Name}
 use Rattle.mm_problem.specs.declared.fault.Name.TheVariants as name
-use Rattle.mm_problem.specs.declared.kind.Kind.{Kind}
-use Rattle.mm_problem.specs.declared.kind.Kind.TheVariants.{Circular, Bounded}
-use Rattle.mm_problem.specs.declared.limits.TheConstants.{MAX_BLOCKS, MAX_CHANNEL, MAX_APID}
-use Rattle.mm_problem.specs.declared.rows.StoreRow.{StoreRow}
-use Rattle.mm_problem.specs.declared.rows.RouteRow.{RouteRow}
-use Rattle.mm_problem.specs.declared.rows.LimitRow.{LimitRow}
-use Rattle.mm_problem.specs.Id.{is_id_text, field_of}
-use Rattle.mm_problem.specs.Kind.{word_of}
+use Rattle.mm_base.specs.declared.kind.Kind.{Kind}
+use Rattle.mm_base.specs.declared.kind.Kind.TheVariants.{Circular, Bounded}
+use Rattle.mm_base.specs.declared.limits.TheConstants.{MAX_BLOCKS, MAX_CHANNEL, MAX_APID}
+use Rattle.mm_base.specs.declared.rows.StoreRow.{StoreRow}
+use Rattle.mm_base.specs.declared.rows.RouteRow.{RouteRow}
+use Rattle.mm_base.specs.declared.rows.LimitRow.{LimitRow}
+use Rattle.mm_base.specs.Id.{is_id_text, field_of}
+use Rattle.mm_base.specs.Kind.{word_of}
+use Rattle.mm_base.specs.SameRoutes.{same_route}
 use Rattle.mm_problem.specs.Keys.{has_only, value_at, text_at, number_at}
-use Rattle.mm_problem.specs.Reading.{◌>>=◌, test}
+use Rattle.mm_base.specs.Reading.{◌>>=◌, test}
 
 -- the keys of each table
 abbrev pub store_keys : List Name
@@ -105,10 +106,6 @@ route_at row d = do
   subtype ← number_at row name.Subtype 0 255 ms
   store ← id_at row name.Store ms
   Ok (record { apid = apid; service = service; subtype = subtype; store = store })
-
--- whether two routes are the same
-abbrev pub same_route : RouteRow → RouteRow → Bool
-same_route a b = (a.apid == b.apid) && (a.service == b.service) && (a.subtype == b.subtype) && bytes_eq a.store b.store
 
 -- the route behind these earlier ones
 unfoldable pub next_route : List StoreRow → List RouteRow → Data → Result RouteRow Fault

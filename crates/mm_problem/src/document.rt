@@ -5,12 +5,12 @@ ghost use Rattle.toml.specs.Parse.{parse_document};
 ghost use Rattle.toml.specs.View.{table_view};
 ghost use Rattle.mm_problem.specs.Arrays.{lists_of};
 ghost use Rattle.mm_problem.specs.Document.{text_of, document_of, lists_at, counts_of, AreCounted};
-ghost use Rattle.mm_problem.specs.declared.fault.Fault.TheVariants.{SetupText};
-ghost use Rattle.mm_problem.specs.Reading.{Gives};
+ghost use Rattle.mm_problem.specs.declared.fault.Fault.TheVariants.{NoMemory, SetupText};
+ghost use Rattle.mm_base.specs.Reading.{Gives};
 
 use crate::fault::{Fault, Name};
 use crate::keys::{array_at, array_if_any, has_only};
-use crate::limits::{CHANNELS, MAX_ROUTES, MAX_STORES};
+use mm_base::{CHANNELS, MAX_ROUTES, MAX_STORES};
 use crate::reading::test;
 use std::alloc::Global;
 use toml::{Table, Value};
@@ -26,7 +26,7 @@ pub(crate) struct Arrays<'a> {
 // The octets as a text.
 #[tactic(auto, using(crate::proofs::TomlViews::is_utf8_decides))]
 fn text_of(octets: &[u8]) -> Result<&str, Fault>
-    ensures { Gives (λ s. s.now) result (text_of octets.now) }
+    ensures { Gives NoMemory (λ s. s.now) result (text_of octets.now) }
 {
     match std::str::from_utf8(octets) {
         Ok(text) => Ok(text),
@@ -35,7 +35,7 @@ fn text_of(octets: &[u8]) -> Result<&str, Fault>
 }
 
 fn parsed(alloc: Global, text: &str) -> Result<Table, Fault>
-    ensures { Gives (λ t. table_view t) result (ok_or (parse_document text.now) SetupText) }
+    ensures { Gives NoMemory (λ t. table_view t) result (ok_or (parse_document text.now) SetupText) }
 {
     match toml::table_from_str(alloc, text) {
         Ok(document) => Ok(document),
@@ -50,7 +50,7 @@ fn parsed(alloc: Global, text: &str) -> Result<Table, Fault>
 // The document that the octets say.
 #[tactic(auto, unfolding(crate::specs::Document::document_of))]
 pub(crate) fn document_of(alloc: Global, octets: &[u8]) -> Result<Table, Fault>
-    ensures { Gives (λ t. table_view t) result (document_of octets.now) }
+    ensures { Gives NoMemory (λ t. table_view t) result (document_of octets.now) }
 {
     let text = text_of(octets)?;
     parsed(alloc, text)
@@ -59,7 +59,7 @@ pub(crate) fn document_of(alloc: Global, octets: &[u8]) -> Result<Table, Fault>
 // The arrays at the keys of a document.
 #[tactic(auto, unfolding(crate::specs::Document::lists_at))]
 pub(crate) fn arrays_at(document: &Table) -> Result<Arrays<'_>, Fault>
-    ensures { Gives lists_of result (lists_at (table_view document.now)) }
+    ensures { Gives NoMemory lists_of result (lists_at (table_view document.now)) }
 {
     let names = [Name::Store, Name::Route, Name::Limit];
     test(
@@ -82,7 +82,7 @@ pub(crate) fn arrays_at(document: &Table) -> Result<Arrays<'_>, Fault>
 // Tests how many tables there are.
 #[tactic(auto, unfolding(crate::specs::Document::counts_of))]
 pub(crate) fn test_counts(arrays: Arrays<'_>) -> Result<(), Fault>
-    ensures counts { Gives (λ x. x) result (counts_of (lists_of arrays.entry)) }
+    ensures counts { Gives NoMemory (λ x. x) result (counts_of (lists_of arrays.entry)) }
     ensures counted { OnOk result (AreCounted (lists_of arrays.entry)) }
 {
     let stores = arrays.stores.len();

@@ -1,7 +1,9 @@
-//! Why an identifier, a setup or a forecast is refused.
+//! Why a setup or a forecast is refused.
 ghost use Rattle.std.specs.Prelude.{◌≡◌};
-ghost use Rattle.mm_problem.specs.Fault.{number_of};
+ghost use Rattle.mm_base.specs.Refusals.{number_of};
+ghost use Rattle.mm_problem.specs.Fault.{refusal_of};
 
+use mm_base::Refusal;
 use std::alloc::{AllocError, AllocFailed};
 use std::fmt;
 use thiserror::Error;
@@ -69,48 +71,49 @@ impl fmt::Display for Name {
     }
 }
 
-/// Why an identifier, a code, a setup or a forecast is refused. It is shown as its number, its name and its fields.
+/// Why a setup or a forecast is refused. It is shown as its number, its name and its fields.
 #[derive(Clone, Copy, Debug, PartialEq, Eq, Error)]
 pub enum Fault {
-    #[error("0 NoMemory")]
+    #[error("{}", self.refusal())]
     NoMemory,
-    #[error("15 BadId")]
-    BadId,
-    #[error("16 BadEnum")]
-    BadEnum,
-    #[error("27 SetupText")]
+    #[error("{}", self.refusal())]
     SetupText,
-    #[error("28 SetupField row {row} name {name}")]
+    #[error("{} row {row} name {name}", self.refusal())]
     SetupField { row: u32, name: Name },
-    #[error("29 ForecastText")]
+    #[error("{}", self.refusal())]
     ForecastText,
-    #[error("30 Header")]
+    #[error("{}", self.refusal())]
     Header,
-    #[error("31 Cell row {row} column {column}")]
+    #[error("{} row {row} column {column}", self.refusal())]
     Cell { row: u32, column: u32 },
-    #[error("32 StepNumber row {row}")]
+    #[error("{} row {row}", self.refusal())]
     StepNumber { row: u32 },
-    #[error("33 Limit name {name}")]
+    #[error("{} name {name}", self.refusal())]
     Limit { name: Name },
 }
 
 impl Fault {
-    /// The refusal's number.
-    pub fn number(self) -> u8
-        ensures number { result ≡ number_of self }
+    /// Which refusal it is.
+    pub fn refusal(self) -> Refusal
+        ensures refusal { result ≡ refusal_of self }
     {
         match self {
-            Fault::NoMemory => 0,
-            Fault::BadId => 15,
-            Fault::BadEnum => 16,
-            Fault::SetupText => 27,
-            Fault::SetupField { .. } => 28,
-            Fault::ForecastText => 29,
-            Fault::Header => 30,
-            Fault::Cell { .. } => 31,
-            Fault::StepNumber { .. } => 32,
-            Fault::Limit { .. } => 33,
+            Fault::NoMemory => Refusal::NoMemory,
+            Fault::SetupText => Refusal::SetupText,
+            Fault::SetupField { .. } => Refusal::SetupField,
+            Fault::ForecastText => Refusal::ForecastText,
+            Fault::Header => Refusal::Header,
+            Fault::Cell { .. } => Refusal::Cell,
+            Fault::StepNumber { .. } => Refusal::StepNumber,
+            Fault::Limit { .. } => Refusal::Limit,
         }
+    }
+
+    /// The refusal's number.
+    pub fn number(self) -> u8
+        ensures number { result ≡ number_of (refusal_of self) }
+    {
+        self.refusal().number()
     }
 }
 

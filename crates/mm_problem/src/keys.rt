@@ -5,7 +5,8 @@ ghost use Rattle.std.specs.List.{list_all};
 ghost use Rattle.toml.specs.Data.{get_member};
 ghost use Rattle.toml.specs.View.{view, table_view};
 ghost use Rattle.mm_problem.specs.Keys.{is_named, has_only, value_at, text_at, integer_at, within, number_at, elements_of, array_at, array_if_any};
-ghost use Rattle.mm_problem.specs.Reading.{Gives};
+ghost use Rattle.mm_problem.specs.declared.fault.Fault.TheVariants.{NoMemory};
+ghost use Rattle.mm_base.specs.Reading.{Gives};
 
 use crate::fault::{Fault, Name};
 use toml::{Table, Value};
@@ -46,7 +47,7 @@ pub(crate) fn value_at(name: Name, table: &Table) -> Option<&Value>
 
 // The text at a key of the table in this row.
 pub(crate) fn text_at(row: u32, name: Name, table: &Table) -> Result<&str, Fault>
-    ensures { Gives (λ s. s.now) result (text_at row name (table_view table.now)) }
+    ensures { Gives NoMemory (λ s. s.now) result (text_at row name (table_view table.now)) }
 {
     match value_at(name, table) {
         Some(value) => value.as_str().ok_or(Fault::SetupField { row, name }),
@@ -55,7 +56,7 @@ pub(crate) fn text_at(row: u32, name: Name, table: &Table) -> Result<&str, Fault
 }
 
 fn integer_at(row: u32, name: Name, table: &Table) -> Result<i64, Fault>
-    ensures { Gives (λ z. z) result (integer_at row name (table_view table.now)) }
+    ensures { Gives NoMemory (λ z. z) result (integer_at row name (table_view table.now)) }
 {
     match value_at(name, table) {
         Some(value) => value.as_integer().ok_or(Fault::SetupField { row, name }),
@@ -65,7 +66,7 @@ fn integer_at(row: u32, name: Name, table: &Table) -> Result<i64, Fault>
 
 // A whole number within its range.
 fn within(low: u32, high: u32, name: Name, number: i64) -> Result<u32, Fault>
-    ensures { Gives (λ n. n) result (within low high name number) }
+    ensures { Gives NoMemory (λ n. n) result (within low high name number) }
 {
     if i64::from(low) <= number && number <= i64::from(high) {
         Ok(number as u32)
@@ -83,7 +84,7 @@ pub(crate) fn number_at(
     high: u32,
     table: &Table,
 ) -> Result<u32, Fault>
-    ensures number { Gives (λ n. n) result (number_at row name low high (table_view table.now)) }
+    ensures number { Gives NoMemory (λ n. n) result (number_at row name low high (table_view table.now)) }
     ensures most { IfOk result (λ n. n ≤ high) }
 {
     let number = integer_at(row, name, table)?;
@@ -93,7 +94,7 @@ pub(crate) fn number_at(
 // The elements of the array at a key of the document.
 #[tactic(auto, using(crate::proofs::TomlViews::elements_by_vec))]
 pub(crate) fn array_at(name: Name, document: &Table) -> Result<&[Value], Fault>
-    ensures { Gives (λ vs. map view vs.now) result (array_at name (table_view document.now)) }
+    ensures { Gives NoMemory (λ vs. map view vs.now) result (array_at name (table_view document.now)) }
 {
     match value_at(name, document) {
         Some(value) => elements_of(name, value),
@@ -103,7 +104,7 @@ pub(crate) fn array_at(name: Name, document: &Table) -> Result<&[Value], Fault>
 
 // The same at a key that may be missing.
 pub(crate) fn array_if_any(name: Name, document: &Table) -> Result<&[Value], Fault>
-    ensures { Gives (λ vs. map view vs.now) result (array_if_any name (table_view document.now)) }
+    ensures { Gives NoMemory (λ vs. map view vs.now) result (array_if_any name (table_view document.now)) }
 {
     match value_at(name, document) {
         Some(value) => elements_of(name, value),
@@ -114,7 +115,7 @@ pub(crate) fn array_if_any(name: Name, document: &Table) -> Result<&[Value], Fau
 // The elements of a value that is an array.
 #[tactic(auto, using(crate::proofs::TomlViews::elements_by_vec))]
 fn elements_of(name: Name, value: &Value) -> Result<&[Value], Fault>
-    ensures { Gives (λ vs. map view vs.now) result (elements_of name (view value.now)) }
+    ensures { Gives NoMemory (λ vs. map view vs.now) result (elements_of name (view value.now)) }
 {
     match value.as_array() {
         Some(values) => Ok(values.as_slice()),

@@ -1,10 +1,7 @@
 //! What the definitions that the readers follow mean. Each function is a law, which its contract states.
-ghost use Rattle.mm_problem.specs.Laws.{ReadsNumbers, ReadsSetups, ReadsForecasts};
+ghost use Rattle.mm_problem.specs.Laws.{ReadsSetups, ReadsForecasts};
 
-/// A text is a number up to a bound exactly where it is what that number is printed as.
-pub fn numbers()
-    ensures { ReadsNumbers }
-{}
+pub use mm_base::laws::numbers;
 
 /// A setup is read exactly where its octets are the text of a readable document, and then as what that says.
 pub fn setups()

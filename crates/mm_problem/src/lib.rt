@@ -4,17 +4,11 @@
 mod cells;
 mod document;
 mod fault;
-mod id;
 mod keys;
-mod kind;
 pub mod laws;
-mod limits;
-pub mod lines;
-pub mod numbers;
 mod problem;
 mod reading;
 mod records;
-mod rows;
 mod setup;
 mod steps;
 mod tables;
@@ -22,9 +16,9 @@ mod tables;
 mod tests;
 
 pub use fault::{Fault, Name};
-pub use id::StoreId;
-pub use kind::Kind;
-pub use limits::{CHANNELS, MAX_APID, MAX_BLOCKS, MAX_CHANNEL, MAX_ROUTES, MAX_STEPS, MAX_STORES};
+pub use mm_base::{
+    CHANNELS, Kind, LimitRow, MAX_APID, MAX_BLOCKS, MAX_CHANNEL, MAX_ROUTES, MAX_STEPS, MAX_STORES, RouteRow, StoreId, StoreRow, lines,
+    numbers,
+};
 pub use problem::Problem;
-pub use rows::{LimitRow, RouteRow, StoreRow};
 pub use setup::Setup;

@@ -1,14 +1,15 @@
 //! The dumping problem: what the setup and the forecast say together.
 ghost use Rattle.std.specs.Prelude.{◌≡◌, ℕ, ◌+◌, ◌-◌, ◌*◌, ◌<◌, ◌≤◌, length, IfSome, IfNone};
-ghost use Rattle.mm_problem.specs.declared.limits.TheConstants.{MAX_STORES, MAX_STEPS, MAX_BLOCKS, MAX_CHANNEL, CHANNELS};
+ghost use Rattle.mm_base.specs.declared.limits.TheConstants.{MAX_STORES, MAX_STEPS, MAX_BLOCKS, MAX_CHANNEL, CHANNELS};
 ghost use Rattle.mm_problem.specs.Dumping.{row, place_in, place, size, start, channel, limit, window, arrivals, IsDumping};
 ghost use Rattle.mm_problem.specs.Forecast.{limit_of, limits_of, problem_of};
-ghost use Rattle.mm_problem.specs.Reading.{Gives};
+ghost use Rattle.mm_problem.specs.declared.fault.Fault.TheVariants.{NoMemory};
+ghost use Rattle.mm_base.specs.Reading.{Gives};
 
 use crate::fault::Fault;
-use crate::id::StoreId;
-use crate::limits::CHANNELS;
-use crate::rows::{LimitRow, StoreRow};
+use mm_base::StoreId;
+use mm_base::CHANNELS;
+use mm_base::{LimitRow, StoreRow};
 use crate::setup::Setup;
 use crate::steps::{StepTable, forecast_of};
 use std::alloc::Global;
@@ -74,7 +75,7 @@ impl Problem {
     /// `ForecastText`, 30 `Header`, 31 `Cell`, 32 `StepNumber` or 33 `Limit`; or 0 `NoMemory`.
     #[tactic(auto, unfolding(crate::specs::Forecast::problem_of))]
     pub fn read(alloc: Global, setup: &Setup, text: &[u8]) -> Result<Problem, Fault>
-        ensures problem { Gives (λ problem. problem) result (problem_of setup.now text.now) }
+        ensures problem { Gives NoMemory (λ problem. problem) result (problem_of setup.now text.now) }
     {
         let stores = setup.stores();
         let steps = forecast_of(alloc, stores, text)?;

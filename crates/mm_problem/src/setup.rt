@@ -2,12 +2,13 @@
 ghost use Rattle.std.specs.Prelude.{◌≡◌};
 ghost use Rattle.mm_problem.specs.Arrays.{lists_of};
 ghost use Rattle.mm_problem.specs.Document.{AreCounted, rows_of, setup_of};
-ghost use Rattle.mm_problem.specs.Reading.{Gives};
+ghost use Rattle.mm_problem.specs.declared.fault.Fault.TheVariants.{NoMemory};
+ghost use Rattle.mm_base.specs.Reading.{Gives};
 ghost use Rattle.mm_problem.specs.Setup.{IsSetup};
 
 use crate::document::{Arrays, arrays_at, document_of, test_counts};
 use crate::fault::Fault;
-use crate::rows::{LimitRow, RouteRow, StoreRow};
+use mm_base::{LimitRow, RouteRow, StoreRow};
 use crate::tables::{limits_of, routes_of, stores_of};
 use std::alloc::Global;
 use std::marker::Model;
@@ -34,7 +35,7 @@ impl Model for Setup {
 #[tactic(auto, unfolding(crate::specs::Document::rows_of))]
 fn setup_of(alloc: Global, arrays: Arrays<'_>) -> Result<Setup, Fault>
     requires { AreCounted (lists_of arrays) }
-    ensures { Gives (λ setup. setup) result (rows_of (lists_of arrays.entry)) }
+    ensures { Gives NoMemory (λ setup. setup) result (rows_of (lists_of arrays.entry)) }
 {
     let stores = stores_of(alloc, arrays.stores)?;
     let routes = routes_of(alloc, stores.as_slice(), arrays.routes)?;
@@ -51,7 +52,7 @@ impl Setup {
     /// 33 `Limit`; or 0 `NoMemory`.
     #[tactic(auto, unfolding(crate::specs::Document::setup_of, crate::specs::Document::setup_in))]
     pub fn read(alloc: Global, text: &[u8]) -> Result<Setup, Fault>
-        ensures setup { Gives (λ setup. setup) result (setup_of text.now) }
+        ensures setup { Gives NoMemory (λ setup. setup) result (setup_of text.now) }
     {
         let document = document_of(alloc, text)?;
         let arrays = arrays_at(&document)?;

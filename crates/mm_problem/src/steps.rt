@@ -1,19 +1,20 @@
 //! The steps of a forecast, read from its records.
 ghost use Rattle.std.specs.Prelude.{◌≡◌, ◌+◌, ◌≤◌, length, drop, map, vec_len, IfOk};
 ghost use Rattle.csv.specs.Records.{fields_of};
-ghost use Rattle.mm_problem.specs.declared.limits.TheConstants.{MAX_STORES, MAX_STEPS};
+ghost use Rattle.mm_base.specs.declared.limits.TheConstants.{MAX_STORES, MAX_STEPS};
 ghost use Rattle.mm_problem.specs.Forecast.{cell_of, same_fields, header_of, arrivals_in, next_step, some_steps, forecast_in};
-ghost use Rattle.mm_problem.specs.Id.{id_text};
-ghost use Rattle.mm_problem.specs.Reading.{Gives};
+ghost use Rattle.mm_base.specs.Id.{id_text};
+ghost use Rattle.mm_problem.specs.declared.fault.Fault.TheVariants.{NoMemory};
+ghost use Rattle.mm_base.specs.Reading.{Gives};
 ghost use Rattle.mm_problem.specs.Records.{records_of};
 ghost use Rattle.mm_problem.specs.StepLists.{steps_of};
 
 use crate::cells::{amount_of, test_step};
 use crate::fault::{Fault, Name};
-use crate::limits::MAX_STEPS;
+use mm_base::MAX_STEPS;
 use crate::reading::test;
 use crate::records::{next_record, reader_of};
-use crate::rows::StoreRow;
+use mm_base::StoreRow;
 use csv::ByteRecord;
 use std::alloc::Global;
 
@@ -39,7 +40,7 @@ fn cell_of(row: &ByteRecord, i: usize) -> &[u8]
 fn arrivals_of(number: u32, mut arrived: Vec<u32>, row: &ByteRecord) -> Result<Vec<u32>, Fault>
     requires few { length (fields_of row.now) ≤ MAX_STORES + 2 }
     requires window { 2 ≤ length (fields_of row.now) }
-    ensures { Gives (λ v. v.items) result (arrivals_in number arrived.items 3 (drop 2 (fields_of row.now))) }
+    ensures { Gives NoMemory (λ v. v.items) result (arrivals_in number arrived.items 3 (drop 2 (fields_of row.now))) }
 {
     for i in 2..row.len() {
         let amount = amount_of(number, i as u32 + 1, Name::Arrivals, cell_of(row, i))?;
@@ -52,7 +53,7 @@ fn arrivals_of(number: u32, mut arrived: Vec<u32>, row: &ByteRecord) -> Result<V
 #[tactic(auto, unfolding(crate::specs::Forecast::next_step))]
 fn next_step(stores: usize, steps: StepTable, row: &ByteRecord) -> Result<StepTable, Fault>
     requires { stores ≤ MAX_STORES }
-    ensures step { Gives steps_of result (next_step stores (steps_of steps) (fields_of row.now)) }
+    ensures step { Gives NoMemory steps_of result (next_step stores (steps_of steps) (fields_of row.now)) }
     ensures longer { IfOk result (λ s. vec_len s.windows ≡ vec_len steps.windows + 1) }
     ensures most { IfOk result (λ s. vec_len s.windows ≤ MAX_STEPS) }
 {
@@ -102,7 +103,7 @@ fn is_header(stores: &[StoreRow], row: &ByteRecord) -> bool
 // Tests that there is a step.
 #[tactic(auto, unfolding(crate::specs::Forecast::some_steps))]
 fn some_steps(steps: StepTable) -> Result<StepTable, Fault>
-    ensures { Gives steps_of result (some_steps (steps_of steps)) }
+    ensures { Gives NoMemory steps_of result (some_steps (steps_of steps)) }
 {
     test(
         !steps.windows.is_empty(),
@@ -118,7 +119,7 @@ pub(crate) fn forecast_of(
     text: &[u8],
 ) -> Result<StepTable, Fault>
     requires { length stores.now ≤ MAX_STORES }
-    ensures { Gives steps_of result (forecast_in stores.now (records_of text.now)) }
+    ensures { Gives NoMemory steps_of result (forecast_in stores.now (records_of text.now)) }
 {
     let mut reader = reader_of(alloc, text);
     let mut row = ByteRecord::new(alloc);

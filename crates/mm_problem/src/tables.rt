@@ -2,30 +2,32 @@
 ghost use Rattle.std.specs.Prelude.{◌≡◌, ◌≤◌, ◌<◌, ◌==◌, length, map, IfOk, MatchResult};
 ghost use Rattle.std.specs.List.{list_any};
 ghost use Rattle.toml.specs.View.{view, table_view};
-ghost use Rattle.mm_problem.specs.Reading.{Gives};
-ghost use Rattle.mm_problem.specs.Tables.{table_at, id_at, kind_of, kind_at, start_at, store_at, has_store, next_store, stores_in, same_route, route_at, next_route, routes_in, limit_at, next_limit, limits_in};
+ghost use Rattle.mm_problem.specs.declared.fault.Fault.TheVariants.{NoMemory};
+ghost use Rattle.mm_base.specs.Reading.{Gives};
+ghost use Rattle.mm_base.specs.SameRoutes.{same_route};
+ghost use Rattle.mm_problem.specs.Tables.{table_at, id_at, kind_of, kind_at, start_at, store_at, has_store, next_store, stores_in, route_at, next_route, routes_in, limit_at, next_limit, limits_in};
 
 use crate::fault::{Fault, Name};
-use crate::id::StoreId;
+use mm_base::StoreId;
 use crate::keys::{has_only, number_at, text_at, value_at};
-use crate::kind::Kind;
-use crate::limits::{MAX_APID, MAX_BLOCKS, MAX_CHANNEL};
+use mm_base::Kind;
+use mm_base::{MAX_APID, MAX_BLOCKS, MAX_CHANNEL};
 use crate::reading::test;
-use crate::rows::{LimitRow, RouteRow, StoreRow};
+use mm_base::{LimitRow, RouteRow, StoreRow};
 use std::alloc::Global;
 use toml::{Table, Value};
 
 // The members of an element that is a table.
 fn table_at(row: u32, name: Name, value: &Value) -> Result<&Table, Fault>
-    ensures { Gives (λ t. table_view t.now) result (table_at row name (view value.now)) }
+    ensures { Gives NoMemory (λ t. table_view t.now) result (table_at row name (view value.now)) }
 {
     value.as_table().ok_or(Fault::SetupField { row, name })
 }
 
 // The identifier at a key.
-#[tactic(auto, unfolding(crate::specs::Tables::id_at), using(crate::proofs::IdFields::is_id_text_decides))]
+#[tactic(auto, unfolding(crate::specs::Tables::id_at), using(mm_base::proofs::IdFields::is_id_text_decides))]
 fn id_at(row: u32, name: Name, table: &Table) -> Result<StoreId, Fault>
-    ensures { Gives (λ id. id) result (id_at row name (table_view table.now)) }
+    ensures { Gives NoMemory (λ id. id) result (id_at row name (table_view table.now)) }
 {
     let text = text_at(row, name, table)?;
     match StoreId::of_text(text.as_bytes()) {
@@ -35,7 +37,7 @@ fn id_at(row: u32, name: Name, table: &Table) -> Result<StoreId, Fault>
 }
 
 fn kind_of(row: u32, word: &str) -> Result<Kind, Fault>
-    ensures { Gives (λ kind. kind) result (kind_of row word.now) }
+    ensures { Gives NoMemory (λ kind. kind) result (kind_of row word.now) }
 {
     if word == Kind::Circular.word() {
         Ok(Kind::Circular)
@@ -51,14 +53,14 @@ fn kind_of(row: u32, word: &str) -> Result<Kind, Fault>
 
 #[tactic(auto, unfolding(crate::specs::Tables::kind_at))]
 fn kind_at(row: u32, table: &Table) -> Result<Kind, Fault>
-    ensures { Gives (λ kind. kind) result (kind_at row (table_view table.now)) }
+    ensures { Gives NoMemory (λ kind. kind) result (kind_at row (table_view table.now)) }
 {
     let word = text_at(row, Name::Type, table)?;
     kind_of(row, word)
 }
 
 fn start_at(row: u32, size: u32, table: &Table) -> Result<u32, Fault>
-    ensures { Gives (λ n. n) result (start_at row size (table_view table.now)) }
+    ensures { Gives NoMemory (λ n. n) result (start_at row size (table_view table.now)) }
 {
     match value_at(Name::Start, table) {
         Some(_) => number_at(row, Name::Start, 0, size, table),
@@ -68,7 +70,7 @@ fn start_at(row: u32, size: u32, table: &Table) -> Result<u32, Fault>
 
 #[tactic(auto, unfolding(crate::specs::Tables::store_at))]
 fn store_at(row: u32, value: &Value) -> Result<StoreRow, Fault>
-    ensures { Gives (λ r. r) result (store_at row (view value.now)) }
+    ensures { Gives NoMemory (λ r. r) result (store_at row (view value.now)) }
 {
     let table = table_at(row, Name::Store, value)?;
     let names = [Name::Id, Name::Size, Name::Type, Name::Channel, Name::Start];
@@ -102,7 +104,7 @@ fn has_store(stores: &[StoreRow], id: &StoreId) -> bool
 #[tactic(auto, unfolding(crate::specs::Tables::next_store))]
 fn next_store(earlier: &[StoreRow], value: &Value) -> Result<StoreRow, Fault>
     requires { length earlier.now < 256 }
-    ensures { Gives (λ r. r) result (next_store earlier.now (view value.now)) }
+    ensures { Gives NoMemory (λ r. r) result (next_store earlier.now (view value.now)) }
 {
     let number = earlier.len() as u32 + 1;
     let row = store_at(number, value)?;
@@ -120,7 +122,7 @@ fn next_store(earlier: &[StoreRow], value: &Value) -> Result<StoreRow, Fault>
 #[tactic(auto, using(crate::proofs::RowsIn::all_rows))]
 pub(crate) fn stores_of(alloc: Global, values: &[Value]) -> Result<Vec<StoreRow>, Fault>
     requires { length values.now ≤ 256 }
-    ensures { Gives (λ rows. rows.items) result (stores_in (map view values.now)) }
+    ensures { Gives NoMemory (λ rows. rows.items) result (stores_in (map view values.now)) }
 {
     let mut rows = Vec::new(alloc);
     for value in values {
@@ -132,7 +134,7 @@ pub(crate) fn stores_of(alloc: Global, values: &[Value]) -> Result<Vec<StoreRow>
 
 #[tactic(auto, unfolding(crate::specs::Tables::route_at))]
 fn route_at(row: u32, value: &Value) -> Result<RouteRow, Fault>
-    ensures { Gives (λ r. r) result (route_at row (view value.now)) }
+    ensures { Gives NoMemory (λ r. r) result (route_at row (view value.now)) }
 {
     let table = table_at(row, Name::Route, value)?;
     let names = [Name::Apid, Name::Service, Name::Subtype, Name::Store];
@@ -170,7 +172,7 @@ fn has_route(routes: &[RouteRow], route: &RouteRow) -> bool
 #[tactic(auto, unfolding(crate::specs::Tables::next_route))]
 fn next_route(stores: &[StoreRow], earlier: &[RouteRow], value: &Value) -> Result<RouteRow, Fault>
     requires { length earlier.now < 256 }
-    ensures { Gives (λ r. r) result (next_route stores.now earlier.now (view value.now)) }
+    ensures { Gives NoMemory (λ r. r) result (next_route stores.now earlier.now (view value.now)) }
 {
     let number = earlier.len() as u32 + 1;
     let row = route_at(number, value)?;
@@ -199,7 +201,7 @@ pub(crate) fn routes_of(
     values: &[Value],
 ) -> Result<Vec<RouteRow>, Fault>
     requires { length values.now ≤ 256 }
-    ensures { Gives (λ rows. rows.items) result (routes_in stores.now (map view values.now)) }
+    ensures { Gives NoMemory (λ rows. rows.items) result (routes_in stores.now (map view values.now)) }
 {
     let mut rows = Vec::new(alloc);
     for value in values {
@@ -211,7 +213,7 @@ pub(crate) fn routes_of(
 
 #[tactic(auto, unfolding(crate::specs::Tables::limit_at))]
 fn limit_at(row: u32, value: &Value) -> Result<LimitRow, Fault>
-    ensures { Gives (λ r. r) result (limit_at row (view value.now)) }
+    ensures { Gives NoMemory (λ r. r) result (limit_at row (view value.now)) }
 {
     let table = table_at(row, Name::Limit, value)?;
     let names = [Name::Channel, Name::Blocks];
@@ -236,7 +238,7 @@ fn has_limit(limits: &[LimitRow], channel: u8) -> bool
 #[tactic(auto, unfolding(crate::specs::Tables::next_limit))]
 fn next_limit(earlier: &[LimitRow], value: &Value) -> Result<LimitRow, Fault>
     requires { length earlier.now < 256 }
-    ensures { Gives (λ r. r) result (next_limit earlier.now (view value.now)) }
+    ensures { Gives NoMemory (λ r. r) result (next_limit earlier.now (view value.now)) }
 {
     let number = earlier.len() as u32 + 1;
     let row = limit_at(number, value)?;
@@ -254,7 +256,7 @@ fn next_limit(earlier: &[LimitRow], value: &Value) -> Result<LimitRow, Fault>
 #[tactic(auto, using(crate::proofs::RowsIn::all_rows))]
 pub(crate) fn limits_of(alloc: Global, values: &[Value]) -> Result<Vec<LimitRow>, Fault>
     requires { length values.now ≤ 256 }
-    ensures { Gives (λ rows. rows.items) result (limits_in (map view values.now)) }
+    ensures { Gives NoMemory (λ rows. rows.items) result (limits_in (map view values.now)) }
 {
     let mut rows = Vec::new(alloc);
     for value in values {

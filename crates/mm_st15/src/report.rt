@@ -11,11 +11,12 @@ ghost use Rattle.mm_st15.specs.Report.{is_counted, kind_of, moment_of, data_of, 
 use crate::counted::{counted_entries, counted_octets};
 use crate::entries::Entries;
 use crate::entry::{Entry, entries_of, id_at, put_entries};
-use crate::fault::{Fault, NoMemory};
+use crate::fault::Fault;
 use crate::instruction::Configuration;
 use crate::report_entry::{Row, Status, Summary};
 use crate::report_kind::ReportKind;
 use crate::service::SERVICE;
+use mm_base::NoMemory;
 use mm_packet::{Header, Octets, Packet, u16_at};
 use std::alloc::{AllocError, Global};
 

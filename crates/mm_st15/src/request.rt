@@ -7,11 +7,12 @@ ghost use Rattle.mm_st15.specs.Request.{IsRequest, SpellsRequest, request_fault}
 
 use crate::counted::{counted_entries, counted_octets};
 use crate::entries::Entries;
-use crate::fault::{Fault, NoMemory};
+use crate::fault::Fault;
 use crate::instruction::{Channel, Configuration, ReportType, Size, Target, TimeLimit, TimeRange};
 use crate::request_kind::RequestKind;
 use crate::service::SERVICE;
 use crate::table::requests;
+use mm_base::NoMemory;
 use mm_packet::{Header, Octets, Packet};
 use std::alloc::{AllocError, Global};
 

@@ -10,7 +10,7 @@ use Rattle.std.proofs.lemmas.List.Kept.{AllPairs-filter}
 use Rattle.std.proofs.lemmas.List.Sums.{length-filter}
 use Rattle.std.proofs.lemmas.List.Filters.{length-filter_both}
 use Rattle.circular_buffer.specs.Buffer.{Buffer, buffer}
-use Rattle.mm_problem.specs.declared.kind.Kind.{Kind}
+use Rattle.mm_base.specs.declared.kind.Kind.{Kind}
 use Rattle.mm_store.specs.declared.stored.Stored.{Stored}
 use Rattle.mm_store.specs.Content.{Store, IsStore, IsRising, kept_after, count_up_to, delete_up_to, is_in, first_in}
 use Rattle.mm_store.specs.Queue.{begins_by}

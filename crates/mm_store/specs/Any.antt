@@ -1,7 +1,7 @@
 -- The two forms of an `AnyStore`. No public clause cites this module.
 use Rattle.std.specs.Prelude.{◌≡◌}
-use Rattle.mm_problem.specs.declared.kind.Kind.{Kind}
-use Rattle.mm_problem.specs.declared.kind.Kind.TheVariants.{Circular, Bounded}
+use Rattle.mm_base.specs.declared.kind.Kind.{Kind}
+use Rattle.mm_base.specs.declared.kind.Kind.TheVariants.{Circular, Bounded}
 use Rattle.mm_store.specs.Content.{Store}
 use Rattle.mm_store.specs.declared.any.Form.{Form}
 use Rattle.mm_store.specs.declared.any.Form.TheVariants.{Ring, Blocks}

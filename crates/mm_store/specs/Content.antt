@@ -1,9 +1,9 @@
 -- What a packet store holds, and what each call does to it, over one list of packets with their times.
 use Rattle.std.specs.Prelude.{ℕ, Bool, ◌+◌, ◌-◌, ◌<◌, ◌≤◌, ◌^◌, ◌==◌, ◌&&◌, nat_lt, nat_le, max, if◌then◌else◌, List, [], ◌∷◌, ◌++◌, length, map, filter, find, count_by, slice_index, All, AllPairs, Option, option_map}
 use Rattle.std.specs.Borrow.{Bor}
-use Rattle.mm_problem.specs.declared.limits.TheConstants.{MAX_BLOCKS}
-use Rattle.mm_problem.specs.declared.kind.Kind.{Kind}
-use Rattle.mm_problem.specs.declared.kind.Kind.TheVariants.{Circular, Bounded}
+use Rattle.mm_base.specs.declared.limits.TheConstants.{MAX_BLOCKS}
+use Rattle.mm_base.specs.declared.kind.Kind.{Kind}
+use Rattle.mm_base.specs.declared.kind.Kind.TheVariants.{Circular, Bounded}
 use Rattle.mm_packet.specs.Packet.{SpacePacket}
 use Rattle.mm_store.specs.declared.stored.Stored.{Stored}
 use Rattle.mm_store.specs.declared.put.Put.{Put}

@@ -1,4 +1,4 @@
-pub use Rattle.mm_problem.specs.Kind
+pub use Rattle.mm_base.specs.Kind
 pub use Rattle.mm_packet.specs.Packet
 pub mod Fault
 pub mod Content

@@ -1,7 +1,7 @@
 -- What a store over a queue of packets is. No public clause cites this module.
 use Rattle.std.specs.Prelude.{ℕ, Bool, false, nat_le, List, [], ◌∷◌}
 use Rattle.circular_buffer.specs.Buffer.{Buffer}
-use Rattle.mm_problem.specs.declared.kind.Kind.{Kind}
+use Rattle.mm_base.specs.declared.kind.Kind.{Kind}
 use Rattle.mm_store.specs.declared.stored.Stored.{Stored}
 use Rattle.mm_store.specs.Content.{Store}
 

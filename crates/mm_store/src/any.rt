@@ -9,7 +9,7 @@ use crate::put::Put;
 use crate::ring::RingStore;
 use crate::store::PacketStore;
 use mm_packet::{BlockPacket, NoMemory};
-use mm_problem::{Kind, MAX_BLOCKS};
+use mm_base::{Kind, MAX_BLOCKS};
 use std::alloc::Global;
 use std::marker::Model;
 

@@ -1,6 +1,6 @@
 //! Bounded packet stores.
 ghost use Rattle.std.specs.Prelude.{◌≡◌, ◌<◌, ◌≤◌, ◌↔◌, length, Err, IfOk, OnOk, OnErr};
-ghost use Rattle.mm_problem.specs.declared.kind.Kind.TheVariants.{Bounded};
+ghost use Rattle.mm_base.specs.declared.kind.Kind.TheVariants.{Bounded};
 ghost use Rattle.mm_store.specs.Content.{empty_store};
 ghost use Rattle.mm_store.specs.declared.fault.Fault.TheVariants.{HoldsMore};
 
@@ -12,7 +12,7 @@ use crate::store::PacketStore;
 use crate::stored::Stored;
 use crate::table::BlockTable;
 use mm_packet::{BlockPacket, NoMemory};
-use mm_problem::{Kind, MAX_BLOCKS};
+use mm_base::{Kind, MAX_BLOCKS};
 use std::alloc::Global;
 use std::marker::Model;
 
@@ -24,7 +24,7 @@ pub struct BlockStore {
 }
 
 impl Model for BlockStore {
-    ghost use Rattle.mm_problem.specs.declared.kind.Kind.TheVariants.{Bounded};
+    ghost use Rattle.mm_base.specs.declared.kind.Kind.TheVariants.{Bounded};
     ghost use Rattle.mm_store.specs.Content.{Store, IsStore};
     ghost use Rattle.mm_store.specs.Queue.{store_over};
 

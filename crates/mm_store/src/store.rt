@@ -4,7 +4,7 @@ ghost use Rattle.mm_store.specs.Content.{Store, IsStore, put, first_in, shown, c
 
 use crate::put::Put;
 use mm_packet::BlockPacket;
-use mm_problem::Kind;
+use mm_base::Kind;
 
 /// A packet store (ECSS-E-ST-70-41C, 6.15): a list of packets with their storage times, in blocks of one packet.
 ///

@@ -2,7 +2,7 @@ ghost use Rattle.std.specs.Prelude.{◌≤◌};
 
 use super::*;
 use mm_packet::{BlockPacket, Header, Octets, Packet};
-use mm_problem::{Kind, MAX_BLOCKS};
+use mm_base::{Kind, MAX_BLOCKS};
 use std::alloc::Global;
 use std::process::Abort;
 use std::test::Fail;

@@ -1,6 +1,6 @@
 use Rattle.std.proofs.Common.{◌≤◌, ◌+◌, length}
 use Rattle.mm_ask.specs.Answering.{Standing}
-use Rattle.mm_problem.specs.Lines.{text_lines}
+use Rattle.mm_base.specs.Lines.{text_lines}
 use Rattle.mm_ask.specs.Asking.{Converses}
 use Rattle.mm_ask.proofs.ask.converse.Given as goal
 

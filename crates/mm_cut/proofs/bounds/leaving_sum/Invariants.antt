@@ -1,7 +1,7 @@
 use Rattle.std.proofs.Common.{◌≡◌, ◌-◌, ◌*◌, ◌≤◌}
 use Rattle.std.specs.Prelude.{filter}
 use Rattle.std.specs.List.{sum_by, range_with_len}
-use Rattle.mm_problem.specs.declared.limits.TheConstants.{MAX_BLOCKS, CHANNELS}
+use Rattle.mm_base.specs.declared.limits.TheConstants.{MAX_BLOCKS, CHANNELS}
 use Rattle.mm_cut.specs.Stretches.{is_inner}
 use Rattle.mm_cut.specs.Cuts.{leaving}
 use Rattle.mm_cut.proofs.bounds.leaving_sum.Given as goal

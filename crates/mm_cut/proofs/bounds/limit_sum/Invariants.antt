@@ -1,7 +1,7 @@
 use Rattle.std.proofs.Common.{◌≡◌, ◌*◌, ◌≤◌}
 use Rattle.std.specs.Prelude.{filter}
 use Rattle.std.specs.List.{sum_by, range_with_len}
-use Rattle.mm_problem.specs.declared.limits.TheConstants.{MAX_BLOCKS}
+use Rattle.mm_base.specs.declared.limits.TheConstants.{MAX_BLOCKS}
 use Rattle.mm_cut.specs.Stretches.{is_inner_on}
 use Rattle.mm_cut.specs.Cuts.{limit_or_0}
 use Rattle.mm_cut.proofs.bounds.limit_sum.Given as goal

@@ -1,5 +1,5 @@
 use Rattle.std.proofs.Common.{◌+◌, ◌-◌, ◌*◌, ◌≤◌, length}
-use Rattle.mm_problem.specs.declared.limits.TheConstants.{MAX_STORES}
+use Rattle.mm_base.specs.declared.limits.TheConstants.{MAX_STORES}
 use Rattle.mm_plan.specs.Table.{amount, HasShape}
 use Rattle.mm_exhaustive.specs.Agreement.{AgreesBefore}
 use Rattle.mm_exhaustive.specs.Best.{IsFitting}

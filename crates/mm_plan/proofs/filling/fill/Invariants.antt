@@ -1,5 +1,5 @@
 use Rattle.std.proofs.Common.{◌≡◌, length}
-use Rattle.mm_problem.specs.declared.limits.TheConstants.{MAX_STORES}
+use Rattle.mm_base.specs.declared.limits.TheConstants.{MAX_STORES}
 use Rattle.mm_plan.specs.Table.{amount, HasShape}
 use Rattle.mm_plan.proofs.Fills.{IsDoneBefore}
 use Rattle.mm_plan.proofs.filling.fill.Given as goal

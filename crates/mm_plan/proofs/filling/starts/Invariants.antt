@@ -1,5 +1,5 @@
 use Rattle.std.proofs.Common.{◌≡◌, ℕ, ◌<◌, length, get_or}
-use Rattle.mm_problem.specs.declared.limits.TheConstants.{MAX_STORES}
+use Rattle.mm_base.specs.declared.limits.TheConstants.{MAX_STORES}
 use Rattle.mm_problem.specs.Dumping.{start}
 use Rattle.mm_plan.proofs.filling.starts.Given as goal
 

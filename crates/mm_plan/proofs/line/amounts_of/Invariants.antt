@@ -1,5 +1,5 @@
 use Rattle.std.proofs.Common.{◌≡◌, [], map, length}
-use Rattle.mm_problem.specs.declared.limits.TheConstants.{MAX_BLOCKS}
+use Rattle.mm_base.specs.declared.limits.TheConstants.{MAX_BLOCKS}
 use Rattle.mm_plan.specs.Reading.{number_to}
 use Rattle.mm_plan.specs.Reading.{read_each}
 use Rattle.mm_plan.proofs.line.amounts_of.Given as goal

@@ -1,5 +1,5 @@
 use Rattle.std.proofs.Common.{◌≡◌, ◌++◌, map, length}
-use Rattle.mm_problem.specs.Id.{id_text}
+use Rattle.mm_base.specs.Id.{id_text}
 use Rattle.mm_plan.specs.Printing.{spaced}
 use Rattle.mm_plan.proofs.print.push_ids.Given as goal
 

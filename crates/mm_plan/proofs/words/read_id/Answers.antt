@@ -1,6 +1,6 @@
 use Rattle.std.proofs.Common.{cond, Some, None, ap, sym, ◌∙◌, inl, inr, refl}
 use Rattle.std.proofs.lemmas.Bool.{cases_Bool}
-use Rattle.mm_problem.specs.Id.{field_of}
+use Rattle.mm_base.specs.Id.{field_of}
 use Rattle.mm_plan.specs.Reading.{is_id_text, read_id}
 use Rattle.mm_plan.proofs.IdTexts.{is_id_text_passes, is_id_text_means}
 use Rattle.mm_plan.proofs.words.read_id.Goals as goal

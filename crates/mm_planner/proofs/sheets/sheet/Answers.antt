@@ -1,7 +1,7 @@
 use Rattle.std.proofs.Common.{◌≡◌, pos, rules, arith}
 use Rattle.std.specs.Prelude.{All}
 use Rattle.std.proofs.lemmas.Grind.{common_steps}
-use Rattle.mm_problem.specs.Id.{IsIdField}
+use Rattle.mm_base.specs.Id.{IsIdField}
 use Rattle.mm_plan.specs.Table.{HasShape, IsTable}
 use Rattle.mm_plan.specs.Sheet.{IsShapedFor}
 use Rattle.mm_cut.specs.Cuts.{IsCut}

@@ -1,7 +1,7 @@
 use Rattle.std.proofs.Common.{◌≡◌, map, take}
 use Rattle.std.specs.Prelude.{All}
-use Rattle.mm_problem.specs.declared.rows.StoreRow.{StoreRow}
-use Rattle.mm_problem.specs.Id.{IsIdField}
+use Rattle.mm_base.specs.declared.rows.StoreRow.{StoreRow}
+use Rattle.mm_base.specs.Id.{IsIdField}
 use Rattle.mm_planner.proofs.sheets.store_ids.Given as goal
 
 abbrev pub invariant-loop-store : goal.invariant-loop-store

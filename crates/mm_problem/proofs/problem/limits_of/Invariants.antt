@@ -1,5 +1,5 @@
 use Rattle.std.proofs.Common.{◌≡◌, ℕ, ◌<◌, length, get_or, None}
-use Rattle.mm_problem.specs.declared.limits.TheConstants.{CHANNELS}
+use Rattle.mm_base.specs.declared.limits.TheConstants.{CHANNELS}
 use Rattle.mm_problem.specs.Forecast.{limit_of}
 use Rattle.mm_problem.proofs.problem.limits_of.Given as goal
 

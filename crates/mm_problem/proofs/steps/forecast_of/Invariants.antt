@@ -1,7 +1,7 @@
 use Rattle.std.proofs.Common.{◌≡◌, ◌+◌, ◌-◌, ◌≤◌, length, List, vec_len}
-use Rattle.mm_problem.specs.declared.limits.TheConstants.{MAX_STEPS}
+use Rattle.mm_base.specs.declared.limits.TheConstants.{MAX_STEPS}
 use Rattle.mm_problem.specs.Forecast.{steps_in, some_steps, forecast_in}
-use Rattle.mm_problem.specs.Reading.{◌>>=◌}
+use Rattle.mm_base.specs.Reading.{◌>>=◌}
 use Rattle.mm_problem.specs.Records.{Fields, HasRecords, records_of}
 use Rattle.mm_problem.specs.StepLists.{steps_of}
 use Rattle.mm_problem.proofs.steps.forecast_of.Given as goal

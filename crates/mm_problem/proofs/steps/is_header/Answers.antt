@@ -2,7 +2,7 @@ use Rattle.std.proofs.Common.{◌≡◌, length, sym, arith}
 use Rattle.std.proofs.lemmas.List.{length-map}
 use Rattle.csv.specs.Records.{fields_of}
 use Rattle.mm_problem.specs.Forecast.{header_of}
-use Rattle.mm_problem.specs.Id.{id_text}
+use Rattle.mm_base.specs.Id.{id_text}
 use Rattle.mm_problem.proofs.ForecastCells.{other_length}
 use Rattle.mm_problem.proofs.steps.is_header.Goals as goal
 

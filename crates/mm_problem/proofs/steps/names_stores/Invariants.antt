@@ -1,7 +1,7 @@
 use Rattle.std.proofs.Common.{◌≡◌, ◌+◌, map, drop}
 use Rattle.csv.specs.Records.{fields_of}
 use Rattle.mm_problem.specs.Forecast.{same_fields}
-use Rattle.mm_problem.specs.Id.{id_text}
+use Rattle.mm_base.specs.Id.{id_text}
 use Rattle.mm_problem.proofs.steps.names_stores.Given as goal
 
 abbrev pub invariant-loop-i : goal.invariant-loop-i

@@ -1,8 +1,8 @@
 use Rattle.std.proofs.Common.{◌≡◌, ◌⊎◌, ◌+◌, ◌<◌, ◌≤◌, List, [], ◌∷◌, length, max, inl, inr, refl, arith}
 use Rattle.std.proofs.lemmas.Bool.{cases_lt, lt-ltb, le-ltb, ne_eqb}
 use Rattle.std.proofs.lemmas.List.{length_push}
-use Rattle.mm_problem.specs.declared.kind.Kind.{Kind}
-use Rattle.mm_problem.specs.declared.kind.Kind.TheVariants.{Circular, Bounded}
+use Rattle.mm_base.specs.declared.kind.Kind.{Kind}
+use Rattle.mm_base.specs.declared.kind.Kind.TheVariants.{Circular, Bounded}
 use Rattle.mm_store.specs.declared.stored.Stored.{Stored}
 use Rattle.mm_store.specs.Content.{Store, IsStore, clock_end, put_timed, put_full}
 use Rattle.mm_store.specs.Laws.{LosesOverflow}

@@ -1,7 +1,7 @@
 use Rattle.std.proofs.Common.{◌≡◌, ◌<◌, length, arith}
 use Rattle.std.specs.List.{insert}
 use Rattle.std.proofs.lemmas.List.Edits.{length-insert}
-use Rattle.mm_problem.specs.declared.limits.TheConstants.{MAX_ROUTES}
+use Rattle.mm_base.specs.declared.limits.TheConstants.{MAX_ROUTES}
 use Rattle.mm_control.specs.Routes.{IsTable}
 use Rattle.mm_control.proofs.RouteLemmas.{IsInOrder-with_row}
 use Rattle.mm_control.proofs.table.ControlTable.add.Goals as goal

@@ -1,4 +1,4 @@
-use Rattle.mm_problem.specs.declared.kind.Kind.TheVariants.{Bounded}
+use Rattle.mm_base.specs.declared.kind.Kind.TheVariants.{Bounded}
 use Rattle.mm_store.proofs.ContentLemmas.{IsStore-emptied}
 use Rattle.mm_store.proofs.ring.RingStore.taking.Goals as goal
 

@@ -1,0 +1,5 @@
+pub mod ReadingSteps
+pub mod IdFields
+pub mod NumberLaws
+pub mod NumberTexts
+mod LineLemmas

@@ -1,0 +1,10 @@
+-- The refusals of this crate.
+use Rattle.mm_base.specs.declared.fault.Fault.{Fault}
+use Rattle.mm_base.specs.declared.fault.Fault.TheVariants.{BadId, BadEnum}
+use Rattle.mm_base.specs.declared.refusal.Refusal.{Refusal}
+use Rattle.mm_base.specs.declared.refusal.Refusal.TheVariants as refusal
+
+-- which refusal it is
+abbrev pub refusal_of : Fault → Refusal
+refusal_of BadId = refusal.BadId
+refusal_of BadEnum = refusal.BadEnum

@@ -1,0 +1,9 @@
+-- What the definitions of this crate mean, in the words of their subjects.
+use Rattle.std.specs.Prelude.{◌≡◌, ◌↔◌, ℕ, ◌^◌, ◌<◌, ◌≤◌, List}
+use Rattle.std.specs.Fmt.{decimal}
+use Rattle.mm_base.specs.declared.numbers.Numeral.TheVariants.{Number}
+use Rattle.mm_base.specs.Numbers.{numeral_of}
+
+-- a text is a number up to a bound exactly where it is what that number is printed as
+abbrev pub ReadsNumbers : Type 0
+ReadsNumbers = (most : ℕ) (text : List ℕ) (n : ℕ) → most < 2 ^ 64 → (numeral_of most text ≡ Number n) ↔ ((text ≡ decimal n) × (n ≤ most))

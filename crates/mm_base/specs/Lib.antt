@@ -1,0 +1,10 @@
+pub mod Characters
+pub mod Refusals
+pub mod Fault
+pub mod Reading
+pub mod Id
+pub mod Kind
+pub mod Numbers
+pub mod Lines
+pub mod SameRoutes
+pub mod Laws

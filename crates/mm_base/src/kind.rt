@@ -1,0 +1,46 @@
+//! Whether a packet store is circular or bounded.
+ghost use Rattle.std.specs.Prelude.{◌≡◌};
+ghost use Rattle.mm_base.specs.Kind.{code_of, word_of, DecodesKind};
+
+use crate::fault::Fault;
+
+/// The kind of a packet store (ECSS-E-ST-70-41C, 6.15): a full circular store overwrites its oldest packet,
+/// a full bounded store keeps what it holds.
+#[derive(Clone, Copy, Debug, PartialEq, Eq)]
+pub enum Kind {
+    Circular,
+    Bounded,
+}
+
+impl Kind {
+    /// The kind of a telecommand's type field: 0 circular, 1 bounded; any other code is `BadEnum`.
+    pub fn of_code(code: u8) -> Result<Kind, Fault>
+        ensures kind { DecodesKind code result }
+    {
+        match code {
+            0 => Ok(Kind::Circular),
+            1 => Ok(Kind::Bounded),
+            _ => Err(Fault::BadEnum),
+        }
+    }
+
+    /// The code of the kind in a telecommand or a report.
+    pub fn code(self) -> u8
+        ensures code { result ≡ code_of self }
+    {
+        match self {
+            Kind::Circular => 0,
+            Kind::Bounded => 1,
+        }
+    }
+
+    /// The word for the kind in a setup.
+    pub fn word(self) -> &'static str
+        ensures word { result.now ≡ word_of self }
+    {
+        match self {
+            Kind::Circular => "circular",
+            Kind::Bounded => "bounded",
+        }
+    }
+}

@@ -1,0 +1,21 @@
+//! Want of memory: an allocation was refused.
+use crate::refusal::Refusal;
+use std::alloc::{AllocError, AllocFailed};
+use thiserror::Error;
+
+/// An allocation was refused, where no other refusal is possible. It is shown as its number and its name.
+#[derive(Clone, Copy, Debug, PartialEq, Eq, Error)]
+#[error("{}", Refusal::NoMemory)]
+pub struct NoMemory;
+
+impl From<AllocError> for NoMemory {
+    fn from(_error: AllocError) -> NoMemory {
+        NoMemory
+    }
+}
+
+impl<T: Drop> From<AllocFailed<T>> for NoMemory {
+    fn from(_error: AllocFailed<T>) -> NoMemory {
+        NoMemory
+    }
+}

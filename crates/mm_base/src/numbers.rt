@@ -1,0 +1,84 @@
+//! Numbers in texts: decimal, without sign and without leading zeros.
+ghost use Rattle.std.specs.Prelude.{◌≡◌, ◌+◌, ◌-◌, ◌*◌, ◌++◌, nat_le, decimal, Some, None, OnOk, if◌then◌else◌};
+ghost use Rattle.std.specs.Char.{is_ascii_digit};
+ghost use Rattle.std.specs.List.{list_all};
+ghost use Rattle.mm_base.specs.Numbers.{is_number, value_after, numeral_within, numeral_of, IsWithin};
+
+use itoa::Buffer;
+use std::alloc::AllocError;
+
+/// What a text is as a number up to a bound.
+#[derive(Clone, Copy, Debug, PartialEq, Eq)]
+pub enum Numeral {
+    /// The text is no number: it is empty, has another character than a digit, or a 0 before another digit.
+    NotNumber,
+    /// The number is above the bound, however long its text is.
+    TooLarge,
+    Number(u64),
+}
+
+impl Numeral {
+    /// What the text is as a number up to `most`.
+    pub fn read(text: &[u8], most: u64) -> Numeral
+        ensures numeral { result ≡ numeral_of most text.now }
+        ensures within { IsWithin most result }
+    {
+        if is_number(text) {
+            value_of(text, most)
+        } else {
+            Numeral::NotNumber
+        }
+    }
+}
+
+fn are_digits(text: &[u8]) -> bool
+    ensures { result ≡ list_all is_ascii_digit text.now }
+{
+    text.iter().all(|octet| octet.is_ascii_digit())
+}
+
+fn is_number(text: &[u8]) -> bool
+    ensures { result ≡ is_number text.now }
+{
+    match text {
+        [] => false,
+        [digit] => digit.is_ascii_digit(),
+        [first, _, ..] => *first != b'0' && are_digits(text),
+    }
+}
+
+// The number with one more digit, unless it is above the bound.
+fn with_digit(number: u64, digit: u8, most: u64) -> Option<u64>
+    ensures { result ≡ (if nat_le (number * 10 + (digit - 48)) most then Some (number * 10 + (digit - 48)) else None) }
+{
+    let digit = u64::from(digit.saturating_sub(b'0'));
+    if digit <= most && number <= (most - digit) / 10 {
+        Some(number * 10 + digit)
+    } else {
+        None
+    }
+}
+
+// The number with these digits.
+#[tactic(auto, using(crate::proofs::NumberLaws::value_after_more, crate::proofs::NumberLaws::value_after_all, crate::proofs::NumberLaws::too_large))]
+fn value_of(digits: &[u8], most: u64) -> Numeral
+    ensures numeral { result ≡ numeral_within most (value_after 0 digits.now) }
+    ensures within { IsWithin most result }
+{
+    let mut number = 0;
+    for digit in digits {
+        match with_digit(number, *digit, most) {
+            Some(next) => number = next,
+            None => return Numeral::TooLarge,
+        }
+    }
+    Numeral::Number(number)
+}
+
+/// Writes a number after a text.
+pub fn push_number(text: &mut Vec<u8>, number: u64) -> Result<(), AllocError>
+    ensures { OnOk result (text.new.items ≡ text.old.items ++ decimal number) }
+{
+    let mut buffer = Buffer::new();
+    text.extend_from_slice(buffer.format(number).as_bytes())
+}

@@ -1,7 +1,0 @@
--- The lines of a text.
-use Rattle.std.specs.Prelude.{ℕ, ◌==◌, List}
-use Rattle.std.specs.List.{slice_split}
-
--- what stands between the line feeds of a text; the last of it is empty where the text ends with one
-abbrev pub text_lines : List ℕ → List (List ℕ)
-text_lines text = slice_split (λ c. c == 10) text
