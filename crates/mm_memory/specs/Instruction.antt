@@ -4,6 +4,7 @@ use Rattle.mm_base.specs.declared.kind.Kind.{Kind}
 use Rattle.mm_base.specs.declared.kind.Kind.TheVariants.{Circular, Bounded}
 use Rattle.mm_base.specs.declared.limits.TheConstants.{MAX_APID, MAX_BLOCKS, MAX_CHANNEL}
 use Rattle.mm_base.specs.Id.{is_id_text, id_text, field_of}
+use Rattle.mm_base.specs.Reading.{◌>>=◌}
 use Rattle.mm_st15.specs.declared.instruction.Target.{Target}
 use Rattle.mm_st15.specs.declared.instruction.ReportType.{ReportType}
 use Rattle.mm_st15.specs.declared.instruction.TimeRange.{TimeRange}
@@ -22,12 +23,6 @@ use Rattle.mm_memory.specs.declared.instruction.Action.TheVariants.{Create, Dele
 use Rattle.mm_memory.specs.declared.instruction.Change.TheVariants.{Enable, Disable, Begin, Abort, DeleteContent, Resize, SetKind, SetChannel}
 use Rattle.mm_memory.specs.declared.instruction.RouteChange.{RouteChange}
 use Rattle.mm_memory.specs.declared.instruction.RouteChange.TheVariants as route
-
--- the next test, where none has failed yet
-infixl 10 ◌>>=◌
-abbrev pub ◌>>=◌ : {A B : Type 0} → Result A Fault → (A → Result B Fault) → Result B Fault
-(Ok x) >>= f = f x
-(Err e) >>= f = Err e
 
 -- whether octets are a padded identifier
 abbrev pub is_id : List ℕ → Bool

@@ -10,14 +10,14 @@ ghost use Rattle.mm_memory.specs.Reports.{reports_on};
 ghost use Rattle.mm_memory.specs.Instruction.{instructions_of};
 
 use crate::answer::{Answer, Answers};
-use crate::fault::{Fault, NoMemory};
+use crate::fault::Fault;
 use crate::held::Held;
 use crate::instruction::{Action, Change, Form, Instruction, RouteChange};
 use crate::memory::Memory;
 use crate::places::place_of;
 use crate::request::instructions_of;
 use mm_desk::StoreState;
-use mm_problem::{MAX_STORES, RouteRow, StoreId};
+use mm_base::{MAX_STORES, NoMemory, RouteRow, StoreId};
 use mm_st15::{Request, Row};
 use mm_store::AnyStore;
 use std::alloc::Global;

@@ -1,10 +1,10 @@
 //! Instructions, whose fields were tested.
 ghost use Rattle.std.specs.Prelude.{◌≡◌, ◌≤◌, IfOk};
-ghost use Rattle.mm_problem.specs.declared.limits.TheConstants.{MAX_BLOCKS};
+ghost use Rattle.mm_base.specs.declared.limits.TheConstants.{MAX_BLOCKS};
 ghost use Rattle.mm_memory.specs.Instruction.{size_tested};
 
 use crate::fault::Fault;
-use mm_problem::{Kind, MAX_BLOCKS, StoreId};
+use mm_base::{Kind, MAX_BLOCKS, StoreId};
 use mm_st15::Row;
 use std::marker::Model;
 
@@ -68,7 +68,7 @@ pub(crate) struct Blocks(u32);
 
 impl Model for Blocks {
     ghost use Rattle.std.specs.Prelude.{ℕ, ◌≤◌};
-    ghost use Rattle.mm_problem.specs.declared.limits.TheConstants.{MAX_BLOCKS};
+    ghost use Rattle.mm_base.specs.declared.limits.TheConstants.{MAX_BLOCKS};
 
     ghost Value = { ℕ };
 

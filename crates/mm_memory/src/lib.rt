@@ -15,9 +15,10 @@ mod setup;
 mod testing;
 
 pub use answer::{Answer, Answers};
-pub use fault::{Fault, NoMemory};
+pub use fault::Fault;
 pub use held::Held;
 pub use memory::Memory;
+pub use mm_base::NoMemory;
 
 #[cfg(test)]
 mod tests;

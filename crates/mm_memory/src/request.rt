@@ -2,10 +2,10 @@
 ghost use Rattle.std.specs.Prelude.{◌≡◌, map, IfOk};
 ghost use Rattle.mm_memory.specs.Instruction.{parsed, instructions_of};
 
-use crate::fault::{Fault, NoMemory};
+use crate::fault::Fault;
 use crate::instruction::{Action, Change, Instruction, RouteChange};
 use crate::testing::{Fields, parsed};
-use mm_problem::Kind;
+use mm_base::{Kind, NoMemory};
 use mm_st15::{Entries, Request};
 use std::alloc::Global;
 

@@ -5,7 +5,7 @@ ghost use Rattle.mm_memory.specs.declared.fault.Fault.TheVariants.{BadId};
 
 use crate::fault::Fault;
 use crate::instruction::{Action, Blocks, Change, Form, Instruction, RouteChange};
-use mm_problem::{Kind, MAX_APID, MAX_CHANNEL, StoreId};
+use mm_base::{Kind, MAX_APID, MAX_CHANNEL, StoreId};
 use mm_st15::{Channel, Configuration, ReportType, Row, Size, Target, TimeLimit, TimeRange};
 
 // An instruction of a request, with its fields as they came.
