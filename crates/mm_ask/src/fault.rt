@@ -1,9 +1,7 @@
 //! Why a line is no request, and why a setup is refused.
 ghost use Rattle.std.specs.Prelude.{◌≡◌};
-ghost use Rattle.mm_base.specs.Refusals.{number_of, name_of};
-ghost use Rattle.mm_ask.specs.Fault.{refusal_of, setup_refusal_of};
 
-use mm_base::{NoMemory, Refusal};
+use mm_base::{NoMemory, Refusal, Refused};
 use thiserror::Error;
 
 /// Why a line is no request. It is printed as its number, a space and its name.
@@ -21,31 +19,18 @@ pub enum LineFault {
     Request(mm_st15::Fault),
 }
 
-impl LineFault {
-    /// Which refusal it is.
-    pub fn refusal(self) -> Refusal
-        ensures refusal { result ≡ refusal_of self }
-    {
+impl Refused for LineFault {
+    ghost use Rattle.mm_ask.specs.Fault.{refusal_of};
+
+    ghost refusal_of = { refusal_of };
+
+    fn refusal(self) -> Refusal {
         match self {
             LineFault::NoMemory => Refusal::NoMemory,
             LineFault::HexLine => Refusal::HexLine,
             LineFault::Packet(fault) => fault.refusal(),
             LineFault::Request(fault) => fault.refusal(),
         }
-    }
-
-    /// The refusal's number.
-    pub fn number(self) -> u8
-        ensures number { result ≡ number_of (refusal_of self) }
-    {
-        self.refusal().number()
-    }
-
-    /// The refusal's name.
-    pub fn name(self) -> &'static str
-        ensures name { result.now ≡ name_of (refusal_of self) }
-    {
-        self.refusal().name()
     }
 }
 
@@ -86,11 +71,12 @@ pub enum Fault {
     Setup(mm_problem::Fault),
 }
 
-impl Fault {
-    /// Which refusal it is.
-    pub fn refusal(self) -> Refusal
-        ensures refusal { result ≡ setup_refusal_of self }
-    {
+impl Refused for Fault {
+    ghost use Rattle.mm_ask.specs.Fault.{setup_refusal_of};
+
+    ghost refusal_of = { setup_refusal_of };
+
+    fn refusal(self) -> Refusal {
         match self {
             Fault::NoMemory => Refusal::NoMemory,
             Fault::Setup(fault) => fault.refusal(),

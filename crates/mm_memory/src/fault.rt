@@ -1,9 +1,7 @@
 //! Why an instruction is refused.
 ghost use Rattle.std.specs.Prelude.{◌≡◌};
-ghost use Rattle.mm_base.specs.Refusals.{number_of, name_of};
-ghost use Rattle.mm_memory.specs.Fault.{refusal_of};
 
-use mm_base::{NoMemory, Refusal};
+use mm_base::{NoMemory, Refusal, Refused};
 use thiserror::Error;
 
 /// A refusal of this crate, or of a store's state or the storage control. It is shown as its
@@ -31,11 +29,12 @@ pub enum Fault {
     Control(mm_control::Fault),
 }
 
-impl Fault {
-    /// Which refusal it is.
-    pub fn refusal(self) -> Refusal
-        ensures refusal { result ≡ refusal_of self }
-    {
+impl Refused for Fault {
+    ghost use Rattle.mm_memory.specs.Fault.{refusal_of};
+
+    ghost refusal_of = { refusal_of };
+
+    fn refusal(self) -> Refusal {
         match self {
             Fault::NoMemory => Refusal::NoMemory,
             Fault::BadId => Refusal::BadId,
@@ -47,20 +46,6 @@ impl Fault {
             Fault::State(fault) => fault.refusal(),
             Fault::Control(fault) => fault.refusal(),
         }
-    }
-
-    /// The refusal's number.
-    pub fn number(self) -> u8
-        ensures number { result ≡ number_of (refusal_of self) }
-    {
-        self.refusal().number()
-    }
-
-    /// The refusal's name.
-    pub fn name(self) -> &'static str
-        ensures name { result.now ≡ name_of (refusal_of self) }
-    {
-        self.refusal().name()
     }
 }
 

@@ -1,6 +1,6 @@
 use super::*;
 use mm_packet::{Header, Octets, Packet, TELECOMMAND_BODY};
-use mm_base::{Kind, RouteRow, StoreId};
+use mm_base::{Kind, Refused, RouteRow, StoreId};
 use mm_problem::Setup;
 use mm_st15::Request;
 use mm_store::PacketStore;

@@ -1,4 +1,5 @@
 use super::*;
+use mm_base::Refused;
 use mm_packet::Packet;
 use std::alloc::Global;
 use std::process::Abort;
