@@ -7,6 +7,7 @@ mod change;
 mod fault;
 mod held;
 mod instruction;
+pub mod laws;
 mod memory;
 mod places;
 mod reports;
