@@ -1,17 +1,16 @@
 -- A conversation counts the reports that it prints.
-use Rattle.std.proofs.Common.{◌≡◌, ℕ, ◌+◌, List, [], ◌∷◌, ◌++◌, inl, inr, map, Result, Ok, Err, refl, sym, ap, ◌∙◌, append-nil, append_assoc}
+use Rattle.std.proofs.Common.{◌≡◌, ℕ, ◌+◌, List, [], ◌∷◌, ◌++◌, inl, inr, Result, Ok, Err, refl, sym, ap, ◌∙◌, append-nil, append_assoc}
 use Rattle.std.specs.Prelude.{fold}
 use Rattle.std.proofs.lemmas.List.Sums.{fold-append}
 use Rattle.mm_packet.specs.Packet.{SpacePacket}
 use Rattle.mm_st15.specs.declared.report.Report.{Report}
 use Rattle.mm_st15.specs.declared.report_kind.ReportKind.{ReportKind}
-use Rattle.mm_st15.specs.Report.{kind_of}
 use Rattle.mm_memory.specs.Reports.{reports_on}
 use Rattle.mm_ask.specs.declared.fault.LineFault.{LineFault}
-use Rattle.mm_ask.specs.Answering.{Standing, with_report, with_reports, with_answers, AnswersTo, Follows}
+use Rattle.mm_ask.specs.Answering.{Standing, with_report, with_reports, with_answers, AnswersTo}
 use Rattle.mm_ask.specs.Asking.{Passes, Converses}
 use Rattle.mm_ask.specs.Counting.{Counts, no_counts, counted, counts_after}
-use Rattle.mm_ask.specs.Laws.{kinds_of, told_of, told_by, told_in, told}
+use Rattle.mm_ask.specs.Laws.{kinds_of, told_of, told_in, told}
 use Rattle.mm_ask.specs.Line.{request_of}
 
 -- reports are counted from where the counts stand

@@ -12,7 +12,6 @@ use Rattle.mm_st15.specs.declared.instruction.TimeLimit.{TimeLimit}
 use Rattle.mm_st15.specs.declared.instruction.Configuration.{Configuration}
 use Rattle.mm_st15.specs.declared.instruction.Size.{Size}
 use Rattle.mm_st15.specs.declared.instruction.Channel.{Channel}
-use Rattle.mm_st15.specs.declared.report_entry.Row.{Row}
 use Rattle.mm_st15.specs.declared.request.Request.{Request}
 use Rattle.mm_st15.specs.declared.request.Request.TheVariants as request
 use Rattle.mm_memory.specs.declared.fault.Fault.{Fault}

@@ -16,8 +16,8 @@ use crate::instruction::{Action, Change, Form, Instruction, RouteChange};
 use crate::memory::Memory;
 use crate::places::place_of;
 use crate::request::instructions_of;
-use mm_desk::StoreState;
 use mm_base::{MAX_STORES, NoMemory, RouteRow, StoreId};
+use mm_desk::StoreState;
 use mm_st15::{Request, Row};
 use mm_store::AnyStore;
 use std::alloc::Global;
@@ -164,7 +164,12 @@ impl Memory {
     }
 
     // Applies instructions in order, each by itself.
-    fn answers(&mut self, alloc: Global, instructions: &[Result<Instruction, Fault>], each: &mut Vec<Answer>)
+    fn answers(
+        &mut self,
+        alloc: Global,
+        instructions: &[Result<Instruction, Fault>],
+        each: &mut Vec<Answer>,
+    )
         requires none { each.old.items ≡ [] }
         requires room { length instructions.now ≤ vec_capacity each.old }
         ensures { AppliesEach instructions.now self.old each.new.items self.new }

@@ -6,9 +6,9 @@ ghost use Rattle.mm_memory.specs.Holdings.{AreHeld, memory_of, store_of, state_o
 use crate::held::Held;
 use crate::places::place_of;
 use crate::setup::{control_of, stores_of};
+use mm_base::{NoMemory, StoreId};
 use mm_control::ControlTable;
 use mm_desk::StoreState;
-use mm_base::{NoMemory, StoreId};
 use mm_problem::Setup;
 use std::alloc::Global;
 use std::marker::Model;
