@@ -3,8 +3,8 @@ ghost use Rattle.std.specs.Prelude.{◌≡◌, ◌+◌, ◌<◌, ◌^◌, ◌++�
 ghost use Rattle.mm_ask.specs.Text.{refused_text, answer_text, refused_line, answer_line, answer_lines, report_line};
 
 use crate::fault::LineFault;
-use mm_base::{Refusal, Refused};
 use mm_base::numbers::push_number;
+use mm_base::{Refusal, Refused};
 use mm_memory::Answer;
 use std::alloc::{AllocError, Global};
 

@@ -127,13 +127,7 @@ fn counters_begin_again(rt: HostRuntime) {
     for _ in 0..65_535u32 {
         let _ = counters.next(ReportKind::Statuses);
     }
-    numbered(
-        &rt,
-        &mut counters,
-        ReportKind::Statuses,
-        16_383,
-        65_535,
-    );
+    numbered(&rt, &mut counters, ReportKind::Statuses, 16_383, 65_535);
     numbered(&rt, &mut counters, ReportKind::Statuses, 0, 0);
 }
 
