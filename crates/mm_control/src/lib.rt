@@ -5,7 +5,8 @@ mod fault;
 pub mod laws;
 mod table;
 
-pub use fault::{Fault, NoMemory};
+pub use fault::Fault;
+pub use mm_base::NoMemory;
 pub use table::ControlTable;
 
 #[cfg(test)]

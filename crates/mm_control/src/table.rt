@@ -3,8 +3,8 @@ ghost use Rattle.std.specs.Prelude.{◌≡◌, ◌+◌, ◌≤◌, [], length, i
 ghost use Rattle.mm_control.specs.Routes.{IsInOrder, IsTable, Stands, WouldStand, has_row, takes, with_row, without_row, without_store, count_of_store, stores_for};
 ghost use Rattle.mm_control.specs.declared.fault.Fault.TheVariants.{NoSuchRoute, TableFull};
 
-use crate::fault::{Fault, NoMemory};
-use mm_base::{MAX_ROUTES, RouteRow, StoreId};
+use crate::fault::Fault;
+use mm_base::{MAX_ROUTES, NoMemory, RouteRow, StoreId};
 use std::alloc::Global;
 use std::marker::Model;
 

@@ -1,9 +1,9 @@
 //! Packets that a block of a store has room for.
-ghost use Rattle.std.specs.Prelude.{◌≡◌, ◌≤◌, ◌↔◌, length, IsOk, IfOk, MatchResult};
+ghost use Rattle.std.specs.Prelude.{◌≡◌, ◌≤◌, ◌↔◌, length, IsTrue, IsOk, IfOk, MatchResult};
 ghost use Rattle.mm_packet.specs.Spelling.{spelling};
 
-use crate::fault::NoMemory;
 use crate::packet::Packet;
+use mm_base::{NoMemory, Refusal};
 use std::alloc::Global;
 use std::marker::Model;
 use thiserror::Error;
@@ -32,7 +32,7 @@ impl Model for BlockPacket {
 
 /// A packet longer than a block, handed back.
 #[derive(Debug, Drop, Error)]
-#[error("8 TooLong")]
+#[error("{}", Refusal::TooLong)]
 pub struct TooLong {
     pub packet: Packet,
 }
@@ -54,6 +54,13 @@ impl BlockPacket {
         ensures fits { length (spelling self.now) ≤ BLOCK }
     {
         &self.packet
+    }
+
+    /// Whether two packets are equal. It takes no memory.
+    pub fn is(&self, other: &BlockPacket) -> bool
+        ensures equal { IsTrue result ↔ (self.now ≡ other.now) }
+    {
+        self.packet.is(&other.packet)
     }
 
     /// A packet equal to this one.

@@ -12,8 +12,9 @@ mod reading;
 mod writing;
 
 pub use block::{BLOCK, BlockPacket, TooLong};
-pub use fault::{Fault, NoMemory};
+pub use fault::Fault;
 pub use header::{Header, IDLE_APID, PacketType, TELECOMMAND_BODY, TELEMETRY_BODY};
+pub use mm_base::NoMemory;
 pub use number::{octet_at, u16_at, u32_at, u64_at};
 pub use octets::Octets;
 pub use packet::Packet;

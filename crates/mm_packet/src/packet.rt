@@ -164,6 +164,14 @@ impl Packet {
     {
         self.body.as_slice()
     }
+
+    /// Whether two packets are equal. It takes no memory.
+    pub fn is(&self, other: &Packet) -> bool
+        ensures equal { IsTrue result ↔ (self.now ≡ other.now) }
+    {
+        self.header == other.header && self.kind == other.kind && self.body() == other.body()
+    }
+
     // A packet equal to this one.
     pub(crate) fn copy(&self, alloc: Global) -> Result<Packet, AllocError>
         ensures { IfOk result (λ copy. copy ≡ self.now) }

@@ -3,9 +3,9 @@ ghost use Rattle.std.specs.Prelude.{◌≡◌, ◌+◌, ◌++◌, length, IfOk, 
 ghost use Rattle.mm_packet.specs.Packet.{IsPacket};
 ghost use Rattle.mm_packet.specs.Spelling.{identification, sequence_control, data_length, type_fields, secondary_header, data_field, spelling};
 
-use crate::fault::NoMemory;
 use crate::header::PacketType;
 use crate::packet::Packet;
+use mm_base::NoMemory;
 use std::alloc::{AllocError, Global};
 
 const TELECOMMAND: u16 = 0x1000;

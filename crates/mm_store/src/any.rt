@@ -8,8 +8,8 @@ use crate::fault::Fault;
 use crate::put::Put;
 use crate::ring::RingStore;
 use crate::store::PacketStore;
-use mm_packet::{BlockPacket, NoMemory};
-use mm_base::{Kind, MAX_BLOCKS};
+use mm_base::{Kind, MAX_BLOCKS, NoMemory};
+use mm_packet::BlockPacket;
 use std::alloc::Global;
 use std::marker::Model;
 

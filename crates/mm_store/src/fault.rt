@@ -1,40 +1,45 @@
 //! Why a packet store cannot be made or changed.
 ghost use Rattle.std.specs.Prelude.{◌≡◌};
-ghost use Rattle.mm_store.specs.Fault.{number_of, name_of};
+ghost use Rattle.mm_base.specs.Refusals.{number_of, name_of};
+ghost use Rattle.mm_store.specs.Fault.{refusal_of};
 
+use mm_base::Refusal;
 use std::alloc::AllocError;
 use thiserror::Error;
 
 /// A refusal of this crate. It is shown as its number, a space and its name.
 #[derive(Clone, Copy, Debug, PartialEq, Eq, Error)]
+#[error("{}", self.refusal())]
 pub enum Fault {
-    /// A growth was refused.
-    #[error("0 NoMemory")]
+    /// An allocation was refused.
     NoMemory,
     /// The store holds more packets than the new size has blocks.
-    #[error("9 HoldsMore")]
     HoldsMore,
 }
 
 impl Fault {
-    /// The refusal's number.
-    pub fn number(self) -> u8
-        ensures number { result ≡ number_of self }
+    /// Which refusal it is.
+    pub fn refusal(self) -> Refusal
+        ensures refusal { result ≡ refusal_of self }
     {
         match self {
-            Fault::NoMemory => 0,
-            Fault::HoldsMore => 9,
+            Fault::NoMemory => Refusal::NoMemory,
+            Fault::HoldsMore => Refusal::HoldsMore,
         }
+    }
+
+    /// The refusal's number.
+    pub fn number(self) -> u8
+        ensures number { result ≡ number_of (refusal_of self) }
+    {
+        self.refusal().number()
     }
 
     /// The refusal's name.
     pub fn name(self) -> &'static str
-        ensures name { result.now ≡ name_of self }
+        ensures name { result.now ≡ name_of (refusal_of self) }
     {
-        match self {
-            Fault::NoMemory => "NoMemory",
-            Fault::HoldsMore => "HoldsMore",
-        }
+        self.refusal().name()
     }
 }
 

@@ -15,7 +15,7 @@ mod table;
 pub use any::AnyStore;
 pub use blocks::BlockStore;
 pub use fault::Fault;
-pub use mm_packet::NoMemory;
+pub use mm_base::NoMemory;
 pub use put::Put;
 pub use ring::RingStore;
 pub use store::PacketStore;

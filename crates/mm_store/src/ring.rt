@@ -11,8 +11,8 @@ use crate::queue;
 use crate::store::PacketStore;
 use crate::stored::Stored;
 use circular_buffer::HeapCircularBuffer;
-use mm_packet::{BlockPacket, NoMemory};
-use mm_base::{Kind, MAX_BLOCKS};
+use mm_base::{Kind, MAX_BLOCKS, NoMemory};
+use mm_packet::BlockPacket;
 use std::alloc::Global;
 use std::marker::Model;
 

@@ -3,8 +3,8 @@ ghost use Rattle.std.specs.Prelude.{◌≡◌, length};
 ghost use Rattle.mm_store.specs.Content.{Store, IsStore, put, first_in, shown, count_up_to, delete_up_to, oldest, newest};
 
 use crate::put::Put;
-use mm_packet::BlockPacket;
 use mm_base::Kind;
+use mm_packet::BlockPacket;
 
 /// A packet store (ECSS-E-ST-70-41C, 6.15): a list of packets with their storage times, in blocks of one packet.
 ///

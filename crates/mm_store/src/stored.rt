@@ -1,4 +1,5 @@
 //! A packet with its storage time.
+ghost use Rattle.std.specs.Prelude.{◌≡◌, ◌↔◌, IsTrue};
 
 use mm_packet::BlockPacket;
 
@@ -7,4 +8,13 @@ use mm_packet::BlockPacket;
 pub struct Stored {
     pub time: u64,
     pub packet: BlockPacket,
+}
+
+impl Stored {
+    /// Whether two stored packets are equal, with their times. It takes no memory.
+    pub fn is(&self, other: &Stored) -> bool
+        ensures equal { IsTrue result ↔ (self.now ≡ other.now) }
+    {
+        self.time == other.time && self.packet.is(&other.packet)
+    }
 }

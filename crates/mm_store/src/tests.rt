@@ -1,8 +1,8 @@
 ghost use Rattle.std.specs.Prelude.{◌≤◌};
 
 use super::*;
-use mm_packet::{BlockPacket, Header, Octets, Packet};
 use mm_base::{Kind, MAX_BLOCKS};
+use mm_packet::{BlockPacket, Header, Octets, Packet};
 use std::alloc::Global;
 use std::process::Abort;
 use std::test::Fail;
