@@ -1,4 +1,4 @@
-use Rattle.std.proofs.Common.{◌+◌, ◌-◌, ◌/◌, arith}
+use Rattle.std.proofs.Common.{arith}
 use Rattle.mm_store.proofs.ContentLemmas.{early_up_to, late_from}
 use Rattle.mm_store.proofs.queue.first_place.Goals as goal
 
