@@ -86,14 +86,7 @@ fn finish(draft: Draft) -> Sheet
         steps,
         amounts,
     };
-    Sheet {
-        stores,
-        plan,
-        loss,
-        cut,
-        by_channels,
-        bound,
-    }
+    Sheet::new(stores, plan, loss, cut, by_channels, bound)
 }
 
 impl Sheet {
