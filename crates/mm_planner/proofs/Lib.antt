@@ -13,7 +13,6 @@ pub mod RunLists
 pub mod NoPath
 pub mod TakenAmounts
 pub mod Filling
-pub mod Refusals
 pub mod SheetTexts
 pub mod CutOrder
 pub mod PlanTextLemmas

@@ -1,6 +1,6 @@
 //! The lines that verdicts are printed as.
 ghost use Rattle.std.specs.Prelude.{◌≡◌, IfOk};
-ghost use Rattle.mm_planner.specs.Lines.{line_of};
+ghost use Rattle.mm_check.specs.Lines.{line_of};
 
 use mm_cut::Verdict;
 use std::alloc::{AllocError, Global};

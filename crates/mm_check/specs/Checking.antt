@@ -1,6 +1,7 @@
 -- What the three texts of a check say together.
 use Rattle.std.specs.Prelude.{◌≡◌, ℕ, List, Result, Ok, Err}
 use Rattle.mm_problem.specs.declared.fault.Fault.{Fault as ProblemFault}
+use Rattle.mm_problem.specs.declared.fault.Fault.TheVariants as problem
 use Rattle.mm_base.specs.Reading.{◌>>=◌}
 use Rattle.mm_problem.specs.Document.{setup_of}
 use Rattle.mm_problem.specs.Forecast.{problem_of}
@@ -14,8 +15,8 @@ use Rattle.mm_plan.specs.Sheet.{SheetRows, IsSheet, sheet_text, IsFirstBadLine}
 use Rattle.mm_plan.specs.Sheet.{IsShapedFor}
 use Rattle.mm_cut.specs.Verdicts.{IsVerdict}
 use Rattle.mm_cut.specs.declared.verdict.Verdict.{Verdict}
-use Rattle.mm_planner.specs.declared.fault.Fault.{Fault}
-use Rattle.mm_planner.specs.declared.fault.Fault.TheVariants.{NoMemory, Problem, Plan}
+use Rattle.mm_check.specs.declared.fault.Fault.{Fault}
+use Rattle.mm_check.specs.declared.fault.Fault.TheVariants.{NoMemory, Problem, Plan}
 
 -- the problem that a setup and a forecast say, or their first fault
 unfoldable pub problem_in : List ℕ → List ℕ → Result Dumping ProblemFault
@@ -69,8 +70,11 @@ pub record IsLaterFault (setup forecast text : List ℕ) (e : PlanFault) : Type 
   pub says_problem : SaysProblem setup forecast problem
   pub fault : IsPlanFault problem text e
 
--- the first fault of the three texts, in the order setup, forecast, plan text, shape, want of memory aside
+-- the first fault of the three texts, in the order setup, forecast, plan text, shape; want of memory has one case, and no other
+-- fault stands for it
 abbrev pub IsFaultOf : List ℕ → List ℕ → List ℕ → Fault → Type 0
 IsFaultOf setup forecast text NoMemory = Unit {0}
+IsFaultOf setup forecast text (Problem problem.NoMemory) = ⊥
 IsFaultOf setup forecast text (Problem e) = problem_in setup forecast ≡ Err e
+IsFaultOf setup forecast text (Plan plan.NoMemory) = ⊥
 IsFaultOf setup forecast text (Plan e) = IsLaterFault setup forecast text e

@@ -1,6 +1,7 @@
 -- The lines of verdicts.
 use Rattle.std.specs.Prelude.{ℕ, List, [], ◌∷◌, ◌++◌, codes, decimal}
 use Rattle.std.specs.Fmt.{signed_decimal}
+use Rattle.mm_base.specs.Characters.{line_feed}
 use Rattle.mm_cut.specs.declared.verdict.Verdict.{Verdict}
 use Rattle.mm_cut.specs.declared.verdict.Verdict.TheVariants.{DoesNotFit, LossIs, BadStretch, BadCount, BoundIs, NotShown, Least}
 
@@ -16,4 +17,4 @@ text_of (Least loss) = codes "least " ++ decimal loss
 
 -- the line with its line end
 abbrev pub line_of : Verdict → List ℕ
-line_of verdict = text_of verdict ++ 10 ∷ []
+line_of verdict = text_of verdict ++ line_feed ∷ []

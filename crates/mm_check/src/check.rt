@@ -2,12 +2,12 @@
 ghost use Rattle.std.specs.Prelude.{◌≡◌, ℕ, IfOk, IfErr};
 ghost use Rattle.mm_plan.specs.Table.{HasShape};
 ghost use Rattle.mm_cut.specs.declared.verdict.Verdict.TheVariants.{Least};
-ghost use Rattle.mm_planner.specs.Checking.{Checks, SaysSheet, LosesLeast, IsFaultOf, IsPlanFault};
-ghost use Rattle.mm_planner.specs.Lines.{line_of};
+ghost use Rattle.mm_check.specs.Checking.{Checks, SaysSheet, LosesLeast, IsFaultOf, IsPlanFault};
+ghost use Rattle.mm_check.specs.Lines.{line_of};
 
 use crate::fault::Fault;
 use crate::lines::verdict_line;
-use crate::texts::read_problem;
+use crate::reading::read_problem;
 use mm_cut::{Verdict, verify};
 use mm_plan::Sheet;
 use mm_problem::Problem;

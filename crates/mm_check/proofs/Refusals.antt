@@ -6,8 +6,8 @@ use Rattle.mm_problem.specs.declared.fault.Fault.TheVariants as problem
 use Rattle.mm_plan.specs.declared.fault.Fault.{Fault as PlanFault}
 use Rattle.mm_plan.specs.declared.fault.Fault.TheVariants as plan
 use Rattle.mm_problem.specs.Dumping.{Dumping}
-use Rattle.mm_planner.specs.CheckFault.{of_problem, of_plan}
-use Rattle.mm_planner.specs.Checking.{problem_in, SaysProblem, IsPlanFault, IsFaultOf}
+use Rattle.mm_check.specs.Fault.{of_problem, of_plan}
+use Rattle.mm_check.specs.Checking.{problem_in, SaysProblem, IsPlanFault, IsFaultOf}
 
 -- the first fault of the setup and the forecast is the first of the three texts
 pub problem_refused : (setup forecast text : List ℕ) (e : ProblemFault) → (e ≢ problem.NoMemory → problem_in setup forecast ≡ Err e)

@@ -3,8 +3,8 @@ use Rattle.mm_problem.specs.declared.fault.Fault.{Fault as ProblemFault}
 use Rattle.mm_problem.specs.declared.fault.Fault.TheVariants as problem
 use Rattle.mm_plan.specs.declared.fault.Fault.{Fault as PlanFault}
 use Rattle.mm_plan.specs.declared.fault.Fault.TheVariants as plan
-use Rattle.mm_planner.specs.declared.fault.Fault.{Fault}
-use Rattle.mm_planner.specs.declared.fault.Fault.TheVariants.{NoMemory, Problem, Plan}
+use Rattle.mm_check.specs.declared.fault.Fault.{Fault}
+use Rattle.mm_check.specs.declared.fault.Fault.TheVariants.{NoMemory, Problem, Plan}
 
 -- a fault of the setup or the forecast
 abbrev pub of_problem : ProblemFault → Fault

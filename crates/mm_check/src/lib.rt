@@ -1,0 +1,11 @@
+//! The checker: whether a plan text shows that no plan loses less. It stands on no planner and no solver.
+#![tactic(auto)]
+
+mod check;
+mod fault;
+mod lines;
+mod reading;
+
+pub use check::check_bytes;
+pub use fault::{Fault, NoMemory};
+pub use reading::read_problem;
