@@ -1,10 +1,8 @@
-pub mod Ranges
 pub mod ArcSums
 pub mod KindSums
 pub mod Conserved
 pub mod Capacities
 pub mod FromFlow
-pub mod Elements
 pub mod RunSums
 pub mod FromSide
 pub mod Optimality
