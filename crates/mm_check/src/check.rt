@@ -13,8 +13,8 @@ use mm_plan::Sheet;
 use mm_problem::Problem;
 use std::alloc::Global;
 
-// The sheet that the plan text says, which is one for the problem.
-fn read_sheet(alloc: Global, problem: &Problem, plan: &[u8]) -> Result<Sheet, mm_plan::Fault>
+/// The sheet that a plan text says, which is one for the problem. Otherwise its first fault, want of memory aside.
+pub fn read_sheet(alloc: Global, problem: &Problem, plan: &[u8]) -> Result<Sheet, mm_plan::Fault>
     ensures sheet { IfOk result (SaysSheet problem.now plan.now) }
     ensures shape { IfOk result (λ s. HasShape problem.now s.plan) }
     ensures refused { IfErr result (IsPlanFault problem.now plan.now) }

@@ -3,7 +3,6 @@ ghost use Rattle.std.specs.Prelude.{◌≡◌};
 
 pub use mm_plan::NoMemory;
 
-use std::alloc::AllocError;
 use thiserror::Error;
 
 /// Why texts have no plan or no verdict: a fault of the setup or the forecast, or one of the plan text. It is shown as
@@ -16,16 +15,6 @@ pub enum Fault {
     Problem(mm_problem::Fault),
     #[error(transparent)]
     Plan(mm_plan::Fault),
-}
-
-impl From<AllocError> for Fault {
-    ghost use Rattle.mm_check.specs.declared.fault.Fault.TheVariants.{NoMemory};
-
-    ghost from_gives = { λ _ e. e ≡ NoMemory };
-
-    fn from(_error: AllocError) -> Fault {
-        Fault::NoMemory
-    }
 }
 
 impl From<mm_problem::Fault> for Fault {

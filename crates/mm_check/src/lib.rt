@@ -6,6 +6,7 @@ mod fault;
 mod lines;
 mod reading;
 
-pub use check::check_bytes;
+pub use check::{check_bytes, read_sheet};
 pub use fault::{Fault, NoMemory};
+pub use lines::verdict_line;
 pub use reading::read_problem;

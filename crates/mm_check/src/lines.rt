@@ -2,12 +2,13 @@
 ghost use Rattle.std.specs.Prelude.{◌≡◌, IfOk};
 ghost use Rattle.mm_check.specs.Lines.{line_of};
 
+use crate::fault::NoMemory;
 use mm_cut::Verdict;
-use std::alloc::{AllocError, Global};
+use std::alloc::Global;
 
 /// The line of a verdict, with its line end.
-pub(crate) fn verdict_line(alloc: Global, verdict: Verdict) -> Result<Vec<u8>, AllocError>
-    ensures { IfOk result (λ line. line.items ≡ line_of verdict) }
+pub fn verdict_line(alloc: Global, verdict: Verdict) -> Result<Vec<u8>, NoMemory>
+    ensures line { IfOk result (λ line. line.items ≡ line_of verdict) }
 {
     let line = match verdict {
         Verdict::DoesNotFit(step) => format!(in alloc; "does not fit, step {step}\n"),
