@@ -10,7 +10,8 @@ use Rattle.mm_sums.proofs.Sums.{sum_by-add, sum_by-same}
 use Rattle.mm_problem.specs.Dumping.{Dumping, stores, channels}
 use Rattle.mm_flow.specs.declared.arc.Arc.{Arc}
 use Rattle.mm_flow.specs.Graph.{no_arc, arc, places}
-use Rattle.mm_planner.specs.Network.{come_arc, hold_arc, keep_arc, take_arc, limit_arc, window_arc, step_arcs, arcs_of, net}
+use Rattle.mm_planner.specs.declared.way.Way.TheVariants.{Come, Hold, Keep, Take}
+use Rattle.mm_planner.specs.Network.{limit_arc, window_arc, step_arcs, arcs_of, net, store_arc}
 use Rattle.mm_planner.specs.Taken.{step_width, first_arc, take_place}
 
 -- the numbers of the other arcs of a step
@@ -107,10 +108,10 @@ arcs_sum-six F i r l a b c d e w of_a of_b of_c of_d of_e =
 -- how many arcs a step has
 pub length-step : (q : Dumping) (t : ℕ) → length (step_arcs q t) ≡ step_width q
 length-step q t =
-    let a = map (come_arc q t) (stores q) in
-    let b = map (hold_arc q t) (stores q) in
-    let c = map (keep_arc q t) (stores q) in
-    let d = map (take_arc q t) (stores q) in
+    let a = map (store_arc q Come t) (stores q) in
+    let b = map (store_arc q Hold t) (stores q) in
+    let c = map (store_arc q Keep t) (stores q) in
+    let d = map (store_arc q Take t) (stores q) in
     let e = map (limit_arc q t) (channels q) in
     omega (
       arith,
@@ -119,10 +120,10 @@ length-step q t =
       length-append (a ++ b ++ c) d,
       length-append (a ++ b) c,
       length-append a b,
-      length-map-range_with_len (come_arc q t) 0 (length q.rows),
-      length-map-range_with_len (hold_arc q t) 0 (length q.rows),
-      length-map-range_with_len (keep_arc q t) 0 (length q.rows),
-      length-map-range_with_len (take_arc q t) 0 (length q.rows),
+      length-map-range_with_len (store_arc q Come t) 0 (length q.rows),
+      length-map-range_with_len (store_arc q Hold t) 0 (length q.rows),
+      length-map-range_with_len (store_arc q Keep t) 0 (length q.rows),
+      length-map-range_with_len (store_arc q Take t) 0 (length q.rows),
       length-map-range_with_len (limit_arc q t) 0 (length q.limits),
     )
 
@@ -131,31 +132,31 @@ abbrev pub kind_sum : (ℕ → Arc → ℕ) → (ℕ → ℕ → ℕ) → (ℕ �
 kind_sum F place make t k = F (place t k) (make t k)
 
 -- a sum over the arcs of a step, kind by kind
-step_sum : (q : Dumping) (F : ℕ → Arc → ℕ) (t : ℕ) → arcs_sum F (first_arc q t) (step_arcs q t) ≡ sum_by (kind_sum F (come_place q) (come_arc q) t) (stores q) + sum_by (kind_sum F (hold_place q) (hold_arc q) t) (stores q) + sum_by (kind_sum F (keep_place q) (keep_arc q) t) (stores q) + sum_by (kind_sum F (take_place q) (take_arc q) t) (stores q) + sum_by (kind_sum F (limit_place q) (limit_arc q) t) (channels q) + F (window_place q t) (window_arc q t)
+step_sum : (q : Dumping) (F : ℕ → Arc → ℕ) (t : ℕ) → arcs_sum F (first_arc q t) (step_arcs q t) ≡ sum_by (kind_sum F (come_place q) (store_arc q Come) t) (stores q) + sum_by (kind_sum F (hold_place q) (store_arc q Hold) t) (stores q) + sum_by (kind_sum F (keep_place q) (store_arc q Keep) t) (stores q) + sum_by (kind_sum F (take_place q) (store_arc q Take) t) (stores q) + sum_by (kind_sum F (limit_place q) (limit_arc q) t) (channels q) + F (window_place q t) (window_arc q t)
 step_sum q F t =
     let i = first_arc q t in
     let r = length q.rows in
     let l = length q.limits in
     omega (
       arith,
-      arcs_sum-six F i r l (map (come_arc q t) (stores q)) (map (hold_arc q t) (stores q)) (map (keep_arc q t) (stores q)) (map (take_arc q t) (stores q)) (map (limit_arc q t) (channels q)) (window_arc q t)
-          (length-map-range_with_len (come_arc q t) 0 r) (length-map-range_with_len (hold_arc q t) 0 r) (length-map-range_with_len (keep_arc q t) 0 r) (length-map-range_with_len (take_arc q t) 0 r) (length-map-range_with_len (limit_arc q t) 0 l),
-      arcs_sum-map F (come_arc q t) i 0 r i (omega arith),
-      arcs_sum-map F (hold_arc q t) (i + r) 0 r (i + r) (omega arith),
-      arcs_sum-map F (keep_arc q t) (i + 2 * r) 0 r (i + 2 * r) (omega arith),
-      arcs_sum-map F (take_arc q t) (i + 3 * r) 0 r (i + 3 * r) (omega arith),
+      arcs_sum-six F i r l (map (store_arc q Come t) (stores q)) (map (store_arc q Hold t) (stores q)) (map (store_arc q Keep t) (stores q)) (map (store_arc q Take t) (stores q)) (map (limit_arc q t) (channels q)) (window_arc q t)
+          (length-map-range_with_len (store_arc q Come t) 0 r) (length-map-range_with_len (store_arc q Hold t) 0 r) (length-map-range_with_len (store_arc q Keep t) 0 r) (length-map-range_with_len (store_arc q Take t) 0 r) (length-map-range_with_len (limit_arc q t) 0 l),
+      arcs_sum-map F (store_arc q Come t) i 0 r i (omega arith),
+      arcs_sum-map F (store_arc q Hold t) (i + r) 0 r (i + r) (omega arith),
+      arcs_sum-map F (store_arc q Keep t) (i + 2 * r) 0 r (i + 2 * r) (omega arith),
+      arcs_sum-map F (store_arc q Take t) (i + 3 * r) 0 r (i + 3 * r) (omega arith),
       arcs_sum-map F (limit_arc q t) (i + 4 * r) 0 l (i + 4 * r) (omega arith),
     )
 
 -- a sum over all arcs, kind by kind
-pub arcs_by_kind : (q : Dumping) (F : ℕ → Arc → ℕ) → sum_by (λ k. F k (arc (net q) k)) (places (net q)) ≡ grid (kind_sum F (come_place q) (come_arc q)) (length q.windows) (length q.rows) + grid (kind_sum F (hold_place q) (hold_arc q)) (length q.windows) (length q.rows) + grid (kind_sum F (keep_place q) (keep_arc q)) (length q.windows) (length q.rows) + grid (kind_sum F (take_place q) (take_arc q)) (length q.windows) (length q.rows) + grid (kind_sum F (limit_place q) (limit_arc q)) (length q.windows) (length q.limits) + sum_by (λ t. F (window_place q t) (window_arc q t)) (range_with_len 1 (length q.windows))
+pub arcs_by_kind : (q : Dumping) (F : ℕ → Arc → ℕ) → sum_by (λ k. F k (arc (net q) k)) (places (net q)) ≡ grid (kind_sum F (come_place q) (store_arc q Come)) (length q.windows) (length q.rows) + grid (kind_sum F (hold_place q) (store_arc q Hold)) (length q.windows) (length q.rows) + grid (kind_sum F (keep_place q) (store_arc q Keep)) (length q.windows) (length q.rows) + grid (kind_sum F (take_place q) (store_arc q Take)) (length q.windows) (length q.rows) + grid (kind_sum F (limit_place q) (limit_arc q)) (length q.windows) (length q.limits) + sum_by (λ t. F (window_place q t) (window_arc q t)) (range_with_len 1 (length q.windows))
 arcs_by_kind q F =
     let m = length q.windows in
     let steps_range = range_with_len 1 m in
-    let come : ℕ → ℕ = λ t. sum_by (kind_sum F (come_place q) (come_arc q) t) (stores q) in
-    let hold : ℕ → ℕ = λ t. sum_by (kind_sum F (hold_place q) (hold_arc q) t) (stores q) in
-    let keep : ℕ → ℕ = λ t. sum_by (kind_sum F (keep_place q) (keep_arc q) t) (stores q) in
-    let takes : ℕ → ℕ = λ t. sum_by (kind_sum F (take_place q) (take_arc q) t) (stores q) in
+    let come : ℕ → ℕ = λ t. sum_by (kind_sum F (come_place q) (store_arc q Come) t) (stores q) in
+    let hold : ℕ → ℕ = λ t. sum_by (kind_sum F (hold_place q) (store_arc q Hold) t) (stores q) in
+    let keep : ℕ → ℕ = λ t. sum_by (kind_sum F (keep_place q) (store_arc q Keep) t) (stores q) in
+    let takes : ℕ → ℕ = λ t. sum_by (kind_sum F (take_place q) (store_arc q Take) t) (stores q) in
     let limits : ℕ → ℕ = λ t. sum_by (kind_sum F (limit_place q) (limit_arc q) t) (channels q) in
     let windows : ℕ → ℕ = λ t. F (window_place q t) (window_arc q t) in
     let zero_first : sum_by (λ k. F k (arc (net q) k)) (places (net q)) ≡ sum_by (λ k. F (0 + k) (arc (net q) k)) (places (net q)) =

@@ -1,4 +1,5 @@
 pub mod ArcSums
+pub mod NodeNumbers
 pub mod KindSums
 pub mod Conserved
 pub mod Capacities

@@ -10,7 +10,10 @@ use Rattle.mm_flow.specs.declared.arc.Arc.{Arc}
 use Rattle.mm_flow.specs.Graph.{arc, places}
 use Rattle.mm_flow.specs.Solution.{HasUnlimited, IsWalk, HasUnlimitedPath}
 use Rattle.mm_planner.specs.declared.nodes.TheConstants.{SOURCE, SINK}
-use Rattle.mm_planner.specs.Network.{in_node, out_node, channel_node, pass_node, come_arc, hold_arc, keep_arc, take_arc, limit_arc, window_arc, net}
+use Rattle.mm_planner.specs.declared.nodes.Node.TheVariants.{In, Out, Channel, Pass}
+use Rattle.mm_planner.specs.declared.way.Way.TheVariants.{Come, Hold, Keep, Take}
+use Rattle.mm_planner.specs.Nodes.{number_of}
+use Rattle.mm_planner.specs.Network.{store_arc, limit_arc, window_arc, net}
 use Rattle.mm_planner.specs.Taken.{take_place}
 use Rattle.mm_planner.proofs.ArcSums.{come_place, hold_place, keep_place, limit_place, window_place, kind_sum, arcs_by_kind}
 
@@ -32,12 +35,12 @@ none_from_source q =
     omega (
       arith,
       arcs_by_kind q F,
-      grid_zeros (kind_sum F (come_place q) (come_arc q)) m r (λ t s _ _ _. refl),
-      grid_zeros (kind_sum F (hold_place q) (hold_arc q)) m r (λ t s low _ _. cond-eqb_other (in_node s t) SOURCE 0 (λ same. omega arith)),
-      grid_zeros (kind_sum F (keep_place q) (keep_arc q)) m r (λ t s low _ _. cond-eqb_other (out_node s t) SOURCE 1 (λ same. omega arith)),
-      grid_zeros (kind_sum F (take_place q) (take_arc q)) m r (λ t s low _ _. cond-eqb_other (out_node s t) SOURCE 1 (λ same. omega arith)),
-      grid_zeros (kind_sum F (limit_place q) (limit_arc q)) m (length q.limits) (λ t c low _ _. cond-eqb_other (channel_node c t) SOURCE _ (λ same. omega arith)),
-      sum_by_range_zeros (λ t. F (window_place q t) (window_arc q t)) 1 m (λ t low _. cond-eqb_other (pass_node t) SOURCE 0 (λ same. omega arith)),
+      grid_zeros (kind_sum F (come_place q) (store_arc q Come)) m r (λ t s _ _ _. refl),
+      grid_zeros (kind_sum F (hold_place q) (store_arc q Hold)) m r (λ t s low _ _. cond-eqb_other (number_of (In t s)) SOURCE 0 (λ same. omega arith)),
+      grid_zeros (kind_sum F (keep_place q) (store_arc q Keep)) m r (λ t s low _ _. cond-eqb_other (number_of (Out t s)) SOURCE 1 (λ same. omega arith)),
+      grid_zeros (kind_sum F (take_place q) (store_arc q Take)) m r (λ t s low _ _. cond-eqb_other (number_of (Out t s)) SOURCE 1 (λ same. omega arith)),
+      grid_zeros (kind_sum F (limit_place q) (limit_arc q)) m (length q.limits) (λ t c low _ _. cond-eqb_other (number_of (Channel t c)) SOURCE _ (λ same. omega arith)),
+      sum_by_range_zeros (λ t. F (window_place q t) (window_arc q t)) 1 m (λ t low _. cond-eqb_other (number_of (Pass t)) SOURCE 0 (λ same. omega arith)),
     )
 
 -- so none leads anywhere

@@ -1,4 +1,6 @@
+pub mod Nodes
 pub mod Network
+pub mod Links
 pub mod Taken
 pub mod Runs
 pub mod Planned

@@ -10,6 +10,7 @@ mod runs;
 mod sheets;
 mod taken;
 mod texts;
+mod way;
 
 pub use laws::{plans_check_least, solutions_plan};
 pub use planner::{Planned, plan};
