@@ -58,9 +58,9 @@ pub record IsForAnother (q : Dumping) (octets : List ℕ) : Type 0 where
   pub text : octets ≡ sheet_text sheet
   pub shape : ¬ IsShapedFor q sheet
 
--- the plan text has this fault, want of memory aside
+-- the plan text has this fault; want of memory is no fault of a text
 abbrev pub IsPlanFault : Dumping → List ℕ → PlanFault → Type 0
-IsPlanFault q text plan.NoMemory = Unit {0}
+IsPlanFault q text plan.NoMemory = ⊥
 IsPlanFault q text (plan.PlanText k) = IsFirstBadLine text k
 IsPlanFault q text plan.Shape = IsForAnother q text
 
@@ -70,11 +70,9 @@ pub record IsLaterFault (setup forecast text : List ℕ) (e : PlanFault) : Type 
   pub says_problem : SaysProblem setup forecast problem
   pub fault : IsPlanFault problem text e
 
--- the first fault of the three texts, in the order setup, forecast, plan text, shape; want of memory has one case, and no other
--- fault stands for it
+-- the first fault of the three texts, in the order setup, forecast, plan text, shape; want of memory is none, whoever lacked it
 abbrev pub IsFaultOf : List ℕ → List ℕ → List ℕ → Fault → Type 0
-IsFaultOf setup forecast text NoMemory = Unit {0}
+IsFaultOf setup forecast text NoMemory = ⊥
 IsFaultOf setup forecast text (Problem problem.NoMemory) = ⊥
 IsFaultOf setup forecast text (Problem e) = problem_in setup forecast ≡ Err e
-IsFaultOf setup forecast text (Plan plan.NoMemory) = ⊥
 IsFaultOf setup forecast text (Plan e) = IsLaterFault setup forecast text e

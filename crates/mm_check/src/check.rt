@@ -1,6 +1,9 @@
 //! The checker: from the octets of three texts to a verdict and its line.
-ghost use Rattle.std.specs.Prelude.{◌≡◌, ℕ, IfOk, IfErr};
+ghost use Rattle.std.specs.Prelude.{◌≡◌, ℕ, IfOk};
+ghost use Rattle.mm_plan.specs.Fault.{IfRefused};
 ghost use Rattle.mm_plan.specs.Table.{HasShape};
+ghost use Rattle.mm_plan.specs.declared.fault.Fault.TheVariants as plan;
+ghost use Rattle.mm_check.specs.declared.fault.Fault.TheVariants.{NoMemory};
 ghost use Rattle.mm_cut.specs.declared.verdict.Verdict.TheVariants.{Least};
 ghost use Rattle.mm_check.specs.Checking.{Checks, SaysSheet, LosesLeast, IsFaultOf, IsPlanFault};
 ghost use Rattle.mm_check.specs.Lines.{line_of};
@@ -17,7 +20,7 @@ use std::alloc::Global;
 pub fn read_sheet(alloc: Global, problem: &Problem, plan: &[u8]) -> Result<Sheet, mm_plan::Fault>
     ensures sheet { IfOk result (SaysSheet problem.now plan.now) }
     ensures shape { IfOk result (λ s. HasShape problem.now s.plan) }
-    ensures refused { IfErr result (IsPlanFault problem.now plan.now) }
+    ensures refused { IfRefused plan.NoMemory result (IsPlanFault problem.now plan.now) }
 {
     let sheet = Sheet::parse(alloc, plan)?;
     sheet.shape(problem)?;
@@ -35,7 +38,7 @@ pub fn check_bytes(
     ensures verdict { IfOk result (λ c. Checks setup.now forecast.now plan.now c.0) }
     ensures line { IfOk result (λ c. c.1.items ≡ line_of c.0) }
     ensures least { IfOk result (λ c. (n : ℕ) → c.0 ≡ Least n → LosesLeast setup.now forecast.now plan.now n) }
-    ensures refused { IfErr result (IsFaultOf setup.now forecast.now plan.now) }
+    ensures refused { IfRefused NoMemory result (IsFaultOf setup.now forecast.now plan.now) }
 {
     let problem = read_problem(alloc, setup, forecast)?;
     let sheet = read_sheet(alloc, &problem, plan)?;

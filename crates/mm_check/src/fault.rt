@@ -1,20 +1,33 @@
 //! Why texts have no plan or no verdict.
 ghost use Rattle.std.specs.Prelude.{◌≡◌};
 
-pub use mm_plan::NoMemory;
-
+use mm_base::{NoMemory, Refusal, Refused};
 use thiserror::Error;
 
 /// Why texts have no plan or no verdict: a fault of the setup or the forecast, or one of the plan text. It is shown as
 /// the fault of the crate that found it. Want of memory is `NoMemory` alone, whoever lacked it.
 #[derive(Clone, Copy, Debug, PartialEq, Eq, Error)]
 pub enum Fault {
-    #[error("0 NoMemory")]
+    #[error("{}", self.refusal())]
     NoMemory,
     #[error(transparent)]
     Problem(mm_problem::Fault),
     #[error(transparent)]
     Plan(mm_plan::Fault),
+}
+
+impl Refused for Fault {
+    ghost use Rattle.mm_check.specs.Fault.{refusal_of};
+
+    ghost refusal_of = { refusal_of };
+
+    fn refusal(self) -> Refusal {
+        match self {
+            Fault::NoMemory => Refusal::NoMemory,
+            Fault::Problem(fault) => fault.refusal(),
+            Fault::Plan(fault) => fault.refusal(),
+        }
+    }
 }
 
 impl From<mm_problem::Fault> for Fault {

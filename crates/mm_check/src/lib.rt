@@ -7,6 +7,6 @@ mod lines;
 mod reading;
 
 pub use check::{check_bytes, read_sheet};
-pub use fault::{Fault, NoMemory};
+pub use fault::Fault;
 pub use lines::verdict_line;
 pub use reading::read_problem;

@@ -2,7 +2,7 @@
 ghost use Rattle.std.specs.Prelude.{◌≡◌, IfOk};
 ghost use Rattle.mm_check.specs.Lines.{line_of};
 
-use crate::fault::NoMemory;
+use mm_base::NoMemory;
 use mm_cut::Verdict;
 use std::alloc::Global;
 

@@ -30,9 +30,9 @@ pub record PlansLeast (setup forecast text : List ℕ) : Type 0 where
   pub tight : sheet.bound ≡ pos sheet.loss
   pub in_order : IsInOrder sheet
 
--- the first fault of the setup and the forecast; want of memory has one case, and no other fault stands for it
+-- the first fault of the setup and the forecast; want of memory is none, whoever lacked it
 abbrev pub IsPlanningFault : List ℕ → List ℕ → Fault → Type 0
-IsPlanningFault setup forecast NoMemory = Unit {0}
+IsPlanningFault setup forecast NoMemory = ⊥
 IsPlanningFault setup forecast (Problem problem.NoMemory) = ⊥
 IsPlanningFault setup forecast (Problem e) = problem_in setup forecast ≡ Err e
 IsPlanningFault setup forecast (Plan e) = ⊥

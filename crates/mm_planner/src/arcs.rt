@@ -10,7 +10,8 @@ ghost use Rattle.mm_planner.specs.Growing.{AddsArcs, IsStep, HasRoom, KeepsRoom}
 
 use crate::nodes::Node;
 use crate::way::Way;
-use mm_flow::{Network, NoMemory};
+use mm_base::NoMemory;
+use mm_flow::Network;
 use mm_problem::Problem;
 
 /// An arc between two nodes.

@@ -17,4 +17,5 @@ pub use planner::{Planned, plan};
 pub use sheets::sheet;
 pub use texts::plan_bytes;
 
-pub use mm_check::{Fault, NoMemory, check_bytes};
+pub use mm_base::NoMemory;
+pub use mm_check::{Fault, check_bytes};

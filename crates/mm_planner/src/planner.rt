@@ -13,8 +13,9 @@ use crate::laws::solutions_plan;
 use crate::nodes::{SINK, SOURCE};
 use crate::runs::{counts, stretches};
 use crate::taken::taken_plan;
+use mm_base::NoMemory;
 use mm_flow::{Fault, Solved, solve};
-use mm_plan::{NoMemory, Plan, Stretch, fill, loss_of};
+use mm_plan::{Plan, Stretch, fill, loss_of};
 use mm_problem::Problem;
 use std::alloc::Global;
 
@@ -35,9 +36,7 @@ fn solved(alloc: Global, problem: &Problem) -> Result<Solved, NoMemory>
     ensures solved { IfOk result (IsSolved (net problem.now) SOURCE SINK) }
     ensures problem { IsDumping problem.now }
 {
-    let Ok(network) = build(alloc, problem) else {
-        return Err(NoMemory);
-    };
+    let network = build(alloc, problem)?;
     match solve(alloc, &network, SOURCE, SINK) {
         Ok(solved) => Ok(solved),
         Err(Fault::NoMemory) => Err(NoMemory),

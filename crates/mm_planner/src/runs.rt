@@ -7,7 +7,8 @@ ghost use Rattle.mm_planner.specs.Nodes.{number_of};
 ghost use Rattle.mm_planner.specs.Runs.{is_on, goes_on, is_end, is_by_channels, stretches_of, stretches, counts_of};
 
 use crate::nodes::Node;
-use mm_plan::{NoMemory, Stretch};
+use mm_base::NoMemory;
+use mm_plan::Stretch;
 use mm_problem::Problem;
 use std::alloc::Global;
 

@@ -6,7 +6,8 @@ ghost use Rattle.mm_plan.specs.Sheet.{IsSheet, IsShapedFor};
 ghost use Rattle.mm_planner.specs.Planned.{ShowsLeast};
 
 use crate::planner::{Planned, plan};
-use mm_plan::{NoMemory, Sheet};
+use mm_base::NoMemory;
+use mm_plan::Sheet;
 use mm_problem::{Problem, StoreId};
 use std::alloc::Global;
 

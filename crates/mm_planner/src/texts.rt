@@ -1,5 +1,7 @@
 //! From the octets of a setup and a forecast to the text of a plan.
-ghost use Rattle.std.specs.Prelude.{IfOk, IfErr};
+ghost use Rattle.std.specs.Prelude.{IfOk};
+ghost use Rattle.mm_plan.specs.Fault.{IfRefused};
+ghost use Rattle.mm_check.specs.declared.fault.Fault.TheVariants.{NoMemory};
 ghost use Rattle.mm_planner.specs.PlanTexts.{PlansLeast, IsPlanningFault};
 
 use crate::sheets::sheet;
@@ -10,7 +12,7 @@ use std::alloc::Global;
 /// it. Otherwise the first fault, of the setup and then of the forecast.
 pub fn plan_bytes(alloc: Global, setup: &[u8], forecast: &[u8]) -> Result<Vec<u8>, Fault>
     ensures text { IfOk result (λ text. PlansLeast setup.now forecast.now text.items) }
-    ensures refused { IfErr result (IsPlanningFault setup.now forecast.now) }
+    ensures refused { IfRefused NoMemory result (IsPlanningFault setup.now forecast.now) }
 {
     let problem = read_problem(alloc, setup, forecast)?;
     let sheet = sheet(alloc, &problem)?;
