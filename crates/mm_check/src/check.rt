@@ -2,7 +2,7 @@
 ghost use Rattle.std.specs.Prelude.{◌≡◌, ℕ, IfOk};
 ghost use Rattle.mm_plan.specs.Fault.{IfRefused};
 ghost use Rattle.mm_plan.specs.Table.{HasShape};
-ghost use Rattle.mm_plan.specs.declared.fault.Fault.TheVariants as plan;
+ghost use Rattle.mm_plan.specs.declared.fault.Fault.TheVariants as plan_fault;
 ghost use Rattle.mm_check.specs.declared.fault.Fault.TheVariants.{NoMemory};
 ghost use Rattle.mm_cut.specs.declared.verdict.Verdict.TheVariants.{Least};
 ghost use Rattle.mm_check.specs.Checking.{Checks, SaysSheet, LosesLeast, IsFaultOf, IsPlanFault};
@@ -20,7 +20,7 @@ use std::alloc::Global;
 pub fn read_sheet(alloc: Global, problem: &Problem, plan: &[u8]) -> Result<Sheet, mm_plan::Fault>
     ensures sheet { IfOk result (SaysSheet problem.now plan.now) }
     ensures shape { IfOk result (λ s. HasShape problem.now s.plan) }
-    ensures refused { IfRefused plan.NoMemory result (IsPlanFault problem.now plan.now) }
+    ensures refused { IfRefused plan_fault.NoMemory result (IsPlanFault problem.now plan.now) }
 {
     let sheet = Sheet::parse(alloc, plan)?;
     sheet.shape(problem)?;
