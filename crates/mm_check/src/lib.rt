@@ -5,6 +5,8 @@ mod check;
 mod fault;
 mod lines;
 mod reading;
+#[cfg(test)]
+mod tests;
 
 pub use check::{check_bytes, read_sheet};
 pub use fault::Fault;

@@ -16,3 +16,4 @@ pub mod SheetTexts
 pub mod CutOrder
 pub mod PlanTextLemmas
 pub mod SheetLimits
+pub mod Verified

@@ -9,11 +9,13 @@ mod planner;
 mod runs;
 mod sheets;
 mod taken;
+#[cfg(test)]
+mod tests;
 mod texts;
 mod way;
 
 pub use laws::{plans_check_least, solutions_plan};
-pub use planner::{Planned, plan};
+pub use planner::{Planned, plan, plan_by_flow};
 pub use sheets::sheet;
 pub use texts::plan_bytes;
 

@@ -1,5 +1,5 @@
 //! The planner.
-ghost use Rattle.std.specs.Prelude.{◌*◌, ◌≤◌, IfOk};
+ghost use Rattle.std.specs.Prelude.{◌*◌, ◌≤◌, IfOk, IfSome};
 ghost use Rattle.mm_base.specs.declared.limits.TheConstants.{MAX_STORES, MAX_STEPS, MAX_BLOCKS};
 ghost use Rattle.mm_problem.specs.Dumping.{IsDumping};
 ghost use Rattle.mm_plan.specs.Table.{IsTable};
@@ -14,9 +14,11 @@ use crate::nodes::{SINK, SOURCE};
 use crate::runs::{counts, stretches};
 use crate::taken::taken_plan;
 use mm_base::NoMemory;
+use mm_cut::{Verdict, verify};
 use mm_flow::{Fault, Solved, solve};
-use mm_plan::{Plan, Stretch, fill, loss_of};
+use mm_plan::{Plan, Stretch, fill, fits, loss_of};
 use mm_problem::Problem;
+use mm_propose::{Proposal, propose};
 use std::alloc::Global;
 
 /// A dump plan, and a cut that shows how little it loses.
@@ -45,9 +47,8 @@ fn solved(alloc: Global, problem: &Problem) -> Result<Solved, NoMemory>
     }
 }
 
-/// A dump plan that loses least and leaves no window idle that a store could use, and a cut that shows that it loses
-/// least. Which of several such plans and cuts it is stays open.
-pub fn plan(alloc: Global, problem: &Problem) -> Result<Planned, NoMemory>
+/// What `plan` answers, found by the network of the problem alone. It takes longer.
+pub fn plan_by_flow(alloc: Global, problem: &Problem) -> Result<Planned, NoMemory>
     ensures shows_least { IfOk result (λ planned. ShowsLeast problem.now
         planned.plan planned.cut.items planned.by_channels.items planned.loss) }
     ensures is_table { IfOk result (λ planned. IsTable planned.plan) }
@@ -68,4 +69,51 @@ pub fn plan(alloc: Global, problem: &Problem) -> Result<Planned, NoMemory>
         by_channels,
         loss,
     })
+}
+
+// The proposal with its idle windows used, where its cut shows that no plan loses less.
+fn proposed(alloc: Global, problem: &Problem) -> Result<Option<Planned>, NoMemory>
+    ensures shows_least { IfOk result (λ found. IfSome found (λ planned. ShowsLeast problem.now
+        planned.plan planned.cut.items planned.by_channels.items planned.loss)) }
+    ensures is_table { IfOk result (λ found. IfSome found (λ planned. IsTable planned.plan)) }
+    ensures most { IfOk result (λ found. IfSome found
+        (λ planned. planned.loss ≤ 2 * MAX_BLOCKS * MAX_STEPS * MAX_STORES)) }
+{
+    let Proposal {
+        plan,
+        cut,
+        by_channels,
+    } = propose(alloc, problem)?;
+    if fits(problem, &plan).is_err() {
+        return Ok(None);
+    }
+    let filled = fill(alloc, problem, &plan)?;
+    let loss = loss_of(problem, &filled);
+    let bound = loss as i64;
+    let stretches = cut.as_slice();
+    let counts = by_channels.as_slice();
+    match verify(problem, &filled, stretches, counts, loss, bound) {
+        Verdict::Least(_) => Ok(Some(Planned {
+            plan: filled,
+            cut,
+            by_channels,
+            loss,
+        })),
+        _ => Ok(None),
+    }
+}
+
+/// A dump plan that loses least and leaves no window idle that a store could use, and a cut that shows that it loses
+/// least. Which of several such plans and cuts it is stays open.
+pub fn plan(alloc: Global, problem: &Problem) -> Result<Planned, NoMemory>
+    ensures shows_least { IfOk result (λ planned. ShowsLeast problem.now
+        planned.plan planned.cut.items planned.by_channels.items planned.loss) }
+    ensures is_table { IfOk result (λ planned. IsTable planned.plan) }
+    ensures most { IfOk result
+        (λ planned. planned.loss ≤ 2 * MAX_BLOCKS * MAX_STEPS * MAX_STORES) }
+{
+    match proposed(alloc, problem)? {
+        Some(planned) => Ok(planned),
+        None => plan_by_flow(alloc, problem),
+    }
 }

@@ -3,7 +3,7 @@ use Rattle.mm_plan.specs.Table.{amount}
 use Rattle.mm_flow.specs.Solution.{side_of}
 use Rattle.mm_planner.proofs.Optimality.{planned_lists}
 use Rattle.mm_planner.proofs.Filling.{loss-le, planned_filled}
-use Rattle.mm_planner.proofs.planner.plan.Goals as goal
+use Rattle.mm_planner.proofs.planner.plan_by_flow.Goals as goal
 
 pub fill-requires-clause-fits : goal.fill-requires-clause-fits
 fill-requires-clause-fits c =
