@@ -27,8 +27,8 @@ fn a_plan_has_its_verdict_and_its_line(rt: HostRuntime) -> Result<(), Fail> {
         (LOSES_MORE, not_shown, "not shown, loss 3 bound 2\n"),
     ] {
         let (verdict, line) = check_bytes(alloc, SETUP, FORECAST, plan)?;
-        assert_eq!(&rt; verdict, wanted);
-        assert_eq!(&rt; line.as_slice(), wanted_line.as_bytes());
+        assert_eq!(rt; verdict, wanted);
+        assert_eq!(rt; line.as_slice(), wanted_line.as_bytes());
     }
     Ok(())
 }
@@ -38,25 +38,32 @@ fn the_first_fault_is_told(rt: HostRuntime) -> Result<(), Fail> {
     let alloc = rt.alloc();
     // setup, forecast, plan text, the refusal as it is printed, its number
     for (setup, forecast, plan, printed, number) in [
-        (b"store = 1".as_slice(), b"".as_slice(), b"".as_slice(), "28 SetupField row 0 name store", 28),
+        (
+            b"store = 1".as_slice(),
+            b"".as_slice(),
+            b"".as_slice(),
+            "28 SetupField row 0 name store",
+            28,
+        ),
         (SETUP, b"step,window,HK\n1,2,3\n", b"", "30 Header", 30),
         (SETUP, FORECAST, b"mmplan 3\n", "34 PlanText line 1", 34),
         (SETUP, FORECAST, FOR_ANOTHER, "35 Shape", 35),
     ] {
-        let Err(fault) = check_bytes(alloc, setup, forecast, plan) else {
-            return Err(Fail);
-        };
-        assert_eq!(&rt; format!(in alloc; "{fault}")?.as_str(), printed);
-        assert_eq!(&rt; fault.number(), number);
+        let fault = check_bytes(alloc, setup, forecast, plan).expect_err(&rt, printed);
+        assert_eq!(rt; format!(in alloc; "{fault}")?.as_str(), printed);
+        assert_eq!(rt; fault.number(), number);
     }
-    assert_eq!(&rt; format!(in alloc; "{}", Fault::NoMemory)?.as_str(), "0 NoMemory");
+    assert_eq!(rt;
+        format!(in alloc; "{}", Fault::NoMemory)?.as_str(),
+        "0 NoMemory"
+    );
     Ok(())
 }
 
 #[test]
 fn a_setup_and_a_forecast_say_a_problem(rt: HostRuntime) -> Result<(), Fail> {
     let problem = read_problem(rt.alloc(), SETUP, FORECAST)?;
-    assert_eq!(&rt; problem.stores(), 1);
-    assert_eq!(&rt; problem.steps(), 3);
+    assert_eq!(rt; problem.stores(), 1);
+    assert_eq!(rt; problem.steps(), 3);
     Ok(())
 }

@@ -22,11 +22,11 @@ fn a_sheet_has_the_stores_the_plan_and_the_cut(rt: HostRuntime) -> Result<(), Fa
     let problem = read_problem(alloc, APART, APART_STEPS)?;
     let sheet = sheet(alloc, &problem)?;
     let id = StoreId::of_text(b"SCI")?;
-    assert_eq!(&rt; sheet.stores(), &[id]);
-    assert_eq!(&rt; sheet.loss(), 6);
-    assert_eq!(&rt; sheet.bound(), 6);
-    assert_eq!(&rt; sheet.cut().len(), 2);
-    assert_eq!(&rt; sheet.by_channels().len(), 0);
+    assert_eq!(rt; sheet.stores(), [id].as_slice());
+    assert_eq!(rt; sheet.loss(), 6);
+    assert_eq!(rt; sheet.bound(), 6);
+    assert_eq!(rt; sheet.cut().len(), 2);
+    assert_eq!(rt; sheet.by_channels().len(), 0);
     let verdict = verify(
         &problem,
         sheet.plan(),
@@ -35,7 +35,7 @@ fn a_sheet_has_the_stores_the_plan_and_the_cut(rt: HostRuntime) -> Result<(), Fa
         6,
         6,
     );
-    assert_eq!(&rt; verdict, Verdict::Least(6));
+    assert_eq!(rt; verdict, Verdict::Least(6));
     Ok(())
 }
 
@@ -45,9 +45,9 @@ fn a_plan_fits_and_loses_what_is_counted_by_hand(rt: HostRuntime) -> Result<(), 
     for (setup, forecast, loss) in [(APART, APART_STEPS, 6), (TWO_STORES, SHARED_WINDOW, 2)] {
         let problem = read_problem(alloc, setup, forecast)?;
         for planned in [plan(alloc, &problem)?, plan_by_flow(alloc, &problem)?] {
-            assert_eq!(&rt; fits(&problem, &planned.plan), Ok(()));
-            assert_eq!(&rt; loss_of(&problem, &planned.plan), loss);
-            assert_eq!(&rt; planned.loss, loss);
+            assert_eq!(rt; fits(&problem, &planned.plan), Ok(()));
+            assert_eq!(rt; loss_of(&problem, &planned.plan), loss);
+            assert_eq!(rt; planned.loss, loss);
         }
     }
     Ok(())
@@ -58,7 +58,7 @@ fn one_input_has_one_text(rt: HostRuntime) -> Result<(), Fail> {
     let alloc = rt.alloc();
     let first = plan_bytes(alloc, TWO_STORES, SHARED_WINDOW)?;
     let second = plan_bytes(alloc, TWO_STORES, SHARED_WINDOW)?;
-    assert!(&rt; first == second);
-    assert!(&rt; first.as_slice().starts_with(b"mmplan 1\nstores A B\n"));
+    assert!(rt; first == second);
+    assert!(rt; first.as_slice().starts_with(b"mmplan 1\nstores A B\n"));
     Ok(())
 }
