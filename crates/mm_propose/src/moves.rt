@@ -72,9 +72,7 @@ fn move_to(
 // Whether a search found where an arc comes from, and the arc bears blocks.
 fn is_reached(stores: &Stores, spans: &[Span], link: &Link) -> bool {
     match spans.get(link.from.span) {
-        Some(span) => {
-            span.found.nodes().has(link.from.node) && link.most(stores, spans) > 0
-        }
+        Some(span) => { span.found.nodes().has(link.from.node) && link.most(stores, spans) > 0 }
         None => false,
     }
 }

@@ -1,5 +1,5 @@
-//! Proposals, looked at by the checker of certificates. Its verdict `Least` is proved to mean that no plan loses less; the losses below
-//! are counted by hand.
+//! Proposals, looked at by the checker of certificates. Its verdict `Least` is proved to mean that no plan loses less;
+//! the losses below are counted by hand.
 ghost use Rattle.std.specs.Prelude.{IfOk};
 ghost use Rattle.mm_plan.specs.Table.{HasShape};
 
@@ -194,7 +194,10 @@ fn proposals_for_tiny_problems_lose_least(rt: HostRuntime) -> Result<(), Fail> {
         let setup = tiny_setup(alloc, &mut numbers)?;
         let forecast = tiny_forecast(alloc, &mut numbers)?;
         let verdict = verdict(alloc, setup.as_str(), forecast.as_str())?;
-        assert!(rt; matches!(verdict, Verdict::Least(_)), "{setup}{forecast}{verdict:?}");
+        assert!(rt;
+            matches!(verdict, Verdict::Least(_)),
+            "{setup}{forecast}{verdict:?}"
+        );
     }
     Ok(())
 }
