@@ -75,7 +75,10 @@ impl Outlook {
 // How many blocks of a store may still leave in a span.
 fn room(stores: &Stores, span: &Span, store: usize) -> u32 {
     let channel = stores.channel(store);
-    let rest = span.limits.of(channel).saturating_sub(span.sent.of(channel));
+    let rest = span
+        .limits
+        .of(channel)
+        .saturating_sub(span.sent.of(channel));
     rest.min(span.idle).min(span.kept.of(store))
 }
 

@@ -2,7 +2,6 @@
 //! pass.
 ghost use Rattle.std.specs.Prelude.{◌<◌};
 
-
 /// A node of a span. Stores and channels count from 0.
 #[derive(Clone, Copy)]
 pub(crate) enum Node {

@@ -2,7 +2,7 @@
 use crate::node::Node;
 use crate::spans::Span;
 use crate::stores::Stores;
-use mm_problem::CHANNELS;
+use mm_problem::{CHANNELS, MAX_STORES};
 
 /// A node of a span, which counts from 0.
 #[derive(Clone, Copy)]
@@ -140,11 +140,14 @@ impl Choice {
 
     // Looks at the arcs to a channel: from its stores, and from the pass.
     fn to_channel(&mut self, stores: &Stores, spans: &[Span], span: usize, channel: usize) {
-        for store in 0..stores.count() {
-            if stores.on(channel).has(store) {
-                let dump = Link::new(span, Node::Out(store), Change::DumpMore(store));
-                self.consider(stores, spans, dump);
-            }
+        let mut rest = stores.on(channel);
+        for _ in 0..MAX_STORES {
+            let Some(store) = rest.first() else {
+                break;
+            };
+            let dump = Link::new(span, Node::Out(store), Change::DumpMore(store));
+            self.consider(stores, spans, dump);
+            rest = rest.rest();
         }
         let send = Link::new(span, Node::Pass, Change::SendLess(channel));
         self.consider(stores, spans, send);

@@ -4,7 +4,7 @@ ghost use Rattle.mm_plan.specs.Table.{HasShape};
 
 use crate::cuts::{counts_of, stretches_of};
 use crate::greedy::dump_by_next_overflow;
-use crate::moves::move_lost;
+use crate::moves::{Walks, move_lost};
 use crate::search::search;
 use crate::spans::{Span, spans_of};
 use crate::stores::Stores;
@@ -50,10 +50,10 @@ fn plan_of(alloc: Global, problem: &Problem, spans: &[Span]) -> Result<Plan, NoM
 
 // Moves lost blocks as long as a search finds where to. The last search finds what the cut is made of.
 fn improve(alloc: Global, stores: &Stores, spans: &mut [Span]) -> Result<(), NoMemory> {
-    let mut path = Vec::new(alloc);
+    let mut walks = Walks::new(alloc);
     for _ in 0..SEARCHES {
         search(stores, spans);
-        if !move_lost(stores, spans, &mut path)? {
+        if !move_lost(stores, spans, &mut walks)? {
             break;
         }
     }

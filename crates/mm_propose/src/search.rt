@@ -1,5 +1,5 @@
-//! The search for where lost blocks could go instead: over the nodes of all spans, along each arc that can carry more. The network is
-//! never built; what a span's amounts say of its arcs is a few words.
+//! The search for where lost blocks could go instead: over the nodes of all spans, along each arc that can carry more.
+//! The network is never built; what a span's amounts say of its arcs is a few words.
 use crate::node::Node;
 use crate::sets::{NodeSet, StoreSet};
 use crate::spans::Span;
@@ -9,18 +9,28 @@ use mm_problem::CHANNELS;
 // More than the batches of a span and the sweeps of a search.
 const ROUNDS: u32 = 4096;
 
-/// The nodes of a span that a search found, and for each the number of the batch in which it was found.
+/// What a search knows of a span: its arcs, the nodes that were found, and of each the number of the batch in which it was.
 #[derive(Clone, Copy)]
 pub(crate) struct Found {
+    arcs: Arcs,
     nodes: NodeSet,
     batches: [u16; 64],
 }
 
 impl Found {
-    pub(crate) const NOTHING: Found = Found {
-        nodes: NodeSet::NONE,
-        batches: [0; 64],
-    };
+    // What is known before any search.
+    pub(crate) fn nothing() -> Found {
+        Found::over(Arcs::NONE)
+    }
+
+    // What is known as a search begins.
+    fn over(arcs: Arcs) -> Found {
+        Found {
+            arcs,
+            nodes: NodeSet::NONE,
+            batches: [0; 64],
+        }
+    }
 
     pub(crate) fn nodes(&self) -> NodeSet {
         self.nodes
@@ -57,53 +67,66 @@ impl Found {
 // Which arcs of a span can carry more, or give back what they carry.
 #[derive(Clone, Copy)]
 struct Arcs {
-    // the stores that are not full, that hold blocks, and of which blocks leave
+    // the stores that lose blocks, are not full, hold blocks, let blocks leave, and keep blocks
+    losing: StoreSet,
     roomy: StoreSet,
     holding: StoreSet,
     dumping: StoreSet,
+    keeping: StoreSet,
     // the channels that let more through, and those by which blocks leave
     open: NodeSet,
     sending: NodeSet,
 }
 
-// The arcs of a span by its amounts.
-fn arcs_of(stores: &Stores, span: &Span) -> Arcs {
-    let mut arcs = Arcs {
+impl Arcs {
+    const NONE: Arcs = Arcs {
+        losing: StoreSet::NONE,
         roomy: StoreSet::NONE,
         holding: StoreSet::NONE,
         dumping: StoreSet::NONE,
+        keeping: StoreSet::NONE,
         open: NodeSet::NONE,
         sending: NodeSet::NONE,
     };
-    for store in 0..stores.count() {
+
+    // Looks at the amounts of a store.
+    fn look_at_store(&mut self, span: &Span, store: usize, size: u32) {
         let held = span.held.of(store);
-        if held < stores.size(store) {
-            arcs.roomy = arcs.roomy.with(store);
-        }
-        if held > 0 {
-            arcs.holding = arcs.holding.with(store);
-        }
-        if span.dumped.of(store) > 0 {
-            arcs.dumping = arcs.dumping.with(store);
-        }
+        self.losing = self.losing.with_if(span.lost.of(store) > 0, store);
+        self.roomy = self.roomy.with_if(held < size, store);
+        self.holding = self.holding.with_if(held > 0, store);
+        self.dumping = self.dumping.with_if(span.dumped.of(store) > 0, store);
+        self.keeping = self.keeping.with_if(span.kept.of(store) > 0, store);
     }
-    for channel in 0..CHANNELS {
+
+    // Looks at the amounts of a channel.
+    fn look_at_channel(&mut self, span: &Span, channel: usize) {
         let sent = span.sent.of(channel);
         if sent < span.limits.of(channel) {
-            arcs.open = arcs.open.with(Node::Channel(channel));
+            self.open = self.open.with(Node::Channel(channel));
         }
         if sent > 0 {
-            arcs.sending = arcs.sending.with(Node::Channel(channel));
+            self.sending = self.sending.with(Node::Channel(channel));
         }
+    }
+}
+
+// The arcs of a span by its amounts.
+fn arcs_of(stores: &Stores, span: &Span) -> Arcs {
+    let mut arcs = Arcs::NONE;
+    for store in 0..stores.count() {
+        arcs.look_at_store(span, store, stores.size(store));
+    }
+    for channel in 0..CHANNELS {
+        arcs.look_at_channel(span, channel);
     }
     arcs
 }
 
-// The nodes of the span to which an arc leads from one of these.
-fn next_nodes(stores: &Stores, arcs: &Arcs, nodes: NodeSet) -> NodeSet {
-    let (coming, holding) = (nodes.stores_in(), nodes.stores_out());
-    let mut next = NodeSet::outs(coming.both(arcs.roomy))
-        .either(NodeSet::ins(holding.both(arcs.holding)));
+// The nodes to which an arc leads between stores and channels.
+fn next_by_channels(stores: &Stores, arcs: &Arcs, nodes: NodeSet) -> NodeSet {
+    let holding = nodes.stores_out();
+    let mut next = NodeSet::NONE;
     for channel in 0..CHANNELS {
         let on = stores.on(channel);
         if !holding.both(on).is_empty() {
@@ -112,6 +135,18 @@ fn next_nodes(stores: &Stores, arcs: &Arcs, nodes: NodeSet) -> NodeSet {
         if nodes.has(Node::Channel(channel)) {
             next = next.either(NodeSet::outs(on.both(arcs.dumping)));
         }
+    }
+    next
+}
+
+// The nodes of the span to which an arc leads from one of these.
+fn next_nodes(stores: &Stores, arcs: &Arcs, nodes: NodeSet) -> NodeSet {
+    let (coming, holding) = (nodes.stores_in(), nodes.stores_out());
+    let mut next = NodeSet::outs(coming.both(arcs.roomy)).either(NodeSet::ins(holding.both(
+        arcs.holding,
+    )));
+    if !holding.is_empty() || nodes.has_channel() {
+        next = next.either(next_by_channels(stores, arcs, nodes));
     }
     if !nodes.both(arcs.open).is_empty() {
         next = next.with(Node::Pass);
@@ -128,35 +163,23 @@ fn reach(stores: &Stores, span: &mut Span, nodes: NodeSet, batch: &mut u16) -> b
     if new.is_empty() {
         return false;
     }
-    let arcs = arcs_of(stores, span);
     for _ in 0..ROUNDS {
         if new.is_empty() {
             break;
         }
         *batch = batch.saturating_add(1);
         span.found.add(new, *batch);
-        new = next_nodes(stores, &arcs, new).without(span.found.nodes());
+        new = next_nodes(stores, &span.found.arcs, new).without(span.found.nodes());
     }
     true
-}
-
-// The stores with a positive amount.
-fn positive(stores: &Stores, amounts: &crate::amounts::Amounts) -> StoreSet {
-    let mut some = StoreSet::NONE;
-    for store in 0..stores.count() {
-        if amounts.of(store) > 0 {
-            some = some.with(store);
-        }
-    }
-    some
 }
 
 // Begins at the lost blocks of each span.
 fn begin(stores: &Stores, spans: &mut [Span], batch: &mut u16) {
     for span in spans.iter_mut() {
-        span.found = Found::NOTHING;
-        let losing = positive(stores, &span.lost);
-        reach(stores, span, NodeSet::ins(losing), batch);
+        let arcs = arcs_of(stores, span);
+        span.found = Found::over(arcs);
+        reach(stores, span, NodeSet::ins(arcs.losing), batch);
     }
 }
 
@@ -176,7 +199,7 @@ fn sweep_back(stores: &Stores, spans: &mut [Span], batch: &mut u16) -> bool {
     let mut is_new = false;
     let mut coming = StoreSet::NONE;
     for span in spans.iter_mut().rev() {
-        let kept = coming.both(positive(stores, &span.kept));
+        let kept = coming.both(span.found.arcs.keeping);
         is_new |= reach(stores, span, NodeSet::outs(kept), batch);
         coming = span.found.nodes().stores_in();
     }

@@ -14,8 +14,9 @@ impl StoreSet {
         StoreSet(self.0 | 1 << (store & 15))
     }
 
-    pub(crate) fn has(self, store: usize) -> bool {
-        self.0 >> (store & 15) & 1 == 1
+    // The set, with the store where it is so.
+    pub(crate) fn with_if(self, is_so: bool, store: usize) -> StoreSet {
+        StoreSet(self.0 | u16::from(is_so) << (store & 15))
     }
 
     // The stores of both sets.
@@ -25,6 +26,20 @@ impl StoreSet {
 
     pub(crate) fn is_empty(self) -> bool {
         self.0 == 0
+    }
+
+    // The first store, where there is one.
+    pub(crate) fn first(self) -> Option<usize> {
+        if self.0 == 0 {
+            None
+        } else {
+            Some(self.0.trailing_zeros() as usize)
+        }
+    }
+
+    // The set without its first store.
+    pub(crate) fn rest(self) -> StoreSet {
+        StoreSet(self.0 & self.0.wrapping_sub(1))
     }
 }
 
@@ -79,6 +94,11 @@ impl NodeSet {
     // The stores whose out-node is one of them.
     pub(crate) fn stores_out(self) -> StoreSet {
         StoreSet((self.0 >> 16 & 0xffff) as u16)
+    }
+
+    // Whether one of them is a channel's.
+    pub(crate) fn has_channel(self) -> bool {
+        self.0 >> 32 & 0xff != 0
     }
 
     // The place of the first node, where there is one.

@@ -79,7 +79,7 @@ fn empty_span(problem: &Problem, first: u32, last: u32, come: Amounts, window: u
         kept: Amounts::NOTHING,
         sent: Amounts::NOTHING,
         idle: window,
-        found: Found::NOTHING,
+        found: Found::nothing(),
     }
 }
 

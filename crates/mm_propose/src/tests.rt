@@ -1,12 +1,13 @@
-//! Proposals, looked at by the checker of certificates. Its verdict `Least` is proved to mean that no plan loses less; the losses below
-//! are counted by hand.
+//! Proposals, looked at by the checker of certificates. Its verdict `Least` is proved to mean that no plan loses less;
+//! the losses below are counted by hand.
+ghost use Rattle.std.specs.Prelude.{IfOk};
+ghost use Rattle.mm_plan.specs.Table.{HasShape};
 
 use crate::propose;
 use mm_cut::{Verdict, verify};
-use mm_plan::{fill, fits, loss_of};
+use mm_plan::{Plan, fill, fits, loss_of};
 use mm_problem::{Problem, Setup};
 use std::alloc::Global;
-use std::process::Abort;
 use std::test::Fail;
 
 // A store in a setup: its identifier, size, start and channel.
@@ -21,14 +22,23 @@ fn limit(alloc: Global, channel: u32, blocks: u32) -> Result<String, Fail> {
     Ok(format!(in alloc; "[[limit]]\nchannel = {channel}\nblocks = {blocks}\n")?)
 }
 
+// The plan filled, where it fits.
+fn filled(alloc: Global, problem: &Problem, plan: &Plan) -> Result<Plan, Fail>
+    requires { HasShape problem.now plan.now }
+    ensures { IfOk result (HasShape problem.now) }
+{
+    match fits(problem, plan) {
+        Ok(()) => Ok(fill(alloc, problem, plan)?),
+        Err(step) => Err(step)?,
+    }
+}
+
 // The verdict on what is proposed, once the plan is filled.
-fn verdict(rt: &impl Abort, alloc: Global, setup: &str, forecast: &str) -> Result<Verdict, Fail> {
+fn verdict(alloc: Global, setup: &str, forecast: &str) -> Result<Verdict, Fail> {
     let setup = Setup::read(alloc, setup.as_bytes())?;
     let problem = Problem::read(alloc, &setup, forecast.as_bytes())?;
     let proposal = propose(alloc, &problem)?;
-    let fit = fits(&problem, &proposal.plan);
-    assert_eq!(rt; fit, Ok(()));
-    let plan = fill(alloc, &problem, &proposal.plan)?;
+    let plan = filled(alloc, &problem, &proposal.plan)?;
     let loss = loss_of(&problem, &plan);
     let (cut, by_channels) = (proposal.cut.as_slice(), proposal.by_channels.as_slice());
     Ok(verify(&problem, &plan, cut, by_channels, loss, loss as i64))
@@ -54,7 +64,7 @@ fn proposals_for_one_store_lose_least(rt: HostRuntime) -> Result<(), Fail> {
         let limit = limit(alloc, 0, blocks)?;
         let setup = format!(in alloc; "{a}{limit}")?;
         let forecast = format!(in alloc; "step,window,A\n{steps}")?;
-        let verdict = verdict(&rt, alloc, setup.as_str(), forecast.as_str())?;
+        let verdict = verdict(alloc, setup.as_str(), forecast.as_str())?;
         assert_eq!(rt; verdict, Verdict::Least(loss), "{name}");
     }
     Ok(())
@@ -76,7 +86,7 @@ fn proposals_for_two_stores_lose_least(rt: HostRuntime) -> Result<(), Fail> {
         let limit = limit(alloc, 0, blocks)?;
         let setup = format!(in alloc; "{a}{b}{limit}")?;
         let forecast = format!(in alloc; "step,window,A,B\n{steps}")?;
-        let verdict = verdict(&rt, alloc, setup.as_str(), forecast.as_str())?;
+        let verdict = verdict(alloc, setup.as_str(), forecast.as_str())?;
         assert_eq!(rt; verdict, Verdict::Least(loss), "{name}");
     }
     Ok(())
@@ -103,7 +113,7 @@ fn lost_blocks_are_moved_where_greed_fails(rt: HostRuntime) -> Result<(), Fail> 
         let (first, second) = (limit(alloc, 0, limits[0])?, limit(alloc, 1, limits[1])?);
         let setup = format!(in alloc; "{a}{b}{first}{second}")?;
         let forecast = format!(in alloc; "step,window,A,B\n{steps}")?;
-        let verdict = verdict(&rt, alloc, setup.as_str(), forecast.as_str())?;
+        let verdict = verdict(alloc, setup.as_str(), forecast.as_str())?;
         assert_eq!(rt; verdict, Verdict::Least(loss), "{steps}");
     }
     Ok(())
@@ -126,7 +136,7 @@ fn the_largest_problem_has_a_proposal(rt: HostRuntime) -> Result<(), Fail> {
         let line = format!(in alloc; "{step},15,1,1,1,1,1,1,1,1,1,1,1,1,1,1,1,1\n")?;
         forecast.push_str(line.as_str())?;
     }
-    let verdict = verdict(&rt, alloc, setup.as_str(), forecast.as_str())?;
+    let verdict = verdict(alloc, setup.as_str(), forecast.as_str())?;
     assert_eq!(rt; verdict, Verdict::Least(255));
     Ok(())
 }
@@ -183,8 +193,11 @@ fn proposals_for_tiny_problems_lose_least(rt: HostRuntime) -> Result<(), Fail> {
     for _ in 0..100 {
         let setup = tiny_setup(alloc, &mut numbers)?;
         let forecast = tiny_forecast(alloc, &mut numbers)?;
-        let verdict = verdict(&rt, alloc, setup.as_str(), forecast.as_str())?;
-        assert!(rt; matches!(verdict, Verdict::Least(_)), "{setup}{forecast}{verdict:?}");
+        let verdict = verdict(alloc, setup.as_str(), forecast.as_str())?;
+        assert!(rt;
+            matches!(verdict, Verdict::Least(_)),
+            "{setup}{forecast}{verdict:?}"
+        );
     }
     Ok(())
 }
