@@ -1,1 +1,3 @@
 pub mod BalanceLemmas
+pub mod Runs
+pub mod Shuffles
