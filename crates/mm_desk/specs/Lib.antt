@@ -9,3 +9,5 @@ pub mod Shuffles
 pub mod Seats
 pub mod Answers
 pub mod Agreeing
+pub mod Offers
+pub mod Orders

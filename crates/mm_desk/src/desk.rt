@@ -137,7 +137,13 @@ impl<N: Opening> Desk<N> {
 
     // Makes the event's call through a seat. Every growth and every copy comes first: where there is no memory the event comes
     // back.
-    fn call<R: Wait>(&self, rt: &R, alloc: Global, seat: &mut Seat<N>, event: Event) -> Result<Reply, Event>
+    fn call<R: Wait>(
+        &self,
+        rt: &R,
+        alloc: Global,
+        seat: &mut Seat<N>,
+        event: Event,
+    ) -> Result<Reply, Event>
         ensures called { IfOk result (λ reply. seat.new ≡ with_call seat.old event reply) }
         ensures answers { IfOk result (λ reply. Answers event reply) }
         ensures back { IfErr result (λ back. back ≡ event) }
@@ -201,7 +207,12 @@ impl<N: Opening> Desk<N> {
     }
 
     /// Gives a copy of the next packet of the retrieval with its storage time; nothing at its end, where it is over.
-    pub fn next<R: Wait>(&self, rt: &R, alloc: Global, seat: &mut Seat<N>) -> Result<Option<Stored>, Fault>
+    pub fn next<R: Wait>(
+        &self,
+        rt: &R,
+        alloc: Global,
+        seat: &mut Seat<N>,
+    ) -> Result<Option<Stored>, Fault>
         ensures tells { Tells seat.old Event.Next (Reply.Given result) seat.new }
     {
         match self.call(rt, alloc, seat, Event::Next) {
@@ -223,7 +234,13 @@ impl<N: Opening> Desk<N> {
     }
 
     /// Deletes the packets up to a time, that time included, and returns their number.
-    pub fn delete<R: Wait>(&self, rt: &R, alloc: Global, seat: &mut Seat<N>, limit: u64) -> Result<u32, Fault>
+    pub fn delete<R: Wait>(
+        &self,
+        rt: &R,
+        alloc: Global,
+        seat: &mut Seat<N>,
+        limit: u64,
+    ) -> Result<u32, Fault>
         ensures tells { Tells seat.old (Event.Delete limit) (Reply.Deleted result) seat.new }
     {
         match self.call(rt, alloc, seat, Event::Delete(limit)) {

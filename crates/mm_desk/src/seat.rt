@@ -62,7 +62,11 @@ impl<N: Opening> Seat<N> {
 }
 
 // The seats of a desk at this place.
-pub(crate) fn new_seats<N: Opening>(alloc: Global, place: u32, seats: u32) -> Result<Vec<Seat<N>>, NoMemory>
+pub(crate) fn new_seats<N: Opening>(
+    alloc: Global,
+    place: u32,
+    seats: u32,
+) -> Result<Vec<Seat<N>>, NoMemory>
     ensures new { IfOk result (λ list. AreNew place seats list.items) }
 {
     let mut list = Vec::new(alloc);

@@ -45,7 +45,12 @@ impl Told {
 
 impl StoreState {
     // What a full circular store would answer to an offer.
-    fn foresee_over(&self, alloc: Global, now: u64, packet: &BlockPacket) -> Result<Result<Offered, Returned>, NoMemory>
+    fn foresee_over(
+        &self,
+        alloc: Global,
+        now: u64,
+        packet: &BlockPacket,
+    ) -> Result<Result<Offered, Returned>, NoMemory>
         requires storage { self.now.storage ≡ true }
         requires early { self.now.store.last < 2 ^ 64 - 1 }
         requires counted { self.now.offered < 2 ^ 64 - 1 }
@@ -61,7 +66,12 @@ impl StoreState {
     }
 
     // What an offer would be answered.
-    fn foresee_offer(&self, alloc: Global, now: u64, packet: &BlockPacket) -> Result<Result<Offered, Returned>, NoMemory>
+    fn foresee_offer(
+        &self,
+        alloc: Global,
+        now: u64,
+        packet: &BlockPacket,
+    ) -> Result<Result<Offered, Returned>, NoMemory>
         ensures foreseen { IfOk result (λ r. r ≡ (offer self.now now packet.now).0) }
     {
         if !self.storage {
