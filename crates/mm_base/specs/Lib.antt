@@ -2,9 +2,11 @@ pub mod Characters
 pub mod Refusals
 pub mod Fault
 pub mod Reading
+pub mod Options
 pub mod Id
 pub mod Kind
 pub mod Numbers
 pub mod Lines
+pub mod Grid
 pub mod SameRoutes
 pub mod Laws
