@@ -11,3 +11,4 @@ pub mod Answers
 pub mod Agreeing
 pub mod Offers
 pub mod Orders
+pub mod Passes

@@ -1,16 +1,14 @@
 //! Why a store refuses what is asked of it.
 ghost use Rattle.std.specs.Prelude.{◌≡◌};
-ghost use Rattle.mm_base.specs.Refusals.{number_of, name_of};
-ghost use Rattle.mm_desk.specs.Fault.{refusal_of};
 
-use mm_base::Refusal;
+use mm_base::{Refusal, Refused};
 use thiserror::Error;
 
 /// A refusal of this crate. It is shown as its number and its name.
 #[derive(Clone, Copy, Debug, PartialEq, Eq, Error)]
 #[error("{}", self.refusal())]
 pub enum Fault {
-    /// A growth was refused.
+    /// An allocation was refused.
     NoMemory,
     /// The store holds more packets than the new size has blocks.
     HoldsMore,
@@ -28,11 +26,12 @@ pub enum Fault {
     StorageOn,
 }
 
-impl Fault {
-    /// Which refusal it is.
-    pub fn refusal(self) -> Refusal
-        ensures refusal { result ≡ refusal_of self }
-    {
+impl Refused for Fault {
+    ghost use Rattle.mm_desk.specs.Fault.{refusal_of};
+
+    ghost refusal_of = { refusal_of };
+
+    fn refusal(self) -> Refusal {
         match self {
             Fault::NoMemory => Refusal::NoMemory,
             Fault::HoldsMore => Refusal::HoldsMore,
@@ -43,20 +42,6 @@ impl Fault {
             Fault::ClockEnd => Refusal::ClockEnd,
             Fault::StorageOn => Refusal::StorageOn,
         }
-    }
-
-    /// The refusal's number.
-    pub fn number(self) -> u8
-        ensures number { result ≡ number_of (refusal_of self) }
-    {
-        self.refusal().number()
-    }
-
-    /// The refusal's name.
-    pub fn name(self) -> &'static str
-        ensures name { result.now ≡ name_of (refusal_of self) }
-    {
-        self.refusal().name()
     }
 }
 

@@ -1,7 +1,7 @@
 //! Laws of the store machine, over the definitions alone.
 ghost use Rattle.mm_desk.specs.Laws.{KeepBalance, KeepStates, ReplaysKeepStates, OffersLeave, ShufflesLoseAlike, OrdersDumpTheOldest, LoneSeatsAreLogs};
 
-use mm_store::laws::stores_lose_alike;
+use mm_store::laws::{stores_lose_alike, stores_stay_stores};
 
 /// After every event what was offered is lost, deleted or held.
 pub fn events_keep_the_balance()
@@ -16,6 +16,7 @@ pub fn events_keep_a_state()
     ensures log { ReplaysKeepStates }
 {
     events_keep_the_balance();
+    stores_stay_stores();
 }
 
 /// Offers of which none is refused leave the same volume and lose as many packets in any order, in either kind of store: one
