@@ -3,3 +3,4 @@ pub mod IdFields
 pub mod NumberLaws
 pub mod NumberTexts
 mod LineLemmas
+pub mod Places

@@ -7,5 +7,6 @@ pub mod Id
 pub mod Kind
 pub mod Numbers
 pub mod Lines
+pub mod Grid
 pub mod SameRoutes
 pub mod Laws

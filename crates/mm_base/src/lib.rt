@@ -2,6 +2,7 @@
 #![tactic(auto)]
 
 mod fault;
+pub mod grid;
 mod id;
 mod kind;
 pub mod laws;

@@ -1,2 +1,4 @@
 pub mod OrderLemmas
 pub mod RouteLemmas
+mod NamedLemmas
+mod RunLemmas

@@ -44,17 +44,19 @@ row_cmp_same a b tie =
     (nat_cmp-IsAntisymmetric a.subtype b.subtype third.0)
     (slice_cmp-IsAntisymmetric nat_cmp-IsAntisymmetric a.store b.store third.1)
 
-is_eq-then : (o p : Ordering) → is_eq (ordering_then o p) ≡ (is_eq o && is_eq p)
+-- a tie by two keys is a tie by both
+pub is_eq-then : (o p : Ordering) → is_eq (ordering_then o p) ≡ (is_eq o && is_eq p)
 is_eq-then Less p = refl
 is_eq-then Equal p = refl
 is_eq-then Greater p = refl
 
+-- tests in a row, grouped from the last
+pub regroup_three : (b c d : Bool) → (b && c && d) ≡ (b && (c && d))
+regroup_three true c d = refl
+regroup_three false c d = refl
+
 regroup : (a b c d : Bool) → (a && b && c && d) ≡ (a && (b && (c && d)))
-regroup true b c d = regroup_rest b
-  where
-    regroup_rest : (b : Bool) → (b && c && d) ≡ (b && (c && d))
-    regroup_rest true = refl
-    regroup_rest false = refl
+regroup true b c d = regroup_three b c d
 regroup false b c d = refl
 
 -- the test for one row is the tie of the order

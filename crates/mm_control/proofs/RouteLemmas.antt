@@ -4,7 +4,7 @@ use Rattle.std.specs.List.{filter, All, AllPairs, HoldsAt}
 use Rattle.std.specs.Prelude.{Result, Ok, Err, is_ok, IfOk, IfErr}
 use Rattle.std.specs.List.Sorted.{IsPartitionPoint, IsNonDecreasingBy, IsSearchInRange, IsBinarySearchResult}
 use Rattle.std.proofs.lemmas.List.Sorted.{searchable_from_sorted}
-use Rattle.std.specs.Ordering.{is_lt, ordering_reverse, ordering_index}
+use Rattle.std.specs.Ordering.{is_lt, is_eq, is_gt, ordering_reverse, ordering_index}
 use Rattle.std.specs.declared.cmp.Ordering.{Ordering}
 use Rattle.std.specs.declared.cmp.Ordering.TheVariants.{Less, Equal, Greater}
 use Rattle.std.proofs.lemmas.List.{append-nil, take-append-drop, get_or-take, get_or-drop, length-take, length-drop, drop_more}
@@ -42,10 +42,10 @@ has_row-without_row row rows r =
     rw (same_route-sym row r) (has_row-filter (λ x. not (same_route x row)) r rows)
 
 module _ {X : Type 0} (R : X → X → Type 0) where
-  AllPairs-tail : (x : X) (xs : List X) → AllPairs R (x ∷ xs) → AllPairs R xs
+  pub AllPairs-tail : (x : X) (xs : List X) → AllPairs R (x ∷ xs) → AllPairs R xs
   AllPairs-tail x xs pairs = λ i j d less within. pairs (suc i) (suc j) d (omega arith) (omega arith)
 
-  AllPairs-head : (x : X) (xs : List X) → AllPairs R (x ∷ xs) → All (R x) xs
+  pub AllPairs-head : (x : X) (xs : List X) → AllPairs R (x ∷ xs) → All (R x) xs
   AllPairs-head x xs pairs = λ k d within. pairs 0 (suc k) d (omega arith) (omega arith)
 
   -- where all of one list come before all of another, both stand in order behind one another
@@ -57,7 +57,7 @@ module _ {X : Type 0} (R : X → X → Type 0) where
       (AllPairs-append xs ys (AllPairs-tail x xs first) second (All-tail (λ x. All (R x) ys) x xs between))
 
 -- the test for the lesser says which it is
-less : (o : Ordering) → is_lt o ≡ true → o ≡ Less
+pub less : (o : Ordering) → is_lt o ≡ true → o ≡ Less
 less Less test = refl
 less Equal test = absurd (cc)
 less Greater test = absurd (cc)
@@ -96,12 +96,12 @@ deletes_one row rows in_order =
     record { has = has_row-without_row row rows; in_order = AllPairs-filter (λ a b. row_cmp a b ≡ Less) (λ r. not (same_route r row)) rows in_order }
 
 module _ {X : Type 0} (p : X → Bool) where
-  filter_all : (xs : List X) → All (λ x. p x ≡ true) xs → filter p xs ≡ xs
+  pub filter_all : (xs : List X) → All (λ x. p x ≡ true) xs → filter p xs ≡ xs
   filter_all [] all = refl
   filter_all (x ∷ xs) all =
       rw (All-head (λ x. p x ≡ true) x xs all) (ap (λ ys. x ∷ ys) (filter_all xs (All-tail (λ x. p x ≡ true) x xs all)))
 
-  filter_none : (xs : List X) → All (λ x. p x ≡ false) xs → filter p xs ≡ []
+  pub filter_none : (xs : List X) → All (λ x. p x ≡ false) xs → filter p xs ≡ []
   filter_none [] none = refl
   filter_none (x ∷ xs) none =
       rw (All-head (λ x. p x ≡ false) x xs none) (filter_none xs (All-tail (λ x. p x ≡ false) x xs none))
@@ -113,42 +113,35 @@ module _ {X : Type 0} (p : X → Bool) where
   filter_back : (xs ys : List X) → All (λ x. p x ≡ false) xs → All (λ x. p x ≡ true) ys → filter p (xs ++ ys) ≡ ys
   filter_back xs ys none all = filter-append p xs ys ∙ rw (filter_none xs none) (filter_all ys all)
 
+-- rows that stand alike to one row pass the same tests beside it
+module _ (row : RouteRow) (o : Ordering) (rows : List RouteRow) (all : All (λ r. row_cmp r row ≡ o) rows) where
+  all_before : All (λ r. is_before r row ≡ is_lt o) rows
+  all_before = All-weaker (λ r. row_cmp r row ≡ o) (λ r. is_before r row ≡ is_lt o) (λ r e. (beside r row o e).before) rows all
+
+  all_after : All (λ r. is_before row r ≡ is_gt o) rows
+  all_after = All-weaker (λ r. row_cmp r row ≡ o) (λ r. is_before row r ≡ is_gt o) (λ r e. (beside r row o e).after) rows all
+
+  all_same : All (λ r. same_route r row ≡ is_eq o) rows
+  all_same = All-weaker (λ r. row_cmp r row ≡ o) (λ r. same_route r row ≡ is_eq o) (λ r e. (beside r row o e).same) rows all
+
 module _ (row : RouteRow) (front back : List RouteRow) (early : All (λ r. row_cmp r row ≡ Less) front) (late : All (λ r. row_cmp r row ≡ Greater) back) where
-  early_before : All (λ r. is_before r row ≡ true) front
-  early_before = All-weaker (λ r. row_cmp r row ≡ Less) (λ r. is_before r row ≡ true) (λ r e. (beside r row Less e).before) front early
-
-  early_after : All (λ r. is_before row r ≡ false) front
-  early_after = All-weaker (λ r. row_cmp r row ≡ Less) (λ r. is_before row r ≡ false) (λ r e. (beside r row Less e).after) front early
-
-  early_other : All (λ r. same_route r row ≡ false) front
-  early_other = All-weaker (λ r. row_cmp r row ≡ Less) (λ r. same_route r row ≡ false) (λ r e. (beside r row Less e).same) front early
-
-  late_before : All (λ r. is_before r row ≡ false) back
-  late_before = All-weaker (λ r. row_cmp r row ≡ Greater) (λ r. is_before r row ≡ false) (λ r e. (beside r row Greater e).before) back late
-
-  late_after : All (λ r. is_before row r ≡ true) back
-  late_after = All-weaker (λ r. row_cmp r row ≡ Greater) (λ r. is_before row r ≡ true) (λ r e. (beside r row Greater e).after) back late
-
-  late_other : All (λ r. same_route r row ≡ false) back
-  late_other = All-weaker (λ r. row_cmp r row ≡ Greater) (λ r. same_route r row ≡ false) (λ r e. (beside r row Greater e).same) back late
-
   itself : IsBeside row row Equal
   itself = beside row row Equal (tied_itself row_cmp_total row)
 
   -- a row that is not there goes between
   pub with_row-gap : with_row row (front ++ back) ≡ front ++ row ∷ back
   with_row-gap =
-      rw (filter_front (λ r. is_before r row) front back early_before late_before, filter_back (λ r. is_before row r) front back early_after late_after)
+      rw (filter_front (λ r. is_before r row) front back (all_before row Less front early) (all_before row Greater back late), filter_back (λ r. is_before row r) front back (all_after row Less front early) (all_after row Greater back late))
 
   -- a row that is there stays
   pub with_row-hit : with_row row (front ++ row ∷ back) ≡ front ++ row ∷ back
   with_row-hit =
       rw (
-        filter_front (λ r. is_before r row) front (row ∷ back) early_before (All-cons (λ r. is_before r row ≡ false) row back itself.before late_before),
+        filter_front (λ r. is_before r row) front (row ∷ back) (all_before row Less front early) (All-cons (λ r. is_before r row ≡ false) row back itself.before (all_before row Greater back late)),
         filter-append (λ r. is_before row r) front (row ∷ back),
-        filter_none (λ r. is_before row r) front early_after,
+        filter_none (λ r. is_before row r) front (all_after row Less front early),
         itself.after,
-        filter_all (λ r. is_before row r) back late_after,
+        filter_all (λ r. is_before row r) back (all_after row Greater back late),
       )
 
   -- a deletion takes it out
@@ -157,16 +150,16 @@ module _ (row : RouteRow) (front back : List RouteRow) (early : All (λ r. row_c
       filter-append (λ r. not (same_route r row)) front (row ∷ back)
       ∙ rw (
         itself.same,
-        filter_all (λ r. not (same_route r row)) front (All-weaker (λ r. same_route r row ≡ false) (λ r. not (same_route r row) ≡ true) (λ r e. ap not e) front early_other),
-        filter_all (λ r. not (same_route r row)) back (All-weaker (λ r. same_route r row ≡ false) (λ r. not (same_route r row) ≡ true) (λ r e. ap not e) back late_other),
+        filter_all (λ r. not (same_route r row)) front (All-weaker (λ r. same_route r row ≡ false) (λ r. not (same_route r row) ≡ true) (λ r e. ap not e) front (all_same row Less front early)),
+        filter_all (λ r. not (same_route r row)) back (All-weaker (λ r. same_route r row ≡ false) (λ r. not (same_route r row) ≡ true) (λ r e. ap not e) back (all_same row Greater back late)),
       )
 
   pub has_row-gap : has_row row (front ++ back) ≡ false
-  has_row-gap = list_any_none (λ r. same_route r row) (front ++ back) (All-append (λ r. same_route r row ≡ false) front back early_other late_other)
+  has_row-gap = list_any_none (λ r. same_route r row) (front ++ back) (All-append (λ r. same_route r row ≡ false) front back (all_same row Less front early) (all_same row Greater back late))
 
   pub has_row-hit : has_row row (front ++ row ∷ back) ≡ true
   has_row-hit =
-      list_any-append (λ r. same_route r row) front (row ∷ back) ∙ rw (list_any_none (λ r. same_route r row) front early_other, itself.same)
+      list_any-append (λ r. same_route r row) front (row ∷ back) ∙ rw (list_any_none (λ r. same_route r row) front (all_same row Less front early), itself.same)
 
 module _ (row : RouteRow) (rows : List RouteRow) (place : ℕ) where
   pub gap : place ≤ length rows → IsPartitionPoint (λ r. row_cmp r row ≡ Less) (λ r. row_cmp r row ≡ Greater) rows place → WouldStand row rows place × (has_row row rows ≡ false)

@@ -1,8 +1,8 @@
 -- Laws of the storage control.
-use Rattle.std.specs.Prelude.{◌≡◌, not, ◌&&◌, ◌||◌, List}
+use Rattle.std.specs.Prelude.{◌≡◌, ℕ, not, ◌&&◌, ◌||◌, if◌then◌else◌, List, [], ◌∷◌, filter, bytes_eq}
 use Rattle.mm_base.specs.declared.rows.RouteRow.{RouteRow}
 use Rattle.mm_base.specs.SameRoutes.{same_route}
-use Rattle.mm_control.specs.Routes.{IsInOrder, has_row, with_row, without_row}
+use Rattle.mm_control.specs.Routes.{IsInOrder, AreInOrder, has_row, with_row, without_row, stores_for}
 
 -- an addition adds its row and no other, and keeps the order
 pub record AddsOne (row : RouteRow) (rows : List RouteRow) : Type 0 where
@@ -17,3 +17,13 @@ pub record DeletesOne (row : RouteRow) (rows : List RouteRow) : Type 0 where
 -- rows in order are a set
 abbrev pub AreSets : Type 0
 AreSets = (row : RouteRow) (rows : List RouteRow) → IsInOrder rows → AddsOne row rows × DeletesOne row rows
+
+-- a report type names a store once where the table has the row, and not otherwise
+abbrev pub NamesOnce : Type 0
+NamesOnce = (apid service subtype : ℕ) (id : List ℕ) (rows : List RouteRow) → IsInOrder rows
+    → filter (bytes_eq id) (stores_for apid service subtype rows)
+    ≡ (if has_row (record { apid = apid; service = service; subtype = subtype; store = id }) rows then id ∷ [] else [])
+
+-- a report type names stores in the order of their identifiers
+abbrev pub NamesInOrder : Type 0
+NamesInOrder = (apid service subtype : ℕ) (rows : List RouteRow) → IsInOrder rows → AreInOrder (stores_for apid service subtype rows)

@@ -73,6 +73,15 @@ count_of_store store rows = count_by (is_to store) rows
 abbrev pub is_for : ℕ → ℕ → ℕ → RouteRow → Bool
 is_for apid service subtype r = (r.apid == apid) && (r.service == service) && (r.subtype == subtype)
 
+-- how a row's report type stands to this one
+abbrev pub type_cmp : ℕ → ℕ → ℕ → RouteRow → Ordering
+type_cmp apid service subtype r =
+    ordering_then (nat_cmp r.apid apid) (ordering_then (nat_cmp r.service service) (nat_cmp r.subtype subtype))
+
+-- identifiers in order, none twice
+abbrev pub AreInOrder : List (List ℕ) → Type 0
+AreInOrder ids = AllPairs (λ a b. slice_cmp nat_cmp a b ≡ Less) ids
+
 -- the stores that a report type goes into
 abbrev pub stores_for : ℕ → ℕ → ℕ → List RouteRow → List (List ℕ)
 stores_for apid service subtype rows = map (λ r. r.store) (filter (is_for apid service subtype) rows)

@@ -1,11 +1,12 @@
 //! The storage control.
-ghost use Rattle.std.specs.Prelude.{◌≡◌, ◌+◌, ◌≤◌, [], length, is_ok, IfOk, IfErr, OnOk, OnErr};
-ghost use Rattle.mm_control.specs.Routes.{IsInOrder, IsTable, Stands, WouldStand, has_row, takes, with_row, without_row, without_store, count_of_store, stores_for};
+ghost use Rattle.std.specs.Prelude.{◌≡◌, ◌+◌, ◌≤◌, ℕ, if◌then◌else◌, List, [], ◌∷◌, length, map, filter, bytes_eq, is_ok, IfOk, IfErr, OnOk, OnErr};
+ghost use Rattle.mm_control.specs.Routes.{IsInOrder, AreInOrder, IsTable, Stands, WouldStand, has_row, takes, with_row, without_row, without_store, count_of_store, is_for, type_cmp, stores_for};
 ghost use Rattle.mm_control.specs.declared.fault.Fault.TheVariants.{NoSuchRoute, TableFull};
 
 use crate::fault::Fault;
 use mm_base::{MAX_ROUTES, NoMemory, RouteRow, StoreId};
-use std::alloc::Global;
+use std::alloc::{AllocError, Global};
+use std::cmp::Ordering;
 use std::marker::Model;
 
 /// The storage control (ECSS-E-ST-70-41C, 6.15): which report types go into which packet stores. Contracts see the
@@ -26,6 +27,33 @@ impl Model for ControlTable {
     ghost view = { λ a. a.rows.items };
 
     ghost invariant = { λ a. IsTable a.rows.items × (MAX_ROUTES ≤ vec_capacity a.rows) };
+}
+
+// How a row's report type stands to this one.
+fn type_cmp(row: &RouteRow, apid: u16, service: u8, subtype: u8) -> Ordering
+    ensures { result ≡ type_cmp apid service subtype row.now }
+{
+    row.apid
+        .cmp(&apid)
+        .then(row.service.cmp(&service).then(row.subtype.cmp(&subtype)))
+}
+
+// The rows of a report type, which stand together.
+fn rows_for(rows: &[RouteRow], apid: u16, service: u8, subtype: u8) -> &[RouteRow]
+    requires { IsInOrder rows.now }
+    ensures { result.now ≡ filter (is_for apid service subtype) rows.now }
+{
+    let start = rows.partition_point(|row| type_cmp(row, apid, service, subtype).is_lt());
+    let rest = &rows[start..];
+    let len = rest.partition_point(|row| type_cmp(row, apid, service, subtype).is_le());
+    &rest[..len]
+}
+
+// The stores that rows lead to.
+fn stores_of(alloc: Global, rows: &[RouteRow]) -> Result<Vec<StoreId>, AllocError>
+    ensures { IfOk result (λ stores. stores.items ≡ map (λ r. r.store) rows.now) }
+{
+    rows.iter().map(|row| row.store).collect(alloc)
 }
 
 // The place where a row stands, or the place where it would.
@@ -103,13 +131,13 @@ impl ControlTable {
     ) -> Result<Vec<StoreId>, NoMemory>
         ensures stores { IfOk result
             (λ stores. stores.items ≡ stores_for apid service subtype self.now) }
+        // They stand in order, and a store is among them once where the table has the row, and else not.
+        ensures in_order { IfOk result (λ stores. AreInOrder stores.items) }
+        ensures once { IfOk result (λ stores. (id : List ℕ)
+            → filter (bytes_eq id) stores.items
+            ≡ (if has_row (record { apid = apid; service = service; subtype = subtype; store = id }) self.now then id ∷ [] else [])) }
     {
-        let stores = self
-            .rows
-            .iter()
-            .filter(|row| row.apid == apid && row.service == service && row.subtype == subtype)
-            .map(|row| row.store)
-            .collect(alloc)?;
+        let stores = stores_of(alloc, rows_for(&self.rows, apid, service, subtype))?;
         Ok(stores)
     }
 

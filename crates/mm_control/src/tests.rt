@@ -93,6 +93,27 @@ fn rows_stand_by_report_type_and_then_by_store(rt: HostRuntime) -> Result<(), Fa
 }
 
 #[test]
+fn each_report_type_finds_its_stores_among_many(rt: HostRuntime) -> Result<(), Fail> {
+    let mut table = ControlTable::new(rt.alloc())?;
+    for apid in 0..60 {
+        for text in [b"B".as_slice(), b"A"] {
+            assert_eq!(rt; table.add(row(&rt, 2 * apid, 25, text)), Ok(()));
+        }
+    }
+    let both = [store(&rt, b"A"), store(&rt, b"B")];
+    for apid in 0..60 {
+        let stores = table.stores_for(rt.alloc(), 2 * apid, 3, 25)?;
+        assert_eq!(rt; stores.as_slice(), both.as_slice(), "for {apid}");
+        assert_eq!(rt; table.stores_for(rt.alloc(), 2 * apid + 1, 3, 25)?.len(), 0);
+        assert_eq!(rt; table.stores_for(rt.alloc(), 2 * apid, 2, 25)?.len(), 0);
+        assert_eq!(rt; table.stores_for(rt.alloc(), 2 * apid, 4, 24)?.len(), 0);
+    }
+    laws::tables_are_sets();
+    laws::stores_are_named_once();
+    Ok(())
+}
+
+#[test]
 fn refusals_have_numbers_and_names(rt: HostRuntime) -> Result<(), Fail> {
     for (fault, number, name, text) in [
         (Fault::NoSuchRoute, 10, "NoSuchRoute", "10 NoSuchRoute"),

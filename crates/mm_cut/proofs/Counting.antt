@@ -7,11 +7,12 @@ use Rattle.std.proofs.lemmas.List.Folds.{Any-from_list_any}
 use Rattle.std.proofs.lemmas.List.FromFn.{length-range_with_len, get_or-range_with_len}
 use Rattle.std.proofs.lemmas.List.Sums.{sum_by-le, get_or-le-sum_by}
 use Rattle.mm_base.specs.declared.limits.TheConstants.{MAX_STORES, MAX_STEPS}
+use Rattle.mm_sums.proofs.Sums.{sum_by-le_each, sum_by-swap, sum_by_ones}
+use Rattle.mm_sums.proofs.Groups.{sum_by-le_places}
 use Rattle.mm_problem.specs.Dumping.{Dumping, stores, steps, IsDumping}
 use Rattle.mm_plan.specs.declared.stretch.Stretch.{Stretch}
 use Rattle.mm_cut.specs.Stretches.{covers, goes_past, IsStretch, AreStretches}
 use Rattle.mm_cut.specs.Counts.{IsCounted, AreCounted}
-use Rattle.mm_cut.proofs.Sums
 use Rattle.mm_cut.proofs.Exchange.{by_store}
 
 -- how many steps a stretch has
@@ -36,14 +37,14 @@ pub length-stretches : (q : Dumping) (ds : List Stretch) → AreStretches q ds �
 unfolding step_count
 length-stretches q ds are =
     let in_step : ℕ → ℕ = λ t. sum_by (λ d. cond (covers d t) 1 0) ds in
-    let each = Sums.sum_by-le_each (λ _. 1) (step_count q) ds (λ k d inside. has_step q (get_or ds k d) (are.each k d inside)) in
-    let swapped = Sums.sum_by-swap (λ d t. cond (covers d t) 1 0) ds (steps q) in
-    let all_stores : sum_by (λ _. 1) (stores q) ≡ length q.rows = Sums.sum_by-ones (stores q) ∙ length-range_with_len 0 (length q.rows) in
+    let each = sum_by-le_each (λ _. 1) (step_count q) ds (λ k d inside. has_step q (get_or ds k d) (are.each k d inside)) in
+    let swapped = sum_by-swap (λ d t. cond (covers d t) 1 0) ds (steps q) in
+    let all_stores : sum_by (λ _. 1) (stores q) ≡ length q.rows = sum_by_ones (stores q) ∙ length-range_with_len 0 (length q.rows) in
     let in_each_step : (t : ℕ) → in_step t ≤ length q.rows =
     λ t. omega (arith, by_store q ds t (λ _. 1) (λ d. covers d t) are (λ d at. at), all_stores) in
     let in_all_steps = sum_by-le in_step (length q.rows) (steps q) (λ k d inside. in_each_step (get_or (steps q) k d)) in
     let all_steps = ap (λ n. n * length q.rows) (length-range_with_len 1 (length q.windows)) in
-    omega (arith, each, Sums.sum_by-ones ds, swapped, in_all_steps, all_steps)
+    omega (arith, each, sum_by_ones ds, swapped, in_all_steps, all_steps)
 
 -- the same in numbers
 pub few_stretches : (q : Dumping) (ds : List Stretch) → IsDumping q → AreStretches q ds → length ds ≤ MAX_STEPS * MAX_STORES
@@ -63,8 +64,8 @@ inner_within q ds t are is =
 pub length-counted : (q : Dumping) (ds : List Stretch) (ts : List ℕ) → AreStretches q ds → AreCounted q ds ts → length ts ≤ length q.windows
 length-counted q ds ts are counted =
     let places =
-    Sums.sum_by-le_places (λ _. 1) (λ _. true) (λ t. t) (length q.windows) ts
+    sum_by-le_places (λ _. 1) (λ _. true) (λ t. t) (length q.windows) ts
     (λ k d inside _. inner_within q ds (get_or ts k d) are (counted.each k d inside))
     (λ i j d before inside _ _. counted.once i j d before inside) in
-    let all_steps = Sums.sum_by-ones (range_with_len 0 (length q.windows)) ∙ length-range_with_len 0 (length q.windows) in
-    omega (arith, places, Sums.sum_by-ones ts, all_steps)
+    let all_steps = sum_by_ones (range_with_len 0 (length q.windows)) ∙ length-range_with_len 0 (length q.windows) in
+    omega (arith, places, sum_by_ones ts, all_steps)

@@ -10,6 +10,10 @@ use Rattle.std.proofs.lemmas.List.Elements.{All-contains}
 use Rattle.std.proofs.lemmas.List.Folds.{Any-from_list_any, list_any_at}
 use Rattle.std.proofs.lemmas.List.Sums.{passes_at_first}
 use Rattle.std.proofs.lemmas.Slice.Eq.{bytes_eq-Decides}
+use Rattle.mm_sums.proofs.Tests.{true-from_cond}
+use Rattle.mm_sums.proofs.Sums.{sum_by-le_each, sum_by-filter, sum_by_zeros, sum_by-swap}
+use Rattle.mm_sums.proofs.RangeSums.{sum_by_range-le}
+use Rattle.mm_sums.proofs.Groups.{sum_by-le_groups, sum_by-le_places}
 use Rattle.mm_problem.specs.Dumping.{Dumping, no_row, place, limit, window, is_of, stores, stores_of, channels, steps}
 use Rattle.mm_plan.specs.Volumes.{Amounts, lost, loss}
 use Rattle.mm_plan.specs.Fit.{in_step, FitsAt, Fits}
@@ -17,7 +21,6 @@ use Rattle.mm_plan.specs.declared.stretch.Stretch.{Stretch}
 use Rattle.mm_cut.specs.Stretches.{store_of, channel_of, covers, goes_past, goes_past_on, is_inner, is_inner_on, IsStretch, AreApart, AreStretches}
 use Rattle.mm_cut.specs.Counts.{is_listed, IsLimited, IsCounted, AreCounted}
 use Rattle.mm_cut.specs.Cuts.{limit_or_0, limit_sum, leaving, leaving_sum}
-use Rattle.mm_cut.proofs.Sums
 use Rattle.mm_cut.proofs.StretchLosses.{lost_in, leaves_in}
 
 -- two identifiers with one place among the stores are one
@@ -43,7 +46,7 @@ pub by_store : (q : Dumping) (ds : List Stretch) (t : ℕ) (f : ℕ → ℕ) (te
     → ((d : Stretch) → test d ≡ true → covers d t ≡ true)
     → sum_by (λ d. cond (test d) (f (store_of q d)) 0) ds ≤ sum_by f (stores q)
 by_store q ds t f test are meets =
-    Sums.sum_by-le_places f test (store_of q) (length q.rows) ds (λ k d inside _. (are.each k d inside).store)
+    sum_by-le_places f test (store_of q) (length q.rows) ds (λ k d inside _. (are.each k d inside).store)
     (λ i j d before inside at_i at_j.
     let is = are.each i d (omega arith) in
     other_stores q (get_or ds i d) (get_or ds j d) t is (are.apart i j d before inside) (meets _ at_i) (meets _ at_j))
@@ -66,11 +69,11 @@ passes_both true false n = omega arith
 passes_both false true n = omega arith
 passes_both false false n = omega arith
 
-passes_neither : (a b : Bool) (n : ℕ) → ((a && b) ≡ true → ⊥) → cond b (cond a n 0) 0 ≤ 0
+passes_neither : (a b : Bool) (n : ℕ) → ((a && b) ≡ true → ⊥) → cond b (cond a n 0) 0 ≡ 0
 passes_neither true true n fails = absurd (fails refl)
-passes_neither true false n fails = omega arith
-passes_neither false true n fails = omega arith
-passes_neither false false n fails = omega arith
+passes_neither true false n fails = refl
+passes_neither false true n fails = refl
+passes_neither false false n fails = refl
 
 module _ (q : Dumping) (x : Amounts) (ds : List Stretch) (are : AreStretches q ds) where
   -- what the stretches lose is at most the loss
@@ -78,17 +81,17 @@ module _ (q : Dumping) (x : Amounts) (ds : List Stretch) (are : AreStretches q d
   lost_in_all =
       let in_step : ℕ → ℕ = λ t. sum_by (λ s. lost q x s t) (stores q) in
       let each =
-      Sums.sum_by-le_range (λ t. sum_by (λ d. lost_in q x d t) ds) in_step 1 (length q.windows)
+      sum_by_range-le (λ t. sum_by (λ d. lost_in q x d t) ds) in_step 1 (length q.windows)
       (λ t _ _. by_store q ds t (λ s. lost q x s t) (λ d. covers d t) are (λ d at. at)) in
-      omega (arith, each, Sums.sum_by-swap (lost_in q x) ds (steps q), Sums.sum_by-swap (lost q x) (stores q) (steps q))
+      omega (arith, each, sum_by-swap (lost_in q x) ds (steps q), sum_by-swap (lost q x) (stores q) (steps q))
 
   -- in a step that is inner in no stretch, nothing leaves inner stores
   leaves_in_none : (t : ℕ) → is_inner ds t ≡ false → sum_by (leaves_in q x t) ds ≡ 0
   leaves_in_none t none =
-      Sums.sum_by-zero (leaves_in q x t) ds
+      sum_by_zeros (leaves_in q x t) ds
       (λ k d inside. elim (cases_Bool (goes_past t (get_or ds k d))) [
         | inl inner ↦ absurd (both_ways (is_inner ds t) none (list_any_at (goes_past t) ds k d inside inner))
-        | inr outer ↦ rw outer (omega arith)
+        | inr outer ↦ rw outer refl
       ])
 
   -- what leaves inner stores in a step is within its window
@@ -107,7 +110,7 @@ module _ (q : Dumping) (x : Amounts) (ds : List Stretch) (are : AreStretches q d
   -- where no store of the channel is inner, nothing leaves
   leaves_on_none : (t c : ℕ) → is_inner_on q ds t c ≡ false → sum_by (leaves_on t c) ds ≡ 0
   leaves_on_none t c none =
-      Sums.sum_by-zero (leaves_on t c) ds
+      sum_by_zeros (leaves_on t c) ds
       (λ k d inside.
       let e : Stretch = get_or ds k d in
       passes_neither (goes_past t e) (eqb (channel_of q e) c) (x (store_of q e) t)
@@ -117,14 +120,14 @@ module _ (q : Dumping) (x : Amounts) (ds : List Stretch) (are : AreStretches q d
   leaves_on-le : (t c : ℕ) → sum_by (leaves_on t c) ds ≤ sum_by (in_step x t) (stores_of q c)
   leaves_on-le t c =
       let each =
-      Sums.sum_by-le_each (leaves_on t c) (λ d. cond (goes_past_on q t c d) (of_channel t c (store_of q d)) 0) ds
+      sum_by-le_each (leaves_on t c) (λ d. cond (goes_past_on q t c d) (of_channel t c (store_of q d)) 0) ds
       (λ k d inside.
       let e : Stretch = get_or ds k d in
       passes_both (goes_past t e) (eqb (channel_of q e) c) (x (store_of q e) t)) in
       let all_stores =
       by_store q ds t (of_channel t c) (goes_past_on q t c) are
       (λ d on. covers_inner t d (and_parts (goes_past t d) (eqb (channel_of q d) c) on).0) in
-      omega (arith, each, all_stores, Sums.sum_by-filter (in_step x t) (is_of q c) (stores q))
+      omega (arith, each, all_stores, sum_by-filter (in_step x t) (is_of q c) (stores q))
 
   -- a channel of an inner store has a limit, where each has one
   inner_has_limit : (t c : ℕ) → All (IsLimited q t) ds → is_inner_on q ds t c ≡ true → IsSome (limit q c)
@@ -150,14 +153,14 @@ module _ (q : Dumping) (x : Amounts) (ds : List Stretch) (are : AreStretches q d
   leaves_in_limits : (t : ℕ) → FitsAt q x t → All (IsLimited q t) ds → sum_by (leaves_in q x t) ds ≤ limit_sum q ds t
   leaves_in_limits t fits limited =
       let groups =
-      Sums.sum_by-le_groups (leaves_in q x t) (channel_of q) (length q.limits) ds
+      sum_by-le_groups (leaves_in q x t) (channel_of q) (length q.limits) ds
       (λ k d inside some.
       let e : Stretch = get_or ds k d in
-      limit_within q (channel_of q e) (limited k d inside (Sums.has_passed (goes_past t e) (x (store_of q e) t) some))) in
+      limit_within q (channel_of q e) (limited k d inside (true-from_cond (goes_past t e) (x (store_of q e) t) some))) in
       let each =
-      Sums.sum_by-le_range (λ c. sum_by (leaves_on t c) ds) (λ c. cond (is_inner_on q ds t c) (limit_or_0 q c) 0)
+      sum_by_range-le (λ c. sum_by (leaves_on t c) ds) (λ c. cond (is_inner_on q ds t c) (limit_or_0 q c) 0)
       0 (length q.limits) (λ c _ _. leaves_on_limit t c fits limited) in
-      omega (arith, groups, each, Sums.sum_by-filter (limit_or_0 q) (is_inner_on q ds t) (channels q))
+      omega (arith, groups, each, sum_by-filter (limit_or_0 q) (is_inner_on q ds t) (channels q))
 
   -- a listed step is one that is counted
   listed_is_counted : (ts : List ℕ) (t : ℕ) → AreCounted q ds ts → is_listed ts t ≡ true → IsCounted q ds t
@@ -185,7 +188,7 @@ module _ (q : Dumping) (x : Amounts) (ds : List Stretch) (are : AreStretches q d
       → sum_by (λ d. sum_by (λ t. leaves_in q x t d) (steps q)) ds ≤ leaving_sum q ds ts
   leaves_in_all ts fits counted =
       let each =
-      Sums.sum_by-le_range (λ t. sum_by (leaves_in q x t) ds) (λ t. cond (is_inner ds t) (leaving q ds ts t) 0)
+      sum_by_range-le (λ t. sum_by (leaves_in q x t) ds) (λ t. cond (is_inner ds t) (leaving q ds ts t) 0)
       1 (length q.windows) (λ t first last. leaves_in_step ts t (fits t first (omega arith)) counted) in
-      let swapped = Sums.sum_by-swap (λ d t. leaves_in q x t d) ds (steps q) in
-      omega (arith, each, swapped, Sums.sum_by-filter (leaving q ds ts) (is_inner ds) (steps q))
+      let swapped = sum_by-swap (λ d t. leaves_in q x t d) ds (steps q) in
+      omega (arith, each, swapped, sum_by-filter (leaving q ds ts) (is_inner ds) (steps q))

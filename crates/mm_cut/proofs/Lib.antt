@@ -1,4 +1,3 @@
-pub mod Sums
 pub mod StretchLosses
 pub mod Exchange
 pub mod Duality

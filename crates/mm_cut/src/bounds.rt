@@ -8,8 +8,9 @@ ghost use Rattle.mm_cut.specs.Cuts.{opening, coming, held, limit_sum, leaving, l
 
 use crate::counts::{is_inner, is_listed};
 use crate::stretches::{channel_of, covers, goes_past, store_of};
+use mm_base::{CHANNELS, MAX_STEPS, MAX_STORES};
 use mm_plan::Stretch;
-use mm_problem::{CHANNELS, MAX_STEPS, MAX_STORES, Problem};
+use mm_problem::Problem;
 
 // What the store of a stretch holds before the stretch, as far as the problem says it.
 fn opening(problem: &Problem, stretch: &Stretch) -> u32
@@ -25,7 +26,7 @@ fn opening(problem: &Problem, stretch: &Stretch) -> u32
 }
 
 // What it holds before and what arrives in the stretch's steps.
-#[tactic(auto, using(crate::proofs::Sums::sum_by_filter_next))]
+#[tactic(auto, using(mm_sums::proofs::RangeSums::sum_by_filter_range_next))]
 fn coming(problem: &Problem, stretch: &Stretch) -> u64
     requires { IsStretch problem.now stretch.now }
     ensures coming { result ≡ coming problem.now stretch.now }
@@ -51,7 +52,7 @@ fn is_inner_on(problem: &Problem, stretches: &[Stretch], step: u32, channel: u8)
 }
 
 // The limits of the channels of the stores that are inner in the step, each channel once.
-#[tactic(auto, using(mm_plan::proofs::RangeSums::sum_by_filter_range_more))]
+#[tactic(auto, using(mm_sums::proofs::RangeSums::sum_by_filter_range_more))]
 fn limit_sum(problem: &Problem, stretches: &[Stretch], step: u32) -> u64
     requires is_dumping { IsDumping problem.now }
     requires stretches { All (IsStretch problem.now) stretches.now }
@@ -84,7 +85,7 @@ fn leaving(problem: &Problem, stretches: &[Stretch], counts: &[u32], step: u32) 
 }
 
 // What may leave in all inner steps, each step once.
-#[tactic(auto, using(crate::proofs::Sums::sum_by_filter_next))]
+#[tactic(auto, using(mm_sums::proofs::RangeSums::sum_by_filter_range_next))]
 fn leaving_sum(problem: &Problem, stretches: &[Stretch], counts: &[u32]) -> u64
     requires { All (IsStretch problem.now) stretches.now }
     ensures sum { result ≡ leaving_sum problem.now stretches.now counts.now }

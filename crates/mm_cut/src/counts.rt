@@ -5,8 +5,9 @@ ghost use Rattle.mm_cut.specs.Counts.{is_listed, IsLimited, IsCounted, IsCounted
 ghost use Rattle.mm_cut.specs.FirstBad.{IsFirstBad};
 
 use crate::stretches::{channel_of, goes_past};
+use mm_base::MAX_STEPS;
 use mm_plan::Stretch;
-use mm_problem::{MAX_STEPS, Problem};
+use mm_problem::Problem;
 
 // Whether a step is inner in some stretch.
 pub(crate) fn is_inner(stretches: &[Stretch], step: u32) -> bool

@@ -4,8 +4,9 @@ ghost use Rattle.mm_base.specs.declared.limits.TheConstants.{MAX_CHANNEL};
 ghost use Rattle.mm_cut.specs.Stretches.{store_of, channel_of, covers, goes_past, IsStretch, AreApart, IsStretchAfter, AreStretches};
 ghost use Rattle.mm_cut.specs.FirstBad.{IsFirstBad};
 
+use mm_base::{MAX_STEPS, MAX_STORES};
 use mm_plan::Stretch;
-use mm_problem::{MAX_STEPS, MAX_STORES, Problem};
+use mm_problem::Problem;
 
 // The place of a stretch's store.
 pub(crate) fn store_of(problem: &Problem, stretch: &Stretch) -> usize

@@ -25,7 +25,7 @@ deleted-kept limit held =
 
 -- a packet that is put is held, or another is lost
 pub Balances-after_put : LoseAlike → (s : State) (now : ℕ) (packet : SpacePacket) → IsState s → s.store.last < clock_end → Balances (after_put s (put s.store now packet))
-Balances-after_put alike s now packet sound early = omega (arith, (alike s.store now packet sound.store early).lost, sound.balance)
+Balances-after_put alike s now packet sound early = omega (arith, (alike s.store now packet sound.store.has_room sound.store.within early).lost, sound.balance)
 
 -- what a choice gives has what both ways have
 either : {X : Type 0} (P : X → Type 0) (b : Bool) (x y : X) → P x → (b ≡ false → P y) → P (if b then x else y)

@@ -1,1 +1,9 @@
 pub mod BalanceLemmas
+pub mod Runs
+pub mod Shuffles
+pub mod Choices
+pub mod Leaving
+pub mod Counting
+pub mod Lone
+pub mod Keeping
+pub mod Ordering

@@ -4,3 +4,11 @@ pub mod Machine
 pub mod Rest
 pub mod Lending
 pub mod Laws
+pub mod Runs
+pub mod Shuffles
+pub mod Seats
+pub mod Answers
+pub mod Agreeing
+pub mod Offers
+pub mod Orders
+pub mod Passes

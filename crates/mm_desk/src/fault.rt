@@ -1,78 +1,56 @@
 //! Why a store refuses what is asked of it.
 ghost use Rattle.std.specs.Prelude.{◌≡◌};
-ghost use Rattle.mm_desk.specs.Fault.{number_of, name_of};
 
+use mm_base::{Refusal, Refused};
 use thiserror::Error;
 
-/// A refusal of this crate. It is shown as its number, a space and its name.
+/// A refusal of this crate. It is shown as its number and its name.
 #[derive(Clone, Copy, Debug, PartialEq, Eq, Error)]
+#[error("{}", self.refusal())]
 pub enum Fault {
-    /// A growth was refused.
-    #[error("0 NoMemory")]
+    /// An allocation was refused.
     NoMemory,
     /// The store holds more packets than the new size has blocks.
-    #[error("9 HoldsMore")]
     HoldsMore,
     /// Storage is off.
-    #[error("17 Disabled")]
     Disabled,
     /// A retrieval is on.
-    #[error("18 Busy")]
     Busy,
     /// No retrieval is on.
-    #[error("19 Idle")]
     Idle,
     /// The range begins after its end.
-    #[error("20 BadRange")]
     BadRange,
     /// No later storage time, or no further offer, can be counted.
-    #[error("21 ClockEnd")]
     ClockEnd,
     /// Storage is on.
-    #[error("26 StorageOn")]
     StorageOn,
 }
 
-impl Fault {
-    /// The refusal's number.
-    pub fn number(self) -> u8
-        ensures number { result ≡ number_of self }
-    {
-        match self {
-            Fault::NoMemory => 0,
-            Fault::HoldsMore => 9,
-            Fault::Disabled => 17,
-            Fault::Busy => 18,
-            Fault::Idle => 19,
-            Fault::BadRange => 20,
-            Fault::ClockEnd => 21,
-            Fault::StorageOn => 26,
-        }
-    }
+impl Refused for Fault {
+    ghost use Rattle.mm_desk.specs.Fault.{refusal_of};
 
-    /// The refusal's name.
-    pub fn name(self) -> &'static str
-        ensures name { result.now ≡ name_of self }
-    {
+    ghost refusal_of = { refusal_of };
+
+    fn refusal(self) -> Refusal {
         match self {
-            Fault::NoMemory => "NoMemory",
-            Fault::HoldsMore => "HoldsMore",
-            Fault::Disabled => "Disabled",
-            Fault::Busy => "Busy",
-            Fault::Idle => "Idle",
-            Fault::BadRange => "BadRange",
-            Fault::ClockEnd => "ClockEnd",
-            Fault::StorageOn => "StorageOn",
+            Fault::NoMemory => Refusal::NoMemory,
+            Fault::HoldsMore => Refusal::HoldsMore,
+            Fault::Disabled => Refusal::Disabled,
+            Fault::Busy => Refusal::Busy,
+            Fault::Idle => Refusal::NoRetrieval,
+            Fault::BadRange => Refusal::BadRange,
+            Fault::ClockEnd => Refusal::ClockEnd,
+            Fault::StorageOn => Refusal::StorageOn,
         }
     }
 }
 
-impl From<mm_packet::NoMemory> for Fault {
+impl From<mm_base::NoMemory> for Fault {
     ghost use Rattle.mm_desk.specs.declared.fault.Fault.TheVariants.{NoMemory};
 
     ghost from_gives = { λ _ e. e ≡ NoMemory };
 
-    fn from(_error: mm_packet::NoMemory) -> Fault {
+    fn from(_error: mm_base::NoMemory) -> Fault {
         Fault::NoMemory
     }
 }

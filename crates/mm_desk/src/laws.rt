@@ -1,7 +1,7 @@
 //! Laws of the store machine, over the definitions alone.
-ghost use Rattle.mm_desk.specs.Laws.{KeepBalance};
+ghost use Rattle.mm_desk.specs.Laws.{KeepBalance, KeepStates, ReplaysKeepStates, OffersLeave, ShufflesLoseAlike, OrdersDumpTheOldest, LoneSeatsAreLogs};
 
-use mm_store::laws::stores_lose_alike;
+use mm_store::laws::{stores_lose_alike, stores_stay_stores};
 
 /// After every event what was offered is lost, deleted or held.
 pub fn events_keep_the_balance()
@@ -9,3 +9,29 @@ pub fn events_keep_the_balance()
 {
     stores_lose_alike();
 }
+
+/// An event whose times fit 64 bits leaves a state, and so does a log of such events.
+pub fn events_keep_a_state()
+    ensures event { KeepStates }
+    ensures log { ReplaysKeepStates }
+{
+    events_keep_the_balance();
+    stores_stay_stores();
+}
+
+/// Offers of which none is refused leave the same volume and lose as many packets in any order, in either kind of store: one
+/// packet more for each, up to the size, and the rest is lost.
+pub fn any_order_loses_alike()
+    ensures leaves { OffersLeave }
+    ensures alike { ShufflesLoseAlike }
+{}
+
+/// A whole dump order gives and deletes the oldest packets: as many as it wants, or all that are held.
+pub fn orders_dump_the_oldest()
+    ensures law { OrdersDumpTheOldest }
+{}
+
+/// Where one seat alone made calls, its list is the log.
+pub fn lone_seats_are_logs()
+    ensures law { LoneSeatsAreLogs }
+{}

@@ -1,16 +1,29 @@
 //! The store machine of a spacecraft's mass memory: a packet store with its storage switch, its retrieval and its counters.
 #![tactic(auto)]
 
+pub mod agree;
+mod desk;
+mod entry;
 mod event;
 mod fault;
 pub mod laws;
+mod opening;
+mod pass_book;
 mod readers;
 mod reply;
+mod seat;
+mod shelf;
 mod state;
+mod telling;
 
+pub use desk::{Closed, Desk, MAX_SEATS, Parts};
+pub use entry::Entry;
 pub use event::Event;
 pub use fault::Fault;
+pub use opening::Opening;
+pub use pass_book::{PassBook, PassSeat, Passing, WindowFull};
 pub use reply::{Offered, Reply, Returned};
+pub use seat::Seat;
 pub use state::{Retrieval, StoreState};
 
 #[cfg(test)]

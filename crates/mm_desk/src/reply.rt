@@ -1,5 +1,5 @@
 //! What a store answers.
-ghost use Rattle.std.specs.Prelude.{◌≡◌, ◌≤◌};
+ghost use Rattle.std.specs.Prelude.{◌≡◌, ◌≤◌, ◌↔◌, IsTrue};
 ghost use Rattle.mm_store.specs.Laws.{handed_back};
 ghost use Rattle.mm_desk.specs.Machine.{answer_of};
 
@@ -36,6 +36,49 @@ pub enum Reply {
     Given(Result<Option<Stored>, Fault>),
     /// To a deletion: how many packets are deleted.
     Deleted(Result<u32, Fault>),
+}
+
+impl Offered {
+    /// Whether two answers are equal. It takes no memory.
+    pub fn is(&self, other: &Offered) -> bool
+        ensures equal { IsTrue result ↔ (self.now ≡ other.now) }
+    {
+        match (self, other) {
+            (Offered::Kept(time), Offered::Kept(second)) => time == second,
+            (Offered::KeptOver(time, oldest), Offered::KeptOver(second, other_oldest)) => {
+                time == second && oldest.is(other_oldest)
+            }
+            (Offered::Lost(packet), Offered::Lost(second)) => packet.is(second),
+            _ => false,
+        }
+    }
+}
+
+impl Returned {
+    /// Whether two refusals are equal, with the packets handed back. It takes no memory.
+    pub fn is(&self, other: &Returned) -> bool
+        ensures equal { IsTrue result ↔ (self.now ≡ other.now) }
+    {
+        self.fault == other.fault && self.packet.is(&other.packet)
+    }
+}
+
+impl Reply {
+    /// Whether two replies are equal. It takes no memory.
+    pub fn is(&self, other: &Reply) -> bool
+        ensures equal { IsTrue result ↔ (self.now ≡ other.now) }
+    {
+        match (self, other) {
+            (Reply::Offered(Ok(answer)), Reply::Offered(Ok(second))) => answer.is(second),
+            (Reply::Offered(Err(back)), Reply::Offered(Err(second))) => back.is(second),
+            (Reply::Done(answer), Reply::Done(second)) => answer == second,
+            (Reply::Given(Ok(Some(stored))), Reply::Given(Ok(Some(second)))) => stored.is(second),
+            (Reply::Given(Ok(None)), Reply::Given(Ok(None))) => true,
+            (Reply::Given(Err(fault)), Reply::Given(Err(second))) => fault == second,
+            (Reply::Deleted(answer), Reply::Deleted(second)) => answer == second,
+            _ => false,
+        }
+    }
 }
 
 // How many packets a put hands back.

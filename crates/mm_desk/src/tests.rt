@@ -1,6 +1,8 @@
+mod desks;
+
 use super::*;
+use mm_base::{Kind, Refused};
 use mm_packet::{BlockPacket, Header, Octets, Packet};
-use mm_base::Kind;
 use mm_store::{AnyStore, PacketStore};
 use std::alloc::Global;
 use std::process::Abort;

@@ -1,5 +1,5 @@
 -- A packet that was written is read again, whatever follows.
-use Rattle.std.proofs.Common.{◌≡◌, ℕ, ◌+◌, ◌*◌, ◌/◌, ◌%◌, ◌^◌, ◌<◌, ◌≤◌, false, leb, List, ◌++◌, length, Some, None, Result, Ok, Err, refl, sym, ap, ◌∙◌, length-append, arith}
+use Rattle.std.proofs.Common.{◌≡◌, ◌≢◌, ◌⊎◌, inl, inr, ℕ, ◌+◌, ◌*◌, ◌/◌, ◌%◌, ◌^◌, ◌<◌, ◌≤◌, false, leb, List, ◌++◌, length, Some, None, Result, Ok, Err, refl, sym, ap, ◌∙◌, length-append, arith}
 use Rattle.std.specs.Prelude.{◌==◌, MatchResult}
 use Rattle.std.specs.Int.{w16, w64, to_be_bytes}
 use Rattle.std.proofs.lemmas.Bool.Decides.{nat_tests}
@@ -14,7 +14,8 @@ use Rattle.mm_packet.specs.declared.reading.Secondary.{Secondary}
 use Rattle.mm_packet.specs.Packet.{SpacePacket, FitsType, IsPacket, room_for_body}
 use Rattle.mm_packet.specs.Spelling.{type_bit, identification, sequence_control, data_length, type_fields, data_field, spelling}
 use Rattle.mm_packet.specs.Headers.{FitsPrimary, primary_octets, version_of, flag_of, sequence_flags_of, secondary_octets, primary_at, type_at, secondary_at, fault_of, is_telecommand, apid_of, count_of}
-use Rattle.mm_packet.specs.Reading.{Fails, Gives, tested, data_field_at, packet_of, packet_at}
+use Rattle.mm_base.specs.Reading.{Gives}
+use Rattle.mm_packet.specs.Reading.{tested, data_field_at, packet_of, packet_at}
 use Rattle.mm_packet.proofs.NumberLemmas.{wide16, wide64, number_again}
 
 -- the numbers of a packet's primary header
@@ -127,20 +128,24 @@ pub one_packet : (a b : SpacePacket) (x y : List ℕ) → IsPacket a → IsPacke
 one_packet a b x y a_fits b_fits same =
     same_parts a b x y (packet_at (spelling a ++ x)) (packet_again a x a_fits) (ap packet_at same ∙ packet_again b y b_fits)
 
+-- a refusal is want of memory or another
+lacks_or_not : (fault : Fault) → (fault ≡ NoMemory) ⊎ (fault ≢ NoMemory)
+lacks_or_not NoMemory = inl refl
+lacks_or_not Short = inr (λ same. cc)
+lacks_or_not Version = inr (λ same. cc)
+lacks_or_not NoSecondaryHeader = inr (λ same. cc)
+lacks_or_not PusVersion = inr (λ same. cc)
+lacks_or_not Segmented = inr (λ same. cc)
+lacks_or_not Idle = inr (λ same. cc)
+lacks_or_not HeaderCut = inr (λ same. cc)
+lacks_or_not TooLong = inr (λ same. cc)
+
 -- a packet that is read there is not refused
-fails_only : (fault : Fault) (packet : SpacePacket) (rest : List ℕ) (read : Result (SpacePacket × List ℕ) Fault) → read ≡ Ok (packet, rest) → Fails fault read → fault ≡ NoMemory
-fails_only NoMemory packet rest read is given = refl
-fails_only Short packet rest read is given = absurd cc
-fails_only Version packet rest read is given = absurd cc
-fails_only NoSecondaryHeader packet rest read is given = absurd cc
-fails_only PusVersion packet rest read is given = absurd cc
-fails_only Segmented packet rest read is given = absurd cc
-fails_only Idle packet rest read is given = absurd cc
-fails_only HeaderCut packet rest read is given = absurd cc
-fails_only TooLong packet rest read is given = absurd cc
+not_refused : {X : Type 0} (fault : Fault) (x : X) (read : Result X Fault) → read ≡ Ok x → (fault ≢ NoMemory → read ≡ Err fault) → fault ≡ NoMemory
+not_refused fault x read is given = elim (lacks_or_not fault) [ inl lacks ↦ lacks | inr other ↦ absurd (let refused = given other in cc) ]
 
 -- what gives a packet and a rest is them, or want of memory
 pub is_only : {R : Type 0} (now : R → List ℕ) (result : Result (SpacePacket × R) Fault) (packet : SpacePacket) (rest : List ℕ) (read : Result (SpacePacket × List ℕ) Fault)
-    → read ≡ Ok (packet, rest) → Gives (λ x. (x.0, now x.1)) result read → MatchResult result (λ x. (x.0 ≡ packet) × (now x.1 ≡ rest)) (λ fault. fault ≡ NoMemory)
+    → read ≡ Ok (packet, rest) → Gives NoMemory (λ x. (x.0, now x.1)) result read → MatchResult result (λ x. (x.0 ≡ packet) × (now x.1 ≡ rest)) (λ fault. fault ≡ NoMemory)
 is_only now (Ok x) packet rest read is given = same_parts x.0 packet (now x.1) rest read given is
-is_only now (Err fault) packet rest read is given = fails_only fault packet rest read is given
+is_only now (Err fault) packet rest read is given = not_refused fault (packet, rest) read is given

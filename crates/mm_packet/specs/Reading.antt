@@ -1,30 +1,14 @@
 -- Reading a packet: the first test that fails, or the packet at the front and what follows it.
-use Rattle.std.specs.Prelude.{◌≡◌, ℕ, ◌+◌, ◌/◌, ◌%◌, ◌^◌, nat_le, ◌==◌, List, length, take, drop, Result, Ok, Err, IsOk, if◌then◌else◌}
+use Rattle.std.specs.Prelude.{ℕ, ◌+◌, ◌/◌, ◌%◌, ◌^◌, nat_le, ◌==◌, List, length, take, drop, Option, Some, None, Result, Ok, Err, if◌then◌else◌}
 use Rattle.std.specs.Option.{ok_or}
+use Rattle.mm_base.specs.Reading.{◌>>=◌}
 use Rattle.mm_packet.specs.declared.fault.Fault.{Fault}
-use Rattle.mm_packet.specs.declared.fault.Fault.TheVariants.{NoMemory, Short, HeaderCut, PusVersion}
+use Rattle.mm_packet.specs.declared.fault.Fault.TheVariants.{Short, HeaderCut, PusVersion}
 use Rattle.mm_packet.specs.declared.header.Header.{Header}
 use Rattle.mm_packet.specs.declared.reading.Primary.{Primary}
 use Rattle.mm_packet.specs.declared.reading.Secondary.{Secondary}
 use Rattle.mm_packet.specs.Packet.{SpacePacket}
 use Rattle.mm_packet.specs.Headers.{primary_at, secondary_at, fault_of, is_telecommand, apid_of, count_of}
-use Rattle.std.specs.Prelude.{Option, Some, None}
-
--- the next step of reading, where no test has failed yet
-infixl 10 ◌>>=◌
-abbrev pub ◌>>=◌ : {A B : Type 0} → Result A Fault → (A → Result B Fault) → Result B Fault
-(Ok x) >>= f = f x
-(Err e) >>= f = Err e
-
--- a refusal is the one that reading gives; want of memory comes only where reading gives no refusal
-abbrev pub Fails : {Y : Type 0} → Fault → Result Y Fault → Type 0
-Fails NoMemory read = IsOk read
-Fails fault read = read ≡ Err fault
-
--- what a function returned, seen by `view`, is what reading gives, unless memory ran out
-abbrev pub Gives : {X Y : Type 0} → (X → Y) → Result X Fault → Result Y Fault → Type 0
-Gives view (Ok x) read = read ≡ Ok (view x)
-Gives view (Err fault) read = Fails fault read
 
 -- the primary header, which has passed its tests
 abbrev pub tested : Primary → Result Primary Fault

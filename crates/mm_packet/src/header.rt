@@ -3,6 +3,9 @@
 /// The APID of idle packets, which this profile refuses: 2047. Every other APID is below it.
 pub const IDLE_APID: u16 = 2047;
 
+/// How many sequence counts there are (CCSDS 133.0-B, 4.1.3.4). Every count is below it.
+pub const SEQUENCE_COUNTS: u16 = 16_384;
+
 /// The greatest number of data octets in a telecommand, whose secondary header has 5.
 pub const TELECOMMAND_BODY: usize = 65_531;
 

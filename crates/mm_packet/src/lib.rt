@@ -5,6 +5,7 @@ mod block;
 mod fault;
 mod header;
 pub mod laws;
+mod layout;
 mod number;
 mod octets;
 mod packet;
@@ -13,7 +14,9 @@ mod writing;
 
 pub use block::{BLOCK, BlockPacket, TooLong};
 pub use fault::Fault;
-pub use header::{Header, IDLE_APID, PacketType, TELECOMMAND_BODY, TELEMETRY_BODY};
+pub use header::{
+    Header, IDLE_APID, PacketType, SEQUENCE_COUNTS, TELECOMMAND_BODY, TELEMETRY_BODY,
+};
 pub use mm_base::NoMemory;
 pub use number::{octet_at, u16_at, u32_at, u64_at};
 pub use octets::Octets;

@@ -1,29 +1,19 @@
 //! Packets from octets.
-ghost use Rattle.std.specs.Prelude.{◌≡◌, ◌++◌, ◌+◌, length, List, ℕ, None, MatchResult, IfOk, IfSome, if◌then◌else◌};
+ghost use Rattle.std.specs.Prelude.{◌≡◌, ◌++◌, ◌+◌, length, List, ℕ, None, MatchResult, IsOk, IfOk, IfErr, IfSome, if◌then◌else◌};
 ghost use Rattle.std.specs.Option.{option_map};
 ghost use Rattle.mm_packet.specs.Packet.{SpacePacket, FitsType, IsPacket};
 ghost use Rattle.mm_packet.specs.Spelling.{type_bit, type_fields, spelling};
 ghost use Rattle.mm_packet.specs.Headers.{primary_at, primary_octets, secondary_octets, FitsPrimary, FitsSecondary, type_at, secondary_at, fault_of, is_telecommand, apid_of, count_of};
-ghost use Rattle.mm_packet.specs.Reading.{Gives, tested, data_field_at, header_of, packet_at};
+ghost use Rattle.mm_base.specs.Reading.{Gives};
+ghost use Rattle.mm_packet.specs.Reading.{tested, data_field_at, header_of, packet_at};
 
 use crate::fault::Fault;
-use crate::header::{Header, IDLE_APID, PacketType};
+use crate::header::{Header, IDLE_APID, PacketType, SEQUENCE_COUNTS};
+use crate::layout::{APID_MASK, LOW_MASK, PUS_VERSION, UNSEGMENTED, VERSION};
 use crate::number::{octet_at, u16_at, u64_at};
 use crate::octets::Octets;
 use crate::packet::Packet;
 use std::alloc::Global;
-
-const APID_MASK: u16 = 0x07FF;
-
-const COUNT_MASK: u16 = 0x3FFF;
-
-const LOW_MASK: u8 = 0x0F;
-
-const VERSION: u16 = 0;
-
-const UNSEGMENTED: u16 = 3;
-
-const PUS_VERSION: u8 = 2;
 
 // The three numbers of a primary header (CCSDS 133.0-B, 4.1.3).
 #[derive(Clone, Copy)]
@@ -58,7 +48,7 @@ impl Primary {
     fn count(self) -> u16
         ensures { result ≡ count_of self }
     {
-        self.sequence_control & COUNT_MASK
+        self.sequence_control % SEQUENCE_COUNTS
     }
 
     // The header, where it passes its tests, and else the first that fails.
@@ -173,7 +163,9 @@ impl Packet {
             → MatchResult result (λ x. (x.0 ≡ packet) × (x.1.now ≡ rest))
             (λ fault. fault ≡ Fault.NoMemory) }
         // Which refusal it is: the first test that fails.
-        ensures exact { Gives (λ x. (x.0, x.1.now)) result (packet_at octets.now) }
+        ensures exact { Gives Fault.NoMemory (λ x. (x.0, x.1.now)) result (packet_at octets.now) }
+        // Memory is taken only where no test fails.
+        ensures no_memory { IfErr result (λ e. e ≡ Fault.NoMemory → IsOk (packet_at octets.now)) }
     {
         packet_at(alloc, octets)
     }
@@ -183,7 +175,8 @@ impl Packet {
 #[tactic(auto, unfolding(crate::specs::Reading::packet_at))]
 fn packet_at(alloc: Global, octets: &[u8]) -> Result<(Packet, &[u8]), Fault>
     ensures found { IfOk result (λ x. IsPacket x.0 × (octets.now ≡ spelling x.0 ++ x.1.now)) }
-    ensures exact { Gives (λ x. (x.0, x.1.now)) result (packet_at octets.now) }
+    ensures exact { Gives Fault.NoMemory (λ x. (x.0, x.1.now)) result (packet_at octets.now) }
+    ensures no_memory { IfErr result (λ e. e ≡ Fault.NoMemory → IsOk (packet_at octets.now)) }
 {
     let (primary, rest) = primary_at(octets).ok_or(Fault::Short)?;
     let primary = primary.tested()?;

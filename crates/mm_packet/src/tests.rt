@@ -1,4 +1,4 @@
-ghost use Rattle.std.specs.Prelude.{◌≡◌, length};
+ghost use Rattle.std.specs.Prelude.{◌≡◌, ◌<◌, ◌≤◌, ◌^◌, length};
 
 use super::*;
 use std::alloc::Global;
@@ -140,51 +140,29 @@ fn refused<R: Abort>(rt: &R, alloc: Global, octets: &[u8], fault: Fault) {
     assert_eq!(rt; Packet::parse(alloc, octets).err(), Some(fault));
 }
 
-static REFUSED: [([u8; 11], Fault); 9] = [
-    (
-        [0x1F, 0xFF, 0xC0, 0, 0, 4, 0x20, 0x0F, 1, 0, 0],
-        Fault::Idle,
-    ),
-    (
-        [0x38, 0x64, 0xC0, 0, 0, 4, 0x20, 0x0F, 1, 0, 0],
-        Fault::Version,
-    ),
-    (
-        [0x00, 0x64, 0xC0, 0, 0, 4, 0x20, 0x0F, 1, 0, 0],
-        Fault::NoSecondaryHeader,
-    ),
-    (
-        [0x18, 0x64, 0x00, 0, 0, 4, 0x20, 0x0F, 1, 0, 0],
-        Fault::Segmented,
-    ),
-    (
-        [0x18, 0x64, 0xC0, 0, 0, 4, 0x10, 0x0F, 1, 0, 0],
-        Fault::PusVersion,
-    ),
+// The octets of a packet of 11 octets that differ: the identification, the sequence flags, the data length and the PUS
+// version.
+static REFUSED: [([u8; 5], Fault); 9] = [
+    ([0x1F, 0xFF, 0xC0, 4, 0x20], Fault::Idle),
+    ([0x38, 0x64, 0xC0, 4, 0x20], Fault::Version),
+    ([0x00, 0x64, 0xC0, 4, 0x20], Fault::NoSecondaryHeader),
+    ([0x18, 0x64, 0x00, 4, 0x20], Fault::Segmented),
+    ([0x18, 0x64, 0xC0, 4, 0x10], Fault::PusVersion),
     // The data field ends before its secondary header does, whatever follows it.
-    (
-        [0x18, 0x64, 0xC0, 0, 0, 3, 0x20, 0x0F, 1, 0, 0],
-        Fault::HeaderCut,
-    ),
-    (
-        [0x08, 0x64, 0xC0, 0, 0, 4, 0x20, 0x0F, 1, 0, 0],
-        Fault::HeaderCut,
-    ),
+    ([0x18, 0x64, 0xC0, 3, 0x20], Fault::HeaderCut),
+    ([0x08, 0x64, 0xC0, 4, 0x20], Fault::HeaderCut),
     // The version is tested before the APID, and the APID before the flags.
-    (
-        [0x37, 0xFF, 0x00, 0, 0, 4, 0x20, 0x0F, 1, 0, 0],
-        Fault::Version,
-    ),
-    (
-        [0x07, 0xFF, 0x00, 0, 0, 4, 0x20, 0x0F, 1, 0, 0],
-        Fault::Idle,
-    ),
+    ([0x37, 0xFF, 0x00, 4, 0x20], Fault::Version),
+    ([0x07, 0xFF, 0x00, 4, 0x20], Fault::Idle),
 ];
 
 #[test]
 fn packets_refused(rt: HostRuntime) {
-    for (octets, fault) in &REFUSED {
-        refused(&rt, rt.alloc(), octets, *fault);
+    for ([first, second, flags, length, version], fault) in &REFUSED {
+        let octets = [
+            *first, *second, *flags, 0, 0, *length, *version, 0x0F, 1, 0, 0,
+        ];
+        refused(&rt, rt.alloc(), &octets, *fault);
     }
     refused(&rt, rt.alloc(), &[0x08, 0x64, 0xC0, 0], Fault::Short);
     refused(
@@ -239,6 +217,32 @@ const LOWEST: Header = Header {
     service: 0,
     subtype: 0,
 };
+
+// Telemetry with this header and counter, and with that many octets of data.
+fn telemetry<R: Abort>(rt: &R, alloc: Global, header: Header, counter: u16, len: usize) -> Packet
+    requires apid { header.apid < IDLE_APID }
+    requires count { header.count < SEQUENCE_COUNTS }
+    requires low { header.low < 2 ^ 4 }
+    requires len { len ≤ 100 }
+{
+    Packet::tm(header, counter, 2, 3, octets_of(rt, alloc, len))
+}
+
+#[test]
+fn packets_are_equal_where_each_field_is(rt: HostRuntime) {
+    let alloc = rt.alloc();
+    let packet = telemetry(&rt, alloc, HIGHEST, 1, 4);
+    assert!(rt; packet.is(&telemetry(&rt, alloc, HIGHEST, 1, 4)));
+    assert!(rt; !packet.is(&telemetry(&rt, alloc, LOWEST, 1, 4)));
+    assert!(rt; !packet.is(&telemetry(&rt, alloc, HIGHEST, 2, 4)));
+    assert!(rt; !packet.is(&telemetry(&rt, alloc, HIGHEST, 1, 5)));
+    let block = BlockPacket::of(packet).expect(&rt, "a short packet");
+    let copy = block.copy(alloc).expect(&rt, "memory");
+    assert!(rt; block.is(&copy));
+    let longer = telemetry(&rt, alloc, HIGHEST, 1, 5);
+    let other = BlockPacket::of(longer).expect(&rt, "a short packet");
+    assert!(rt; !block.is(&other));
+}
 
 #[test]
 fn the_longest_data_are_written_and_read(rt: HostRuntime) {
@@ -297,5 +301,6 @@ fn refusals_are_shown_by_number_and_name(rt: HostRuntime) -> Result<(), Fail> {
     assert_eq!(rt; NoMemory.to_string(rt.alloc())?.as_str(), "0 NoMemory");
     laws::one_packet_one_spelling();
     laws::written_is_read();
+    laws::constants_are();
     Ok(())
 }

@@ -4,23 +4,13 @@ ghost use Rattle.mm_packet.specs.Packet.{IsPacket};
 ghost use Rattle.mm_packet.specs.Spelling.{identification, sequence_control, data_length, type_fields, secondary_header, data_field, spelling};
 
 use crate::header::PacketType;
+use crate::layout::{
+    PRIMARY_HEADER_LEN, PUS_VERSION, SECONDARY_HEADER, TELECOMMAND, TELECOMMAND_HEADER_LEN,
+    TELEMETRY_HEADER_LEN, UNSEGMENTED,
+};
 use crate::packet::Packet;
 use mm_base::NoMemory;
 use std::alloc::{AllocError, Global};
-
-const TELECOMMAND: u16 = 0x1000;
-
-const SECONDARY_HEADER: u16 = 0x0800;
-
-const UNSEGMENTED: u16 = 0xC000;
-
-const PUS_VERSION: u8 = 0x20;
-
-const PRIMARY_HEADER_LEN: usize = 6;
-
-const TELECOMMAND_HEADER_LEN: usize = 5;
-
-const TELEMETRY_HEADER_LEN: usize = 15;
 
 impl Packet {
     /// The packet's spelling.
@@ -57,7 +47,7 @@ impl Packet {
     fn sequence_control(&self) -> u16
         ensures { result ≡ sequence_control self.now }
     {
-        UNSEGMENTED | self.header.count
+        UNSEGMENTED << 14 | self.header.count
     }
 
     fn data_length(&self) -> u16
@@ -76,7 +66,8 @@ impl Packet {
         ensures { OnOk result (out.new.items ≡ out.old.items ++ secondary_header self.now) }
     {
         let header = self.header;
-        out.extend_from_slice(&[PUS_VERSION | header.low, header.service, header.subtype])?;
+        let first = PUS_VERSION << 4 | header.low;
+        out.extend_from_slice(&[first, header.service, header.subtype])?;
         put_type_fields(out, self.kind)
     }
 }

@@ -6,7 +6,7 @@ use Rattle.mm_problem.specs.Dumping.{Dumping, start, channel}
 use Rattle.mm_plan.specs.Volumes.{Amounts, written, left}
 use Rattle.mm_plan.specs.Fit.{FitsAt, Fits}
 use Rattle.mm_plan.specs.Filled.{IsWindowUsed, IsLimitUsed, IsFilledAt, IsFilled, IsNowhereWorse}
-use Rattle.mm_plan.specs.Filling.{SameElsewhere, IsCutAt, AreLeft, AreSplit}
+use Rattle.mm_plan.specs.Filling.{SameElsewhere, IsLoweredAt, AreLeft, AreSplit}
 use Rattle.mm_plan.proofs.Steps.{left_start, left_step, left_same, written_same, left_no_more, lost_no_more}
 use Rattle.mm_plan.proofs.Raises.{IsNoLess, used_kept, fits_no_more}
 
@@ -47,16 +47,16 @@ done_along q x y z t first same is =
       kept = λ s store. omega (arith, here s store, is_written s store, is.kept s store);
     }
 
--- a step's amounts that are cut down fit, where the plan given fits
-pub cut_fits : (q : Dumping) (x y z : Amounts) (t : ℕ) (blocks : List ℕ) → t ≤ length q.windows → IsDoneBefore q x y t blocks → IsCutAt q y z t → FitsAt q x t → FitsAt q z t
-cut_fits q x y z t blocks last is cut fits = fits_no_more q x z t (λ s store. omega (arith, cut s store, is.later s t store (omega arith) last)) fits
+-- a step's amounts that are lowered fit, where the plan given fits
+pub lowered_fits : (q : Dumping) (x y z : Amounts) (t : ℕ) (blocks : List ℕ) → t ≤ length q.windows → IsDoneBefore q x y t blocks → IsLoweredAt q y z t → FitsAt q x t → FitsAt q z t
+lowered_fits q x y z t blocks last is cut fits = fits_no_more q x z t (λ s store. omega (arith, cut s store, is.later s t store (omega arith) last)) fits
 
 -- what is left once a step's amounts are split
 split_left : (q : Dumping) (y : Amounts) (t : ℕ) (blocks : List ℕ) → 1 ≤ t → AreSplit q y t blocks → AreLeft q y t blocks
 split_left q y t blocks first split = λ s store. omega (arith, split s store, left_step q y s (t - 1) t (omega arith))
 
--- one step more: y, with its amounts cut z, and with the rest of the window used w
-pub done_more : (q : Dumping) (x y z w : Amounts) (t : ℕ) (blocks new : List ℕ) → 1 ≤ t → t ≤ length q.windows → IsDoneBefore q x y t blocks → SameElsewhere q y z t → IsCutAt q y z t → SameElsewhere q z w t → IsNoLess q z w t → FitsAt q w t → AreSplit q w t new
+-- one step more: y, with its amounts lowered z, and with the rest of the window used w
+pub done_more : (q : Dumping) (x y z w : Amounts) (t : ℕ) (blocks new : List ℕ) → 1 ≤ t → t ≤ length q.windows → IsDoneBefore q x y t blocks → SameElsewhere q y z t → IsLoweredAt q y z t → SameElsewhere q z w t → IsNoLess q z w t → FitsAt q w t → AreSplit q w t new
     → ((s : ℕ) → s < length q.rows → 0 < get_or new s 0 → IsWindowUsed q w t ⊎ IsLimitUsed q w t (channel q s))
     → IsDoneBefore q x w (t + 1) new
 done_more q x y z w t blocks new first last is apart cut apart_too no_less fits split used =

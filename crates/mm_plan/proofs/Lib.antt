@@ -1,4 +1,3 @@
-pub mod RangeSums
 pub mod Steps
 pub mod Limits
 pub mod Options
@@ -15,6 +14,6 @@ pub mod Prints
 pub mod Writes
 pub mod Raises
 pub mod Tabling
-pub mod Cuts
+pub mod Lowering
 pub mod Rests
 pub mod Fills

@@ -2,13 +2,14 @@
 use Rattle.std.proofs.Common.{◌≡◌, ℕ, ◌+◌, ◌<◌, ◌≤◌, cond, length, Some, refl, sym, ◌∙◌, ap, subst, inl, inr, arith}
 use Rattle.std.specs.Prelude.{◌≢◌, ◌⊎◌}
 use Rattle.std.specs.List.{sum_by}
+use Rattle.std.proofs.lemmas.Bool.{cases_Bool}
 use Rattle.std.proofs.lemmas.Bool.Decides.{eqb_tells}
 use Rattle.mm_problem.specs.Dumping.{Dumping, stores, stores_of, is_of, channel, limit}
 use Rattle.mm_plan.specs.Volumes.{Amounts}
 use Rattle.mm_plan.specs.Fit.{in_step, FitsAt}
 use Rattle.mm_plan.specs.Filled.{IsWindowUsed, IsLimitUsed}
 use Rattle.mm_plan.specs.Filling.{IsRoom}
-use Rattle.mm_plan.proofs.RangeSums.{sum_by_range-le, sum_by_filter_range-le, sum_by_range-raised, sum_by_filter_range-raised}
+use Rattle.mm_sums.proofs.RangeSums.{sum_by_range-le, sum_by_filter_range-le, sum_by_range_changed, sum_by_filter_range_changed}
 
 -- in the step d blocks more leave one store, and as many as before the others
 pub record IsRaised (q : Dumping) (x y : Amounts) (s t d : ℕ) : Type 0 where
@@ -22,11 +23,16 @@ IsNoLess q x y t = (s : ℕ) → s < length q.rows → x s t ≤ y s t
 
 all_raised : (q : Dumping) (x y : Amounts) (s t d : ℕ) → IsRaised q x y s t d → sum_by (in_step y t) (stores q) ≡ sum_by (in_step x t) (stores q) + d
 all_raised q x y s t d raised =
-    sum_by_range-raised (in_step x t) (in_step y t) s d 0 (length q.rows) (omega arith) (omega (arith, raised.store)) raised.here (λ r _ below other. raised.others r (omega arith) other)
+    let changed = sum_by_range_changed (in_step x t) (in_step y t) 0 (length q.rows) s (omega arith) (omega (arith, raised.store)) (λ r _ below other. raised.others r (omega arith) other) in
+    omega (arith, changed, raised.here)
 
 channel_raised : (q : Dumping) (x y : Amounts) (s t d c : ℕ) → IsRaised q x y s t d → sum_by (in_step y t) (stores_of q c) ≡ sum_by (in_step x t) (stores_of q c) + cond (is_of q c s) d 0
 channel_raised q x y s t d c raised =
-    sum_by_filter_range-raised (is_of q c) (in_step x t) (in_step y t) s d 0 (length q.rows) (omega arith) (omega (arith, raised.store)) raised.here (λ r _ below other. raised.others r (omega arith) other)
+    let changed = sum_by_filter_range_changed (is_of q c) (in_step x t) (in_step y t) 0 (length q.rows) s (omega arith) (omega (arith, raised.store)) (λ r _ below other. raised.others r (omega arith) other) in
+    elim (cases_Bool (is_of q c s)) [
+      | inl own ↦ rw own (omega (arith, rw own at changed, raised.here))
+      | inr other ↦ rw other (omega (arith, rw other at changed))
+    ]
 
 own_raised : (q : Dumping) (x y : Amounts) (s t d : ℕ) → IsRaised q x y s t d → sum_by (in_step y t) (stores_of q (channel q s)) ≡ sum_by (in_step x t) (stores_of q (channel q s)) + d
 own_raised q x y s t d raised =

@@ -9,7 +9,7 @@ use Rattle.mm_plan.specs.Fit.{FitsAt}
 use Rattle.mm_plan.specs.Filled.{IsWindowUsed, IsLimitUsed}
 use Rattle.mm_plan.specs.Filling.{SameElsewhere, AreSplit}
 use Rattle.mm_plan.proofs.Steps.{written_same}
-use Rattle.mm_plan.proofs.Cuts.{amount_kept}
+use Rattle.mm_plan.proofs.Lowering.{amount_kept}
 use Rattle.mm_plan.proofs.Raises.{IsNoLess, used_kept}
 
 -- no amount of the step is smaller, and the first k stores are served; blocks has what stays

@@ -9,9 +9,8 @@ use Rattle.std.proofs.lemmas.Bool.Decides.{nat_tests}
 use Rattle.std.proofs.lemmas.List.Elements.{All-nil, All-cons, All-head, All-tail, All-append, All-weaker}
 use Rattle.std.proofs.lemmas.List.Splits.{slice_split_none, slice_split_at}
 use Rattle.std.proofs.lemmas.List.Sums.{AllPass-from_list_all}
-use Rattle.std.proofs.lemmas.Fmt.{digits_decimal}
 use Rattle.mm_base.specs.Id.{is_id_char, IsIdField, id_text}
-use Rattle.mm_plan.proofs.NumberTexts.{numerals}
+use Rattle.mm_plan.proofs.NumberTexts.{decimal_digits}
 
 -- the octet does not stand in it
 abbrev pub Lacks : ℕ → List ℕ → Type 0
@@ -47,7 +46,7 @@ bare_digits w e = All-weaker (λ c. IsTrue (is_ascii_digit c)) (λ b. 32 < b) di
 
 -- decimals are bare
 pub bare_decimal : (n : ℕ) → n < 2 ^ 64 → IsBare (decimal n)
-bare_decimal n small = bare_digits (decimal n) (digits_decimal numerals n small)
+bare_decimal n small = bare_digits (decimal n) (decimal_digits n small).0
 
 -- signed decimals are bare
 pub bare_signed : (z : ℤ) → FitsSigned w64 z → IsBare (signed_decimal z)

@@ -9,9 +9,9 @@ use Rattle.mm_plan.specs.Fit.{in_step}
 abbrev pub SameElsewhere : Dumping → Amounts → Amounts → ℕ → Type 0
 SameElsewhere q x y t = (s u : ℕ) → s < length q.rows → 1 ≤ u → u ≤ length q.windows → u ≢ t → y s u ≡ x s u
 
--- the amounts of the step by the second plan are those by the first, cut down to what is written
-abbrev pub IsCutAt : Dumping → Amounts → Amounts → ℕ → Type 0
-IsCutAt q x y t = (s : ℕ) → s < length q.rows → y s t ≡ min (x s t) (written q x s t)
+-- the amounts of the step by the second plan are those by the first, lowered to what is written
+abbrev pub IsLoweredAt : Dumping → Amounts → Amounts → ℕ → Type 0
+IsLoweredAt q x y t = (s : ℕ) → s < length q.rows → y s t ≡ min (x s t) (written q x s t)
 
 -- what stands in each store when a step has ended
 abbrev pub AreLeft : Dumping → Amounts → ℕ → List ℕ → Type 0

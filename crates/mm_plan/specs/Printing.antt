@@ -5,6 +5,7 @@ use Rattle.std.specs.declared.cmp.Ordering.{Ordering}
 use Rattle.std.specs.List.{position_or_len}
 use Rattle.std.specs.List.Sorted.{IsPermutation, IsSortedByKey, IsNonDecreasing}
 use Rattle.std.specs.Str.{bytes_eq}
+use Rattle.mm_base.specs.Characters.{line_feed, space}
 use Rattle.mm_plan.specs.declared.stretch.Stretch.{Stretch}
 use Rattle.mm_plan.specs.Table.{Table}
 use Rattle.mm_plan.specs.Sheet.{SheetRows, IsSheet, Line, line_text, dump_lines, sheet_text}
@@ -50,7 +51,7 @@ plan_lines x = dump_lines x.stores 1 x.steps x.amounts
 
 -- a line with its line feed
 unfoldable pub ended : Line → List ℕ
-ended x = line_text x ++ 10 ∷ []
+ended x = line_text x ++ line_feed ∷ []
 
 -- lines, each with its line feed
 abbrev pub all_ended : List Line → List ℕ
@@ -60,4 +61,4 @@ all_ended (x ∷ xs) = ended x ++ all_ended xs
 -- words, each with a space before it
 abbrev pub spaced : List (List ℕ) → List ℕ
 spaced [] = []
-spaced (w ∷ ws) = 32 ∷ w ++ spaced ws
+spaced (w ∷ ws) = space ∷ w ++ spaced ws

@@ -1,10 +1,11 @@
 -- Reading a plan text line by line.
 use Rattle.std.specs.Prelude.{ℕ, ◌+◌, ◌-◌, ℤ, pos, negsuc, Bool, true, false, ◌&&◌, ◌==◌, nat_le, nat_lt, if◌then◌else◌, List, [], ◌∷◌, ◌++◌, length, take, Option, Some, None, option_and_then, codes}
-use Rattle.std.specs.List.{list_all, slice_split}
+use Rattle.std.specs.List.{slice_split}
 use Rattle.std.specs.Option.{option_map}
 use Rattle.std.specs.Str.{bytes_eq}
 use Rattle.mm_base.specs.declared.limits.TheConstants.{MAX_STORES, MAX_STEPS, MAX_BLOCKS}
-use Rattle.mm_base.specs.Id.{is_id_char, field_of}
+use Rattle.mm_base.specs.Characters.{space}
+use Rattle.mm_base.specs.Id.{is_id_text, field_of}
 use Rattle.mm_base.specs.Numbers.{numeral_of}
 use Rattle.mm_base.specs.declared.numbers.Numeral.{Numeral}
 use Rattle.mm_base.specs.declared.numbers.Numeral.TheVariants.{NotNumber, TooLarge, Number}
@@ -25,7 +26,7 @@ MAX_U64 = 18446744073709551615
 
 -- the words of a line, of which no more than 19 are looked at
 abbrev pub line_words : List ℕ → List (List ℕ)
-line_words text = take 19 (slice_split (λ c. c == 32) text)
+line_words text = take 19 (slice_split (λ c. c == space) text)
 
 -- the number, if there is one
 abbrev pub number_in : Numeral → Option ℕ
@@ -37,10 +38,6 @@ number_in (Number n) = Some n
 unfoldable pub number_to : ℕ → List ℕ → Option ℕ
 number_to most text = number_in (numeral_of most text)
 
--- whether a text is an identifier's
-abbrev pub is_id_text : List ℕ → Bool
-is_id_text text = nat_le 1 (length text) && nat_le (length text) 8 && list_all is_id_char text
-
 -- the identifier of this text, as its field
 unfoldable pub read_id : List ℕ → Option (List ℕ)
 read_id text = if is_id_text text then Some (field_of text) else None
@@ -48,6 +45,10 @@ read_id text = if is_id_text text then Some (field_of text) else None
 -- digits behind no sign
 abbrev pub pos_of : ℕ → Option ℤ
 pos_of n = Some (pos n)
+
+-- the sign of a number below 0
+abbrev minus : ℕ
+minus = 45
 
 -- digits behind a minus; 0 has none
 abbrev pub negative_of : ℕ → Option ℤ
@@ -57,7 +58,7 @@ negative_of n = if n == 0 then None else Some (negsuc (n - 1))
 unfoldable pub read_bound : List ℕ → Option ℤ
 read_bound [] = None
 read_bound (c ∷ cs) =
-    if c == 45 then option_and_then negative_of (number_to 9223372036854775808 cs)
+    if c == minus then option_and_then negative_of (number_to 9223372036854775808 cs)
     else option_and_then pos_of (number_to 9223372036854775807 (c ∷ cs))
 
 -- what each of the words reads as, behind what was read before

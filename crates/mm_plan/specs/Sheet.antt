@@ -5,6 +5,7 @@ use Rattle.std.specs.Int.{w64}
 use Rattle.std.specs.List.{join_with_byte}
 use Rattle.mm_base.specs.declared.limits.TheConstants.{MAX_STORES, MAX_STEPS}
 use Rattle.mm_problem.specs.Dumping.{Dumping}
+use Rattle.mm_base.specs.Characters.{line_feed, space}
 use Rattle.mm_base.specs.Id.{IsIdField, id_text}
 use Rattle.mm_base.specs.Lines.{text_lines}
 use Rattle.mm_plan.specs.declared.stretch.Stretch.{Stretch}
@@ -46,7 +47,7 @@ words end_line = codes "end" ∷ []
 
 -- the octets of a line: its words, with one space between two of them
 unfoldable pub line_text : Line → List ℕ
-line_text x = join_with_byte 32 (words x)
+line_text x = join_with_byte space (words x)
 
 -- a line for each of k steps from step t on, with the amounts of n stores each
 abbrev pub dump_lines : ℕ → ℕ → ℕ → List ℕ → List Line
@@ -70,7 +71,7 @@ lines_of s =
 
 -- the octets of a sheet: its lines, each with a line feed behind it
 unfoldable pub sheet_text : SheetRows → List ℕ
-sheet_text s = join_with_byte 10 (map line_text (lines_of s) ++ [] ∷ [])
+sheet_text s = join_with_byte line_feed (map line_text (lines_of s) ++ [] ∷ [])
 
 -- a stretch of a well-formed identifier and steps below 2^32
 pub record IsWritten (d : Stretch) : Type 0 where

@@ -1,5 +1,6 @@
 -- The tables of a simulated plan.
 use Rattle.std.specs.Prelude.{◌≡◌, ℕ, ◌+◌, ◌-◌, ◌*◌, ◌<◌, ◌≤◌, List, length, slice_index}
+use Rattle.mm_base.specs.Grid.{cell}
 use Rattle.mm_problem.specs.Dumping.{Dumping}
 
 -- each list step by step, in each the stores in order
@@ -11,10 +12,6 @@ pub record VolumeTables : Type 0 where
   pub lost_blocks : List ℕ
   -- what all stores lose over all steps
   pub total : ℕ
-
--- what a list of them has for a store and a step, where there are n stores
-abbrev pub cell : ℕ → List ℕ → ℕ → ℕ → ℕ
-cell n blocks s t = slice_index blocks ((t - 1) * n + s)
 
 abbrev pub written_in : VolumeTables → ℕ → ℕ → ℕ
 written_in v s t = cell v.stores v.written_blocks s t

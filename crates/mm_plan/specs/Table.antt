@@ -1,5 +1,6 @@
 -- A table of amounts: a row for each step, in it a place for each store.
 use Rattle.std.specs.Prelude.{◌≡◌, ◌≢◌, ℕ, ◌+◌, ◌-◌, ◌*◌, ◌<◌, ◌≤◌, List, length, All, slice_index}
+use Rattle.mm_base.specs.Grid.{cell}
 use Rattle.mm_base.specs.declared.limits.TheConstants.{MAX_BLOCKS}
 use Rattle.mm_problem.specs.Dumping.{Dumping}
 
@@ -11,7 +12,7 @@ pub record Table : Type 0 where
 
 -- the blocks that are to leave a store in a step
 abbrev pub amount : Table → ℕ → ℕ → ℕ
-amount x s t = slice_index x.amounts ((t - 1) * x.stores + s)
+amount x s t = cell x.stores x.amounts s t
 
 pub record IsTable (x : Table) : Type 0 where
   pub has_store : 1 ≤ x.stores

@@ -5,7 +5,7 @@ ghost use Rattle.mm_plan.specs.Seen.{seen};
 
 use crate::line::{Line, read_line};
 use crate::stretch::{MAX_COUNTS, MAX_STRETCHES, Stretch};
-use mm_problem::StoreId;
+use mm_base::StoreId;
 use std::alloc::{AllocError, Global};
 use std::marker::Model;
 

@@ -6,12 +6,12 @@ ghost use Rattle.mm_problem.specs.Dumping.{start, stores, window, channel};
 ghost use Rattle.mm_plan.specs.Table.{amount, HasShape, ChangesAmount};
 ghost use Rattle.mm_plan.specs.Fit.{in_step, FitsAt, Fits};
 ghost use Rattle.mm_plan.specs.Filled.{IsWindowUsed, IsLimitUsed, IsFilled, IsNowhereWorse};
-ghost use Rattle.mm_plan.specs.Filling.{SameElsewhere, IsCutAt, AreLeft, AreSplit, IsRoom};
+ghost use Rattle.mm_plan.specs.Filling.{SameElsewhere, IsLoweredAt, AreLeft, AreSplit, IsRoom};
 
-use crate::fault::NoMemory;
 use crate::fit::{channel_amount, step_amount};
 use crate::plan::Plan;
-use mm_problem::{MAX_STORES, Problem};
+use mm_base::{MAX_STORES, NoMemory};
+use mm_problem::Problem;
 use std::alloc::Global;
 
 // What stands in each store as the first step begins.
@@ -26,9 +26,9 @@ fn starts(problem: &Problem) -> [u32; MAX_STORES]
     left
 }
 
-// Cuts the amounts of a step down to what is written, where `left` is what stood in the stores before the step; then
+// Lowers the amounts of a step to what is written, where `left` is what stood in the stores before the step; then
 // it is what stands in them after it.
-fn cut_to_written(problem: &Problem, plan: &mut Plan, left: &mut [u32], step: u32)
+fn lower_to_written(problem: &Problem, plan: &mut Plan, left: &mut [u32], step: u32)
     requires shape { HasShape problem.now plan.old }
     requires first { 1 ≤ step }
     requires last { step ≤ length problem.now.windows }
@@ -36,7 +36,7 @@ fn cut_to_written(problem: &Problem, plan: &mut Plan, left: &mut [u32], step: u3
     requires left { AreLeft problem.now (amount plan.old) (step - 1) left.old }
     ensures shape { HasShape problem.now plan.new }
     ensures others { SameElsewhere problem.now (amount plan.old) (amount plan.new) step }
-    ensures cut { IsCutAt problem.now (amount plan.old) (amount plan.new) step }
+    ensures lowered { IsLoweredAt problem.now (amount plan.old) (amount plan.new) step }
     ensures split { AreSplit problem.now (amount plan.new) step left.new }
 {
     for store in 0..problem.stores() {
@@ -134,7 +134,7 @@ pub fn fill(alloc: Global, problem: &Problem, plan: &Plan) -> Result<Plan, NoMem
     let mut filled = plan.copy(alloc)?;
     let mut left = starts(problem);
     for step in 1..problem.steps() + 1 {
-        cut_to_written(problem, &mut filled, &mut left, step);
+        lower_to_written(problem, &mut filled, &mut left, step);
         use_rest(problem, &mut filled, &mut left, step);
     }
     Ok(filled)

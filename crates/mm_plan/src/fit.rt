@@ -10,7 +10,7 @@ use crate::plan::Plan;
 use mm_problem::Problem;
 
 // What is to leave all stores in a step.
-#[tactic(auto, using(crate::proofs::RangeSums::sum_by_range_more))]
+#[tactic(auto, using(mm_sums::proofs::RangeSums::sum_by_range_more))]
 pub(crate) fn step_amount(problem: &Problem, plan: &Plan, step: u32) -> u64
     requires shape { HasShape problem.now plan.now }
     requires first { 1 ≤ step }
@@ -25,7 +25,7 @@ pub(crate) fn step_amount(problem: &Problem, plan: &Plan, step: u32) -> u64
 }
 
 // What is to leave the stores of a channel in a step.
-#[tactic(auto, using(crate::proofs::RangeSums::sum_by_filter_range_more))]
+#[tactic(auto, using(mm_sums::proofs::RangeSums::sum_by_filter_range_more))]
 pub(crate) fn channel_amount(problem: &Problem, plan: &Plan, channel: u8, step: u32) -> u64
     requires shape { HasShape problem.now plan.now }
     requires first { 1 ≤ step }

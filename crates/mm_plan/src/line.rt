@@ -7,7 +7,7 @@ ghost use Rattle.mm_plan.specs.Seen.{seen};
 
 use crate::stretch::Stretch;
 use crate::words::{line_words, number_to, read_bound, read_id, read_u32};
-use mm_problem::{MAX_BLOCKS, MAX_STEPS, MAX_STORES, StoreId};
+use mm_base::{MAX_BLOCKS, MAX_STEPS, MAX_STORES, StoreId};
 use std::alloc::{AllocError, Global};
 
 // A line; the title of the second form counts steps by channels.

@@ -3,7 +3,8 @@ ghost use Rattle.std.specs.Prelude.{◌≡◌, ◌≤◌, ◌↔◌, All, IsTrue
 ghost use Rattle.mm_base.specs.declared.limits.TheConstants.{MAX_BLOCKS};
 ghost use Rattle.mm_plan.specs.Table.{amount, HasShape, IsPlace, IsTable, ChangesAmount};
 
-use crate::fault::NoMemory;
+use mm_base::NoMemory;
+use mm_base::grid::place;
 use mm_problem::Problem;
 use std::alloc::Global;
 use std::marker::Model;
@@ -35,7 +36,7 @@ impl Plan {
         ensures amount { result ≡ amount self.now store step }
         ensures most { result ≤ MAX_BLOCKS }
     {
-        let place = (step as usize - 1) * self.stores + store;
+        let place = place(self.stores, step, store);
         self.amounts[place]
     }
 
@@ -68,7 +69,7 @@ impl Plan {
         requires most { blocks ≤ MAX_BLOCKS }
         ensures changed { ChangesAmount self.old self.new store step blocks }
     {
-        self.amounts[(step as usize - 1) * self.stores + store] = blocks;
+        self.amounts[place(self.stores, step, store)] = blocks;
     }
 
     // The same plan once more.

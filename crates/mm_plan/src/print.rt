@@ -1,29 +1,30 @@
 //! The lines of a plan text, as they are printed.
 ghost use Rattle.std.specs.Prelude.{◌≡◌, ◌-◌, ◌*◌, ◌+◌, ◌<◌, ◌++◌, ◌∷◌, [], length, map, decimal, codes, IfOk, OnOk};
 ghost use Rattle.std.specs.Fmt.{signed_decimal};
+ghost use Rattle.mm_base.specs.Characters.{space};
 ghost use Rattle.mm_base.specs.Id.{id_text};
 ghost use Rattle.mm_plan.specs.Sheet.{title_line, stores_line, dump_line, loss_line, stretch_line, count_line, bound_line, end_line, dump_lines};
 ghost use Rattle.mm_plan.specs.Printing.{place_of, stretch_key, AreOrdered, AreRising, ended, all_ended, spaced, plan_lines};
 
 use crate::plan::Plan;
 use crate::stretch::Stretch;
-use itoa::Buffer;
-use mm_problem::StoreId;
+use mm_base::StoreId;
+use mm_base::numbers::push_number;
 use std::alloc::{AllocError, Global};
 
 fn push_word(text: &mut Vec<u8>, word: &[u8]) -> Result<(), AllocError>
-    ensures { OnOk result (text.new.items ≡ text.old.items ++ 32 ∷ word.now) }
+    ensures { OnOk result (text.new.items ≡ text.old.items ++ space ∷ word.now) }
 {
     text.push(b' ')?;
     text.extend_from_slice(word)?;
     Ok(())
 }
 
-fn push_number(text: &mut Vec<u8>, number: u64) -> Result<(), AllocError>
-    ensures { OnOk result (text.new.items ≡ text.old.items ++ 32 ∷ decimal number) }
+fn push_number_word(text: &mut Vec<u8>, number: u64) -> Result<(), AllocError>
+    ensures { OnOk result (text.new.items ≡ text.old.items ++ space ∷ decimal number) }
 {
-    let mut buffer = Buffer::new();
-    push_word(text, buffer.format(number).as_bytes())
+    text.push(b' ')?;
+    push_number(text, number)
 }
 
 #[tactic(auto, using(std::proofs::Common::append_assoc), unfolding(crate::specs::Printing::ended, crate::specs::Sheet::line_text))]
@@ -63,7 +64,7 @@ fn push_amounts(text: &mut Vec<u8>, amounts: &[u32]) -> Result<(), AllocError>
 {
     let mut rest = amounts;
     while let [amount, after @ ..] = rest {
-        push_number(text, u64::from(*amount))?;
+        push_number_word(text, u64::from(*amount))?;
         rest = after;
     }
     Ok(())
@@ -73,7 +74,7 @@ fn push_dump(text: &mut Vec<u8>, step: u32, amounts: &[u32]) -> Result<(), Alloc
     ensures { OnOk result (text.new.items ≡ text.old.items ++ ended (dump_line step amounts.now)) }
 {
     text.extend_from_slice(b"dump")?;
-    push_number(text, u64::from(step))?;
+    push_number_word(text, u64::from(step))?;
     push_amounts(text, amounts)?;
     text.push(b'\n')?;
     Ok(())
@@ -110,7 +111,7 @@ fn push_loss(text: &mut Vec<u8>, loss: u64) -> Result<(), AllocError>
     ensures { OnOk result (text.new.items ≡ text.old.items ++ ended (loss_line loss)) }
 {
     text.extend_from_slice(b"loss")?;
-    push_number(text, loss)?;
+    push_number_word(text, loss)?;
     text.push(b'\n')?;
     Ok(())
 }
@@ -121,8 +122,8 @@ fn push_stretch(text: &mut Vec<u8>, stretch: Stretch) -> Result<(), AllocError>
 {
     text.extend_from_slice(b"stretch")?;
     push_word(text, stretch.store.text())?;
-    push_number(text, u64::from(stretch.first))?;
-    push_number(text, u64::from(stretch.last))?;
+    push_number_word(text, u64::from(stretch.first))?;
+    push_number_word(text, u64::from(stretch.last))?;
     text.push(b'\n')?;
     Ok(())
 }
@@ -143,7 +144,7 @@ fn push_count(text: &mut Vec<u8>, step: u32) -> Result<(), AllocError>
     ensures { OnOk result (text.new.items ≡ text.old.items ++ ended (count_line step)) }
 {
     text.extend_from_slice(b"count")?;
-    push_number(text, u64::from(step))?;
+    push_number_word(text, u64::from(step))?;
     text.extend_from_slice(b" channels\n")?;
     Ok(())
 }
@@ -164,8 +165,11 @@ fn push_bound(text: &mut Vec<u8>, bound: i64) -> Result<(), AllocError>
     ensures { OnOk result (text.new.items ≡ text.old.items ++ ended (bound_line bound)) }
 {
     text.extend_from_slice(b"bound")?;
-    let mut buffer = Buffer::new();
-    push_word(text, buffer.format(bound).as_bytes())?;
+    text.push(b' ')?;
+    if bound < 0 {
+        text.push(b'-')?;
+    }
+    push_number(text, bound.unsigned_abs())?;
     text.push(b'\n')?;
     Ok(())
 }

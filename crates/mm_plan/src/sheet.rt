@@ -3,17 +3,18 @@ ghost use Rattle.std.specs.Prelude.{◌≡◌, ◌<◌, ◌↔◌, ◌∷◌, []
 ghost use Rattle.mm_plan.specs.Sheet.{SheetRows, IsSheet, IsShapedFor, sheet_text};
 ghost use Rattle.mm_plan.specs.Printing.{IsPrinted};
 ghost use Rattle.mm_plan.specs.Table.{HasShape};
-ghost use Rattle.mm_plan.specs.Fault.{IsTextFault};
+ghost use Rattle.mm_plan.specs.Fault.{IfRefused, IsTextFault};
 ghost use Rattle.mm_plan.specs.declared.draft.Stage.TheVariants.{Done};
 ghost use Rattle.mm_plan.specs.declared.fault.Fault.TheVariants.{Shape};
 
 use crate::draft::Draft;
-use crate::fault::{Fault, NoMemory};
+use crate::fault::Fault;
 use crate::plan::Plan;
 use crate::print::{ordered, push_certificate, push_front, rising};
 use crate::stretch::Stretch;
-use mm_problem::lines::split_line;
-use mm_problem::{Problem, StoreId};
+use mm_base::lines::split_line;
+use mm_base::{NoMemory, StoreId};
+use mm_problem::Problem;
 use std::alloc::Global;
 use std::marker::Model;
 
@@ -130,7 +131,7 @@ impl Sheet {
         ensures found { IfOk result (λ s. IsSheet s × (text.now ≡ sheet_text s)) }
         ensures read { (s : SheetRows) → IsSheet s → text.now ≡ sheet_text s
             → MatchResult result (λ r. r ≡ s) (λ e. e ≡ Fault.NoMemory) }
-        ensures bad { IfErr result (IsTextFault text.now) }
+        ensures bad { IfRefused Fault.NoMemory result (IsTextFault text.now) }
     {
         let mut draft = Draft::new(alloc);
         let mut rest = text;

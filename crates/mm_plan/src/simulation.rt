@@ -1,14 +1,16 @@
 //! What a plan does to the stores, step by step.
 ghost use Rattle.std.specs.Prelude.{◌≡◌, ◌+◌, ◌-◌, ◌*◌, ◌<◌, ◌≤◌, length, IfOk, OnOk};
 ghost use Rattle.mm_base.specs.declared.limits.TheConstants.{MAX_BLOCKS};
+ghost use Rattle.mm_base.specs.Grid.{grid_place};
 ghost use Rattle.mm_plan.specs.Table.{amount, HasShape};
 ghost use Rattle.mm_plan.specs.Volumes.{written, left, lost, loss};
 ghost use Rattle.mm_plan.specs.Simulated.{written_in, left_in, lost_in, IsVolumePlace, CoversProblem, AgreeEach};
 ghost use Rattle.mm_plan.specs.Tabled.{AreTabled};
 
-use crate::fault::NoMemory;
 use crate::loss::loss_of;
 use crate::plan::Plan;
+use mm_base::NoMemory;
+use mm_base::grid::place;
 use mm_problem::Problem;
 use std::alloc::{AllocError, Global};
 use std::marker::Model;
@@ -60,7 +62,7 @@ impl Simulated {
         requires { IsVolumePlace self.now store step }
         ensures { result ≡ written_in self.now store step }
     {
-        self.tables.written[(step as usize - 1) * self.stores + store]
+        self.tables.written[place(self.stores, step, store)]
     }
 
     /// How many blocks stand in a store when a step has ended.
@@ -68,7 +70,7 @@ impl Simulated {
         requires { IsVolumePlace self.now store step }
         ensures { result ≡ left_in self.now store step }
     {
-        self.tables.left[(step as usize - 1) * self.stores + store]
+        self.tables.left[place(self.stores, step, store)]
     }
 
     /// How many of a step's arrivals a store has no room for.
@@ -76,7 +78,7 @@ impl Simulated {
         requires { IsVolumePlace self.now store step }
         ensures { result ≡ lost_in self.now store step }
     {
-        self.tables.lost[(step as usize - 1) * self.stores + store]
+        self.tables.lost[place(self.stores, step, store)]
     }
 
     /// How many blocks all stores lose over all steps.
@@ -100,13 +102,13 @@ impl Tables {
         requires store { store < length problem.now.rows }
         requires first { 1 ≤ step }
         requires last { step ≤ length problem.now.windows }
-        requires before { AreTabled problem.now (amount plan.now) ((step - 1) * length problem.now.rows + store) self.old }
-        ensures { OnOk result (AreTabled problem.now (amount plan.now) ((step - 1) * length problem.now.rows + store + 1) self.new) }
+        requires before { AreTabled problem.now (amount plan.now) (grid_place (length problem.now.rows) step store) self.old }
+        ensures { OnOk result (AreTabled problem.now (amount plan.now) (grid_place (length problem.now.rows) step store + 1) self.new) }
     {
         let before = if step == 1 {
             problem.start(store)
         } else {
-            self.left[(step as usize - 2) * problem.stores() + store]
+            self.left[place(problem.stores(), step - 1, store)]
         };
         let coming = before + problem.arrivals(store, step);
         let written = coming.min(problem.size(store));
@@ -122,7 +124,7 @@ impl Tables {
         requires shape { HasShape problem.now plan.now }
         requires first { 1 ≤ step }
         requires last { step ≤ length problem.now.windows }
-        requires before { AreTabled problem.now (amount plan.now) ((step - 1) * length problem.now.rows) self.old }
+        requires before { AreTabled problem.now (amount plan.now) (grid_place (length problem.now.rows) step 0) self.old }
         ensures { OnOk result (AreTabled problem.now (amount plan.now) (step * length problem.now.rows) self.new) }
     {
         for store in 0..problem.stores() {

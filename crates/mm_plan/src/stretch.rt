@@ -1,6 +1,6 @@
 //! Stretches, of which cuts are made.
 
-use mm_problem::StoreId;
+use mm_base::StoreId;
 
 /// The most stretches of a sheet.
 pub const MAX_STRETCHES: usize = 4096;

@@ -3,8 +3,8 @@ ghost use Rattle.std.specs.Prelude.{◌≡◌, ◌≤◌, ◌-◌, map, IfOk, If
 ghost use Rattle.std.specs.Option.{option_map};
 ghost use Rattle.mm_plan.specs.Reading.{line_words, number_to, read_id, read_bound};
 
-use mm_problem::StoreId;
-use mm_problem::numbers::Numeral;
+use mm_base::StoreId;
+use mm_base::numbers::Numeral;
 use std::alloc::{AllocError, Global};
 
 // The words of a line are parted by one space; a line of more than 18 words stands in no sheet.

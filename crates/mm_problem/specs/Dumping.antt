@@ -5,6 +5,7 @@ use Rattle.std.specs.Str.{bytes_eq}
 use Rattle.mm_base.specs.declared.limits.TheConstants.{MAX_STEPS, MAX_BLOCKS, CHANNELS}
 use Rattle.mm_base.specs.declared.kind.Kind.TheVariants.{Circular}
 use Rattle.mm_base.specs.declared.rows.StoreRow.{StoreRow}
+use Rattle.mm_base.specs.Grid.{cell}
 use Rattle.mm_problem.specs.Setup.{AreStores}
 
 pub record Dumping : Type 0 where
@@ -48,7 +49,7 @@ window q t = slice_index q.windows (t - 1)
 
 -- the blocks that come to the store in the step
 abbrev pub arrivals : Dumping → ℕ → ℕ → ℕ
-arrivals q s t = slice_index q.arrived ((t - 1) * length q.rows + s)
+arrivals q s t = cell (length q.rows) q.arrived s t
 
 abbrev pub stores : Dumping → List ℕ
 stores q = range_with_len 0 (length q.rows)

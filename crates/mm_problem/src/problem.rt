@@ -10,6 +10,7 @@ ghost use Rattle.mm_base.specs.Reading.{Gives};
 use crate::fault::Fault;
 use crate::setup::Setup;
 use crate::steps::{StepTable, forecast_of};
+use mm_base::grid::place;
 use mm_base::{CHANNELS, LimitRow, StoreId, StoreRow};
 use std::alloc::Global;
 use std::marker::Model;
@@ -183,7 +184,7 @@ impl Problem {
         ensures arrivals { result ≡ arrivals self.now store step }
         ensures most { result ≤ MAX_BLOCKS }
     {
-        self.arrived[(step as usize - 1) * self.rows.len() + store]
+        self.arrived[place(self.rows.len(), step, store)]
     }
 
     /// How many blocks may leave all stores together in a step.

@@ -1,2 +1,3 @@
 pub mod ContentLemmas
+pub mod PutLemmas
 pub mod TableLemmas

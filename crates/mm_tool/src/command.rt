@@ -66,7 +66,7 @@ Example:
 
 The formats are described in docs/FORMATS.md. Exit status: 0 for a plan text, 1 for a refusal.";
 
-const CHECK_ABOUT: &str = "Says whether a dump plan loses least";
+const CHECK_ABOUT: &str = "Says whether the cut of a dump plan shows that it loses least";
 
 const CHECK_HELP: &str = "\
 Prints one line:

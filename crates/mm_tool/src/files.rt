@@ -1,9 +1,13 @@
 //! Where the program's files come from, and how they are read to their end.
-ghost use Rattle.std.specs.Prelude.{◌≡◌, ◌≤◌, length, IfOk, IfSome};
+ghost use Rattle.std.specs.Prelude.{◌≡◌, ◌≤◌, ◌<◌, ℕ, List, Option, Some, Bool, true, false, length, IsOk, IfOk, IfErr, IfSome, IsTrue};
+ghost use Rattle.std.specs.Io.{ReadsAtMost};
+ghost use Rattle.std.specs.Io.KnownBytes.{ReadConsumes};
+ghost use Rattle.mm_tool.specs.declared.files.ReadFault.TheVariants.{NoMemory};
 ghost use Rattle.mm_tool.specs.declared.files.TheConstants.{MAX_READS};
 
+use mm_base::Refusal;
 use std::alloc::Global;
-use std::io::{ErrorKind, Read};
+use std::io::{self, ErrorKind, Read};
 use std::rt;
 use thiserror::Error;
 
@@ -16,10 +20,50 @@ const PIECE: usize = 4096;
 /// Why the text of a file is not there.
 #[derive(Clone, Copy, Debug, PartialEq, Eq, Error)]
 pub enum ReadFault {
-    #[error("0 NoMemory")]
+    #[error("{}", Refusal::NoMemory)]
     NoMemory,
-    #[error("50 NotRead")]
+    #[error("{}", Refusal::NotRead)]
     NotRead,
+}
+
+/// Where the octets of a file come from.
+pub trait Input {
+    /// The octets that are still to come, where they are known.
+    ghost coming: { Self → Option (List ℕ) };
+
+    /// Whether no read fails.
+    ghost is_sure: { Self → Bool };
+
+    /// Reads some octets, and none only at the end.
+    fn read(&mut self, piece: &mut [u8]) -> io::Result<usize>
+        ensures bound { ReadsAtMost result piece.new }
+        ensures octets { ReadConsumes (coming self.old) (coming self.new) result piece.new }
+        ensures sure { IsTrue (is_sure self.old) → IsOk result }
+        ensures stays { is_sure self.new ≡ is_sure self.old };
+}
+
+impl Input for &[u8] {
+    ghost coming = { λ s. Some s.now };
+
+    ghost is_sure = { λ _. true };
+
+    fn read(&mut self, piece: &mut [u8]) -> io::Result<usize> {
+        Read::read(self, piece)
+    }
+}
+
+/// A reader of the system, of which any read may fail.
+#[derive(Drop)]
+pub struct Device<R>(pub R);
+
+impl<R: Read + Drop> Input for Device<R> {
+    ghost coming = { λ s. R.remaining s.0 };
+
+    ghost is_sure = { λ _. false };
+
+    fn read(&mut self, piece: &mut [u8]) -> io::Result<usize> {
+        self.0.read(piece)
+    }
 }
 
 /// Files by name.
@@ -29,14 +73,16 @@ pub trait Files {
 }
 
 /// Reads to the end; `NotRead` where a read fails, or the end has not come after 2^30 reads or 2^30 octets.
-pub fn read_to_end<R: Read>(alloc: Global, reader: &mut R) -> Result<Vec<u8>, ReadFault>
+pub fn read_to_end<I: Input>(alloc: Global, input: &mut I) -> Result<Vec<u8>, ReadFault>
     ensures within { IfOk result (λ text. length text.items ≤ MAX_READS) }
-    ensures whole { IfOk result (λ text. IfSome (R.remaining reader.old) (λ octets. text.items ≡ octets)) }
+    ensures whole { IfOk result (λ text. IfSome (I.coming input.old) (λ octets. text.items ≡ octets)) }
+    ensures read { IsTrue (I.is_sure input.old) → IfSome (I.coming input.old)
+        (λ octets. length octets < MAX_READS → IfErr result (λ fault. fault ≡ NoMemory)) }
 {
     let mut text = Vec::new(alloc);
     let mut piece = [0u8; PIECE];
-    for _ in 0..MAX_READS {
-        let count = match reader.read(&mut piece) {
+    for _turn in 0..MAX_READS {
+        let count = match input.read(&mut piece) {
             Ok(count) => count,
             Err(error) if error.kind() == ErrorKind::Interrupted => continue,
             Err(_) => return Err(ReadFault::NotRead),
@@ -68,7 +114,7 @@ impl<'a, R: rt::Files> SystemFiles<'a, R> {
 impl<R: rt::Files> Files for SystemFiles<'_, R> {
     fn read(&mut self, alloc: Global, name: &str) -> Result<Vec<u8>, ReadFault> {
         match std::fs::open(self.runtime, name) {
-            Ok(mut file) => read_to_end(alloc, &mut file),
+            Ok(file) => read_to_end(alloc, &mut Device(file)),
             Err(_) => Err(ReadFault::NotRead),
         }
     }

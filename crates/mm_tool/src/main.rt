@@ -8,7 +8,7 @@ mod script;
 #[cfg(test)]
 mod tests;
 
-use files::{ReadFault, SystemFiles, read_to_end};
+use files::{Device, SystemFiles, read_to_end};
 use std::io;
 use std::process::ExitCode;
 
@@ -18,7 +18,7 @@ fn main(rt: HostRuntime) -> io::Result<ExitCode> {
     let words: Vec<String> = std::env::args(&rt)?.skip(1).collect(alloc)?;
     let (mut out, mut err) = (rt.stdout(), rt.stderr());
     let status = if words.is_empty() {
-        match read_to_end(alloc, &mut rt.reader()) {
+        match read_to_end(alloc, &mut Device(rt.reader())) {
             Ok(script) => run::run_script(alloc, &script, &mut out, &mut err),
             Err(fault) => run::refuse_input(&mut out, fault),
         }

@@ -6,6 +6,7 @@ use crate::files::{Files, ReadFault};
 use crate::script::{ScriptFiles, first_line};
 use clap::error::ErrorKind;
 use mm_ask::{Outcome, ask_bytes};
+use mm_base::Refusal;
 use mm_cut::Verdict;
 use mm_planner::{check_bytes, plan_bytes};
 use std::alloc::{AllocError, Global};
@@ -35,10 +36,10 @@ impl Status {
 
 /// Why a task is refused. It is shown as its number, its name and its fields.
 #[derive(Debug, Drop, Error)]
-enum Refusal<'a> {
-    #[error("0 NoMemory")]
+enum Fault<'a> {
+    #[error("{}", Refusal::NoMemory)]
     NoMemory,
-    #[error("50 NotRead name {name}")]
+    #[error("{} name {name}", Refusal::NotRead)]
     NotRead { name: &'a str },
     #[error(transparent)]
     Texts(#[from] mm_planner::Fault),
@@ -50,11 +51,11 @@ fn read_file<'a, F: Files>(
     alloc: Global,
     files: &mut F,
     name: &'a str,
-) -> Result<Vec<u8>, Refusal<'a>> {
+) -> Result<Vec<u8>, Fault<'a>> {
     match files.read(alloc, name) {
         Ok(text) => Ok(text),
-        Err(ReadFault::NoMemory) => Err(Refusal::NoMemory),
-        Err(ReadFault::NotRead) => Err(Refusal::NotRead { name }),
+        Err(ReadFault::NoMemory) => Err(Fault::NoMemory),
+        Err(ReadFault::NotRead) => Err(Fault::NotRead { name }),
     }
 }
 
@@ -64,7 +65,7 @@ fn plan<'a, F: Files>(
     files: &mut F,
     setup: &'a str,
     forecast: &'a str,
-) -> Result<(Status, Vec<u8>), Refusal<'a>> {
+) -> Result<(Status, Vec<u8>), Fault<'a>> {
     let setup = read_file(alloc, files, setup)?;
     let forecast = read_file(alloc, files, forecast)?;
     let text = plan_bytes(alloc, &setup, &forecast)?;
@@ -85,7 +86,7 @@ fn check<'a, F: Files>(
     setup: &'a str,
     forecast: &'a str,
     plan: &'a str,
-) -> Result<(Status, Vec<u8>), Refusal<'a>> {
+) -> Result<(Status, Vec<u8>), Fault<'a>> {
     let setup = read_file(alloc, files, setup)?;
     let forecast = read_file(alloc, files, forecast)?;
     let plan = read_file(alloc, files, plan)?;
@@ -106,7 +107,7 @@ fn ask<'a, F: Files>(
     files: &mut F,
     setup: &'a str,
     requests: &'a str,
-) -> Result<(Status, Vec<u8>), Refusal<'a>> {
+) -> Result<(Status, Vec<u8>), Fault<'a>> {
     let setup = read_file(alloc, files, setup)?;
     let requests = read_file(alloc, files, requests)?;
     let (outcome, lines) = ask_bytes(alloc, &setup, &requests)?;
@@ -150,7 +151,7 @@ fn run<S: AsStr, F: Files, W: Write, E: Write>(
     match parse(alloc, words) {
         Ok(task) => carry_out(alloc, task, files, out),
         Err(error) if error.kind() == ErrorKind::OutOfMemory => {
-            writeln!(out, "refused {}", Refusal::NoMemory)?;
+            writeln!(out, "refused {}", Fault::NoMemory)?;
             Ok(Status::Refused)
         }
         Err(error) => {
@@ -184,8 +185,10 @@ pub fn run_script<W: Write, E: Write>(alloc: Global, script: &[u8], out: &mut W,
 {
     let (line, files) = first_line(script);
     let Ok(line) = std::str::from_utf8(line) else {
-        let _ = err.write_all(b"error: the first line of the script is not UTF-8\n");
-        return Status::BadCommandLine.code();
+        return match err.write_all(b"error: the first line of the script is not UTF-8\n") {
+            Ok(()) => Status::BadCommandLine.code(),
+            Err(_) => Status::Refused.code(),
+        };
     };
     let words: Vec<&str> = match words_of(alloc, line) {
         Ok(words) => words,
@@ -214,8 +217,8 @@ pub fn refuse_input<W: Write>(out: &mut W, fault: ReadFault) -> u8
     ensures status { result ≤ 2 }
 {
     let refusal = match fault {
-        ReadFault::NoMemory => Refusal::NoMemory,
-        ReadFault::NotRead => Refusal::NotRead { name: "-" },
+        ReadFault::NoMemory => Fault::NoMemory,
+        ReadFault::NotRead => Fault::NotRead { name: "-" },
     };
     let _ = writeln!(out, "refused {refusal}");
     Status::Refused.code()

@@ -2,7 +2,7 @@
 ghost use Rattle.std.specs.Prelude.{◌<◌, ◌≤◌, length};
 
 use crate::files::{Files, ReadFault};
-use mm_problem::lines::split_line;
+use mm_base::lines::split_line;
 use std::alloc::Global;
 
 /// What the line that begins a file starts with; the rest of the line is the file's name.

@@ -10,7 +10,7 @@ struct Asked {
     status: u8,
 }
 
-const ASKED: [Asked; 7] = [
+const ASKED: [Asked; 8] = [
     Asked {
         example: "no_request",
         requests: "",
@@ -51,6 +51,30 @@ const ASKED: [Asked; 7] = [
         requests: "1864C0000004200F160000",
         prints: "1 report 0864C000001D200F17000000000000000000000001015343492020202020000000040100\n",
         status: 0,
+    },
+    Asked {
+        example: "request_lines_refused",
+        requests: "\
+1864C00000042011010000
+1864C0000004200F0E0000
+1864C0000004200F010000
+1864C0000005200F12000000
+1864C0000005200F01000000
+186
+1864C0000004200F16000000
+1864C0000013200F14000001484B202020202020000000020200
+",
+        prints: "\
+1 refused 12 NotSt15
+2 refused 13 UnknownSubtype
+3 refused 14 CountMismatch
+4 refused 14 CountMismatch
+5 refused 14 CountMismatch
+6 refused 49 HexLine
+7 refused 49 HexLine
+8.1 refused 16 BadEnum
+",
+        status: 1,
     },
     Asked {
         example: "channel_of_a_store_changed",

@@ -6,7 +6,10 @@ use crate::run::run_tool;
 use std::alloc::Global;
 use std::io::{self, ErrorKind, Write};
 
-// The files of first_run, of which the read after so many fails.
+// A request to enable the store SCI.
+const ENABLE_SCI: &str = "1864C000000D200F010000015343492020202020\n";
+
+// The files of first_run, and this request, of which the read after so many fails.
 #[derive(Drop)]
 struct FailingFiles {
     left: u32,
@@ -21,6 +24,7 @@ impl Files for FailingFiles {
         let text = match name {
             "S" => SCI,
             "F" => THREE_STEPS,
+            "R" => ENABLE_SCI,
             _ => FIRST_PLAN,
         };
         Vec::from_slice(alloc, text.as_bytes()).map_err(|_| ReadFault::NoMemory)
@@ -29,8 +33,8 @@ impl Files for FailingFiles {
 
 // A writer that refuses the write after so many.
 #[derive(Drop)]
-struct FailingWriter {
-    left: u32,
+pub(crate) struct FailingWriter {
+    pub(crate) left: u32,
 }
 
 impl Write for FailingWriter {
@@ -47,28 +51,42 @@ impl Write for FailingWriter {
     }
 }
 
-// What is printed where the read after so many fails.
-const PRINTED: [(u32, &str, u8); 4] = [
-    (0, "refused 50 NotRead name S\n", 1),
-    (1, "refused 50 NotRead name F\n", 1),
-    (2, "refused 50 NotRead name P\n", 1),
-    (3, "least 2\n", 0),
+// A command of first_run, what is printed where the read after so many fails, and the status.
+static PRINTED: [(&[&str], u32, &str, u8); 8] = [
+    (
+        &["check", "S", "F", "P"],
+        0,
+        "refused 50 NotRead name S\n",
+        1,
+    ),
+    (
+        &["check", "S", "F", "P"],
+        1,
+        "refused 50 NotRead name F\n",
+        1,
+    ),
+    (
+        &["check", "S", "F", "P"],
+        2,
+        "refused 50 NotRead name P\n",
+        1,
+    ),
+    (&["check", "S", "F", "P"], 3, "least 2\n", 0),
+    (&["plan", "S", "F"], 0, "refused 50 NotRead name S\n", 1),
+    (&["plan", "S", "F"], 1, "refused 50 NotRead name F\n", 1),
+    (&["ask", "S", "R"], 0, "refused 50 NotRead name S\n", 1),
+    (&["ask", "S", "R"], 1, "refused 50 NotRead name R\n", 1),
 ];
 
 #[test]
 fn files_that_fail(rt: HostRuntime) {
     let alloc = rt.alloc();
-    for (left, want, status) in PRINTED {
+    for (words, left, want, status) in &PRINTED {
         let (mut out, mut err) = (Vec::new(alloc), Vec::new(alloc));
-        let got = run_tool(
-            alloc,
-            &["check", "S", "F", "P"],
-            &mut FailingFiles { left },
-            &mut out,
-            &mut err,
-        );
+        let mut files = FailingFiles { left: *left };
+        let got = run_tool(alloc, words, &mut files, &mut out, &mut err);
         assert_eq!(rt; out.as_slice(), want.as_bytes());
-        assert_eq!(rt; got, status);
+        assert_eq!(rt; got, *status);
         assert!(rt; err.is_empty());
     }
 }
@@ -92,4 +110,7 @@ fn writers_that_fail(rt: HostRuntime) {
     assert_eq!(rt; status_of(alloc, &["check", "S", "F", "P"], 1), 0);
     assert_eq!(rt; status_of(alloc, &["plan", "S", "F"], 0), 1);
     assert_eq!(rt; status_of(alloc, &["plan", "S", "F"], 1), 0);
+    assert_eq!(rt; status_of(alloc, &["ask", "S", "R"], 0), 1);
+    assert_eq!(rt; status_of(alloc, &["ask", "S", "R"], 1), 0);
+    assert_eq!(rt; status_of(alloc, &["plan", "S", "-"], 0), 1);
 }

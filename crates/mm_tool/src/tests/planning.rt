@@ -190,6 +190,82 @@ fn plans_refused(rt: HostRuntime) {
     }
 }
 
+// The store of first_run, and the head of the one that follows it.
+const TWICE: &str = "[[store]]\nid = \"SCI\"\nsize = 4\ntype = \"bounded\"\nchannel = 0\n[[store]]";
+
+// The setup of first_run with one text in the place of another, and what is said then.
+static SETUPS_REFUSED: [(&str, &str, &str); 8] = [
+    ("[[store]]", "[[store", "refused 27 SetupText\n"),
+    (SCI, "", "refused 28 SetupField row 0 name store\n"),
+    (SCI, "store = []\n", "refused 33 Limit name stores\n"),
+    (
+        "channel = 0\n",
+        "channel = 0\ncolour = 1\n",
+        "refused 28 SetupField row 1 name unknown\n",
+    ),
+    (
+        "size = 4",
+        "size = \"4\"",
+        "refused 28 SetupField row 1 name size\n",
+    ),
+    ("size = 4", "size = 0", "refused 33 Limit name size\n"),
+    (
+        "store = \"SCI\"",
+        "store = \"HK\"",
+        "refused 28 SetupField row 1 name store\n",
+    ),
+    (
+        "[[store]]",
+        TWICE,
+        "refused 28 SetupField row 2 name repeated\n",
+    ),
+];
+
+#[test]
+fn setup_texts_refused(rt: HostRuntime) {
+    for (old, new, want) in &SETUPS_REFUSED {
+        let setup = SCI.replace(rt.alloc(), old, new).expect(&rt, "memory");
+        let script = format!(in rt.alloc(); "plan S F\n=== S\n{setup}=== F\n{THREE_STEPS}").expect(
+            &rt, "memory",
+        );
+        prints(&rt, script.as_str(), want, 1);
+    }
+}
+
+// Forecasts for the setup of first_run, and what is said of each.
+static FORECASTS_REFUSED: [(&str, &str); 8] = [
+    (
+        "step,window,SCI\n1,2,01\n",
+        "refused 31 Cell row 1 column 3\n",
+    ),
+    (
+        "step,window,SCI\n1,2,-1\n",
+        "refused 31 Cell row 1 column 3\n",
+    ),
+    (
+        "step,window,SCI\n1,2,\n",
+        "refused 31 Cell row 1 column 3\n",
+    ),
+    (
+        "step,window,SCI\n1,2,1000001\n",
+        "refused 33 Limit name arrivals\n",
+    ),
+    ("step,window,SCI\n2,2,3\n", "refused 32 StepNumber row 1\n"),
+    ("step,window,SCI\n1,2\n", "refused 29 ForecastText\n"),
+    ("step,window,HK\n1,2,3\n", "refused 30 Header\n"),
+    ("step,window,SCI\n", "refused 33 Limit name steps\n"),
+];
+
+#[test]
+fn forecast_cells(rt: HostRuntime) {
+    for (forecast, want) in &FORECASTS_REFUSED {
+        let script = format!(in rt.alloc(); "plan S F\n=== S\n{SCI}=== F\n{forecast}").expect(
+            &rt, "memory",
+        );
+        prints(&rt, script.as_str(), want, 1);
+    }
+}
+
 // The numbers from the first up to before the end, each between two texts.
 fn numbered<R: Abort + AllocGlobal>(
     rt: &R,

@@ -1,11 +1,16 @@
-//! Bad command lines, and calls for help.
+//! Bad command lines, calls for help, and what a script may hold.
 
-use crate::run::run_script;
+use super::failing::FailingWriter;
+use super::{FIRST_PLAN, SCI, THREE_STEPS, prints};
+use crate::files::ReadFault;
+use crate::run::{refuse_input, run_script};
 
-const LINES: [&str; 11] = [
+const LINES: [&str; 13] = [
     "",
     "\n",
     "plan S\n",
+    "dump S F\n",
+    "plan  S F\n",
     "plan S F P\n",
     "plan --help\n",
     "check S F\n",
@@ -26,4 +31,35 @@ fn command_lines(rt: HostRuntime) {
         assert!(rt; out.is_empty(), "for {line}");
         assert!(rt; !err.is_empty(), "for {line}");
     }
+}
+
+#[test]
+fn a_first_line_that_is_not_utf8(rt: HostRuntime) {
+    let alloc = rt.alloc();
+    let (mut out, mut err) = (Vec::new(alloc), Vec::new(alloc));
+    assert_eq!(rt; run_script(alloc, b"plan \xff F\n", &mut out, &mut err), 2);
+    assert!(rt; out.is_empty());
+    assert!(rt; !err.is_empty());
+    let mut refusing = FailingWriter { left: 0 };
+    assert_eq!(rt;
+        run_script(alloc, b"plan \xff F\n", &mut out, &mut refusing),
+        1
+    );
+}
+
+// What stands before the first file is passed over, and of two files of one name the first is read.
+#[test]
+fn files_of_a_script(rt: HostRuntime) {
+    let script = format!(in rt.alloc();
+        "check S F P\na note\n=== S\n{SCI}=== F\n{THREE_STEPS}=== P\n{FIRST_PLAN}=== S\n[[store\n"
+    ).expect(&rt, "memory");
+    prints(&rt, script.as_str(), "least 2\n", 0);
+    prints(&rt, "plan - F\n=== S\n", "refused 50 NotRead name -\n", 1);
+}
+
+#[test]
+fn input_that_is_not_read(rt: HostRuntime) {
+    let mut out = Vec::new(rt.alloc());
+    assert_eq!(rt; refuse_input(&mut out, ReadFault::NotRead), 1);
+    assert!(rt; out.as_slice() == b"refused 50 NotRead name -\n".as_slice());
 }

@@ -1,6 +1,6 @@
 use Rattle.std.proofs.Common.{◌≡◌, ◌+◌, ◌≤◌, length, arith}
 use Rattle.mm_plan.specs.Table.{amount}
-use Rattle.mm_plan.proofs.Fills.{done_start, cut_fits, done_more, done_fits, done_no_worse}
+use Rattle.mm_plan.proofs.Fills.{done_start, lowered_fits, done_more, done_fits, done_no_worse}
 use Rattle.mm_plan.proofs.filling.fill.Goals as goal
 
 pub loop-step-init : goal.loop-step-init
@@ -14,13 +14,13 @@ pub use_rest-requires-clause-fits : goal.use_rest-requires-clause-fits
 use_rest-requires-clause-fits c =
     let last : c.loop-step.step ≤ length c.args.problem.now.windows = omega arith in
     let fits = c.requires.fits c.loop-step.step (omega arith) (omega arith) in
-    cut_fits c.args.problem.now (amount c.args.plan.now) (amount c.loop-step.filled) (amount c.cut_to_written.new.plan) c.loop-step.step c.loop-step.left last c.loop-step.invariant.done c.cut_to_written.ensures.cut fits
+    lowered_fits c.args.problem.now (amount c.args.plan.now) (amount c.loop-step.filled) (amount c.lower_to_written.new.plan) c.loop-step.step c.loop-step.left last c.loop-step.invariant.done c.lower_to_written.ensures.lowered fits
 
 pub loop-step-preserved : goal.loop-step-preserved
 loop-step-preserved c = record {
   shape = c.use_rest.ensures.shape;
   places = omega arith;
-  done = done_more c.args.problem.now (amount c.args.plan.now) (amount c.loop-step.filled) (amount c.cut_to_written.new.plan) (amount c.use_rest.new.plan) c.loop-step.step c.loop-step.left c.use_rest.new.left (omega arith) (omega arith) c.loop-step.invariant.done c.cut_to_written.ensures.others c.cut_to_written.ensures.cut c.use_rest.ensures.others c.use_rest.ensures.raised c.use_rest.ensures.fits c.use_rest.ensures.split c.use_rest.ensures.used;
+  done = done_more c.args.problem.now (amount c.args.plan.now) (amount c.loop-step.filled) (amount c.lower_to_written.new.plan) (amount c.use_rest.new.plan) c.loop-step.step c.loop-step.left c.use_rest.new.left (omega arith) (omega arith) c.loop-step.invariant.done c.lower_to_written.ensures.others c.lower_to_written.ensures.lowered c.use_rest.ensures.others c.use_rest.ensures.raised c.use_rest.ensures.fits c.use_rest.ensures.split c.use_rest.ensures.used;
 }
 
 pub returns-clause-fits : goal.returns-clause-fits

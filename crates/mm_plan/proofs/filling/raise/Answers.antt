@@ -1,7 +1,7 @@
 use Rattle.std.proofs.Common.{◌≡◌, ◌+◌, arith}
 use Rattle.mm_plan.specs.Table.{amount}
 use Rattle.mm_plan.proofs.Raises.{fits_raised, used_raised}
-use Rattle.mm_plan.proofs.Cuts.{raised_by}
+use Rattle.mm_plan.proofs.Lowering.{raised_by}
 use Rattle.mm_plan.proofs.filling.raise.Goals as goal
 
 pub returns-clause-fits : goal.returns-clause-fits

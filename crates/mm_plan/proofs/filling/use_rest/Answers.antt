@@ -1,6 +1,6 @@
 use Rattle.std.proofs.Common.{◌<◌, length, arith}
 use Rattle.mm_plan.specs.Table.{amount}
-use Rattle.mm_plan.proofs.Cuts.{shape_kept}
+use Rattle.mm_plan.proofs.Lowering.{shape_kept}
 use Rattle.mm_plan.proofs.Rests.{served_more, served_all}
 use Rattle.mm_plan.proofs.filling.use_rest.Goals as goal
 

@@ -4,7 +4,7 @@ use Rattle.std.proofs.lemmas.List.{length_push}
 use Rattle.mm_base.specs.declared.kind.Kind.{Kind}
 use Rattle.mm_base.specs.declared.kind.Kind.TheVariants.{Circular, Bounded}
 use Rattle.mm_store.specs.declared.stored.Stored.{Stored}
-use Rattle.mm_store.specs.Content.{Store, IsStore, clock_end, put_timed, put_full}
+use Rattle.mm_store.specs.Content.{Store, clock_end, put_timed, put_full}
 use Rattle.mm_store.specs.Laws.{LosesOverflow}
 use Rattle.mm_store.proofs.laws.stores_lose_alike.Goals as goal
 
@@ -17,16 +17,16 @@ full_loses Bounded content s new held full room =
     record { volume = rw held (omega arith); lost = rw held (omega arith) }
 
 -- a store with room keeps one packet more, and a full one hands one back
-timed_loses : (s : Store) (new : Stored) → IsStore s → (length s.content < s.size) ⊎ (s.size ≤ length s.content) → LosesOverflow s (put_timed s new).1 (put_timed s new).0
-timed_loses s new sound (inl room) =
+timed_loses : (s : Store) (new : Stored) → 1 ≤ s.size → length s.content ≤ s.size → (length s.content < s.size) ⊎ (s.size ≤ length s.content) → LosesOverflow s (put_timed s new).1 (put_timed s new).0
+timed_loses s new room_for_one within (inl room) =
     rw (lt-ltb (length s.content) s.size room) (record { volume = omega (arith, length_push s.content new); lost = omega (arith, length_push s.content new) })
-timed_loses s new sound (inr full) =
-    let exact : length s.content ≡ s.size = omega (arith, sound.within) in
-    rw (le-ltb (length s.content) s.size full) (full_loses s.kind s.content s new refl exact sound.has_room)
+timed_loses s new room_for_one within (inr full) =
+    let exact : length s.content ≡ s.size = omega (arith, within) in
+    rw (le-ltb (length s.content) s.size full) (full_loses s.kind s.content s new refl exact room_for_one)
 
 pub returns : goal.returns
 returns c = record {
-  law = λ s now packet sound before.
+  law = λ s now packet room_for_one within before.
       let new : Stored = record { time = max now (s.last + 1); packet = packet } in
-      rw (ne_eqb s.last clock_end (λ same. omega arith)) (timed_loses s new sound (cases_lt (length s.content) s.size));
+      rw (ne_eqb s.last clock_end (λ same. omega arith)) (timed_loses s new room_for_one within (cases_lt (length s.content) s.size));
 }

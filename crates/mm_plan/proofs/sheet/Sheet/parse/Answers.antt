@@ -1,7 +1,12 @@
-use Rattle.std.proofs.Common.{arith, rules, ap, ◌∙◌}
+use Rattle.std.proofs.Common.{◌≢◌, ℕ, arith, rules, ap, ◌∙◌}
+use Rattle.mm_plan.specs.declared.fault.Fault.TheVariants.{NoMemory, PlanText}
 use Rattle.mm_plan.proofs.Options.{when_true, when_false}
 use Rattle.mm_plan.proofs.Texts.{read_to_start, read_on, few_read, bad_line, bad_end, good_end, whole_at_end}
 use Rattle.mm_plan.proofs.sheet.Sheet.parse.Goals as goal
+
+-- a line that is refused is no want of memory
+no_want : (line : ℕ) → PlanText line ≢ NoMemory
+no_want line e = cc
 
 pub loop-front-init : goal.loop-front-init
 loop-front-init c = rw c.new-draft.ensures (read_to_start c.args.text.now)
@@ -16,21 +21,21 @@ overflow_add-line c = omega (arith, few_read c.args.text.now c.loop-front.draft 
 
 -- the line that cannot come next
 pub returns-then-not-branch-clause-bad : goal.returns-then-not-branch-clause-bad
-returns-then-not-branch-clause-bad c =
+returns-then-not-branch-clause-bad c = λ _.
     bad_line c.args.text.now c.loop-front.draft c.loop-front.rest.now c.loop-front.line c.in-Some.front.now c.in-Some.after.now
     c.loop-front.invariant (search rules) (when_false _ _ c.in_ok-take.field-0 c.in_ok-take.ensures c.if-not-branch.true)
 
 pub returns-then-not-branch-clause-read : goal.returns-then-not-branch-clause-read
-returns-then-not-branch-clause-read c = λ s is e. absurd ((returns-then-not-branch-clause-bad c).no_sheet s is e)
+returns-then-not-branch-clause-read c = λ s is e. absurd ((returns-then-not-branch-clause-bad c (no_want c.loop-front.line)).no_sheet s is e)
 
 -- the line on which the text ends
 pub returns-then-not-ends-clause-bad : goal.returns-then-not-ends-clause-bad
-returns-then-not-ends-clause-bad c =
+returns-then-not-ends-clause-bad c = λ _.
     bad_end c.args.text.now c.loop-front.draft c.loop-front.rest.now c.loop-front.line c.loop-front.invariant (search rules)
     (λ done empty. let ends = c.ends.ensures.1 (done, empty) in absurd (cc))
 
 pub returns-then-not-ends-clause-read : goal.returns-then-not-ends-clause-read
-returns-then-not-ends-clause-read c = λ s is e. absurd ((returns-then-not-ends-clause-bad c).no_sheet s is e)
+returns-then-not-ends-clause-read c = λ s is e. absurd ((returns-then-not-ends-clause-bad c (no_want c.loop-front.line)).no_sheet s is e)
 
 pub finish-requires : goal.finish-requires
 finish-requires c =

@@ -11,7 +11,7 @@ pub overflow_add-coming : goal.overflow_add-coming
 overflow_add-coming c = elim c.if-step-eq1.branch [
   | then-step-eq1 w ↦ omega arith
   | else-step-eq1 w ↦
-      let is = left_before c.args.problem.now (amount c.args.plan.now) c.args.self.now.left.items c.args.store (c.args.step - 2) w.stores.result c.args.step w.index.result.now (omega arith) w.stores.ensures.stores c.requires.store c.requires.before.left_places c.requires.before.each_left w.index.ensures in
+      let is = left_before c.args.problem.now (amount c.args.plan.now) c.args.self.now.left.items c.args.store w.stores.result c.args.step w.index.result.now (omega arith) w.stores.ensures.stores c.requires.store c.requires.before.left_places c.requires.before.each_left (rw w.place.ensures at w.index.ensures) in
       let most = left_most c.args.problem.now (amount c.args.plan.now) c.args.store (c.args.step - 1) w.stores.ensures.is_dumping c.requires.store in
       omega (arith, is, most)
 ]
@@ -21,7 +21,7 @@ returns c =
     let before : c.if-step-eq1.before ≡ left c.args.problem.now (amount c.args.plan.now) c.args.store (c.args.step - 1) =
     elim c.if-step-eq1.branch [
       | then-step-eq1 w ↦ let start : c.args.step - 1 ≡ 0 = omega arith in rw start (w.before-is ∙ w.start-before.ensures.start ∙ sym (left_start c.args.problem.now (amount c.args.plan.now) c.args.store))
-      | else-step-eq1 w ↦ w.before-is ∙ left_before c.args.problem.now (amount c.args.plan.now) c.args.self.now.left.items c.args.store (c.args.step - 2) w.stores.result c.args.step w.index.result.now (omega arith) w.stores.ensures.stores c.requires.store c.requires.before.left_places c.requires.before.each_left w.index.ensures
+      | else-step-eq1 w ↦ w.before-is ∙ left_before c.args.problem.now (amount c.args.plan.now) c.args.self.now.left.items c.args.store w.stores.result c.args.step w.index.result.now (omega arith) w.stores.ensures.stores c.requires.store c.requires.before.left_places c.requires.before.each_left (rw w.place.ensures at w.index.ensures)
     ] in
     let kept = left_step c.args.problem.now (amount c.args.plan.now) c.args.store (c.args.step - 1) c.args.step (omega arith) in
     let is_written : c.min-written.result ≡ written c.args.problem.now (amount c.args.plan.now) c.args.store c.args.step = omega (arith, before) in

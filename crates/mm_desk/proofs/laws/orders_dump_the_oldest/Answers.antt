@@ -1,0 +1,5 @@
+use Rattle.mm_desk.proofs.Ordering.{order_dumps}
+use Rattle.mm_desk.proofs.laws.orders_dump_the_oldest.Goals as goal
+
+pub returns : goal.returns
+returns c = record { law = order_dumps }
