@@ -19,6 +19,8 @@ const TWO_STORES: &str =
 
 const THREE_STEPS: &str = "step,window,SCI\n1,2,3\n2,2,3\n3,0,4\n";
 
+const TWO_STORES_IDLE: &str = "step,window,A,B\n1,2,0,0\n2,2,0,0\n3,2,0,0\n";
+
 const FIRST_PLAN: &[u8] =
     b"mmplan 1\nstores SCI\ndump 1 2\ndump 2 2\ndump 3 0\nloss 2\nstretch SCI 1 3\nbound 2\nend\n";
 
@@ -70,13 +72,14 @@ fn nothing_leaves_by_the_plan_of_zeros(rt: HostRuntime) {
     assert!(rt; plan.amounts.as_slice() == [0, 0, 0].as_slice());
     assert!(rt; plan.has_shape(&problem));
     assert!(rt; loss_of(&problem, &plan) == 6);
+    let other = problem_of(&rt, alloc, TWO_STORES, TWO_STORES_IDLE);
+    assert!(rt; !plan.has_shape(&other));
 }
 
 #[test]
 fn one_amount_is_set(rt: HostRuntime) {
     let alloc = rt.alloc();
-    let forecast = "step,window,A,B\n1,2,0,0\n2,2,0,0\n3,2,0,0\n";
-    let problem = problem_of(&rt, alloc, TWO_STORES, forecast);
+    let problem = problem_of(&rt, alloc, TWO_STORES, TWO_STORES_IDLE);
     assert!(rt; problem.stores() == 2 && problem.steps() == 3);
     let mut plan = Plan::zero(alloc, &problem).expect(&rt, "memory");
     plan.set(1, 2, 7);
