@@ -1,9 +1,8 @@
 -- In a flow of a problem's network as much comes into each node of a step as goes out of it.
-use Rattle.std.proofs.Common.{◌≡◌, ℕ, zero, suc, ◌+◌, ◌<◌, ◌≤◌, Bool, true, false, cond, ◌&&◌, eqb, length, refl, sym, ap, ◌∙◌, inl, inr, arith}
+use Rattle.std.proofs.Common.{◌≡◌, ℕ, zero, suc, ◌+◌, ◌<◌, ◌≤◌, false, cond, ◌&&◌, eqb, length, refl, sym, ap, ◌∙◌, inl, inr, arith}
 use Rattle.std.specs.Prelude.{◌≢◌}
 use Rattle.std.specs.List.{sum_by, range_with_len}
 use Rattle.std.proofs.lemmas.Bool.{cond-true, cond-false, and_from, eq-eqb, ne_eqb, eqb-true, and_parts, false_from_ne_true}
-use Rattle.std.proofs.lemmas.Bool.Decides.{nat_tests}
 use Rattle.mm_sums.proofs.Grids.{grid, grid_zeros, grid-one, grid-row}
 use Rattle.mm_sums.proofs.RangeSums.{sum_by_range_zeros, sum_by_range_one, sum_by_range_same}
 use Rattle.mm_sums.proofs.Tests.{cond-eqb_same, cond-eqb_other}
@@ -15,7 +14,7 @@ use Rattle.mm_planner.specs.declared.nodes.TheConstants.{SOURCE, SINK}
 use Rattle.mm_planner.specs.Nodes.{number_of}
 use Rattle.mm_planner.specs.Network.{next_node, net}
 use Rattle.mm_planner.proofs.NodeNumbers.{IsNode, is_same}
-use Rattle.mm_planner.proofs.KindSums.{come, hold, keep, leave, pass_on, send, at_node, next_cases, channel_within, entering_kinds, leaving_kinds}
+use Rattle.mm_planner.proofs.KindSums.{come, hold, keep, leave, pass_on, send, at_node, next_cases, entering_kinds, leaving_kinds}
 
 -- what a store keeps from the step before
 abbrev pub carried : Dumping → Flow → ℕ → ℕ → ℕ
@@ -156,8 +155,14 @@ module _ (q : Dumping) (is : IsDumping q) (f : Flow) where
   leaving_is (Channel t c) met =
       omega (arith, leaving_kinds q is f (Channel t c) (is_node (Channel t c) met), nothing (length q.windows) (length q.rows), no_step (length q.windows), at_place (pass_on q f) (length q.windows) (length q.limits) t c met.0 met.1 met.2)
   leaving_is (Pass t) met =
-      omega (arith, leaving_kinds q is f (Pass t) (is_node (Pass t) met), nothing (length q.windows) (length q.rows), nothing (length q.windows) (length q.limits),
-          sum_by_range_one (λ u. cond (eqb u t) (send q f u) 0) 1 (length q.windows) t met.0 (omega (arith, met.1)) (λ u _ _ other. cond-eqb_other u t (send q f u) other), cond-eqb_same t t (send q f t) refl)
+      omega (
+        arith,
+        leaving_kinds q is f (Pass t) (is_node (Pass t) met),
+        nothing (length q.windows) (length q.rows),
+        nothing (length q.windows) (length q.limits),
+        sum_by_range_one (λ u. cond (eqb u t) (send q f u) 0) 1 (length q.windows) t met.0 (omega (arith, met.1)) (λ u _ _ other. cond-eqb_other u t (send q f u) other),
+        cond-eqb_same t t (send q f t) refl,
+      )
 
 -- ---- flows
 

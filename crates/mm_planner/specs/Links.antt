@@ -1,5 +1,5 @@
 -- The arcs of the network as the code has them, between nodes.
-use Rattle.std.specs.Prelude.{ℕ, ◌<◌, ◌≤◌}
+use Rattle.std.specs.Prelude.{◌<◌, ◌≤◌}
 use Rattle.std.specs.Option.{ForSome}
 use Rattle.mm_problem.specs.Dumping.{Dumping}
 use Rattle.mm_flow.specs.declared.arc.Arc.{Arc}

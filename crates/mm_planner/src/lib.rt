@@ -15,9 +15,8 @@ mod texts;
 mod way;
 
 pub use laws::{plans_check_least, solutions_plan};
+pub use mm_base::NoMemory;
+pub use mm_check::{Fault, check_bytes};
 pub use planner::{Planned, plan, plan_by_flow};
 pub use sheets::sheet;
 pub use texts::plan_bytes;
-
-pub use mm_base::NoMemory;
-pub use mm_check::{Fault, check_bytes};

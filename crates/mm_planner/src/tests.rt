@@ -45,6 +45,7 @@ fn a_plan_fits_and_loses_what_is_counted_by_hand(rt: HostRuntime) -> Result<(), 
     for (setup, forecast, loss) in [(APART, APART_STEPS, 6), (TWO_STORES, SHARED_WINDOW, 2)] {
         let problem = read_problem(alloc, setup, forecast)?;
         for planned in [plan(alloc, &problem)?, plan_by_flow(alloc, &problem)?] {
+            assert!(rt; planned.plan.has_shape(&problem));
             assert_eq!(rt; fits(&problem, &planned.plan), Ok(()));
             assert_eq!(rt; loss_of(&problem, &planned.plan), loss);
             assert_eq!(rt; planned.loss, loss);

@@ -1,4 +1,4 @@
-use Rattle.std.proofs.Common.{rules, sym, ap, ◌∙◌, pos, slice_index}
+use Rattle.std.proofs.Common.{sym, ap, ◌∙◌, pos, slice_index}
 use Rattle.mm_plan.specs.Table.{amount}
 use Rattle.mm_flow.specs.Solution.{side_of}
 use Rattle.mm_planner.proofs.Optimality.{planned_lists}
