@@ -93,12 +93,55 @@ def tight_windows():
     )
 
 
+def chain():
+    """Stores that overflow one after another: each is filled over 16 steps of its own, the next from the middle of them on, and
+    no channel alone can empty its two stores in time."""
+    numbers = Numbers(5)
+    stride = STEPS // STORES
+    return Problem(
+        [Store(f"S{place + 1}", 200_000, "bounded", place // 2, 150_000) for place in range(STORES)],
+        [numbers.between(20_000, 40_000) for _ in range(STEPS)],
+        [
+            [numbers.between(20_000, 40_000) if 0 <= step - stride * place < 2 * stride else 0 for place in range(STORES)]
+            for step in range(STEPS)
+        ],
+        {channel: numbers.between(8_000, 12_000) for channel in range(CHANNELS)},
+    )
+
+
+def stair():
+    """Stores each larger than the one before and filled at the same pace, so that their overflows lie apart as stairs do; the
+    channels pair a small store with a large one."""
+    numbers = Numbers(6)
+    return Problem(
+        [Store(f"S{place + 1}", 60_000 * (place + 1), "bounded", place % CHANNELS) for place in range(STORES)],
+        [numbers.between(30_000, 90_000) for _ in range(STEPS)],
+        [[numbers.upto(9_000) for _ in range(STORES)] for _ in range(STEPS)],
+        {channel: numbers.between(5_000, 9_000) for channel in range(CHANNELS)},
+    )
+
+
+def burst():
+    """Bursts into small stores: in one step of four a store gets up to three times its size, in a quarter of the steps no
+    window is open, and each window serves a few channels."""
+    numbers = Numbers(7)
+    return Problem(
+        [Store(f"S{place + 1}", numbers.between(5_000, 30_000), "bounded", place % CHANNELS) for place in range(STORES)],
+        [numbers.upto(3) and numbers.upto(90_000) for _ in range(STEPS)],
+        [[(numbers.upto(3) == 0) * numbers.upto(30_000) for _ in range(STORES)] for _ in range(STEPS)],
+        {channel: numbers.between(2_000, 15_000) for channel in range(CHANNELS)},
+    )
+
+
 FAMILIES = {
     "one_store": one_store,
     "mission": mission,
     "random": random_numbers,
     "balanced": random_balanced,
     "tight": tight_windows,
+    "chain": chain,
+    "stair": stair,
+    "burst": burst,
 }
 
 

@@ -1,62 +1,138 @@
 #!/usr/bin/env python3
-"""Plans each problem of a folder with the built program and checks the plan that it prints; prints for each call the
-wall time, the processor time and the peak memory of the whole process.
+"""Plans each problem of a folder with the built program, checks the plan that it prints, and runs beside it, in the same run,
+a program that reads and writes the same files without planning (floor.rs) and one that plans by libmaxflow (maxflow.cpp).
+Prints for each the wall time of the whole process, the least of some rounds, and the instructions that it takes.
 
-    python3 bench/run.py [FOLDER [PROGRAM]]
+    python3 bench/run.py [FOLDER [ROUNDS]]
 
-FOLDER is bench/out and PROGRAM is crates/mm_tool/out/mm_tool where they are not said.
+FOLDER is bench/out and ROUNDS is 20 where they are not said. It wants crates/mm_tool/out/mm_tool (`./mm_tool --help` proves and
+builds it) and compiles the two others by `rustc -O` and `g++ -O2`. Without g++ and libmaxflow (Debian's libmaxflow-dev)
+the column of libmaxflow is left out, without valgrind the instructions, without crates/bench_propose/out/bench_propose
+(`rt run` there) the count of fallbacks, each with a line that says so.
 
-The system counts this script's own memory to each process that it starts, so nothing below the first line's figure is
-seen of a process's peak. The exit status is 0 where each plan was shown to lose least.
+The exit status is 0 where each plan was shown to lose least, and libmaxflow found the same loss.
 """
 
 import os
+import re
+import shutil
+import subprocess
 import sys
+import tempfile
 import time
 from pathlib import Path
 
 HERE = Path(__file__).resolve().parent
-TOOL = HERE.parent / "crates" / "mm_tool" / "out" / "mm_tool"
+CRATES = HERE.parent / "crates"
+TOOL = CRATES / "mm_tool" / "out" / "mm_tool"
+PROPOSALS = CRATES / "bench_propose" / "out" / "bench_propose"
+MAXFLOW = "/usr/include/maxflow-3.0"
+INSTRUCTIONS = re.compile(rb"Collected : (\d+)")
 
 
-def run(words, out):
-    """Runs a program with its standard output in a file: its status, and its times and memory as cells."""
+def timed(words, out):
+    """Runs a program with its standard output in a file: its status, milliseconds and peak memory in megabytes."""
     with open(out, "wb") as file:
         actions = [(os.POSIX_SPAWN_DUP2, file.fileno(), 1)]
         begin = time.perf_counter()
         process = os.posix_spawn(words[0], words, os.environ, file_actions=actions)
         _, status, usage = os.wait4(process, 0)
-        wall = time.perf_counter() - begin
-    processor, memory = usage.ru_utime + usage.ru_stime, usage.ru_maxrss / 1024
-    cells = f"{wall:.2f} s | {processor:.2f} s | {memory:.0f} MB"
-    return os.waitstatus_to_exitcode(status), cells
+        spent = 1000 * (time.perf_counter() - begin)
+    return os.waitstatus_to_exitcode(status), spent, usage.ru_maxrss / 1024
 
 
-def measure(tool, folder):
-    """A line of the table, and whether the plan was shown to lose least."""
-    setup, forecast = str(folder / "setup.toml"), str(folder / "forecast.csv")
-    plan, verdict = folder / "plan.txt", folder / "verdict.txt"
-    planned = run([tool, "plan", setup, forecast], plan)
-    checked = run([tool, "check", setup, forecast, str(plan)], verdict)
-    answer = verdict.read_text().strip()
-    least = planned[0] == 0 and checked[0] == 0 and answer.startswith("least ")
-    return f"| {folder.name} | {planned[1]} | {checked[1]} | `{answer}` |", least
+def instructions(words):
+    """How many instructions a program takes, in thousands, as a cell."""
+    if not shutil.which("valgrind"):
+        return ""
+    command = ["valgrind", "--tool=callgrind", "--callgrind-out-file=/dev/null", *words]
+    ended = subprocess.run(command, stdout=subprocess.DEVNULL, stderr=subprocess.PIPE)
+    found = INSTRUCTIONS.search(ended.stderr)
+    return f"{int(found[1]) // 1000:,}" if found else "?"
 
 
-def main(top, tool):
-    print("| Problem | `plan`: wall | processor | peak | `check`: wall | processor | peak | Verdict |")
-    print("|---|---|---|---|---|---|---|---|")
-    print(f"| (`/bin/true`) | {run(['/bin/true'], os.devnull)[1]} | | | | |")
-    failed = []
-    for folder in sorted(path.parent for path in top.glob("*/setup.toml")):
-        line, least = measure(tool, folder)
-        print(line, flush=True)
-        if not least:
-            failed.append(folder.name)
+def compiled(folder):
+    """The programs to compare with: a name, and the path of the program."""
+    floor = Path(folder) / "floor"
+    subprocess.run(["rustc", "-O", "-o", floor, HERE / "floor.rs"], check=True)
+    programs = {"floor": str(floor)}
+    if shutil.which("g++") and Path(MAXFLOW, "maxflow.h").exists():
+        flow = Path(folder) / "maxflow"
+        words = ["g++", "-O2", "-std=c++17", "-I", MAXFLOW, "-o", flow, HERE / "maxflow.cpp", "-lmaxflow"]
+        subprocess.run(words, check=True)
+        programs["libmaxflow"] = str(flow)
+    else:
+        print("libmaxflow is left out: g++ or libmaxflow-dev is not there.\n")
+    return programs
+
+
+class Measure:
+    """A problem, run by all programs in turn."""
+
+    def __init__(self, programs, problem, scratch):
+        files = [str(problem / "setup.toml"), str(problem / "forecast.csv")]
+        self.plan, self.verdict, self.other = (Path(scratch) / name for name in ("plan", "verdict", "other"))
+        self.commands = {"plan": [str(TOOL), "plan", *files], "check": [str(TOOL), "check", *files, str(self.plan)]}
+        self.commands |= {name: [program, *files] for name, program in programs.items()}
+        self.outs = {"plan": self.plan, "check": self.verdict}
+        self.least = dict.fromkeys(self.commands, float("inf"))
+        self.peak = 0
+        self.failed = False
+
+    def round(self):
+        for name, words in self.commands.items():
+            status, spent, peak = timed(words, self.outs.get(name, self.other))
+            self.failed |= status != 0
+            self.least[name] = min(self.least[name], spent)
+            if name == "plan":
+                self.peak = max(self.peak, peak)
+            if name == "libmaxflow":
+                self.failed |= self.loss(self.other) != self.loss(self.plan)
+
+    @staticmethod
+    def loss(text):
+        return next(line for line in text.read_text().splitlines() if line.startswith("loss "))
+
+    def is_least(self):
+        return not self.failed and self.verdict.read_text().startswith("least ")
+
+    def row(self, name):
+        least = self.least
+        cells = [f"{spent:.2f}" for spent in least.values()]
+        cells += [f"{least['plan'] / least[other]:.2f}" for other in list(least)[2:]]
+        cells += [instructions(words) for words in self.commands.values()]
+        return f"| {name} | {' | '.join(cells)} | {self.verdict.read_text().strip()} |"
+
+
+def heads(names):
+    cells = [f"{name} ms" for name in names] + [f"plan / {name}" for name in names[2:]]
+    cells += [f"{name} k instr." for name in names]
+    print(f"| Problem | {' | '.join(cells)} | Verdict |")
+    print("|---|" + "---|" * (len(cells) + 1))
+
+
+def main(top, rounds):
+    failed, peak = [], 0
+    with tempfile.TemporaryDirectory() as scratch:
+        programs = compiled(scratch)
+        heads(["plan", "check", *programs])
+        for problem in sorted(path.parent for path in top.glob("*/setup.toml")):
+            measure = Measure(programs, problem, scratch)
+            for _ in range(rounds):
+                measure.round()
+            print(measure.row(problem.name), flush=True)
+            peak = max(peak, measure.peak)
+            if not measure.is_least():
+                failed.append(problem.name)
+    print(f"\nThe peak memory of `plan` is at most {peak:.0f} MB, of which this script's own count.")
+    if PROPOSALS.exists():
+        print(subprocess.run([PROPOSALS, "10000", "1"], check=True, capture_output=True, text=True).stdout, end="")
+    else:
+        print("Fallbacks are not counted: crates/bench_propose is not built.")
     if failed:
         sys.exit(f"no least plan: {', '.join(failed)}")
 
 
 if __name__ == "__main__":
     words = sys.argv[1:]
-    main(Path(words[0]) if words else HERE / "out", words[1] if len(words) > 1 else str(TOOL))
+    main(Path(words[0]) if words else HERE / "out", int(words[1]) if len(words) > 1 else 20)

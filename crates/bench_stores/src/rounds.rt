@@ -1,7 +1,7 @@
 //! Rounds of puts, look-ups and deletions on a store, and the time that they take.
 
 use anyhow::Result;
-use mm_packet::{BlockPacket, Header, Octets, Packet};
+use mm_packet::{BlockPacket, Header, Octets, Packet, SEQUENCE_COUNTS};
 use mm_store::PacketStore;
 use std::alloc::Global;
 use std::fmt;
@@ -40,7 +40,7 @@ impl fmt::Display for Report {
 fn packet(alloc: Global, count: u16) -> Result<BlockPacket> {
     let header = Header {
         apid: 100,
-        count: count % 16384,
+        count: count % SEQUENCE_COUNTS,
         low: 0,
         service: 3,
         subtype: 25,

@@ -1,2 +1,4 @@
+pub mod ConversationLemmas
 pub mod CountLemmas
+pub mod DigitLemmas
 pub mod TelemetryLemmas

@@ -1,5 +1,5 @@
 -- What a line of the conversation leaves.
-use Rattle.std.specs.Prelude.{◌≡◌, ◌⊎◌, ℕ, List, [], ◌++◌, fold, Result, Ok, Err}
+use Rattle.std.specs.Prelude.{◌≡◌, ◌⊎◌, ℕ, List, [], ◌++◌, fold, IsTrue, Result, Ok, Err}
 use Rattle.mm_packet.specs.Packet.{SpacePacket}
 use Rattle.mm_packet.specs.Spelling.{spelling}
 use Rattle.mm_st15.specs.declared.report.Report.{Report}
@@ -17,7 +17,7 @@ use Rattle.mm_ask.specs.declared.answering.Outcome.TheVariants.{AllDone, SomeRef
 use Rattle.mm_ask.specs.declared.fault.LineFault.{LineFault}
 use Rattle.mm_ask.specs.declared.fault.LineFault.TheVariants.{NoMemory}
 use Rattle.mm_ask.specs.Counting.{Counts, no_counts, counted, numbers_of}
-use Rattle.mm_ask.specs.Line.{request_of}
+use Rattle.mm_ask.specs.Line.{has_digits, request_of}
 use Rattle.mm_ask.specs.Telemetry.{telemetry_of}
 use Rattle.mm_ask.specs.Text.{refused_line, answer_lines, report_line}
 
@@ -73,6 +73,10 @@ abbrev pub AnswersTo : ℕ → Result SpacePacket LineFault → Standing → Sta
 AnswersTo line (Err fault) s t = t ≡ refused_whole line fault s
 AnswersTo line (Ok asked) s t = Applied line asked s t
 
--- what a line leaves; each may be refused for want of memory
+-- a line is refused for want of memory, which may be where its digits are good: no growth comes before that test
+abbrev pub LacksMemory : ℕ → List ℕ → Standing → Standing → Type 0
+LacksMemory line octets s t = IsTrue (has_digits octets) × (t ≡ refused_whole line NoMemory s)
+
+-- what a line leaves
 abbrev pub Follows : ℕ → List ℕ → Standing → Standing → Type 0
-Follows line octets s t = AnswersTo line (request_of octets) s t ⊎ (t ≡ refused_whole line NoMemory s)
+Follows line octets s t = AnswersTo line (request_of octets) s t ⊎ LacksMemory line octets s t

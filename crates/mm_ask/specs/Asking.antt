@@ -1,5 +1,5 @@
 -- A whole conversation, from the setup and the lines.
-use Rattle.std.specs.Prelude.{◌≡◌, ℕ, ◌+◌, ◌==◌, List, [], ◌∷◌, Ok, Err}
+use Rattle.std.specs.Prelude.{◌≡◌, ℕ, ◌+◌, List, [], ◌∷◌, Ok, Err}
 use Rattle.mm_problem.specs.Document.{setup_of}
 use Rattle.mm_base.specs.Lines.{text_lines}
 use Rattle.mm_problem.specs.Setup.{SetupRows}

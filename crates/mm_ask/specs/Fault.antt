@@ -1,31 +1,31 @@
 -- The refusals of lines and of the setup, with those of the crates below.
-use Rattle.std.specs.Prelude.{ℕ, List, codes}
+use Rattle.mm_base.specs.declared.refusal.Refusal.{Refusal}
+use Rattle.mm_base.specs.declared.refusal.Refusal.TheVariants as refusal
 use Rattle.mm_problem.specs.declared.fault.Fault.{Fault as SetupFault}
 use Rattle.mm_problem.specs.declared.fault.Fault.TheVariants as setup
+use Rattle.mm_problem.specs.Fault.{refusal_of as setup_refusal}
 use Rattle.mm_packet.specs.declared.fault.Fault.{Fault as PacketFault}
 use Rattle.mm_packet.specs.declared.fault.Fault.TheVariants as packet
-use Rattle.mm_packet.specs.Fault.{number_of as packet_number, name_of as packet_name}
+use Rattle.mm_packet.specs.Fault.{refusal_of as packet_refusal}
 use Rattle.mm_st15.specs.declared.fault.Fault.{Fault as RequestFault}
 use Rattle.mm_st15.specs.declared.fault.Fault.TheVariants as request
-use Rattle.mm_st15.specs.Fault.{number_of as request_number, name_of as request_name}
+use Rattle.mm_st15.specs.Fault.{refusal_of as request_refusal}
 use Rattle.mm_ask.specs.declared.fault.Fault.{Fault}
 use Rattle.mm_ask.specs.declared.fault.Fault.TheVariants as fault
 use Rattle.mm_ask.specs.declared.fault.LineFault.{LineFault}
 use Rattle.mm_ask.specs.declared.fault.LineFault.TheVariants.{NoMemory, HexLine, Packet, Request}
 
--- the number that a refusal is printed with
-abbrev pub number_of : LineFault → ℕ
-number_of NoMemory = 0
-number_of HexLine = 49
-number_of (Packet fault) = packet_number fault
-number_of (Request fault) = request_number fault
+-- which refusal it is
+abbrev pub refusal_of : LineFault → Refusal
+refusal_of NoMemory = refusal.NoMemory
+refusal_of HexLine = refusal.HexLine
+refusal_of (Packet fault) = packet_refusal fault
+refusal_of (Request fault) = request_refusal fault
 
--- the characters of a refusal's name
-abbrev pub name_of : LineFault → List ℕ
-name_of NoMemory = codes "NoMemory"
-name_of HexLine = codes "HexLine"
-name_of (Packet fault) = packet_name fault
-name_of (Request fault) = request_name fault
+-- which refusal a fault of the setup is
+abbrev pub setup_refusal_of : Fault → Refusal
+setup_refusal_of fault.NoMemory = refusal.NoMemory
+setup_refusal_of (fault.Setup reason) = setup_refusal reason
 
 -- the refusal of a packet, as one of its line
 abbrev pub of_packet : PacketFault → LineFault

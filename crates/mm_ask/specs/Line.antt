@@ -1,26 +1,21 @@
 -- What a line of hexadecimal digits asks.
-use Rattle.std.specs.Prelude.{◌≡◌, ◌≢◌, ℕ, List, [], ◌∷◌, Option, Some, None, Result, Ok, Err}
+use Rattle.std.specs.Prelude.{ℕ, ◌%◌, ◌==◌, ◌&&◌, Bool, List, [], ◌∷◌, length, Option, Some, None, Result, Ok, Err}
+use Rattle.std.specs.List.{list_all}
 use Rattle.hex.specs.declared.error.FromHexError.{FromHexError}
-use Rattle.hex.specs.Hex.{decode_of}
+use Rattle.hex.specs.Hex.{decode_of, is_hex_digit}
+use Rattle.mm_base.specs.Reading.{◌>>=◌}
 use Rattle.mm_packet.specs.declared.fault.Fault.{Fault as PacketFault}
 use Rattle.mm_packet.specs.Packet.{SpacePacket}
 use Rattle.mm_packet.specs.Reading.{packet_at}
 use Rattle.mm_st15.specs.declared.fault.Fault.{Fault as RequestFault}
 use Rattle.mm_st15.specs.Request.{request_fault}
 use Rattle.mm_ask.specs.declared.fault.LineFault.{LineFault}
-use Rattle.mm_ask.specs.declared.fault.LineFault.TheVariants.{NoMemory, HexLine}
+use Rattle.mm_ask.specs.declared.fault.LineFault.TheVariants.{HexLine}
 use Rattle.mm_ask.specs.Fault.{of_packet, of_request}
 
--- the next step of reading, where no test has failed yet
-infixl 10 ◌>>=◌
-abbrev pub ◌>>=◌ : {A B : Type 0} → Result A LineFault → (A → Result B LineFault) → Result B LineFault
-(Ok x) >>= f = f x
-(Err e) >>= f = Err e
-
--- what a function returned, seen by `view`, is what reading gives, unless memory ran out
-abbrev pub Gives : {X Y : Type 0} → (X → Y) → Result X LineFault → Result Y LineFault → Type 0
-Gives view (Ok x) read = read ≡ Ok (view x)
-Gives view (Err fault) read = fault ≢ NoMemory → read ≡ Err fault
+-- whether a line is hexadecimal digits alone, an even number of them
+abbrev pub has_digits : List ℕ → Bool
+has_digits line = (length line % 2 == 0) && list_all is_hex_digit line
 
 -- what the digits spell; whatever is wrong with them is one refusal
 abbrev pub digits_tested : Result (List ℕ) FromHexError → Result (List ℕ) LineFault

@@ -1,28 +1,31 @@
 -- The lines that are printed.
 use Rattle.std.specs.Prelude.{ℕ, ◌+◌, List, [], ◌∷◌, ◌++◌, codes, decimal}
+use Rattle.mm_base.specs.declared.refusal.Refusal.{Refusal}
+use Rattle.mm_base.specs.Characters.{line_feed, space}
+use Rattle.mm_base.specs.Refusals.{number_of, name_of}
 use Rattle.hex.specs.Hex.{encode_upper}
 use Rattle.mm_memory.specs.declared.answer.Answer.{Answer}
 use Rattle.mm_memory.specs.declared.answer.Answer.TheVariants.{Done, Refused}
-use Rattle.mm_memory.specs.Fault.{number_of as answer_number, name_of as answer_name}
+use Rattle.mm_memory.specs.Fault.{refusal_of as answer_refusal}
 use Rattle.mm_ask.specs.declared.fault.LineFault.{LineFault}
-use Rattle.mm_ask.specs.Fault.{number_of, name_of}
+use Rattle.mm_ask.specs.Fault.{refusal_of}
 
--- a refusal with this number and this name
-abbrev pub refused_text : ℕ → List ℕ → List ℕ
-refused_text number name = codes " refused " ++ decimal number ++ 32 ∷ name ++ 10 ∷ []
+-- what is said of what is refused: the number and the name
+abbrev pub refused_text : Refusal → List ℕ
+refused_text refusal = codes " refused " ++ decimal (number_of refusal) ++ space ∷ name_of refusal ++ line_feed ∷ []
 
 -- what is said of an instruction
 abbrev pub answer_text : Answer → List ℕ
 answer_text Done = codes " done\n"
-answer_text (Refused fault) = refused_text (answer_number fault) (answer_name fault)
+answer_text (Refused fault) = refused_text (answer_refusal fault)
 
 -- the line on a request that is refused whole
 abbrev pub refused_line : ℕ → LineFault → List ℕ
-refused_line line fault = decimal line ++ refused_text (number_of fault) (name_of fault)
+refused_line line fault = decimal line ++ refused_text (refusal_of fault)
 
 -- the line on an instruction, with its place in the request
 abbrev pub answer_line : ℕ → ℕ → Answer → List ℕ
-answer_line line place answer = decimal line ++ 46 ∷ decimal place ++ answer_text answer
+answer_line line place answer = decimal line ++ codes "." ++ decimal place ++ answer_text answer
 
 -- the lines on the instructions from this place on
 abbrev pub answer_lines : ℕ → ℕ → List Answer → List ℕ
@@ -31,4 +34,4 @@ answer_lines line place (answer ∷ answers) = answer_line line place answer ++ 
 
 -- the line on a report that these octets are
 abbrev pub report_line : ℕ → List ℕ → List ℕ
-report_line line octets = decimal line ++ codes " report " ++ encode_upper octets ++ 10 ∷ []
+report_line line octets = decimal line ++ codes " report " ++ encode_upper octets ++ line_feed ∷ []

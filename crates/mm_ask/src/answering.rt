@@ -5,10 +5,11 @@ ghost use Rattle.mm_st15.specs.Report.{HasCount};
 ghost use Rattle.mm_st15.specs.Request.{IsRequest, SpellsRequest};
 
 use crate::counters::Counters;
-use crate::fault::{LineFault, NoMemory};
+use crate::fault::LineFault;
 use crate::line::{Asked, request_of};
 use crate::telemetry::telemetry_octets;
 use crate::text::{push_answer_lines, push_refused_line, push_report_line};
+use mm_base::NoMemory;
 use mm_memory::{Answer, Memory};
 use mm_packet::Packet;
 use mm_st15::Report;
@@ -153,7 +154,7 @@ impl Conversation {
                 self.answer_all(line, &answers.each)?;
                 self.report_all(alloc, line, &asked.packet, &answers.reports)
             }
-            Err(mm_memory::NoMemory) => self.refuse(line, LineFault::NoMemory),
+            Err(NoMemory) => self.refuse(line, LineFault::NoMemory),
         }
     }
 

@@ -5,10 +5,11 @@ ghost use Rattle.mm_ask.specs.Asking.{Answers, Converses, IsSetupFault, Passes};
 ghost use Rattle.mm_base.specs.Lines.{text_lines};
 
 use crate::answering::{Conversation, Outcome};
-use crate::fault::{Fault, NoMemory};
+use crate::fault::Fault;
+use mm_base::NoMemory;
+use mm_base::lines::split_line;
 use mm_memory::Memory;
 use mm_problem::Setup;
-use mm_problem::lines::split_line;
 use std::alloc::Global;
 
 // Answers a line, which has this number; an empty one is passed over.

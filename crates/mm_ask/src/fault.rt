@@ -1,12 +1,12 @@
 //! Why a line is no request, and why a setup is refused.
 ghost use Rattle.std.specs.Prelude.{◌≡◌};
-ghost use Rattle.mm_ask.specs.Fault.{number_of, name_of};
 
-use std::alloc::AllocError;
+use mm_base::{NoMemory, Refusal, Refused};
 use thiserror::Error;
 
 /// Why a line is no request. It is printed as its number, a space and its name.
-#[derive(Clone, Copy, Debug, PartialEq, Eq)]
+#[derive(Clone, Copy, Debug, PartialEq, Eq, Error)]
+#[error("{}", self.refusal())]
 pub enum LineFault {
     /// A growth was refused.
     NoMemory,
@@ -19,28 +19,17 @@ pub enum LineFault {
     Request(mm_st15::Fault),
 }
 
-impl LineFault {
-    /// The refusal's number.
-    pub fn number(self) -> u8
-        ensures number { result ≡ number_of self }
-    {
-        match self {
-            LineFault::NoMemory => 0,
-            LineFault::HexLine => 49,
-            LineFault::Packet(fault) => fault.number(),
-            LineFault::Request(fault) => fault.number(),
-        }
-    }
+impl Refused for LineFault {
+    ghost use Rattle.mm_ask.specs.Fault.{refusal_of};
 
-    /// The refusal's name.
-    pub fn name(self) -> &'static str
-        ensures name { result.now ≡ name_of self }
-    {
+    ghost refusal_of = { refusal_of };
+
+    fn refusal(self) -> Refusal {
         match self {
-            LineFault::NoMemory => "NoMemory",
-            LineFault::HexLine => "HexLine",
-            LineFault::Packet(fault) => fault.name(),
-            LineFault::Request(fault) => fault.name(),
+            LineFault::NoMemory => Refusal::NoMemory,
+            LineFault::HexLine => Refusal::HexLine,
+            LineFault::Packet(fault) => fault.refusal(),
+            LineFault::Request(fault) => fault.refusal(),
         }
     }
 }
@@ -71,38 +60,28 @@ impl From<mm_st15::Fault> for LineFault {
     }
 }
 
-/// A growth was refused, where no other refusal is possible.
-#[derive(Clone, Copy, Debug, PartialEq, Eq, Error)]
-#[error("0 NoMemory")]
-pub(crate) struct NoMemory;
-
-impl From<AllocError> for NoMemory {
-    fn from(_error: AllocError) -> NoMemory {
-        NoMemory
-    }
-}
-
-impl From<mm_packet::NoMemory> for NoMemory {
-    fn from(_error: mm_packet::NoMemory) -> NoMemory {
-        NoMemory
-    }
-}
-
-impl From<mm_st15::NoMemory> for NoMemory {
-    fn from(_error: mm_st15::NoMemory) -> NoMemory {
-        NoMemory
-    }
-}
-
 /// Why nothing is answered: the setup is refused, or a growth. It is shown as its number, its name
 /// and its fields.
 #[derive(Clone, Copy, Debug, PartialEq, Eq, Error)]
 pub enum Fault {
-    #[error("0 NoMemory")]
+    #[error("{}", self.refusal())]
     NoMemory,
     /// A fault of the setup other than want of memory.
     #[error(transparent)]
     Setup(mm_problem::Fault),
+}
+
+impl Refused for Fault {
+    ghost use Rattle.mm_ask.specs.Fault.{setup_refusal_of};
+
+    ghost refusal_of = { setup_refusal_of };
+
+    fn refusal(self) -> Refusal {
+        match self {
+            Fault::NoMemory => Refusal::NoMemory,
+            Fault::Setup(fault) => fault.refusal(),
+        }
+    }
 }
 
 impl From<NoMemory> for Fault {
@@ -111,16 +90,6 @@ impl From<NoMemory> for Fault {
     ghost from_gives = { λ _ e. e ≡ NoMemory };
 
     fn from(_error: NoMemory) -> Fault {
-        Fault::NoMemory
-    }
-}
-
-impl From<mm_memory::NoMemory> for Fault {
-    ghost use Rattle.mm_ask.specs.declared.fault.Fault.TheVariants.{NoMemory};
-
-    ghost from_gives = { λ _ e. e ≡ NoMemory };
-
-    fn from(_error: mm_memory::NoMemory) -> Fault {
         Fault::NoMemory
     }
 }

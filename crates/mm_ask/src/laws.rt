@@ -1,8 +1,25 @@
 //! Laws over the numbers of reports.
-ghost use Rattle.mm_ask.specs.Laws.{NumbersCountReports};
+ghost use Rattle.std.specs.Prelude.{◌≡◌, ◌+◌, ◌%◌};
+ghost use Rattle.mm_ask.specs.Counting.{next_counter};
+ghost use Rattle.mm_ask.specs.Laws.{NumbersCountReports, ConversationsCount, ReportsCount};
+ghost use Rattle.mm_ask.specs.declared.counters.TheConstants.{SEQUENCE_COUNTS};
 
 /// A report's sequence count is the number of the reports before it, and its message type counter
 /// the number of those of its subtype, as far as the fields go.
 pub fn numbers_count_reports()
     ensures law { NumbersCountReports }
+{}
+
+/// The counts from which the reports of a conversation have their numbers are those of the reports
+/// that it printed before: behind each line, and behind each report on a request.
+pub fn conversations_count_their_reports()
+    ensures lines { ConversationsCount }
+    ensures reports { ReportsCount }
+{}
+
+/// The numbers of the constants: how many sequence counts there are, and how many message type
+/// counters.
+pub fn constants_are()
+    ensures sequence { SEQUENCE_COUNTS ≡ 16384 }
+    ensures counter { (n : _) → next_counter n ≡ (n + 1) % 65536 }
 {}

@@ -1,11 +1,13 @@
 //! Requests from lines of hexadecimal digits.
-ghost use Rattle.std.specs.Prelude.{◌≡◌, ◌≢◌, IfOk, IfErr};
+ghost use Rattle.std.specs.Prelude.{◌≡◌, IfOk, IfErr, IsTrue};
+ghost use Rattle.std.specs.Char.{is_ascii_hexdigit};
+ghost use Rattle.std.specs.List.{list_all};
+ghost use Rattle.mm_base.specs.Reading.{Gives};
 ghost use Rattle.mm_st15.specs.Request.{IsRequest, SpellsRequest};
 ghost use Rattle.mm_ask.specs.declared.fault.LineFault.TheVariants.{NoMemory};
-ghost use Rattle.mm_ask.specs.Line.{Gives, octets_in, packet_alone, request_of};
+ghost use Rattle.mm_ask.specs.Line.{has_digits, octets_in, packet_alone, request_of};
 
 use crate::fault::LineFault;
-use hex::FromHexError;
 use mm_packet::Packet;
 use mm_st15::Request;
 use std::alloc::Global;
@@ -17,20 +19,38 @@ pub struct Asked {
     pub request: Request,
 }
 
+fn are_digits(line: &[u8]) -> bool
+    ensures { result ≡ list_all is_ascii_hexdigit line.now }
+{
+    line.iter().all(|digit| digit.is_ascii_hexdigit())
+}
+
+// Whether the line is hexadecimal digits alone, an even number of them.
+#[tactic(auto, using(crate::proofs::DigitLemmas::same_digits))]
+fn has_digits(line: &[u8]) -> bool
+    ensures { result ≡ has_digits line.now }
+{
+    line.len() % 2 == 0 && are_digits(line)
+}
+
 // The octets that the digits spell.
 fn octets_in(alloc: Global, line: &[u8]) -> Result<Vec<u8>, LineFault>
-    ensures { Gives (λ octets. octets.items) result (octets_in line.now) }
+    ensures octets { Gives NoMemory (λ octets. octets.items) result (octets_in line.now) }
+    ensures memory { IfErr result (λ fault. fault ≡ NoMemory → IsTrue (has_digits line.now)) }
+    ensures digits { IfOk result (λ _. IsTrue (has_digits line.now)) }
 {
+    if !has_digits(line) {
+        return Err(LineFault::HexLine);
+    }
     match hex::decode(alloc, line) {
         Ok(octets) => Ok(octets),
-        Err(FromHexError::OutOfMemory) => Err(LineFault::NoMemory),
-        Err(_) => Err(LineFault::HexLine),
+        Err(_) => Err(LineFault::NoMemory),
     }
 }
 
 // The packet that the octets are, with nothing after it.
 fn packet_alone(alloc: Global, octets: &[u8]) -> Result<Packet, LineFault>
-    ensures { Gives (λ packet. packet) result (packet_alone octets.now) }
+    ensures { Gives NoMemory (λ packet. packet) result (packet_alone octets.now) }
 {
     let (packet, rest) = Packet::parse(alloc, octets)?;
     if rest.is_empty() {
@@ -50,7 +70,10 @@ pub fn request_of(alloc: Global, line: &[u8]) -> Result<Asked, LineFault>
     ensures spelled { IfOk result (λ asked. IsRequest asked.request
         × SpellsRequest asked.packet asked.request) }
     // Which refusal it is: the first test that fails.
-    ensures refused { IfErr result (λ fault. fault ≢ NoMemory → request_of line.now ≡ Err fault) }
+    ensures refused { Gives NoMemory (λ asked. asked.packet) result (request_of line.now) }
+    // A growth is refused only where the digits are good, the one test before the first growth.
+    ensures memory { IfErr result (λ fault. fault ≡ NoMemory → IsTrue (has_digits line.now)) }
+    ensures digits { IfOk result (λ _. IsTrue (has_digits line.now)) }
 {
     let octets = octets_in(alloc, line)?;
     let packet = packet_alone(alloc, &octets)?;

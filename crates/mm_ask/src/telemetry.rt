@@ -7,7 +7,7 @@ ghost use Rattle.mm_ask.specs.declared.counters.TheConstants.{SEQUENCE_COUNTS};
 ghost use Rattle.mm_ask.specs.Telemetry.{telemetry_of};
 
 use crate::counters::Numbers;
-use crate::fault::NoMemory;
+use mm_base::NoMemory;
 use mm_packet::Packet;
 use mm_st15::Report;
 use std::alloc::Global;

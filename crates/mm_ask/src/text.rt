@@ -1,27 +1,21 @@
 //! The lines that are printed.
-ghost use Rattle.std.specs.Prelude.{◌≡◌, ◌+◌, ◌<◌, ◌^◌, ◌++◌, decimal, length, OnOk};
+ghost use Rattle.std.specs.Prelude.{◌≡◌, ◌+◌, ◌<◌, ◌^◌, ◌++◌, length, OnOk};
 ghost use Rattle.mm_ask.specs.Text.{refused_text, answer_text, refused_line, answer_line, answer_lines, report_line};
 
 use crate::fault::LineFault;
-use itoa::Buffer;
+use mm_base::numbers::push_number;
+use mm_base::{Refusal, Refused};
 use mm_memory::Answer;
 use std::alloc::{AllocError, Global};
 
-fn push_number(text: &mut Vec<u8>, number: u64) -> Result<(), AllocError>
-    ensures { OnOk result (text.new.items ≡ text.old.items ++ decimal number) }
-{
-    let mut buffer = Buffer::new();
-    text.extend_from_slice(buffer.format(number).as_bytes())
-}
-
 #[tactic(auto, using(std::proofs::Common::append_assoc))]
-fn push_refused(text: &mut Vec<u8>, number: u8, name: &str) -> Result<(), AllocError>
-    ensures { OnOk result (text.new.items ≡ text.old.items ++ refused_text number name.now) }
+fn push_refused(text: &mut Vec<u8>, refusal: Refusal) -> Result<(), AllocError>
+    ensures { OnOk result (text.new.items ≡ text.old.items ++ refused_text refusal) }
 {
     text.extend_from_slice(b" refused ")?;
-    push_number(text, u64::from(number))?;
+    push_number(text, u64::from(refusal.number()))?;
     text.push(b' ')?;
-    text.extend_from_slice(name.as_bytes())?;
+    text.extend_from_slice(refusal.name().as_bytes())?;
     text.push(b'\n')?;
     Ok(())
 }
@@ -31,7 +25,7 @@ fn push_answer(text: &mut Vec<u8>, answer: Answer) -> Result<(), AllocError>
 {
     match answer {
         Answer::Done => text.extend_from_slice(b" done\n"),
-        Answer::Refused(fault) => push_refused(text, fault.number(), fault.name()),
+        Answer::Refused(fault) => push_refused(text, fault.refusal()),
     }
 }
 
@@ -45,7 +39,7 @@ pub(crate) fn push_refused_line(
     ensures { OnOk result (text.new.items ≡ text.old.items ++ refused_line line fault) }
 {
     push_number(text, line)?;
-    push_refused(text, fault.number(), fault.name())
+    push_refused(text, fault.refusal())
 }
 
 #[tactic(auto, using(std::proofs::Common::append_assoc))]
@@ -58,7 +52,7 @@ fn push_answer_line(
     ensures { OnOk result (text.new.items ≡ text.old.items ++ answer_line line place answer) }
 {
     push_number(text, line)?;
-    text.push(b'.')?;
+    text.extend_from_slice(b".")?;
     push_number(text, place)?;
     push_answer(text, answer)
 }

@@ -1,9 +1,6 @@
 //! Why a row is not added to the storage control, or not deleted from it.
-ghost use Rattle.std.specs.Prelude.{◌≡◌};
-ghost use Rattle.mm_base.specs.Refusals.{number_of, name_of};
-ghost use Rattle.mm_control.specs.Fault.{refusal_of};
 
-use mm_base::Refusal;
+use mm_base::{Refusal, Refused};
 use thiserror::Error;
 
 /// A refusal of this crate. It is shown as its number, a space and its name.
@@ -16,28 +13,15 @@ pub enum Fault {
     TableFull,
 }
 
-impl Fault {
-    /// Which refusal it is.
-    pub fn refusal(self) -> Refusal
-        ensures refusal { result ≡ refusal_of self }
-    {
+impl Refused for Fault {
+    ghost use Rattle.mm_control.specs.Fault.{refusal_of};
+
+    ghost refusal_of = { refusal_of };
+
+    fn refusal(self) -> Refusal {
         match self {
             Fault::NoSuchRoute => Refusal::NoSuchRoute,
             Fault::TableFull => Refusal::TableFull,
         }
-    }
-
-    /// The refusal's number.
-    pub fn number(self) -> u8
-        ensures number { result ≡ number_of (refusal_of self) }
-    {
-        self.refusal().number()
-    }
-
-    /// The refusal's name.
-    pub fn name(self) -> &'static str
-        ensures name { result.now ≡ name_of (refusal_of self) }
-    {
-        self.refusal().name()
     }
 }

@@ -1,5 +1,5 @@
 use super::*;
-use mm_base::{RouteRow, StoreId};
+use mm_base::{Refused, RouteRow, StoreId};
 use std::process::Abort;
 use std::test::Fail;
 

@@ -41,9 +41,17 @@ leaving q ds ts t = if is_listed ts t then limit_sum q ds t else window q t
 abbrev pub leaving_sum : Dumping → List Stretch → List ℕ → ℕ
 leaving_sum q ds ts = sum_by (leaving q ds ts) (filter (is_inner ds) (steps q))
 
+-- what comes in over all stretches
+abbrev pub coming_sum : Dumping → List Stretch → ℕ
+coming_sum q ds = sum_by (coming q) ds
+
+-- what may be held as the stretches end
+abbrev pub held_sum : Dumping → List Stretch → ℕ
+held_sum q ds = sum_by (held q) ds
+
 -- what comes in over all stretches, less what may be held as they end and what may leave before
 abbrev pub bound : Dumping → List Stretch → List ℕ → ℤ
-bound q ds ts = pos (sum_by (coming q) ds) -ℤ pos (sum_by (held q) ds + leaving_sum q ds ts)
+bound q ds ts = pos (coming_sum q ds) -ℤ pos (held_sum q ds + leaving_sum q ds ts)
 
 -- no plan that fits loses less than the bound of any cut
 abbrev pub CutsBoundLosses : Type 0

@@ -1,10 +1,9 @@
 //! The bound of a cut.
 ghost use Rattle.std.specs.Prelude.{◌≡◌, ◌+◌, ◌*◌, ◌≤◌, length, All};
-ghost use Rattle.std.specs.List.{sum_by};
 ghost use Rattle.mm_base.specs.declared.limits.TheConstants.{MAX_STORES, MAX_STEPS, MAX_BLOCKS, CHANNELS};
 ghost use Rattle.mm_problem.specs.Dumping.{IsDumping};
 ghost use Rattle.mm_cut.specs.Stretches.{is_inner_on, IsStretch};
-ghost use Rattle.mm_cut.specs.Cuts.{opening, coming, held, limit_sum, leaving, leaving_sum, IsCut, bound};
+ghost use Rattle.mm_cut.specs.Cuts.{opening, coming, coming_sum, held_sum, limit_sum, leaving, leaving_sum, IsCut, bound};
 
 use crate::counts::{is_inner, is_listed};
 use crate::stretches::{channel_of, covers, goes_past, store_of};
@@ -104,7 +103,7 @@ fn leaving_sum(problem: &Problem, stretches: &[Stretch], counts: &[u32]) -> u64
 fn coming_sum(problem: &Problem, stretches: &[Stretch]) -> u64
     requires each { All (IsStretch problem.now) stretches.now }
     requires few { length stretches.now ≤ MAX_STEPS * MAX_STORES }
-    ensures sum { result ≡ sum_by (coming problem.now) stretches.now }
+    ensures sum { result ≡ coming_sum problem.now stretches.now }
     ensures most { result ≤ MAX_STEPS * MAX_STORES * (MAX_BLOCKS + MAX_STEPS * MAX_BLOCKS) }
 {
     let mut sum: u64 = 0;
@@ -118,7 +117,7 @@ fn coming_sum(problem: &Problem, stretches: &[Stretch]) -> u64
 fn held_sum(problem: &Problem, stretches: &[Stretch]) -> u64
     requires each { All (IsStretch problem.now) stretches.now }
     requires few { length stretches.now ≤ MAX_STEPS * MAX_STORES }
-    ensures sum { result ≡ sum_by (held problem.now) stretches.now }
+    ensures sum { result ≡ held_sum problem.now stretches.now }
     ensures most { result ≤ MAX_STEPS * MAX_STORES * MAX_BLOCKS }
 {
     let mut sum: u64 = 0;

@@ -18,6 +18,12 @@ const A: &str = "[[store]]\nid = \"A\"\nsize = 3\ntype = \"bounded\"\nchannel = 
 const A_LIMITED: &str =
     "[[store]]\nid = \"A\"\nsize = 3\ntype = \"bounded\"\nchannel = 0\n[[limit]]\nchannel = 0\nblocks = 1\n";
 
+const A_AND_B: &str =
+    "[[store]]\nid = \"A\"\nsize = 3\ntype = \"bounded\"\nchannel = 0\n\n[[store]]\nid = \"B\"\nsize = 3\ntype = \"bounded\"\nchannel = 0\n";
+
+const A_AND_B_LIMITED: &str =
+    "[[store]]\nid = \"A\"\nsize = 3\ntype = \"bounded\"\nchannel = 0\n\n[[store]]\nid = \"B\"\nsize = 3\ntype = \"bounded\"\nchannel = 0\n\n[[limit]]\nchannel = 0\nblocks = 1\n";
+
 const THREE_STEPS: &str = "step,window,SCI\n1,2,3\n2,2,3\n3,0,4\n";
 
 const APART: &str = "step,window,SCI\n1,0,5\n2,9,0\n3,0,5\n";
@@ -35,7 +41,7 @@ struct Row {
     verdict: Verdict,
 }
 
-const ROWS: [Row; 10] = [
+const ROWS: [Row; 13] = [
     // first_run
     Row {
         setup: SCI,
@@ -125,6 +131,36 @@ const ROWS: [Row; 10] = [
         loss: 1,
         bound: Some(-2),
         verdict: Verdict::DoesNotFit(1),
+    },
+    // foresight_beats_even_split, with the even split
+    Row {
+        setup: A_AND_B,
+        forecast: "step,window,A,B\n1,2,3,3\n2,0,2,0\n",
+        sheet: "mmplan 1\nstores A B\ndump 1 1 1\ndump 2 0 0\nloss 1\nbound 0\nend\n",
+        misfit: None,
+        loss: 1,
+        bound: Some(0),
+        verdict: Verdict::NotShown { loss: 1, bound: 0 },
+    },
+    // two_stretches_share_a_window
+    Row {
+        setup: A_AND_B,
+        forecast: "step,window,A,B\n1,2,3,3\n2,0,2,2\n",
+        sheet: "mmplan 1\nstores A B\ndump 1 1 1\ndump 2 0 0\nloss 2\nstretch A 1 2\nstretch B 1 2\nbound 2\nend\n",
+        misfit: None,
+        loss: 2,
+        bound: Some(2),
+        verdict: Verdict::Least(2),
+    },
+    // two stores of one channel, whose limit counts once
+    Row {
+        setup: A_AND_B_LIMITED,
+        forecast: "step,window,A,B\n1,5,3,3\n2,0,2,2\n",
+        sheet: "mmplan 2\nstores A B\ndump 1 1 0\ndump 2 0 0\nloss 3\nstretch A 1 2\nstretch B 1 2\ncount 1 channels\nbound 3\nend\n",
+        misfit: None,
+        loss: 3,
+        bound: Some(3),
+        verdict: Verdict::Least(3),
     },
     // a count of a step at which the channel has no limit
     Row {

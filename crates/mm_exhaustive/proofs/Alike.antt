@@ -5,23 +5,24 @@ use Rattle.mm_problem.specs.Dumping.{Dumping, stores, stores_of, steps, is_of}
 use Rattle.mm_plan.specs.Volumes.{Amounts, left, lost, store_loss, loss}
 use Rattle.mm_plan.specs.Fit.{in_step, FitsAt, Fits}
 use Rattle.mm_exhaustive.specs.Agreement.{AgreesThroughout}
-use Rattle.mm_exhaustive.proofs.Sums.{All-range, sum_by-equal}
+use Rattle.mm_sums.proofs.Ranges.{All-range_with_len}
+use Rattle.mm_sums.proofs.Sums.{sum_by-same}
 
 module _ (q : Dumping) (x y : Amounts) (same : AgreesThroughout q x y) where
   -- in each step the same is to leave each store
   same_in_step : (t : ℕ) → 1 ≤ t → t ≤ length q.windows → All (λ s. in_step y t s ≡ in_step x t s) (stores q)
-  same_in_step t first last = All-range (λ s. in_step y t s ≡ in_step x t s) 0 (length q.rows) (λ s _ below. same s t (omega arith) first last)
+  same_in_step t first last = All-range_with_len (λ s. in_step y t s ≡ in_step x t s) 0 (length q.rows) (λ s _ below. same s t (omega arith) first last)
 
   fits_at-same : (t : ℕ) → 1 ≤ t → t ≤ length q.windows → FitsAt q x t → FitsAt q y t
   fits_at-same t first last fits =
       let each = same_in_step t first last in
       record {
-        windowed = omega (arith, fits.windowed, sum_by-equal (in_step y t) (in_step x t) (stores q) each);
+        windowed = omega (arith, fits.windowed, sum_by-same (in_step y t) (in_step x t) (stores q) each);
         limited = λ c b limited.
             omega (
               arith,
               fits.limited c b limited,
-              sum_by-equal (in_step y t) (in_step x t) (stores_of q c) (All-filter (is_of q c) (λ s. in_step y t s ≡ in_step x t s) (stores q) each),
+              sum_by-same (in_step y t) (in_step x t) (stores_of q c) (All-filter (is_of q c) (λ s. in_step y t s ≡ in_step x t s) (stores q) each),
             );
       }
 
@@ -44,7 +45,7 @@ module _ (q : Dumping) (x y : Amounts) (same : AgreesThroughout q x y) where
 
   pub loss-same : loss q y ≡ loss q x
   loss-same =
-      sum_by-equal (store_loss q y) (store_loss q x) (stores q)
-      (All-range (λ s. store_loss q y s ≡ store_loss q x s) 0 (length q.rows)
-      (λ s _ below. sum_by-equal (lost q y s) (lost q x s) (steps q)
-      (All-range (λ t. lost q y s t ≡ lost q x s t) 1 (length q.windows) (λ t first last. lost-same s t (omega arith) first (omega arith)))))
+      sum_by-same (store_loss q y) (store_loss q x) (stores q)
+      (All-range_with_len (λ s. store_loss q y s ≡ store_loss q x s) 0 (length q.rows)
+      (λ s _ below. sum_by-same (lost q y s) (lost q x s) (steps q)
+      (All-range_with_len (λ t. lost q y s t ≡ lost q x s t) 1 (length q.windows) (λ t first last. lost-same s t (omega arith) first (omega arith)))))

@@ -5,7 +5,7 @@ use Rattle.std.proofs.lemmas.Bool.Decides.{leb_tells}
 use Rattle.mm_problem.specs.Dumping.{Dumping, stores, stores_of}
 use Rattle.mm_plan.specs.Table.{Table, amount}
 use Rattle.mm_plan.specs.Fit.{in_step, Fits}
-use Rattle.mm_exhaustive.proofs.Sums.{sum_by-zeros}
+use Rattle.mm_sums.proofs.Sums.{sum_by_zeros}
 
 no_element : (xs : List ℕ) → All (λ n. n ≡ 0) xs → (k : ℕ) → get_or xs k 0 ≡ 0
 no_element xs zero k = elim (leb_tells (length xs) k) [
@@ -18,6 +18,6 @@ pub nothing_fits : (q : Dumping) (x : Table) → All (λ n. n ≡ 0) x.amounts �
 nothing_fits q x zero t first last =
     let none : (s : ℕ) → in_step (amount x) t s ≡ 0 = λ s. no_element x.amounts zero ((t - 1) * x.stores + s) in
     record {
-      windowed = omega (arith, sum_by-zeros (in_step (amount x) t) (stores q) none);
-      limited = λ c b limited. omega (arith, sum_by-zeros (in_step (amount x) t) (stores_of q c) none);
+      windowed = omega (arith, sum_by_zeros (in_step (amount x) t) (stores q) (λ k d _. none (get_or (stores q) k d)));
+      limited = λ c b limited. omega (arith, sum_by_zeros (in_step (amount x) t) (stores_of q c) (λ k d _. none (get_or (stores_of q c) k d)));
     }

@@ -7,12 +7,12 @@ use Rattle.mm_plan.specs.Fit.{in_step, Fits}
 use Rattle.mm_exhaustive.specs.Agreement.{AgreesBefore, AgreesThroughout}
 use Rattle.mm_exhaustive.specs.Best.{IsLeastOf}
 use Rattle.mm_exhaustive.proofs.Alike.{fits-same, loss-same}
-use Rattle.mm_exhaustive.proofs.Sums.{term_in_sum}
+use Rattle.mm_sums.proofs.RangeSums.{term-le-sum_by_range}
 
 -- a plan that fits asks for no more than the window
 pub within_window : (q : Dumping) (y : Amounts) → Fits q y → (s t : ℕ) → s < length q.rows → 1 ≤ t → t ≤ length q.windows → y s t ≤ window q t
 within_window q y fits s t below first last =
-    omega (arith, (fits t first (omega arith)).windowed, term_in_sum (in_step y t) (length q.rows) s below)
+    omega (arith, (fits t first (omega arith)).windowed, term-le-sum_by_range (in_step y t) 0 (length q.rows) s (omega arith) (omega arith))
 
 -- of the plans that fit and agree with a plan before a place, none that asks for fewer than k blocks there loses less
 abbrev pub IsLeastBelow : Dumping → Amounts → ℕ → ℕ → ℕ → ℕ → Type 0

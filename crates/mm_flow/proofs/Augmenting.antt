@@ -8,6 +8,7 @@ use Rattle.mm_flow.specs.declared.limits.TheConstants.{MAX_VALUE}
 use Rattle.mm_flow.specs.Residual.{entries, place, tail, head, residual, spare, IsPushed}
 use Rattle.mm_flow.specs.Balance.{IsBalanced, IsBalancedAt, IsAugmented, IsBounded}
 use Rattle.mm_flow.specs.Marks.{mark, level, HasMark, IsReached}
+use Rattle.mm_flow.proofs.Pushes.{cond-plus}
 use Rattle.mm_flow.proofs.Entries.{place-forward, place-backward, tail-forward, tail-backward, head-forward, head-backward, residual-forward, residual-backward}
 
 -- arcs with both ends up to a level carry what they did
@@ -65,14 +66,7 @@ most_next g old now new e amount pushed same most k = elim (cases_eq k (place g 
 
 -- a balanced flow is balanced with an amount at the sink
 pub balanced_start : (g : Graph) (source sink : ℕ) (f : Flow) (value amount : ℕ) → IsBalanced g source sink f value → IsBalancedAt g source sink f value sink amount
-balanced_start g source sink f value amount balanced n = elim (cases_eq sink n) [
-  | inl same ↦
-      let test = eq-eqb sink n same in
-      omega (arith, balanced n, cond-true {A = ℕ} (eqb sink n) value 0 test, cond-true {A = ℕ} (eqb sink n) amount 0 test, cond-true {A = ℕ} (eqb sink n) (value + amount) 0 test)
-  | inr other ↦
-      let test = ne_eqb sink n other in
-      omega (arith, balanced n, cond-false {A = ℕ} (eqb sink n) value 0 test, cond-false {A = ℕ} (eqb sink n) amount 0 test, cond-false {A = ℕ} (eqb sink n) (value + amount) 0 test)
-]
+balanced_start g source sink f value amount balanced n = omega (arith, balanced n, cond-plus (eqb sink n) value amount (value + amount) refl)
 
 -- a push takes the amount from the node that an entry leads to back to the node that it leaves
 pub balanced_next : (g : Graph) (source sink : ℕ) (now new : Flow) (value at e amount : ℕ) → IsPushed g now new e amount → head g e ≡ at → IsBalancedAt g source sink now value at amount → IsBalancedAt g source sink new value (tail g e) amount
@@ -81,14 +75,7 @@ balanced_next g source sink now new value at e amount pushed leads balanced n =
 
 -- once the amount has come back to the source, the value is greater by it
 pub balanced_end : (g : Graph) (source sink : ℕ) (f : Flow) (value amount : ℕ) → IsBalancedAt g source sink f value source amount → IsBalanced g source sink f (value + amount)
-balanced_end g source sink f value amount balanced n = elim (cases_eq source n) [
-  | inl same ↦
-      let test = eq-eqb source n same in
-      omega (arith, balanced n, cond-true {A = ℕ} (eqb source n) value 0 test, cond-true {A = ℕ} (eqb source n) amount 0 test, cond-true {A = ℕ} (eqb source n) (value + amount) 0 test)
-  | inr other ↦
-      let test = ne_eqb source n other in
-      omega (arith, balanced n, cond-false {A = ℕ} (eqb source n) value 0 test, cond-false {A = ℕ} (eqb source n) amount 0 test, cond-false {A = ℕ} (eqb source n) (value + amount) 0 test)
-]
+balanced_end g source sink f value amount balanced n = omega (arith, balanced n, cond-plus (eqb source n) value amount (value + amount) refl)
 
 -- a balanced flow within the capacities is a flow of its value
 pub balanced_flow : (g : Graph) (source sink : ℕ) (f : Flow) (value : ℕ) → source ≢ sink → IsWithin g f → IsBalanced g source sink f value → IsFlow g source sink f value
@@ -114,7 +101,7 @@ pub record IsReady (g : Graph) (marks : List Mark) (old now : Flow) (at e amount
   pub leads : head g e ≡ at
   pub fits : amount ≤ residual g now e
   pub same : now (place g e) ≡ old (place g e)
-  pub below : level marks (tail g e) + 1 ≡ level marks at
+  pub below : level marks (tail g e) < level marks at
   pub marked : HasMark marks (tail g e)
   pub wide : amount ≤ (mark marks (tail g e)).width
 
@@ -123,7 +110,7 @@ pub followed_ready : (g : Graph) (marks : List Mark) (old now : Flow) (source at
 followed_ready g marks old now source at e amount reached followed via =
     let tail_is = ap (λ (d : ℕ). mark marks (tail g d)) via in
     let leads : head g e ≡ at = ap (head g) via ∙ reached.leads in
-    let below : level marks (tail g e) + 1 ≡ level marks at = omega (arith, ap (λ (m : Mark). m.level) tail_is, reached.next) in
+    let below : level marks (tail g e) < level marks at = omega (arith, ap (λ (m : Mark). m.level) tail_is, reached.above) in
     let same = untouched_at g marks old now (level marks at) e followed.untouched (omega arith) (omega (arith, ap (level marks) leads)) in
     record {
       known = omega (arith, reached.known);

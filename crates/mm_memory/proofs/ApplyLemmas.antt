@@ -14,9 +14,9 @@ use Rattle.mm_base.specs.declared.rows.RouteRow.{RouteRow}
 use Rattle.mm_memory.specs.declared.answer.Answer.{Answer}
 use Rattle.mm_memory.specs.declared.fault.Fault.TheVariants.{NoMemory}
 use Rattle.mm_memory.specs.declared.held.Held.{Held}
-use Rattle.mm_memory.specs.declared.instruction.Instruction.{Instruction}
 use Rattle.mm_memory.specs.Acting.{Outcome}
 use Rattle.mm_memory.specs.Applying.{ComesUnlessNoMemory, Applies, AppliesEach, changed, without, outcome_told}
+use Rattle.mm_memory.specs.Instruction.{Parsed}
 use Rattle.mm_memory.specs.Holdings.{Holdings, AreHeld, HaveOtherIds, StandsAt, has_id, store_of}
 use Rattle.mm_memory.proofs.PlaceLemmas.{is_itself, with_changed-stands}
 
@@ -70,7 +70,7 @@ AreHeld-without id stores sound =
     }
 
 -- one instruction more is applied, with one answer more
-pub AppliesEach-push : (is : List Instruction) (i : Instruction) (m next left : Holdings) (answers : List Answer) (answer : Answer) → AppliesEach is m answers next → Applies i next (outcome_told answer, left) → AppliesEach (is ++ i ∷ []) m (answers ++ answer ∷ []) left
+pub AppliesEach-push : (is : List Parsed) (i : Parsed) (m next left : Holdings) (answers : List Answer) (answer : Answer) → AppliesEach is m answers next → Applies i next (outcome_told answer, left) → AppliesEach (is ++ i ∷ []) m (answers ++ answer ∷ []) left
 AppliesEach-push [] i m next left [] answer before one =
     let P : Holdings → Type 0 = λ x. Applies i x (outcome_told answer, left) in
     (left, subst P before one, refl)
@@ -80,10 +80,10 @@ AppliesEach-push (j ∷ is) i m next left (a ∷ rest) answer before one =
     (before.0, before.1, AppliesEach-push is i before.0 next left rest answer before.2 one)
 
 -- the same in a loop over the instructions
-pub applies_one_more : (is : List Instruction) (k : ℕ) (d : Instruction) (m next left : Holdings) (answers more : List Answer) (answer : Answer) (outcome : Outcome) → k < length is → more ≡ answers ++ answer ∷ [] → outcome_told answer ≡ outcome → AppliesEach (take k is) m answers next → Applies (get_or is k d) next (outcome, left) → AppliesEach (take (k + 1) is) m more left
+pub applies_one_more : (is : List Parsed) (k : ℕ) (d : Parsed) (m next left : Holdings) (answers more : List Answer) (answer : Answer) (outcome : Outcome) → k < length is → more ≡ answers ++ answer ∷ [] → outcome_told answer ≡ outcome → AppliesEach (take k is) m answers next → Applies (get_or is k d) next (outcome, left) → AppliesEach (take (k + 1) is) m more left
 applies_one_more is k d m next left answers more answer outcome inside grown told before one =
     let i = get_or is k d in
     let P : Outcome → Type 0 = λ o. Applies i next (o, left) in
-    let Q : List Instruction → Type 0 = λ l. AppliesEach l m (answers ++ answer ∷ []) left in
+    let Q : List Parsed → Type 0 = λ l. AppliesEach l m (answers ++ answer ∷ []) left in
     let R : List Answer → Type 0 = λ a. AppliesEach (take (k + 1) is) m a left in
     subst R (sym grown) (subst Q (sym (take_more is k d inside)) (AppliesEach-push (take k is) i m next left answers answer before (subst P (sym told) one)))

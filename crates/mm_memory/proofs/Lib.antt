@@ -3,3 +3,4 @@ pub mod PlaceLemmas
 pub mod IdLemmas
 pub mod ApplyLemmas
 pub mod ReportLemmas
+pub mod LawLemmas

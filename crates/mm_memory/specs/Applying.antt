@@ -1,7 +1,5 @@
 -- Applying an instruction, and a request, which is its instructions in order.
-use Rattle.std.specs.Prelude.{◌≡◌, ◌⊎◌, ℕ, Bool, not, nat_lt, ◌==◌, if◌then◌else◌, List, [], ◌∷◌, ◌++◌, length, filter, Option, Some, None, Ok, Err}
-use Rattle.mm_base.specs.declared.kind.Kind.{Kind}
-use Rattle.mm_base.specs.declared.kind.Kind.TheVariants.{Circular, Bounded}
+use Rattle.std.specs.Prelude.{◌≡◌, ◌⊎◌, ℕ, Bool, not, nat_lt, if◌then◌else◌, List, [], ◌∷◌, ◌++◌, length, filter, Option, Some, None, Ok, Err}
 use Rattle.mm_base.specs.declared.limits.TheConstants.{MAX_STORES}
 use Rattle.mm_base.specs.declared.rows.RouteRow.{RouteRow}
 use Rattle.mm_store.specs.Content.{empty_store}
@@ -13,27 +11,24 @@ use Rattle.mm_st15.specs.declared.report_entry.Row.{Row}
 use Rattle.mm_memory.specs.declared.answer.Answer.{Answer}
 use Rattle.mm_memory.specs.declared.answer.Answer.TheVariants.{Done, Refused}
 use Rattle.mm_memory.specs.declared.fault.Fault.{Fault}
-use Rattle.mm_memory.specs.declared.fault.Fault.TheVariants.{NoMemory, BadId, NoSuchStore, Exists, TooManyStores, Control}
+use Rattle.mm_memory.specs.declared.fault.Fault.TheVariants.{NoMemory, NoSuchStore, Exists, TooManyStores, Control}
 use Rattle.mm_memory.specs.declared.held.Held.{Held}
-use Rattle.mm_memory.specs.declared.instruction.Instruction.{Instruction}
 use Rattle.mm_memory.specs.declared.instruction.Form.{Form}
 use Rattle.mm_memory.specs.declared.instruction.Action.{Action}
-use Rattle.mm_memory.specs.declared.instruction.Action.TheVariants.{Create, Delete, AddRoute, DeleteRoute, Report, Change as Changes}
+use Rattle.mm_memory.specs.declared.instruction.Action.TheVariants.{Create, Delete, Route, Report, Change as Changes}
+use Rattle.mm_memory.specs.declared.instruction.RouteChange.{RouteChange}
+use Rattle.mm_memory.specs.declared.instruction.RouteChange.TheVariants.{Add, Delete as DeleteRow}
 use Rattle.mm_memory.specs.Acting.{Outcome, refusal_of, done_or, act, TakesMemory}
 use Rattle.mm_memory.specs.Holdings.{Holdings, has_id, store_of, with_changed}
-use Rattle.mm_memory.specs.Instruction.{is_id, tested}
+use Rattle.mm_memory.specs.Instruction.{Parsed}
 
 -- the row that a report type is for a store
 abbrev pub route_to : List ℕ → Row → RouteRow
 route_to id row = record { apid = row.apid; service = row.service; subtype = row.subtype; store = id }
 
--- the kind with a code, which is 0 or 1
-abbrev pub kind_of : ℕ → Kind
-kind_of code = if code == 0 then Circular else Bounded
-
 -- a new store: empty, and its storage off
 abbrev pub new_store : List ℕ → Form → Held
-new_store id form = record { id = id; channel = form.channel; state = opening (empty_store (kind_of form.kind) form.size) }
+new_store id form = record { id = id; channel = form.channel; state = opening (empty_store form.kind form.size) }
 
 -- the stores without the one with this identifier
 abbrev pub without : List ℕ → List Held → List Held
@@ -60,12 +55,16 @@ deleted id h m = done_or (refusal_of (rest_fault h.state)) (record { stores = wi
 abbrev pub changed : List ℕ → Outcome × Held → Holdings → Outcome × Holdings
 changed id left m = (left.0, record m { stores = with_changed id (λ _. left.1) m.stores })
 
+-- a row is added to the storage control, or deleted
+abbrev pub routed : RouteChange → RouteRow → Holdings → Outcome × Holdings
+routed Add row m = done_or (done_if (takes row m.routes) (Control TableFull)) (record m { routes = with_row row m.routes }) m
+routed DeleteRow row m = done_or (done_if (has_row row m.routes) (Control NoSuchRoute)) (record m { routes = without_row row m.routes }) m
+
 -- an action for a store that is there
 abbrev pub on_store : List ℕ → Action → Held → Holdings → Outcome × Holdings
 on_store id (Create form) h m = (Err Exists, m)
 on_store id Delete h m = deleted id h m
-on_store id (AddRoute row) h m = done_or (done_if (takes (route_to id row) m.routes) (Control TableFull)) (record m { routes = with_row (route_to id row) m.routes }) m
-on_store id (DeleteRoute row) h m = done_or (done_if (has_row (route_to id row) m.routes) (Control NoSuchRoute)) (record m { routes = without_row (route_to id row) m.routes }) m
+on_store id (Route change row) h m = routed change (route_to id row) m
 on_store id Report h m = (Ok tt, m)
 on_store id (Changes change) h m = changed id (act change h) m
 
@@ -74,14 +73,10 @@ abbrev pub for_store : List ℕ → Action → Option Held → Holdings → Outc
 for_store id action (Some h) m = on_store id action h m
 for_store id action None m = on_no_store id action m
 
--- an action whose fields were tested
-abbrev pub for_tested : Outcome → List ℕ → Action → Holdings → Outcome × Holdings
-for_tested (Ok passed) id action m = for_store id action (store_of id m.stores) m
-for_tested (Err reason) id action m = (Err reason, m)
-
 -- the outcome of an instruction, and the memory that it leaves
-abbrev pub apply : Instruction → Holdings → Outcome × Holdings
-apply i m = if is_id i.id then for_tested (tested i.action) i.id i.action m else (Err BadId, m)
+abbrev pub apply : Parsed → Holdings → Outcome × Holdings
+apply (Ok i) m = for_store i.id i.action (store_of i.id m.stores) m
+apply (Err reason) m = (Err reason, m)
 
 -- an action that may find no memory, for the store with this identifier, where there is one
 abbrev pub MayLack : Action → Option Held → Type 0
@@ -95,9 +90,14 @@ abbrev pub ComesUnlessNoMemory : {A : Type 0} → Type 0 → Outcome × A → A 
 ComesUnlessNoMemory Lacks wanted before came =
     (came ≡ wanted) ⊎ (Lacks × (wanted.0 ≡ Ok tt) × (came ≡ (Err NoMemory, before)))
 
+-- an instruction that may find no memory
+abbrev pub LacksMemory : Parsed → Holdings → Type 0
+LacksMemory (Ok i) m = MayLack i.action (store_of i.id m.stores)
+LacksMemory (Err reason) m = ⊥
+
 -- an instruction is applied
-abbrev pub Applies : Instruction → Holdings → Outcome × Holdings → Type 0
-Applies i m came = ComesUnlessNoMemory (MayLack i.action (store_of i.id m.stores)) (apply i m) m came
+abbrev pub Applies : Parsed → Holdings → Outcome × Holdings → Type 0
+Applies i m came = ComesUnlessNoMemory (LacksMemory i m) (apply i m) m came
 
 -- an answer tells an outcome
 abbrev pub outcome_told : Answer → Outcome
@@ -105,7 +105,7 @@ outcome_told Done = Ok tt
 outcome_told (Refused reason) = Err reason
 
 -- instructions are applied in order, each by itself, with one answer for each
-abbrev pub AppliesEach : List Instruction → Holdings → List Answer → Holdings → Type 0
+abbrev pub AppliesEach : List Parsed → Holdings → List Answer → Holdings → Type 0
 AppliesEach [] m [] left = left ≡ m
 AppliesEach [] m (answer ∷ answers) left = ⊥
 AppliesEach (i ∷ is) m [] left = ⊥

@@ -7,3 +7,4 @@ pub mod Instruction
 pub mod Acting
 pub mod Applying
 pub mod Reports
+pub mod Laws

@@ -1,43 +1,32 @@
 //! Applying requests to a memory.
-ghost use Rattle.std.specs.Prelude.{◌≡◌, ◌<◌, ◌≤◌, [], length, vec_capacity, Some, None, All, IfOk, OnErr, MatchOption};
-ghost use Rattle.mm_memory.specs.Applying.{kind_of, new_store, without, created, deleted, changed, on_store, on_no_store, ComesUnlessNoMemory, Applies, AppliesEach, MayLack, route_to};
+ghost use Rattle.std.specs.Prelude.{◌≡◌, ◌<◌, ◌≤◌, [], length, vec_capacity, Some, None, Ok, All, IfOk, OnErr, MatchOption};
+ghost use Rattle.mm_memory.specs.Applying.{new_store, without, created, deleted, changed, routed, on_store, on_no_store, ComesUnlessNoMemory, Applies, AppliesEach, MayLack, route_to};
 ghost use Rattle.mm_memory.specs.Acting.{act, TakesMemory};
 ghost use Rattle.mm_control.specs.Routes.{without_store};
 ghost use Rattle.mm_memory.specs.Holdings.{StandsAt, store_of};
 ghost use Rattle.mm_st15.specs.Report.{HasCount};
 ghost use Rattle.mm_st15.specs.Request.{count_of};
 ghost use Rattle.mm_memory.specs.Reports.{reports_on};
-ghost use Rattle.mm_memory.specs.Instruction.{instructions_of, HasGoodForm, HasGoodChange, HasGoodFields};
+ghost use Rattle.mm_memory.specs.Instruction.{instructions_of};
 
 use crate::answer::{Answer, Answers};
-use crate::fault::{Fault, NoMemory};
+use crate::fault::Fault;
 use crate::held::Held;
-use crate::instruction::{Action, Change, Form, Instruction, id_of};
+use crate::instruction::{Action, Change, Form, Instruction, RouteChange};
 use crate::memory::Memory;
 use crate::places::place_of;
 use crate::request::instructions_of;
+use mm_base::{MAX_STORES, NoMemory, RouteRow, StoreId};
 use mm_desk::StoreState;
-use mm_problem::{Kind, MAX_STORES, RouteRow, StoreId};
 use mm_st15::{Request, Row};
 use mm_store::AnyStore;
 use std::alloc::Global;
 
-fn kind_of(code: u8) -> Kind
-    ensures { result ≡ kind_of code }
-{
-    if code == 0 {
-        Kind::Circular
-    } else {
-        Kind::Bounded
-    }
-}
-
 // A new store, empty, with its storage off.
 fn new_store(alloc: Global, id: StoreId, form: &Form) -> Result<Held, NoMemory>
-    requires { HasGoodForm form.now }
     ensures { IfOk result (λ held. held ≡ new_store id form.now) }
 {
-    let store = AnyStore::new(alloc, kind_of(form.kind), form.size)?;
+    let store = AnyStore::new(alloc, form.kind, form.size.count())?;
     Ok(Held {
         id,
         channel: form.channel,
@@ -67,8 +56,7 @@ impl Memory {
 
     // Creates a store that is not there.
     fn create(&mut self, alloc: Global, id: StoreId, form: &Form) -> Result<(), Fault>
-        requires good { HasGoodForm form.now }
-        requires absent { store_of id self.old.stores ≡ None }
+        requires { store_of id self.old.stores ≡ None }
         ensures { ComesUnlessNoMemory (Unit {0}) (created id form.now self.old)
             self.old (result, self.new) }
     {
@@ -104,8 +92,7 @@ impl Memory {
 
     // Changes the store at this place.
     fn change(&mut self, place: usize, id: &StoreId, change: &Change) -> Result<(), Fault>
-        requires place { StandsAt id.now self.old.stores place }
-        requires good { HasGoodChange change.now }
+        requires { StandsAt id.now self.old.stores place }
         ensures { (h : Held) → store_of id.now self.old.stores ≡ Some h
             → ComesUnlessNoMemory (TakesMemory change.now h)
             (changed id.now (act change.now h) self.old) self.old (result, self.new) }
@@ -113,10 +100,20 @@ impl Memory {
         self.stores[place].change(change)
     }
 
+    // Changes the storage control by a row.
+    fn route(&mut self, change: RouteChange, row: RouteRow) -> Result<(), Fault>
+        ensures { routed change row self.old ≡ (result, self.new) }
+    {
+        match change {
+            RouteChange::Add => self.control.add(row)?,
+            RouteChange::Delete => self.control.delete(row)?,
+        }
+        Ok(())
+    }
+
     // Applies an action to the store at this place.
     fn on_store(&mut self, place: usize, id: &StoreId, action: &Action) -> Result<(), Fault>
-        requires place { StandsAt id.now self.old.stores place }
-        requires good { HasGoodFields action.now }
+        requires { StandsAt id.now self.old.stores place }
         ensures { (h : Held) → store_of id.now self.old.stores ≡ Some h
             → ComesUnlessNoMemory (MayLack action.now (Some h))
             (on_store id.now action.now h self.old) self.old (result, self.new) }
@@ -124,14 +121,7 @@ impl Memory {
         match action {
             Action::Create(_) => Err(Fault::Exists),
             Action::Delete => self.delete(place, id),
-            Action::AddRoute(row) => {
-                self.control.add(route_to(*id, row))?;
-                Ok(())
-            }
-            Action::DeleteRoute(row) => {
-                self.control.delete(route_to(*id, row))?;
-                Ok(())
-            }
+            Action::Route(change, row) => self.route(*change, route_to(*id, row)),
             Action::Report => Ok(()),
             Action::Change(change) => self.change(place, id, change),
         }
@@ -139,8 +129,7 @@ impl Memory {
 
     // Applies an action for a store that is not there.
     fn on_no_store(&mut self, alloc: Global, id: StoreId, action: &Action) -> Result<(), Fault>
-        requires absent { store_of id self.old.stores ≡ None }
-        requires good { HasGoodFields action.now }
+        requires { store_of id self.old.stores ≡ None }
         ensures { ComesUnlessNoMemory (MayLack action.now None) (on_no_store id action.now self.old)
             self.old (result, self.new) }
     {
@@ -150,30 +139,43 @@ impl Memory {
         }
     }
 
-    // Applies an instruction.
-    pub(crate) fn carry_out(
+    // Carries out an instruction.
+    fn carry_out(&mut self, alloc: Global, instruction: &Instruction) -> Result<(), Fault>
+        ensures { Applies (Ok instruction.now) self.old (result, self.new) }
+    {
+        match self.place(&instruction.id) {
+            Some(place) => self.on_store(place, &instruction.id, &instruction.action),
+            None => self.on_no_store(alloc, instruction.id, &instruction.action),
+        }
+    }
+
+    // Applies an instruction, or answers the test that it fails.
+    fn apply_one(
         &mut self,
         alloc: Global,
-        instruction: &Instruction,
+        instruction: &Result<Instruction, Fault>,
     ) -> Result<(), Fault>
         ensures { Applies instruction.now self.old (result, self.new) }
     {
-        let id = id_of(instruction.id)?;
-        instruction.action.test()?;
-        match self.place(&id) {
-            Some(place) => self.on_store(place, &id, &instruction.action),
-            None => self.on_no_store(alloc, id, &instruction.action),
+        match instruction {
+            Ok(instruction) => self.carry_out(alloc, instruction),
+            Err(fault) => Err(*fault),
         }
     }
 
     // Applies instructions in order, each by itself.
-    fn answers(&mut self, alloc: Global, instructions: &[Instruction], each: &mut Vec<Answer>)
+    fn answers(
+        &mut self,
+        alloc: Global,
+        instructions: &[Result<Instruction, Fault>],
+        each: &mut Vec<Answer>,
+    )
         requires none { each.old.items ≡ [] }
         requires room { length instructions.now ≤ vec_capacity each.old }
         ensures { AppliesEach instructions.now self.old each.new.items self.new }
     {
         for instruction in instructions {
-            let outcome = self.carry_out(alloc, instruction);
+            let outcome = self.apply_one(alloc, instruction);
             each.push_reserved(Answer::of(outcome));
         }
     }

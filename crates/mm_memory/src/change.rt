@@ -2,7 +2,6 @@
 ghost use Rattle.std.specs.Prelude.{◌≡◌};
 ghost use Rattle.mm_memory.specs.Acting.{act, TakesMemory};
 ghost use Rattle.mm_memory.specs.Applying.{ComesUnlessNoMemory};
-ghost use Rattle.mm_memory.specs.Instruction.{HasGoodChange};
 
 use crate::fault::Fault;
 use crate::held::Held;
@@ -11,7 +10,6 @@ use crate::instruction::Change;
 impl Held {
     // Changes the store, which keeps its identifier.
     pub(crate) fn change(&mut self, change: &Change) -> Result<(), Fault>
-        requires { HasGoodChange change.now }
         ensures done { ComesUnlessNoMemory (TakesMemory change.now self.old) (act change.now self.old)
             self.old (result, self.new) }
         ensures same_id { self.new.id ≡ self.old.id }
@@ -38,7 +36,7 @@ impl Held {
                 Ok(())
             }
             Change::Resize(size) => {
-                self.state.resize(*size)?;
+                self.state.resize(size.count())?;
                 Ok(())
             }
             Change::SetKind(kind) => {

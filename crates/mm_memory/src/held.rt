@@ -1,7 +1,7 @@
 //! Named packet stores.
 
+use mm_base::StoreId;
 use mm_desk::StoreState;
-use mm_problem::StoreId;
 
 /// A packet store of the memory: its identifier, the virtual channel that it is sent on, and its
 /// state.

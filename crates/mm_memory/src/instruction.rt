@@ -1,16 +1,17 @@
-//! The instructions of requests, one by one, and the tests of their fields.
-ghost use Rattle.std.specs.Prelude.{◌≡◌, is_ok, IfOk, IfErr};
-ghost use Rattle.mm_memory.specs.Instruction.{is_id, code_tested, size_tested, form_tested, change_tested, tested, HasGoodForm, HasGoodSize, HasGoodChange, HasGoodFields};
-ghost use Rattle.mm_memory.specs.declared.fault.Fault.TheVariants.{BadId};
+//! Instructions, whose fields were tested.
+ghost use Rattle.std.specs.Prelude.{◌≡◌, ◌≤◌, IfOk};
+ghost use Rattle.mm_base.specs.declared.limits.TheConstants.{MAX_BLOCKS};
+ghost use Rattle.mm_memory.specs.Instruction.{size_tested};
 
 use crate::fault::Fault;
-use mm_problem::{Kind, MAX_APID, MAX_BLOCKS, MAX_CHANNEL, StoreId};
+use mm_base::{Kind, MAX_BLOCKS, StoreId};
 use mm_st15::Row;
+use std::marker::Model;
 
-// One instruction: the octets that are to name a store, and what is asked of it.
+// One instruction: the store that it names, and what is asked of it.
 #[derive(Clone, Copy, Debug, PartialEq, Eq)]
 pub(crate) struct Instruction {
-    pub(crate) id: [u8; 8],
+    pub(crate) id: StoreId,
     pub(crate) action: Action,
 }
 
@@ -21,20 +22,26 @@ pub(crate) enum Action {
     Create(Form),
     // Delete it.
     Delete,
-    // Add a report type to its storage control, or delete one.
-    AddRoute(Row),
-    DeleteRoute(Row),
+    // Change its storage control by a report type.
+    Route(RouteChange, Row),
     // Report on it.
     Report,
     // Change it.
     Change(Change),
 }
 
-// A store to be created: its size in blocks, its type (0 circular, 1 bounded) and its channel.
+// Whether a report type is added to the storage control, or deleted.
+#[derive(Clone, Copy, Debug, PartialEq, Eq)]
+pub(crate) enum RouteChange {
+    Add,
+    Delete,
+}
+
+// A store to be created.
 #[derive(Clone, Copy, Debug, PartialEq, Eq)]
 pub(crate) struct Form {
-    pub(crate) size: u32,
-    pub(crate) kind: u8,
+    pub(crate) size: Blocks,
+    pub(crate) kind: Kind,
     pub(crate) channel: u8,
 }
 
@@ -50,84 +57,45 @@ pub(crate) enum Change {
     // Delete content up to a storage time.
     DeleteContent(u64),
     // Set the size, the kind or the virtual channel.
-    Resize(u32),
+    Resize(Blocks),
     SetKind(Kind),
     SetChannel(u8),
 }
 
-// The identifier that these octets are.
-pub(crate) fn id_of(octets: [u8; 8]) -> Result<StoreId, Fault>
-    ensures found { is_ok result ≡ is_id octets }
-    ensures id { IfOk result (λ id. id ≡ octets) }
-    ensures bad { IfErr result (λ e. e ≡ BadId) }
-{
-    match StoreId::of_field(octets) {
-        Ok(id) => Ok(id),
-        Err(_) => Err(Fault::BadId),
-    }
+// The size of a store in blocks, which is in its range. Contracts see it as a number.
+#[derive(Clone, Copy, Debug, PartialEq, Eq)]
+pub(crate) struct Blocks(u32);
+
+impl Model for Blocks {
+    ghost use Rattle.std.specs.Prelude.{ℕ, ◌≤◌};
+    ghost use Rattle.mm_base.specs.declared.limits.TheConstants.{MAX_BLOCKS};
+
+    ghost Value = { ℕ };
+
+    ghost view = { λ a. a.0 };
+
+    ghost invariant = { λ a. (1 ≤ a.0) × (a.0 ≤ MAX_BLOCKS) };
+
+    ghost inverse = { λ n. record { 0 = n } };
 }
 
-// A type, a virtual channel or an APID that is not allowed is `BadEnum`.
-fn test_code(code: u16, greatest: u16) -> Result<(), Fault>
-    ensures { result ≡ code_tested code greatest }
-{
-    if code > greatest {
-        Err(Fault::BadEnum)
-    } else {
-        Ok(())
-    }
-}
-
-fn test_size(size: u32) -> Result<(), Fault>
-    ensures tested { result ≡ size_tested size }
-    ensures good { IfOk result (λ _. HasGoodSize size) }
-{
-    if size == 0 || size > MAX_BLOCKS {
-        Err(Fault::BadSize)
-    } else {
-        Ok(())
-    }
-}
-
-impl Form {
-    fn test(&self) -> Result<(), Fault>
-        ensures tested { result ≡ form_tested self.now }
-        ensures good { IfOk result (λ _. HasGoodForm self.now) }
+impl Blocks {
+    // The size, where it is in its range.
+    pub(crate) fn of(size: u32) -> Result<Blocks, Fault>
+        ensures { result ≡ size_tested size }
     {
-        test_code(u16::from(self.kind), 1)?;
-        test_code(u16::from(self.channel), u16::from(MAX_CHANNEL))?;
-        test_size(self.size)
-    }
-}
-
-impl Change {
-    fn test(&self) -> Result<(), Fault>
-        ensures tested { result ≡ change_tested self.now }
-        ensures good { IfOk result (λ _. HasGoodChange self.now) }
-    {
-        match self {
-            Change::Resize(size) => test_size(*size),
-            Change::SetChannel(channel) => {
-                test_code(u16::from(*channel), u16::from(MAX_CHANNEL))
-            }
-            _ => Ok(()),
+        if size == 0 || size > MAX_BLOCKS {
+            Err(Fault::BadSize)
+        } else {
+            Ok(Blocks(size))
         }
     }
-}
 
-impl Action {
-    // Tests the fields, but for the identifier.
-    pub(crate) fn test(&self) -> Result<(), Fault>
-        ensures tested { result ≡ tested self.now }
-        ensures good { IfOk result (λ _. HasGoodFields self.now) }
+    pub(crate) fn count(self) -> u32
+        ensures value { result ≡ self }
+        ensures at_least { 1 ≤ result }
+        ensures at_most { result ≤ MAX_BLOCKS }
     {
-        match self {
-            Action::Create(form) => form.test(),
-            Action::AddRoute(row) => test_code(row.apid, MAX_APID),
-            Action::DeleteRoute(row) => test_code(row.apid, MAX_APID),
-            Action::Change(change) => change.test(),
-            Action::Delete => Ok(()),
-            Action::Report => Ok(()),
-        }
+        self.0
     }
 }

@@ -7,16 +7,19 @@ mod change;
 mod fault;
 mod held;
 mod instruction;
+pub mod laws;
 mod memory;
 mod places;
 mod reports;
 mod request;
 mod setup;
+mod testing;
 
 pub use answer::{Answer, Answers};
-pub use fault::{Fault, NoMemory};
+pub use fault::Fault;
 pub use held::Held;
 pub use memory::Memory;
+pub use mm_base::NoMemory;
 
 #[cfg(test)]
 mod tests;

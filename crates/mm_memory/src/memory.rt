@@ -3,13 +3,13 @@ ghost use Rattle.std.specs.Prelude.{◌≡◌, [], IfOk, slice_get};
 ghost use Rattle.std.specs.Option.{option_copied, option_copied_mut, option_map};
 ghost use Rattle.mm_memory.specs.Holdings.{AreHeld, memory_of, store_of, state_of};
 
-use crate::fault::NoMemory;
 use crate::held::Held;
 use crate::places::place_of;
 use crate::setup::{control_of, stores_of};
+use mm_base::{NoMemory, StoreId};
 use mm_control::ControlTable;
 use mm_desk::StoreState;
-use mm_problem::{Setup, StoreId};
+use mm_problem::Setup;
 use std::alloc::Global;
 use std::marker::Model;
 use std::mem;

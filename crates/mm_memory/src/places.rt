@@ -3,7 +3,7 @@ ghost use Rattle.std.specs.Prelude.{◌≡◌, None, MatchOption};
 ghost use Rattle.mm_memory.specs.Holdings.{StandsAt, store_of};
 
 use crate::held::Held;
-use mm_problem::StoreId;
+use mm_base::StoreId;
 
 // The place of the store with this identifier.
 pub(crate) fn place_of(stores: &[Held], id: &StoreId) -> Option<usize>

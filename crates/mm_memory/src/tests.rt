@@ -1,6 +1,7 @@
 use super::*;
+use mm_base::{Kind, Refused, RouteRow, StoreId};
 use mm_packet::{Header, Octets, Packet, TELECOMMAND_BODY};
-use mm_problem::{Kind, RouteRow, Setup, StoreId};
+use mm_problem::Setup;
 use mm_st15::Request;
 use mm_store::PacketStore;
 use std::alloc::Global;
@@ -129,6 +130,7 @@ fn routes_of_setup(rt: HostRuntime) {
         subtype: 25,
         store: sci,
     };
+    laws::table_has_the_setup_s_routes();
     let control = memory.control();
     assert_eq!(rt; control.list(), [row].as_slice());
     let stores = control.stores_for(alloc, 100, 3, 25).expect(&rt, "memory");
@@ -144,6 +146,7 @@ fn lifted_stores_are_put_back(rt: HostRuntime) {
     let stores = memory.lift();
     assert_eq!(rt; (stores.len(), memory.entry(0)), (2, None));
     assert_eq!(rt; memory.control().list().len(), 1);
+    laws::identifiers_decide_what_is_restored();
     memory.restore(stores);
     assert_eq!(rt; memory.entry(0), Some((sci, 0)));
     assert_eq!(rt; shape(&memory, &sci), Some((Kind::Bounded, 4, 0, true)));

@@ -9,9 +9,9 @@ abbrev pub refusal_of : Fault → Refusal
 refusal_of NoMemory = refusal.NoMemory
 refusal_of Short = refusal.Short
 refusal_of Version = refusal.Version
-refusal_of NoSecondaryHeader = refusal.NoSecondaryHeader
-refusal_of PusVersion = refusal.PusVersion
-refusal_of Segmented = refusal.Segmented
 refusal_of Idle = refusal.IdlePacket
+refusal_of NoSecondaryHeader = refusal.NoSecondaryHeader
+refusal_of Segmented = refusal.Segmented
 refusal_of HeaderCut = refusal.HeaderCut
+refusal_of PusVersion = refusal.PusVersion
 refusal_of TooLong = refusal.TooLong

@@ -1,6 +1,7 @@
 -- The two headers at the front of some octets, field by field.
 use Rattle.std.specs.Prelude.{ℕ, ◌/◌, ◌%◌, ◌^◌, ◌<◌, Bool, true, false, ◌==◌, not, List, ◌∷◌, ◌++◌, Option, Some, None, if◌then◌else◌}
 use Rattle.std.specs.Int.{w16, w64, to_be_bytes}
+use Rattle.mm_base.specs.Options.{◌>>=◌}
 use Rattle.mm_packet.specs.declared.fault.Fault.{Fault}
 use Rattle.mm_packet.specs.declared.fault.Fault.TheVariants.{Version, Idle, NoSecondaryHeader, Segmented}
 use Rattle.mm_packet.specs.declared.header.TheConstants.{IDLE_APID}
@@ -11,12 +12,6 @@ use Rattle.mm_packet.specs.declared.reading.Secondary.{Secondary}
 use Rattle.mm_packet.specs.Packet.{FitsType}
 use Rattle.mm_packet.specs.Spelling.{type_fields}
 use Rattle.mm_packet.specs.Number.{front_octet, number_at}
-
--- the next field, where the octets have not ended yet
-infixl 10 ◌>>=◌
-abbrev pub ◌>>=◌ : {A B : Type 0} → Option A → (A → Option B) → Option B
-None >>= f = None
-(Some x) >>= f = f x
 
 -- the three numbers of a primary header
 unfoldable pub primary_at : List ℕ → Option (Primary × List ℕ)

@@ -1,6 +1,7 @@
 ghost use Rattle.std.specs.Prelude.{◌≡◌, ◌<◌, ◌≤◌, ◌^◌, length};
 
 use super::*;
+use mm_base::Refused;
 use std::alloc::Global;
 use std::process::Abort;
 use std::test::Fail;

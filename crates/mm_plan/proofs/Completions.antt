@@ -29,15 +29,15 @@ pub record Leads (d : DraftRows) : Type 0 where
 -- the draft of a whole sheet is the sheet's
 pub whole_is_sheet : (b : Bool) (s : SheetRows) → IsRows s → IsWhole b s → IsSheet s
 whole_is_sheet b s rows at = record {
-  stores = rows.stores;
-  steps = rows.steps;
-  cut = rows.cut;
-  counts = rows.counts;
-  same_stores = rows.same_stores;
-  plan = record { has_store = omega (arith, at.has_store, rows.same_stores); has_step = at.has_step; table = rows.table; each = rows.each_amount };
-  each_store = rows.each_store;
-  each_stretch = rows.each_stretch;
-  each_count = rows.each_count;
+  stores = rows.dumps.stores;
+  steps = rows.dumps.steps;
+  cut = rows.listed.cut;
+  counts = rows.listed.counts;
+  same_stores = rows.dumps.same_stores;
+  plan = record { has_store = omega (arith, at.has_store, rows.dumps.same_stores); has_step = at.has_step; table = rows.dumps.table; each = rows.dumps.each_amount };
+  each_store = rows.dumps.each_store;
+  each_stretch = rows.listed.each_stretch;
+  each_count = rows.listed.each_count;
   loss = rows.loss;
   bound = rows.bound;
 }
@@ -134,7 +134,7 @@ leads_dumps b s rows at = elim (cases_Bool (nat_lt 0 s.plan.steps)) [
       let row = replicate (length s.stores) 0 in
       let width : length row ≡ length s.stores = length-replicate {A = ℕ} (length s.stores) 0 in
       leads_more (at_stage ToDumps b s) (dump_line (s.plan.steps + 1) row)
-      (omega (arith, blank), omega (arith, rows.stores, width), All-replicate (λ n. n ≤ MAX_BLOCKS) (length s.stores) 0 (omega arith))
+      (omega (arith, blank), omega (arith, rows.dumps.stores, width), All-replicate (λ n. n ≤ MAX_BLOCKS) (length s.stores) 0 (omega arith))
       rows at (ap (λ c. c && (length row == length s.stores)) (eq_of (s.plan.steps + 1) (s.plan.steps + 1) refl) ∙ eq_of (length row) (length s.stores) width)
       (λ more. leads_dumped b (record s { plan = record { stores = s.plan.stores; steps = s.plan.steps + 1; amounts = s.plan.amounts ++ row } }) more.rows more.at (sym (has_more s.plan.steps)))
 ]
@@ -188,9 +188,9 @@ few_upto_counts b s rows =
     let counts = length-map s.by_channels count_line in
     omega (
       arith,
-      rows.steps,
-      rows.cut,
-      rows.counts,
+      rows.dumps.steps,
+      rows.listed.cut,
+      rows.listed.counts,
       dumps,
       cut,
       counts,
@@ -203,7 +203,7 @@ few_upto_counts b s rows =
 few_so_far : (stage : Stage) (b : Bool) (s : SheetRows) → IsRows s → length (so_far stage b s) ≤ 4613
 few_so_far ToTitle b s rows = omega arith
 few_so_far ToStores b s rows = omega arith
-few_so_far ToDumps b s rows = omega (arith, rows.steps, length-dump_lines s.plan.stores 1 s.plan.steps s.plan.amounts)
+few_so_far ToDumps b s rows = omega (arith, rows.dumps.steps, length-dump_lines s.plan.stores 1 s.plan.steps s.plan.amounts)
 few_so_far ToCut b s rows = omega (arith, few_upto_counts b s rows)
 few_so_far ToEnd b s rows = omega (arith, few_upto_counts b s rows, length-append (upto_counts b s) (bound_line s.bound ∷ []))
 few_so_far Done b s rows =

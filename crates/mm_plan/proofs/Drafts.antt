@@ -12,6 +12,7 @@ use Rattle.mm_plan.specs.declared.stretch.Stretch.{Stretch}
 use Rattle.mm_plan.specs.declared.stretch.TheConstants.{MAX_STRETCHES, MAX_COUNTS}
 use Rattle.mm_plan.specs.declared.draft.Stage.{Stage}
 use Rattle.mm_plan.specs.declared.draft.Stage.TheVariants.{ToTitle, ToStores, ToDumps, ToCut, ToEnd, Done}
+use Rattle.mm_plan.specs.Table.{Table}
 use Rattle.mm_plan.specs.Sheet.{SheetRows, IsWritten, Line, title_line, stores_line, dump_line, loss_line, stretch_line, count_line, bound_line, end_line, dump_lines, has_counts}
 use Rattle.mm_plan.specs.Reading.{may_follow, next_stage, second_after, rows_after}
 use Rattle.mm_plan.proofs.Lines.{IsLine}
@@ -37,18 +38,26 @@ so_far ToCut b s = upto_counts b s
 so_far ToEnd b s = upto_counts b s ++ bound_line s.bound ∷ []
 so_far Done b s = upto_counts b s ++ bound_line s.bound ∷ [] ++ end_line ∷ []
 
+-- the stores and their dumps are within the limits
+pub record AreDumps (ids : List (List ℕ)) (plan : Table) : Type 0 where
+  pub stores : length ids ≤ MAX_STORES
+  pub steps : plan.steps ≤ MAX_STEPS
+  pub same_stores : plan.stores ≡ length ids
+  pub table : length plan.amounts ≡ plan.steps * plan.stores
+  pub each_amount : All (λ n. n ≤ MAX_BLOCKS) plan.amounts
+  pub each_store : All IsIdField ids
+
+-- the stretches and the counts are within the limits
+pub record AreListed (ds : List Stretch) (ts : List ℕ) : Type 0 where
+  pub cut : length ds ≤ MAX_STRETCHES
+  pub counts : length ts ≤ MAX_COUNTS
+  pub each_stretch : All IsWritten ds
+  pub each_count : All (λ t. t < 2 ^ 32) ts
+
 -- what holds of the rows at every stage
 pub record IsRows (s : SheetRows) : Type 0 where
-  pub stores : length s.stores ≤ MAX_STORES
-  pub steps : s.plan.steps ≤ MAX_STEPS
-  pub cut : length s.cut ≤ MAX_STRETCHES
-  pub counts : length s.by_channels ≤ MAX_COUNTS
-  pub same_stores : s.plan.stores ≡ length s.stores
-  pub table : length s.plan.amounts ≡ s.plan.steps * s.plan.stores
-  pub each_amount : All (λ n. n ≤ MAX_BLOCKS) s.plan.amounts
-  pub each_store : All IsIdField s.stores
-  pub each_stretch : All IsWritten s.cut
-  pub each_count : All (λ t. t < 2 ^ 32) s.by_channels
+  pub dumps : AreDumps s.stores s.plan
+  pub listed : AreListed s.cut s.by_channels
   pub loss : s.loss < 2 ^ 64
   pub bound : FitsSigned w64 s.bound
 
@@ -156,16 +165,15 @@ added_stores b s ids line rows blank may =
     let none : length s.plan.amounts ≡ 0 = ap length blank.amounts in
     record {
       rows = record {
-        stores = line.0;
-        steps = rows.steps;
-        cut = rows.cut;
-        counts = rows.counts;
-        same_stores = refl;
-        table = empty_table (length s.plan.amounts) s.plan.steps (length ids) none blank.steps;
-        each_amount = rows.each_amount;
-        each_store = line.1;
-        each_stretch = rows.each_stretch;
-        each_count = rows.each_count;
+        dumps = record {
+          stores = line.0;
+          steps = rows.dumps.steps;
+          same_stores = refl;
+          table = empty_table (length s.plan.amounts) s.plan.steps (length ids) none blank.steps;
+          each_amount = rows.dumps.each_amount;
+          each_store = line.1;
+        };
+        listed = rows.listed;
         loss = rows.loss;
         bound = rows.bound;
       };
@@ -189,26 +197,25 @@ added_dump b s t xs line rows uncut may =
     let p = dump_follows s t xs may in
     let is_next : t ≡ suc s.plan.steps = omega (arith, p.0) in
     let number : 1 + s.plan.steps ≡ t = omega (arith, p.0) in
-    let width : length xs ≡ s.plan.stores = p.1 ∙ sym rows.same_stores in
+    let width : length xs ≡ s.plan.stores = p.1 ∙ sym rows.dumps.same_stores in
     record {
       rows = record {
-        stores = rows.stores;
-        steps = line.0;
-        cut = rows.cut;
-        counts = rows.counts;
-        same_stores = rows.same_stores;
-        table = length-append s.plan.amounts xs ∙ wider s.plan.steps s.plan.stores t (length s.plan.amounts) (length xs) is_next rows.table width;
-        each_amount = All-append (λ n. n ≤ MAX_BLOCKS) s.plan.amounts xs rows.each_amount line.2;
-        each_store = rows.each_store;
-        each_stretch = rows.each_stretch;
-        each_count = rows.each_count;
+        dumps = record {
+          stores = rows.dumps.stores;
+          steps = line.0;
+          same_stores = rows.dumps.same_stores;
+          table = length-append s.plan.amounts xs ∙ wider s.plan.steps s.plan.stores t (length s.plan.amounts) (length xs) is_next rows.dumps.table width;
+          each_amount = All-append (λ n. n ≤ MAX_BLOCKS) s.plan.amounts xs rows.dumps.each_amount line.2;
+          each_store = rows.dumps.each_store;
+        };
+        listed = rows.listed;
         loss = rows.loss;
         bound = rows.bound;
       };
       at = record { has_store = uncut.has_store; cut = uncut.cut; counts = uncut.counts };
       lines =
           ap (λ k. title_line b ∷ stores_line s.stores ∷ dump_lines s.plan.stores 1 k (s.plan.amounts ++ xs)) is_next
-          ∙ ap (λ ls. title_line b ∷ stores_line s.stores ∷ ls) (dump_lines-push s.plan.stores 1 s.plan.steps s.plan.amounts xs rows.table width)
+          ∙ ap (λ ls. title_line b ∷ stores_line s.stores ∷ ls) (dump_lines-push s.plan.stores 1 s.plan.steps s.plan.amounts xs rows.dumps.table width)
           ∙ ap (λ k. title_line b ∷ stores_line s.stores ∷ (dumps_of s ++ dump_line k xs ∷ [])) number;
     }
 
@@ -217,16 +224,8 @@ added_loss : (b : Bool) (s : SheetRows) (n : ℕ) → IsLine (loss_line n) → I
 added_loss b s n line rows uncut may =
     record {
       rows = record {
-        stores = rows.stores;
-        steps = rows.steps;
-        cut = rows.cut;
-        counts = rows.counts;
-        same_stores = rows.same_stores;
-        table = rows.table;
-        each_amount = rows.each_amount;
-        each_store = rows.each_store;
-        each_stretch = rows.each_stretch;
-        each_count = rows.each_count;
+        dumps = rows.dumps;
+        listed = rows.listed;
         loss = line;
         bound = rows.bound;
       };
@@ -247,16 +246,13 @@ added_stretch b s d line rows planned may =
     let p = stretch_follows s may in
     record {
       rows = record {
-        stores = rows.stores;
-        steps = rows.steps;
-        cut = omega (arith, p.0, length-append s.cut (d ∷ []));
-        counts = rows.counts;
-        same_stores = rows.same_stores;
-        table = rows.table;
-        each_amount = rows.each_amount;
-        each_store = rows.each_store;
-        each_stretch = All-push IsWritten s.cut d rows.each_stretch line;
-        each_count = rows.each_count;
+        dumps = rows.dumps;
+        listed = record {
+          cut = omega (arith, p.0, length-append s.cut (d ∷ []));
+          counts = rows.listed.counts;
+          each_stretch = All-push IsWritten s.cut d rows.listed.each_stretch line;
+          each_count = rows.listed.each_count;
+        };
         loss = rows.loss;
         bound = rows.bound;
       };
@@ -276,16 +272,13 @@ added_count b s t line rows planned may =
     let p = count_follows b s may in
     record {
       rows = record {
-        stores = rows.stores;
-        steps = rows.steps;
-        cut = rows.cut;
-        counts = omega (arith, p.1, length-append s.by_channels (t ∷ []));
-        same_stores = rows.same_stores;
-        table = rows.table;
-        each_amount = rows.each_amount;
-        each_store = rows.each_store;
-        each_stretch = rows.each_stretch;
-        each_count = All-push (λ t. t < 2 ^ 32) s.by_channels t rows.each_count line;
+        dumps = rows.dumps;
+        listed = record {
+          cut = rows.listed.cut;
+          counts = omega (arith, p.1, length-append s.by_channels (t ∷ []));
+          each_stretch = rows.listed.each_stretch;
+          each_count = All-push (λ t. t < 2 ^ 32) s.by_channels t rows.listed.each_count line;
+        };
         loss = rows.loss;
         bound = rows.bound;
       };
@@ -298,16 +291,8 @@ added_bound : (b : Bool) (s : SheetRows) (z : ℤ) → IsLine (bound_line z) →
 added_bound b s z line rows planned form =
     record {
       rows = record {
-        stores = rows.stores;
-        steps = rows.steps;
-        cut = rows.cut;
-        counts = rows.counts;
-        same_stores = rows.same_stores;
-        table = rows.table;
-        each_amount = rows.each_amount;
-        each_store = rows.each_store;
-        each_stretch = rows.each_stretch;
-        each_count = rows.each_count;
+        dumps = rows.dumps;
+        listed = rows.listed;
         loss = rows.loss;
         bound = line;
       };

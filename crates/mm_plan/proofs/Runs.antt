@@ -282,16 +282,20 @@ run_some d e (l ∷ ls) sound was =
 start_sound : IsSound start
 start_sound = record {
   rows = record {
-    stores = omega arith;
-    steps = omega arith;
-    cut = omega arith;
-    counts = omega arith;
-    same_stores = refl;
-    table = omega arith;
-    each_amount = All-nil (λ n. n ≤ MAX_BLOCKS);
-    each_store = All-nil IsIdField;
-    each_stretch = All-nil IsWritten;
-    each_count = All-nil (λ t. t < 2 ^ 32);
+    dumps = record {
+      stores = omega arith;
+      steps = omega arith;
+      same_stores = refl;
+      table = omega arith;
+      each_amount = All-nil (λ n. n ≤ MAX_BLOCKS);
+      each_store = All-nil IsIdField;
+    };
+    listed = record {
+      cut = omega arith;
+      counts = omega arith;
+      each_stretch = All-nil IsWritten;
+      each_count = All-nil (λ t. t < 2 ^ 32);
+    };
     loss = omega arith;
     bound = record { sfits = omega arith };
   };

@@ -1,5 +1,5 @@
 -- What a write to one place of a table changes.
-use Rattle.std.proofs.Common.{ℕ, ◌+◌, ◌-◌, ◌*◌, ◌<◌, length, set, refl, arith, get_or-set_same, get_or-set_other}
+use Rattle.std.proofs.Common.{ℕ, ◌<◌, length, set, refl, arith, get_or-set_same, get_or-set_other}
 use Rattle.mm_base.specs.Grid.{grid_place}
 use Rattle.mm_base.proofs.Places.{grid_place-lt, same_from_grid_place}
 use Rattle.mm_plan.specs.Table.{Table, IsPlace, IsTable, ChangesAmount}

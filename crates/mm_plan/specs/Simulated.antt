@@ -1,5 +1,5 @@
 -- The tables of a simulated plan.
-use Rattle.std.specs.Prelude.{◌≡◌, ℕ, ◌+◌, ◌-◌, ◌*◌, ◌<◌, ◌≤◌, List, length, slice_index}
+use Rattle.std.specs.Prelude.{◌≡◌, ℕ, ◌*◌, ◌<◌, ◌≤◌, List, length}
 use Rattle.mm_base.specs.Grid.{cell}
 use Rattle.mm_problem.specs.Dumping.{Dumping}
 

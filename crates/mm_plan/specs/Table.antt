@@ -1,5 +1,5 @@
 -- A table of amounts: a row for each step, in it a place for each store.
-use Rattle.std.specs.Prelude.{◌≡◌, ◌≢◌, ℕ, ◌+◌, ◌-◌, ◌*◌, ◌<◌, ◌≤◌, List, length, All, slice_index}
+use Rattle.std.specs.Prelude.{◌≡◌, ◌≢◌, ℕ, ◌*◌, ◌<◌, ◌≤◌, List, length, All}
 use Rattle.mm_base.specs.Grid.{cell}
 use Rattle.mm_base.specs.declared.limits.TheConstants.{MAX_BLOCKS}
 use Rattle.mm_problem.specs.Dumping.{Dumping}

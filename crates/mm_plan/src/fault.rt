@@ -1,8 +1,5 @@
 //! Why a plan text or a sheet is refused.
-ghost use Rattle.std.specs.Prelude.{◌≡◌};
-
 use mm_base::{Refusal, Refused};
-use std::alloc::{AllocError, AllocFailed};
 use thiserror::Error;
 
 /// Why a plan text or a sheet is refused. It is shown as its number, its name and its fields.
@@ -29,25 +26,5 @@ impl Refused for Fault {
             Fault::PlanText { .. } => Refusal::PlanText,
             Fault::Shape => Refusal::Shape,
         }
-    }
-}
-
-impl From<AllocError> for Fault {
-    ghost use Rattle.mm_plan.specs.declared.fault.Fault.TheVariants.{NoMemory};
-
-    ghost from_gives = { λ _ e. e ≡ NoMemory };
-
-    fn from(_error: AllocError) -> Fault {
-        Fault::NoMemory
-    }
-}
-
-impl<T: Drop> From<AllocFailed<T>> for Fault {
-    ghost use Rattle.mm_plan.specs.declared.fault.Fault.TheVariants.{NoMemory};
-
-    ghost from_gives = { λ _ e. e ≡ NoMemory };
-
-    fn from(_error: AllocFailed<T>) -> Fault {
-        Fault::NoMemory
     }
 }

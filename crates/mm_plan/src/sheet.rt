@@ -86,14 +86,7 @@ fn finish(draft: Draft) -> Sheet
         steps,
         amounts,
     };
-    Sheet {
-        stores,
-        plan,
-        loss,
-        cut,
-        by_channels,
-        bound,
-    }
+    Sheet::new(stores, plan, loss, cut, by_channels, bound)
 }
 
 impl Sheet {
@@ -137,7 +130,10 @@ impl Sheet {
         let mut rest = text;
         let mut line: u32 = 1;
         while let Some((front, after)) = split_line(rest) {
-            if !draft.take(alloc, front)? {
+            let Ok(taken) = draft.take(alloc, front) else {
+                return Err(Fault::NoMemory);
+            };
+            if !taken {
                 return Err(Fault::PlanText { line });
             }
             rest = after;

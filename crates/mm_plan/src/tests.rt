@@ -1,7 +1,7 @@
 //! Plans of small problems: what they do to the stores, and how they are filled.
 ghost use Rattle.mm_plan.specs.Simulated.{IsVolumePlace};
 
-use crate::{Plan, Sheet, Simulated, fill, fits, simulate};
+use crate::{Plan, Sheet, Simulated, fill, fits, loss_of, simulate};
 use mm_problem::{Problem, Setup};
 use std::alloc::Global;
 use std::process::Abort;
@@ -60,6 +60,16 @@ fn volumes_by_hand(rt: HostRuntime) {
     assert!(rt; volumes(&simulated, 2) == (4, 2, 0));
     assert!(rt; volumes(&simulated, 3) == (4, 4, 2));
     assert!(rt; simulated.total() == 2);
+}
+
+#[test]
+fn nothing_leaves_by_the_plan_of_zeros(rt: HostRuntime) {
+    let alloc = rt.alloc();
+    let problem = problem_of(&rt, alloc, SCI, THREE_STEPS);
+    let plan = Plan::zero(alloc, &problem).expect(&rt, "memory");
+    assert!(rt; plan.amounts.as_slice() == [0, 0, 0].as_slice());
+    assert!(rt; plan.has_shape(&problem));
+    assert!(rt; loss_of(&problem, &plan) == 6);
 }
 
 #[test]

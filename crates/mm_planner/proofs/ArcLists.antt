@@ -5,6 +5,7 @@ use Rattle.std.specs.List.{range_with_len, flat_map}
 use Rattle.std.proofs.Math.Nat.{mul-le-mul}
 use Rattle.std.proofs.lemmas.List.Concat.{flat_map-append}
 use Rattle.std.proofs.lemmas.List.FromFn.{length-map-range_with_len, map-range_with_len_more}
+use Rattle.mm_sums.proofs.Ranges.{range_with_len_next}
 use Rattle.mm_flow.specs.declared.arc.Arc.{Arc}
 use Rattle.mm_flow.specs.Graph.{Graph}
 use Rattle.mm_flow.specs.Built.{Built, with_arc}
@@ -14,8 +15,7 @@ use Rattle.mm_problem.specs.Dumping.{Dumping, IsDumping}
 use Rattle.mm_planner.specs.Network.{step_arcs, arcs_of}
 use Rattle.mm_planner.specs.Taken.{step_width}
 use Rattle.mm_planner.proofs.ArcSums.{length-step}
-use Rattle.mm_planner.proofs.Elements.{range_before}
-use Rattle.mm_planner.specs.Growing.{with_arcs}
+use Rattle.mm_planner.specs.Growing.{with_arcs, HasRoom, KeepsRoom}
 
 -- how many arcs there are
 pub length_with_arcs : (h g : Graph) (arcs : List Arc) → h ≡ with_arcs g arcs → length h.arcs ≡ length g.arcs + length arcs
@@ -24,6 +24,21 @@ length_with_arcs h g arcs e = ap (λ (k : Graph). length k.arcs) e ∙ length-ap
 -- how many arcs there are once a kind is added as far as a number
 pub length_added : (h g : Graph) (make : ℕ → Arc) (n : ℕ) → h ≡ with_arcs g (map make (range_with_len 0 n)) → length h.arcs ≡ length g.arcs + n
 length_added h g make n e = length_with_arcs h g (map make (range_with_len 0 n)) e ∙ ap (λ k. length g.arcs + k) (length-map-range_with_len make 0 n)
+
+-- the room that is left once a kind is added as far as a number
+pub room_added : (q : Dumping) (h g : Graph) (make : ℕ → Arc) (n more all : ℕ) → h ≡ with_arcs g (map make (range_with_len 0 n)) → HasRoom q g all → n + more ≤ all → HasRoom q h more
+room_added q h g make n more all e room within =
+    let nodes : h.nodes ≡ g.nodes = ap (λ (k : Graph). k.nodes) e in
+    record {
+      nodes = nodes ∙ room.nodes;
+      few_nodes = omega (arith, nodes, room.few_nodes);
+      arcs = omega (arith, length_added h g make n e, room.arcs);
+    }
+
+-- a kind that is added as far as a number keeps room
+pub keeps_room : (h g : Graph) (make : ℕ → Arc) (n most : ℕ) → h ≡ with_arcs g (map make (range_with_len 0 n)) → n ≤ most → KeepsRoom g h most
+keeps_room h g make n most e few =
+    record { nodes = ap (λ (k : Graph). k.nodes) e; arcs = omega (arith, length_added h g make n e) }
 
 -- arcs after arcs
 pub with_arcs-append : (h k g : Graph) (xs ys : List Arc) → h ≡ with_arcs g xs → k ≡ with_arcs h ys → k ≡ with_arcs g (xs ++ ys)
@@ -51,7 +66,7 @@ pub length-arcs_of : (q : Dumping) (n : ℕ) → length (arcs_of q n) ≡ n * st
 length-arcs_of q n = length-steps q 1 n
 
 -- there is room for the arcs of a step
-pub few_arcs : (q : Dumping) (t : ℕ) → IsDumping q → t ≤ length q.windows → (t - 1) * step_width q + (step_width q + MAX_STORES) ≤ MAX_ARCS
+pub few_arcs : (q : Dumping) (t : ℕ) → IsDumping q → t ≤ length q.windows → (t - 1) * step_width q + 6 * MAX_STORES ≤ MAX_ARCS
 few_arcs q t is within =
     let width : step_width q ≤ 73 = omega (arith, is.stores.at_most, is.channels.all) in
     let before : t - 1 ≤ 256 = omega (arith, is.steps.at_most) in
@@ -60,6 +75,6 @@ few_arcs q t is within =
 -- the arcs of one step more
 pub arcs_of_more : (q : Dumping) (t : ℕ) → 1 ≤ t → arcs_of q (t + 1 - 1) ≡ arcs_of q (t - 1) ++ step_arcs q t
 arcs_of_more q t first =
-    ap (flat_map (step_arcs q)) (range_before t first)
+    ap (flat_map (step_arcs q)) (range_with_len_next t first)
     ∙ flat_map-append (step_arcs q) (range_with_len 1 (t - 1)) (t ∷ [])
     ∙ ap (λ one. flat_map (step_arcs q) (range_with_len 1 (t - 1)) ++ one) (append-nil (step_arcs q t))

@@ -8,18 +8,21 @@ use Rattle.std.proofs.lemmas.List.Elements.{All-map}
 use Rattle.std.proofs.lemmas.List.Folds.{Any-from_list_any}
 use Rattle.std.proofs.lemmas.List.Sums.{position_or_len_is}
 use Rattle.std.proofs.lemmas.Slice.Eq.{bytes_eq-Decides}
+use Rattle.mm_sums.proofs.Grids.{grid, grid-add, grid-same}
+use Rattle.mm_sums.proofs.Pairs.{AllPairs-map}
+use Rattle.mm_sums.proofs.RangeSums.{sum_by_range-le, sum_by_range_same}
+use Rattle.mm_sums.proofs.Ranges.{All-filter-range_with_len, All-flat_map-range_with_len, AllPairs-filter-range_with_len, AllPairs-flat_map-range_with_len, is_listed-filter, not_listed-filter}
+use Rattle.mm_sums.proofs.Sums.{sum_by-add, sum_by-filter, sum_by-flat_map, sum_by-map-filter, sum_by-swap}
 use Rattle.mm_problem.specs.Dumping.{Dumping, IsDumping, no_row, row, place, size, start, window, arrivals, stores, channels, steps}
 use Rattle.mm_plan.specs.declared.stretch.Stretch.{Stretch}
 use Rattle.mm_cut.specs.Stretches.{store_of, channel_of, goes_past, goes_past_on, is_inner, is_inner_on, IsStretch, AreApart, AreStretches}
 use Rattle.mm_cut.specs.Counts.{is_listed, IsLimited, IsCounted, AreCounted}
 use Rattle.mm_cut.specs.Cuts.{coming, held, limit_or_0, limit_sum, leaving, leaving_sum}
-use Rattle.mm_cut.proofs.Sums.{sum_by-filter, sum_by-add, sum_by-swap, sum_by-le_range}
 use Rattle.mm_flow.specs.Cut.{Side, IsCut, capacity_of}
 use Rattle.mm_planner.specs.declared.nodes.TheConstants.{SOURCE, SINK}
-use Rattle.mm_planner.specs.Network.{in_node, out_node, channel_node, pass_node, inflow, net}
-use Rattle.mm_planner.specs.Runs.{is_end, first_step, stretch, stretches_of, stretches, is_by_channels, counts}
-use Rattle.mm_planner.proofs.Ranges.{grid, grid-same, grid-add, sum_by-same_range}
-use Rattle.mm_planner.proofs.Elements.{All-filter_range, All-flat_map_range, AllPairs-filter_range, AllPairs-map, AllPairs-flat_map_range, sum_by-map_filter, sum_by-flat_map, is_listed-filter, not_listed-filter}
+use Rattle.mm_planner.specs.declared.nodes.Node.TheVariants.{In, Out, Channel, Pass}
+use Rattle.mm_planner.specs.Network.{inflow, net}
+use Rattle.mm_planner.specs.Runs.{is_on, is_end, first_step, stretch, stretches_of, stretches, is_by_channels, counts}
 use Rattle.mm_planner.proofs.KindSums.{next_cases, channel_within}
 use Rattle.mm_planner.proofs.Capacities.{capacity_kinds, keep_inside, take_inside, limit_outside}
 use Rattle.mm_planner.proofs.RunSums.{first_step-low, first_step-high, first_step-goes_on, coming_over, coming_over_is, runs_cover}
@@ -34,24 +37,24 @@ store_named q is s within =
 -- a stretch of the problem, in each inner step of which what its store holds is on the side
 record IsRun (q : Dumping) (side : Side) (d : Stretch) : Type 0 where
   stretch_is : IsStretch q d
-  inner : (t : ℕ) → goes_past t d ≡ true → side (out_node (store_of q d) t) ≡ true
+  inner : (t : ℕ) → goes_past t d ≡ true → is_on side (Out t (store_of q d)) ≡ true
 
 module _ (q : Dumping) (is : IsDumping q) (side : Side) (cut : IsCut (net q) SOURCE SINK side) where
   -- a run goes on into the next step
-  goes : (s : ℕ) → s < length q.rows → (t : ℕ) → 1 ≤ t → t < length q.windows → side (out_node s t) ≡ true → side (in_node s (suc t)) ≡ true
+  goes : (s : ℕ) → s < length q.rows → (t : ℕ) → 1 ≤ t → t < length q.windows → is_on side (Out t s) ≡ true → is_on side (In (suc t) s) ≡ true
   goes s below t first before inside =
       let next = keep_inside q side cut t s first (omega arith) below inside in
       elim (next_cases q t s) [
         | inl last ↦ absurd (omega (arith, last.0))
-        | inr later ↦ ap (λ n. side (in_node s n)) (sym (add-one t)) ∙ sym (ap side later.1) ∙ next
+        | inr later ↦ ap (λ n. is_on side (In n s)) (sym (add-one t)) ∙ sym (ap (is_on side) later.1) ∙ next
       ]
 
   -- each run ends with the last step at the latest
-  ends : (s : ℕ) → s < length q.rows → side (out_node s (length q.windows)) ≡ false
-  ends s below = false_from_ne_true (side (out_node s (length q.windows))) (λ inside.
+  ends : (s : ℕ) → s < length q.rows → is_on side (Out (length q.windows) s) ≡ false
+  ends s below = false_from_ne_true (is_on side (Out (length q.windows) s)) (λ inside.
       let next = keep_inside q side cut (length q.windows) s is.steps.has_step (omega arith) below inside in
       elim (next_cases q (length q.windows) s) [
-        | inl last ↦ both_ways (side SINK) cut.lacks_sink (sym (ap side last.1) ∙ next)
+        | inl last ↦ both_ways (side SINK) cut.lacks_sink (sym (ap (is_on side) last.1) ∙ next)
         | inr before ↦ before.0 refl
       ])
 
@@ -73,24 +76,24 @@ module _ (q : Dumping) (is : IsDumping q) (side : Side) (cut : IsCut (net q) SOU
         inner = λ u at.
             let inside = passed (first_step side s t) t u at in
             let on = first_step-goes_on side s t u inside.0 inside.1 in
-            ap (λ k. side (out_node k u)) named ∙ (and_parts (side (in_node s u)) (side (out_node s u)) on).1;
+            ap (λ k. is_on side (Out u k)) named ∙ (and_parts (is_on side (In u s)) (is_on side (Out u s)) on).1;
       }
 
   -- each of the stretches is a run
   all_runs : All (IsRun q side) (stretches q side)
   all_runs =
-      All-flat_map_range (IsRun q side) (stretches_of q side) 0 (length q.rows)
+      All-flat_map-range_with_len (IsRun q side) (stretches_of q side) 0 (length q.rows)
       (λ s _ below. All-map (IsRun q side) (stretch q side s) (filter (is_end side s) (steps q))
-      (All-filter_range (λ t. IsRun q side (stretch q side s t)) (is_end side s) 1 (length q.windows) (λ t low high _. stretch_is_run s t (omega arith) low high)))
+      (All-filter-range_with_len (λ t. IsRun q side (stretch q side s t)) (is_end side s) 1 (length q.windows) (λ t low high _. stretch_is_run s t (omega arith) low high)))
 
   -- two runs of one store
   apart_in_store : (s t u : ℕ) → t < u → is_end side s t ≡ true → AreApart (stretch q side s t) (stretch q side s u)
   apart_in_store s t u before at_t _ = elim (cases_lt t (first_step side s u)) [
     | inl after ↦ inl after
     | inr shared ↦
-        let on = and_parts (side (in_node s t)) (side (out_node s t)) (first_step-goes_on side s u t shared before) in
-        let off = and_parts (side (in_node s t)) (not (side (out_node s t))) at_t in
-        absurd (both_ways (side (out_node s t)) (not-true (side (out_node s t)) off.1) on.1)
+        let on = and_parts (is_on side (In t s)) (is_on side (Out t s)) (first_step-goes_on side s u t shared before) in
+        let off = and_parts (is_on side (In t s)) (not (is_on side (Out t s))) at_t in
+        absurd (both_ways (is_on side (Out t s)) (not-true (is_on side (Out t s)) off.1) on.1)
   ]
 
   -- runs of two stores
@@ -101,25 +104,25 @@ module _ (q : Dumping) (is : IsDumping q) (side : Side) (cut : IsCut (net q) SOU
   -- no two stretches share a step of one store
   all_apart : AllPairs AreApart (stretches q side)
   all_apart =
-      AllPairs-flat_map_range AreApart (stretches_of q side) 0 (length q.rows)
+      AllPairs-flat_map-range_with_len AreApart (stretches_of q side) 0 (length q.rows)
       (λ s _ below. AllPairs-map AreApart (stretch q side s) (filter (is_end side s) (steps q))
-      (AllPairs-filter_range (λ t u. AreApart (stretch q side s t) (stretch q side s u)) (is_end side s) 1 (length q.windows) (λ t u _ before _ at_t _. apart_in_store s t u before at_t)))
+      (AllPairs-filter-range_with_len (λ t u. AreApart (stretch q side s t) (stretch q side s u)) (is_end side s) 1 (length q.windows) (λ t u _ before _ at_t _. apart_in_store s t u before at_t)))
       (λ s r _ before below.
       All-map (λ d. All (AreApart d) (stretches_of q side r)) (stretch q side s) (filter (is_end side s) (steps q))
-      (All-filter_range (λ t. All (AreApart (stretch q side s t)) (stretches_of q side r)) (is_end side s) 1 (length q.windows)
+      (All-filter-range_with_len (λ t. All (AreApart (stretch q side s t)) (stretches_of q side r)) (is_end side s) 1 (length q.windows)
       (λ t _ _ _. All-map (AreApart (stretch q side s t)) (stretch q side r) (filter (is_end side r) (steps q))
-      (All-filter_range (λ u. AreApart (stretch q side s t) (stretch q side r u)) (is_end side r) 1 (length q.windows) (λ u _ _ _. apart_across s r t u before (omega arith))))))
+      (All-filter-range_with_len (λ u. AreApart (stretch q side s t) (stretch q side r u)) (is_end side r) 1 (length q.windows) (λ u _ _ _. apart_across s r t u before (omega arith))))))
 
   -- the stretches are well formed
   pub are_stretches : AreStretches q (stretches q side)
   are_stretches = record { each = λ k d within. (all_runs k d within).stretch_is; apart = all_apart }
 
   -- in an inner step of a run, the channel of its store is on the side
-  inner_channel : (d : Stretch) (t : ℕ) → IsRun q side d → 1 ≤ t → t ≤ length q.windows → goes_past t d ≡ true → side (channel_node (channel_of q d) t) ≡ true
+  inner_channel : (d : Stretch) (t : ℕ) → IsRun q side d → 1 ≤ t → t ≤ length q.windows → goes_past t d ≡ true → is_on side (Channel t (channel_of q d)) ≡ true
   inner_channel d t run first last at = take_inside q side cut t (store_of q d) first last run.stretch_is.store (run.inner t at)
 
   -- the steps that count by channels are steps that can be counted so
-  counted_limited : (t : ℕ) → 1 ≤ t → t ≤ length q.windows → side (pass_node t) ≡ false → All (IsLimited q t) (stretches q side)
+  counted_limited : (t : ℕ) → 1 ≤ t → t ≤ length q.windows → is_on side (Pass t) ≡ false → All (IsLimited q t) (stretches q side)
   counted_limited t first last outside k d within at =
       let run = all_runs k d within in
       limit_outside q side cut t (channel_of q (get_or (stretches q side) k d)) first last
@@ -129,44 +132,44 @@ module _ (q : Dumping) (is : IsDumping q) (side : Side) (cut : IsCut (net q) SOU
   -- so are the counted steps
   pub are_counted : AreCounted q (stretches q side) (counts q side)
   are_counted = record {
-    each = All-filter_range (IsCounted q (stretches q side)) (is_by_channels side (stretches q side)) 1 (length q.windows)
+    each = All-filter-range_with_len (IsCounted q (stretches q side)) (is_by_channels side (stretches q side)) 1 (length q.windows)
         (λ t low high at.
-        let parts = and_parts (is_inner (stretches q side) t) (not (side (pass_node t))) at in
-        record { inner = parts.0; limited = counted_limited t low (omega arith) (not-true (side (pass_node t)) parts.1) });
-    once = AllPairs-filter_range ◌≢◌ (is_by_channels side (stretches q side)) 1 (length q.windows) (λ t u _ before _ _ _ same. omega arith);
+        let parts = and_parts (is_inner (stretches q side) t) (not (is_on side (Pass t))) at in
+        record { inner = parts.0; limited = counted_limited t low (omega arith) (not-true (is_on side (Pass t)) parts.1) });
+    once = AllPairs-filter-range_with_len ◌≢◌ (is_by_channels side (stretches q side)) 1 (length q.windows) (λ t u _ before _ _ _ same. omega arith);
   }
 
   -- what comes over the runs of one store
-  store_coming : (s : ℕ) → s < length q.rows → sum_by (coming q) (stretches_of q side s) ≡ sum_by (λ t. cond (side (in_node s t)) (inflow q t s) 0) (steps q)
+  store_coming : (s : ℕ) → s < length q.rows → sum_by (coming q) (stretches_of q side s) ≡ sum_by (λ t. cond (is_on side (In t s)) (inflow q t s) 0) (steps q)
   store_coming s below =
       let one : (t : ℕ) → coming q (stretch q side s t) ≡ coming_over q s (first_step side s t) t =
       λ t. ap (λ k. cond (eqb (first_step side s t) 1) (start q k) 0 + sum_by (arrivals q k) (filter (λ u. leb (first_step side s t) u && leb u t) (steps q))) (store_named q is s below) ∙ coming_over_is q s (first_step side s t) t in
-      sum_by-map_filter (coming q) (stretch q side s) (is_end side s) (steps q)
-      ∙ sum_by-same_range (λ t. cond (is_end side s t) (coming q (stretch q side s t)) 0) (λ t. cond (is_end side s t) (coming_over q s (first_step side s t) t) 0) 1 (length q.windows) (λ t _ _. ap (λ n. cond (is_end side s t) n 0) (one t))
+      sum_by-map-filter (coming q) (stretch q side s) (is_end side s) (steps q)
+      ∙ sum_by_range_same (λ t. cond (is_end side s t) (coming q (stretch q side s t)) 0) (λ t. cond (is_end side s t) (coming_over q s (first_step side s t) t) 0) 1 (length q.windows) (λ t _ _. ap (λ n. cond (is_end side s t) n 0) (one t))
       ∙ runs_cover q s side (goes s below) (ends s below)
 
   -- what comes over all stretches
-  all_coming : sum_by (coming q) (stretches q side) ≡ grid (λ t s. cond (side (in_node s t)) (inflow q t s) 0) (length q.windows) (length q.rows)
+  all_coming : sum_by (coming q) (stretches q side) ≡ grid (λ t s. cond (is_on side (In t s)) (inflow q t s) 0) (length q.windows) (length q.rows)
   all_coming =
       sum_by-flat_map (coming q) (stretches_of q side) (stores q)
-      ∙ sum_by-same_range (λ s. sum_by (coming q) (stretches_of q side s)) (λ s. sum_by (λ t. cond (side (in_node s t)) (inflow q t s) 0) (steps q)) 0 (length q.rows) (λ s _ below. store_coming s (omega arith))
-      ∙ sym (sum_by-swap (λ t s. cond (side (in_node s t)) (inflow q t s) 0) (steps q) (stores q))
+      ∙ sum_by_range_same (λ s. sum_by (coming q) (stretches_of q side s)) (λ s. sum_by (λ t. cond (is_on side (In t s)) (inflow q t s) 0) (steps q)) 0 (length q.rows) (λ s _ below. store_coming s (omega arith))
+      ∙ sym (sum_by-swap (λ t s. cond (is_on side (In t s)) (inflow q t s) 0) (steps q) (stores q))
 
   -- what is held at the ends of all stretches
   all_held : sum_by (held q) (stretches q side) ≡ grid (λ t s. cond (is_end side s t) (size q s) 0) (length q.windows) (length q.rows)
   all_held =
       let one : (s : ℕ) → s < length q.rows → sum_by (held q) (stretches_of q side s) ≡ sum_by (λ t. cond (is_end side s t) (size q s) 0) (steps q) =
-      λ s below. sum_by-map_filter (held q) (stretch q side s) (is_end side s) (steps q)
-      ∙ sum_by-same_range (λ t. cond (is_end side s t) (held q (stretch q side s t)) 0) (λ t. cond (is_end side s t) (size q s) 0) 1 (length q.windows) (λ t _ _. ap (λ k. cond (is_end side s t) (size q k) 0) (store_named q is s below)) in
+      λ s below. sum_by-map-filter (held q) (stretch q side s) (is_end side s) (steps q)
+      ∙ sum_by_range_same (λ t. cond (is_end side s t) (held q (stretch q side s t)) 0) (λ t. cond (is_end side s t) (size q s) 0) 1 (length q.windows) (λ t _ _. ap (λ k. cond (is_end side s t) (size q k) 0) (store_named q is s below)) in
       sum_by-flat_map (held q) (stretches_of q side) (stores q)
-      ∙ sum_by-same_range (λ s. sum_by (held q) (stretches_of q side s)) (λ s. sum_by (λ t. cond (is_end side s t) (size q s) 0) (steps q)) 0 (length q.rows) (λ s _ below. one s (omega arith))
+      ∙ sum_by_range_same (λ s. sum_by (held q) (stretches_of q side s)) (λ s. sum_by (λ t. cond (is_end side s t) (size q s) 0) (steps q)) 0 (length q.rows) (λ s _ below. one s (omega arith))
       ∙ sym (sum_by-swap (λ t s. cond (is_end side s t) (size q s) 0) (steps q) (stores q))
 
   -- what comes to all stores, on the side and off it
-  all_inflow : grid (inflow q) (length q.windows) (length q.rows) ≡ grid (λ t s. cond (side (in_node s t)) (inflow q t s) 0) (length q.windows) (length q.rows) + grid (λ t s. cond (side (in_node s t)) 0 (inflow q t s)) (length q.windows) (length q.rows)
+  all_inflow : grid (inflow q) (length q.windows) (length q.rows) ≡ grid (λ t s. cond (is_on side (In t s)) (inflow q t s) 0) (length q.windows) (length q.rows) + grid (λ t s. cond (is_on side (In t s)) 0 (inflow q t s)) (length q.windows) (length q.rows)
   all_inflow =
-      grid-same (inflow q) (λ t s. cond (side (in_node s t)) (inflow q t s) 0 + cond (side (in_node s t)) 0 (inflow q t s)) (length q.windows) (length q.rows) (λ t s _ _ _. in_or_out (side (in_node s t)) (inflow q t s))
-      ∙ grid-add (λ t s. cond (side (in_node s t)) (inflow q t s) 0) (λ t s. cond (side (in_node s t)) 0 (inflow q t s)) (length q.windows) (length q.rows)
+      grid-same (inflow q) (λ t s. cond (is_on side (In t s)) (inflow q t s) 0 + cond (is_on side (In t s)) 0 (inflow q t s)) (length q.windows) (length q.rows) (λ t s _ _ _. in_or_out (is_on side (In t s)) (inflow q t s))
+      ∙ grid-add (λ t s. cond (is_on side (In t s)) (inflow q t s) 0) (λ t s. cond (is_on side (In t s)) 0 (inflow q t s)) (length q.windows) (length q.rows)
     where
       -- each node is on the side or off it
       in_or_out : (b : Bool) (n : ℕ) → n ≡ cond b n 0 + cond b 0 n
@@ -175,15 +178,15 @@ module _ (q : Dumping) (is : IsDumping q) (side : Side) (cut : IsCut (net q) SOU
 
   -- what the gates of a step off the side let through
   gates : ℕ → ℕ
-  gates t = sum_by (λ c. cond (side (channel_node c t) && not (side (pass_node t))) (limit_or_0 q c) 0) (channels q) + cond (side (pass_node t)) (window q t) 0
+  gates t = sum_by (λ c. cond (is_on side (Channel t c) && not (is_on side (Pass t))) (limit_or_0 q c) 0) (channels q) + cond (is_on side (Pass t)) (window q t) 0
 
   -- a channel that is inner in a step is on the side
-  inner_on_inside : (t c : ℕ) → 1 ≤ t → t ≤ length q.windows → is_inner_on q (stretches q side) t c ≡ true → side (channel_node c t) ≡ true
+  inner_on_inside : (t c : ℕ) → 1 ≤ t → t ≤ length q.windows → is_inner_on q (stretches q side) t c ≡ true → is_on side (Channel t c) ≡ true
   inner_on_inside t c first last at =
       let some = Any-from_list_any (goes_past_on q t c) (stretches q side) at in
       let parts = and_parts (goes_past t some.1) (eqb (channel_of q some.1) c) some.4 in
       let run : IsRun q side some.1 = subst (IsRun q side) some.3 (all_runs some.0 some.1 some.2) in
-      sym (ap (λ k. side (channel_node k t)) (eqb-true (channel_of q some.1) c parts.1)) ∙ inner_channel some.1 t run first last parts.0
+      sym (ap (λ k. is_on side (Channel t k)) (eqb-true (channel_of q some.1) c parts.1)) ∙ inner_channel some.1 t run first last parts.0
 
   -- what counts where one test passes is counted where a weaker one does
   inner_limit : (a b : Bool) (n : ℕ) → (a ≡ true → b ≡ true) → cond a n 0 ≤ cond b n 0
@@ -192,15 +195,15 @@ module _ (q : Dumping) (is : IsDumping q) (side : Side) (cut : IsCut (net q) SOU
   inner_limit false b n implies = omega arith
 
   -- the limits of the inner channels are among the gates'
-  limit_sum_within : (t : ℕ) → 1 ≤ t → t ≤ length q.windows → side (pass_node t) ≡ false → limit_sum q (stretches q side) t ≤ gates t
+  limit_sum_within : (t : ℕ) → 1 ≤ t → t ≤ length q.windows → is_on side (Pass t) ≡ false → limit_sum q (stretches q side) t ≤ gates t
   unfolding gates
   limit_sum_within t first last outside =
-      let off = not_from_false (side (pass_node t)) outside in
+      let off = not_from_false (is_on side (Pass t)) outside in
       omega (
         arith,
         sum_by-filter (limit_or_0 q) (is_inner_on q (stretches q side) t) (channels q),
-        sum_by-le_range (λ c. cond (is_inner_on q (stretches q side) t c) (limit_or_0 q c) 0) (λ c. cond (side (channel_node c t) && not (side (pass_node t))) (limit_or_0 q c) 0) 0 (length q.limits)
-            (λ c _ _. inner_limit (is_inner_on q (stretches q side) t c) (side (channel_node c t) && not (side (pass_node t))) (limit_or_0 q c) (λ at. and_from (side (channel_node c t)) (not (side (pass_node t))) (inner_on_inside t c first last at) off)),
+        sum_by_range-le (λ c. cond (is_inner_on q (stretches q side) t c) (limit_or_0 q c) 0) (λ c. cond (is_on side (Channel t c) && not (is_on side (Pass t))) (limit_or_0 q c) 0) 0 (length q.limits)
+            (λ c _ _. inner_limit (is_inner_on q (stretches q side) t c) (is_on side (Channel t c) && not (is_on side (Pass t))) (limit_or_0 q c) (λ at. and_from (is_on side (Channel t c)) (not (is_on side (Pass t))) (inner_on_inside t c first last at) off)),
       )
 
   -- what may leave the inner stores of a step is what its gates let through
@@ -208,12 +211,12 @@ module _ (q : Dumping) (is : IsDumping q) (side : Side) (cut : IsCut (net q) SOU
   unfolding gates
   leaving_within t first last = elim (cases_Bool (is_inner (stretches q side) t)) [
     | inr none ↦ omega (arith, cond-false (is_inner (stretches q side) t) (leaving q (stretches q side) (counts q side) t) 0 none)
-    | inl inner ↦ elim (cases_Bool (side (pass_node t))) [
+    | inl inner ↦ elim (cases_Bool (is_on side (Pass t))) [
       | inl inside ↦
-          let unlisted = not_listed-filter (is_by_channels side (stretches q side)) t (steps q) (fails (is_inner (stretches q side) t) (side (pass_node t)) inside) in
-          omega (arith, cond-true (is_inner (stretches q side) t) (leaving q (stretches q side) (counts q side) t) 0 inner, cond-false (is_listed (counts q side) t) (limit_sum q (stretches q side) t) (window q t) unlisted, cond-true (side (pass_node t)) (window q t) 0 inside)
+          let unlisted = not_listed-filter (is_by_channels side (stretches q side)) t (steps q) (fails (is_inner (stretches q side) t) (is_on side (Pass t)) inside) in
+          omega (arith, cond-true (is_inner (stretches q side) t) (leaving q (stretches q side) (counts q side) t) 0 inner, cond-false (is_listed (counts q side) t) (limit_sum q (stretches q side) t) (window q t) unlisted, cond-true (is_on side (Pass t)) (window q t) 0 inside)
       | inr outside ↦
-          let listed = is_listed-filter (is_by_channels side (stretches q side)) t 1 (length q.windows) first (omega arith) (and_from (is_inner (stretches q side) t) (not (side (pass_node t))) inner (not_from_false (side (pass_node t)) outside)) in
+          let listed = is_listed-filter (is_by_channels side (stretches q side)) t 1 (length q.windows) first (omega arith) (and_from (is_inner (stretches q side) t) (not (is_on side (Pass t))) inner (not_from_false (is_on side (Pass t)) outside)) in
           omega (arith, cond-true (is_inner (stretches q side) t) (leaving q (stretches q side) (counts q side) t) 0 inner, cond-true (is_listed (counts q side) t) (limit_sum q (stretches q side) t) (window q t) listed, limit_sum_within t first last outside)
     ]
   ]
@@ -225,14 +228,14 @@ module _ (q : Dumping) (is : IsDumping q) (side : Side) (cut : IsCut (net q) SOU
       fails a false e = absurd (false≢true e)
 
   -- what may leave all inner steps is what their gates let through
-  all_leaving : leaving_sum q (stretches q side) (counts q side) ≤ grid (λ t c. cond (side (channel_node c t) && not (side (pass_node t))) (limit_or_0 q c) 0) (length q.windows) (length q.limits) + sum_by (λ t. cond (side (pass_node t)) (window q t) 0) (steps q)
+  all_leaving : leaving_sum q (stretches q side) (counts q side) ≤ grid (λ t c. cond (is_on side (Channel t c) && not (is_on side (Pass t))) (limit_or_0 q c) 0) (length q.windows) (length q.limits) + sum_by (λ t. cond (is_on side (Pass t)) (window q t) 0) (steps q)
   unfolding gates
   all_leaving =
       omega (
         arith,
         sum_by-filter (leaving q (stretches q side) (counts q side)) (is_inner (stretches q side)) (steps q),
-        sum_by-le_range (λ t. cond (is_inner (stretches q side) t) (leaving q (stretches q side) (counts q side) t) 0) gates 1 (length q.windows) (λ t low high. leaving_within t low (omega arith)),
-        sum_by-add (λ t. sum_by (λ c. cond (side (channel_node c t) && not (side (pass_node t))) (limit_or_0 q c) 0) (channels q)) (λ t. cond (side (pass_node t)) (window q t) 0) (steps q),
+        sum_by_range-le (λ t. cond (is_inner (stretches q side) t) (leaving q (stretches q side) (counts q side) t) 0) gates 1 (length q.windows) (λ t low high. leaving_within t low (omega arith)),
+        sum_by-add (λ t. sum_by (λ c. cond (is_on side (Channel t c) && not (is_on side (Pass t))) (limit_or_0 q c) 0) (channels q)) (λ t. cond (is_on side (Pass t)) (window q t) 0) (steps q),
       )
 
   -- what comes to all stores, less the side's capacity, is at most the bound of the side's cut

@@ -1,20 +1,24 @@
 -- What enters and leaves a node of a problem's network, kind of arc by kind of arc.
-use Rattle.std.proofs.Common.{◌≡◌, ◌≢◌, ℕ, ◌+◌, ◌<◌, ◌≤◌, cond, eqb, length, ◌∙◌, inl, inr}
+use Rattle.std.proofs.Common.{◌≡◌, ◌≢◌, ℕ, ◌+◌, ◌<◌, ◌≤◌, Bool, cond, eqb, true, false, length, ap, ◌∙◌, inl, inr, arith}
 use Rattle.std.specs.Prelude.{◌⊎◌}
 use Rattle.std.specs.List.{sum_by, range_with_len}
 use Rattle.std.proofs.lemmas.Bool.{cond-true, cond-false}
 use Rattle.std.proofs.lemmas.Bool.Decides.{eqb_tells}
 use Rattle.std.proofs.lemmas.List.Elements.{All-get_or}
+use Rattle.mm_sums.proofs.Grids.{grid, grid-same}
+use Rattle.mm_sums.proofs.RangeSums.{sum_by_range_same}
+use Rattle.mm_sums.proofs.Sums.{sum_by-filter}
 use Rattle.mm_problem.specs.Setup.{IsStoreRow}
 use Rattle.mm_problem.specs.Dumping.{Dumping, IsDumping, no_row, channel}
-use Rattle.mm_cut.proofs.Sums.{sum_by-filter}
 use Rattle.mm_flow.specs.declared.arc.Arc.{Arc}
 use Rattle.mm_flow.specs.Graph.{starts_at, ends_at, places}
 use Rattle.mm_flow.specs.Flow.{Flow, entering, leaving}
-use Rattle.mm_planner.specs.declared.nodes.TheConstants.{SOURCE, SINK}
-use Rattle.mm_planner.specs.Network.{in_node, out_node, channel_node, pass_node, next_node, net}
+use Rattle.mm_planner.specs.declared.nodes.Node.{Node}
+use Rattle.mm_planner.specs.declared.nodes.Node.TheVariants.{Source, Sink, In, Out, Channel, Pass}
+use Rattle.mm_planner.specs.Nodes.{number_of}
+use Rattle.mm_planner.specs.Network.{next_node, net}
 use Rattle.mm_planner.specs.Taken.{take_place}
-use Rattle.mm_planner.proofs.Ranges.{grid, grid-none, grid-one, grid-row, at_same, at_other}
+use Rattle.mm_planner.proofs.NodeNumbers.{IsNode, is_same, eqb-number_of}
 use Rattle.mm_planner.proofs.ArcSums.{come_place, hold_place, keep_place, limit_place, window_place, arcs_by_kind}
 
 -- what a flow carries on the arcs of each kind
@@ -41,42 +45,76 @@ pass_on q f t c = f (limit_place q t c)
 abbrev pub send : Dumping → Flow → ℕ → ℕ
 send q f t = f (window_place q t)
 
--- what an arc carries, where its node is a given one
-abbrev pub counted : (ℕ → ℕ → ℕ) → (ℕ → ℕ → ℕ) → ℕ → ℕ → ℕ → ℕ
-counted node carries n t k = cond (eqb (node t k) n) (carries t k) 0
-
--- no arc of the kind meets the node
-pub meets_none : (node carries : ℕ → ℕ → ℕ) (n m r : ℕ) → ((u k : ℕ) → 1 ≤ u → u ≤ m → k < r → node u k ≢ n) → grid (counted node carries n) m r ≡ 0
-meets_none node carries n m r other = grid-none (counted node carries n) m r (λ u k low high within. at_other (node u k) n (carries u k) (other u k low high within))
-
--- one arc of the kind meets it
-pub meets_one : (node carries : ℕ → ℕ → ℕ) (n m r t i : ℕ) → 1 ≤ t → t ≤ m → i < r → node t i ≡ n → ((u k : ℕ) → 1 ≤ u → u ≤ m → k < r → (u ≡ t → k ≢ i) → node u k ≢ n) → grid (counted node carries n) m r ≡ carries t i
-meets_one node carries n m r t i first last within here other =
-    grid-one (counted node carries n) m r t i first last within (λ u k low high below apart. at_other (node u k) n (carries u k) (other u k low high below apart))
-    ∙ at_same (node t i) n (carries t i) here
-
--- the arcs of the kind that meet it are of one step
-pub meets_row : (node carries : ℕ → ℕ → ℕ) (n m r t : ℕ) → 1 ≤ t → t ≤ m → ((u k : ℕ) → 1 ≤ u → u ≤ m → k < r → u ≢ t → node u k ≢ n) → grid (counted node carries n) m r ≡ sum_by (counted node carries n t) (range_with_len 0 r)
-meets_row node carries n m r t first last other =
-    grid-row (counted node carries n) m r t first last (λ u k low high below apart. at_other (node u k) n (carries u k) (other u k low high below apart))
-
 -- where the blocks go that a store keeps
-pub next_cases : (q : Dumping) (t s : ℕ) → ((t ≡ length q.windows) × (next_node q t s ≡ SINK)) ⊎ ((t ≢ length q.windows) × (next_node q t s ≡ in_node s (t + 1)))
+pub next_cases : (q : Dumping) (t s : ℕ) → ((t ≡ length q.windows) × (next_node q t s ≡ Sink)) ⊎ ((t ≢ length q.windows) × (next_node q t s ≡ In (t + 1) s))
 next_cases q t s = elim (eqb_tells t (length q.windows)) [
-  | inl last ↦ inl (last.1, cond-true (eqb t (length q.windows)) SINK (in_node s (t + 1)) last.0)
-  | inr before ↦ inr (before.1, cond-false (eqb t (length q.windows)) SINK (in_node s (t + 1)) before.0)
+  | inl last ↦ inl (last.1, cond-true (eqb t (length q.windows)) Sink (In (t + 1) s) last.0)
+  | inr before ↦ inr (before.1, cond-false (eqb t (length q.windows)) Sink (In (t + 1) s) before.0)
 ]
 
 -- a store's channel is one of the eight
 pub channel_within : (q : Dumping) → IsDumping q → (s : ℕ) → s < length q.rows → channel q s ≤ 7
 channel_within q is s within = (All-get_or IsStoreRow q.rows s no_row within is.stores.each).channel
 
--- what enters a node
-pub entering_kinds : (q : Dumping) (f : Flow) (n : ℕ) → entering (net q) f n ≡ grid (counted (λ t s. in_node s t) (come q f) n) (length q.windows) (length q.rows) + grid (counted (λ t s. out_node s t) (hold q f) n) (length q.windows) (length q.rows) + grid (counted (next_node q) (keep q f) n) (length q.windows) (length q.rows) + grid (counted (λ t s. channel_node (channel q s) t) (leave q f) n) (length q.windows) (length q.rows) + grid (counted (λ t _. pass_node t) (pass_on q f) n) (length q.windows) (length q.limits) + sum_by (λ t. cond (eqb SINK n) (send q f t) 0) (range_with_len 1 (length q.windows))
-unfolding entering
-entering_kinds q f n = sum_by-filter f (ends_at (net q) n) (places (net q)) ∙ arcs_by_kind q (λ k (a : Arc). cond (eqb a.to n) (f k) 0)
+-- what an arc carries, where its node is a given one
+abbrev pub at_node : (ℕ → ℕ → Node) → (ℕ → ℕ → ℕ) → Node → ℕ → ℕ → ℕ
+at_node node carries n t k = cond (is_same (node t k) n) (carries t k) 0
 
--- what leaves a node
-pub leaving_kinds : (q : Dumping) (f : Flow) (n : ℕ) → leaving (net q) f n ≡ grid (counted (λ _ _. SOURCE) (come q f) n) (length q.windows) (length q.rows) + grid (counted (λ t s. in_node s t) (hold q f) n) (length q.windows) (length q.rows) + grid (counted (λ t s. out_node s t) (keep q f) n) (length q.windows) (length q.rows) + grid (counted (λ t s. out_node s t) (leave q f) n) (length q.windows) (length q.rows) + grid (counted (λ t c. channel_node c t) (pass_on q f) n) (length q.windows) (length q.limits) + sum_by (λ t. cond (eqb (pass_node t) n) (send q f t) 0) (range_with_len 1 (length q.windows))
-unfolding leaving
-leaving_kinds q f n = sum_by-filter f (starts_at (net q) n) (places (net q)) ∙ arcs_by_kind q (λ k (a : Arc). cond (eqb a.from n) (f k) 0)
+-- what the arcs of a kind carry that meet a node
+pub kind_at : (node : ℕ → ℕ → Node) (carries : ℕ → ℕ → ℕ) (n : Node) (m r : ℕ) → IsNode n → ((t k : ℕ) → 1 ≤ t → t ≤ m → k < r → IsNode (node t k)) → grid (λ t k. cond (eqb (number_of (node t k)) (number_of n)) (carries t k) 0) m r ≡ grid (at_node node carries n) m r
+kind_at node carries n m r is each =
+    grid-same (λ t k. cond (eqb (number_of (node t k)) (number_of n)) (carries t k) 0) (at_node node carries n) m r
+    (λ t k low high within. ap (λ b. cond b (carries t k) 0) (eqb-number_of (node t k) n (each t k low high within) is))
+
+-- what the arcs for windows carry that meet a node
+pub windows_at : (node : ℕ → Node) (carries : ℕ → ℕ) (n : Node) (m : ℕ) → IsNode n → ((t : ℕ) → 1 ≤ t → IsNode (node t)) → sum_by (λ t. cond (eqb (number_of (node t)) (number_of n)) (carries t) 0) (range_with_len 1 m) ≡ sum_by (λ t. cond (is_same (node t) n) (carries t) 0) (range_with_len 1 m)
+windows_at node carries n m is each =
+    sum_by_range_same (λ t. cond (eqb (number_of (node t)) (number_of n)) (carries t) 0) (λ t. cond (is_same (node t) n) (carries t) 0) 1 m
+    (λ t low _. ap (λ b. cond b (carries t) 0) (eqb-number_of (node t) n (each t low) is))
+
+module _ (q : Dumping) (is : IsDumping q) (f : Flow) (n : Node) (is_node : IsNode n) where
+  -- each arc's node is one of the network's
+  is_next : (t k : ℕ) → k < length q.rows → IsNode (next_node q t k)
+  is_next t k within = elim (eqb t (length q.windows)) as (λ b. IsNode (cond b Sink (In (t + 1) k))) [ true ↦ tt | false ↦ (omega arith, omega (arith, is.stores.at_most)) ]
+
+  is_channel : (t k : ℕ) → 1 ≤ t → k < length q.rows → IsNode (Channel t (channel q k))
+  is_channel t k low within = (low, omega (arith, channel_within q is k within))
+
+  -- what enters a node
+  pub entering_kinds : entering (net q) f (number_of n) ≡ grid (at_node (λ t s. In t s) (come q f) n) (length q.windows) (length q.rows) + grid (at_node (λ t s. Out t s) (hold q f) n) (length q.windows) (length q.rows) + grid (at_node (next_node q) (keep q f) n) (length q.windows) (length q.rows) + grid (at_node (λ t s. Channel t (channel q s)) (leave q f) n) (length q.windows) (length q.rows) + grid (at_node (λ t _. Pass t) (pass_on q f) n) (length q.windows) (length q.limits) + sum_by (λ t. cond (is_same Sink n) (send q f t) 0) (range_with_len 1 (length q.windows))
+  unfolding entering
+  entering_kinds =
+      let m = length q.windows in
+      let r = length q.rows in
+      let most = is.stores.at_most in
+      omega (
+        arith,
+        sum_by-filter f (ends_at (net q) (number_of n)) (places (net q)),
+        arcs_by_kind q (λ k (a : Arc). cond (eqb a.to (number_of n)) (f k) 0),
+        kind_at (λ t s. In t s) (come q f) n m r is_node (λ t k low _ within. (low, omega arith)),
+        kind_at (λ t s. Out t s) (hold q f) n m r is_node (λ t k low _ within. (low, omega arith)),
+        kind_at (next_node q) (keep q f) n m r is_node (λ t k _ _ within. is_next t k within),
+        kind_at (λ t s. Channel t (channel q s)) (leave q f) n m r is_node (λ t k low _ within. is_channel t k low within),
+        kind_at (λ t _. Pass t) (pass_on q f) n m (length q.limits) is_node (λ t k low _ _. low),
+        windows_at (λ _. Sink) (send q f) n m is_node (λ _ _. tt),
+      )
+
+  -- what leaves a node
+  pub leaving_kinds : leaving (net q) f (number_of n) ≡ grid (at_node (λ _ _. Source) (come q f) n) (length q.windows) (length q.rows) + grid (at_node (λ t s. In t s) (hold q f) n) (length q.windows) (length q.rows) + grid (at_node (λ t s. Out t s) (keep q f) n) (length q.windows) (length q.rows) + grid (at_node (λ t s. Out t s) (leave q f) n) (length q.windows) (length q.rows) + grid (at_node (λ t c. Channel t c) (pass_on q f) n) (length q.windows) (length q.limits) + sum_by (λ t. cond (is_same (Pass t) n) (send q f t) 0) (range_with_len 1 (length q.windows))
+  unfolding leaving
+  leaving_kinds =
+      let m = length q.windows in
+      let r = length q.rows in
+      let most = is.stores.at_most in
+      let eight = is.channels.all in
+      omega (
+        arith,
+        sum_by-filter f (starts_at (net q) (number_of n)) (places (net q)),
+        arcs_by_kind q (λ k (a : Arc). cond (eqb a.from (number_of n)) (f k) 0),
+        kind_at (λ _ _. Source) (come q f) n m r is_node (λ t k _ _ _. tt),
+        kind_at (λ t s. In t s) (hold q f) n m r is_node (λ t k low _ within. (low, omega arith)),
+        kind_at (λ t s. Out t s) (keep q f) n m r is_node (λ t k low _ within. (low, omega arith)),
+        kind_at (λ t s. Out t s) (leave q f) n m r is_node (λ t k low _ within. (low, omega arith)),
+        kind_at (λ t c. Channel t c) (pass_on q f) n m (length q.limits) is_node (λ t k low _ within. (low, omega arith)),
+        windows_at (λ t. Pass t) (send q f) n m is_node (λ t low. low),
+      )

@@ -4,13 +4,15 @@ use Rattle.std.specs.Prelude.{filter}
 use Rattle.std.specs.List.{sum_by, range_with_len}
 use Rattle.std.proofs.lemmas.Bool.{cases_Bool, cases_lt, cond-true, cond-false, and_parts}
 use Rattle.std.proofs.lemmas.Bool.Decides.{nat_tests}
+use Rattle.mm_sums.proofs.RangeSums.{sum_by_range_one, sum_by_range_same, sum_by_range_zeros}
+use Rattle.mm_sums.proofs.Sums.{sum_by-add, sum_by-filter}
+use Rattle.mm_sums.proofs.Tests.{cond-eqb_other, cond-eqb_same}
 use Rattle.mm_problem.specs.Dumping.{Dumping, start, arrivals, steps}
-use Rattle.mm_cut.proofs.Sums.{sum_by-filter, sum_by-add}
 use Rattle.mm_flow.specs.Cut.{Side}
-use Rattle.mm_planner.specs.Network.{in_node, out_node, inflow}
-use Rattle.mm_planner.specs.Runs.{goes_on, is_end, first_step}
-use Rattle.mm_planner.proofs.Ranges.{sum_by-same_range, sum_by-none, sum_by-one, sum_by-suc, at_same, at_other}
-use Rattle.mm_planner.proofs.FromFlow.{inflow_is}
+use Rattle.mm_planner.specs.declared.nodes.Node.TheVariants.{In, Out}
+use Rattle.mm_planner.specs.Network.{inflow}
+use Rattle.mm_planner.specs.Runs.{is_on, goes_on, is_end, first_step}
+use Rattle.mm_planner.proofs.FromFlow.{sum_by_steps-suc, inflow_is}
 
 -- a run begins with a step of the problem
 pub first_step-low : (side : Side) (s t : ℕ) → 1 ≤ first_step side s t
@@ -66,16 +68,16 @@ module _ (q : Dumping) (s : ℕ) where
       let here : ℕ → ℕ = λ t. cond (eqb t (suc j)) (arrivals q s t) 0 in
       omega (
         arith,
-        sum_by-same_range f (λ t. before t + here t) 1 (length q.windows) (λ t _ _. one_step_more i j t (arrivals q s t) order),
+        sum_by_range_same f (λ t. before t + here t) 1 (length q.windows) (λ t _ _. one_step_more i j t (arrivals q s t) order),
         sum_by-add before here (steps q),
-        sum_by-one here 1 (length q.windows) (suc j) (omega arith) (omega arith) (λ t _ _ other. at_other t (suc j) (arrivals q s t) other),
-        at_same (suc j) (suc j) (arrivals q s (suc j)) refl,
+        sum_by_range_one here 1 (length q.windows) (suc j) (omega arith) (omega arith) (λ t _ _ other. cond-eqb_other t (suc j) (arrivals q s t) other),
+        cond-eqb_same (suc j) (suc j) (arrivals q s (suc j)) refl,
       )
 
   -- nothing arrives over no steps
   arrived_over-none : (i j : ℕ) → j < i → arrived_over i j ≡ 0
   unfolding arrived_over
-  arrived_over-none i j order = sum_by-none (λ t. cond (leb i t && leb t j) (arrivals q s t) 0) 1 (length q.windows) (λ t _ _. no_steps i j t (arrivals q s t) order)
+  arrived_over-none i j order = sum_by_range_zeros (λ t. cond (leb i t && leb t j) (arrivals q s t) 0) 1 (length q.windows) (λ t _ _. no_steps i j t (arrivals q s t) order)
 
   -- what comes over a run from one step to another
   pub coming_over : ℕ → ℕ → ℕ
@@ -96,7 +98,7 @@ module _ (q : Dumping) (s : ℕ) where
   unfolding coming_over arrived_over
   coming_over_is i j = omega (arith, sum_by-filter (arrivals q s) (λ t. leb i t && leb t j) (steps q))
 
-  module _ (side : Side) (goes : (t : ℕ) → 1 ≤ t → t < length q.windows → side (out_node s t) ≡ true → side (in_node s (suc t)) ≡ true) where
+  module _ (side : Side) (goes : (t : ℕ) → 1 ≤ t → t < length q.windows → is_on side (Out t s) ≡ true → is_on side (In (suc t) s) ≡ true) where
     -- what came over the run that is open after a step
     pending : ℕ → ℕ
     pending zero = 0
@@ -109,22 +111,22 @@ module _ (q : Dumping) (s : ℕ) where
     ends_or_goes_on false b n = refl
 
     -- what came over the run that a step is in
-    run_so_far : (t : ℕ) → t < length q.windows → cond (side (in_node s (suc t))) (coming_over (first_step side s (suc t)) (suc t)) 0 ≡ pending t + cond (side (in_node s (suc t))) (inflow q (suc t) s) 0
+    run_so_far : (t : ℕ) → t < length q.windows → cond (is_on side (In (suc t) s)) (coming_over (first_step side s (suc t)) (suc t)) 0 ≡ pending t + cond (is_on side (In (suc t) s)) (inflow q (suc t) s) 0
     unfolding pending
     run_so_far zero within =
         let first : first_step side s (suc zero) ≡ suc zero = elim (cases_Bool (goes_on side s zero)) [ inl on ↦ rw on refl | inr off ↦ rw off refl ] in
-        omega (arith, ap (λ i. cond (side (in_node s (suc zero))) (coming_over i (suc zero)) 0) first, ap (λ n. cond (side (in_node s (suc zero))) n 0) (coming_over-one zero within))
+        omega (arith, ap (λ i. cond (is_on side (In (suc zero) s)) (coming_over i (suc zero)) 0) first, ap (λ n. cond (is_on side (In (suc zero) s)) n 0) (coming_over-one zero within))
     run_so_far (suc t) within = elim (cases_Bool (goes_on side s (suc t))) [
       | inl on ↦
-          let parts = and_parts (side (in_node s (suc t))) (side (out_node s (suc t))) on in
+          let parts = and_parts (is_on side (In (suc t) s)) (is_on side (Out (suc t) s)) on in
           let next = goes (suc t) (omega arith) within parts.1 in
           let first : first_step side s (suc (suc t)) ≡ first_step side s (suc t) = rw on refl in
           let low : first_step side s (suc t) ≤ suc (suc t) = omega (arith, first_step-high side s t) in
           let open_run : cond (goes_on side s (suc t)) (coming_over (first_step side s (suc t)) (suc t)) 0 ≡ coming_over (first_step side s (suc t)) (suc t) = cond-true (goes_on side s (suc t)) (coming_over (first_step side s (suc t)) (suc t)) 0 on in
           omega (
             arith,
-            cond-true (side (in_node s (suc (suc t)))) (coming_over (first_step side s (suc (suc t))) (suc (suc t))) 0 next,
-            cond-true (side (in_node s (suc (suc t)))) (inflow q (suc (suc t)) s) 0 next,
+            cond-true (is_on side (In (suc (suc t)) s)) (coming_over (first_step side s (suc (suc t))) (suc (suc t))) 0 next,
+            cond-true (is_on side (In (suc (suc t)) s)) (inflow q (suc (suc t)) s) 0 next,
             ap (λ i. coming_over i (suc (suc t))) first,
             coming_over-suc (first_step side s (suc t)) (suc t) low within,
             open_run,
@@ -134,31 +136,31 @@ module _ (q : Dumping) (s : ℕ) where
           let first : first_step side s (suc (suc t)) ≡ suc (suc t) = rw off refl in
           omega (
             arith,
-            ap (λ i. cond (side (in_node s (suc (suc t)))) (coming_over i (suc (suc t))) 0) first,
-            ap (λ n. cond (side (in_node s (suc (suc t)))) n 0) (coming_over-one (suc t) within),
+            ap (λ i. cond (is_on side (In (suc (suc t)) s)) (coming_over i (suc (suc t))) 0) first,
+            ap (λ n. cond (is_on side (In (suc (suc t)) s)) n 0) (coming_over-one (suc t) within),
             cond-false (goes_on side s (suc t)) (coming_over (first_step side s (suc t)) (suc t)) 0 off,
           )
     ]
 
     -- over the first steps, what came over the runs that ended and over the open one is what came in their steps
-    runs_so_far : (t : ℕ) → t ≤ length q.windows → sum_by (λ u. cond (is_end side s u) (coming_over (first_step side s u) u) 0) (range_with_len 1 t) + pending t ≡ sum_by (λ u. cond (side (in_node s u)) (inflow q u s) 0) (range_with_len 1 t)
+    runs_so_far : (t : ℕ) → t ≤ length q.windows → sum_by (λ u. cond (is_end side s u) (coming_over (first_step side s u) u) 0) (range_with_len 1 t) + pending t ≡ sum_by (λ u. cond (is_on side (In u s)) (inflow q u s) 0) (range_with_len 1 t)
     unfolding pending
     runs_so_far zero within = refl
     runs_so_far (suc t) within =
         omega (
           arith,
-          sum_by-suc (λ u. cond (is_end side s u) (coming_over (first_step side s u) u) 0) t,
-          sum_by-suc (λ u. cond (side (in_node s u)) (inflow q u s) 0) t,
+          sum_by_steps-suc (λ u. cond (is_end side s u) (coming_over (first_step side s u) u) 0) t,
+          sum_by_steps-suc (λ u. cond (is_on side (In u s)) (inflow q u s) 0) t,
           runs_so_far t (omega arith),
           run_so_far t (omega arith),
-          ends_or_goes_on (side (in_node s (suc t))) (side (out_node s (suc t))) (coming_over (first_step side s (suc t)) (suc t)),
+          ends_or_goes_on (is_on side (In (suc t) s)) (is_on side (Out (suc t) s)) (coming_over (first_step side s (suc t)) (suc t)),
         )
 
     -- no run is open after a step whose stores hold nothing on the side
-    none_pending : (t : ℕ) → side (out_node s t) ≡ false → pending t ≡ 0
+    none_pending : (t : ℕ) → is_on side (Out t s) ≡ false → pending t ≡ 0
     unfolding pending
     none_pending zero off = refl
-    none_pending (suc t) off = cond-false (goes_on side s (suc t)) (coming_over (first_step side s (suc t)) (suc t)) 0 (ends (side (in_node s (suc t))) (side (out_node s (suc t))) off)
+    none_pending (suc t) off = cond-false (goes_on side s (suc t)) (coming_over (first_step side s (suc t)) (suc t)) 0 (ends (is_on side (In (suc t) s)) (is_on side (Out (suc t) s)) off)
       where
         -- it does not go on
         ends : (a b : Bool) → b ≡ false → (a && b) ≡ false
@@ -166,5 +168,5 @@ module _ (q : Dumping) (s : ℕ) where
         ends false b e = refl
 
     -- what comes over the runs of a store is what comes in their steps
-    pub runs_cover : side (out_node s (length q.windows)) ≡ false → sum_by (λ t. cond (is_end side s t) (coming_over (first_step side s t) t) 0) (steps q) ≡ sum_by (λ t. cond (side (in_node s t)) (inflow q t s) 0) (steps q)
+    pub runs_cover : is_on side (Out (length q.windows) s) ≡ false → sum_by (λ t. cond (is_end side s t) (coming_over (first_step side s t) t) 0) (steps q) ≡ sum_by (λ t. cond (is_on side (In t s)) (inflow q t s) 0) (steps q)
     runs_cover last = omega (arith, runs_so_far (length q.windows) (omega arith), none_pending (length q.windows) last)

@@ -3,7 +3,7 @@ use Rattle.std.specs.Prelude.{◌≡◌, ℕ, ◌+◌, ◌≤◌, List, [], ◌+
 use Rattle.mm_base.specs.declared.limits.TheConstants.{MAX_STEPS}
 use Rattle.mm_problem.specs.Dumping.{Dumping}
 use Rattle.mm_flow.specs.declared.arc.Arc.{Arc}
-use Rattle.mm_flow.specs.declared.limits.TheConstants.{MAX_ARCS}
+use Rattle.mm_flow.specs.declared.limits.TheConstants.{MAX_NODES, MAX_ARCS}
 use Rattle.mm_flow.specs.Graph.{Graph}
 use Rattle.mm_flow.specs.Built.{Built}
 use Rattle.mm_planner.specs.Network.{net}
@@ -26,7 +26,13 @@ pub record IsStep (q : Dumping) (t : ℕ) : Type 0 where
   pub last : t ≤ length q.windows
   pub most : t ≤ MAX_STEPS
 
+-- the second graph has the same nodes, and at most so many arcs more
+pub record KeepsRoom (old new : Graph) (more : ℕ) : Type 0 where
+  pub nodes : new.nodes ≡ old.nodes
+  pub arcs : length new.arcs ≤ length old.arcs + more
+
 -- the graph has the nodes of the problem's network, and may have so many arcs more
 pub record HasRoom (q : Dumping) (g : Graph) (more : ℕ) : Type 0 where
   pub nodes : g.nodes ≡ (net q).nodes
+  pub few_nodes : g.nodes ≤ MAX_NODES
   pub arcs : length g.arcs + more ≤ MAX_ARCS

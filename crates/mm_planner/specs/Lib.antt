@@ -1,9 +1,10 @@
+pub use Rattle.mm_check.specs.Checking
+pub use Rattle.mm_check.specs.Lines
+pub mod Nodes
 pub mod Network
+pub mod Links
 pub mod Taken
 pub mod Runs
 pub mod Planned
 pub mod Growing
-pub mod Lines
-pub mod CheckFault
-pub mod Checking
 pub mod PlanTexts

@@ -5,15 +5,21 @@ use Rattle.mm_problem.specs.Dumping.{Dumping, row, stores, steps}
 use Rattle.mm_plan.specs.declared.stretch.Stretch.{Stretch}
 use Rattle.mm_cut.specs.Stretches.{is_inner}
 use Rattle.mm_flow.specs.Cut.{Side}
-use Rattle.mm_planner.specs.Network.{in_node, out_node, pass_node}
+use Rattle.mm_planner.specs.declared.nodes.Node.TheVariants.{In, Out, Pass}
+use Rattle.mm_planner.specs.declared.nodes.Node.{Node}
+use Rattle.mm_planner.specs.Nodes.{number_of}
+
+-- whether a node is on the side
+abbrev pub is_on : Side → Node → Bool
+is_on side node = side (number_of node)
 
 -- whether both nodes of a store in a step are on the side, so that its run goes on into the next step
 abbrev pub goes_on : Side → ℕ → ℕ → Bool
-goes_on side s t = side (in_node s t) && side (out_node s t)
+goes_on side s t = is_on side (In t s) && is_on side (Out t s)
 
 -- whether a run of the store ends with the step: it comes into the step and does not go on
 abbrev pub is_end : Side → ℕ → ℕ → Bool
-is_end side s t = side (in_node s t) && not (side (out_node s t))
+is_end side s t = is_on side (In t s) && not (is_on side (Out t s))
 
 -- the first step of the run that a step is in; for step 1 it is 1, whatever the side
 abbrev pub first_step : Side → ℕ → ℕ → ℕ
@@ -34,7 +40,7 @@ stretches q side = flat_map (stretches_of q side) (stores q)
 
 -- whether a step is inner and its pass is off the side
 abbrev pub is_by_channels : Side → List Stretch → ℕ → Bool
-is_by_channels side ds t = is_inner ds t && not (side (pass_node t))
+is_by_channels side ds t = is_inner ds t && not (is_on side (Pass t))
 
 -- the steps that count by channels, of given stretches
 abbrev pub counts_of : Dumping → Side → List Stretch → List ℕ

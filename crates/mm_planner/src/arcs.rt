@@ -1,17 +1,26 @@
 //! The arcs of one step of a problem's network, kind by kind.
 ghost use Rattle.std.specs.Prelude.{◌≡◌, ◌+◌, ◌*◌, ◌<◌, ◌≤◌, length, map, OnOk, [], ◌∷◌};
 ghost use Rattle.std.specs.Option.{ForSome};
-ghost use Rattle.mm_base.specs.declared.limits.TheConstants.{MAX_STORES, MAX_BLOCKS};
+ghost use Rattle.mm_base.specs.declared.limits.TheConstants.{MAX_STORES, MAX_BLOCKS, CHANNELS};
 ghost use Rattle.mm_problem.specs.Dumping.{stores, channels, limit};
-ghost use Rattle.mm_planner.specs.Network.{inflow, step_arcs};
-ghost use Rattle.mm_planner.specs.Network.{come_arc, hold_arc, keep_arc, take_arc, limit_arc, window_arc};
-ghost use Rattle.mm_planner.specs.Taken.{step_width};
-ghost use Rattle.mm_planner.specs.Growing.{AddsArcs, IsStep, HasRoom};
+ghost use Rattle.mm_flow.specs.Built.{with_arc};
+ghost use Rattle.mm_planner.specs.Network.{inflow, next_node, store_arc, limit_arc, window_arc, step_arcs};
+ghost use Rattle.mm_planner.specs.Links.{arc_of, IsLink};
+ghost use Rattle.mm_planner.specs.Growing.{AddsArcs, IsStep, HasRoom, KeepsRoom};
 
-use crate::fault::NoMemory;
-use crate::nodes::{SINK, SOURCE, channel_node, in_node, next_node, out_node, pass_node};
+use crate::nodes::Node;
+use crate::way::Way;
+use mm_base::NoMemory;
 use mm_flow::Network;
 use mm_problem::Problem;
+
+/// An arc between two nodes.
+#[derive(Clone, Copy)]
+pub(crate) struct Link {
+    pub(crate) from: Node,
+    pub(crate) to: Node,
+    pub(crate) capacity: Option<u64>,
+}
 
 // The blocks that come to a store in a step, with those that it holds as the first step begins.
 fn inflow(problem: &Problem, step: u32, store: usize) -> u64
@@ -28,60 +37,17 @@ fn inflow(problem: &Problem, step: u32, store: usize) -> u64
     }
 }
 
-// Blocks come to each store.
-fn add_come_arcs(network: &mut Network, problem: &Problem, step: u32) -> Result<(), NoMemory>
+// Where the blocks go that a store keeps.
+fn next_node(problem: &Problem, step: u32, store: usize) -> Node
     requires step { IsStep problem.now step }
-    requires room { HasRoom problem.now network.old.graph MAX_STORES }
-    ensures added { OnOk result
-        (AddsArcs network.old network.new (map (come_arc problem.now step) (stores problem.now))) }
+    ensures next { result ≡ next_node problem.now step store }
 {
-    for store in 0..problem.stores() {
-        let blocks = inflow(problem, step, store);
-        network.add_arc(SOURCE, in_node(store, step), Some(blocks))?;
+    if step == problem.steps() {
+        Node::Sink
+    } else {
+        let step = step + 1;
+        Node::In { step, store }
     }
-    Ok(())
-}
-
-// Each store holds as many as its size.
-fn add_hold_arcs(network: &mut Network, problem: &Problem, step: u32) -> Result<(), NoMemory>
-    requires step { IsStep problem.now step }
-    requires room { HasRoom problem.now network.old.graph MAX_STORES }
-    ensures added { OnOk result
-        (AddsArcs network.old network.new (map (hold_arc problem.now step) (stores problem.now))) }
-{
-    for store in 0..problem.stores() {
-        let size = u64::from(problem.size(store));
-        network.add_arc(in_node(store, step), out_node(store, step), Some(size))?;
-    }
-    Ok(())
-}
-
-// Each store keeps blocks for the next step.
-fn add_keep_arcs(network: &mut Network, problem: &Problem, step: u32) -> Result<(), NoMemory>
-    requires step { IsStep problem.now step }
-    requires room { HasRoom problem.now network.old.graph MAX_STORES }
-    ensures added { OnOk result
-        (AddsArcs network.old network.new (map (keep_arc problem.now step) (stores problem.now))) }
-{
-    for store in 0..problem.stores() {
-        let next = next_node(problem, step, store);
-        network.add_arc(out_node(store, step), next, None)?;
-    }
-    Ok(())
-}
-
-// Blocks leave each store for its channel.
-fn add_take_arcs(network: &mut Network, problem: &Problem, step: u32) -> Result<(), NoMemory>
-    requires step { IsStep problem.now step }
-    requires room { HasRoom problem.now network.old.graph MAX_STORES }
-    ensures added { OnOk result
-        (AddsArcs network.old network.new (map (take_arc problem.now step) (stores problem.now))) }
-{
-    for store in 0..problem.stores() {
-        let channel = channel_node(problem.channel(store), step);
-        network.add_arc(out_node(store, step), channel, None)?;
-    }
-    Ok(())
 }
 
 // The limit of a channel.
@@ -95,6 +61,100 @@ fn limit(problem: &Problem, channel: u8) -> Option<u64>
     }
 }
 
+// The arc for what the blocks of a store do in a step.
+fn store_link(problem: &Problem, way: Way, step: u32, store: usize) -> Link
+    requires step { IsStep problem.now step }
+    requires store { store < length problem.now.rows }
+    requires most { store < MAX_STORES }
+    ensures arc { arc_of result ≡ store_arc problem.now way step store }
+    ensures is_link { IsLink problem.now result }
+{
+    let arrived = Node::In { step, store };
+    let held = Node::Out { step, store };
+    match way {
+        Way::Come => Link {
+            from: Node::Source,
+            to: arrived,
+            capacity: Some(inflow(problem, step, store)),
+        },
+        Way::Hold => Link {
+            from: arrived,
+            to: held,
+            capacity: Some(u64::from(problem.size(store))),
+        },
+        Way::Keep => Link {
+            from: held,
+            to: next_node(problem, step, store),
+            capacity: None,
+        },
+        Way::Take => {
+            let channel = problem.channel(store);
+            Link {
+                from: held,
+                to: Node::Channel { step, channel },
+                capacity: None,
+            }
+        }
+    }
+}
+
+// The arc for the limit of a channel.
+fn limit_link(problem: &Problem, step: u32, channel: u8) -> Link
+    requires step { IsStep problem.now step }
+    requires channel { channel < CHANNELS }
+    ensures arc { arc_of result ≡ limit_arc problem.now step channel }
+    ensures is_link { IsLink problem.now result }
+{
+    Link {
+        from: Node::Channel { step, channel },
+        to: Node::Pass { step },
+        capacity: limit(problem, channel),
+    }
+}
+
+// The arc for the window.
+fn window_link(problem: &Problem, step: u32) -> Link
+    requires step { IsStep problem.now step }
+    ensures arc { arc_of result ≡ window_arc problem.now step }
+    ensures is_link { IsLink problem.now result }
+{
+    Link {
+        from: Node::Pass { step },
+        to: Node::Sink,
+        capacity: Some(u64::from(problem.window(step))),
+    }
+}
+
+// Adds an arc to the network of a problem.
+fn add_link(network: &mut Network, problem: &Problem, link: Link) -> Result<(), NoMemory>
+    requires link { IsLink problem.now link }
+    requires room { HasRoom problem.now network.old.graph 1 }
+    ensures added { OnOk result (network.new ≡ with_arc network.old (arc_of link)) }
+{
+    network.add_arc(link.from.number(), link.to.number(), link.capacity)?;
+    Ok(())
+}
+
+// Adds what the blocks of each store do in one way.
+fn add_store_arcs(
+    network: &mut Network,
+    problem: &Problem,
+    way: Way,
+    step: u32,
+) -> Result<(), NoMemory>
+    requires step { IsStep problem.now step }
+    requires room { HasRoom problem.now network.old.graph MAX_STORES }
+    ensures added { OnOk result
+        (AddsArcs network.old network.new (map (store_arc problem.now way step) (stores problem.now))) }
+    ensures room { OnOk result (KeepsRoom network.old.graph network.new.graph MAX_STORES) }
+{
+    for store in 0..problem.stores() {
+        let link = store_link(problem, way, step, store);
+        add_link(network, problem, link)?;
+    }
+    Ok(())
+}
+
 // Each channel lets through as many as its limit.
 fn add_limit_arcs(network: &mut Network, problem: &Problem, step: u32) -> Result<(), NoMemory>
     requires step { IsStep problem.now step }
@@ -102,10 +162,11 @@ fn add_limit_arcs(network: &mut Network, problem: &Problem, step: u32) -> Result
     ensures added { OnOk result
         (AddsArcs network.old network.new
         (map (limit_arc problem.now step) (channels problem.now))) }
+    ensures room { OnOk result (KeepsRoom network.old.graph network.new.graph MAX_STORES) }
 {
     for channel in 0..problem.channels() {
-        let limit = limit(problem, channel);
-        network.add_arc(channel_node(channel, step), pass_node(step), limit)?;
+        let link = limit_link(problem, step, channel);
+        add_link(network, problem, link)?;
     }
     Ok(())
 }
@@ -117,22 +178,21 @@ fn add_window_arc(network: &mut Network, problem: &Problem, step: u32) -> Result
     ensures added { OnOk result
         (AddsArcs network.old network.new (window_arc problem.now step ∷ [])) }
 {
-    let window = u64::from(problem.window(step));
-    network.add_arc(pass_node(step), SINK, Some(window))?;
-    Ok(())
+    let link = window_link(problem, step);
+    add_link(network, problem, link)
 }
 
 // All arcs of a step.
 pub(crate) fn add_step(network: &mut Network, problem: &Problem, step: u32) -> Result<(), NoMemory>
     requires step { IsStep problem.now step }
-    requires room { HasRoom problem.now network.old.graph (step_width problem.now + MAX_STORES) }
+    requires room { HasRoom problem.now network.old.graph (6 * MAX_STORES) }
     ensures added { OnOk result
         (AddsArcs network.old network.new (step_arcs problem.now step)) }
 {
-    add_come_arcs(network, problem, step)?;
-    add_hold_arcs(network, problem, step)?;
-    add_keep_arcs(network, problem, step)?;
-    add_take_arcs(network, problem, step)?;
+    add_store_arcs(network, problem, Way::Come, step)?;
+    add_store_arcs(network, problem, Way::Hold, step)?;
+    add_store_arcs(network, problem, Way::Keep, step)?;
+    add_store_arcs(network, problem, Way::Take, step)?;
     add_limit_arcs(network, problem, step)?;
     add_window_arc(network, problem, step)?;
     Ok(())

@@ -1,9 +1,6 @@
-//! The numbers of the nodes of a problem's network: the two ends, and for each step from 1 a block of nodes.
-ghost use Rattle.std.specs.Prelude.{◌≡◌, ◌+◌, ◌*◌, ◌<◌, ◌≤◌, length};
-ghost use Rattle.mm_base.specs.declared.limits.TheConstants.{MAX_STORES, MAX_STEPS, MAX_CHANNEL};
-ghost use Rattle.mm_planner.specs.Network.{in_node, out_node, channel_node, pass_node, next_node};
-
-use mm_problem::Problem;
+//! The nodes of a problem's network and their numbers: the two ends, and for each step from 1 a block of nodes.
+ghost use Rattle.std.specs.Prelude.{◌≡◌, ◌<◌, ◌^◌};
+ghost use Rattle.mm_planner.specs.Nodes.{step_of, place_of, number_of};
 
 /// The node that all blocks come from.
 pub(crate) const SOURCE: u32 = 0;
@@ -23,50 +20,58 @@ pub(crate) const CHANNEL_NODES: u32 = 32;
 /// Which one is the pass.
 pub(crate) const PASS_NODE: u32 = 40;
 
-// A store once a step's arrivals have come.
-pub(crate) fn in_node(store: usize, step: u32) -> u32
-    requires store { store < MAX_STORES }
-    requires step { step ≤ MAX_STEPS }
-    ensures { result ≡ in_node store step }
-{
-    STEP_NODES * step + store as u32
+/// A node of a problem's network.
+#[derive(Clone, Copy)]
+pub(crate) enum Node {
+    /// All blocks come from here.
+    Source,
+    /// All blocks go here.
+    Sink,
+    /// A store once a step's arrivals have come; some blocks may find no room.
+    In { step: u32, store: usize },
+    /// What the store holds of them, before the step's amount leaves.
+    Out { step: u32, store: usize },
+    /// What leaves the stores of a channel in a step.
+    Channel { step: u32, channel: u8 },
+    /// What leaves all stores in a step.
+    Pass { step: u32 },
 }
 
-// What the store holds of them.
-pub(crate) fn out_node(store: usize, step: u32) -> u32
-    requires store { store < MAX_STORES }
-    requires step { step ≤ MAX_STEPS }
-    ensures { result ≡ out_node store step }
-{
-    STEP_NODES * step + OUT_NODES + store as u32
-}
+impl Node {
+    // The step that the node is of; 0 for the two ends.
+    fn step(self) -> u32
+        ensures step { result ≡ step_of self }
+    {
+        match self {
+            Node::Source => 0,
+            Node::Sink => 0,
+            Node::In { step, .. } => step,
+            Node::Out { step, .. } => step,
+            Node::Channel { step, .. } => step,
+            Node::Pass { step } => step,
+        }
+    }
 
-// What leaves the stores of a channel in a step.
-pub(crate) fn channel_node(channel: u8, step: u32) -> u32
-    requires channel { channel ≤ MAX_CHANNEL }
-    requires step { step ≤ MAX_STEPS }
-    ensures { result ≡ channel_node channel step }
-{
-    STEP_NODES * step + CHANNEL_NODES + u32::from(channel)
-}
+    // The place of the node among those of its step.
+    fn place(self) -> u32
+        requires { place_of self < 2 ^ 32 }
+        ensures place { result ≡ place_of self }
+    {
+        match self {
+            Node::Source => SOURCE,
+            Node::Sink => SINK,
+            Node::In { store, .. } => store as u32,
+            Node::Out { store, .. } => OUT_NODES + store as u32,
+            Node::Channel { channel, .. } => CHANNEL_NODES + u32::from(channel),
+            Node::Pass { .. } => PASS_NODE,
+        }
+    }
 
-// What leaves all stores in a step.
-pub(crate) fn pass_node(step: u32) -> u32
-    requires { step ≤ MAX_STEPS }
-    ensures { result ≡ pass_node step }
-{
-    STEP_NODES * step + PASS_NODE
-}
-
-// Where the blocks go that a store keeps.
-pub(crate) fn next_node(problem: &Problem, step: u32, store: usize) -> u32
-    requires store { store < MAX_STORES }
-    requires step { step ≤ length problem.now.windows }
-    ensures { result ≡ next_node problem.now step store }
-{
-    if step == problem.steps() {
-        SINK
-    } else {
-        in_node(store, step + 1)
+    // The number of the node in the network.
+    pub(crate) fn number(self) -> u32
+        requires { number_of self < 2 ^ 32 }
+        ensures number { result ≡ number_of self }
+    {
+        STEP_NODES * self.step() + self.place()
     }
 }

@@ -1,21 +1,24 @@
 //! The cut that a side of the network says: the greatest runs of each store's nodes on the side.
-ghost use Rattle.std.specs.Prelude.{◌≡◌, ◌+◌, ◌<◌, ◌≤◌, ◌++◌, ◌∷◌, [], if◌then◌else◌, length, IfOk, OnOk};
+ghost use Rattle.std.specs.Prelude.{◌≡◌, ◌+◌, ◌<◌, ◌≤◌, ◌^◌, ◌++◌, ◌∷◌, [], if◌then◌else◌, length, IfOk, OnOk};
 ghost use Rattle.mm_base.specs.declared.limits.TheConstants.{MAX_STORES, MAX_STEPS};
 ghost use Rattle.mm_cut.specs.Stretches.{goes_past, is_inner};
 ghost use Rattle.mm_flow.specs.Solution.{side_of};
-ghost use Rattle.mm_planner.specs.Runs.{goes_on, is_end, is_by_channels, stretches_of, stretches, counts_of};
+ghost use Rattle.mm_planner.specs.Nodes.{number_of};
+ghost use Rattle.mm_planner.specs.Runs.{is_on, goes_on, is_end, is_by_channels, stretches_of, stretches, counts_of};
 
-use crate::fault::NoMemory;
-use crate::nodes::{in_node, out_node, pass_node};
+use crate::nodes::Node;
+use mm_base::NoMemory;
 use mm_plan::Stretch;
 use mm_problem::Problem;
 use std::alloc::Global;
 
 // Whether a node is on the side.
-fn is_on_side(side: &[bool], node: u32) -> bool
-    ensures { result ≡ side_of side.now node }
+fn is_on(side: &[bool], node: Node) -> bool
+    requires { number_of node < 2 ^ 32 }
+    ensures { result ≡ is_on (side_of side.now) node }
 {
-    side.get(node as usize).copied().unwrap_or(false)
+    let number = node.number() as usize;
+    side.get(number).copied().unwrap_or(false)
 }
 
 // Whether a run of the store goes on after the step.
@@ -24,7 +27,7 @@ fn goes_on(side: &[bool], store: usize, step: u32) -> bool
     requires step { step ≤ MAX_STEPS }
     ensures { result ≡ goes_on (side_of side.now) store step }
 {
-    is_on_side(side, in_node(store, step)) && is_on_side(side, out_node(store, step))
+    is_on(side, Node::In { step, store }) && is_on(side, Node::Out { step, store })
 }
 
 // Whether a run of the store ends with the step.
@@ -33,7 +36,7 @@ fn is_end(side: &[bool], store: usize, step: u32) -> bool
     requires step { step ≤ MAX_STEPS }
     ensures { result ≡ is_end (side_of side.now) store step }
 {
-    is_on_side(side, in_node(store, step)) && !is_on_side(side, out_node(store, step))
+    is_on(side, Node::In { step, store }) && !is_on(side, Node::Out { step, store })
 }
 
 // Adds the run where it ends with its last step.
@@ -124,7 +127,7 @@ fn is_by_channels(side: &[bool], stretches: &[Stretch], step: u32) -> bool
     requires { step ≤ MAX_STEPS }
     ensures { result ≡ is_by_channels (side_of side.now) stretches.now step }
 {
-    is_inner(stretches, step) && !is_on_side(side, pass_node(step))
+    is_inner(stretches, step) && !is_on(side, Node::Pass { step })
 }
 
 // Adds the step where it counts by channels.

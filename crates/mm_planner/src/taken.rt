@@ -10,7 +10,7 @@ ghost use Rattle.mm_planner.specs.Taken.{take_place, AreTaken, IsTakenTo};
 ghost use Rattle.mm_planner.specs.Growing.{IsStep};
 
 use crate::building::step_width;
-use crate::fault::NoMemory;
+use mm_base::NoMemory;
 use mm_flow::Solved;
 use mm_plan::Plan;
 use mm_problem::Problem;

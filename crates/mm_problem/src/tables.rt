@@ -9,7 +9,7 @@ ghost use Rattle.mm_problem.specs.Tables.{table_at, id_at, kind_of, kind_at, sta
 
 use crate::fault::{Fault, Name};
 use crate::keys::{has_only, number_at, text_at, value_at};
-use crate::reading::test;
+use crate::reading::test_field;
 use mm_base::{Kind, LimitRow, MAX_APID, MAX_BLOCKS, MAX_CHANNEL, RouteRow, StoreId, StoreRow};
 use std::alloc::Global;
 use toml::{Table, Value};
@@ -71,13 +71,7 @@ fn store_at(row: u32, value: &Value) -> Result<StoreRow, Fault>
 {
     let table = table_at(row, Name::Store, value)?;
     let names = [Name::Id, Name::Size, Name::Type, Name::Channel, Name::Start];
-    test(
-        has_only(&names, table),
-        Fault::SetupField {
-            row,
-            name: Name::Unknown,
-        },
-    )?;
+    test_field(has_only(&names, table), row, Name::Unknown)?;
     let id = id_at(row, Name::Id, table)?;
     let size = number_at(row, Name::Size, 1, MAX_BLOCKS, table)?;
     let kind = kind_at(row, table)?;
@@ -105,13 +99,7 @@ fn next_store(earlier: &[StoreRow], value: &Value) -> Result<StoreRow, Fault>
 {
     let number = earlier.len() as u32 + 1;
     let row = store_at(number, value)?;
-    test(
-        !has_store(earlier, &row.id),
-        Fault::SetupField {
-            row: number,
-            name: Name::Repeated,
-        },
-    )?;
+    test_field(!has_store(earlier, &row.id), number, Name::Repeated)?;
     Ok(row)
 }
 
@@ -135,13 +123,7 @@ fn route_at(row: u32, value: &Value) -> Result<RouteRow, Fault>
 {
     let table = table_at(row, Name::Route, value)?;
     let names = [Name::Apid, Name::Service, Name::Subtype, Name::Store];
-    test(
-        has_only(&names, table),
-        Fault::SetupField {
-            row,
-            name: Name::Unknown,
-        },
-    )?;
+    test_field(has_only(&names, table), row, Name::Unknown)?;
     let apid = number_at(row, Name::Apid, 0, u32::from(MAX_APID), table)? as u16;
     let service = number_at(row, Name::Service, 0, 255, table)? as u8;
     let subtype = number_at(row, Name::Subtype, 0, 255, table)? as u8;
@@ -173,20 +155,8 @@ fn next_route(stores: &[StoreRow], earlier: &[RouteRow], value: &Value) -> Resul
 {
     let number = earlier.len() as u32 + 1;
     let row = route_at(number, value)?;
-    test(
-        has_store(stores, &row.store),
-        Fault::SetupField {
-            row: number,
-            name: Name::Store,
-        },
-    )?;
-    test(
-        !has_route(earlier, &row),
-        Fault::SetupField {
-            row: number,
-            name: Name::Repeated,
-        },
-    )?;
+    test_field(has_store(stores, &row.store), number, Name::Store)?;
+    test_field(!has_route(earlier, &row), number, Name::Repeated)?;
     Ok(row)
 }
 
@@ -214,13 +184,7 @@ fn limit_at(row: u32, value: &Value) -> Result<LimitRow, Fault>
 {
     let table = table_at(row, Name::Limit, value)?;
     let names = [Name::Channel, Name::Blocks];
-    test(
-        has_only(&names, table),
-        Fault::SetupField {
-            row,
-            name: Name::Unknown,
-        },
-    )?;
+    test_field(has_only(&names, table), row, Name::Unknown)?;
     let channel = number_at(row, Name::Channel, 0, u32::from(MAX_CHANNEL), table)? as u8;
     let blocks = number_at(row, Name::Blocks, 0, MAX_BLOCKS, table)?;
     Ok(LimitRow { channel, blocks })
@@ -239,13 +203,7 @@ fn next_limit(earlier: &[LimitRow], value: &Value) -> Result<LimitRow, Fault>
 {
     let number = earlier.len() as u32 + 1;
     let row = limit_at(number, value)?;
-    test(
-        !has_limit(earlier, row.channel),
-        Fault::SetupField {
-            row: number,
-            name: Name::Repeated,
-        },
-    )?;
+    test_field(!has_limit(earlier, row.channel), number, Name::Repeated)?;
     Ok(row)
 }
 

@@ -23,13 +23,13 @@ use Rattle.mm_st15.specs.declared.report_kind.ReportKind.TheVariants as kind
 use Rattle.mm_st15.specs.ReportKind.{code_of, kind_at}
 use Rattle.mm_st15.specs.Report.{kind_of, moment_of, data_of, IsReport, SpellsReport, is_counted, report_fault}
 use Rattle.mm_st15.specs.Counted.{counted_at}
-use Rattle.mm_st15.specs.Layout.{row_octets, FitsRow, summary_octets, FitsSummary, status_octets, FitsStatus, configuration_octets, FitsConfiguration}
+use Rattle.mm_st15.specs.Layout.{Layout, row_octets, FitsRow, row_layout, summary_layout, status_layout, configuration_layout}
 use Rattle.mm_st15.proofs.CountLemmas.{counted_again, rows_counted}
-use Rattle.mm_st15.proofs.LayoutLemmas.{behind_id, entries_from, entries_again, entries_in, counted_entries, length_of_entries, row_of, row_layout, summary_of, summary_layout, status_of, status_layout, configuration_of, configuration_layout}
+use Rattle.mm_st15.proofs.LayoutLemmas.{behind_id, IsReadable, entries_from, entries_again, entries_in, entries_in_again, length_of_entries, row_readable, summary_readable, status_readable, configuration_readable}
 
 -- the rows behind their count
 rows_in : List ℕ → List Row
-rows_in octets = entries_from row_of 4 (from_be_bytes w16 (take 2 octets)) (drop 2 octets)
+rows_in octets = entries_from row_readable.of 4 (from_be_bytes w16 (take 2 octets)) (drop 2 octets)
 
 -- a report of the storage control, of an identifier and what follows it
 control_with : ℕ → List ℕ → List ℕ → Report
@@ -38,14 +38,14 @@ control_with moment id others = report.Control moment id (rows_in others)
 -- the report of a kind with this moment and these data
 report_from : ReportKind → ℕ → List ℕ → Report
 report_from kind.Control moment octets = control_with moment (take 8 octets) (drop 8 octets)
-report_from kind.Summaries moment octets = report.Summaries moment (entries_in summary_of 28 octets)
-report_from kind.Statuses moment octets = report.Statuses moment (entries_in status_of 10 octets)
-report_from kind.Configurations moment octets = report.Configurations moment (entries_in configuration_of 14 octets)
+report_from kind.Summaries moment octets = report.Summaries moment (entries_in summary_readable.of 28 octets)
+report_from kind.Statuses moment octets = report.Statuses moment (entries_in status_readable.of 10 octets)
+report_from kind.Configurations moment octets = report.Configurations moment (entries_in configuration_readable.of 14 octets)
 
 -- the rows are read again behind their count
 rows_again : (rows : List Row) → length rows < 2 ^ 16 → AllByRecursion FitsRow rows → rows_in (to_be_bytes w16 (length rows) ++ flat_map row_octets rows) ≡ rows
 unfolding rows_in
-rows_again rows few fits = rw (from_be_bytes-to_be_bytes_2 (length rows) few) (entries_again row_octets FitsRow 4 row_of row_layout rows fits)
+rows_again rows few fits = rw (from_be_bytes-to_be_bytes_2 (length rows) few) (entries_again row_layout row_readable rows fits)
 
 -- a report is known by its kind, its moment and its data
 report_again : (r : Report) → IsReport r → report_from (kind_of r) (moment_of r) (data_of r) ≡ r
@@ -55,14 +55,14 @@ report_again (report.Control moment id rows) fits =
     let regrouped : data_of (report.Control moment id rows) ≡ id ++ others = append_assoc id (to_be_bytes w16 (length rows)) (flat_map row_octets rows) in
     let few : length rows < 2 ^ 16 = omega (arith, fits.count) in
     ap (report_from kind.Control moment) regrouped ∙ behind_id (control_with moment) id others fits.entries.0 ∙ ap (λ (xs : List Row). report.Control moment id xs) (rows_again rows few fits.entries.1)
-report_again (report.Summaries moment entries) fits = ap (λ (xs : List Summary). report.Summaries moment xs) (counted_entries summary_octets FitsSummary 28 summary_of summary_layout entries fits.entries)
-report_again (report.Statuses moment entries) fits = ap (λ (xs : List Status). report.Statuses moment xs) (counted_entries status_octets FitsStatus 10 status_of status_layout entries fits.entries)
-report_again (report.Configurations moment entries) fits = ap (λ (xs : List Configuration). report.Configurations moment xs) (counted_entries configuration_octets FitsConfiguration 14 configuration_of configuration_layout entries fits.entries)
+report_again (report.Summaries moment entries) fits = ap (λ (xs : List Summary). report.Summaries moment xs) (entries_in_again summary_layout summary_readable entries fits.entries)
+report_again (report.Statuses moment entries) fits = ap (λ (xs : List Status). report.Statuses moment xs) (entries_in_again status_layout status_readable entries fits.entries)
+report_again (report.Configurations moment entries) fits = ap (λ (xs : List Configuration). report.Configurations moment xs) (entries_in_again configuration_layout configuration_readable entries fits.entries)
 
--- entries of one width are counted
-entries_counted : {E : Type 0} (octets : E → List ℕ) (fits : E → Type 0) (width : ℕ) (entries : List E) → length (flat_map octets entries) ≡ length entries * width
-    → counted_at 0 width (length entries ∷ flat_map octets entries) ≡ Some (length entries, flat_map octets entries)
-entries_counted octets fits width entries len = counted_again 0 width (length entries) (flat_map octets entries) (omega arith) len
+-- entries of a layout are counted
+entries_counted : (layout : Layout) → IsReadable layout → (entries : List layout.Entry) → AllByRecursion layout.fits entries
+    → counted_at 0 layout.width (length entries ∷ flat_map layout.octets entries) ≡ Some (length entries, flat_map layout.octets entries)
+entries_counted layout is entries fits = counted_again 0 layout.width (length entries) (flat_map layout.octets entries) (omega arith) (length_of_entries layout is entries fits)
 
 -- the data of a report are as long as their count says
 counted : (r : Report) → IsReport r → is_counted (kind_of r) (data_of r) ≡ true
@@ -72,20 +72,18 @@ counted (report.Control moment id rows) fits =
     let regrouped : data_of (report.Control moment id rows) ≡ id ++ others = append_assoc id (to_be_bytes w16 (length rows)) octets in
     let few : length rows < 2 ^ 16 = omega (arith, fits.count) in
     let long : 8 ≤ length (id ++ others) = omega (arith, length-append id others, fits.entries.0) in
-    let len : length octets ≡ length rows * 4 = length_of_entries row_octets FitsRow 4 row_of row_layout rows fits.entries.1 in
+    let len : length octets ≡ length rows * 4 = length_of_entries row_layout row_readable rows fits.entries.1 in
     ap (is_counted kind.Control) regrouped
     ∙ rows_counted (id ++ others) others (length rows) octets long (sym (drop_at id others 8 fits.entries.0)) (number_again w16 (2 ^ 16) wide16 (length rows) octets few)
     ∙ eq-eqb (length octets) (length rows * 4) len
-counted (report.Summaries moment entries) fits = rw (entries_counted summary_octets FitsSummary 28 entries (length_of_entries summary_octets FitsSummary 28 summary_of summary_layout entries fits.entries)) refl
-counted (report.Statuses moment entries) fits = rw (entries_counted status_octets FitsStatus 10 entries (length_of_entries status_octets FitsStatus 10 status_of status_layout entries fits.entries)) refl
-counted (report.Configurations moment entries) fits = rw (entries_counted configuration_octets FitsConfiguration 14 entries (length_of_entries configuration_octets FitsConfiguration 14 configuration_of configuration_layout entries fits.entries)) refl
+counted (report.Summaries moment entries) fits = rw (entries_counted summary_layout summary_readable entries fits.entries) refl
+counted (report.Statuses moment entries) fits = rw (entries_counted status_layout status_readable entries fits.entries) refl
+counted (report.Configurations moment entries) fits = rw (entries_counted configuration_layout configuration_readable entries fits.entries) refl
 
 -- the subtype of a kind is that kind's alone
 kind_again : (k : ReportKind) → kind_at (code_of k) ≡ Some k
 kind_again kind.Control = refl
-kind_again kind.Summaries = refl
-kind_again kind.Statuses = refl
-kind_again kind.Configurations = refl
+kind_again k = refl
 
 -- the type bit says telemetry where there is a time
 telemetry_bit : (k : PacketType) (time : ℕ) → time_of k ≡ Some time → type_bit k ≡ 0

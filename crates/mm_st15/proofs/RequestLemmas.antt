@@ -1,128 +1,160 @@
 -- A packet spells one request, and that request is not refused.
-use Rattle.std.proofs.Common.{◌≡◌, ℕ, ◌*◌, ◌<◌, ◌≤◌, true, List, [], ◌∷◌, length, Option, Some, None, Result, Ok, Err, refl, sym, ap, subst, ◌∙◌}
-use Rattle.std.specs.Prelude.{if◌then◌else◌, MatchResult, IfOk, MatchOption, IsOkUnless, is_some}
+use Rattle.std.proofs.Common.{◌≡◌, ℕ, ◌<◌, ◌≤◌, Bool, true, false, List, [], ◌∷◌, length, Option, Some, None, Result, Ok, Err, refl, sym, ap, subst, ◌∙◌}
+use Rattle.std.specs.List.{flat_map}
+use Rattle.std.specs.Prelude.{if◌then◌else◌, MatchBool, MatchResult, IfOk, MatchOption, IsOkUnless, is_some}
 use Rattle.mm_packet.specs.Packet.{SpacePacket, IsTelecommand}
 use Rattle.mm_packet.specs.Spelling.{type_bit}
 use Rattle.mm_packet.specs.declared.header.PacketType.{PacketType}
 use Rattle.mm_packet.specs.declared.header.PacketType.TheVariants.{Telecommand, Telemetry}
 use Rattle.mm_st15.specs.declared.fault.Fault.{Fault}
-use Rattle.mm_st15.specs.declared.fault.Fault.TheVariants.{NoMemory}
-use Rattle.mm_st15.specs.declared.instruction.Target.{Target}
-use Rattle.mm_st15.specs.declared.instruction.ReportType.{ReportType}
-use Rattle.mm_st15.specs.declared.instruction.TimeRange.{TimeRange}
-use Rattle.mm_st15.specs.declared.instruction.TimeLimit.{TimeLimit}
-use Rattle.mm_st15.specs.declared.instruction.Configuration.{Configuration}
-use Rattle.mm_st15.specs.declared.instruction.Size.{Size}
-use Rattle.mm_st15.specs.declared.instruction.Channel.{Channel}
+use Rattle.mm_st15.specs.declared.fault.Fault.TheVariants.{NoMemory, CountMismatch}
 use Rattle.mm_st15.specs.declared.request.Request.{Request}
 use Rattle.mm_st15.specs.declared.request.Request.TheVariants as request
 use Rattle.mm_st15.specs.declared.request_kind.RequestKind.{RequestKind}
 use Rattle.mm_st15.specs.declared.request_kind.RequestKind.TheVariants as kind
-use Rattle.mm_st15.specs.RequestKind.{code_of, kind_at, width_of}
-use Rattle.mm_st15.specs.Request.{kind_of, count_of, instruction_octets, data_of, HasInstructions, FitsInstructions, IsRequest, SpellsRequest, instructions_at, request_fault}
-use Rattle.mm_st15.specs.Layout.{target_octets, FitsTarget, report_type_octets, FitsReportType, time_range_octets, FitsTimeRange, time_limit_octets, FitsTimeLimit, configuration_octets, FitsConfiguration, size_octets, FitsSize, channel_octets, FitsChannel}
+use Rattle.mm_st15.specs.declared.service.TheConstants.{SERVICE}
+use Rattle.mm_st15.specs.RequestKind.{Subtype, listed, bare, subtype_of, width_in, code_of, kind_at, width_of}
+use Rattle.mm_st15.specs.Request.{Instructions, of_parts, count_in, octets_in, FitIn, kind_of, data_of, IsRequest, SpellsRequest, instructions_at, request_fault}
 use Rattle.mm_st15.proofs.CountLemmas.{counted_again}
-use Rattle.mm_st15.proofs.LayoutLemmas.{entries_in, counted_entries, length_of_entries, target_of, target_layout, report_type_of, report_type_layout, time_range_of, time_range_layout, time_limit_of, time_limit_layout, configuration_of, configuration_layout, size_of, size_layout, channel_of, channel_layout}
+use Rattle.mm_st15.proofs.LayoutLemmas.{IsReadable, entries_in, entries_in_again, length_of_entries, target_readable, report_type_readable, time_range_readable, time_limit_readable, configuration_readable, size_readable, channel_readable}
+
+-- the instructions of a subtype can be read
+abbrev Reads : Subtype → Type 0
+Reads (listed number layout) = IsReadable layout
+Reads (bare number) = Unit {0}
+
+reads : (k : RequestKind) → Reads (subtype_of k)
+reads kind.EnableStorage = target_readable
+reads k = first_of (search tt, search target_readable, search report_type_readable, search time_range_readable, search time_limit_readable, search configuration_readable, search size_readable, search channel_readable)
+
+-- the instructions in some data
+instructions_in : (s : Subtype) → Reads s → List ℕ → Instructions s
+instructions_in (listed number layout) is octets = entries_in is.of layout.width octets
+instructions_in (bare number) is octets = tt
+
+-- the data with these instructions
+data_in : (s : Subtype) → Instructions s → List ℕ
+data_in s instructions = if is_some (width_in s) then count_in s instructions ∷ octets_in s instructions else []
+
+-- instructions that were written are read again
+instructions_again : (s : Subtype) (is : Reads s) (instructions : Instructions s) → FitIn s instructions → instructions_in s is (data_in s instructions) ≡ instructions
+unfolding instructions_in data_in
+instructions_again (listed number layout) is instructions fits = entries_in_again layout is instructions fits
+instructions_again (bare number) is instructions fits = refl
+
+-- instructions that can be spelled
+abbrev IsIn : (s : Subtype) → Instructions s → Type 0
+IsIn s instructions = MatchOption (width_in s) (Unit {0}) (λ _. (1 ≤ count_in s instructions) × (count_in s instructions < 256)) × FitIn s instructions
+
+-- the data with these instructions are as long as their count says
+counted_in : (s : Subtype) (is : Reads s) (instructions : Instructions s) → IsIn s instructions → is_some (instructions_at (width_in s) (data_in s instructions)) ≡ true
+unfolding data_in
+counted_in (listed number layout) is instructions fits =
+    let octets : List ℕ = flat_map layout.octets instructions in
+    rw (counted_again 1 layout.width (length instructions) octets fits.0.0 (length_of_entries layout is instructions fits.1)) refl
+counted_in (bare number) is instructions fits = refl
+
+-- the request of a kind with these instructions
+request_with : (k : RequestKind) → Instructions (subtype_of k) → Request
+request_with kind.EnableStorage instructions = request.EnableStorage instructions
+request_with kind.DisableStorage instructions = request.DisableStorage instructions
+request_with kind.AddReportTypes instructions = request.AddReportTypes instructions
+request_with kind.DeleteReportTypes instructions = request.DeleteReportTypes instructions
+request_with kind.ReportControl instructions = request.ReportControl instructions
+request_with kind.StartRetrieval instructions = request.StartRetrieval instructions
+request_with kind.DeleteContent instructions = request.DeleteContent instructions
+request_with kind.SummariseContent instructions = request.SummariseContent instructions
+request_with kind.AbortRetrieval instructions = request.AbortRetrieval instructions
+request_with kind.ReportStatus none = request.ReportStatus
+request_with kind.CreateStores instructions = request.CreateStores instructions
+request_with kind.DeleteStores instructions = request.DeleteStores instructions
+request_with kind.ReportConfiguration none = request.ReportConfiguration
+request_with kind.ResizeStores instructions = request.ResizeStores instructions
+request_with kind.ChangeToCircular instructions = request.ChangeToCircular instructions
+request_with kind.ChangeToBounded instructions = request.ChangeToBounded instructions
+request_with kind.ChangeChannel instructions = request.ChangeChannel instructions
+
+-- what a request asks, and its instructions
+parts_of : Request → (k : RequestKind) × Instructions (subtype_of k)
+parts_of r = of_parts (λ k instructions. (k, instructions)) r
+
+parts_again : (r : Request) → request_with (parts_of r).0 (parts_of r).1 ≡ r
+unfolding parts_of request_with
+parts_again (request.EnableStorage instructions) = refl
+parts_again r = refl
+
+-- what holds of each request that is made of its parts holds of each request
+by_parts : (P : Request → Type 0) → ((k : RequestKind) (instructions : Instructions (subtype_of k)) → P (request_with k instructions)) → (r : Request) → P r
+by_parts P made r = subst P (parts_again r) (made (parts_of r).0 (parts_of r).1)
+
+-- the parts of a request that is made of them
+kind_with : (k : RequestKind) (instructions : Instructions (subtype_of k)) → kind_of (request_with k instructions) ≡ k
+unfolding request_with
+kind_with kind.EnableStorage instructions = refl
+kind_with k instructions = refl
+
+data_with_parts : (k : RequestKind) (instructions : Instructions (subtype_of k)) → data_of (request_with k instructions) ≡ data_in (subtype_of k) instructions
+unfolding request_with data_in
+data_with_parts kind.EnableStorage instructions = refl
+data_with_parts k instructions = refl
+
+is_with : (k : RequestKind) (instructions : Instructions (subtype_of k)) → IsRequest (request_with k instructions) → IsIn (subtype_of k) instructions
+unfolding request_with
+is_with kind.EnableStorage instructions is = (is.count, is.instructions)
+is_with k instructions is = (is.count, is.instructions)
 
 -- the request of a kind with these data
 request_from : RequestKind → List ℕ → Request
-request_from kind.EnableStorage octets = request.EnableStorage (entries_in target_of 8 octets)
-request_from kind.DisableStorage octets = request.DisableStorage (entries_in target_of 8 octets)
-request_from kind.AddReportTypes octets = request.AddReportTypes (entries_in report_type_of 12 octets)
-request_from kind.DeleteReportTypes octets = request.DeleteReportTypes (entries_in report_type_of 12 octets)
-request_from kind.ReportControl octets = request.ReportControl (entries_in target_of 8 octets)
-request_from kind.StartRetrieval octets = request.StartRetrieval (entries_in time_range_of 24 octets)
-request_from kind.DeleteContent octets = request.DeleteContent (entries_in time_limit_of 16 octets)
-request_from kind.SummariseContent octets = request.SummariseContent (entries_in target_of 8 octets)
-request_from kind.AbortRetrieval octets = request.AbortRetrieval (entries_in target_of 8 octets)
-request_from kind.ReportStatus octets = request.ReportStatus
-request_from kind.CreateStores octets = request.CreateStores (entries_in configuration_of 14 octets)
-request_from kind.DeleteStores octets = request.DeleteStores (entries_in target_of 8 octets)
-request_from kind.ReportConfiguration octets = request.ReportConfiguration
-request_from kind.ResizeStores octets = request.ResizeStores (entries_in size_of 12 octets)
-request_from kind.ChangeToCircular octets = request.ChangeToCircular (entries_in target_of 8 octets)
-request_from kind.ChangeToBounded octets = request.ChangeToBounded (entries_in target_of 8 octets)
-request_from kind.ChangeChannel octets = request.ChangeChannel (entries_in channel_of 9 octets)
+request_from k octets = request_with k (instructions_in (subtype_of k) (reads k) octets)
 
 -- a request is known by its kind and its data
-request_again : (r : Request) → FitsInstructions r → request_from (kind_of r) (data_of r) ≡ r
+request_again : (r : Request) → IsRequest r → request_from (kind_of r) (data_of r) ≡ r
 unfolding request_from
-request_again (request.EnableStorage instructions) fits = ap (λ (xs : List Target). request.EnableStorage xs) (counted_entries target_octets FitsTarget 8 target_of target_layout instructions fits)
-request_again (request.DisableStorage instructions) fits = ap (λ (xs : List Target). request.DisableStorage xs) (counted_entries target_octets FitsTarget 8 target_of target_layout instructions fits)
-request_again (request.AddReportTypes instructions) fits = ap (λ (xs : List ReportType). request.AddReportTypes xs) (counted_entries report_type_octets FitsReportType 12 report_type_of report_type_layout instructions fits)
-request_again (request.DeleteReportTypes instructions) fits = ap (λ (xs : List ReportType). request.DeleteReportTypes xs) (counted_entries report_type_octets FitsReportType 12 report_type_of report_type_layout instructions fits)
-request_again (request.ReportControl instructions) fits = ap (λ (xs : List Target). request.ReportControl xs) (counted_entries target_octets FitsTarget 8 target_of target_layout instructions fits)
-request_again (request.StartRetrieval instructions) fits = ap (λ (xs : List TimeRange). request.StartRetrieval xs) (counted_entries time_range_octets FitsTimeRange 24 time_range_of time_range_layout instructions fits)
-request_again (request.DeleteContent instructions) fits = ap (λ (xs : List TimeLimit). request.DeleteContent xs) (counted_entries time_limit_octets FitsTimeLimit 16 time_limit_of time_limit_layout instructions fits)
-request_again (request.SummariseContent instructions) fits = ap (λ (xs : List Target). request.SummariseContent xs) (counted_entries target_octets FitsTarget 8 target_of target_layout instructions fits)
-request_again (request.AbortRetrieval instructions) fits = ap (λ (xs : List Target). request.AbortRetrieval xs) (counted_entries target_octets FitsTarget 8 target_of target_layout instructions fits)
-request_again request.ReportStatus fits = refl
-request_again (request.CreateStores instructions) fits = ap (λ (xs : List Configuration). request.CreateStores xs) (counted_entries configuration_octets FitsConfiguration 14 configuration_of configuration_layout instructions fits)
-request_again (request.DeleteStores instructions) fits = ap (λ (xs : List Target). request.DeleteStores xs) (counted_entries target_octets FitsTarget 8 target_of target_layout instructions fits)
-request_again request.ReportConfiguration fits = refl
-request_again (request.ResizeStores instructions) fits = ap (λ (xs : List Size). request.ResizeStores xs) (counted_entries size_octets FitsSize 12 size_of size_layout instructions fits)
-request_again (request.ChangeToCircular instructions) fits = ap (λ (xs : List Target). request.ChangeToCircular xs) (counted_entries target_octets FitsTarget 8 target_of target_layout instructions fits)
-request_again (request.ChangeToBounded instructions) fits = ap (λ (xs : List Target). request.ChangeToBounded xs) (counted_entries target_octets FitsTarget 8 target_of target_layout instructions fits)
-request_again (request.ChangeChannel instructions) fits = ap (λ (xs : List Channel). request.ChangeChannel xs) (counted_entries channel_octets FitsChannel 9 channel_of channel_layout instructions fits)
+request_again = by_parts (λ r. IsRequest r → request_from (kind_of r) (data_of r) ≡ r) of_made
+  where
+    of_made : (k : RequestKind) (instructions : Instructions (subtype_of k)) → IsRequest (request_with k instructions) → request_from (kind_of (request_with k instructions)) (data_of (request_with k instructions)) ≡ request_with k instructions
+    of_made k instructions is =
+        let octets : List ℕ = data_in (subtype_of k) instructions in
+        ap (λ (d : List ℕ). request_from (kind_of (request_with k instructions)) d) (data_with_parts k instructions)
+        ∙ ap (λ (j : RequestKind). request_from j octets) (kind_with k instructions)
+        ∙ ap (request_with k) (instructions_again (subtype_of k) (reads k) instructions (is_with k instructions is).1)
 
--- the octets are as many as the instructions
-has_instructions : (r : Request) → FitsInstructions r → HasInstructions (kind_of r) (count_of r) (instruction_octets r)
-has_instructions (request.EnableStorage instructions) fits = length_of_entries target_octets FitsTarget 8 target_of target_layout instructions fits
-has_instructions (request.DisableStorage instructions) fits = length_of_entries target_octets FitsTarget 8 target_of target_layout instructions fits
-has_instructions (request.AddReportTypes instructions) fits = length_of_entries report_type_octets FitsReportType 12 report_type_of report_type_layout instructions fits
-has_instructions (request.DeleteReportTypes instructions) fits = length_of_entries report_type_octets FitsReportType 12 report_type_of report_type_layout instructions fits
-has_instructions (request.ReportControl instructions) fits = length_of_entries target_octets FitsTarget 8 target_of target_layout instructions fits
-has_instructions (request.StartRetrieval instructions) fits = length_of_entries time_range_octets FitsTimeRange 24 time_range_of time_range_layout instructions fits
-has_instructions (request.DeleteContent instructions) fits = length_of_entries time_limit_octets FitsTimeLimit 16 time_limit_of time_limit_layout instructions fits
-has_instructions (request.SummariseContent instructions) fits = length_of_entries target_octets FitsTarget 8 target_of target_layout instructions fits
-has_instructions (request.AbortRetrieval instructions) fits = length_of_entries target_octets FitsTarget 8 target_of target_layout instructions fits
-has_instructions request.ReportStatus fits = tt
-has_instructions (request.CreateStores instructions) fits = length_of_entries configuration_octets FitsConfiguration 14 configuration_of configuration_layout instructions fits
-has_instructions (request.DeleteStores instructions) fits = length_of_entries target_octets FitsTarget 8 target_of target_layout instructions fits
-has_instructions request.ReportConfiguration fits = tt
-has_instructions (request.ResizeStores instructions) fits = length_of_entries size_octets FitsSize 12 size_of size_layout instructions fits
-has_instructions (request.ChangeToCircular instructions) fits = length_of_entries target_octets FitsTarget 8 target_of target_layout instructions fits
-has_instructions (request.ChangeToBounded instructions) fits = length_of_entries target_octets FitsTarget 8 target_of target_layout instructions fits
-has_instructions (request.ChangeChannel instructions) fits = length_of_entries channel_octets FitsChannel 9 channel_of channel_layout instructions fits
+-- the data of a request are as long as their count says
+data_counted : (r : Request) → IsRequest r → is_some (instructions_at (width_of (kind_of r)) (data_of r)) ≡ true
+data_counted = by_parts (λ r. IsRequest r → is_some (instructions_at (width_of (kind_of r)) (data_of r)) ≡ true) of_made
+  where
+    of_made : (k : RequestKind) (instructions : Instructions (subtype_of k)) → IsRequest (request_with k instructions) → is_some (instructions_at (width_of (kind_of (request_with k instructions))) (data_of (request_with k instructions))) ≡ true
+    of_made k instructions is =
+        let octets : List ℕ = data_in (subtype_of k) instructions in
+        ap (λ (d : List ℕ). is_some (instructions_at (width_of (kind_of (request_with k instructions))) d)) (data_with_parts k instructions)
+        ∙ ap (λ (j : RequestKind). is_some (instructions_at (width_of j) octets)) (kind_with k instructions)
+        ∙ counted_in (subtype_of k) (reads k) instructions (is_with k instructions is)
 
 -- the subtype of a kind is that kind's alone
 kind_again : (k : RequestKind) → kind_at (code_of k) ≡ Some k
 kind_again kind.EnableStorage = refl
-kind_again kind.DisableStorage = refl
-kind_again kind.AddReportTypes = refl
-kind_again kind.DeleteReportTypes = refl
-kind_again kind.ReportControl = refl
-kind_again kind.StartRetrieval = refl
-kind_again kind.DeleteContent = refl
-kind_again kind.SummariseContent = refl
-kind_again kind.AbortRetrieval = refl
-kind_again kind.ReportStatus = refl
-kind_again kind.CreateStores = refl
-kind_again kind.DeleteStores = refl
-kind_again kind.ReportConfiguration = refl
-kind_again kind.ResizeStores = refl
-kind_again kind.ChangeToCircular = refl
-kind_again kind.ChangeToBounded = refl
-kind_again kind.ChangeChannel = refl
+kind_again k = refl
 
 -- the type bit is what says telecommand
 telecommand_bit : (k : PacketType) → IsTelecommand k → type_bit k ≡ 1
 telecommand_bit (Telecommand source) is = refl
 telecommand_bit (Telemetry counter destination time) is = absurd is
 
--- the instructions are found again in the data
-instructions_again : (width : Option ℕ) (count : ℕ) (octets : List ℕ) → MatchOption width (Unit {0}) (λ _. (1 ≤ count) × (count < 256)) → MatchOption width (Unit {0}) (λ w. length octets ≡ count * w)
-    → is_some (instructions_at width (if is_some width then count ∷ octets else [])) ≡ true
-instructions_again None count octets counts len = refl
-instructions_again (Some width) count octets counts len = rw (counted_again 1 width count octets counts.0 len) refl
-
 -- a packet that spells a request is not refused
 pub not_refused : (packet : SpacePacket) (r : Request) → IsRequest r → SpellsRequest packet r → request_fault packet ≡ None
 not_refused packet r fits spells =
     let bit = telecommand_bit packet.kind spells.telecommand in
     let subtype : kind_at packet.header.subtype ≡ Some (kind_of r) = ap kind_at spells.subtype ∙ kind_again (kind_of r) in
-    let instructions = instructions_again (width_of (kind_of r)) (count_of r) (instruction_octets r) fits.count (has_instructions r fits.instructions) in
-    rw (bit, spells.service, subtype, spells.body, instructions) refl
+    rw (bit, spells.service, subtype, spells.body, data_counted r fits) refl
+
+-- a packet of a request's kind is refused exactly where its data are no instructions
+pub refused_by_data : (packet : SpacePacket) (k : RequestKind) (result : Result Request Fault) → type_bit packet.kind ≡ 1 → packet.header.service ≡ SERVICE → kind_at packet.header.subtype ≡ Some k
+    → MatchBool (is_some (instructions_at (width_of k) packet.body)) (IsOkUnless result NoMemory) (result ≡ Err CountMismatch) → MatchOption (request_fault packet) (IsOkUnless result NoMemory) (λ fault. result ≡ Err fault)
+refused_by_data packet k result bit service found by = rw (bit, service, found) (by_test (is_some (instructions_at (width_of k) packet.body)) by)
+  where
+    by_test : (t : Bool) → MatchBool t (IsOkUnless result NoMemory) (result ≡ Err CountMismatch) → MatchOption (if t then None else Some CountMismatch) (IsOkUnless result NoMemory) (λ fault. result ≡ Err fault)
+    by_test true is = is
+    by_test false is = is
 
 -- two requests with one packet are one
 pub one_request : (packet : SpacePacket) (a b : Request) → IsRequest a → IsRequest b → SpellsRequest packet a → SpellsRequest packet b → a ≡ b
@@ -131,7 +163,7 @@ one_request packet a b a_fits b_fits a_spells b_spells =
     let kind : kind_of a ≡ kind_of b = cc in
     let body : data_of a ≡ data_of b = sym a_spells.body ∙ b_spells.body in
     let from : request_from (kind_of a) (data_of a) ≡ request_from (kind_of b) (data_of b) = cc in
-    sym (request_again a a_fits.instructions) ∙ from ∙ request_again b b_fits.instructions
+    sym (request_again a a_fits) ∙ from ∙ request_again b b_fits
 
 -- a packet that spells a request is read as that request
 pub is_only : (packet : SpacePacket) (r : Request) (result : Result Request Fault) → IsRequest r → SpellsRequest packet r

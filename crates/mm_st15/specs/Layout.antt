@@ -12,6 +12,13 @@ use Rattle.mm_st15.specs.declared.report_entry.Row.{Row}
 use Rattle.mm_st15.specs.declared.report_entry.Summary.{Summary}
 use Rattle.mm_st15.specs.declared.report_entry.Status.{Status}
 
+-- a layout: what is laid out, its octets, how many they are, and which values fit
+pub record Layout : Type 1 where
+  pub Entry : Type 0
+  pub octets : Entry → List ℕ
+  pub width : ℕ
+  pub fits : Entry → Type 0
+
 -- identifier
 abbrev pub target_octets : Target → List ℕ
 target_octets entry = entry.id
@@ -109,3 +116,34 @@ pub record FitsStatus (entry : Status) : Type 0 where
   pub id : length entry.id ≡ 8
   pub storage : entry.storage < 2 ^ 8
   pub retrieval : entry.retrieval < 2 ^ 8
+
+-- the layouts
+abbrev pub target_layout : Layout
+target_layout = record { Entry = Target; octets = target_octets; width = 8; fits = FitsTarget }
+
+abbrev pub report_type_layout : Layout
+report_type_layout = record { Entry = ReportType; octets = report_type_octets; width = 12; fits = FitsReportType }
+
+abbrev pub time_range_layout : Layout
+time_range_layout = record { Entry = TimeRange; octets = time_range_octets; width = 24; fits = FitsTimeRange }
+
+abbrev pub time_limit_layout : Layout
+time_limit_layout = record { Entry = TimeLimit; octets = time_limit_octets; width = 16; fits = FitsTimeLimit }
+
+abbrev pub configuration_layout : Layout
+configuration_layout = record { Entry = Configuration; octets = configuration_octets; width = 14; fits = FitsConfiguration }
+
+abbrev pub size_layout : Layout
+size_layout = record { Entry = Size; octets = size_octets; width = 12; fits = FitsSize }
+
+abbrev pub channel_layout : Layout
+channel_layout = record { Entry = Channel; octets = channel_octets; width = 9; fits = FitsChannel }
+
+abbrev pub row_layout : Layout
+row_layout = record { Entry = Row; octets = row_octets; width = 4; fits = FitsRow }
+
+abbrev pub summary_layout : Layout
+summary_layout = record { Entry = Summary; octets = summary_octets; width = 28; fits = FitsSummary }
+
+abbrev pub status_layout : Layout
+status_layout = record { Entry = Status; octets = status_octets; width = 10; fits = FitsStatus }

@@ -1,5 +1,5 @@
 -- The subtypes of reports.
-use Rattle.std.specs.Prelude.{ℕ, ◌==◌, if◌then◌else◌, Option, Some, None}
+use Rattle.std.specs.Prelude.{ℕ, ◌==◌, List, [], ◌∷◌, find, Option}
 use Rattle.mm_st15.specs.declared.report_kind.ReportKind.{ReportKind}
 use Rattle.mm_st15.specs.declared.report_kind.ReportKind.TheVariants.{Control, Summaries, Statuses, Configurations}
 
@@ -10,11 +10,10 @@ code_of Summaries = 13
 code_of Statuses = 19
 code_of Configurations = 23
 
+-- the kinds of reports
+abbrev pub kinds : List ReportKind
+kinds = Control ∷ Summaries ∷ Statuses ∷ Configurations ∷ []
+
 -- the report with a subtype
 abbrev pub kind_at : ℕ → Option ReportKind
-kind_at code =
-    if code == 6 then Some Control
-    else if code == 13 then Some Summaries
-    else if code == 19 then Some Statuses
-    else if code == 23 then Some Configurations
-    else None
+kind_at code = find (λ kind. code_of kind == code) kinds

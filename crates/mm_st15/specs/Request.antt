@@ -1,5 +1,5 @@
 -- Requests: their data, and the packets that spell them.
-use Rattle.std.specs.Prelude.{◌≡◌, ℕ, ◌*◌, ◌<◌, ◌≤◌, ◌==◌, ◌||◌, not, List, [], ◌∷◌, length, Option, Some, None, is_some, MatchOption, if◌then◌else◌}
+use Rattle.std.specs.Prelude.{◌≡◌, ℕ, ◌<◌, ◌≤◌, ◌==◌, ◌||◌, not, List, [], ◌∷◌, length, Option, Some, None, is_some, MatchOption, if◌then◌else◌}
 use Rattle.std.specs.List.{flat_map, AllByRecursion}
 use Rattle.mm_packet.specs.Packet.{SpacePacket, IsTelecommand}
 use Rattle.mm_packet.specs.Spelling.{type_bit}
@@ -10,89 +10,64 @@ use Rattle.mm_st15.specs.declared.request.Request.TheVariants as request
 use Rattle.mm_st15.specs.declared.request_kind.RequestKind.{RequestKind}
 use Rattle.mm_st15.specs.declared.request_kind.RequestKind.TheVariants as kind
 use Rattle.mm_st15.specs.declared.service.TheConstants.{SERVICE}
-use Rattle.mm_st15.specs.RequestKind.{code_of, kind_at, width_of}
+use Rattle.mm_st15.specs.RequestKind.{Subtype, listed, bare, subtype_of, code_of, kind_at, width_of}
 use Rattle.mm_st15.specs.Counted.{counted_at}
-use Rattle.mm_st15.specs.Layout.{target_octets, FitsTarget, report_type_octets, FitsReportType, time_range_octets, FitsTimeRange, time_limit_octets, FitsTimeLimit, configuration_octets, FitsConfiguration, size_octets, FitsSize, channel_octets, FitsChannel}
+
+-- the instructions that a subtype may have: a list in its layout, or nothing
+abbrev pub Instructions : Subtype → Type 0
+Instructions (listed number layout) = List layout.Entry
+Instructions (bare number) = Unit {0}
+
+-- what a function gives for a request, by what it asks and its instructions
+abbrev pub of_parts {ℓ} : {A : Type ℓ} → ((kind : RequestKind) → Instructions (subtype_of kind) → A) → Request → A
+of_parts f (request.EnableStorage instructions) = f kind.EnableStorage instructions
+of_parts f (request.DisableStorage instructions) = f kind.DisableStorage instructions
+of_parts f (request.AddReportTypes instructions) = f kind.AddReportTypes instructions
+of_parts f (request.DeleteReportTypes instructions) = f kind.DeleteReportTypes instructions
+of_parts f (request.ReportControl instructions) = f kind.ReportControl instructions
+of_parts f (request.StartRetrieval instructions) = f kind.StartRetrieval instructions
+of_parts f (request.DeleteContent instructions) = f kind.DeleteContent instructions
+of_parts f (request.SummariseContent instructions) = f kind.SummariseContent instructions
+of_parts f (request.AbortRetrieval instructions) = f kind.AbortRetrieval instructions
+of_parts f request.ReportStatus = f kind.ReportStatus tt
+of_parts f (request.CreateStores instructions) = f kind.CreateStores instructions
+of_parts f (request.DeleteStores instructions) = f kind.DeleteStores instructions
+of_parts f request.ReportConfiguration = f kind.ReportConfiguration tt
+of_parts f (request.ResizeStores instructions) = f kind.ResizeStores instructions
+of_parts f (request.ChangeToCircular instructions) = f kind.ChangeToCircular instructions
+of_parts f (request.ChangeToBounded instructions) = f kind.ChangeToBounded instructions
+of_parts f (request.ChangeChannel instructions) = f kind.ChangeChannel instructions
+
+-- how many instructions there are
+abbrev pub count_in : (s : Subtype) → Instructions s → ℕ
+count_in (listed number layout) instructions = length instructions
+count_in (bare number) none = 0
+
+-- the octets of instructions, one after another
+abbrev pub octets_in : (s : Subtype) → Instructions s → List ℕ
+octets_in (listed number layout) instructions = flat_map layout.octets instructions
+octets_in (bare number) none = []
+
+-- the fields of each instruction fit
+abbrev pub FitIn : (s : Subtype) → Instructions s → Type 0
+FitIn (listed number layout) instructions = AllByRecursion layout.fits instructions
+FitIn (bare number) none = Unit {0}
 
 -- what a request asks
 abbrev pub kind_of : Request → RequestKind
-kind_of (request.EnableStorage instructions) = kind.EnableStorage
-kind_of (request.DisableStorage instructions) = kind.DisableStorage
-kind_of (request.AddReportTypes instructions) = kind.AddReportTypes
-kind_of (request.DeleteReportTypes instructions) = kind.DeleteReportTypes
-kind_of (request.ReportControl instructions) = kind.ReportControl
-kind_of (request.StartRetrieval instructions) = kind.StartRetrieval
-kind_of (request.DeleteContent instructions) = kind.DeleteContent
-kind_of (request.SummariseContent instructions) = kind.SummariseContent
-kind_of (request.AbortRetrieval instructions) = kind.AbortRetrieval
-kind_of request.ReportStatus = kind.ReportStatus
-kind_of (request.CreateStores instructions) = kind.CreateStores
-kind_of (request.DeleteStores instructions) = kind.DeleteStores
-kind_of request.ReportConfiguration = kind.ReportConfiguration
-kind_of (request.ResizeStores instructions) = kind.ResizeStores
-kind_of (request.ChangeToCircular instructions) = kind.ChangeToCircular
-kind_of (request.ChangeToBounded instructions) = kind.ChangeToBounded
-kind_of (request.ChangeChannel instructions) = kind.ChangeChannel
+kind_of request = of_parts (λ kind instructions. kind) request
 
 -- how many instructions a request has
 abbrev pub count_of : Request → ℕ
-count_of (request.EnableStorage instructions) = length instructions
-count_of (request.DisableStorage instructions) = length instructions
-count_of (request.AddReportTypes instructions) = length instructions
-count_of (request.DeleteReportTypes instructions) = length instructions
-count_of (request.ReportControl instructions) = length instructions
-count_of (request.StartRetrieval instructions) = length instructions
-count_of (request.DeleteContent instructions) = length instructions
-count_of (request.SummariseContent instructions) = length instructions
-count_of (request.AbortRetrieval instructions) = length instructions
-count_of request.ReportStatus = 0
-count_of (request.CreateStores instructions) = length instructions
-count_of (request.DeleteStores instructions) = length instructions
-count_of request.ReportConfiguration = 0
-count_of (request.ResizeStores instructions) = length instructions
-count_of (request.ChangeToCircular instructions) = length instructions
-count_of (request.ChangeToBounded instructions) = length instructions
-count_of (request.ChangeChannel instructions) = length instructions
+count_of request = of_parts (λ kind instructions. count_in (subtype_of kind) instructions) request
 
 -- the octets of the instructions, one after another
 abbrev pub instruction_octets : Request → List ℕ
-instruction_octets (request.EnableStorage instructions) = flat_map target_octets instructions
-instruction_octets (request.DisableStorage instructions) = flat_map target_octets instructions
-instruction_octets (request.AddReportTypes instructions) = flat_map report_type_octets instructions
-instruction_octets (request.DeleteReportTypes instructions) = flat_map report_type_octets instructions
-instruction_octets (request.ReportControl instructions) = flat_map target_octets instructions
-instruction_octets (request.StartRetrieval instructions) = flat_map time_range_octets instructions
-instruction_octets (request.DeleteContent instructions) = flat_map time_limit_octets instructions
-instruction_octets (request.SummariseContent instructions) = flat_map target_octets instructions
-instruction_octets (request.AbortRetrieval instructions) = flat_map target_octets instructions
-instruction_octets request.ReportStatus = []
-instruction_octets (request.CreateStores instructions) = flat_map configuration_octets instructions
-instruction_octets (request.DeleteStores instructions) = flat_map target_octets instructions
-instruction_octets request.ReportConfiguration = []
-instruction_octets (request.ResizeStores instructions) = flat_map size_octets instructions
-instruction_octets (request.ChangeToCircular instructions) = flat_map target_octets instructions
-instruction_octets (request.ChangeToBounded instructions) = flat_map target_octets instructions
-instruction_octets (request.ChangeChannel instructions) = flat_map channel_octets instructions
+instruction_octets request = of_parts (λ kind instructions. octets_in (subtype_of kind) instructions) request
 
 -- the fields of each instruction fit
 abbrev pub FitsInstructions : Request → Type 0
-FitsInstructions (request.EnableStorage instructions) = AllByRecursion FitsTarget instructions
-FitsInstructions (request.DisableStorage instructions) = AllByRecursion FitsTarget instructions
-FitsInstructions (request.AddReportTypes instructions) = AllByRecursion FitsReportType instructions
-FitsInstructions (request.DeleteReportTypes instructions) = AllByRecursion FitsReportType instructions
-FitsInstructions (request.ReportControl instructions) = AllByRecursion FitsTarget instructions
-FitsInstructions (request.StartRetrieval instructions) = AllByRecursion FitsTimeRange instructions
-FitsInstructions (request.DeleteContent instructions) = AllByRecursion FitsTimeLimit instructions
-FitsInstructions (request.SummariseContent instructions) = AllByRecursion FitsTarget instructions
-FitsInstructions (request.AbortRetrieval instructions) = AllByRecursion FitsTarget instructions
-FitsInstructions request.ReportStatus = Unit {0}
-FitsInstructions (request.CreateStores instructions) = AllByRecursion FitsConfiguration instructions
-FitsInstructions (request.DeleteStores instructions) = AllByRecursion FitsTarget instructions
-FitsInstructions request.ReportConfiguration = Unit {0}
-FitsInstructions (request.ResizeStores instructions) = AllByRecursion FitsSize instructions
-FitsInstructions (request.ChangeToCircular instructions) = AllByRecursion FitsTarget instructions
-FitsInstructions (request.ChangeToBounded instructions) = AllByRecursion FitsTarget instructions
-FitsInstructions (request.ChangeChannel instructions) = AllByRecursion FitsChannel instructions
+FitsInstructions request = of_parts (λ kind instructions. FitIn (subtype_of kind) instructions) request
 
 -- the data with these instructions: their number and their octets, or nothing where a request has no data
 abbrev pub data_with : RequestKind → ℕ → List ℕ → List ℕ
@@ -105,10 +80,6 @@ data_of request = data_with (kind_of request) (count_of request) (instruction_oc
 -- a request has 1 to 255 instructions, or no data
 abbrev pub HasCount : RequestKind → ℕ → Type 0
 HasCount kind count = MatchOption (width_of kind) (Unit {0}) (λ _. (1 ≤ count) × (count < 256))
-
--- the octets are so many instructions
-abbrev pub HasInstructions : RequestKind → ℕ → List ℕ → Type 0
-HasInstructions kind count octets = MatchOption (width_of kind) (Unit {0}) (λ width. length octets ≡ count * width)
 
 -- a request that can be spelled
 pub record IsRequest (request : Request) : Type 0 where

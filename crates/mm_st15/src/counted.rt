@@ -1,16 +1,17 @@
 //! A count of one octet, and entries of fixed width after it.
-ghost use Rattle.std.specs.Prelude.{◌≡◌, ◌+◌, ◌*◌, ◌<◌, ◌≤◌, ◌∷◌, length, IfOk, IfSome};
+ghost use Rattle.std.specs.Prelude.{◌≡◌, ◌+◌, ◌*◌, ◌<◌, ◌≤◌, ◌∷◌, length, is_some, IfOk, IfSome, MatchBool, IsOkUnless};
 ghost use Rattle.std.specs.Option.{option_map};
 ghost use Rattle.std.specs.List.{flat_map, AllByRecursion};
 ghost use Rattle.mm_st15.specs.Counted.{counted_at};
 
 use crate::entries::Entries;
-use crate::entry::{Entry, put_entries};
+use crate::entry::{Entry, entries_of, put_entries};
+use crate::fault::Fault;
 use mm_packet::octet_at;
 use std::alloc::{AllocError, Global};
 
 // The count and the octets after it, where these are so many entries.
-pub(crate) fn counted_at(least: u8, width: usize, octets: &[u8]) -> Option<(usize, &[u8])>
+fn counted_at(least: u8, width: usize, octets: &[u8]) -> Option<(usize, &[u8])>
     requires { width ≤ 28 }
     ensures value { option_map (λ x. (x.0, x.1.now)) result ≡ counted_at least width octets.now }
     ensures parts { IfSome result (λ x. octets.now ≡ x.0 ∷ x.1.now) }
@@ -24,6 +25,24 @@ pub(crate) fn counted_at(least: u8, width: usize, octets: &[u8]) -> Option<(usiz
     Some((count as usize, rest))
 }
 
+// The entries after their count, of which there are so many at least.
+pub(crate) fn counted_entries<E: Entry>(
+    alloc: Global,
+    least: u8,
+    octets: &[u8],
+) -> Result<Entries<E>, Fault>
+    requires { E.WIDTH ≤ 28 }
+    ensures spelled { IfOk result (λ entries. octets.now
+        ≡ length entries ∷ flat_map E.spelling entries) }
+    ensures count { IfOk result (λ entries. (least ≤ length entries) × (length entries < 256)) }
+    ensures fits { IfOk result (λ entries. AllByRecursion E.fits entries) }
+    ensures refused { MatchBool (is_some (counted_at least E.WIDTH octets.now))
+        (IsOkUnless result Fault.NoMemory) (result ≡ Err Fault.CountMismatch) }
+{
+    let (count, octets) = counted_at(least, E::WIDTH, octets).ok_or(Fault::CountMismatch)?;
+    Ok(entries_of(alloc, count, octets)?)
+}
+
 // The number of the entries, and their octets.
 pub(crate) fn counted_octets<E: Entry>(
     alloc: Global,
@@ -32,7 +51,7 @@ pub(crate) fn counted_octets<E: Entry>(
     requires { length entries.now < 256 }
     ensures octets { IfOk result (λ out. out.items
         ≡ length entries.now ∷ flat_map E.spelling entries.now) }
-    ensures len { IfOk result (λ out. length out.items ≡ 1 + length entries.now * E.width) }
+    ensures len { IfOk result (λ out. length out.items ≡ 1 + length entries.now * E.WIDTH) }
     ensures fits { IfOk result (λ _. AllByRecursion E.fits entries.now) }
 {
     let mut out = Vec::new(alloc);

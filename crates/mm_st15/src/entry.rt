@@ -11,7 +11,9 @@ pub(crate) trait Entry: Copy {
     ghost spelling: { Self → List ℕ };
 
     // How many octets it has.
-    ghost width: { ℕ };
+    const WIDTH: usize;
+
+    ghost WIDTH: { ℕ };
 
     // Its fields are in their ranges.
     ghost fits: { Self → Type 0 };
@@ -19,14 +21,14 @@ pub(crate) trait Entry: Copy {
     // The entry at the front of the octets, and what follows it.
     fn read(octets: &[u8]) -> Option<(Self, &[u8])>
         ensures spelled { IfSome result (λ x. octets.now ≡ Self.spelling x.0 ++ x.1.now) }
-        ensures len { IfSome result (λ x. length octets.now ≡ Self.width + length x.1.now) }
+        ensures len { IfSome result (λ x. length octets.now ≡ Self.WIDTH + length x.1.now) }
         ensures fits { IfSome result (λ x. Self.fits x.0) }
-        ensures none { IfNone result (length octets.now < Self.width) };
+        ensures none { IfNone result (length octets.now < Self.WIDTH) };
 
     // Writes the octets at the end.
     fn put(&self, out: &mut Vec<u8>) -> Result<(), AllocError>
         ensures octets { OnOk result (out.new.items ≡ out.old.items ++ Self.spelling self.now) }
-        ensures len { OnOk result (length out.new.items ≡ length out.old.items + Self.width) }
+        ensures len { OnOk result (length out.new.items ≡ length out.old.items + Self.WIDTH) }
         ensures fits { OnOk result (Self.fits self.now) };
 }
 
@@ -48,7 +50,7 @@ pub(crate) fn entries_of<E: Entry>(
     count: usize,
     octets: &[u8],
 ) -> Result<Entries<E>, AllocError>
-    requires { length octets.now ≡ count * E.width }
+    requires { length octets.now ≡ count * E.WIDTH }
     ensures spelled { IfOk result (λ entries. flat_map E.spelling entries ≡ octets.now) }
     ensures count { IfOk result (λ entries. length entries ≡ count) }
     ensures fits { IfOk result (λ entries. AllByRecursion E.fits entries) }
@@ -71,7 +73,7 @@ pub(crate) fn put_entries<E: Entry>(
     ensures octets { OnOk result (out.new.items
         ≡ out.old.items ++ flat_map E.spelling entries.now) }
     ensures len { OnOk result (length out.new.items
-        ≡ length out.old.items + length entries.now * E.width) }
+        ≡ length out.old.items + length entries.now * E.WIDTH) }
     ensures fits { OnOk result (AllByRecursion E.fits entries.now) }
 {
     for entry in entries.as_slice() {

@@ -62,7 +62,9 @@ impl Entry for Target {
 
     ghost spelling = { target_octets };
 
-    ghost width = { 8 };
+    const WIDTH: usize = 8;
+
+    ghost WIDTH = { 8 };
 
     ghost fits = { FitsTarget };
 
@@ -82,7 +84,9 @@ impl Entry for ReportType {
 
     ghost spelling = { report_type_octets };
 
-    ghost width = { 12 };
+    const WIDTH: usize = 12;
+
+    ghost WIDTH = { 12 };
 
     ghost fits = { FitsReportType };
 
@@ -113,7 +117,9 @@ impl Entry for TimeRange {
 
     ghost spelling = { time_range_octets };
 
-    ghost width = { 24 };
+    const WIDTH: usize = 24;
+
+    ghost WIDTH = { 24 };
 
     ghost fits = { FitsTimeRange };
 
@@ -137,7 +143,9 @@ impl Entry for TimeLimit {
 
     ghost spelling = { time_limit_octets };
 
-    ghost width = { 16 };
+    const WIDTH: usize = 16;
+
+    ghost WIDTH = { 16 };
 
     ghost fits = { FitsTimeLimit };
 
@@ -159,7 +167,9 @@ impl Entry for Configuration {
 
     ghost spelling = { configuration_octets };
 
-    ghost width = { 14 };
+    const WIDTH: usize = 14;
+
+    ghost WIDTH = { 14 };
 
     ghost fits = { FitsConfiguration };
 
@@ -190,7 +200,9 @@ impl Entry for Size {
 
     ghost spelling = { size_octets };
 
-    ghost width = { 12 };
+    const WIDTH: usize = 12;
+
+    ghost WIDTH = { 12 };
 
     ghost fits = { FitsSize };
 
@@ -212,7 +224,9 @@ impl Entry for Channel {
 
     ghost spelling = { channel_octets };
 
-    ghost width = { 9 };
+    const WIDTH: usize = 9;
+
+    ghost WIDTH = { 9 };
 
     ghost fits = { FitsChannel };
 

@@ -13,10 +13,12 @@ mod report_kind;
 mod request;
 mod request_kind;
 mod service;
+mod table;
 
 pub use entries::Entries;
-pub use fault::{Fault, NoMemory};
+pub use fault::Fault;
 pub use instruction::{Channel, Configuration, ReportType, Size, Target, TimeLimit, TimeRange};
+pub use mm_base::NoMemory;
 pub use report::{MOST_ROWS, Report};
 pub use report_entry::{Row, Status, Summary};
 pub use report_kind::ReportKind;

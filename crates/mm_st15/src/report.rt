@@ -4,32 +4,24 @@ ghost use Rattle.std.specs.List.{flat_map, AllByRecursion};
 ghost use Rattle.std.specs.Int.{w16, to_be_bytes};
 ghost use Rattle.mm_packet.specs.declared.header.TheConstants.{IDLE_APID, TELEMETRY_BODY};
 ghost use Rattle.mm_packet.specs.declared.header.PacketType.TheVariants.{Telemetry};
-ghost use Rattle.mm_st15.specs.Counted.{counted_at};
 ghost use Rattle.mm_st15.specs.Layout.{row_octets, FitsRow};
 ghost use Rattle.mm_st15.specs.ReportKind.{code_of};
 ghost use Rattle.mm_st15.specs.Report.{is_counted, kind_of, moment_of, data_of, HasCount, FitsEntries, IsReport, SpellsReport, report_fault};
 
-use crate::counted::{counted_at, counted_octets};
+use crate::counted::{counted_entries, counted_octets};
 use crate::entries::Entries;
 use crate::entry::{Entry, entries_of, id_at, put_entries};
-use crate::fault::{Fault, NoMemory};
+use crate::fault::Fault;
 use crate::instruction::Configuration;
 use crate::report_entry::{Row, Status, Summary};
 use crate::report_kind::ReportKind;
 use crate::service::SERVICE;
+use mm_base::NoMemory;
 use mm_packet::{Header, Octets, Packet, u16_at};
 use std::alloc::{AllocError, Global};
 
 /// The greatest number of rows in a report of the storage control, for which a packet has room.
 pub const MOST_ROWS: usize = 16_377;
-
-const ROW: usize = 4;
-
-const SUMMARY: usize = 28;
-
-const STATUS: usize = 10;
-
-const CONFIGURATION: usize = 14;
 
 /// A report: a case for each subtype, with the moment of its request in ticks, and its entries.
 #[derive(Debug, Drop)]
@@ -174,29 +166,10 @@ fn rows_at(octets: &[u8]) -> Option<([u8; 8], usize, &[u8])>
 {
     let (id, rest) = id_at(octets)?;
     let (count, rest) = u16_at(rest)?;
-    if rest.len() != count as usize * ROW {
+    if rest.len() != count as usize * Row::WIDTH {
         return None;
     }
     Some((id, count as usize, rest))
-}
-
-// The entries behind their count.
-fn counted_entries<E: Entry>(
-    alloc: Global,
-    width: usize,
-    octets: &[u8],
-) -> Result<Entries<E>, Fault>
-    requires width { width ≡ E.width }
-    requires small { width ≤ 28 }
-    ensures spelled { IfOk result (λ entries. octets.now
-        ≡ length entries ∷ flat_map E.spelling entries) }
-    ensures count { IfOk result (λ entries. length entries < 256) }
-    ensures fits { IfOk result (λ entries. AllByRecursion E.fits entries) }
-    ensures refused { MatchBool (is_some (counted_at 0 width octets.now))
-        (IsOkUnless result Fault.NoMemory) (result ≡ Err Fault.CountMismatch) }
-{
-    let (count, octets) = counted_at(0, width, octets).ok_or(Fault::CountMismatch)?;
-    Ok(entries_of(alloc, count, octets)?)
 }
 
 // The report with these data.
@@ -216,15 +189,15 @@ fn report_of(kind: ReportKind, alloc: Global, moment: u64, octets: &[u8]) -> Res
             Report::Control { moment, id, rows }
         }
         ReportKind::Summaries => {
-            let entries = counted_entries(alloc, SUMMARY, octets)?;
+            let entries = counted_entries(alloc, 0, octets)?;
             Report::Summaries { moment, entries }
         }
         ReportKind::Statuses => {
-            let entries = counted_entries(alloc, STATUS, octets)?;
+            let entries = counted_entries(alloc, 0, octets)?;
             Report::Statuses { moment, entries }
         }
         ReportKind::Configurations => {
-            let entries = counted_entries(alloc, CONFIGURATION, octets)?;
+            let entries = counted_entries(alloc, 0, octets)?;
             Report::Configurations { moment, entries }
         }
     };

@@ -34,7 +34,9 @@ impl Entry for Row {
 
     ghost spelling = { row_octets };
 
-    ghost width = { 4 };
+    const WIDTH: usize = 4;
+
+    ghost WIDTH = { 4 };
 
     ghost fits = { FitsRow };
 
@@ -61,7 +63,9 @@ impl Entry for Summary {
 
     ghost spelling = { summary_octets };
 
-    ghost width = { 28 };
+    const WIDTH: usize = 28;
+
+    ghost WIDTH = { 28 };
 
     ghost fits = { FitsSummary };
 
@@ -92,7 +96,9 @@ impl Entry for Status {
 
     ghost spelling = { status_octets };
 
-    ghost width = { 10 };
+    const WIDTH: usize = 10;
+
+    ghost WIDTH = { 10 };
 
     ghost fits = { FitsStatus };
 

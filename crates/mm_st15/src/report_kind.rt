@@ -5,10 +5,10 @@ ghost use Rattle.mm_st15.specs.ReportKind.{code_of, kind_at};
 /// What a report tells, by its subtype. The numbers are this project's.
 #[derive(Clone, Copy, Debug, PartialEq, Eq)]
 pub enum ReportKind {
-    Control,
-    Summaries,
-    Statuses,
-    Configurations,
+    Control = 6,
+    Summaries = 13,
+    Statuses = 19,
+    Configurations = 23,
 }
 
 impl ReportKind {
@@ -30,11 +30,6 @@ impl ReportKind {
     pub fn code(self) -> u8
         ensures code { result ≡ code_of self }
     {
-        match self {
-            ReportKind::Control => 6,
-            ReportKind::Summaries => 13,
-            ReportKind::Statuses => 19,
-            ReportKind::Configurations => 23,
-        }
+        self as u8
     }
 }

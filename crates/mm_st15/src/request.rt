@@ -1,18 +1,18 @@
 //! Requests of service 15.
-ghost use Rattle.std.specs.Prelude.{◌≡◌, ◌<◌, ◌≤◌, ◌^◌, length, IfOk, IfSome, MatchResult, MatchOption, IsOkUnless};
-ghost use Rattle.std.specs.Option.{option_map};
+ghost use Rattle.std.specs.Prelude.{◌≡◌, ◌<◌, ◌≤◌, ◌^◌, length, is_some, IfOk, MatchBool, MatchResult, MatchOption, IsOkUnless};
 ghost use Rattle.mm_packet.specs.declared.header.TheConstants.{IDLE_APID, TELECOMMAND_BODY};
 ghost use Rattle.mm_packet.specs.declared.header.PacketType.TheVariants.{Telecommand};
 ghost use Rattle.mm_st15.specs.RequestKind.{code_of, width_of};
 ghost use Rattle.mm_st15.specs.Request.{IsRequest, SpellsRequest, request_fault};
 
-use crate::counted::{counted_at, counted_octets};
+use crate::counted::{counted_entries, counted_octets};
 use crate::entries::Entries;
-use crate::entry::entries_of;
-use crate::fault::{Fault, NoMemory};
+use crate::fault::Fault;
 use crate::instruction::{Channel, Configuration, ReportType, Size, Target, TimeLimit, TimeRange};
 use crate::request_kind::RequestKind;
 use crate::service::SERVICE;
+use crate::table::requests;
+use mm_base::NoMemory;
 use mm_packet::{Header, Octets, Packet};
 use std::alloc::{AllocError, Global};
 
@@ -55,68 +55,55 @@ pub enum Request {
     ChangeChannel(Entries<Channel>),
 }
 
-impl RequestKind {
-    ghost use Rattle.mm_st15.specs.Request.{HasCount, HasInstructions, instructions_at, data_with, data_of, kind_of, IsRequest};
-
-    // The number of instructions in some data, and their octets.
-    fn instructions_at(self, octets: &[u8]) -> Option<(usize, &[u8])>
-        ensures value { option_map (λ x. (x.0, x.1.now)) result
-            ≡ instructions_at (width_of self) octets.now }
-        ensures count { IfSome result (λ x. HasCount self x.0) }
-        ensures instructions { IfSome result (λ x. HasInstructions self x.0 x.1.now) }
-        ensures data { IfSome result (λ x. octets.now ≡ data_with self x.0 x.1.now) }
-    {
-        match self.width() {
-            Some(width) => counted_at(1, width, octets),
-            None if octets.is_empty() => Some((0, octets)),
-            None => None,
+// The request of a kind with these data.
+macro_rules! with_data {
+    (($kind:expr, $alloc:expr, $octets:expr)
+     listed { $($number:literal $name:ident $entry:ident,)* }
+     bare { $($other:literal $bare:ident,)* }) => {
+        match $kind {
+            $(RequestKind::$name => Ok(Request::$name(counted_entries($alloc, 1, $octets)?)),)*
+            $(RequestKind::$bare if $octets.is_empty() => Ok(Request::$bare),)*
+            $(RequestKind::$bare => Err(Fault::CountMismatch),)*
         }
-    }
+    };
+}
 
-    // The request with these instructions.
-    fn request_of(self, alloc: Global, count: usize, octets: &[u8]) -> Result<Request, AllocError>
-        requires count { HasCount self count }
-        requires instructions { HasInstructions self count octets.now }
+// What a request asks.
+macro_rules! kind {
+    (($request:expr)
+     listed { $($number:literal $name:ident $entry:ident,)* }
+     bare { $($other:literal $bare:ident,)* }) => {
+        match $request {
+            $(Request::$name(_) => RequestKind::$name,)*
+            $(Request::$bare => RequestKind::$bare,)*
+        }
+    };
+}
+
+// The data of a request.
+macro_rules! data {
+    (($request:expr, $alloc:expr)
+     listed { $($number:literal $name:ident $entry:ident,)* }
+     bare { $($other:literal $bare:ident,)* }) => {
+        match $request {
+            $(Request::$name(entries) => counted_octets($alloc, entries),)*
+            $(Request::$bare => Ok(Vec::new($alloc)),)*
+        }
+    };
+}
+
+impl RequestKind {
+    ghost use Rattle.mm_st15.specs.Request.{instructions_at, data_of, kind_of, IsRequest};
+
+    // The request with these data.
+    fn with_data(self, alloc: Global, octets: &[u8]) -> Result<Request, Fault>
         ensures kind { IfOk result (λ request. kind_of request ≡ self) }
-        ensures data { IfOk result (λ request. data_of request ≡ data_with self count octets.now) }
+        ensures data { IfOk result (λ request. data_of request ≡ octets.now) }
         ensures fits { IfOk result IsRequest }
+        ensures refused { MatchBool (is_some (instructions_at (width_of self) octets.now))
+            (IsOkUnless result Fault.NoMemory) (result ≡ Err Fault.CountMismatch) }
     {
-        let request = match self {
-            RequestKind::EnableStorage => Request::EnableStorage(entries_of(alloc, count, octets)?),
-            RequestKind::DisableStorage => Request::DisableStorage(entries_of(
-                alloc, count, octets,
-            )?),
-            RequestKind::AddReportTypes => Request::AddReportTypes(entries_of(
-                alloc, count, octets,
-            )?),
-            RequestKind::DeleteReportTypes => Request::DeleteReportTypes(entries_of(
-                alloc, count, octets,
-            )?),
-            RequestKind::ReportControl => Request::ReportControl(entries_of(alloc, count, octets)?),
-            RequestKind::StartRetrieval => Request::StartRetrieval(entries_of(
-                alloc, count, octets,
-            )?),
-            RequestKind::DeleteContent => Request::DeleteContent(entries_of(alloc, count, octets)?),
-            RequestKind::SummariseContent => Request::SummariseContent(entries_of(
-                alloc, count, octets,
-            )?),
-            RequestKind::AbortRetrieval => Request::AbortRetrieval(entries_of(
-                alloc, count, octets,
-            )?),
-            RequestKind::ReportStatus => Request::ReportStatus,
-            RequestKind::CreateStores => Request::CreateStores(entries_of(alloc, count, octets)?),
-            RequestKind::DeleteStores => Request::DeleteStores(entries_of(alloc, count, octets)?),
-            RequestKind::ReportConfiguration => Request::ReportConfiguration,
-            RequestKind::ResizeStores => Request::ResizeStores(entries_of(alloc, count, octets)?),
-            RequestKind::ChangeToCircular => Request::ChangeToCircular(entries_of(
-                alloc, count, octets,
-            )?),
-            RequestKind::ChangeToBounded => Request::ChangeToBounded(entries_of(
-                alloc, count, octets,
-            )?),
-            RequestKind::ChangeChannel => Request::ChangeChannel(entries_of(alloc, count, octets)?),
-        };
-        Ok(request)
+        requests!(with_data(self, alloc, octets))
     }
 }
 
@@ -181,25 +168,7 @@ impl Request {
     pub fn kind(&self) -> RequestKind
         ensures kind { result ≡ kind_of self.now }
     {
-        match self {
-            Request::EnableStorage(_) => RequestKind::EnableStorage,
-            Request::DisableStorage(_) => RequestKind::DisableStorage,
-            Request::AddReportTypes(_) => RequestKind::AddReportTypes,
-            Request::DeleteReportTypes(_) => RequestKind::DeleteReportTypes,
-            Request::ReportControl(_) => RequestKind::ReportControl,
-            Request::StartRetrieval(_) => RequestKind::StartRetrieval,
-            Request::DeleteContent(_) => RequestKind::DeleteContent,
-            Request::SummariseContent(_) => RequestKind::SummariseContent,
-            Request::AbortRetrieval(_) => RequestKind::AbortRetrieval,
-            Request::ReportStatus => RequestKind::ReportStatus,
-            Request::CreateStores(_) => RequestKind::CreateStores,
-            Request::DeleteStores(_) => RequestKind::DeleteStores,
-            Request::ReportConfiguration => RequestKind::ReportConfiguration,
-            Request::ResizeStores(_) => RequestKind::ResizeStores,
-            Request::ChangeToCircular(_) => RequestKind::ChangeToCircular,
-            Request::ChangeToBounded(_) => RequestKind::ChangeToBounded,
-            Request::ChangeChannel(_) => RequestKind::ChangeChannel,
-        }
+        requests!(kind(self))
     }
 
     // The number of instructions, and their octets; nothing where the request has no data.
@@ -209,25 +178,7 @@ impl Request {
         ensures room { IfOk result (λ octets. length octets.items ≤ TELECOMMAND_BODY) }
         ensures fits { IfOk result (λ _. IsRequest self.now) }
     {
-        match self {
-            Request::EnableStorage(entries) => counted_octets(alloc, entries),
-            Request::DisableStorage(entries) => counted_octets(alloc, entries),
-            Request::AddReportTypes(entries) => counted_octets(alloc, entries),
-            Request::DeleteReportTypes(entries) => counted_octets(alloc, entries),
-            Request::ReportControl(entries) => counted_octets(alloc, entries),
-            Request::StartRetrieval(entries) => counted_octets(alloc, entries),
-            Request::DeleteContent(entries) => counted_octets(alloc, entries),
-            Request::SummariseContent(entries) => counted_octets(alloc, entries),
-            Request::AbortRetrieval(entries) => counted_octets(alloc, entries),
-            Request::ReportStatus => Ok(Vec::new(alloc)),
-            Request::CreateStores(entries) => counted_octets(alloc, entries),
-            Request::DeleteStores(entries) => counted_octets(alloc, entries),
-            Request::ReportConfiguration => Ok(Vec::new(alloc)),
-            Request::ResizeStores(entries) => counted_octets(alloc, entries),
-            Request::ChangeToCircular(entries) => counted_octets(alloc, entries),
-            Request::ChangeToBounded(entries) => counted_octets(alloc, entries),
-            Request::ChangeChannel(entries) => counted_octets(alloc, entries),
-        }
+        requests!(data(self, alloc))
     }
 }
 
@@ -241,8 +192,5 @@ fn request_in(alloc: Global, packet: &Packet) -> Result<Request, Fault>
         return Err(Fault::NotSt15);
     }
     let kind = RequestKind::of_code(packet.subtype()).ok_or(Fault::UnknownSubtype)?;
-    let (count, octets) = kind
-        .instructions_at(packet.body())
-        .ok_or(Fault::CountMismatch)?;
-    Ok(kind.request_of(alloc, count, octets)?)
+    kind.with_data(alloc, packet.body())
 }

@@ -1,4 +1,5 @@
 use super::*;
+use mm_base::Refused;
 use mm_packet::Packet;
 use std::alloc::Global;
 use std::process::Abort;
@@ -615,4 +616,5 @@ fn refusals_are_shown_by_number_and_name(rt: HostRuntime) {
     laws::request_is_not_refused();
     laws::one_packet_one_report();
     laws::report_is_not_refused();
+    laws::constants_are();
 }

@@ -3,7 +3,7 @@ use Rattle.std.proofs.Common.{◌≡◌, ◌⊎◌, ℕ, zero, suc, ◌+◌, ◌
 use Rattle.std.specs.List.{find}
 use Rattle.std.proofs.lemmas.Bool.{lt-ltb, le-ltb, le-leb, lt-leb, leb-true, leb-false, cases_lt, and_left, and_right, and_from}
 use Rattle.std.proofs.lemmas.Bool.Decides.{nat_tests}
-use Rattle.std.proofs.lemmas.List.{drop_more, drop_all, get_or-take, get_or-drop, length-take, length-drop, get_or_default}
+use Rattle.std.proofs.lemmas.List.{drop_more, drop_all, get_or-take, get_or-drop, length-take, length-drop}
 use Rattle.std.proofs.lemmas.List.Elements.{All-filter, All-head, All-tail, All-weaker}
 use Rattle.std.proofs.lemmas.Option.{slice_get_within, get_or_from_slice_get}
 use Rattle.std.proofs.lemmas.List.Kept.{AllPairs-filter}
@@ -82,7 +82,10 @@ IsStore-emptied s kind sound = record {
   last_fits = sound.last_fits;
 }
 
-module _ (xs : List Stored) (place passed : ℕ) (x : Stored) (rising : IsRising xs) (within : place < length xs) (at : get_or xs place x ≡ x) where
+module _ (xs : List Stored) (place passed : ℕ) (x : Stored) (rising : IsRising xs) (at : slice_get xs place ≡ Some x) where
+  here : (d : Stored) → get_or xs place d ≡ x
+  here d = get_or_from_slice_get xs place x d at
+
   -- up to an early packet all are early
   pub early_up_to : x.time ≤ passed → All (λ p. p.time ≤ passed) (take (place + 1) xs)
   early_up_to early = λ k d inside.
@@ -91,13 +94,11 @@ module _ (xs : List Stored) (place passed : ℕ) (x : Stored) (rising : IsRising
     where
       by_order : (k : ℕ) (d : Stored) → (k < place) ⊎ (place ≤ k) → k ≤ place → (get_or xs k d).time ≤ passed
       by_order k d (inl before) upto =
-          let here = get_or_default xs place d x within ∙ at in
-          let less = rw here at (rising k place d before within) in
+          let less = rw (here d) at (rising k place d before (slice_get_within xs place x at)) in
           omega arith
       by_order k d (inr after) upto =
-          let here = get_or_default xs place d x within ∙ at in
           let same : k ≡ place = omega arith in
-          rw (same, here) early
+          rw (same, here d) early
 
   -- from a late packet on all are late
   pub late_from : passed < x.time → All (λ p. passed < p.time) (drop place xs)
@@ -107,13 +108,11 @@ module _ (xs : List Stored) (place passed : ℕ) (x : Stored) (rising : IsRising
     where
       by_order : (k : ℕ) (d : Stored) → (0 < k) ⊎ (k ≤ 0) → place + k < length xs → passed < (get_or xs (place + k) d).time
       by_order k d (inl after) below =
-          let here = get_or_default xs place d x within ∙ at in
-          let more = rw here at (rising place (place + k) d (omega arith) below) in
+          let more = rw (here d) at (rising place (place + k) d (omega arith) below) in
           omega arith
       by_order k d (inr same) below =
-          let here = get_or_default xs place d x within ∙ at in
           let zero_more : place + k ≡ place = omega arith in
-          rw (zero_more, here) late
+          rw (zero_more, here d) late
 
 -- a search passes what fails its test
 find-drop : (test : Stored → Bool) (xs : List Stored) (n : ℕ) → All (λ p. test p ≡ false) (take n xs) → find test xs ≡ find test (drop n xs)
@@ -169,6 +168,5 @@ module _ (from to after passed : ℕ) (bound : passed ≡ max (from - 1) after) 
       -- where the first packet that is not early is past the end, none is in the range
       pub first_in-late : IsRising xs → to < x.time → first_in from to after xs ≡ None
       first_in-late rising late =
-          let within = slice_get_within xs place x at in
-          let all_late = late_from xs place to x rising within (get_or_from_slice_get xs place x x at) late in
+          let all_late = late_from xs place to x rising at late in
           first_in-drop ∙ find-none (is_in from to after) (drop place xs) (All-weaker (λ p. to < p.time) (λ p. is_in from to after p ≡ false) is_in-late (drop place xs) all_late)

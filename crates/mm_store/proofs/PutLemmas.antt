@@ -1,8 +1,7 @@
 -- What a put leaves is a store.
-use Rattle.std.proofs.Common.{◌≡◌, ◌⊎◌, ℕ, ◌+◌, ◌^◌, ◌<◌, ◌≤◌, ◌==◌, List, [], ◌∷◌, ◌++◌, length, max, All, refl, inl, inr, arith}
-use Rattle.std.specs.Prelude.{true, false}
+use Rattle.std.proofs.Common.{◌≡◌, ℕ, ◌+◌, ◌^◌, ◌<◌, ◌≤◌, ◌==◌, List, [], ◌∷◌, ◌++◌, length, max, All, refl, inl, inr, arith}
 use Rattle.std.proofs.lemmas.Bool.{cases_Bool, cases_lt, lt-ltb, le-ltb}
-use Rattle.std.proofs.lemmas.Bool.Decides.{Decides-eqb, nat_tests}
+use Rattle.std.proofs.lemmas.Bool.Decides.{nat_tests}
 use Rattle.std.proofs.lemmas.List.{length_push}
 use Rattle.std.proofs.lemmas.List.Elements.{All-append, All-cons, All-tail, All-weaker}
 use Rattle.std.proofs.lemmas.List.Quantifiers.{all_pairs_push}
@@ -52,6 +51,6 @@ pub IsStore-put : (s : Store) (now : ℕ) (packet : SpacePacket) → now < 2 ^ 6
 IsStore-put s now packet in_clock sound = elim (cases_Bool (s.last == clock_end)) [
   | inl ended ↦ rw ended sound
   | inr before ↦
-    let fits : max now (s.last + 1) < 2 ^ 64 = grind (arith, nat_tests, sound.last_fits) in
-    rw before (IsStore-put_timed s (record { time = max now (s.last + 1); packet = packet }) sound (omega arith) fits)
+      let fits : max now (s.last + 1) < 2 ^ 64 = grind (arith, nat_tests, sound.last_fits) in
+      rw before (IsStore-put_timed s (record { time = max now (s.last + 1); packet = packet }) sound (omega arith) fits)
 ]

@@ -1,9 +1,7 @@
 //! Why a packet store cannot be made or changed.
 ghost use Rattle.std.specs.Prelude.{◌≡◌};
-ghost use Rattle.mm_base.specs.Refusals.{number_of, name_of};
-ghost use Rattle.mm_store.specs.Fault.{refusal_of};
 
-use mm_base::Refusal;
+use mm_base::{Refusal, Refused};
 use std::alloc::AllocError;
 use thiserror::Error;
 
@@ -17,29 +15,16 @@ pub enum Fault {
     HoldsMore,
 }
 
-impl Fault {
-    /// Which refusal it is.
-    pub fn refusal(self) -> Refusal
-        ensures refusal { result ≡ refusal_of self }
-    {
+impl Refused for Fault {
+    ghost use Rattle.mm_store.specs.Fault.{refusal_of};
+
+    ghost refusal_of = { refusal_of };
+
+    fn refusal(self) -> Refusal {
         match self {
             Fault::NoMemory => Refusal::NoMemory,
             Fault::HoldsMore => Refusal::HoldsMore,
         }
-    }
-
-    /// The refusal's number.
-    pub fn number(self) -> u8
-        ensures number { result ≡ number_of (refusal_of self) }
-    {
-        self.refusal().number()
-    }
-
-    /// The refusal's name.
-    pub fn name(self) -> &'static str
-        ensures name { result.now ≡ name_of (refusal_of self) }
-    {
-        self.refusal().name()
     }
 }
 

@@ -1,7 +1,7 @@
 ghost use Rattle.std.specs.Prelude.{◌≤◌};
 
 use super::*;
-use mm_base::{Kind, MAX_BLOCKS};
+use mm_base::{Kind, MAX_BLOCKS, Refused};
 use mm_packet::{BlockPacket, Header, Octets, Packet};
 use std::alloc::Global;
 use std::process::Abort;
@@ -364,6 +364,20 @@ fn each_type_is_resized(rt: HostRuntime) {
     run(&rt, alloc, &mut blocks, &NEWEST_LOST);
 }
 
+// A packet with this sequence count, as a store holds it.
+fn stored(rt: &impl Abort, alloc: Global, time: u64, count: u16) -> Stored {
+    let packet = packet(rt, alloc, count);
+    Stored { time, packet }
+}
+
+#[test]
+fn stored_packets_are_equal_with_their_times(rt: HostRuntime) {
+    let one = stored(&rt, rt.alloc(), 7, 1);
+    assert!(rt; one.is(&stored(&rt, rt.alloc(), 7, 1)));
+    assert!(rt; !one.is(&stored(&rt, rt.alloc(), 8, 1)));
+    assert!(rt; !one.is(&stored(&rt, rt.alloc(), 7, 2)));
+}
+
 #[test]
 fn refusals_have_numbers_and_names(rt: HostRuntime) -> Result<(), Fail> {
     let fault = Fault::HoldsMore;
@@ -373,5 +387,7 @@ fn refusals_have_numbers_and_names(rt: HostRuntime) -> Result<(), Fail> {
         (0, "NoMemory")
     );
     assert_eq!(rt; fault.to_string(rt.alloc())?.as_str(), "9 HoldsMore");
+    laws::stores_lose_alike();
+    laws::stores_stay_stores();
     Ok(())
 }

@@ -7,8 +7,9 @@ use crate::script::{ScriptFiles, first_line};
 use clap::error::ErrorKind;
 use mm_ask::{Outcome, ask_bytes};
 use mm_base::Refusal;
+use mm_check::check_bytes;
 use mm_cut::Verdict;
-use mm_planner::{check_bytes, plan_bytes};
+use mm_planner::plan_bytes;
 use std::alloc::{AllocError, Global};
 use std::convert::AsStr;
 use std::io::{self, Write};
@@ -42,7 +43,7 @@ enum Fault<'a> {
     #[error("{} name {name}", Refusal::NotRead)]
     NotRead { name: &'a str },
     #[error(transparent)]
-    Texts(#[from] mm_planner::Fault),
+    Texts(#[from] mm_check::Fault),
     #[error(transparent)]
     Setup(#[from] mm_ask::Fault),
 }

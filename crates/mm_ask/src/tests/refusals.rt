@@ -1,6 +1,6 @@
 //! Requests that are refused whole.
 use super::{SCI, some_refused};
-use crate::{Outcome, ask_bytes};
+use crate::{Fault, LineFault, Outcome, ask_bytes};
 
 #[test]
 fn requests_that_are_refused_whole(rt: HostRuntime) {
@@ -25,6 +25,32 @@ fn requests_that_are_refused_whole(rt: HostRuntime) {
         7 refused 49 HexLine\n\
         8.1 refused 16 BadEnum\n",
     );
+}
+
+// Creates two stores.
+const CREATE: [u8; 80] =
+    *b"1864C0000021200F140000025343492020202020000000040100484B202020202020000000020001";
+
+#[test]
+fn each_proper_prefix_of_a_packet_is_short(rt: HostRuntime) {
+    for octets in 1..40usize {
+        let line = &CREATE[..2 * octets];
+        let (outcome, text) = ask_bytes(rt.alloc(), SCI.as_bytes(), line).expect(&rt, "an answer");
+        assert_eq!(rt; text.as_slice(), b"1 refused 1 Short\n".as_slice());
+        assert_eq!(rt; outcome, Outcome::SomeRefused);
+    }
+}
+
+// Whichever growth is refused, bad digits are told as such, or nothing is.
+#[test]
+fn bad_digits_are_told_before_the_first_growth(rt: HostRuntime) {
+    match ask_bytes(rt.alloc(), SCI.as_bytes(), b"0z\n186") {
+        Ok((_, text)) => assert_eq!(rt;
+            text.as_slice(),
+            b"1 refused 49 HexLine\n2 refused 49 HexLine\n".as_slice()
+        ),
+        Err(fault) => assert_eq!(rt; fault, Fault::NoMemory),
+    }
 }
 
 // Each line fails the test that is named and a later one too.
@@ -70,6 +96,19 @@ const BAD_PACKETS: [(&str, &str); 5] = [
 fn packets_that_are_refused(rt: HostRuntime) {
     for (line, want) in BAD_PACKETS {
         some_refused(&rt, line, want);
+    }
+}
+
+#[test]
+fn the_refusal_of_a_line_is_shown_as_it_is_printed(rt: HostRuntime) {
+    for (fault, want) in [
+        (LineFault::NoMemory, "0 NoMemory"),
+        (LineFault::HexLine, "49 HexLine"),
+        (LineFault::Packet(mm_packet::Fault::Short), "1 Short"),
+        (LineFault::Request(mm_st15::Fault::NotSt15), "12 NotSt15"),
+    ] {
+        let shown = fault.to_string(rt.alloc()).expect(&rt, "its text");
+        assert_eq!(rt; shown.as_str(), want);
     }
 }
 

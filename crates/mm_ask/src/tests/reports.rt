@@ -1,7 +1,8 @@
 //! Reports, to the octet, and their numbers.
 use super::{CONFIGURATIONS, all_done, some_refused};
-use crate::{Counters, Numbers, request_of};
+use crate::{Counters, Numbers, SEQUENCE_COUNTS, laws, request_of};
 use mm_st15::ReportKind;
+use std::process::Abort;
 
 #[test]
 fn the_configuration_of_each_store(rt: HostRuntime) {
@@ -99,33 +100,23 @@ fn a_report_for_each_accepted_instruction(rt: HostRuntime) {
     );
 }
 
+// The numbers of the next report of a kind are these.
+fn numbered<R: Abort>(
+    rt: &R,
+    counters: &mut Counters,
+    kind: ReportKind,
+    sequence: u16,
+    counter: u16,
+) {
+    assert_eq!(rt; counters.next(kind), Numbers { sequence, counter });
+}
+
 #[test]
 fn counters_by_kind(rt: HostRuntime) {
     let mut counters = Counters::new();
-    let first = counters.next(ReportKind::Control);
-    let second = counters.next(ReportKind::Summaries);
-    let third = counters.next(ReportKind::Control);
-    assert_eq!(rt;
-        first,
-        Numbers {
-            sequence: 0,
-            counter: 0
-        }
-    );
-    assert_eq!(rt;
-        second,
-        Numbers {
-            sequence: 1,
-            counter: 0
-        }
-    );
-    assert_eq!(rt;
-        third,
-        Numbers {
-            sequence: 2,
-            counter: 1
-        }
-    );
+    numbered(&rt, &mut counters, ReportKind::Control, 0, 0);
+    numbered(&rt, &mut counters, ReportKind::Summaries, 1, 0);
+    numbered(&rt, &mut counters, ReportKind::Control, 2, 1);
 }
 
 // Behind the greatest number comes 0: after 65,536 reports of a subtype, which are four times
@@ -136,26 +127,20 @@ fn counters_begin_again(rt: HostRuntime) {
     for _ in 0..65_535u32 {
         let _ = counters.next(ReportKind::Statuses);
     }
-    let last = counters.next(ReportKind::Statuses);
-    let next = counters.next(ReportKind::Statuses);
-    assert_eq!(rt;
-        last,
-        Numbers {
-            sequence: 16_383,
-            counter: 65_535
-        }
-    );
-    assert_eq!(rt;
-        next,
-        Numbers {
-            sequence: 0,
-            counter: 0
-        }
-    );
+    numbered(&rt, &mut counters, ReportKind::Statuses, 16_383, 65_535);
+    numbered(&rt, &mut counters, ReportKind::Statuses, 0, 0);
 }
 
 #[test]
 fn a_line_s_request(rt: HostRuntime) {
     let asked = request_of(rt.alloc(), CONFIGURATIONS.as_bytes()).expect(&rt, "a request");
     assert_eq!(rt; (asked.request.subtype(), asked.packet.apid()), (22, 100));
+}
+
+#[test]
+fn laws_are_called(rt: HostRuntime) {
+    laws::numbers_count_reports();
+    laws::conversations_count_their_reports();
+    laws::constants_are();
+    assert_eq!(rt; SEQUENCE_COUNTS, 16_384);
 }

@@ -11,6 +11,7 @@ add_step-requires-clause-room c =
     let t = c.loop-step.step in
     record {
       nodes = ap (λ (g : Graph). g.nodes) c.loop-step.invariant;
+      few_nodes = omega (arith, ap (λ (g : Graph). g.nodes) c.loop-step.invariant, c.steps-step-end.ensures.is_dumping.steps.at_most);
       arcs = omega (arith, length_with_arcs c.loop-step.network.graph (nodes_alone (net q).nodes) (arcs_of q (t - 1)) c.loop-step.invariant, length-arcs_of q (t - 1), few_arcs q t c.steps-step-end.ensures.is_dumping (omega arith));
     }
 

@@ -3,7 +3,7 @@ use Rattle.mm_st15.proofs.entry.entries_of.Goals as goal
 
 pub unwrap-entry-requires : goal.unwrap-entry-requires
 unwrap-entry-requires g c =
-    is_some_at c.read.result _ _ (has_more c.args.count c.loop.counter g.E.Entry.width _ c.loop-test.true c.loop.invariant.left) c.read.ensures.none
+    is_some_at c.read.result _ _ (has_more c.args.count c.loop.counter g.E.Entry.WIDTH _ c.loop-test.true c.loop.invariant.left) c.read.ensures.none
 
 pub loop-preserved : goal.loop-preserved
 loop-preserved g c =
@@ -11,5 +11,5 @@ loop-preserved g c =
     let len = rw c.unwrap-entry.ensures at c.read.ensures.len in
     let fit = rw c.unwrap-entry.ensures at c.read.ensures.fits in
     rw c.in_ok-push.ensures.items (
-    reads_more g.E.Entry.spelling g.E.Entry.fits g.E.Entry.width _ _ _ c.args.count c.loop.counter c.unwrap-entry.result.0 c.unwrap-entry.result.1.now
+    reads_more g.E.Entry.spelling g.E.Entry.fits g.E.Entry.WIDTH _ _ _ c.args.count c.loop.counter c.unwrap-entry.result.0 c.unwrap-entry.result.1.now
     c.loop-test.true c.loop.invariant spelled len fit)

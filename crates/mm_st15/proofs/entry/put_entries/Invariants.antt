@@ -5,6 +5,6 @@ use Rattle.mm_st15.proofs.entry.put_entries.Given as goal
 abbrev pub invariant-loop-entry : goal.invariant-loop-entry
 invariant-loop-entry g l = record {
   octets : l.out.items ≡ l.fn.out.items ++ flat_map g.E.Entry.spelling (take l.entry-index l.entry-items);
-  len : length l.out.items ≡ length l.fn.out.items + l.entry-index * g.E.Entry.width;
+  len : length l.out.items ≡ length l.fn.out.items + l.entry-index * g.E.Entry.WIDTH;
   each : AllByRecursion g.E.Entry.fits (take l.entry-index l.entry-items);
 }

@@ -14,19 +14,19 @@ loop-front-init c = rw c.new-draft.ensures (read_to_start c.args.text.now)
 pub loop-front-preserved : goal.loop-front-preserved
 loop-front-preserved c =
     read_on c.args.text.now c.loop-front.draft c.take.new.self c.loop-front.rest.now c.loop-front.line c.in-Some.front.now c.in-Some.after.now
-    c.loop-front.invariant (search rules) (when_true _ _ c.in_ok-take.field-0 c.in_ok-take.ensures c.if-not-branch.false)
+    c.loop-front.invariant (search rules) (when_true _ _ c.in-Ok.taken c.in-Ok.ensures c.if-not-taken.false)
 
 pub overflow_add-line : goal.overflow_add-line
 overflow_add-line c = omega (arith, few_read c.args.text.now c.loop-front.draft c.loop-front.rest.now c.loop-front.line c.loop-front.invariant)
 
 -- the line that cannot come next
-pub returns-then-not-branch-clause-bad : goal.returns-then-not-branch-clause-bad
-returns-then-not-branch-clause-bad c = λ _.
+pub returns-then-not-taken-clause-bad : goal.returns-then-not-taken-clause-bad
+returns-then-not-taken-clause-bad c = λ _.
     bad_line c.args.text.now c.loop-front.draft c.loop-front.rest.now c.loop-front.line c.in-Some.front.now c.in-Some.after.now
-    c.loop-front.invariant (search rules) (when_false _ _ c.in_ok-take.field-0 c.in_ok-take.ensures c.if-not-branch.true)
+    c.loop-front.invariant (search rules) (when_false _ _ c.in-Ok.taken c.in-Ok.ensures c.if-not-taken.true)
 
-pub returns-then-not-branch-clause-read : goal.returns-then-not-branch-clause-read
-returns-then-not-branch-clause-read c = λ s is e. absurd ((returns-then-not-branch-clause-bad c (no_want c.loop-front.line)).no_sheet s is e)
+pub returns-then-not-taken-clause-read : goal.returns-then-not-taken-clause-read
+returns-then-not-taken-clause-read c = λ s is e. absurd ((returns-then-not-taken-clause-bad c (no_want c.loop-front.line)).no_sheet s is e)
 
 -- the line on which the text ends
 pub returns-then-not-ends-clause-bad : goal.returns-then-not-ends-clause-bad

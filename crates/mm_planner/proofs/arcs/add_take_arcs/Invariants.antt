@@ -1,8 +1,0 @@
-use Rattle.std.proofs.Common.{◌≡◌, map}
-use Rattle.std.specs.List.{range_with_len}
-use Rattle.mm_planner.specs.Network.{take_arc}
-use Rattle.mm_planner.specs.Growing.{with_arcs}
-use Rattle.mm_planner.proofs.arcs.add_take_arcs.Given as goal
-
-abbrev pub invariant-loop-store : goal.invariant-loop-store
-invariant-loop-store l = l.network.graph ≡ with_arcs l.fn.network.graph (map (take_arc l.problem l.step) (range_with_len 0 l.store))

@@ -1,0 +1,18 @@
+//! A proposal of a dump plan and of a cut that may show that it loses least. It is a guess that others verify.
+#![tactic(auto)]
+
+mod amounts;
+mod cuts;
+mod greedy;
+mod moves;
+mod node;
+mod paths;
+mod proposal;
+mod search;
+mod sets;
+mod spans;
+mod stores;
+#[cfg(test)]
+mod tests;
+
+pub use proposal::{Proposal, propose};
