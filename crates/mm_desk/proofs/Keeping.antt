@@ -1,15 +1,11 @@
 -- Every event leaves a state.
-use Rattle.std.proofs.Common.{◌≡◌, ℕ, ◌+◌, ◌<◌, ◌≤◌, ◌^◌, max, ltb, List, [], ◌∷◌, length, All, refl, sym, ap, subst, arith, length-append}
+use Rattle.std.proofs.Common.{◌≡◌, ℕ, ◌<◌, ◌^◌, ltb, List, [], ◌∷◌, All, arith}
 use Rattle.std.specs.Prelude.{Option, Some, None, Result, ◌==◌, ◌||◌, not, is_some}
-use Rattle.std.proofs.lemmas.Bool.{ltb-true, or_parts, eqb-false}
-use Rattle.std.proofs.lemmas.List.Elements.{All-head, All-tail, All-push, All-weaker}
-use Rattle.std.proofs.lemmas.List.Quantifiers.{all_pairs_push}
-use Rattle.mm_base.specs.declared.kind.Kind.{Kind}
-use Rattle.mm_base.specs.declared.kind.Kind.TheVariants.{Circular, Bounded}
+use Rattle.std.proofs.lemmas.Bool.{or_parts, eqb-false}
+use Rattle.std.proofs.lemmas.List.Elements.{All-head, All-tail}
 use Rattle.mm_packet.specs.Packet.{SpacePacket}
 use Rattle.mm_store.specs.declared.stored.Stored.{Stored}
-use Rattle.mm_store.specs.declared.put.Put.{Put}
-use Rattle.mm_store.specs.Content.{Store, IsStore, IsRising, clock_end, with_newest, put_full, put, first_in}
+use Rattle.mm_store.specs.Content.{IsStore, clock_end, first_in}
 use Rattle.mm_store.specs.Laws.{PutsKeepStores, DeletionsKeepStores}
 use Rattle.mm_desk.specs.declared.entry.Entry.{Entry}
 use Rattle.mm_desk.specs.declared.event.Event.{Event}

@@ -102,7 +102,12 @@ impl<W: Passing> Page<W> {
 
 impl<W: Passing> PassBook<W> {
     /// A pass book with nothing drawn, and its seats.
-    pub fn open(alloc: Global, blank: Blank, window: u64, seats: u32) -> Result<(PassBook<W>, Vec<PassSeat<W>>), NoMemory>
+    pub fn open(
+        alloc: Global,
+        blank: Blank,
+        window: u64,
+        seats: u32,
+    ) -> Result<(PassBook<W>, Vec<PassSeat<W>>), NoMemory>
         requires lowest { 1 ≤ seats }
         requires highest { seats ≤ MAX_SEATS }
         requires name { blank.name ≡ W.name }

@@ -134,12 +134,14 @@ const THREE: [(Ask, Told); 4] = [
 
 const CLOCK: [(Ask, Told); 6] = [
     (Ask::Enable, Told::Done),
-    (Ask::Offer(0, 1), Told::Kept(1)),
-    (Ask::Offer(1, 2), Told::Kept(2)),
-    (Ask::Delete(1), Told::Deleted(1)),
+    (Ask::Offer(7, 1), Told::Kept(7)),
+    (Ask::Offer(7, 2), Told::Kept(8)),
+    (Ask::Delete(7), Told::Deleted(1)),
     (Ask::Offer(u64::MAX, 3), Told::Kept(u64::MAX)),
     (Ask::Offer(u64::MAX, 4), Told::Back(Fault::ClockEnd, 4)),
 ];
+
+const START: [(Ask, Told); 2] = [(Ask::Enable, Told::Done), (Ask::Offer(0, 1), Told::Kept(1))];
 
 #[test]
 fn times_rise(rt: HostRuntime) {
@@ -147,6 +149,8 @@ fn times_rise(rt: HostRuntime) {
         let mut state = new_state(&rt, rt.alloc(), kind);
         asks(&rt, rt.alloc(), &mut state, &CLOCK);
         assert_eq!(rt; counts(&state), (3, 0, 1, 2));
+        let mut state = new_state(&rt, rt.alloc(), kind);
+        asks(&rt, rt.alloc(), &mut state, &START);
     }
 }
 

@@ -2,9 +2,12 @@
 ghost use Rattle.std.specs.Prelude.{◌≡◌};
 ghost use Rattle.mm_desk.specs.Runs.{opening_at};
 
-use super::{Told, new_state, packet, told_of, told_of_delete, told_of_offer};
+use super::{Told, counts, new_state, packet, told_of, told_of_delete, told_of_offer};
 use crate::agree::{agrees, is_below, is_part};
-use crate::{Closed, Desk, Entry, Event, Fault, Opening, PassBook, PassSeat, Passing, Reply, Seat, StoreState, WindowFull};
+use crate::{
+    Closed, Desk, Entry, Event, Fault, Offered, Opening, PassBook, Passing, Reply, Seat,
+    StoreState, WindowFull,
+};
 use mm_base::{Kind, Refused};
 use std::alloc::Global;
 use std::marker::Brand;
@@ -30,18 +33,31 @@ fn told_of_given(answer: Result<Option<mm_store::Stored>, Fault>) -> Told {
 }
 
 // The first seat offers, then the second; the first takes a copy of its packet back and aborts.
-fn two_offers<N: Opening, R: Wait + Abort>(rt: &R, alloc: Global, desk: &Desk<N>, one: &mut Seat<N>, two: &mut Seat<N>) {
+fn two_offers<N: Opening, R: Wait + Abort>(
+    rt: &R,
+    alloc: Global,
+    desk: &Desk<N>,
+    one: &mut Seat<N>,
+    two: &mut Seat<N>,
+) {
     let first = told_of_offer(desk.offer(rt, alloc, one, 7, packet(rt, alloc, 1)));
     assert_eq!(rt; first, Told::Kept(7));
     let second = told_of_offer(desk.offer(rt, alloc, two, 7, packet(rt, alloc, 2)));
     assert_eq!(rt; second, Told::Kept(8));
-    assert_eq!(rt; told_of(desk.begin(rt, alloc, one, 1, u64::MAX)), Told::Done);
+    assert_eq!(rt;
+        told_of(desk.begin(rt, alloc, one, 1, u64::MAX)),
+        Told::Done
+    );
     assert_eq!(rt; told_of_given(desk.next(rt, alloc, one)), Told::Given(7, 1));
     assert_eq!(rt; told_of(desk.abort(rt, alloc, one)), Told::Done);
 }
 
-// A desk at place 0 is opened, used by two seats, and closed.
-fn close_in_order<N: Opening, R: Wait + Abort>(rt: &R, alloc: Global, state: StoreState) -> Closed<N>
+// A desk at place 0 that two seats have used, with the seats in order.
+fn used_desk<N: Opening, R: Wait + Abort>(
+    rt: &R,
+    alloc: Global,
+    state: StoreState,
+) -> (Desk<N>, Seat<N>, Seat<N>)
     requires state { state ≡ opening_at N.states 0 }
 {
     let Ok((desk, mut seats)) = Desk::<N>::open(alloc, state, 0, 2) else {
@@ -50,30 +66,27 @@ fn close_in_order<N: Opening, R: Wait + Abort>(rt: &R, alloc: Global, state: Sto
     let mut two = seats.pop().expect(rt, "two seats");
     let mut one = seats.pop().expect(rt, "two seats");
     two_offers(rt, alloc, &desk, &mut one, &mut two);
+    (desk, one, two)
+}
+
+// The seats are handed back in this order.
+fn close_with<N: Opening, R: Abort>(
+    rt: &R,
+    alloc: Global,
+    desk: Desk<N>,
+    one: Seat<N>,
+    two: Seat<N>,
+) -> Closed<N> {
+    let mut seats = Vec::new(alloc);
     seats.push(one).expect(rt, "memory");
     seats.push(two).expect(rt, "memory");
     desk.close(seats)
 }
 
-// The same, but the seats are handed back in the other order.
-fn close_exchanged<N: Opening, R: Wait + Abort>(rt: &R, alloc: Global, state: StoreState) -> Closed<N>
-    requires state { state ≡ opening_at N.states 0 }
-{
-    let Ok((desk, mut seats)) = Desk::<N>::open(alloc, state, 0, 2) else {
-        panic!(rt; "memory");
-    };
-    let mut two = seats.pop().expect(rt, "two seats");
-    let mut one = seats.pop().expect(rt, "two seats");
-    two_offers(rt, alloc, &desk, &mut one, &mut two);
-    seats.push(two).expect(rt, "memory");
-    seats.push(one).expect(rt, "memory");
-    desk.close(seats)
-}
-
-// The answer to the entry at this place of a log, an offer's time or whether it was done.
+// What an entry answered: an offer's time, the packet given, or whether it was done.
 fn logged(entry: &Entry) -> Told {
     match (&entry.event, &entry.reply) {
-        (Event::Offer(_, _), Reply::Offered(Ok(crate::Offered::Kept(time)))) => Told::Kept(*time),
+        (Event::Offer(_, _), Reply::Offered(Ok(Offered::Kept(time)))) => Told::Kept(*time),
         (Event::Next, Reply::Given(Ok(Some(stored)))) => {
             Told::Given(stored.time, stored.packet.packet().count())
         }
@@ -82,49 +95,80 @@ fn logged(entry: &Entry) -> Told {
     }
 }
 
+const FIVE_ENTRIES: [(u32, Told); 5] = [
+    (0, Told::Kept(7)),
+    (1, Told::Kept(8)),
+    (0, Told::Done),
+    (0, Told::Given(7, 1)),
+    (0, Told::Done),
+];
+
+fn close_in_order<N: Opening, R: Wait + Abort>(rt: &R, alloc: Global, state: StoreState)
+    requires state { state ≡ opening_at N.states 0 }
+{
+    let (desk, one, two) = used_desk::<N, R>(rt, alloc, state);
+    let closed = close_with(rt, alloc, desk, one, two);
+    assert!(rt;
+        closed.agree,
+        "an honest desk's log is a shuffle of its seats' lists"
+    );
+    assert_eq!(rt; closed.log.len(), 5);
+    assert_eq!(rt; counts(&closed.state), (2, 0, 0, 2));
+    for (entry, want) in closed.log.iter().zip(&FIVE_ENTRIES) {
+        assert_eq!(rt; (entry.seat, logged(entry)), *want);
+    }
+    for (seat, calls) in closed.seats.iter().zip(&[4, 1]) {
+        assert_eq!(rt; (seat.place(), seat.list().len()), (0, *calls));
+    }
+}
+
 #[test]
 fn two_seats_one_desk(rt: HostRuntime) {
-    let closed = close_in_order::<Brand, HostRuntime>(&rt, rt.alloc(), bounded(&rt, rt.alloc()));
-    assert!(rt; closed.agree, "an honest desk's log is a shuffle of its seats' lists");
+    close_in_order::<Brand, HostRuntime>(&rt, rt.alloc(), bounded(&rt, rt.alloc()));
+}
+
+fn close_exchanged<N: Opening, R: Wait + Abort>(rt: &R, alloc: Global, state: StoreState)
+    requires state { state ≡ opening_at N.states 0 }
+{
+    let (desk, one, two) = used_desk::<N, R>(rt, alloc, state);
+    let closed = close_with(rt, alloc, desk, two, one);
+    assert!(rt;
+        !closed.agree,
+        "the seats were handed back in another order"
+    );
     assert_eq!(rt; closed.log.len(), 5);
-    assert_eq!(rt; (closed.state.offered(), closed.state.lost(), closed.state.deleted()), (2, 0, 0));
-    assert_eq!(rt; mm_store::PacketStore::len(closed.state.store()), 2);
-    for (entry, want) in closed.log.iter().zip([
-        (0, Told::Kept(7)),
-        (1, Told::Kept(8)),
-        (0, Told::Done),
-        (0, Told::Given(7, 1)),
-        (0, Told::Done),
-    ]) {
-        assert_eq!(rt; (entry.seat, logged(entry)), want);
-    }
-    for (seat, calls) in closed.seats.iter().zip([4, 1]) {
-        assert_eq!(rt; (seat.place(), seat.list().len()), (0, calls));
-    }
 }
 
 #[test]
 fn exchanged_seats_do_not_agree(rt: HostRuntime) {
-    let closed = close_exchanged::<Brand, HostRuntime>(&rt, rt.alloc(), bounded(&rt, rt.alloc()));
-    assert!(rt; !closed.agree, "the seats were handed back in another order");
-    assert_eq!(rt; closed.log.len(), 5);
+    close_exchanged::<Brand, HostRuntime>(&rt, rt.alloc(), bounded(&rt, rt.alloc()));
 }
 
-#[test]
-fn a_log_beside_other_lists_does_not_agree(rt: HostRuntime) {
-    let closed = close_in_order::<Brand, HostRuntime>(&rt, rt.alloc(), bounded(&rt, rt.alloc()));
+fn compare_lists<N: Opening, R: Wait + Abort>(rt: &R, alloc: Global, state: StoreState)
+    requires state { state ≡ opening_at N.states 0 }
+{
+    let (desk, one, two) = used_desk::<N, R>(rt, alloc, state);
     let Closed {
         state: _,
         mut log,
         seats,
         agree: _,
-    } = closed;
+    } = close_with(rt, alloc, desk, one, two);
     assert!(rt; agrees(&log, 2, &seats), "the lists of its seats");
     assert!(rt; !agrees(&log, 3, &seats), "three seats");
-    assert!(rt; is_below(&log, 2) && !is_below(&log, 1), "the entries of the second seat");
-    for (number, seat) in (0..2).zip(&seats) {
-        assert!(rt; is_part(&log, number, seat.list()), "the seat's own list");
-        assert!(rt; !is_part(&log, 1 - number, seat.list()), "the other seat's list");
+    assert!(rt;
+        is_below(&log, 2) && !is_below(&log, 1),
+        "the entries of the second seat"
+    );
+    for (seat, other) in seats.iter().zip(seats.iter().rev()) {
+        assert!(rt;
+            is_part(&log, seat.number(), seat.list()),
+            "the seat's own list"
+        );
+        assert!(rt;
+            !is_part(&log, seat.number(), other.list()),
+            "the other seat's list"
+        );
     }
     log.pop();
     assert!(rt; !agrees(&log, 2, &seats), "a log without its last entry");
@@ -133,36 +177,50 @@ fn a_log_beside_other_lists_does_not_agree(rt: HostRuntime) {
         event: Event::Abort,
         reply: Reply::Done(Err(Fault::Idle)),
     };
-    log.push(other).expect(&rt, "memory");
-    assert!(rt; !agrees(&log, 2, &seats), "a log with another reply, of as many entries");
+    log.push(other).expect(rt, "memory");
+    assert!(rt;
+        !agrees(&log, 2, &seats),
+        "a log with another reply, of as many entries"
+    );
+}
+
+#[test]
+fn a_log_beside_other_lists_does_not_agree(rt: HostRuntime) {
+    compare_lists::<Brand, HostRuntime>(&rt, rt.alloc(), bounded(&rt, rt.alloc()));
 }
 
 // The calls that the worked example lacks, and refused ones, which are logged too.
-fn switch_and_delete<N: Opening, R: Wait + Abort>(rt: &R, alloc: Global, state: StoreState) -> Closed<N>
+fn switch_and_delete<N: Opening, R: Wait + Abort>(rt: &R, alloc: Global, state: StoreState)
     requires state { state ≡ opening_at N.states 0 }
 {
     let desk = Desk::<N>::new(alloc, state, 0, 1);
     let mut seat = Seat::new(alloc, 0, 0);
     let kept = told_of_offer(desk.offer(rt, alloc, &mut seat, 7, packet(rt, alloc, 1)));
     assert_eq!(rt; kept, Told::Kept(7));
-    assert_eq!(rt; told_of_delete(desk.delete(rt, alloc, &mut seat, 7)), Told::Deleted(1));
+    assert_eq!(rt;
+        told_of_delete(desk.delete(rt, alloc, &mut seat, 7)),
+        Told::Deleted(1)
+    );
     assert_eq!(rt; told_of(desk.disable(rt, alloc, &mut seat)), Told::Done);
     let back = told_of_offer(desk.offer(rt, alloc, &mut seat, 8, packet(rt, alloc, 2)));
     assert_eq!(rt; back, Told::Back(Fault::Disabled, 2));
     assert_eq!(rt; told_of(desk.enable(rt, alloc, &mut seat)), Told::Done);
-    assert_eq!(rt; told_of_given(desk.next(rt, alloc, &mut seat)), Told::Refused(Fault::Idle));
+    assert_eq!(rt;
+        told_of_given(desk.next(rt, alloc, &mut seat)),
+        Told::Refused(Fault::Idle)
+    );
     assert_eq!(rt; (desk.place(), seat.place(), seat.number()), (0, 0, 0));
     let mut seats = Vec::new(alloc);
     seats.push(seat).expect(rt, "memory");
-    desk.close(seats)
+    let closed = desk.close(seats);
+    assert!(rt; closed.agree, "one seat's list is the log");
+    assert_eq!(rt; closed.log.len(), 6);
+    assert_eq!(rt; counts(&closed.state), (1, 0, 1, 0));
 }
 
 #[test]
 fn refused_calls_are_logged(rt: HostRuntime) {
-    let closed = switch_and_delete::<Brand, HostRuntime>(&rt, rt.alloc(), bounded(&rt, rt.alloc()));
-    assert!(rt; closed.agree, "one seat's list is the log");
-    assert_eq!(rt; closed.log.len(), 6);
-    assert_eq!(rt; (closed.state.offered(), closed.state.deleted(), closed.state.storage()), (1, 1, true));
+    switch_and_delete::<Brand, HostRuntime>(&rt, rt.alloc(), bounded(&rt, rt.alloc()));
 }
 
 // Two seats draw from a window of three blocks.
@@ -174,7 +232,10 @@ fn draw_three<W: Passing, R: Wait + Abort>(rt: &R, alloc: Global, blank: Blank) 
 {
     let (book, mut seats) = PassBook::<W>::open(alloc, blank, 3, 2).expect(rt, "memory");
     assert_eq!(rt; book.draw(rt, &mut seats[0], 2), Ok(()));
-    assert_eq!(rt; book.draw(rt, &mut seats[1], 2), Err(WindowFull { left: 1 }));
+    assert_eq!(rt;
+        book.draw(rt, &mut seats[1], 2),
+        Err(WindowFull { left: 1 })
+    );
     assert_eq!(rt; book.draw(rt, &mut seats[1], 1), Ok(()));
     assert_eq!(rt; (seats[0].drawn(), seats[1].drawn()), (2, 1));
     book.close(seats)
@@ -186,6 +247,9 @@ fn two_seats_one_pass_book(rt: HostRuntime) -> Result<(), Fail> {
     assert_eq!(rt; drawn, 3);
     let full = WindowFull { left: 1 };
     assert_eq!(rt; full.number(), 22);
-    assert_eq!(rt; full.to_string(rt.alloc())?.as_str(), "22 WindowFull left 1");
+    assert_eq!(rt;
+        full.to_string(rt.alloc())?.as_str(),
+        "22 WindowFull left 1"
+    );
     Ok(())
 }
