@@ -5,8 +5,9 @@ ghost use Rattle.mm_desk.specs.Machine.{step};
 ghost use Rattle.mm_memory.specs.Holdings.{memory_of, state_of};
 ghost use Rattle.mm_memory.specs.Lending.{with_state};
 
+use mm_base::StoreId;
 use mm_memory::{Memory, NoMemory};
-use mm_problem::{Setup, StoreId};
+use mm_problem::Setup;
 use std::alloc::Global;
 
 /// The memory of a setup, with storage into the store of this identifier switched off, where there is one.

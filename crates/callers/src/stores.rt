@@ -3,8 +3,8 @@ ghost use Rattle.std.specs.Prelude.{◌≡◌, IfOk};
 ghost use Rattle.mm_base.specs.declared.kind.Kind.TheVariants.{Circular, Bounded};
 ghost use Rattle.mm_store.specs.declared.put.Put.TheVariants.{KeptOver, Lost};
 
+use mm_base::Kind;
 use mm_packet::{BlockPacket, NoMemory};
-use mm_problem::Kind;
 use mm_store::{AnyStore, PacketStore, Put};
 use std::alloc::Global;
 
