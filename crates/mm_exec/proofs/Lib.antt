@@ -2,3 +2,4 @@ pub mod Packets
 pub mod Places
 pub mod Going
 pub mod Hand
+pub mod Crews

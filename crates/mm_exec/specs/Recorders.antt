@@ -1,10 +1,11 @@
 -- What a recorder did with what its source gave in a step, and what any number of recorders did.
-use Rattle.std.specs.Prelude.{◌≡◌, ◌≢◌, ℕ, ◌<◌, Bool, true, false, List, [], ◌∷◌, ◌++◌, length}
+use Rattle.std.specs.Prelude.{◌≡◌, ◌≢◌, ℕ, ◌<◌, is_some, Bool, true, false, List, [], ◌∷◌, ◌++◌, length}
 use Rattle.mm_base.specs.declared.rows.RouteRow.{RouteRow}
 use Rattle.mm_packet.specs.Packet.{SpacePacket}
 use Rattle.mm_desk.specs.declared.event.Event.{Event}
 use Rattle.mm_desk.specs.Offers.{AreTaken}
 use Rattle.mm_desk.specs.Seats.{Place}
+use Rattle.mm_exec.specs.declared.recorder.Recorder.{Recorder}
 use Rattle.mm_exec.specs.Recorded.{Errand, offers, asked, list_at}
 use Rattle.mm_exec.specs.Stations.{Standing, ids_of}
 
@@ -44,3 +45,14 @@ pub record Ran (e : Errand) (before after : ℕ → List SpacePacket) (broken : 
   pub others : (t : ℕ) → t ≢ e.step → after t ≡ before t
   pub whole : broken ≡ false → (after e.step ≡ []) × Recorded e gave seats
   pub partly : broken ≡ true → BrokeOff e gave seats
+
+-- the seats of each recorder are fresh
+unfoldable pub AllFresh : {N S : Type 0} → Errand → List (Recorder N S) → Type 0
+AllFresh e [] = Unit {0}
+AllFresh e (r ∷ rs) = AreFresh e r.seats.items × AllFresh e rs
+
+-- each recorder ran
+unfoldable pub AllRan : {N S : Type 0} → (S → ℕ → List SpacePacket) → Errand → List (Recorder N S) → List (Recorder N S) → Type 0
+AllRan gives e [] [] = Unit {0}
+AllRan gives e (r ∷ rs) (q ∷ qs) = Ran e (gives r.source) (gives q.source) (is_some q.broken) q.seats.items × AllRan gives e rs qs
+AllRan gives e rs qs = ⊥
