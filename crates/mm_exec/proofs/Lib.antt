@@ -3,3 +3,4 @@ pub mod Places
 pub mod Going
 pub mod Hand
 pub mod Crews
+pub mod Leaving

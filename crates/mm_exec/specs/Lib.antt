@@ -1,3 +1,4 @@
 pub mod Stations
 pub mod Recorded
 pub mod Recorders
+pub mod Closings

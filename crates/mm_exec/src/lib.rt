@@ -1,10 +1,13 @@
 //! One step of a run: recorders write into stores behind locks, in threads of their own.
 #![tactic(auto)]
 
+mod closing;
+mod held;
 mod offering;
 mod recorder;
 mod source;
 mod station;
 
+pub use held::Held;
 pub use source::Source;
 pub use station::Station;
