@@ -13,10 +13,14 @@ use Rattle.mm_exec.specs.Stations.{Standing, ids_of}
 abbrev pub errand : ℕ → ℕ → List RouteRow → List Standing → Errand
 errand step now routes stations = record { step = step; now = now; routes = routes; ids = ids_of stations }
 
+-- there are this many seats, and no call was made through them
+pub record AreUnused (many : ℕ) (seats : List Place) : Type 0 where
+  pub count : length seats ≡ many
+  pub empty : (k : ℕ) → k < many → list_at seats k ≡ []
+
 -- there is a seat for each store, and no call was made through it
-pub record AreFresh (e : Errand) (seats : List Place) : Type 0 where
-  pub count : length seats ≡ length e.ids
-  pub empty : (k : ℕ) → k < length e.ids → list_at seats k ≡ []
+abbrev pub AreFresh : Errand → List Place → Type 0
+AreFresh e seats = AreUnused (length e.ids) seats
 
 -- through each seat exactly the offers of these packets were made, in order, and none was refused
 abbrev pub Recorded : Errand → List SpacePacket → List Place → Type 0

@@ -4,6 +4,7 @@
 mod closing;
 mod held;
 mod offering;
+mod opening;
 mod recorder;
 mod source;
 mod station;
