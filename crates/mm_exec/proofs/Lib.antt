@@ -4,3 +4,4 @@ pub mod Going
 pub mod Hand
 pub mod Crews
 pub mod Leaving
+pub mod Steps

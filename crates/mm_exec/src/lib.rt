@@ -8,7 +8,9 @@ mod opening;
 mod recorder;
 mod source;
 mod station;
+mod step;
 
 pub use held::Held;
 pub use source::Source;
+pub use step::{NotBegun, Recording, record};
 pub use station::Station;

@@ -2,6 +2,7 @@
 ghost use Rattle.std.specs.Prelude.{◌≡◌, ◌≤◌, [], map, length, All, IfOk, vec_len, vec_capacity};
 ghost use Rattle.mm_exec.specs.Closings.{labels_of};
 ghost use Rattle.mm_exec.specs.Recorders.{AreUnused};
+ghost use Rattle.mm_exec.specs.Stations.{ids_of};
 ghost use Rattle.mm_exec.specs.Steps.{sources_of, AreOpenings};
 
 use crate::held::Held;
@@ -38,6 +39,31 @@ pub(crate) fn new_seatings<N: Opening>(alloc: Global, stores: u32, sources: u32)
         seatings.push(new_seating(alloc, stores, number)?)?;
     }
     Ok(seatings)
+}
+
+/// All that a step takes beside its stores and its sources: the seats of each recorder, and room for recorders and for stations.
+#[derive(Drop)]
+pub(crate) struct Rooms<N: Opening, S: Drop> {
+    pub(crate) seatings: Vec<Seating<N>>,
+    pub(crate) recorders: Vec<Recorder<N, S>>,
+    pub(crate) stations: Vec<Station<N>>,
+}
+
+// All that a step takes for this many stores and sources.
+pub(crate) fn new_rooms<N: Opening, S: Drop>(alloc: Global, stores: u32, sources: u32) -> Result<Rooms<N, S>, NoMemory>
+    ensures seated { IfOk result (λ rooms. vec_len rooms.seatings ≡ sources) }
+    ensures unused { IfOk result (λ rooms. All (λ s. AreUnused stores s.seats.items) rooms.seatings.items) }
+    ensures recorders { IfOk result (λ rooms. (rooms.recorders.items ≡ []) × (sources ≤ vec_capacity rooms.recorders)) }
+    ensures stations { IfOk result (λ rooms. (rooms.stations.items ≡ []) × (stores ≤ vec_capacity rooms.stations)) }
+{
+    let seatings = new_seatings(alloc, stores, sources)?;
+    let recorders = Vec::with_capacity(alloc, sources as usize)?;
+    let stations = Vec::with_capacity(alloc, stores as usize)?;
+    Ok(Rooms {
+        seatings,
+        recorders,
+        stations,
+    })
 }
 
 // Gives each source its seats. The recorders go into a list with room for them, and the emptied list of sources comes back.
@@ -99,6 +125,7 @@ pub(crate) fn open_all<N: Opening>(
     requires states { AreOpenings N.states stores.items }
     requires none { stations.items ≡ [] }
     requires room { vec_len stores ≤ vec_capacity stations }
+    ensures ids { ids_of result.0.items ≡ map (λ h. h.id) stores.items }
     ensures labels { map (λ s. (s.id, s.channel)) result.0.items ≡ labels_of stores.items }
     ensures len { vec_len result.0 ≡ vec_len stores }
     ensures capacity { vec_capacity result.0 ≡ vec_capacity stations }
