@@ -13,4 +13,6 @@ mod step;
 pub use held::Held;
 pub use source::Source;
 pub use step::{NotBegun, Recording, record};
-pub use station::Station;
+
+#[cfg(test)]
+mod tests;

@@ -9,7 +9,7 @@ use std::marker::Model;
 /// A store of a step: its identifier, its virtual channel, and its desk. Contracts see its identifier, its channel and what is
 /// known of the desk.
 #[derive(Drop)]
-pub struct Station<N: Opening> {
+pub(crate) struct Station<N: Opening> {
     pub(crate) id: StoreId,
     pub(crate) channel: u8,
     pub(crate) desk: Desk<N>,
