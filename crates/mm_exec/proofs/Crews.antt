@@ -1,5 +1,5 @@
 -- Any number of recorders, with one more at the end.
-use Rattle.std.proofs.Common.{◌≡◌, ℕ, Bool, List, [], ◌∷◌, ◌++◌, length, is_some, refl, sym, subst, ap, ◌∙◌}
+use Rattle.std.proofs.Common.{◌≡◌, ℕ, List, [], ◌∷◌, ◌++◌, is_some}
 use Rattle.mm_packet.specs.Packet.{SpacePacket}
 use Rattle.mm_exec.specs.declared.recorder.Recorder.{Recorder}
 use Rattle.mm_exec.specs.Recorded.{Errand}

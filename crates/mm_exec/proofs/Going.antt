@@ -1,10 +1,9 @@
 -- Lists of calls that go on, seat by seat.
-use Rattle.std.proofs.Common.{◌≡◌, ◌≢◌, ◌⊎◌, inl, inr, ℕ, zero, suc, ◌+◌, ◌<◌, ◌≤◌, ◌==◌, Bool, true, false, cond, eqb, List, [], ◌∷◌, ◌++◌, length, get_or, map, filter, take, drop, bytes_eq, Ok, Err, refl, sym, subst, ap, ◌∙◌, append_assoc, length-set, get_or-set_same, get_or-set_other, add-one, arith}
-use Rattle.std.specs.Prelude.{slice_index_or}
+use Rattle.std.proofs.Common.{◌≡◌, ◌≢◌, ◌⊎◌, inl, inr, ℕ, zero, suc, ◌+◌, ◌<◌, ◌≤◌, ◌==◌, true, false, eqb, List, [], ◌∷◌, ◌++◌, length, get_or, map, filter, take, drop, bytes_eq, Ok, Err, refl, sym, subst, ap, ◌∙◌, append_assoc, length-set, get_or-set_same, get_or-set_other, arith}
 use Rattle.std.proofs.Math.ListN.{set}
 use Rattle.std.proofs.lemmas.Bool.Decides.{eqb_tells}
-use Rattle.std.proofs.lemmas.List.{append-nil, map-append, take_more, take_all, take-append-drop, get_or_default}
-use Rattle.std.proofs.lemmas.List.Elements.{filter-append, All-append, All-nil}
+use Rattle.std.proofs.lemmas.List.{append-nil, map-append, take_more, take_all, take-append-drop}
+use Rattle.std.proofs.lemmas.List.Elements.{filter-append, All-append}
 use Rattle.mm_packet.specs.Packet.{SpacePacket}
 use Rattle.mm_desk.specs.declared.entry.Entry.{Entry}
 use Rattle.mm_desk.specs.declared.event.Event.{Event}
@@ -216,7 +215,7 @@ pub adds_name_partly : (now : ℕ) (p : SpacePacket) (ids named : List (List ℕ
 adds_name_partly now p ids named i id count a b c within at one two =
     let next : take (i + 1) named ≡ take i named ++ id ∷ [] = take_more named i id within ∙ ap (λ (x : List ℕ). take i named ++ x ∷ []) at in
     let here = adds_partly_after count _ _ (λ k. offers_named now p (id_at ids k) (take (i + 1) named)) a b c one two
-        (λ k. ap (offers_named now p (id_at ids k)) next ∙ offers_more now p (id_at ids k) (take i named) (id ∷ [])) in
+    (λ k. ap (offers_named now p (id_at ids k)) next ∙ offers_more now p (id_at ids k) (take i named) (id ∷ [])) in
     adds_partly_before count _ (λ k. offers_named now p (id_at ids k) (drop (i + 1) named)) _ a c here
     (λ k. ap (offers_named now p (id_at ids k)) (sym (take-append-drop (i + 1) named)) ∙ offers_more now p (id_at ids k) (take (i + 1) named) (drop (i + 1) named))
 

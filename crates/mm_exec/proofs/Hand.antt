@@ -1,13 +1,13 @@
 -- A recorder at work: what its source gave so far is recorded.
-use Rattle.std.proofs.Common.{◌≡◌, ◌≢◌, ℕ, ◌<◌, Bool, true, false, List, [], ◌∷◌, ◌++◌, length, Option, Some, None, option_to_list, IfNone, refl, sym, subst, ap, ◌∙◌, append_assoc, arith}
+use Rattle.std.proofs.Common.{◌≡◌, ◌≢◌, ℕ, true, false, List, [], ◌∷◌, ◌++◌, length, refl, sym, subst, ap, ◌∙◌, append_assoc, arith}
 use Rattle.std.proofs.lemmas.List.{append-nil}
 use Rattle.mm_packet.specs.Packet.{SpacePacket}
 use Rattle.mm_desk.specs.declared.event.Event.{Event}
 use Rattle.mm_desk.specs.Offers.{AreTaken}
 use Rattle.mm_desk.specs.Offers.{asked as asked_in}
 use Rattle.mm_desk.specs.Seats.{Place}
-use Rattle.mm_exec.specs.Recorded.{Errand, offers, offers_named, named_by, asked, list_at, Adds, AddsPartly}
-use Rattle.mm_exec.specs.Recorders.{AreFresh, Recorded, Began, BrokeOff, Ran}
+use Rattle.mm_exec.specs.Recorded.{Errand, offers, offers_named, named_by, Adds, AddsPartly}
+use Rattle.mm_exec.specs.Recorders.{AreFresh, Recorded, Ran}
 use Rattle.mm_exec.specs.Stations.{id_at}
 
 -- what the source gave so far is recorded

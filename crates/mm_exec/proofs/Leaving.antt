@@ -1,7 +1,7 @@
 -- Stores that went by logs, with one store more at the end.
-use Rattle.std.proofs.Common.{◌≡◌, ◌⊎◌, inl, inr, ℕ, zero, suc, ◌+◌, ◌<◌, ◌≤◌, Bool, true, List, [], ◌∷◌, ◌++◌, length, get_or, map, slice_index_or, refl, sym, subst, ap, ◌∙◌, arith}
+use Rattle.std.proofs.Common.{◌≡◌, ◌⊎◌, inl, inr, ℕ, zero, suc, ◌+◌, ◌<◌, ◌≤◌, List, [], ◌∷◌, ◌++◌, length, get_or, refl, sym, subst, ap, ◌∙◌, arith}
 use Rattle.std.proofs.lemmas.Bool.{cases_lt}
-use Rattle.std.proofs.lemmas.List.{get_or-append_right, get_or_append_left, length-append, length-map, map-append}
+use Rattle.std.proofs.lemmas.List.{length-append, length-map, map-append}
 use Rattle.mm_desk.specs.Machine.{State}
 use Rattle.mm_desk.specs.Runs.{opening_at, blank}
 use Rattle.mm_exec.specs.declared.recorder.Recorder.{Recorder}
@@ -39,9 +39,9 @@ went_more recorders before stores h place many all one k within =
         subst (λ (t : State). WentBy (lists_at k recorders) (opening_at before k) t) (sym (get_or-front (states_of stores) h.state blank k front)) (all k front)
     by_place same (inr past) =
         let whole : length (states_of (stores ++ h ∷ [])) ≡ length (states_of stores) + 1 =
-            ap length (map-append (λ (h : Held). h.state) stores (h ∷ [])) ∙ length-append (states_of stores) (h.state ∷ []) in
+        ap length (map-append (λ (h : Held). h.state) stores (h ∷ [])) ∙ length-append (states_of stores) (h.state ∷ []) in
         let here : k ≡ place = omega arith in
         let last : opening_at (states_of stores ++ h.state ∷ []) k ≡ h.state =
-            ap (λ (n : ℕ). opening_at (states_of stores ++ h.state ∷ []) n) (here ∙ sym same) ∙ get_or-last (states_of stores) h.state blank in
+        ap (λ (n : ℕ). opening_at (states_of stores ++ h.state ∷ []) n) (here ∙ sym same) ∙ get_or-last (states_of stores) h.state blank in
         subst (λ (t : State). WentBy (lists_at k recorders) (opening_at before k) t) (sym last)
         (subst (λ (n : ℕ). WentBy (lists_at n recorders) (opening_at before n) h.state) (sym here) one)

@@ -1,6 +1,6 @@
 -- From what each recorder and each desk says, to the step.
-use Rattle.std.proofs.Common.{◌≡◌, ◌≢◌, ◌⊎◌, inl, inr, ℕ, zero, suc, ◌+◌, ◌<◌, ◌≤◌, Bool, true, false, is_some, eqb, List, [], ◌∷◌, ◌++◌, length, get_or, map, slice_index_or, All, Option, Some, None, IfNone, refl, sym, subst, ap, ◌∙◌, arith}
-use Rattle.std.proofs.lemmas.Bool.{eq-eqb, ne_eqb}
+use Rattle.std.proofs.Common.{◌≡◌, ◌≢◌, ◌⊎◌, inl, inr, ℕ, zero, suc, ◌<◌, ◌≤◌, true, false, is_some, eqb, List, [], ◌∷◌, ◌++◌, length, get_or, map, All, Option, Some, None, IfNone, refl, sym, subst, ap, ◌∙◌, arith}
+use Rattle.std.proofs.lemmas.Bool.{eq-eqb}
 use Rattle.std.proofs.lemmas.Bool.Decides.{eqb_tells}
 use Rattle.std.proofs.lemmas.List.{append-nil, get_or-map, length-map}
 use Rattle.std.proofs.lemmas.List.Elements.{All-head, All-tail, All-map}
@@ -17,9 +17,9 @@ use Rattle.mm_desk.specs.Shuffles.{AreBelow, IsShuffle, part}
 use Rattle.mm_exec.specs.declared.held.Held.{Held}
 use Rattle.mm_exec.specs.declared.opening.Seating.{Seating}
 use Rattle.mm_exec.specs.declared.recorder.Recorder.{Recorder}
-use Rattle.mm_exec.specs.Closings.{lists_at, states_of, WentBy, AllWentBy, HasRecorded, AllRecorded}
-use Rattle.mm_exec.specs.Recorded.{Errand, offers, asked, list_at}
-use Rattle.mm_exec.specs.Recorders.{AreUnused, AreFresh, AllFresh, Ran, AllRan, Recorded, errand}
+use Rattle.mm_exec.specs.Closings.{lists_at, states_of, AllWentBy, AllRecorded}
+use Rattle.mm_exec.specs.Recorded.{Errand, offers, list_at}
+use Rattle.mm_exec.specs.Recorders.{AreUnused, AllFresh, Ran, AllRan, errand}
 use Rattle.mm_exec.specs.Stations.{Standing, ids_of}
 use Rattle.mm_exec.specs.Steps.{given_in, AllKeep, sources_of, AreWhole, AreOpenings, step_errand}
 
@@ -197,7 +197,7 @@ pub step_recorded : {N S : Type 0} (gives : S → ℕ → List SpacePacket) (ste
 step_recorded gives step now routes stores after stations rs qs sources before ids same states many ran went whole =
     let e = errand step now routes stations in
     let fits : length (states_of after) ≤ length e.ids =
-        omega (arith, length-map after (λ (h : Held). h.state), many, length-map stores (λ (h : Held). h.id), ap length ids) in
+    omega (arith, length-map after (λ (h : Held). h.state), many, length-map stores (λ (h : Held). h.id), ap length ids) in
     let all = all_recorded gives e rs qs before (states_of after) ran whole went fits in
     let errands : e ≡ step_errand step now routes stores = ap (λ (xs : List (List ℕ)). record { step = step; now = now; routes = routes; ids = xs }) ids in
     subst (λ (f : Errand). AllRecorded f (given_in gives step sources) (states_of stores) (states_of after)) errands

@@ -30,7 +30,11 @@ fn new_seating<N: Opening>(alloc: Global, stores: u32, number: u32) -> Result<Se
 }
 
 // The seats of this many recorders.
-pub(crate) fn new_seatings<N: Opening>(alloc: Global, stores: u32, sources: u32) -> Result<Vec<Seating<N>>, NoMemory>
+pub(crate) fn new_seatings<N: Opening>(
+    alloc: Global,
+    stores: u32,
+    sources: u32,
+) -> Result<Vec<Seating<N>>, NoMemory>
     ensures len { IfOk result (λ seatings. length seatings.items ≡ sources) }
     ensures unused { IfOk result (λ seatings. All (λ s. AreUnused stores s.seats.items) seatings.items) }
 {
@@ -50,7 +54,11 @@ pub(crate) struct Rooms<N: Opening, S: Drop> {
 }
 
 // All that a step takes for this many stores and sources.
-pub(crate) fn new_rooms<N: Opening, S: Drop>(alloc: Global, stores: u32, sources: u32) -> Result<Rooms<N, S>, NoMemory>
+pub(crate) fn new_rooms<N: Opening, S: Drop>(
+    alloc: Global,
+    stores: u32,
+    sources: u32,
+) -> Result<Rooms<N, S>, NoMemory>
     ensures seated { IfOk result (λ rooms. vec_len rooms.seatings ≡ sources) }
     ensures unused { IfOk result (λ rooms. All (λ s. AreUnused stores s.seats.items) rooms.seatings.items) }
     ensures recorders { IfOk result (λ rooms. (rooms.recorders.items ≡ []) × (sources ≤ vec_capacity rooms.recorders)) }
@@ -99,7 +107,10 @@ pub(crate) fn pair_all<N: Opening, S: Drop>(
 }
 
 // Takes the sources of recorders back into a list with room for them.
-pub(crate) fn part_all<N: Opening, S: Drop>(recorders: Vec<Recorder<N, S>>, sources: Vec<S>) -> Vec<S>
+pub(crate) fn part_all<N: Opening, S: Drop>(
+    recorders: Vec<Recorder<N, S>>,
+    sources: Vec<S>,
+) -> Vec<S>
     requires none { sources.items ≡ [] }
     requires room { vec_len recorders ≤ vec_capacity sources }
     ensures sources { result.items ≡ sources_of recorders.items }

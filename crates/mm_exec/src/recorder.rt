@@ -72,7 +72,11 @@ fn run<N: Opening, S: Source + Drop, R: Wait>(
 }
 
 // Lets recorders run, each in a thread of its own where one can be made.
-pub(crate) fn record_all<N: Opening + Send + Sync, S: Source + Send + Drop, R: Threads + Wait + Sync>(
+pub(crate) fn record_all<
+    N: Opening + Send + Sync,
+    S: Source + Send + Drop,
+    R: Threads + Wait + Sync,
+>(
     rt: &R,
     alloc: Global,
     stations: &[Station<N>],

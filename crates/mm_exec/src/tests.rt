@@ -26,7 +26,11 @@ impl Source for Burst {
     ghost gives = { λ b t. if t == b.step then b.packets.items else [] };
 
     fn left(&self, step: u32) -> u32 {
-        if step == self.step { self.packets.len() as u32 } else { 0 }
+        if step == self.step {
+            self.packets.len() as u32
+        } else {
+            0
+        }
     }
 
     fn next(&mut self, step: u32) -> Option<BlockPacket> {
@@ -99,7 +103,9 @@ fn new_burst(rt: &impl Abort, alloc: Global, step: u32) -> Burst {
     let mut packets = Vec::new(alloc);
     packets.push(telecommand(rt, alloc)).expect(rt, "memory");
     for count in 1..5 {
-        packets.push(telemetry(rt, alloc, count)).expect(rt, "memory");
+        packets
+            .push(telemetry(rt, alloc, count))
+            .expect(rt, "memory");
     }
     assert!(rt; packets.len() < 6, "five packets");
     Burst { step, packets }
@@ -109,7 +115,9 @@ fn new_burst(rt: &impl Abort, alloc: Global, step: u32) -> Burst {
 fn bursts(rt: &impl Abort, alloc: Global, step: u32) -> Vec<Burst> {
     let mut sources = Vec::new(alloc);
     for _ in 0..3 {
-        sources.push(new_burst(rt, alloc, step)).expect(rt, "memory");
+        sources
+            .push(new_burst(rt, alloc, step))
+            .expect(rt, "memory");
     }
     sources
 }
@@ -149,7 +157,14 @@ fn three_sources_into_a_circular_and_a_bounded_store(rt: HostRuntime) {
     let alloc = rt.alloc();
     let one = held(&rt, alloc, b"SCI", Kind::Circular);
     let two = held(&rt, alloc, b"HKA", Kind::Bounded);
-    let left = recorded(&rt, alloc, &routes(&rt, alloc, 100), one, two, bursts(&rt, alloc, 3));
+    let left = recorded(
+        &rt,
+        alloc,
+        &routes(&rt, alloc, 100),
+        one,
+        two,
+        bursts(&rt, alloc, 3),
+    );
     assert!(rt; left.agree, "honest desks agree");
     assert_eq!(rt; left.broken, None);
     assert_eq!(rt; left.stores.len(), 2);
@@ -169,7 +184,14 @@ fn packets_of_other_steps_stay(rt: HostRuntime) {
     let alloc = rt.alloc();
     let one = held(&rt, alloc, b"SCI", Kind::Circular);
     let two = held(&rt, alloc, b"HKA", Kind::Bounded);
-    let left = recorded(&rt, alloc, &routes(&rt, alloc, 100), one, two, bursts(&rt, alloc, 4));
+    let left = recorded(
+        &rt,
+        alloc,
+        &routes(&rt, alloc, 100),
+        one,
+        two,
+        bursts(&rt, alloc, 4),
+    );
     assert!(rt; left.agree, "honest desks agree");
     assert_eq!(rt; left.broken, None);
     for store in &left.stores {
@@ -185,7 +207,14 @@ fn packets_without_a_route_are_not_stored(rt: HostRuntime) {
     let alloc = rt.alloc();
     let one = held(&rt, alloc, b"SCI", Kind::Circular);
     let two = held(&rt, alloc, b"HKA", Kind::Bounded);
-    let left = recorded(&rt, alloc, &routes(&rt, alloc, 101), one, two, bursts(&rt, alloc, 3));
+    let left = recorded(
+        &rt,
+        alloc,
+        &routes(&rt, alloc, 101),
+        one,
+        two,
+        bursts(&rt, alloc, 3),
+    );
     assert_eq!(rt; left.broken, None);
     for store in &left.stores {
         assert_eq!(rt; counts(store), (0, 0, 0, 0));
@@ -201,7 +230,14 @@ fn a_store_that_is_off_breaks_recorders_off(rt: HostRuntime) {
     let mut one = held(&rt, alloc, b"SCI", Kind::Circular);
     one.state.disable();
     let two = held(&rt, alloc, b"HKA", Kind::Bounded);
-    let left = recorded(&rt, alloc, &routes(&rt, alloc, 100), one, two, bursts(&rt, alloc, 3));
+    let left = recorded(
+        &rt,
+        alloc,
+        &routes(&rt, alloc, 100),
+        one,
+        two,
+        bursts(&rt, alloc, 3),
+    );
     assert!(rt; left.agree, "honest desks agree");
     assert_eq!(rt; left.broken, Some(Fault::Disabled));
     // HKA comes first in the table, so each recorder offered it one packet and then broke off at SCI.

@@ -1,4 +1,4 @@
-use Rattle.std.proofs.Common.{rules, ◌≡◌, true, length, sym, IsTrue, arith}
+use Rattle.std.proofs.Common.{rules, ◌≡◌, length, IsTrue}
 use Rattle.mm_exec.proofs.Leaving.{went_more}
 use Rattle.mm_exec.proofs.closing.+close_all.Goals.{then-others, else-others}
 use Rattle.mm_exec.proofs.closing.+close_all.Goals as goal

@@ -1,4 +1,4 @@
-use Rattle.std.proofs.Common.{rules, ◌≡◌, List, [], ◌∷◌, ◌++◌}
+use Rattle.std.proofs.Common.{rules, [], ◌∷◌, ◌++◌}
 use Rattle.mm_exec.specs.Recorders.{errand, AreFresh, AllFresh}
 use Rattle.mm_exec.proofs.Crews.{last_fresh, front_fresh, last_ran, none_ran}
 use Rattle.mm_exec.proofs.recorder.+fn-record_all-join+arg3+record_all.Goals as goal

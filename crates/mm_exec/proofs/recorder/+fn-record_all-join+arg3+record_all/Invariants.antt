@@ -1,4 +1,4 @@
-use Rattle.std.proofs.Common.{ℕ, ◌+◌, ◌*◌, vec_len}
+use Rattle.std.proofs.Common.{◌+◌, ◌*◌, vec_len}
 use Rattle.mm_exec.proofs.recorder.+fn-record_all-join+arg3+record_all.Given as goal
 
 abbrev pub decreases-join+arg3 : goal.decreases-join+arg3

@@ -1,6 +1,6 @@
 use Rattle.std.proofs.Common.{rules, ◌≡◌, List, [], length, map, true, is_err, sym, ap, arith}
 use Rattle.std.proofs.lemmas.List.{length-map}
-use Rattle.mm_exec.specs.Recorders.{errand, Ran}
+use Rattle.mm_exec.specs.Recorders.{errand}
 use Rattle.mm_exec.specs.Stations.{Standing}
 use Rattle.mm_exec.proofs.Hand.{in_hand_start, in_hand_more, ran_whole, ran_partly}
 use Rattle.mm_exec.proofs.recorder.record.Goals as goal
@@ -24,7 +24,7 @@ pub returns-in_err-offer_packet : goal.returns-in_err-offer_packet
 returns-in_err-offer_packet g c =
     let e = errand c.args.step c.args.now c.args.control.now c.args.stations.now in
     let partly = ran_partly e (g.S.Source.gives c.args.source.now) (g.S.Source.gives c.loop-packet.source) (g.S.Source.gives c.next.new.self) c.loop-packet.seats c.offer_packet.new.seats (length c.args.stations.now) c.in-Some.packet
-        (many c.args.stations.now) c.loop-packet.invariant c.in-Some.ensures.gives c.in-Some.ensures.others c.in_err-offer_packet.ensures.err in
+    (many c.args.stations.now) c.loop-packet.invariant c.in-Some.ensures.gives c.in-Some.ensures.others c.in_err-offer_packet.ensures.err in
     let failed : is_err c.from_residual.result ≡ true = search rules in
     record { ran = rw failed partly }
 

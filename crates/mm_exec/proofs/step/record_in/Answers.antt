@@ -1,9 +1,9 @@
-use Rattle.std.proofs.Common.{rules, ◌≡◌, ◌≢◌, ℕ, List, [], map, All, IsTrue, IfNone, length, vec_len, sym, subst, ap, ◌∙◌, arith}
+use Rattle.std.proofs.Common.{rules, ◌≡◌, [], map, All, length, vec_len, sym, subst, ap, ◌∙◌}
 use Rattle.std.proofs.lemmas.List.{length-map}
-use Rattle.mm_exec.specs.Closings.{states_of, AllRecorded, AllWentBy}
-use Rattle.mm_exec.specs.Recorders.{errand, AllFresh, AllRan}
+use Rattle.mm_exec.specs.Closings.{states_of, AllWentBy}
+use Rattle.mm_exec.specs.Recorders.{errand}
 use Rattle.mm_exec.specs.Stations.{ids_of}
-use Rattle.mm_exec.specs.Steps.{step_errand, given_in, AllKeep, AreWhole, sources_of}
+use Rattle.mm_exec.specs.Steps.{given_in, AllKeep, AreWhole, sources_of}
 use Rattle.mm_exec.proofs.Steps.{paired_fresh, if_none, step_recorded, none_left, all_keep, others_same}
 use Rattle.mm_exec.proofs.step.record_in.Goals as goal
 
@@ -24,10 +24,10 @@ returns-clause-recorded g c agree =
     let after : vec_len c.close_all-stores.result.0 ≡ length c.close_all-stores.result.0.items = search rules in
     let many : length c.close_all-stores.result.0.items ≡ length c.args.stores.items = sym after ∙ (c.close_all-stores.ensures.len ∙ c.open_all-stations.ensures.len) ∙ before in
     let went : AllWentBy qs g.N.Opening.states (states_of c.close_all-stores.result.0.items) =
-        subst (λ rs. AllWentBy rs g.N.Opening.states (states_of c.close_all-stores.result.0.items)) c.deref-2.ensures.value (c.close_all-stores.ensures.went agree) in
+    subst (λ rs. AllWentBy rs g.N.Opening.states (states_of c.close_all-stores.result.0.items)) c.deref-2.ensures.value (c.close_all-stores.ensures.went agree) in
     if_none (AreWhole c.deref-3.result.now) _ c.first_broken-broken.result c.first_broken-broken.ensures.none
     (λ whole. step_recorded g.S.Source.gives c.args.step c.args.now c.args.control.now c.args.stores.items c.close_all-stores.result.0.items c.deref.result.now rs qs c.args.sources.items g.N.Opening.states
-        ids c.pair_all-recorders.ensures.sources c.requires.states many c.record_all-recorders.ensures.ran went (subst AreWhole c.deref-3.ensures.value whole))
+    ids c.pair_all-recorders.ensures.sources c.requires.states many c.record_all-recorders.ensures.ran went (subst AreWhole c.deref-3.ensures.value whole))
 
 pub returns-clause-nothing_left : goal.returns-clause-nothing_left
 returns-clause-nothing_left g c =
@@ -36,7 +36,7 @@ returns-clause-nothing_left g c =
     let qs = c.record_all-recorders.result.items in
     if_none (AreWhole c.deref-3.result.now) _ c.first_broken-broken.result c.first_broken-broken.ensures.none
     (λ whole. subst (λ ss. All (λ s. g.S.Source.gives s c.args.step ≡ []) ss) (sym c.part_all-sources.ensures.sources)
-        (none_left g.S.Source.gives e rs qs c.record_all-recorders.ensures.ran (subst AreWhole c.deref-3.ensures.value whole)))
+    (none_left g.S.Source.gives e rs qs c.record_all-recorders.ensures.ran (subst AreWhole c.deref-3.ensures.value whole)))
 
 pub returns-clause-kept : goal.returns-clause-kept
 returns-clause-kept g c =
