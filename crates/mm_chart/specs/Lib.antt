@@ -1,0 +1,4 @@
+pub mod Picture
+pub mod Series
+pub mod Layout
+pub mod Svg

@@ -1,0 +1,105 @@
+-- Parts of the text of a picture: Scalable Vector Graphics (SVG) 1.1.
+use Rattle.std.specs.Prelude.{ℕ, ◌+◌, ◌-◌, ◌*◌, ◌/◌, ◌%◌, Bool, ◌==◌, ◌||◌, not, ◌&&◌, if◌then◌else◌, List, [], ◌∷◌, ◌++◌, length, codes, decimal, flat_map, ℤ, pos, negsuc}
+use Rattle.mm_base.specs.Characters.{line_feed}
+use Rattle.mm_problem.specs.Dumping.{Dumping, steps}
+use Rattle.mm_chart.specs.declared.layout.TheConstants.{LEFT}
+use Rattle.mm_chart.specs.declared.pen.Style.{Style}
+use Rattle.mm_chart.specs.declared.pen.Style.TheVariants as style
+use Rattle.mm_chart.specs.declared.series.Series.{Series}
+use Rattle.mm_chart.specs.declared.series.Series.TheVariants.{WindowCounts, Window, Used, ChannelCounts, Sent, Inner, Last, Written, Left, Lost}
+use Rattle.mm_chart.specs.Picture.{Drawn}
+use Rattle.mm_chart.specs.Series.{amount_at, whole_of, scaled}
+use Rattle.mm_chart.specs.Layout.{edge, step_width, room_of, base_of}
+
+-- ---- numbers
+
+-- the character between thousands
+abbrev pub comma : ℕ
+comma = 44
+
+-- digits with a comma after each that has a whole number of thousands after it
+abbrev pub separated : List ℕ → List ℕ
+separated [] = []
+separated (c ∷ []) = c ∷ []
+separated (c ∷ d ∷ cs) = (if length (d ∷ cs) % 3 == 0 then c ∷ comma ∷ [] else c ∷ []) ++ separated (d ∷ cs)
+
+-- a number with its thousands separated
+abbrev pub grouped : ℕ → List ℕ
+grouped n = separated (decimal n)
+
+-- a number that may be below 0
+abbrev pub signed_grouped : ℤ → List ℕ
+signed_grouped (pos n) = grouped n
+signed_grouped (negsuc n) = codes "&#8722;" ++ grouped (n + 1)
+
+-- ---- words at a place
+
+-- the letter of a style in the style sheet
+abbrev pub style_name : Style → List ℕ
+style_name style.Headline = codes "h"
+style_name style.Alarm = codes "a"
+style_name style.Name = codes "n"
+style_name style.Side = codes "s"
+style_name style.Total = codes "t"
+style_name style.Loss = codes "r"
+style_name style.Tick = codes "k"
+style_name style.Heading = codes "b"
+style_name style.Plain = codes "w"
+
+abbrev pub opened : Style → ℕ → ℕ → List ℕ
+opened style x y = codes "<text class='" ++ style_name style ++ codes "' x='" ++ decimal x ++ codes "' y='" ++ decimal y ++ codes "'>"
+
+abbrev pub closed : List ℕ
+closed = codes "</text>" ++ line_feed ∷ []
+
+abbrev pub labelled : Style → ℕ → ℕ → List ℕ → List ℕ
+labelled style x y words = opened style x y ++ words ++ closed
+
+-- ---- heights
+
+-- how high a step of a series is drawn
+abbrev pub height_of : Drawn → Series → ℕ → ℕ → ℕ
+height_of p x whole t = scaled (room_of x) whole (amount_at p x t)
+
+-- to the right edge of a step
+abbrev pub right_to : Drawn → ℕ → List ℕ
+right_to p t = codes "H" ++ decimal (edge p.problem t)
+
+-- up or down to a line
+abbrev pub line_at : ℕ → List ℕ
+line_at y = codes "V" ++ decimal y
+
+-- to a place
+abbrev pub begun : ℕ → ℕ → List ℕ
+begun x y = codes "M" ++ decimal x ++ codes " " ++ decimal y
+
+-- a step of a height after one of another: from the base line where there was none, and down to it where there is none now
+abbrev pub outline : Drawn → ℕ → ℕ → ℕ → ℕ → List ℕ
+outline p base before here t =
+    if here == 0 then (if before == 0 then [] else line_at base)
+    else if here == before then right_to p t
+    else (if before == 0 then begun (edge p.problem (t - 1)) base else []) ++ line_at (base - here) ++ right_to p t
+
+-- the outline of one step of a series
+abbrev pub step_outline : Drawn → Series → ℕ → ℕ → List ℕ
+step_outline p x whole t = outline p (base_of p.problem x) (height_of p x whole (t - 1)) (height_of p x whole t) t
+
+-- the letter of a series in the style sheet
+abbrev pub series_name : Series → List ℕ
+series_name WindowCounts = codes "c"
+series_name (ChannelCounts c) = codes "c"
+series_name (Inner s) = codes "c"
+series_name (Last s) = codes "e"
+series_name Window = codes "p"
+series_name Used = codes "u"
+series_name (Sent c) = codes "v"
+series_name (Written s) = codes "g"
+series_name (Left s) = codes "f"
+series_name (Lost s) = codes "l"
+series_name _ = codes "o"
+
+-- a series over all steps
+abbrev pub profile : Drawn → Series → List ℕ
+profile p x =
+    codes "<path class='" ++ series_name x ++ codes "' d='" ++ flat_map (step_outline p x (whole_of p x)) (steps p.problem)
+    ++ codes "V" ++ decimal (base_of p.problem x) ++ codes "'/>" ++ line_feed ∷ []
