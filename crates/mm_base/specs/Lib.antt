@@ -2,6 +2,7 @@ pub mod Characters
 pub mod Refusals
 pub mod Fault
 pub mod Reading
+pub mod Options
 pub mod Id
 pub mod Kind
 pub mod Numbers

@@ -1,8 +1,6 @@
 //! Why a text or a code means no identifier or no kind.
-ghost use Rattle.std.specs.Prelude.{◌≡◌};
-ghost use Rattle.mm_base.specs.Fault.{refusal_of};
-
 use crate::refusal::Refusal;
+use crate::refused::Refused;
 use thiserror::Error;
 
 /// Why there is no identifier or no kind. It is shown as its number and its name.
@@ -15,11 +13,12 @@ pub enum Fault {
     BadEnum,
 }
 
-impl Fault {
-    /// Which refusal it is.
-    pub fn refusal(self) -> Refusal
-        ensures refusal { result ≡ refusal_of self }
-    {
+impl Refused for Fault {
+    ghost use Rattle.mm_base.specs.Fault.{refusal_of};
+
+    ghost refusal_of = { refusal_of };
+
+    fn refusal(self) -> Refusal {
         match self {
             Fault::BadId => Refusal::BadId,
             Fault::BadEnum => Refusal::BadEnum,

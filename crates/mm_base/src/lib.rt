@@ -10,7 +10,10 @@ pub mod lines;
 mod memory;
 pub mod numbers;
 mod refusal;
+mod refused;
 mod rows;
+#[cfg(test)]
+mod tests;
 
 pub use fault::Fault;
 pub use id::StoreId;
@@ -18,4 +21,5 @@ pub use kind::Kind;
 pub use limits::{CHANNELS, MAX_APID, MAX_BLOCKS, MAX_CHANNEL, MAX_ROUTES, MAX_STEPS, MAX_STORES};
 pub use memory::NoMemory;
 pub use refusal::Refusal;
+pub use refused::Refused;
 pub use rows::{LimitRow, RouteRow, StoreRow};

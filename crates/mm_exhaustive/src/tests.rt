@@ -22,12 +22,12 @@ fn least_loss(rt: &impl Abort, alloc: Global, setup: &str, forecast: &str) -> Re
     let setup = Setup::read(alloc, setup.as_bytes())?;
     let problem = Problem::read(alloc, &setup, forecast.as_bytes())?;
     let (tried, least) = least_plan(alloc, &problem)?;
-    let (planned, _, _, loss) = plan(alloc, &problem)?;
-    assert_eq!(rt; loss, least);
+    let planned = plan(alloc, &problem)?;
+    assert_eq!(rt; planned.loss, least);
     assert_eq!(rt; fits(&problem, &tried), Ok(()));
-    assert_eq!(rt; fits(&problem, &planned), Ok(()));
+    assert_eq!(rt; fits(&problem, &planned.plan), Ok(()));
     assert_eq!(rt; loss_of(&problem, &tried), least);
-    assert_eq!(rt; loss_of(&problem, &planned), least);
+    assert_eq!(rt; loss_of(&problem, &planned.plan), least);
     Ok(least)
 }
 

@@ -114,7 +114,7 @@ pub record IsReady (g : Graph) (marks : List Mark) (old now : Flow) (at e amount
   pub leads : head g e ≡ at
   pub fits : amount ≤ residual g now e
   pub same : now (place g e) ≡ old (place g e)
-  pub below : level marks (tail g e) + 1 ≡ level marks at
+  pub below : level marks (tail g e) < level marks at
   pub marked : HasMark marks (tail g e)
   pub wide : amount ≤ (mark marks (tail g e)).width
 
@@ -123,7 +123,7 @@ pub followed_ready : (g : Graph) (marks : List Mark) (old now : Flow) (source at
 followed_ready g marks old now source at e amount reached followed via =
     let tail_is = ap (λ (d : ℕ). mark marks (tail g d)) via in
     let leads : head g e ≡ at = ap (head g) via ∙ reached.leads in
-    let below : level marks (tail g e) + 1 ≡ level marks at = omega (arith, ap (λ (m : Mark). m.level) tail_is, reached.next) in
+    let below : level marks (tail g e) < level marks at = omega (arith, ap (λ (m : Mark). m.level) tail_is, reached.above) in
     let same = untouched_at g marks old now (level marks at) e followed.untouched (omega arith) (omega (arith, ap (level marks) leads)) in
     record {
       known = omega (arith, reached.known);

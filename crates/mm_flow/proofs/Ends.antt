@@ -1,18 +1,21 @@
 -- What a search that has ended shows: a cut, and whether a path of unlimited arcs leads to the sink.
 use Rattle.std.proofs.Common.{◌≡◌, ℕ, zero, suc, ◌+◌, ◌-◌, ◌<◌, ◌≤◌, cond, eqb, ltb, not, Bool, true, false, Option, Some, None, List, length, ap, sym, ◌∙◌, refl, arith, inl, inr, lt-ltb, le-ltb}
 use Rattle.std.specs.Prelude.{IsSome, unwrap_or}
+use Rattle.std.proofs.lemmas.List.FromFn.{length-range_with_len}
+use Rattle.std.proofs.lemmas.List.Sums.{sum_by-le}
 use Rattle.std.proofs.lemmas.Bool.{cases_Bool, cases_eq, cases_lt, cond-true, cond-false, and_parts, ltb-true, ltb-false, not-true}
 use Rattle.mm_flow.specs.declared.search.Mark.{Mark}
 use Rattle.mm_flow.specs.declared.limits.TheConstants.{UNLIMITED, MAX_CAPACITY}
-use Rattle.mm_flow.specs.Graph.{Graph, arc, IsNetwork}
+use Rattle.mm_flow.specs.Graph.{Graph, arc, places, IsNetwork}
 use Rattle.mm_flow.specs.Flow.{Flow, IsFlow}
 use Rattle.mm_flow.specs.Cut.{Side, IsCut, leaves, enters, limit_of}
 use Rattle.mm_flow.specs.Solution.{IsSolution, HasUnlimited, IsWalk, HasUnlimitedPath}
 use Rattle.mm_flow.specs.Residual.{entries, tail, head, residual, spare}
 use Rattle.mm_flow.specs.Balance.{IsBalanced, IsAugmented, IsBounded}
 use Rattle.mm_flow.specs.Marks.{mark, level, HasMark, IsMarking, IsSearched}
-use Rattle.mm_flow.proofs.Sums.{below_same, below-zero, below-le-times}
-use Rattle.mm_flow.proofs.Sides.{net_flow, value_within_cut, flow_out-below, flow_in-below, capacity_of-below, entering-below, leaving-below}
+use Rattle.mm_sums.proofs.Ranges.{All-range_with_len}
+use Rattle.mm_sums.proofs.RangeSums.{sum_by_range_same, sum_by_range_zeros}
+use Rattle.mm_flow.proofs.Sides.{net_flow, value_within_cut, flow_out-sum_by, flow_in-sum_by, capacity_of-sum_by, entering-sum_by, leaving-sum_by}
 use Rattle.mm_flow.proofs.Entries.{tail-forward, tail-backward, head-forward, head-backward, residual-forward, residual-backward}
 
 -- the nodes that a search has marked
@@ -101,11 +104,11 @@ solved_by g source sink f value marks flow searched ended =
           omega (
             arith,
             net_flow g source sink f value side flow cut.has_source cut.lacks_sink,
-            flow_out-below g side f,
-            flow_in-below g side f,
-            capacity_of-below g side,
-            below_same (λ k. cond (leaves g side k) (f k) 0) (λ k. cond (leaves g side k) (limit_of g k) 0) (length g.arcs) full,
-            below-zero (λ k. cond (enters g side k) (f k) 0) (length g.arcs) empty,
+            flow_out-sum_by g side f,
+            flow_in-sum_by g side f,
+            capacity_of-sum_by g side,
+            sum_by_range_same (λ k. cond (leaves g side k) (f k) 0) (λ k. cond (leaves g side k) (limit_of g k) 0) 0 (length g.arcs) (λ k _ lt. full k (omega arith)),
+            sum_by_range_zeros (λ k. cond (enters g side k) (f k) 0) 0 (length g.arcs) (λ k _ lt. empty k (omega arith)),
           );
     }
 
@@ -123,7 +126,7 @@ value_bounded g source sink nothing marks network searched ended f value flow =
       | inl out ↦ omega (arith, cond-true {A = ℕ} (leaves g side k) (limit_of g k) 0 out, limit_small (arc g k).capacity (network.each k lt).capacity)
       | inr in_place ↦ omega (arith, cond-false {A = ℕ} (leaves g side k) (limit_of g k) 0 in_place)
     ] in
-    omega (arith, value_within_cut g source sink f value side flow cut, capacity_of-below g side, below-le-times (λ k. cond (leaves g side k) (limit_of g k) 0) (length g.arcs) MAX_CAPACITY each, network.arcs_within)
+    omega (arith, value_within_cut g source sink f value side flow cut, capacity_of-sum_by g side, sum_by-le (λ k. cond (leaves g side k) (limit_of g k) 0) MAX_CAPACITY (places g) (All-range_with_len (λ k. cond (leaves g side k) (limit_of g k) 0 ≤ MAX_CAPACITY) 0 (length g.arcs) (λ k _ lt. each k (omega arith))), length-range_with_len 0 (length g.arcs), network.arcs_within)
 
 -- an entry that can carry as much as an unlimited arc, over a flow of nothing, is an unlimited arc
 unlimited_entry : (g : Graph) (nothing : Flow) (e : ℕ) → IsNetwork g → ((k : ℕ) → nothing k ≡ 0) → e < entries g → UNLIMITED ≤ residual g nothing e → HasUnlimited g (tail g e) (head g e)
@@ -141,7 +144,7 @@ path_to g source nothing marks network none marking (suc d) n small has = elim (
   | inr ne ↦
       let reached = marking.reached n ne has in
       let via = (mark marks n).via in
-      let before = path_to g source nothing marks network none marking d (tail g via) (omega (arith, reached.next)) reached.reached in
+      let before = path_to g source nothing marks network none marking d (tail g via) (omega (arith, reached.above)) reached.reached in
       let last = unlimited_entry g nothing via network none reached.known (omega (arith, marking.wide n has, reached.entry)) in
       (suc before.0, (tail g via, before.1, (last.0, last.1, last.2, last.3 ∙ reached.leads, last.4)))
 ]
@@ -174,9 +177,9 @@ cond-nothing false x none = refl
 -- a flow of nothing is balanced, with no value
 nothing_balanced : (g : Graph) (source sink : ℕ) (nothing : Flow) → ((k : ℕ) → nothing k ≡ 0) → IsBalanced g source sink nothing 0
 nothing_balanced g source sink nothing none n =
-    let into = below-zero (λ k. cond (eqb (arc g k).to n) (nothing k) 0) (length g.arcs) (λ k lt. cond-nothing (eqb (arc g k).to n) (nothing k) (none k)) in
-    let out = below-zero (λ k. cond (eqb (arc g k).from n) (nothing k) 0) (length g.arcs) (λ k lt. cond-nothing (eqb (arc g k).from n) (nothing k) (none k)) in
-    omega (arith, entering-below g nothing n, leaving-below g nothing n, into, out, cond-nothing (eqb source n) 0 refl, cond-nothing (eqb sink n) 0 refl)
+    let into = sum_by_range_zeros (λ k. cond (eqb (arc g k).to n) (nothing k) 0) 0 (length g.arcs) (λ k _ _. cond-nothing (eqb (arc g k).to n) (nothing k) (none k)) in
+    let out = sum_by_range_zeros (λ k. cond (eqb (arc g k).from n) (nothing k) 0) 0 (length g.arcs) (λ k _ _. cond-nothing (eqb (arc g k).from n) (nothing k) (none k)) in
+    omega (arith, entering-sum_by g nothing n, leaving-sum_by g nothing n, into, out, cond-nothing (eqb source n) 0 refl, cond-nothing (eqb sink n) 0 refl)
 
 -- augmentations begin with a flow of nothing
 pub nothing_augmented : (g : Graph) (source sink : ℕ) (nothing : Flow) → ((k : ℕ) → nothing k ≡ 0) → IsAugmented g source sink nothing 0

@@ -1,10 +1,10 @@
 -- Residual entries, forward and backward.
-use Rattle.std.proofs.Common.{◌≡◌, ℕ, ◌+◌, ◌-◌, ◌^◌, ◌<◌, ◌≤◌, Option, Some, None, length, ap, refl, arith, inl, inr, lt-ltb, le-ltb}
+use Rattle.std.proofs.Common.{◌≡◌, ℕ, ◌+◌, ◌-◌, ◌^◌, ◌<◌, ◌≤◌, Option, Some, None, length, ap, sym, ◌∙◌, refl, arith, inl, inr, lt-ltb, le-ltb}
 use Rattle.std.proofs.lemmas.Bool.{cases_lt}
 use Rattle.mm_flow.specs.declared.limits.TheConstants.{MAX_CAPACITY, MAX_VALUE}
 use Rattle.mm_flow.specs.Graph.{Graph, arc, IsNetwork}
 use Rattle.mm_flow.specs.Flow.{Flow, IsWithin}
-use Rattle.mm_flow.specs.Residual.{entries, place, tail, head, residual, spare}
+use Rattle.mm_flow.specs.Residual.{entries, place, tail, head, twin, residual, spare}
 
 module _ (g : Graph) (e : ℕ) (forward : e < length g.arcs) where
   -- the arc of a forward entry
@@ -54,6 +54,42 @@ place-lt g e known =
     elim (cases_lt e (length g.arcs)) [
       | inl forward ↦ omega (arith, place-forward g e forward)
       | inr backward ↦ omega (arith, place-backward g e backward)
+    ]
+
+-- the twin of a forward entry
+twin-forward : (g : Graph) (e : ℕ) → e < length g.arcs → twin g e ≡ e + length g.arcs
+unfolding twin
+twin-forward g e forward = rw (lt-ltb e (length g.arcs) forward) refl
+
+-- the twin of a backward entry
+twin-backward : (g : Graph) (e : ℕ) → length g.arcs ≤ e → twin g e ≡ e - length g.arcs
+unfolding twin
+twin-backward g e backward = rw (le-ltb e (length g.arcs) backward) refl
+
+-- the twin of an entry leaves the node that the entry leads to
+pub tail-twin : (g : Graph) (e : ℕ) → e < entries g → tail g (twin g e) ≡ head g e
+tail-twin g e known =
+    elim (cases_lt e (length g.arcs)) [
+      | inl forward ↦
+          let is = twin-forward g e forward in
+          let back : twin g e - length g.arcs ≡ e = omega arith in
+          tail-backward g (twin g e) (omega arith) ∙ ap (λ (k : ℕ). (arc g k).to) back ∙ sym (head-forward g e forward)
+      | inr backward ↦
+          let is = twin-backward g e backward in
+          tail-forward g (twin g e) (omega arith) ∙ ap (λ (k : ℕ). (arc g k).from) is ∙ sym (head-backward g e backward)
+    ]
+
+-- the twin of an entry leads to the node that the entry leaves
+pub head-twin : (g : Graph) (e : ℕ) → e < entries g → head g (twin g e) ≡ tail g e
+head-twin g e known =
+    elim (cases_lt e (length g.arcs)) [
+      | inl forward ↦
+          let is = twin-forward g e forward in
+          let back : twin g e - length g.arcs ≡ e = omega arith in
+          head-backward g (twin g e) (omega arith) ∙ ap (λ (k : ℕ). (arc g k).from) back ∙ sym (tail-forward g e forward)
+      | inr backward ↦
+          let is = twin-backward g e backward in
+          head-forward g (twin g e) (omega arith) ∙ ap (λ (k : ℕ). (arc g k).to) is ∙ sym (tail-backward g e backward)
     ]
 
 -- an entry leaves a node of the network

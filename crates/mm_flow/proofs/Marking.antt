@@ -16,7 +16,7 @@ none_at : Mark → ℕ
 none_at m = cond (eqb m.level 0) 1 0
 
 -- a node was reached, where its mark and that of the node before it are known
-IsReached-from : (g : Graph) (f : Flow) (marks : List Mark) (n : ℕ) (before own : Mark) → mark marks n ≡ own → mark marks (tail g own.via) ≡ before → IsReachedFrom g f before own n → IsReached g f marks n
+pub IsReached-from : (g : Graph) (f : Flow) (marks : List Mark) (n : ℕ) (before own : Mark) → mark marks n ≡ own → mark marks (tail g own.via) ≡ before → IsReachedFrom g f before own n → IsReached g f marks n
 IsReached-from g f marks n before own own_is before_is reached =
     let own_known : IsReachedFrom g f (mark marks (tail g own.via)) own n = subst (λ (b : Mark). IsReachedFrom g f b own n) (sym before_is) reached in
     subst (λ (m : Mark). IsReachedFrom g f (mark marks (tail g m.via)) m n) (sym own_is) own_known
@@ -62,7 +62,7 @@ search_more g f source least marks order found done e node from before own searc
                 known = omega arith;
                 leads = ap (head g) via ∙ sym leads ∙ sym same;
                 reached = reached;
-                next = next;
+                above = omega arith;
                 entry = omega (arith, ap (residual g f) via);
                 path = path;
               })

@@ -4,20 +4,20 @@ use Rattle.std.proofs.lemmas.Bool.{cases_eq}
 use Rattle.mm_flow.specs.Graph.{Graph, arc}
 use Rattle.mm_flow.specs.Flow.{Flow, entering, leaving}
 use Rattle.mm_flow.specs.Residual.{entries, place, residual, IsPushed}
-use Rattle.mm_flow.proofs.Sums.{below_at}
-use Rattle.mm_flow.proofs.Sides.{entering-below, leaving-below}
+use Rattle.mm_sums.proofs.RangeSums.{sum_by_range_changed}
+use Rattle.mm_flow.proofs.Sides.{entering-sum_by, leaving-sum_by}
 use Rattle.mm_flow.proofs.Entries.{place-forward, place-backward, tail-forward, tail-backward, head-forward, head-backward, forward_within}
 
 module _ (g : Graph) (old new : Flow) (i : ℕ) (known : i < length g.arcs) (elsewhere : (k : ℕ) → k ≢ i → new k ≡ old k) where
   -- what enters a node changes by what one arc carries
   entering-changed : (n : ℕ) → entering g new n + cond (eqb (arc g i).to n) (old i) 0 ≡ entering g old n + cond (eqb (arc g i).to n) (new i) 0
   entering-changed n =
-      omega (arith, entering-below g new n, entering-below g old n, below_at (λ k. cond (eqb (arc g k).to n) (old k) 0) (λ k. cond (eqb (arc g k).to n) (new k) 0) (length g.arcs) i known (λ k ne. ap (λ x. cond (eqb (arc g k).to n) x 0) (elsewhere k ne)))
+      omega (arith, entering-sum_by g new n, entering-sum_by g old n, sum_by_range_changed (λ k. cond (eqb (arc g k).to n) (old k) 0) (λ k. cond (eqb (arc g k).to n) (new k) 0) 0 (length g.arcs) i (omega arith) (omega arith) (λ k _ _ ne. ap (λ x. cond (eqb (arc g k).to n) x 0) (elsewhere k ne)))
 
   -- what leaves a node changes by what one arc carries
   leaving-changed : (n : ℕ) → leaving g new n + cond (eqb (arc g i).from n) (old i) 0 ≡ leaving g old n + cond (eqb (arc g i).from n) (new i) 0
   leaving-changed n =
-      omega (arith, leaving-below g new n, leaving-below g old n, below_at (λ k. cond (eqb (arc g k).from n) (old k) 0) (λ k. cond (eqb (arc g k).from n) (new k) 0) (length g.arcs) i known (λ k ne. ap (λ x. cond (eqb (arc g k).from n) x 0) (elsewhere k ne)))
+      omega (arith, leaving-sum_by g new n, leaving-sum_by g old n, sum_by_range_changed (λ k. cond (eqb (arc g k).from n) (old k) 0) (λ k. cond (eqb (arc g k).from n) (new k) 0) 0 (length g.arcs) i (omega arith) (omega arith) (λ k _ _ ne. ap (λ x. cond (eqb (arc g k).from n) x 0) (elsewhere k ne)))
 
 -- a choice of a sum
 cond-plus : (b : Bool) (x y z : ℕ) → x + y ≡ z → cond b x 0 + cond b y 0 ≡ cond b z 0

@@ -1,40 +1,42 @@
 -- Flows over a side: the net flow is the value, and so the value is within each cut's capacity.
-use Rattle.std.proofs.Common.{◌≡◌, ◌≢◌, ℕ, suc, ◌+◌, ◌<◌, ◌≤◌, Bool, true, false, cond, eqb, not, ◌&&◌, Option, Some, None, length, ap, sym, ◌∙◌, refl, arith, inl, inr, eq-eqb, sum_by}
+use Rattle.std.proofs.Common.{◌≡◌, ◌≢◌, ℕ, suc, ◌+◌, ◌<◌, ◌≤◌, Bool, true, false, cond, eqb, not, ◌&&◌, Option, Some, None, List, length, ap, sym, ◌∙◌, refl, arith, inl, inr, eq-eqb, sum_by}
 use Rattle.std.specs.Prelude.{IsSome, unwrap_or}
+use Rattle.std.specs.List.{range_with_len}
 use Rattle.std.proofs.lemmas.List.Sums.{get_or-le-sum_by}
 use Rattle.std.proofs.lemmas.Bool.{cases_Bool, cases_eq, cond-true, cond-false, ne_eqb, true≢false}
 use Rattle.mm_flow.specs.declared.arc.Arc.{Arc}
-use Rattle.mm_flow.specs.Graph.{Graph, arc, no_arc, starts_at, ends_at}
+use Rattle.mm_flow.specs.Graph.{Graph, arc, no_arc, places, starts_at, ends_at}
 use Rattle.mm_flow.specs.Flow.{Flow, IsFlow, IsWithin, leaving, entering}
 use Rattle.mm_flow.specs.Cut.{Side, IsCut, leaves, enters, flow_out, flow_in, capacity_of, limit_of}
 use Rattle.mm_flow.specs.Solution.{IsSolution}
 use Rattle.mm_flow.specs.Laws.{IsBest}
-use Rattle.mm_flow.proofs.Sums.{below, sum_by-filter_range, below_same, below-le, below-plus, below-zero, below_one, below_swap}
+use Rattle.mm_sums.proofs.Sums.{sum_by-add, sum_by-swap, sum_by-filter, sum_by_zeros}
+use Rattle.mm_sums.proofs.RangeSums.{sum_by_range_same, sum_by_range-le, sum_by_range_one}
 
 -- what leaves a node, as a sum over all arcs
-pub leaving-below : (g : Graph) (f : Flow) (n : ℕ) → leaving g f n ≡ below (λ k. cond (eqb (arc g k).from n) (f k) 0) (length g.arcs)
+pub leaving-sum_by : (g : Graph) (f : Flow) (n : ℕ) → leaving g f n ≡ sum_by (λ k. cond (eqb (arc g k).from n) (f k) 0) (places g)
 unfolding leaving
-leaving-below g f n = sum_by-filter_range f (starts_at g n) (length g.arcs)
+leaving-sum_by g f n = sum_by-filter f (starts_at g n) (places g)
 
 -- what enters a node, as a sum over all arcs
-pub entering-below : (g : Graph) (f : Flow) (n : ℕ) → entering g f n ≡ below (λ k. cond (eqb (arc g k).to n) (f k) 0) (length g.arcs)
+pub entering-sum_by : (g : Graph) (f : Flow) (n : ℕ) → entering g f n ≡ sum_by (λ k. cond (eqb (arc g k).to n) (f k) 0) (places g)
 unfolding entering
-entering-below g f n = sum_by-filter_range f (ends_at g n) (length g.arcs)
+entering-sum_by g f n = sum_by-filter f (ends_at g n) (places g)
 
 -- what leaves a side, as a sum over all arcs
-pub flow_out-below : (g : Graph) (side : Side) (f : Flow) → flow_out g side f ≡ below (λ k. cond (leaves g side k) (f k) 0) (length g.arcs)
+pub flow_out-sum_by : (g : Graph) (side : Side) (f : Flow) → flow_out g side f ≡ sum_by (λ k. cond (leaves g side k) (f k) 0) (places g)
 unfolding flow_out
-flow_out-below g side f = sum_by-filter_range f (leaves g side) (length g.arcs)
+flow_out-sum_by g side f = sum_by-filter f (leaves g side) (places g)
 
 -- what enters a side, as a sum over all arcs
-pub flow_in-below : (g : Graph) (side : Side) (f : Flow) → flow_in g side f ≡ below (λ k. cond (enters g side k) (f k) 0) (length g.arcs)
+pub flow_in-sum_by : (g : Graph) (side : Side) (f : Flow) → flow_in g side f ≡ sum_by (λ k. cond (enters g side k) (f k) 0) (places g)
 unfolding flow_in
-flow_in-below g side f = sum_by-filter_range f (enters g side) (length g.arcs)
+flow_in-sum_by g side f = sum_by-filter f (enters g side) (places g)
 
 -- a side's capacity, as a sum over all arcs
-pub capacity_of-below : (g : Graph) (side : Side) → capacity_of g side ≡ below (λ k. cond (leaves g side k) (limit_of g k) 0) (length g.arcs)
+pub capacity_of-sum_by : (g : Graph) (side : Side) → capacity_of g side ≡ sum_by (λ k. cond (leaves g side k) (limit_of g k) 0) (places g)
 unfolding capacity_of
-capacity_of-below g side = sum_by-filter_range (limit_of g) (leaves g side) (length g.arcs)
+capacity_of-sum_by g side = sum_by-filter (limit_of g) (leaves g side) (places g)
 
 -- what passes one test fails another or passes it
 split_by : (p q : Bool) (x : ℕ) → cond p x 0 ≡ cond (p && not q) x 0 + cond (p && q) x 0
@@ -50,9 +52,9 @@ both_orders false true x = refl
 both_orders false false x = refl
 
 -- a test of each term of a sum
-cond-below : (b : Bool) (h : ℕ → ℕ) (m : ℕ) → cond b (below h m) 0 ≡ below (λ k. cond b (h k) 0) m
-cond-below true h m = refl
-cond-below false h m = sym (below-zero (λ k. 0) m (λ k lt. refl))
+cond-sum_by : (b : Bool) (h : ℕ → ℕ) (xs : List ℕ) → cond b (sum_by h xs) 0 ≡ sum_by (λ k. cond b (h k) 0) xs
+cond-sum_by true h xs = refl
+cond-sum_by false h xs = sym (sum_by_zeros (λ k. 0) xs (λ k d lt. refl))
 
 module _ (side : Side) (f : Flow) (end : ℕ → ℕ) where
   -- what an arc adds to a node of the side
@@ -73,12 +75,27 @@ module _ (side : Side) (f : Flow) (end : ℕ → ℕ) where
 
   -- adding up over the nodes of a side is adding up over the arcs with that end on it
   nodes_as_arcs : (m bound : ℕ) → ((k : ℕ) → k < m → end k < bound)
-      → below (λ n. cond (side n) (below (λ k. cond (eqb (end k) n) (f k) 0) m) 0) bound ≡ below (λ k. cond (side (end k)) (f k) 0) m
+      → sum_by (λ n. cond (side n) (sum_by (λ k. cond (eqb (end k) n) (f k) 0) (range_with_len 0 m)) 0) (range_with_len 0 bound) ≡ sum_by (λ k. cond (side (end k)) (f k) 0) (range_with_len 0 m)
   unfolding at_end
   nodes_as_arcs m bound within =
-      below_same (λ n. cond (side n) (below (λ k. cond (eqb (end k) n) (f k) 0) m) 0) (λ n. below (λ k. at_end n k) m) bound (λ n lt. cond-below (side n) (λ k. cond (eqb (end k) n) (f k) 0) m)
-      ∙ below_swap (λ n k. at_end n k) bound m
-      ∙ below_same (λ k. below (λ n. at_end n k) bound) (λ k. cond (side (end k)) (f k) 0) m (λ k lt. below_one (λ n. at_end n k) bound (end k) (within k lt) (at_end-other k) ∙ at_end-own k)
+      let arcs = range_with_len 0 m in
+      let nodes = range_with_len 0 bound in
+      sum_by_range_same (λ n. cond (side n) (sum_by (λ k. cond (eqb (end k) n) (f k) 0) arcs) 0) (λ n. sum_by (λ k. at_end n k) arcs) 0 bound (λ n _ _. cond-sum_by (side n) (λ k. cond (eqb (end k) n) (f k) 0) arcs)
+      ∙ sum_by-swap (λ n k. at_end n k) nodes arcs
+      ∙ sum_by_range_same (λ k. sum_by (λ n. at_end n k) nodes) (λ k. cond (side (end k)) (f k) 0) 0 m
+      (λ k _ lt. sum_by_range_one (λ n. at_end n k) 0 bound (end k) (omega arith) (omega (arith, within k (omega arith))) (λ n _ _ ne. at_end-other k n ne) ∙ at_end-own k)
+
+  -- what passes at the nodes of a side, by the arcs whose other end is off it and on it
+  nodes_by_other_end : (other : ℕ → ℕ) (passing : ℕ → ℕ) (m bound : ℕ) → ((k : ℕ) → k < m → end k < bound) → ((n : ℕ) → passing n ≡ sum_by (λ k. cond (eqb (end k) n) (f k) 0) (range_with_len 0 m))
+      → sum_by (λ n. cond (side n) (passing n) 0) (range_with_len 0 bound)
+      ≡ sum_by (λ k. cond (side (end k) && not (side (other k))) (f k) 0) (range_with_len 0 m) + sum_by (λ k. cond (side (end k) && side (other k)) (f k) 0) (range_with_len 0 m)
+  nodes_by_other_end other passing m bound within is =
+      let off = λ (k : ℕ). cond (side (end k) && not (side (other k))) (f k) 0 in
+      let on = λ (k : ℕ). cond (side (end k) && side (other k)) (f k) 0 in
+      sum_by_range_same (λ n. cond (side n) (passing n) 0) (λ n. cond (side n) (sum_by (λ k. cond (eqb (end k) n) (f k) 0) (range_with_len 0 m)) 0) 0 bound (λ n _ _. ap (λ x. cond (side n) x 0) (is n))
+      ∙ nodes_as_arcs m bound within
+      ∙ sum_by_range_same (λ k. cond (side (end k)) (f k) 0) (λ k. off k + on k) 0 m (λ k _ _. split_by (side (end k)) (side (other k)) (f k))
+      ∙ sum_by-add off on (range_with_len 0 m)
 
 module _ (g : Graph) (source sink : ℕ) (f : Flow) (value : ℕ) (side : Side) (flow : IsFlow g source sink f value) (has_source : side source ≡ true) (lacks_sink : side sink ≡ false) where
   -- a number above every node that an arc names, and above the source
@@ -101,39 +118,34 @@ module _ (g : Graph) (source sink : ℕ) (f : Flow) (value : ℕ) (side : Side) 
       ]
 
   -- what leaves the side's nodes is what enters them and the value
-  at_nodes : below (λ n. cond (side n) (leaving g f n) 0) above ≡ below (λ n. cond (side n) (entering g f n) 0) above + value
+  at_nodes : sum_by (λ n. cond (side n) (leaving g f n) 0) (range_with_len 0 above) ≡ sum_by (λ n. cond (side n) (entering g f n) 0) (range_with_len 0 above) + value
   unfolding above
   at_nodes =
-      let here = below_one (λ n. cond (eqb n source) value 0) above source (omega arith) (λ n ne. cond-false {A = ℕ} (eqb n source) value 0 (ne_eqb n source ne)) in
-      let all = below_same (λ n. cond (side n) (leaving g f n) 0) (λ n. cond (side n) (entering g f n) 0 + cond (eqb n source) value 0) above (λ n lt. at_node n) in
-      omega (arith, all, here, below-plus (λ n. cond (side n) (entering g f n) 0) (λ n. cond (eqb n source) value 0) above, cond-true {A = ℕ} (eqb source source) value 0 (eq-eqb source source refl))
+      let here = sum_by_range_one (λ n. cond (eqb n source) value 0) 0 above source (omega arith) (omega arith) (λ n _ _ ne. cond-false {A = ℕ} (eqb n source) value 0 (ne_eqb n source ne)) in
+      let all = sum_by_range_same (λ n. cond (side n) (leaving g f n) 0) (λ n. cond (side n) (entering g f n) 0 + cond (eqb n source) value 0) 0 above (λ n _ _. at_node n) in
+      omega (arith, all, here, sum_by-add (λ n. cond (side n) (entering g f n) 0) (λ n. cond (eqb n source) value 0) (range_with_len 0 above), cond-true {A = ℕ} (eqb source source) value 0 (eq-eqb source source refl))
+
+  -- an arc's ends are below that number
+  ends_below : (k : ℕ) → k < length g.arcs → (arc g k).from + (arc g k).to < above
+  unfolding above
+  ends_below k lt = omega (arith, get_or-le-sum_by (λ (a : Arc). a.from + a.to) g.arcs k no_arc lt)
 
   -- what leaves the side's nodes is what leaves the side and what stays inside
-  leaving_all : below (λ n. cond (side n) (leaving g f n) 0) above ≡ flow_out g side f + below (λ k. cond (side (arc g k).from && side (arc g k).to) (f k) 0) (length g.arcs)
-  unfolding above
-  leaving_all =
-      let m = length g.arcs in
-      let within : (k : ℕ) → k < m → (arc g k).from < above = λ k lt. omega (arith, get_or-le-sum_by (λ (a : Arc). a.from + a.to) g.arcs k no_arc lt) in
-      let inner = λ (k : ℕ). cond (side (arc g k).from && side (arc g k).to) (f k) 0 in
-      below_same (λ n. cond (side n) (leaving g f n) 0) (λ n. cond (side n) (below (λ k. cond (eqb (arc g k).from n) (f k) 0) m) 0) above (λ n lt. ap (λ x. cond (side n) x 0) (leaving-below g f n))
-      ∙ nodes_as_arcs side f (λ k. (arc g k).from) m above within
-      ∙ below_same (λ k. cond (side (arc g k).from) (f k) 0) (λ k. cond (leaves g side k) (f k) 0 + inner k) m (λ k lt. split_by (side (arc g k).from) (side (arc g k).to) (f k))
-      ∙ below-plus (λ k. cond (leaves g side k) (f k) 0) inner m
-      ∙ ap (λ x. x + below inner m) (sym (flow_out-below g side f))
+  leaving_all : sum_by (λ n. cond (side n) (leaving g f n) 0) (range_with_len 0 above) ≡ flow_out g side f + sum_by (λ k. cond (side (arc g k).from && side (arc g k).to) (f k) 0) (places g)
+  leaving_all = omega (
+    arith,
+    nodes_by_other_end side f (λ k. (arc g k).from) (λ k. (arc g k).to) (leaving g f) (length g.arcs) above (λ k lt. omega (arith, ends_below k lt)) (leaving-sum_by g f),
+    flow_out-sum_by g side f,
+  )
 
   -- what enters the side's nodes is what enters the side and what stays inside
-  entering_all : below (λ n. cond (side n) (entering g f n) 0) above ≡ flow_in g side f + below (λ k. cond (side (arc g k).from && side (arc g k).to) (f k) 0) (length g.arcs)
-  unfolding above
-  entering_all =
-      let m = length g.arcs in
-      let within : (k : ℕ) → k < m → (arc g k).to < above = λ k lt. omega (arith, get_or-le-sum_by (λ (a : Arc). a.from + a.to) g.arcs k no_arc lt) in
-      let inner = λ (k : ℕ). cond (side (arc g k).from && side (arc g k).to) (f k) 0 in
-      below_same (λ n. cond (side n) (entering g f n) 0) (λ n. cond (side n) (below (λ k. cond (eqb (arc g k).to n) (f k) 0) m) 0) above (λ n lt. ap (λ x. cond (side n) x 0) (entering-below g f n))
-      ∙ nodes_as_arcs side f (λ k. (arc g k).to) m above within
-      ∙ below_same (λ k. cond (side (arc g k).to) (f k) 0) (λ k. cond (enters g side k) (f k) 0 + inner k) m
-      (λ k lt. split_by (side (arc g k).to) (side (arc g k).from) (f k) ∙ ap (λ x. cond (enters g side k) (f k) 0 + x) (both_orders (side (arc g k).to) (side (arc g k).from) (f k)))
-      ∙ below-plus (λ k. cond (enters g side k) (f k) 0) inner m
-      ∙ ap (λ x. x + below inner m) (sym (flow_in-below g side f))
+  entering_all : sum_by (λ n. cond (side n) (entering g f n) 0) (range_with_len 0 above) ≡ flow_in g side f + sum_by (λ k. cond (side (arc g k).from && side (arc g k).to) (f k) 0) (places g)
+  entering_all = omega (
+    arith,
+    nodes_by_other_end side f (λ k. (arc g k).to) (λ k. (arc g k).from) (entering g f) (length g.arcs) above (λ k lt. omega (arith, ends_below k lt)) (entering-sum_by g f),
+    flow_in-sum_by g side f,
+    sum_by_range_same (λ k. cond (side (arc g k).to && side (arc g k).from) (f k) 0) (λ k. cond (side (arc g k).from && side (arc g k).to) (f k) 0) 0 (length g.arcs) (λ k _ _. both_orders (side (arc g k).to) (side (arc g k).from) (f k)),
+  )
 
   -- the net flow over a side with the source and without the sink is the value
   pub net_flow : flow_out g side f ≡ flow_in g side f + value
@@ -152,7 +164,7 @@ flow_out-le g source sink f side within cut =
       | inl on ↦ omega (arith, cond-true {A = ℕ} (leaves g side k) (f k) 0 on, cond-true {A = ℕ} (leaves g side k) (limit_of g k) 0 on, within_limit (arc g k).capacity (f k) (cut.limited k lt on) (within k))
       | inr off ↦ omega (arith, cond-false {A = ℕ} (leaves g side k) (f k) 0 off)
     ] in
-    omega (arith, flow_out-below g side f, capacity_of-below g side, below-le (λ k. cond (leaves g side k) (f k) 0) (λ k. cond (leaves g side k) (limit_of g k) 0) (length g.arcs) each)
+    omega (arith, flow_out-sum_by g side f, capacity_of-sum_by g side, sum_by_range-le (λ k. cond (leaves g side k) (f k) 0) (λ k. cond (leaves g side k) (limit_of g k) 0) 0 (length g.arcs) (λ k _ lt. each k (omega arith)))
 
 -- the value of a flow is within the capacity of each cut
 pub value_within_cut : (g : Graph) (source sink : ℕ) (f : Flow) (value : ℕ) (side : Side) → IsFlow g source sink f value → IsCut g source sink side → value ≤ capacity_of g side

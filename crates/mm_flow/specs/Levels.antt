@@ -1,13 +1,12 @@
--- A phase in a level graph: a search has given the levels, and flow is moved along paths that lead one level further
+-- A phase in a level graph: a search has given the levels, and flow is moved along paths that lead to a higher level
 -- with each entry. Dinitz, "Algorithm for solution of a problem of maximum flow in networks with power estimation", 1970.
 use Rattle.std.specs.Prelude.{◌≡◌, ℕ, zero, suc, ◌+◌, ◌<◌, ◌≤◌, List, length, slice_index}
 use Rattle.mm_flow.specs.declared.limits.TheConstants.{UNLIMITED}
 use Rattle.mm_flow.specs.declared.search.Mark.{Mark}
-use Rattle.mm_flow.specs.declared.search.Search.{Search}
 use Rattle.mm_flow.specs.Graph.{Graph}
 use Rattle.mm_flow.specs.Flow.{Flow}
-use Rattle.mm_flow.specs.Residual.{entries, tail}
-use Rattle.mm_flow.specs.Marks.{mark, HasMark, IsReached}
+use Rattle.mm_flow.specs.Residual.{entries, tail, head, residual}
+use Rattle.mm_flow.specs.Marks.{mark, level, HasMark, IsReached}
 
 -- by the entries by which the nodes were reached, so many steps lead back from a node to the source
 abbrev pub IsPath : Graph → Flow → List Mark → ℕ → ℕ → ℕ → Type 0
@@ -30,15 +29,24 @@ pub record IsCursors (g : Graph) (next : List ℕ) : Type 0 where
   pub size : length next ≡ g.nodes
   pub own : (n e : ℕ) → slice_index next n ≡ e + 1 → (e < entries g) × (tail g e ≡ n)
 
--- a search whose levels stand, and the cursors of the nodes
-pub record IsPhase (g : Graph) (next : List ℕ) (s : Search) : Type 0 where
-  pub levelled : IsLevelled g s.source s.marks.items
-  pub order : length s.order.items ≡ g.nodes
-  pub cursors : IsCursors g next
+-- an entry with residual capacity leads from a marked node to one of a higher level
+pub record IsUp (g : Graph) (f : Flow) (marks : List Mark) (e : ℕ) : Type 0 where
+  pub known : e < entries g
+  pub marked : HasMark marks (tail g e)
+  pub up : level marks (tail g e) < level marks (head g e)
+  pub open_still : 0 < residual g f e
 
--- an entry was taken as the last of a path: it leads to a node that is reached by it now, at a level that is at most
--- the sink's
-pub record IsTaken (g : Graph) (f : Flow) (marks : List Mark) (sink e to : ℕ) : Type 0 where
-  pub reached : IsReached g f marks to
-  pub by : (mark marks to).via ≡ e
-  pub ahead : (mark marks to).level ≤ (mark marks sink).level
+-- an entry leads up from a node to one whose cursor stands
+pub record IsAhead (g : Graph) (f : Flow) (marks : List Mark) (next : List ℕ) (n e : ℕ) : Type 0 where
+  pub leaves : tail g e ≡ n
+  pub up : IsUp g f marks e
+  pub cursor : 0 < slice_index next (head g e)
+
+-- by their entries in `ahead`, so many steps lead up from a node to the sink
+abbrev pub IsLead : Graph → Flow → List Mark → List ℕ → List ℕ → ℕ → ℕ → ℕ → Type 0
+IsLead g f marks next ahead sink zero n = n ≡ sink
+IsLead g f marks next ahead sink (suc steps) n = IsAhead g f marks next n (slice_index ahead n) × IsLead g f marks next ahead sink steps (head g (slice_index ahead n))
+
+-- a path leads up from a node to the sink
+abbrev pub HasLead : Graph → Flow → List Mark → List ℕ → List ℕ → ℕ → ℕ → Type 0
+HasLead g f marks next ahead sink n = (steps : ℕ) × IsLead g f marks next ahead sink steps n

@@ -5,10 +5,11 @@ pub mod Fault
 pub mod Flow
 pub mod Graph
 pub mod Laws
-pub mod LeastCut
 pub mod Levels
 pub mod Links
 pub mod Marks
+pub mod Phase
 pub mod Residual
 pub mod Solution
 pub mod Tables
+pub mod Task

@@ -28,13 +28,13 @@ HasMark marks n = 0 < level marks n
 abbrev pub unmarked : List Mark → ℕ
 unmarked marks = count_by (λ (m : Mark). m.level == 0) marks
 
--- a node was reached by an entry from a node one level below, and the path to it is no wider than the entry and the
+-- a node was reached by an entry from a node of a lower level, and the path to it is no wider than the entry and the
 -- path to that node
 pub record IsReachedFrom (g : Graph) (f : Flow) (before own : Mark) (n : ℕ) : Type 0 where
   pub known : own.via < entries g
   pub leads : head g own.via ≡ n
   pub reached : 0 < before.level
-  pub next : own.level ≡ before.level + 1
+  pub above : before.level < own.level
   pub entry : own.width ≤ residual g f own.via
   pub path : own.width ≤ before.width
 

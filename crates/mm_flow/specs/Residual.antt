@@ -25,6 +25,10 @@ tail g e = if is_forward g e then (arc g e).from else (arc g (e - length g.arcs)
 unfoldable pub head : Graph → ℕ → ℕ
 head g e = if is_forward g e then (arc g e).to else (arc g (e - length g.arcs)).from
 
+-- the entry of the same arc that leads the other way
+unfoldable pub twin : Graph → ℕ → ℕ
+twin g e = if is_forward g e then e + length g.arcs else e - length g.arcs
+
 -- what an arc that carries so much can still carry; an unlimited one always more than a limited one can
 abbrev pub spare : Option ℕ → ℕ → ℕ
 spare None carried = UNLIMITED

@@ -1,4 +1,6 @@
 //! What holds of every network, whatever solves it. The clause of each function is a law; its body is empty.
+ghost use Rattle.std.specs.Prelude.{◌≡◌, ◌^◌};
+ghost use Rattle.mm_flow.specs.declared.limits.TheConstants.{MAX_NODES, MAX_ARCS, MAX_CAPACITY};
 ghost use Rattle.mm_flow.specs.Laws.{NetFlowIsTheValue, ValueIsWithinEachCut, SolutionIsBest};
 
 /// Over each side with the source and without the sink, what leaves it is what enters it and the value
@@ -16,4 +18,11 @@ pub fn value_is_within_each_cut()
 /// (Ford and Fulkerson, 1956).
 pub fn solution_is_best()
     ensures { SolutionIsBest }
+{}
+
+/// The limits of a network, as numbers.
+pub fn constants_are()
+    ensures nodes { MAX_NODES ≡ 65536 }
+    ensures arcs { MAX_ARCS ≡ 262144 }
+    ensures capacity { MAX_CAPACITY ≡ 2 ^ 40 }
 {}

@@ -2,14 +2,13 @@
 #![tactic(auto)]
 
 mod arc;
-pub mod exhaustive;
 mod fault;
 pub mod laws;
-mod levels;
 mod limits;
 mod links;
 mod network;
 pub mod paths;
+mod phase;
 mod residual;
 mod search;
 mod solved;
@@ -19,8 +18,9 @@ mod tables;
 mod tests;
 
 pub use arc::Arc;
-pub use fault::{Fault, NoMemory};
+pub use fault::Fault;
 pub use limits::{MAX_ARCS, MAX_CAPACITY, MAX_NODES};
+pub use mm_base::NoMemory;
 pub use network::Network;
 pub use solved::Solved;
 pub use solver::solve;

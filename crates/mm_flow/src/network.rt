@@ -5,8 +5,8 @@ ghost use Rattle.mm_flow.specs.Graph.{arc, IsNetwork, IsArcWithin};
 ghost use Rattle.mm_flow.specs.Built.{empty, with_node, with_arc};
 
 use crate::arc::Arc;
-use crate::fault::NoMemory;
 use crate::limits::{MAX_ARCS, MAX_CAPACITY, MAX_NODES};
+use mm_base::NoMemory;
 use std::alloc::Global;
 use std::marker::Model;
 
@@ -104,7 +104,7 @@ impl Network {
     }
 
     /// How many nodes the network has.
-    pub(crate) fn node_count(&self) -> usize
+    pub fn node_count(&self) -> usize
         ensures count { result ≡ self.now.graph.nodes }
         ensures network { IsNetwork self.now.graph }
     {
@@ -112,7 +112,7 @@ impl Network {
     }
 
     /// How many arcs the network has.
-    pub(crate) fn arc_count(&self) -> usize
+    pub fn arc_count(&self) -> usize
         ensures count { result ≡ length self.now.graph.arcs }
         ensures network { IsNetwork self.now.graph }
     {
@@ -120,7 +120,7 @@ impl Network {
     }
 
     /// The arc with this number.
-    pub(crate) fn arc(&self, number: usize) -> Arc
+    pub fn arc(&self, number: usize) -> Arc
         requires { number < length self.now.graph.arcs }
         ensures arc { result ≡ arc self.now.graph number }
         ensures within { IsArcWithin self.now.graph.nodes result }

@@ -1,6 +1,6 @@
 //! The residual network: each arc forward and backward, as entries numbered from 0.
 ghost use Rattle.std.specs.Prelude.{◌≡◌, ◌<◌, ◌≤◌, length, slice_index};
-ghost use Rattle.mm_flow.specs.Residual.{entries, tail, head, place, residual, IsPushed};
+ghost use Rattle.mm_flow.specs.Residual.{entries, tail, head, twin, place, residual, IsPushed};
 ghost use Rattle.mm_flow.specs.Flow.{IsWithin};
 ghost use Rattle.mm_flow.specs.Graph.{IsNetwork};
 
@@ -46,11 +46,11 @@ pub(crate) fn head(network: &Network, entry: usize) -> u32
 }
 
 // The entry of the same arc that leads the other way.
-#[tactic(auto, unfolding(crate::specs::Residual::tail, crate::specs::Residual::head))]
+#[tactic(auto, unfolding(crate::specs::Residual::twin))]
 pub(crate) fn twin(network: &Network, entry: usize) -> usize
     requires { entry < entries network.now.graph }
+    ensures twin { result ≡ twin network.now.graph entry }
     ensures known { result < entries network.now.graph }
-    ensures back { tail network.now.graph result ≡ head network.now.graph entry }
     ensures network { IsNetwork network.now.graph }
 {
     let arcs = network.arc_count();

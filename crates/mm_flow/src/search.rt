@@ -1,14 +1,14 @@
 //! A search by breadth through the residual network (Edmonds and Karp, 1972).
-ghost use Rattle.std.specs.Prelude.{◌≡◌, ◌+◌, ◌<◌, ◌≤◌, ℕ, ◌≢◌, true, false, length, slice_index, IfOk, replicate, map, nat_lt};
+ghost use Rattle.std.specs.Prelude.{◌≡◌, ◌≢◌, ◌+◌, ◌<◌, ◌≤◌, ℕ, length, slice_index, IfOk, replicate, map, nat_lt};
 ghost use Rattle.mm_flow.specs.Flow.{IsWithin};
 ghost use Rattle.mm_flow.specs.Residual.{entries, tail, head, residual};
 ghost use Rattle.mm_flow.specs.Links.{IsLinked};
 ghost use Rattle.mm_flow.specs.Marks.{no_mark};
 
-use crate::limits::UNLIMITED;
+use crate::limits::{MAX_VALUE, UNLIMITED};
 use crate::links::Links;
 use crate::network::Network;
-use crate::residual::{head, residual, tail};
+use crate::residual::{head, push, residual, tail};
 use std::alloc::{AllocError, Global};
 
 /// How a node was reached: its level, one more than the entries on the path to it and 0 where there is none, the last
@@ -40,8 +40,9 @@ pub(crate) struct Search {
 
 impl Search {
     ghost use Rattle.mm_flow.specs.declared.search.Mark.{Mark};
-    ghost use Rattle.mm_flow.specs.Marks.{IsSearching, IsSearched, GoesOn, HasMark, mark, level};
-    ghost use Rattle.mm_flow.specs.Levels.{IsLevelled, IsTaken};
+    ghost use Rattle.mm_flow.specs.Marks.{IsSearching, IsSearched, GoesOn, HasMark, level};
+    ghost use Rattle.mm_flow.specs.Balance.{IsAugmented};
+    ghost use Rattle.mm_flow.specs.Levels.{IsLevelled, IsUp, HasPath};
 
     // A search from this source that has not begun.
     pub(crate) fn new(alloc: Global, network: &Network, source: u32) -> Result<Search, AllocError>
@@ -155,67 +156,68 @@ impl Search {
         self.found += 1;
     }
 
-    // Puts a node one level above another, to be reached anew.
-    pub(crate) fn put_above(&mut self, network: &Network, below: u32, node: u32)
-        requires below { below < network.now.graph.nodes }
+    // Puts a node above all levels.
+    pub(crate) fn put_above_all(&mut self, network: &Network, node: u32)
         requires node { node < network.now.graph.nodes }
         requires levelled { IsLevelled network.now.graph self.old.source self.old.marks.items }
         ensures levelled { IsLevelled network.now.graph self.new.source self.new.marks.items }
         ensures source { self.new.source ≡ self.old.source }
-        ensures order { self.new.order ≡ self.old.order }
+        ensures order { length self.new.order.items ≡ length self.old.order.items }
     {
-        let level = self.marks[below as usize].level.saturating_add(1);
         self.marks[node as usize] = Mark {
-            level,
+            level: u32::MAX,
             via: 0,
             width: UNLIMITED,
         };
     }
 
-    // Takes an entry as the next of a path, if it has residual capacity and leads one level further, to the sink or
-    // to a node below the sink's level. Answers whether it does.
-    pub(crate) fn advance(
-        &mut self,
-        network: &Network,
-        flow: &[u64],
-        entry: usize,
-        sink: u32,
-    ) -> bool
-        requires entry { entry < entries network.now.graph }
+    // Lets a path go on by an entry that leads up from its last node.
+    pub(crate) fn reach_by(&mut self, network: &Network, flow: &[u64], entry: usize)
         requires flow { length flow.now ≡ length network.now.graph.arcs }
         requires within { IsWithin network.now.graph (slice_index flow.now) }
-        requires sink { sink < network.now.graph.nodes }
         requires levelled { IsLevelled network.now.graph self.old.source self.old.marks.items }
-        requires from { HasMark self.old.marks.items (tail network.now.graph entry) }
+        requires up { IsUp network.now.graph (slice_index flow.now) self.old.marks.items entry }
+        requires path { HasPath network.now.graph (slice_index flow.now) self.old.marks.items
+            self.old.source (tail network.now.graph entry) }
         ensures levelled { IsLevelled network.now.graph self.new.source self.new.marks.items }
         ensures source { self.new.source ≡ self.old.source }
-        ensures order { self.new.order ≡ self.old.order }
+        ensures order { length self.new.order.items ≡ length self.old.order.items }
         ensures levels { (n : ℕ) → level self.new.marks.items n ≡ level self.old.marks.items n }
-        ensures others { (n : ℕ) → n ≢ head network.now.graph entry
-            → mark self.new.marks.items n ≡ mark self.old.marks.items n }
-        ensures taken { result ≡ true → IsTaken network.now.graph (slice_index flow.now)
-            self.new.marks.items sink entry (head network.now.graph entry) }
-        ensures left { result ≡ false → self.new.marks.items ≡ self.old.marks.items }
+        ensures path { HasPath network.now.graph (slice_index flow.now) self.new.marks.items
+            self.new.source (head network.now.graph entry) }
     {
         let from = self.marks[tail(network, entry) as usize];
-        let to = head(network, entry);
-        let own = self.marks[to as usize];
-        if own.level.saturating_sub(1) != from.level {
-            return false;
-        }
-        if to != sink && own.level >= self.marks[sink as usize].level {
-            return false;
-        }
-        let capacity = residual(network, flow, entry);
-        if capacity == 0 {
-            return false;
-        }
-        self.marks[to as usize] = Mark {
-            level: own.level,
+        let to = head(network, entry) as usize;
+        self.marks[to] = Mark {
+            level: self.marks[to].level,
             via: entry,
-            width: from.width.min(capacity),
+            width: from.width.min(residual(network, flow, entry)),
         };
-        true
+    }
+
+    // Moves as much as fits along the path by which the sink was reached, and returns how much.
+    pub(crate) fn augment(&self, network: &Network, flow: &mut [u64], sink: u32) -> u64
+        requires flow { length flow.old ≡ length network.now.graph.arcs }
+        requires within { IsWithin network.now.graph (slice_index flow.old) }
+        requires small { (k : ℕ) → slice_index flow.old k ≤ MAX_VALUE }
+        requires sink { sink < network.now.graph.nodes }
+        requires levelled { IsLevelled network.now.graph self.now.source self.now.marks.items }
+        requires path { HasPath network.now.graph (slice_index flow.old) self.now.marks.items
+            self.now.source sink }
+        ensures positive { (0 < result) × (result ≤ UNLIMITED) }
+        ensures augmented { (value : ℕ)
+            → IsAugmented network.now.graph self.now.source sink (slice_index flow.old) value
+            → IsAugmented network.now.graph self.now.source sink (slice_index flow.new)
+            (value + result) }
+    {
+        let amount = self.marks[sink as usize].width;
+        let mut at = sink;
+        while at != self.source {
+            let entry = self.marks[at as usize].via;
+            push(network, flow, entry, amount);
+            at = tail(network, entry);
+        }
+        amount
     }
 
     // Which nodes have a mark.

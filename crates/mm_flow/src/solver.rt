@@ -3,8 +3,8 @@ ghost use Rattle.std.specs.Prelude.{◌≡◌, ◌≢◌, ◌<◌, ◌↔◌, If
 ghost use Rattle.mm_flow.specs.Solution.{IsSolved, HasUnlimitedPath};
 
 use crate::fault::Fault;
-use crate::levels::block_all;
 use crate::network::Network;
+use crate::phase::Phase;
 use crate::solved::Solved;
 use crate::tables::Tables;
 use std::alloc::Global;
@@ -24,17 +24,9 @@ pub fn solve(alloc: Global, network: &Network, source: u32, sink: u32) -> Result
         → (source ≢ sink) × HasUnlimitedPath network.now.graph source sink }
     ensures bounded { OnOk result (¬ HasUnlimitedPath network.now.graph source sink) }
 {
-    let mut tables = Tables::new(alloc, network, source, sink)?;
-    let mut next = vec![in alloc; 0; network.node_count()]?;
-    let mut ahead = vec![in alloc; 0; network.node_count()]?;
-    let value = block_all(
-        network,
-        &tables.links,
-        &mut next,
-        &mut ahead,
-        &mut tables.flow,
-        &mut tables.search,
-        sink,
-    );
-    Ok(tables.solved(alloc, value)?)
+    let mut phase = Phase::new(alloc, Tables::new(alloc, network, source, sink)?)?;
+    while phase.tables.search_anew() {
+        phase.block();
+    }
+    Ok(phase.tables.solved(alloc)?)
 }

@@ -1,7 +1,7 @@
-//! The tables of a solver, all reserved before its first augmentation.
-ghost use Rattle.std.specs.Prelude.{◌≡◌, ◌≢◌, ◌<◌, ◌↔◌, ℕ, IfOk, OnOk, IsErrOf};
-ghost use Rattle.mm_flow.specs.Graph.{Graph};
+//! A solver at work: its tables, all reserved before its first augmentation, and the flow so far.
+ghost use Rattle.std.specs.Prelude.{◌≡◌, ◌≢◌, ◌<◌, ◌↔◌, ℕ, true, false, IfOk, OnOk, IsErrOf};
 ghost use Rattle.mm_flow.specs.Solution.{IsSolved, HasUnlimitedPath};
+ghost use Rattle.mm_flow.specs.Tables.{IsAtWork};
 
 use crate::fault::Fault;
 use crate::limits::UNLIMITED;
@@ -11,28 +11,33 @@ use crate::search::Search;
 use crate::solved::Solved;
 use std::alloc::{AllocError, Global};
 
-/// The entries of each node, a search from the source, and what each arc carries.
+/// The entries of each node, the last search from the source, and a flow of this value to the sink.
 #[derive(Drop)]
-pub(crate) struct Tables {
+pub(crate) struct Tables<'a> {
+    pub(crate) network: &'a Network,
+    pub(crate) sink: u32,
     pub(crate) links: Links,
     pub(crate) search: Search,
     pub(crate) flow: Vec<u64>,
+    pub(crate) value: u64,
+    ghost at_work: { IsAtWork network.now.graph sink links search flow.items value },
 }
 
-impl Tables {
-    ghost use Rattle.mm_flow.specs.Tables.{IsReady, IsEnded};
+impl<'a> Tables<'a> {
+    ghost use Rattle.mm_flow.specs.Residual.{tail, head};
+    ghost use Rattle.mm_flow.specs.Marks.{level};
+    ghost use Rattle.mm_flow.specs.Task.{IsTask, SameTask, IsOpen, Reaches, IsOver};
 
     // Tables with a flow of nothing, unless a path of unlimited arcs leads from the source to the sink.
     pub(crate) fn new(
         alloc: Global,
-        network: &Network,
+        network: &'a Network,
         source: u32,
         sink: u32,
-    ) -> Result<Tables, Fault>
+    ) -> Result<Tables<'a>, Fault>
         requires source { source < network.now.graph.nodes }
         requires sink { sink < network.now.graph.nodes }
-        ensures ready { IfOk result
-            (λ t. IsReady network.now.graph source sink t.links t.search t.flow.items) }
+        ensures task { IfOk result (IsTask network.now.graph source sink) }
         ensures same_ends { IsErrOf result Fault.SameEnds ↔ (source ≡ sink) }
         ensures unbounded { IsErrOf result Fault.Unbounded
             → (source ≢ sink) × HasUnlimitedPath network.now.graph source sink }
@@ -49,23 +54,69 @@ impl Tables {
             return Err(Fault::Unbounded);
         }
         Ok(Tables {
+            network,
+            sink,
             links,
             search,
             flow,
+            value: 0,
         })
     }
 
-    // The flow of this value, with the nodes that the search reached as the source's side.
-    pub(crate) fn solved(self, alloc: Global, value: u64) -> Result<Solved, AllocError>
-        ensures { IfOk result (λ solved. (g : Graph) (source sink : ℕ)
-            → IsEnded g source sink self.search.marks.items self.flow.items value
-            → IsSolved g source sink solved) }
+    // Searches anew, and answers whether the sink was reached.
+    pub(crate) fn search_anew(&mut self) -> bool
+        ensures task { SameTask self.old self.new }
+        ensures value { self.new.value ≡ self.old.value }
+        ensures way { result ≡ true → Reaches self.new self.new.sink }
+        ensures over { result ≡ false → IsOver self.new }
+    {
+        self.search.run(self.network, &self.links, &self.flow, 1);
+        self.search.marks[self.sink as usize].level > 0
+    }
+
+    // Moves as much as fits along the path by which the sink was reached.
+    pub(crate) fn augment(&mut self)
+        requires way { Reaches self.old self.old.sink }
+        ensures task { SameTask self.old self.new }
+        ensures more { self.old.value < self.new.value }
+    {
+        let amount = self.search.augment(self.network, &mut self.flow, self.sink);
+        self.value += amount;
+    }
+
+    // Puts the sink above all levels.
+    pub(crate) fn raise_sink(&mut self)
+        ensures task { SameTask self.old self.new }
+        ensures value { self.new.value ≡ self.old.value }
+    {
+        self.search.put_above_all(self.network, self.sink);
+    }
+
+    // Lets a path go on by an entry that leads up from its last node.
+    pub(crate) fn reach_by(&mut self, entry: usize)
+        requires up { IsOpen self.old entry }
+        requires path { Reaches self.old (tail self.old.network.now.graph entry) }
+        ensures task { SameTask self.old self.new }
+        ensures kept { self.new.flow ≡ self.old.flow }
+        ensures value { self.new.value ≡ self.old.value }
+        ensures levels { (n : ℕ) → level self.new.search.marks.items n
+            ≡ level self.old.search.marks.items n }
+        ensures path { Reaches self.new (head self.old.network.now.graph entry) }
+    {
+        self.search.reach_by(self.network, &self.flow, entry);
+    }
+
+    // The flow, with the nodes that the search reached as the source's side.
+    pub(crate) fn solved(self, alloc: Global) -> Result<Solved, AllocError>
+        requires over { IsOver self }
+        ensures { IfOk result (IsSolved self.entry.network.now.graph self.entry.search.source
+            self.entry.sink) }
     {
         let side = self.search.side(alloc)?;
         Ok(Solved {
             flow: self.flow,
             side,
-            value,
+            value: self.value,
         })
     }
 }

@@ -1,13 +1,13 @@
 //! Networks with values from a textbook or counted by hand.
 
-use crate::exhaustive::{MAX_TRIED, least_cut};
-use crate::fault::{Fault, NoMemory};
-use crate::laws::{net_flow_is_the_value, solution_is_best, value_is_within_each_cut};
+use crate::fault::Fault;
+use crate::laws::{constants_are, net_flow_is_the_value, solution_is_best, value_is_within_each_cut};
 use crate::limits::{MAX_ARCS, MAX_CAPACITY, MAX_NODES};
 use crate::network::Network;
 use crate::paths::solve_paths;
 use crate::solved::Solved;
 use crate::solver::solve;
+use mm_base::Refused;
 use std::alloc::Global;
 use std::process::Abort;
 use std::test::Fail;
@@ -231,14 +231,9 @@ fn arc(rt: &impl Abort, network: &mut Network, from: u32, to: u32, capacity: Opt
     network.add_arc(from, to, capacity).expect(rt, "an arc");
 }
 
-// Compares both solvers and the search of all sides with the value that is wanted between two nodes.
+// Compares both solvers with the value that is wanted between two nodes.
 fn check(rt: &impl Abort, alloc: Global, case: &Case, source: u32, sink: u32) {
     let network = built(rt, alloc, case.nodes, case.arcs);
-    assert!(rt; network.node_count() <= MAX_TRIED, "{}", case.name);
-    assert!(rt; (source as usize) < network.node_count(), "{}", case.name);
-    assert!(rt; (sink as usize) < network.node_count(), "{}", case.name);
-    let least = least_cut(&network, source, sink);
-    assert_eq!(rt; least, case.value, "{}", case.name);
     let value = same_value(rt, alloc, &network, source, sink);
     assert_eq!(rt; value, case.value, "{}", case.name);
 }
@@ -433,15 +428,12 @@ fn faults_have_numbers_and_names(rt: HostRuntime) -> Result<(), Fail> {
         assert_eq!(rt; fault.name(), name);
         assert_eq!(rt; format!(in rt.alloc(); "{fault}")?.as_str(), shown);
     }
-    assert_eq!(rt;
-        format!(in rt.alloc(); "{NoMemory}")?.as_str(),
-        "0 NoMemory"
-    );
     Ok(())
 }
 
 #[test]
 fn laws_are_called() {
+    constants_are();
     net_flow_is_the_value();
     value_is_within_each_cut();
     solution_is_best();
@@ -467,7 +459,6 @@ fn network_of_four_nodes(rt: HostRuntime) {
     assert_eq!(rt; solved.side.as_slice().last(), Some(&false));
     let by_paths = solve_paths(rt.alloc(), &network, 0, 3).expect(&rt, "a solution");
     assert_eq!(rt; by_paths.value, 5);
-    assert_eq!(rt; least_cut(&network, 0, 3), Some(5));
 }
 
 #[test]

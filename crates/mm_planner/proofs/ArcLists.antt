@@ -5,6 +5,7 @@ use Rattle.std.specs.List.{range_with_len, flat_map}
 use Rattle.std.proofs.Math.Nat.{mul-le-mul}
 use Rattle.std.proofs.lemmas.List.Concat.{flat_map-append}
 use Rattle.std.proofs.lemmas.List.FromFn.{length-map-range_with_len, map-range_with_len_more}
+use Rattle.mm_sums.proofs.Ranges.{range_with_len_next}
 use Rattle.mm_flow.specs.declared.arc.Arc.{Arc}
 use Rattle.mm_flow.specs.Graph.{Graph}
 use Rattle.mm_flow.specs.Built.{Built, with_arc}
@@ -14,7 +15,6 @@ use Rattle.mm_problem.specs.Dumping.{Dumping, IsDumping}
 use Rattle.mm_planner.specs.Network.{step_arcs, arcs_of}
 use Rattle.mm_planner.specs.Taken.{step_width}
 use Rattle.mm_planner.proofs.ArcSums.{length-step}
-use Rattle.mm_planner.proofs.Elements.{range_before}
 use Rattle.mm_planner.specs.Growing.{with_arcs}
 
 -- how many arcs there are
@@ -60,6 +60,6 @@ few_arcs q t is within =
 -- the arcs of one step more
 pub arcs_of_more : (q : Dumping) (t : ℕ) → 1 ≤ t → arcs_of q (t + 1 - 1) ≡ arcs_of q (t - 1) ++ step_arcs q t
 arcs_of_more q t first =
-    ap (flat_map (step_arcs q)) (range_before t first)
+    ap (flat_map (step_arcs q)) (range_with_len_next t first)
     ∙ flat_map-append (step_arcs q) (range_with_len 1 (t - 1)) (t ∷ [])
     ∙ ap (λ one. flat_map (step_arcs q) (range_with_len 1 (t - 1)) ++ one) (append-nil (step_arcs q t))

@@ -4,13 +4,14 @@ use Rattle.std.specs.Prelude.{map}
 use Rattle.std.specs.List.{sum_by, range_with_len, flat_map}
 use Rattle.std.proofs.lemmas.List.Sums.{sum_by-cons}
 use Rattle.std.proofs.lemmas.List.FromFn.{length-map-range_with_len}
-use Rattle.mm_cut.proofs.Sums.{sum_by-same, sum_by-add}
+use Rattle.mm_sums.proofs.Grids.{grid}
+use Rattle.mm_sums.proofs.RangeSums.{sum_by_range_shift}
+use Rattle.mm_sums.proofs.Sums.{sum_by-add, sum_by-same}
 use Rattle.mm_problem.specs.Dumping.{Dumping, stores, channels}
 use Rattle.mm_flow.specs.declared.arc.Arc.{Arc}
 use Rattle.mm_flow.specs.Graph.{no_arc, arc, places}
 use Rattle.mm_planner.specs.Network.{come_arc, hold_arc, keep_arc, take_arc, limit_arc, window_arc, step_arcs, arcs_of, net}
 use Rattle.mm_planner.specs.Taken.{step_width, first_arc, take_place}
-use Rattle.mm_planner.proofs.Ranges.{sum_by-shift, grid}
 
 -- the numbers of the other arcs of a step
 abbrev pub come_place : Dumping → ℕ → ℕ → ℕ
@@ -77,8 +78,8 @@ arcs_sum-places F (x ∷ xs) i =
     let at : i + 0 ≡ i = omega arith in
     let later : sum_by (λ k. h (k + 1)) (range_with_len 0 (length xs)) ≡ sum_by (λ k. F (i + 1 + k) (get_or xs k no_arc)) (range_with_len 0 (length xs)) =
     sum_by-same (λ k. h (k + 1)) (λ k. F (i + 1 + k) (get_or xs k no_arc)) (range_with_len 0 (length xs))
-    (λ k. let one : k + 1 ≡ suc k = omega arith in let same : i + suc k ≡ i + 1 + k = omega arith in ap h one ∙ ap (λ j. F j (get_or xs k no_arc)) same) in
-    omega (arith, sum_by-cons h 0 (range_with_len 1 (length xs)), sum_by-shift h 0 (length xs), later, arcs_sum-places F xs (i + 1), ap (λ j. F j x) at)
+    (λ j d _. let k = get_or (range_with_len 0 (length xs)) j d in let one : k + 1 ≡ suc k = omega arith in let same : i + suc k ≡ i + 1 + k = omega arith in ap h one ∙ ap (λ j. F j (get_or xs k no_arc)) same) in
+    omega (arith, sum_by-cons h 0 (range_with_len 1 (length xs)), sum_by_range_shift h 0 (length xs), later, arcs_sum-places F xs (i + 1), ap (λ j. F j x) at)
 
 -- six lists of arcs one after another
 arcs_sum-six : (F : ℕ → Arc → ℕ) (i r l : ℕ) (a b c d e : List Arc) (w : Arc) → length a ≡ r → length b ≡ r → length c ≡ r → length d ≡ r → length e ≡ l → arcs_sum F i (a ++ b ++ c ++ d ++ e ++ w ∷ []) ≡ arcs_sum F i a + arcs_sum F (i + r) b + arcs_sum F (i + 2 * r) c + arcs_sum F (i + 3 * r) d + arcs_sum F (i + 4 * r) e + F (i + 4 * r + l) w
@@ -158,9 +159,9 @@ arcs_by_kind q F =
     let limits : ℕ → ℕ = λ t. sum_by (kind_sum F (limit_place q) (limit_arc q) t) (channels q) in
     let windows : ℕ → ℕ = λ t. F (window_place q t) (window_arc q t) in
     let zero_first : sum_by (λ k. F k (arc (net q) k)) (places (net q)) ≡ sum_by (λ k. F (0 + k) (arc (net q) k)) (places (net q)) =
-    sum_by-same (λ k. F k (arc (net q) k)) (λ k. F (0 + k) (arc (net q) k)) (places (net q)) (λ k. let same : k ≡ 0 + k = omega arith in ap (λ j. F j (arc (net q) k)) same) in
+    sum_by-same (λ k. F k (arc (net q) k)) (λ k. F (0 + k) (arc (net q) k)) (places (net q)) (λ i d _. let k = get_or (places (net q)) i d in let same : k ≡ 0 + k = omega arith in ap (λ j. F j (arc (net q) k)) same) in
     let by_steps = arcs_sum-steps F (step_arcs q) (step_width q) (length-step q) 1 m 0 (omega arith) (omega arith) in
-    let each = sum_by-same (λ t. arcs_sum F (first_arc q t) (step_arcs q t)) (λ t. come t + hold t + keep t + takes t + limits t + windows t) steps_range (step_sum q F) in
+    let each = sum_by-same (λ t. arcs_sum F (first_arc q t) (step_arcs q t)) (λ t. come t + hold t + keep t + takes t + limits t + windows t) steps_range (λ i d _. step_sum q F (get_or steps_range i d)) in
     omega (
       arith,
       zero_first,

@@ -3,16 +3,17 @@ use Rattle.std.proofs.Common.{◌≡◌, ℕ, ◌+◌, ◌-◌, ◌<◌, ◌≤�
 use Rattle.std.specs.Prelude.{is_some, unwrap_or, IsSome}
 use Rattle.std.specs.List.{sum_by, range_with_len}
 use Rattle.std.proofs.lemmas.Bool.{false≢true}
+use Rattle.mm_sums.proofs.Grids.{grid, grid-same, grid_zeros, term-le-grid}
+use Rattle.mm_sums.proofs.RangeSums.{sum_by_range_same, sum_by_range_zeros, term-le-sum_by_range}
+use Rattle.mm_sums.proofs.Sums.{sum_by-filter}
 use Rattle.mm_problem.specs.Dumping.{Dumping, size, channel, limit, window}
 use Rattle.mm_cut.specs.Cuts.{limit_or_0}
-use Rattle.mm_cut.proofs.Sums.{sum_by-filter}
 use Rattle.mm_flow.specs.declared.arc.Arc.{Arc}
 use Rattle.mm_flow.specs.Graph.{arc, places}
 use Rattle.mm_flow.specs.Flow.{Flow, IsWithin}
 use Rattle.mm_flow.specs.Cut.{Side, leaves, limit_of, capacity_of, IsCut}
 use Rattle.mm_planner.specs.declared.nodes.TheConstants.{SOURCE, SINK}
 use Rattle.mm_planner.specs.Network.{in_node, out_node, channel_node, pass_node, next_node, inflow, come_arc, keep_arc, take_arc, window_arc, net}
-use Rattle.mm_planner.proofs.Ranges.{grid, grid-none, grid-term, grid-same, sum_by-none, sum_by-term, sum_by-same_range}
 use Rattle.mm_planner.proofs.ArcSums.{come_place, keep_place, window_place, kind_sum, arcs_by_kind}
 use Rattle.mm_planner.proofs.KindSums.{come, hold, pass_on, send}
 use Rattle.mm_planner.specs.Taken.{take_place}
@@ -35,19 +36,19 @@ module _ (q : Dumping) (f : Flow) (within : IsWithin (net q) f) where
   -- a flow within all capacities carries nothing more
   excess_none : sum_by (λ k. excess k (arc (net q) k)) (places (net q)) ≡ 0
   unfolding excess
-  excess_none = sum_by-none (λ k. over (arc (net q) k).capacity (f k)) 0 (length (net q).arcs) (λ k _ _. over_none (arc (net q) k).capacity (f k) (within k))
+  excess_none = sum_by_range_zeros (λ k. over (arc (net q) k).capacity (f k)) 0 (length (net q).arcs) (λ k _ _. over_none (arc (net q) k).capacity (f k) (within k))
 
   -- no more comes to a store than its inflow
   pub come_within : (t s : ℕ) → 1 ≤ t → t ≤ length q.windows → s < length q.rows → come q f t s ≤ inflow q t s
   unfolding excess
   come_within t s first last below =
-      omega (arith, excess_none, arcs_by_kind q (λ k (a : Arc). over a.capacity (f k)), grid-term (λ u k. come q f u k - inflow q u k) (length q.windows) (length q.rows) t s first last below)
+      omega (arith, excess_none, arcs_by_kind q (λ k (a : Arc). over a.capacity (f k)), term-le-grid (λ u k. come q f u k - inflow q u k) (length q.windows) (length q.rows) t s first last below)
 
   -- a store holds no more than its size
   pub hold_within : (t s : ℕ) → 1 ≤ t → t ≤ length q.windows → s < length q.rows → hold q f t s ≤ size q s
   unfolding excess
   hold_within t s first last below =
-      omega (arith, excess_none, arcs_by_kind q (λ k (a : Arc). over a.capacity (f k)), grid-term (λ u k. hold q f u k - size q k) (length q.windows) (length q.rows) t s first last below)
+      omega (arith, excess_none, arcs_by_kind q (λ k (a : Arc). over a.capacity (f k)), term-le-grid (λ u k. hold q f u k - size q k) (length q.windows) (length q.rows) t s first last below)
 
   -- how much more than a limit
   over_value : (o : Option ℕ) (n most : ℕ) → o ≡ Some most → over o n ≡ n - most
@@ -57,13 +58,13 @@ module _ (q : Dumping) (f : Flow) (within : IsWithin (net q) f) where
   pub pass_on_within : (t c most : ℕ) → 1 ≤ t → t ≤ length q.windows → c < length q.limits → limit q c ≡ Some most → pass_on q f t c ≤ most
   unfolding excess
   pass_on_within t c most first last below limited =
-      omega (arith, excess_none, arcs_by_kind q (λ k (a : Arc). over a.capacity (f k)), over_value (limit q c) (pass_on q f t c) most limited, grid-term (λ u k. over (limit q k) (pass_on q f u k)) (length q.windows) (length q.limits) t c first last below)
+      omega (arith, excess_none, arcs_by_kind q (λ k (a : Arc). over a.capacity (f k)), over_value (limit q c) (pass_on q f t c) most limited, term-le-grid (λ u k. over (limit q k) (pass_on q f u k)) (length q.windows) (length q.limits) t c first last below)
 
   -- no more is sent than the window
   pub send_within : (t : ℕ) → 1 ≤ t → t ≤ length q.windows → send q f t ≤ window q t
   unfolding excess
   send_within t first last =
-      omega (arith, excess_none, arcs_by_kind q (λ k (a : Arc). over a.capacity (f k)), sum_by-term (λ u. send q f u - window q u) 1 (length q.windows) t first (omega arith))
+      omega (arith, excess_none, arcs_by_kind q (λ k (a : Arc). over a.capacity (f k)), term-le-sum_by_range (λ u. send q f u - window q u) 1 (length q.windows) t first (omega arith))
 
 -- whether an arc leaves a side
 abbrev leads_out : Side → Arc → Bool
@@ -78,9 +79,9 @@ capacity_kinds q side at_source at_sink =
     let r = length q.rows in
     let all = sum_by-filter (limit_of (net q)) (leaves (net q) side) (places (net q)) in
     let comes = grid-same (kind_sum F (come_place q) (come_arc q)) (λ t s. cond (side (in_node s t)) 0 (inflow q t s)) m r (λ t s _ _ _. from_inside (side SOURCE) (side (in_node s t)) (inflow q t s) at_source) in
-    let keeps = grid-none (kind_sum F (keep_place q) (keep_arc q)) m r (λ t s _ _ _. nothing (leads_out side (keep_arc q t s))) in
-    let takes = grid-none (kind_sum F (take_place q) (take_arc q)) m r (λ t s _ _ _. nothing (leads_out side (take_arc q t s))) in
-    let sends = sum_by-same_range (λ t. F (window_place q t) (window_arc q t)) (λ t. cond (side (pass_node t)) (window q t) 0) 1 m (λ t _ _. to_outside (side (pass_node t)) (side SINK) (window q t) at_sink) in
+    let keeps = grid_zeros (kind_sum F (keep_place q) (keep_arc q)) m r (λ t s _ _ _. nothing (leads_out side (keep_arc q t s))) in
+    let takes = grid_zeros (kind_sum F (take_place q) (take_arc q)) m r (λ t s _ _ _. nothing (leads_out side (take_arc q t s))) in
+    let sends = sum_by_range_same (λ t. F (window_place q t) (window_arc q t)) (λ t. cond (side (pass_node t)) (window q t) 0) 1 m (λ t _ _. to_outside (side (pass_node t)) (side SINK) (window q t) at_sink) in
     omega (arith, all, arcs_by_kind q F, comes, keeps, takes, sends)
   where
     -- an arc from the side leads out where its end is off the side
@@ -114,7 +115,7 @@ module _ (q : Dumping) (side : Side) (cut : IsCut (net q) SOURCE SINK side) wher
   -- no unlimited arc leaves the side of a cut
   unlimited_none : sum_by (λ k. unlimited_out k (arc (net q) k)) (places (net q)) ≡ 0
   unfolding unlimited_out
-  unlimited_none = sum_by-none (λ k. unlimited_out k (arc (net q) k)) 0 (length (net q).arcs) (λ k _ below. one_out (leaves (net q) side k) (is_some (arc (net q) k).capacity) (cut.limited k (omega arith)))
+  unlimited_none = sum_by_range_zeros (λ k. unlimited_out k (arc (net q) k)) 0 (length (net q).arcs) (λ k _ below. one_out (leaves (net q) side k) (is_some (arc (net q) k).capacity) (cut.limited k (omega arith)))
 
   -- an arc that does not lead out ends where it begins
   stays : (a b : Bool) → cond {A = ℕ} (a && not b) 1 0 ≡ 0 → a ≡ true → b ≡ true
@@ -127,7 +128,7 @@ module _ (q : Dumping) (side : Side) (cut : IsCut (net q) SOURCE SINK side) wher
   unfolding unlimited_out
   keep_inside t s first last below inside =
       stays (side (out_node s t)) (side (next_node q t s))
-      (omega (arith, unlimited_none, arcs_by_kind q unlimited_out, grid-term (λ u k. cond {A = ℕ} (side (out_node k u) && not (side (next_node q u k))) 1 0) (length q.windows) (length q.rows) t s first last below))
+      (omega (arith, unlimited_none, arcs_by_kind q unlimited_out, term-le-grid (λ u k. cond {A = ℕ} (side (out_node k u) && not (side (next_node q u k))) 1 0) (length q.windows) (length q.rows) t s first last below))
       inside
 
   -- so is its channel
@@ -135,7 +136,7 @@ module _ (q : Dumping) (side : Side) (cut : IsCut (net q) SOURCE SINK side) wher
   unfolding unlimited_out
   take_inside t s first last below inside =
       stays (side (out_node s t)) (side (channel_node (channel q s) t))
-      (omega (arith, unlimited_none, arcs_by_kind q unlimited_out, grid-term (λ u k. cond {A = ℕ} (side (out_node k u) && not (side (channel_node (channel q k) u))) 1 0) (length q.windows) (length q.rows) t s first last below))
+      (omega (arith, unlimited_none, arcs_by_kind q unlimited_out, term-le-grid (λ u k. cond {A = ℕ} (side (out_node k u) && not (side (channel_node (channel q k) u))) 1 0) (length q.windows) (length q.rows) t s first last below))
       inside
 
   -- an arc that leads out is limited
@@ -150,5 +151,5 @@ module _ (q : Dumping) (side : Side) (cut : IsCut (net q) SOURCE SINK side) wher
   unfolding unlimited_out
   limit_outside t c first last below inside outside =
       has_limit (side (channel_node c t)) (side (pass_node t)) (is_some (limit q c))
-      (omega (arith, unlimited_none, arcs_by_kind q unlimited_out, grid-term (λ u k. cond (side (channel_node k u) && not (side (pass_node u))) (cond {A = ℕ} (is_some (limit q k)) 0 1) 0) (length q.windows) (length q.limits) t c first last below))
+      (omega (arith, unlimited_none, arcs_by_kind q unlimited_out, term-le-grid (λ u k. cond (side (channel_node k u) && not (side (pass_node u))) (cond {A = ℕ} (is_some (limit q k)) 0 1) 0) (length q.windows) (length q.limits) t c first last below))
       inside outside

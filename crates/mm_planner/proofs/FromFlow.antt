@@ -1,21 +1,30 @@
 -- From a flow to a plan: it fits, and what it loses and the flow's value are together at most what comes.
-use Rattle.std.proofs.Common.{◌≡◌, ℕ, zero, suc, ◌+◌, ◌-◌, ◌<◌, ◌≤◌, min, cond, eqb, All, length, refl, ap, arith, add-one}
+use Rattle.std.proofs.Common.{◌≡◌, ℕ, zero, suc, ◌+◌, ◌-◌, ◌<◌, ◌≤◌, min, cond, eqb, All, length, refl, sym, ap, ◌∙◌, arith, add-one}
 use Rattle.std.specs.List.{sum_by, range_with_len}
 use Rattle.std.proofs.lemmas.Bool.{cond-false, ne_eqb}
+use Rattle.mm_sums.proofs.Grids.{grid}
+use Rattle.mm_sums.proofs.Groups.{sum_by-le_groups}
+use Rattle.mm_sums.proofs.RangeSums.{sum_by_range_more, sum_by_range-le, sum_by_range_same}
+use Rattle.mm_sums.proofs.Ranges.{All-range_with_len}
+use Rattle.mm_sums.proofs.Sums.{sum_by-add, sum_by-filter, sum_by-swap}
 use Rattle.mm_problem.specs.Dumping.{Dumping, IsDumping, start, channel, window, arrivals, is_of, stores, steps}
 use Rattle.mm_plan.specs.Volumes.{Amounts, left, written, lost, store_loss, loss}
 use Rattle.mm_plan.specs.Fit.{in_step, FitsLimit, Fits}
 use Rattle.mm_plan.proofs.Steps.{left_step, left_start}
 use Rattle.mm_plan.proofs.Limits.{limited_below}
-use Rattle.mm_cut.proofs.Sums.{sum_by-filter, sum_by-add, sum_by-swap, sum_by-le_range, sum_by-le_groups, All-range_with_len}
 use Rattle.mm_flow.specs.Flow.{Flow, IsFlow}
 use Rattle.mm_planner.specs.declared.nodes.TheConstants.{SOURCE, SINK}
 use Rattle.mm_planner.specs.Network.{inflow, net}
 use Rattle.mm_planner.specs.Taken.{AreTaken}
-use Rattle.mm_planner.proofs.Ranges.{grid, sum_by-same_range, sum_by-suc}
 use Rattle.mm_planner.proofs.KindSums.{come, hold, leave, pass_on, channel_within}
 use Rattle.mm_planner.proofs.Capacities.{come_within, hold_within, pass_on_within, send_within}
 use Rattle.mm_planner.proofs.Conserved.{carried, in_conserved, out_conserved, channel_conserved, pass_conserved, come_is_value}
+
+-- a sum over one step more
+pub sum_by_steps-suc : (f : ℕ → ℕ) (n : ℕ) → sum_by f (range_with_len 1 (suc n)) ≡ sum_by f (range_with_len 1 n) + f (suc n)
+sum_by_steps-suc f n =
+    let at : 1 + n ≡ suc n = omega arith in
+    ap (λ k. sum_by f (range_with_len 1 k)) (sym (add-one n)) ∙ sum_by_range_more f 1 n (suc n) at
 
 -- what a store holds as the first step begins, and nothing for later ones
 abbrev pub opening_at : Dumping → ℕ → ℕ → ℕ
@@ -62,9 +71,9 @@ module _ (q : Dumping) (is : IsDumping q) (f : Flow) (value : ℕ) (flow : IsFlo
       omega (
         arith,
         lost_and_come t s (omega arith) below,
-        sum_by-suc (lost q x s) t,
-        sum_by-suc (λ u. come q f u s) t,
-        sum_by-suc (λ u. inflow q u s) t,
+        sum_by_steps-suc (lost q x s) t,
+        sum_by_steps-suc (λ u. come q f u s) t,
+        sum_by_steps-suc (λ u. inflow q u s) t,
         left_before s t,
         left_after s t,
         inflow_is q t s,
@@ -93,12 +102,12 @@ module _ (q : Dumping) (is : IsDumping q) (f : Flow) (value : ℕ) (flow : IsFlo
         sum_by-swap (come q f) (steps q) (stores q),
         sum_by-swap (inflow q) (steps q) (stores q),
         sum_by-add (store_loss q x) (λ s. sum_by (λ u. come q f u s) (steps q)) (stores q),
-        sum_by-le_range (λ s. store_loss q x s + sum_by (λ u. come q f u s) (steps q)) (λ s. sum_by (λ u. inflow q u s) (steps q)) 0 (length q.rows) (λ s _ below. store_lost s (omega arith)),
+        sum_by_range-le (λ s. store_loss q x s + sum_by (λ u. come q f u s) (steps q)) (λ s. sum_by (λ u. inflow q u s) (steps q)) 0 (length q.rows) (λ s _ below. store_lost s (omega arith)),
       )
 
   -- what is to leave in a step leaves in the flow
   leaves_all : (t : ℕ) → 1 ≤ t → t ≤ length q.windows → sum_by (in_step x t) (stores q) ≡ sum_by (leave q f t) (stores q)
-  leaves_all t first last = sum_by-same_range (in_step x t) (leave q f t) 0 (length q.rows) (λ s _ below. taken s t (omega arith) first last)
+  leaves_all t first last = sum_by_range_same (in_step x t) (leave q f t) 0 (length q.rows) (λ s _ below. taken s t (omega arith) first last)
 
   -- each store is of a channel
   each_in_channel : (t : ℕ) → All (λ s. 0 < leave q f t s → channel q s < length q.limits) (stores q)
@@ -108,14 +117,14 @@ module _ (q : Dumping) (is : IsDumping q) (f : Flow) (value : ℕ) (flow : IsFlo
   windowed : (t : ℕ) → 1 ≤ t → t ≤ length q.windows → sum_by (in_step x t) (stores q) ≤ window q t
   windowed t first last =
       let groups = sum_by-le_groups (leave q f t) (channel q) (length q.limits) (stores q) (each_in_channel t) in
-      let by_channel = sum_by-same_range (λ c. sum_by (λ s. cond (eqb (channel q s) c) (leave q f t s) 0) (stores q)) (pass_on q f t) 0 (length q.limits) (λ c _ below. channel_conserved q is f value flow t c first last (omega arith)) in
+      let by_channel = sum_by_range_same (λ c. sum_by (λ s. cond (eqb (channel q s) c) (leave q f t s) 0) (stores q)) (pass_on q f t) 0 (length q.limits) (λ c _ below. channel_conserved q is f value flow t c first last (omega arith)) in
       omega (arith, leaves_all t first last, groups, by_channel, pass_conserved q is f value flow t first last, send_within q f flow.within t first last)
 
   -- and the limits of the channels
   limited : (t c : ℕ) → 1 ≤ t → t ≤ length q.windows → FitsLimit q x t c
   limited t c first last most is_limit =
       let below = limited_below q c most is_limit in
-      let leaves_channel = sum_by-same_range (λ s. cond (is_of q c s) (in_step x t s) 0) (λ s. cond (eqb (channel q s) c) (leave q f t s) 0) 0 (length q.rows) (λ s _ within. ap (λ n. cond (eqb (channel q s) c) n 0) (taken s t (omega arith) first last)) in
+      let leaves_channel = sum_by_range_same (λ s. cond (is_of q c s) (in_step x t s) 0) (λ s. cond (eqb (channel q s) c) (leave q f t s) 0) 0 (length q.rows) (λ s _ within. ap (λ n. cond (eqb (channel q s) c) n 0) (taken s t (omega arith) first last)) in
       omega (arith, sum_by-filter (in_step x t) (is_of q c) (stores q), leaves_channel, channel_conserved q is f value flow t c first last below, pass_on_within q f flow.within t c most first last below is_limit)
 
   -- the plan fits

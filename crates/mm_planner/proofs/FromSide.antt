@@ -8,18 +8,20 @@ use Rattle.std.proofs.lemmas.List.Elements.{All-map}
 use Rattle.std.proofs.lemmas.List.Folds.{Any-from_list_any}
 use Rattle.std.proofs.lemmas.List.Sums.{position_or_len_is}
 use Rattle.std.proofs.lemmas.Slice.Eq.{bytes_eq-Decides}
+use Rattle.mm_sums.proofs.Grids.{grid, grid-add, grid-same}
+use Rattle.mm_sums.proofs.Pairs.{AllPairs-map}
+use Rattle.mm_sums.proofs.RangeSums.{sum_by_range-le, sum_by_range_same}
+use Rattle.mm_sums.proofs.Ranges.{All-filter-range_with_len, All-flat_map-range_with_len, AllPairs-filter-range_with_len, AllPairs-flat_map-range_with_len, is_listed-filter, not_listed-filter}
+use Rattle.mm_sums.proofs.Sums.{sum_by-add, sum_by-filter, sum_by-flat_map, sum_by-map-filter, sum_by-swap}
 use Rattle.mm_problem.specs.Dumping.{Dumping, IsDumping, no_row, row, place, size, start, window, arrivals, stores, channels, steps}
 use Rattle.mm_plan.specs.declared.stretch.Stretch.{Stretch}
 use Rattle.mm_cut.specs.Stretches.{store_of, channel_of, goes_past, goes_past_on, is_inner, is_inner_on, IsStretch, AreApart, AreStretches}
 use Rattle.mm_cut.specs.Counts.{is_listed, IsLimited, IsCounted, AreCounted}
 use Rattle.mm_cut.specs.Cuts.{coming, held, limit_or_0, limit_sum, leaving, leaving_sum}
-use Rattle.mm_cut.proofs.Sums.{sum_by-filter, sum_by-add, sum_by-swap, sum_by-le_range}
 use Rattle.mm_flow.specs.Cut.{Side, IsCut, capacity_of}
 use Rattle.mm_planner.specs.declared.nodes.TheConstants.{SOURCE, SINK}
 use Rattle.mm_planner.specs.Network.{in_node, out_node, channel_node, pass_node, inflow, net}
 use Rattle.mm_planner.specs.Runs.{is_end, first_step, stretch, stretches_of, stretches, is_by_channels, counts}
-use Rattle.mm_planner.proofs.Ranges.{grid, grid-same, grid-add, sum_by-same_range}
-use Rattle.mm_planner.proofs.Elements.{All-filter_range, All-flat_map_range, AllPairs-filter_range, AllPairs-map, AllPairs-flat_map_range, sum_by-map_filter, sum_by-flat_map, is_listed-filter, not_listed-filter}
 use Rattle.mm_planner.proofs.KindSums.{next_cases, channel_within}
 use Rattle.mm_planner.proofs.Capacities.{capacity_kinds, keep_inside, take_inside, limit_outside}
 use Rattle.mm_planner.proofs.RunSums.{first_step-low, first_step-high, first_step-goes_on, coming_over, coming_over_is, runs_cover}
@@ -79,9 +81,9 @@ module _ (q : Dumping) (is : IsDumping q) (side : Side) (cut : IsCut (net q) SOU
   -- each of the stretches is a run
   all_runs : All (IsRun q side) (stretches q side)
   all_runs =
-      All-flat_map_range (IsRun q side) (stretches_of q side) 0 (length q.rows)
+      All-flat_map-range_with_len (IsRun q side) (stretches_of q side) 0 (length q.rows)
       (λ s _ below. All-map (IsRun q side) (stretch q side s) (filter (is_end side s) (steps q))
-      (All-filter_range (λ t. IsRun q side (stretch q side s t)) (is_end side s) 1 (length q.windows) (λ t low high _. stretch_is_run s t (omega arith) low high)))
+      (All-filter-range_with_len (λ t. IsRun q side (stretch q side s t)) (is_end side s) 1 (length q.windows) (λ t low high _. stretch_is_run s t (omega arith) low high)))
 
   -- two runs of one store
   apart_in_store : (s t u : ℕ) → t < u → is_end side s t ≡ true → AreApart (stretch q side s t) (stretch q side s u)
@@ -101,14 +103,14 @@ module _ (q : Dumping) (is : IsDumping q) (side : Side) (cut : IsCut (net q) SOU
   -- no two stretches share a step of one store
   all_apart : AllPairs AreApart (stretches q side)
   all_apart =
-      AllPairs-flat_map_range AreApart (stretches_of q side) 0 (length q.rows)
+      AllPairs-flat_map-range_with_len AreApart (stretches_of q side) 0 (length q.rows)
       (λ s _ below. AllPairs-map AreApart (stretch q side s) (filter (is_end side s) (steps q))
-      (AllPairs-filter_range (λ t u. AreApart (stretch q side s t) (stretch q side s u)) (is_end side s) 1 (length q.windows) (λ t u _ before _ at_t _. apart_in_store s t u before at_t)))
+      (AllPairs-filter-range_with_len (λ t u. AreApart (stretch q side s t) (stretch q side s u)) (is_end side s) 1 (length q.windows) (λ t u _ before _ at_t _. apart_in_store s t u before at_t)))
       (λ s r _ before below.
       All-map (λ d. All (AreApart d) (stretches_of q side r)) (stretch q side s) (filter (is_end side s) (steps q))
-      (All-filter_range (λ t. All (AreApart (stretch q side s t)) (stretches_of q side r)) (is_end side s) 1 (length q.windows)
+      (All-filter-range_with_len (λ t. All (AreApart (stretch q side s t)) (stretches_of q side r)) (is_end side s) 1 (length q.windows)
       (λ t _ _ _. All-map (AreApart (stretch q side s t)) (stretch q side r) (filter (is_end side r) (steps q))
-      (All-filter_range (λ u. AreApart (stretch q side s t) (stretch q side r u)) (is_end side r) 1 (length q.windows) (λ u _ _ _. apart_across s r t u before (omega arith))))))
+      (All-filter-range_with_len (λ u. AreApart (stretch q side s t) (stretch q side r u)) (is_end side r) 1 (length q.windows) (λ u _ _ _. apart_across s r t u before (omega arith))))))
 
   -- the stretches are well formed
   pub are_stretches : AreStretches q (stretches q side)
@@ -129,11 +131,11 @@ module _ (q : Dumping) (is : IsDumping q) (side : Side) (cut : IsCut (net q) SOU
   -- so are the counted steps
   pub are_counted : AreCounted q (stretches q side) (counts q side)
   are_counted = record {
-    each = All-filter_range (IsCounted q (stretches q side)) (is_by_channels side (stretches q side)) 1 (length q.windows)
+    each = All-filter-range_with_len (IsCounted q (stretches q side)) (is_by_channels side (stretches q side)) 1 (length q.windows)
         (λ t low high at.
         let parts = and_parts (is_inner (stretches q side) t) (not (side (pass_node t))) at in
         record { inner = parts.0; limited = counted_limited t low (omega arith) (not-true (side (pass_node t)) parts.1) });
-    once = AllPairs-filter_range ◌≢◌ (is_by_channels side (stretches q side)) 1 (length q.windows) (λ t u _ before _ _ _ same. omega arith);
+    once = AllPairs-filter-range_with_len ◌≢◌ (is_by_channels side (stretches q side)) 1 (length q.windows) (λ t u _ before _ _ _ same. omega arith);
   }
 
   -- what comes over the runs of one store
@@ -141,25 +143,25 @@ module _ (q : Dumping) (is : IsDumping q) (side : Side) (cut : IsCut (net q) SOU
   store_coming s below =
       let one : (t : ℕ) → coming q (stretch q side s t) ≡ coming_over q s (first_step side s t) t =
       λ t. ap (λ k. cond (eqb (first_step side s t) 1) (start q k) 0 + sum_by (arrivals q k) (filter (λ u. leb (first_step side s t) u && leb u t) (steps q))) (store_named q is s below) ∙ coming_over_is q s (first_step side s t) t in
-      sum_by-map_filter (coming q) (stretch q side s) (is_end side s) (steps q)
-      ∙ sum_by-same_range (λ t. cond (is_end side s t) (coming q (stretch q side s t)) 0) (λ t. cond (is_end side s t) (coming_over q s (first_step side s t) t) 0) 1 (length q.windows) (λ t _ _. ap (λ n. cond (is_end side s t) n 0) (one t))
+      sum_by-map-filter (coming q) (stretch q side s) (is_end side s) (steps q)
+      ∙ sum_by_range_same (λ t. cond (is_end side s t) (coming q (stretch q side s t)) 0) (λ t. cond (is_end side s t) (coming_over q s (first_step side s t) t) 0) 1 (length q.windows) (λ t _ _. ap (λ n. cond (is_end side s t) n 0) (one t))
       ∙ runs_cover q s side (goes s below) (ends s below)
 
   -- what comes over all stretches
   all_coming : sum_by (coming q) (stretches q side) ≡ grid (λ t s. cond (side (in_node s t)) (inflow q t s) 0) (length q.windows) (length q.rows)
   all_coming =
       sum_by-flat_map (coming q) (stretches_of q side) (stores q)
-      ∙ sum_by-same_range (λ s. sum_by (coming q) (stretches_of q side s)) (λ s. sum_by (λ t. cond (side (in_node s t)) (inflow q t s) 0) (steps q)) 0 (length q.rows) (λ s _ below. store_coming s (omega arith))
+      ∙ sum_by_range_same (λ s. sum_by (coming q) (stretches_of q side s)) (λ s. sum_by (λ t. cond (side (in_node s t)) (inflow q t s) 0) (steps q)) 0 (length q.rows) (λ s _ below. store_coming s (omega arith))
       ∙ sym (sum_by-swap (λ t s. cond (side (in_node s t)) (inflow q t s) 0) (steps q) (stores q))
 
   -- what is held at the ends of all stretches
   all_held : sum_by (held q) (stretches q side) ≡ grid (λ t s. cond (is_end side s t) (size q s) 0) (length q.windows) (length q.rows)
   all_held =
       let one : (s : ℕ) → s < length q.rows → sum_by (held q) (stretches_of q side s) ≡ sum_by (λ t. cond (is_end side s t) (size q s) 0) (steps q) =
-      λ s below. sum_by-map_filter (held q) (stretch q side s) (is_end side s) (steps q)
-      ∙ sum_by-same_range (λ t. cond (is_end side s t) (held q (stretch q side s t)) 0) (λ t. cond (is_end side s t) (size q s) 0) 1 (length q.windows) (λ t _ _. ap (λ k. cond (is_end side s t) (size q k) 0) (store_named q is s below)) in
+      λ s below. sum_by-map-filter (held q) (stretch q side s) (is_end side s) (steps q)
+      ∙ sum_by_range_same (λ t. cond (is_end side s t) (held q (stretch q side s t)) 0) (λ t. cond (is_end side s t) (size q s) 0) 1 (length q.windows) (λ t _ _. ap (λ k. cond (is_end side s t) (size q k) 0) (store_named q is s below)) in
       sum_by-flat_map (held q) (stretches_of q side) (stores q)
-      ∙ sum_by-same_range (λ s. sum_by (held q) (stretches_of q side s)) (λ s. sum_by (λ t. cond (is_end side s t) (size q s) 0) (steps q)) 0 (length q.rows) (λ s _ below. one s (omega arith))
+      ∙ sum_by_range_same (λ s. sum_by (held q) (stretches_of q side s)) (λ s. sum_by (λ t. cond (is_end side s t) (size q s) 0) (steps q)) 0 (length q.rows) (λ s _ below. one s (omega arith))
       ∙ sym (sum_by-swap (λ t s. cond (is_end side s t) (size q s) 0) (steps q) (stores q))
 
   -- what comes to all stores, on the side and off it
@@ -199,7 +201,7 @@ module _ (q : Dumping) (is : IsDumping q) (side : Side) (cut : IsCut (net q) SOU
       omega (
         arith,
         sum_by-filter (limit_or_0 q) (is_inner_on q (stretches q side) t) (channels q),
-        sum_by-le_range (λ c. cond (is_inner_on q (stretches q side) t c) (limit_or_0 q c) 0) (λ c. cond (side (channel_node c t) && not (side (pass_node t))) (limit_or_0 q c) 0) 0 (length q.limits)
+        sum_by_range-le (λ c. cond (is_inner_on q (stretches q side) t c) (limit_or_0 q c) 0) (λ c. cond (side (channel_node c t) && not (side (pass_node t))) (limit_or_0 q c) 0) 0 (length q.limits)
             (λ c _ _. inner_limit (is_inner_on q (stretches q side) t c) (side (channel_node c t) && not (side (pass_node t))) (limit_or_0 q c) (λ at. and_from (side (channel_node c t)) (not (side (pass_node t))) (inner_on_inside t c first last at) off)),
       )
 
@@ -231,7 +233,7 @@ module _ (q : Dumping) (is : IsDumping q) (side : Side) (cut : IsCut (net q) SOU
       omega (
         arith,
         sum_by-filter (leaving q (stretches q side) (counts q side)) (is_inner (stretches q side)) (steps q),
-        sum_by-le_range (λ t. cond (is_inner (stretches q side) t) (leaving q (stretches q side) (counts q side) t) 0) gates 1 (length q.windows) (λ t low high. leaving_within t low (omega arith)),
+        sum_by_range-le (λ t. cond (is_inner (stretches q side) t) (leaving q (stretches q side) (counts q side) t) 0) gates 1 (length q.windows) (λ t low high. leaving_within t low (omega arith)),
         sum_by-add (λ t. sum_by (λ c. cond (side (channel_node c t) && not (side (pass_node t))) (limit_or_0 q c) 0) (channels q)) (λ t. cond (side (pass_node t)) (window q t) 0) (steps q),
       )
 

@@ -5,16 +5,17 @@ use Rattle.std.specs.List.{sum_by, range_with_len}
 use Rattle.std.proofs.lemmas.Bool.{cond-true, cond-false}
 use Rattle.std.proofs.lemmas.Bool.Decides.{eqb_tells}
 use Rattle.std.proofs.lemmas.List.Elements.{All-get_or}
+use Rattle.mm_sums.proofs.Grids.{grid, grid-one, grid-row, grid_zeros}
+use Rattle.mm_sums.proofs.Sums.{sum_by-filter}
+use Rattle.mm_sums.proofs.Tests.{cond-eqb_other, cond-eqb_same}
 use Rattle.mm_problem.specs.Setup.{IsStoreRow}
 use Rattle.mm_problem.specs.Dumping.{Dumping, IsDumping, no_row, channel}
-use Rattle.mm_cut.proofs.Sums.{sum_by-filter}
 use Rattle.mm_flow.specs.declared.arc.Arc.{Arc}
 use Rattle.mm_flow.specs.Graph.{starts_at, ends_at, places}
 use Rattle.mm_flow.specs.Flow.{Flow, entering, leaving}
 use Rattle.mm_planner.specs.declared.nodes.TheConstants.{SOURCE, SINK}
 use Rattle.mm_planner.specs.Network.{in_node, out_node, channel_node, pass_node, next_node, net}
 use Rattle.mm_planner.specs.Taken.{take_place}
-use Rattle.mm_planner.proofs.Ranges.{grid, grid-none, grid-one, grid-row, at_same, at_other}
 use Rattle.mm_planner.proofs.ArcSums.{come_place, hold_place, keep_place, limit_place, window_place, arcs_by_kind}
 
 -- what a flow carries on the arcs of each kind
@@ -47,18 +48,18 @@ counted node carries n t k = cond (eqb (node t k) n) (carries t k) 0
 
 -- no arc of the kind meets the node
 pub meets_none : (node carries : ℕ → ℕ → ℕ) (n m r : ℕ) → ((u k : ℕ) → 1 ≤ u → u ≤ m → k < r → node u k ≢ n) → grid (counted node carries n) m r ≡ 0
-meets_none node carries n m r other = grid-none (counted node carries n) m r (λ u k low high within. at_other (node u k) n (carries u k) (other u k low high within))
+meets_none node carries n m r other = grid_zeros (counted node carries n) m r (λ u k low high within. cond-eqb_other (node u k) n (carries u k) (other u k low high within))
 
 -- one arc of the kind meets it
 pub meets_one : (node carries : ℕ → ℕ → ℕ) (n m r t i : ℕ) → 1 ≤ t → t ≤ m → i < r → node t i ≡ n → ((u k : ℕ) → 1 ≤ u → u ≤ m → k < r → (u ≡ t → k ≢ i) → node u k ≢ n) → grid (counted node carries n) m r ≡ carries t i
 meets_one node carries n m r t i first last within here other =
-    grid-one (counted node carries n) m r t i first last within (λ u k low high below apart. at_other (node u k) n (carries u k) (other u k low high below apart))
-    ∙ at_same (node t i) n (carries t i) here
+    grid-one (counted node carries n) m r t i first last within (λ u k low high below apart. cond-eqb_other (node u k) n (carries u k) (other u k low high below apart))
+    ∙ cond-eqb_same (node t i) n (carries t i) here
 
 -- the arcs of the kind that meet it are of one step
 pub meets_row : (node carries : ℕ → ℕ → ℕ) (n m r t : ℕ) → 1 ≤ t → t ≤ m → ((u k : ℕ) → 1 ≤ u → u ≤ m → k < r → u ≢ t → node u k ≢ n) → grid (counted node carries n) m r ≡ sum_by (counted node carries n t) (range_with_len 0 r)
 meets_row node carries n m r t first last other =
-    grid-row (counted node carries n) m r t first last (λ u k low high below apart. at_other (node u k) n (carries u k) (other u k low high below apart))
+    grid-row (counted node carries n) m r t first last (λ u k low high below apart. cond-eqb_other (node u k) n (carries u k) (other u k low high below apart))
 
 -- where the blocks go that a store keeps
 pub next_cases : (q : Dumping) (t s : ℕ) → ((t ≡ length q.windows) × (next_node q t s ≡ SINK)) ⊎ ((t ≢ length q.windows) × (next_node q t s ≡ in_node s (t + 1)))

@@ -1,10 +1,8 @@
-pub mod Ranges
 pub mod ArcSums
 pub mod KindSums
 pub mod Conserved
 pub mod Capacities
 pub mod FromFlow
-pub mod Elements
 pub mod RunSums
 pub mod FromSide
 pub mod Optimality
@@ -13,7 +11,6 @@ pub mod RunLists
 pub mod NoPath
 pub mod TakenAmounts
 pub mod Filling
-pub mod Refusals
 pub mod SheetTexts
 pub mod CutOrder
 pub mod PlanTextLemmas

@@ -2,6 +2,9 @@
 use Rattle.std.proofs.Common.{◌≡◌, ℕ, zero, suc, cond, eqb, Option, length, refl, ap, ◌∙◌, arith}
 use Rattle.std.specs.Prelude.{is_some}
 use Rattle.std.specs.List.{sum_by}
+use Rattle.mm_sums.proofs.Grids.{grid_zeros}
+use Rattle.mm_sums.proofs.RangeSums.{sum_by_range_zeros, term-le-sum_by_range}
+use Rattle.mm_sums.proofs.Tests.{cond-eqb_other, cond-eqb_same}
 use Rattle.mm_problem.specs.Dumping.{Dumping}
 use Rattle.mm_flow.specs.declared.arc.Arc.{Arc}
 use Rattle.mm_flow.specs.Graph.{arc, places}
@@ -9,7 +12,6 @@ use Rattle.mm_flow.specs.Solution.{HasUnlimited, IsWalk, HasUnlimitedPath}
 use Rattle.mm_planner.specs.declared.nodes.TheConstants.{SOURCE, SINK}
 use Rattle.mm_planner.specs.Network.{in_node, out_node, channel_node, pass_node, come_arc, hold_arc, keep_arc, take_arc, limit_arc, window_arc, net}
 use Rattle.mm_planner.specs.Taken.{take_place}
-use Rattle.mm_planner.proofs.Ranges.{grid-none, sum_by-none, sum_by-term, at_same, at_other}
 use Rattle.mm_planner.proofs.ArcSums.{come_place, hold_place, keep_place, limit_place, window_place, kind_sum, arcs_by_kind}
 
 -- whether an arc has no limit, as a number
@@ -30,12 +32,12 @@ none_from_source q =
     omega (
       arith,
       arcs_by_kind q F,
-      grid-none (kind_sum F (come_place q) (come_arc q)) m r (λ t s _ _ _. refl),
-      grid-none (kind_sum F (hold_place q) (hold_arc q)) m r (λ t s low _ _. at_other (in_node s t) SOURCE 0 (λ same. omega arith)),
-      grid-none (kind_sum F (keep_place q) (keep_arc q)) m r (λ t s low _ _. at_other (out_node s t) SOURCE 1 (λ same. omega arith)),
-      grid-none (kind_sum F (take_place q) (take_arc q)) m r (λ t s low _ _. at_other (out_node s t) SOURCE 1 (λ same. omega arith)),
-      grid-none (kind_sum F (limit_place q) (limit_arc q)) m (length q.limits) (λ t c low _ _. at_other (channel_node c t) SOURCE _ (λ same. omega arith)),
-      sum_by-none (λ t. F (window_place q t) (window_arc q t)) 1 m (λ t low _. at_other (pass_node t) SOURCE 0 (λ same. omega arith)),
+      grid_zeros (kind_sum F (come_place q) (come_arc q)) m r (λ t s _ _ _. refl),
+      grid_zeros (kind_sum F (hold_place q) (hold_arc q)) m r (λ t s low _ _. cond-eqb_other (in_node s t) SOURCE 0 (λ same. omega arith)),
+      grid_zeros (kind_sum F (keep_place q) (keep_arc q)) m r (λ t s low _ _. cond-eqb_other (out_node s t) SOURCE 1 (λ same. omega arith)),
+      grid_zeros (kind_sum F (take_place q) (take_arc q)) m r (λ t s low _ _. cond-eqb_other (out_node s t) SOURCE 1 (λ same. omega arith)),
+      grid_zeros (kind_sum F (limit_place q) (limit_arc q)) m (length q.limits) (λ t c low _ _. cond-eqb_other (channel_node c t) SOURCE _ (λ same. omega arith)),
+      sum_by_range_zeros (λ t. F (window_place q t) (window_arc q t)) 1 m (λ t low _. cond-eqb_other (pass_node t) SOURCE 0 (λ same. omega arith)),
     )
 
 -- so none leads anywhere
@@ -44,8 +46,8 @@ unfolding unlimited_from_source no_limit
 none_leaves q to has =
     let k = has.0 in
     let a = arc (net q) k in
-    let term = sum_by-term (λ j. unlimited_from_source j (arc (net q) j)) 0 (length (net q).arcs) k (omega arith) (omega (arith, has.1)) in
-    let one : unlimited_from_source k a ≡ 1 = at_same a.from SOURCE (no_limit a.capacity) has.2 ∙ ap no_limit has.4 in
+    let term = term-le-sum_by_range (λ j. unlimited_from_source j (arc (net q) j)) 0 (length (net q).arcs) k (omega arith) (omega (arith, has.1)) in
+    let one : unlimited_from_source k a ≡ 1 = cond-eqb_same a.from SOURCE (no_limit a.capacity) has.2 ∙ ap no_limit has.4 in
     omega (arith, none_from_source q, term, one)
 
 -- a walk of unlimited arcs from the source stays there

@@ -2,7 +2,7 @@
 use Rattle.std.proofs.Common.{◌≡◌, ℕ, List, sym, ap, ◌∙◌, subst}
 use Rattle.std.specs.Prelude.{pos}
 use Rattle.mm_problem.specs.Dumping.{Dumping}
-use Rattle.mm_plan.specs.Table.{amount}
+use Rattle.mm_plan.specs.Table.{amount, HasShape}
 use Rattle.mm_plan.specs.Sheet.{SheetRows, IsSheet, IsShapedFor}
 use Rattle.std.specs.List.Sorted.{IsSortedByKey}
 use Rattle.mm_plan.specs.Printing.{IsOrdered, IsPrinted, stretch_key, key_cmp}
@@ -11,27 +11,33 @@ use Rattle.mm_plan.specs.Volumes.{loss}
 use Rattle.mm_plan.specs.Least.{IsLeast}
 use Rattle.mm_cut.specs.Verdicts.{VerdictsExclude, IsVerdict}
 use Rattle.mm_cut.specs.declared.verdict.Verdict.TheVariants.{Least}
-use Rattle.mm_planner.specs.Checking.{SaysProblem}
-use Rattle.mm_planner.specs.PlanTexts.{ShowsLeast, PlansLeast, PlansCheckLeast}
+use Rattle.mm_check.specs.Checking.{SaysProblem}
+use Rattle.mm_planner.specs.Planned.{ShowsLeast}
+use Rattle.mm_planner.specs.PlanTexts.{PlansLeast, PlansCheckLeast}
 use Rattle.mm_planner.proofs.CutOrder.{cut_in_order, bound_in_order}
 use Rattle.mm_planner.proofs.SheetTexts.{one_sheet}
 
+-- a sheet shows that its plan loses least
+abbrev SheetShows : Dumping → SheetRows → Type 0
+SheetShows q s = ShowsLeast q s.plan s.cut s.by_channels s.loss
+
 -- in the order in which it is printed, a sheet shows the same
-shows_in_order : (q : Dumping) (s r : SheetRows) → ShowsLeast q s → IsOrdered s r → ShowsLeast q r
+shows_in_order : (q : Dumping) (s r : SheetRows) → SheetShows q s → IsOrdered s r → SheetShows q r
 shows_in_order q s r shows ordered =
     let same_plan = sym ordered.plan in
     let same_loss = sym ordered.loss in
     record {
+      shape = subst (HasShape q) same_plan shows.shape;
       least = subst (λ x. IsLeast q (amount x)) same_plan shows.least;
+      filled = subst (λ x. IsFilled q (amount x)) same_plan shows.filled;
       cut = cut_in_order q s.cut r.cut s.by_channels r.by_channels ordered.cut.same ordered.counts.same shows.cut;
       loss = ap (λ x. loss q (amount x)) ordered.plan ∙ shows.loss ∙ same_loss;
-      bound = bound_in_order q s.cut r.cut s.by_channels r.by_channels ordered.cut.same ordered.counts.same ∙ shows.bound ∙ sym ordered.bound;
-      tight = ordered.bound ∙ shows.tight ∙ ap pos same_loss;
+      bound = bound_in_order q s.cut r.cut s.by_channels r.by_channels ordered.cut.same ordered.counts.same ∙ shows.bound ∙ ap pos same_loss;
     }
 
 -- the printed text of a sheet that shows it plans least
-pub printed_plans_least : (setup forecast text : List ℕ) (q : Dumping) (s : SheetRows) → SaysProblem setup forecast q → IsSheet s → IsShapedFor q s → ShowsLeast q s → IsFilled q (amount s.plan) → IsPrinted s text → PlansLeast setup forecast text
-printed_plans_least setup forecast text q s says is shaped shows filled printed =
+pub printed_plans_least : (setup forecast text : List ℕ) (q : Dumping) (s : SheetRows) → SaysProblem setup forecast q → IsSheet s → IsShapedFor q s → SheetShows q s → s.bound ≡ pos s.loss → IsPrinted s text → PlansLeast setup forecast text
+printed_plans_least setup forecast text q s says is shaped shows tight printed =
     let r = printed.0 in
     let ordered : IsOrdered s r = printed.1 in
     record {
@@ -44,7 +50,7 @@ printed_plans_least setup forecast text q s says is shaped shows filled printed 
         shape = record { stores = ordered.stores ∙ shaped.stores; steps = ap (λ x. x.steps) ordered.plan ∙ shaped.steps };
       };
       shows_least = shows_in_order q s r shows ordered;
-      filled = subst (λ x. IsFilled q (amount x)) (sym ordered.plan) filled;
+      tight = ordered.bound ∙ tight ∙ ap pos (sym ordered.loss);
       in_order = record { cut = subst (λ ids. IsSortedByKey (stretch_key ids) key_cmp r.cut) (sym ordered.stores) ordered.cut.order; counts = ordered.counts.order };
     }
 
@@ -55,11 +61,11 @@ one_problem : (setup forecast : List ℕ) (p q : Dumping) → SaysProblem setup 
 one_problem setup forecast p q says_p says_q = cc
 
 -- what is `Least` of a sheet that shows it
-least_verdict : (q : Dumping) (s : SheetRows) → ShowsLeast q s → IsVerdict q (amount s.plan) s.cut s.by_channels s.loss s.bound (Least (loss q (amount s.plan)))
-least_verdict q s shows = (
-  record { plan = record { fits = shows.least.fits; loss = sym shows.loss }; cut = shows.cut; bound = sym shows.bound },
+least_verdict : (q : Dumping) (s : SheetRows) → SheetShows q s → s.bound ≡ pos s.loss → IsVerdict q (amount s.plan) s.cut s.by_channels s.loss s.bound (Least (loss q (amount s.plan)))
+least_verdict q s shows tight = (
+  record { plan = record { fits = shows.least.fits; loss = sym shows.loss }; cut = shows.cut; bound = tight ∙ sym shows.bound },
   shows.loss,
-  ap pos shows.loss ∙ sym shows.tight,
+  ap pos shows.loss ∙ sym tight,
   shows.least,
 )
 
@@ -73,4 +79,4 @@ plans_check_least exclude setup forecast text planned v checks =
     let said : IsVerdict q (amount s.plan) s.cut s.by_channels s.loss s.bound v =
     subst (λ r. IsVerdict q (amount r.plan) r.cut r.by_channels r.loss r.bound v) same_sheet
     (subst (λ p. IsVerdict p (amount checks.sheet.plan) checks.sheet.cut checks.sheet.by_channels checks.sheet.loss checks.sheet.bound v) same_problem checks.verdict) in
-    exclude q (amount s.plan) s.cut s.by_channels s.loss s.bound v (Least (loss q (amount s.plan))) said (least_verdict q s planned.shows_least)
+    exclude q (amount s.plan) s.cut s.by_channels s.loss s.bound v (Least (loss q (amount s.plan))) said (least_verdict q s planned.shows_least planned.tight)

@@ -4,12 +4,11 @@ use Rattle.std.specs.Prelude.{map, filter}
 use Rattle.std.specs.List.{range_with_len, flat_map}
 use Rattle.std.proofs.lemmas.List.{map-append}
 use Rattle.std.proofs.lemmas.List.Concat.{flat_map-append}
+use Rattle.mm_sums.proofs.Ranges.{filter-range_with_len_next, range_with_len_more}
 use Rattle.mm_problem.specs.Dumping.{Dumping}
 use Rattle.mm_plan.specs.declared.stretch.Stretch.{Stretch}
-use Rattle.mm_plan.proofs.RangeSums.{range_with_len_more}
 use Rattle.mm_flow.specs.Cut.{Side}
 use Rattle.mm_planner.specs.Runs.{goes_on, is_end, first_step, stretch}
-use Rattle.mm_planner.proofs.Elements.{filter_before}
 
 -- one more of what is made of the numbers that pass
 made_more : {X : Type 0} (make : ℕ → X) (b : Bool) (front so_far next : List X) (ts : List ℕ) (t : ℕ) (run : X) → so_far ≡ front ++ map make ts → run ≡ make t → next ≡ cond b (so_far ++ run ∷ []) so_far → next ≡ front ++ map make (ts ++ cond b (t ∷ []) [])
@@ -22,7 +21,7 @@ made_more make false front so_far next ts t run before is added =
 pub runs_more : (q : Dumping) (side : Side) (s t : ℕ) (front so_far next : List Stretch) (run : Stretch) → 1 ≤ t → so_far ≡ front ++ map (stretch q side s) (filter (is_end side s) (range_with_len 1 (t - 1))) → run ≡ stretch q side s t → next ≡ cond (is_end side s t) (so_far ++ run ∷ []) so_far → next ≡ front ++ map (stretch q side s) (filter (is_end side s) (range_with_len 1 (t + 1 - 1)))
 runs_more q side s t front so_far next run first before is added =
     made_more (stretch q side s) (is_end side s t) front so_far next (filter (is_end side s) (range_with_len 1 (t - 1))) t run before is added
-    ∙ ap (λ ts. front ++ map (stretch q side s) ts) (sym (filter_before (is_end side s) t first))
+    ∙ ap (λ ts. front ++ map (stretch q side s) ts) (sym (filter-range_with_len_next (is_end side s) t first))
 
 -- the first step of the run that the next step is in
 pub first_step_next : (side : Side) (s t : ℕ) → first_step side s (t + 1) ≡ cond (goes_on side s t) (first_step side s t) (t + 1)
@@ -36,7 +35,7 @@ passed_more false so_far next ts t before added = added ∙ before ∙ sym (appe
 -- the steps that pass, up to one
 pub steps_more : (p : ℕ → Bool) (t : ℕ) (so_far next : List ℕ) → 1 ≤ t → so_far ≡ filter p (range_with_len 1 (t - 1)) → next ≡ cond (p t) (so_far ++ t ∷ []) so_far → next ≡ filter p (range_with_len 1 (t + 1 - 1))
 steps_more p t so_far next first before added =
-    passed_more (p t) so_far next (filter p (range_with_len 1 (t - 1))) t before added ∙ sym (filter_before p t first)
+    passed_more (p t) so_far next (filter p (range_with_len 1 (t - 1))) t before added ∙ sym (filter-range_with_len_next p t first)
 
 -- one store more
 pub stores_more : {X : Type 0} (make : ℕ → List X) (s : ℕ) (so_far next : List X) → so_far ≡ flat_map make (range_with_len 0 s) → next ≡ so_far ++ make s → next ≡ flat_map make (range_with_len 0 (s + 1))

@@ -4,13 +4,14 @@ use Rattle.std.specs.Prelude.{filter}
 use Rattle.std.specs.List.{sum_by, range_with_len}
 use Rattle.std.proofs.lemmas.Bool.{cases_Bool, cases_lt, cond-true, cond-false, and_parts}
 use Rattle.std.proofs.lemmas.Bool.Decides.{nat_tests}
+use Rattle.mm_sums.proofs.RangeSums.{sum_by_range_one, sum_by_range_same, sum_by_range_zeros}
+use Rattle.mm_sums.proofs.Sums.{sum_by-add, sum_by-filter}
+use Rattle.mm_sums.proofs.Tests.{cond-eqb_other, cond-eqb_same}
 use Rattle.mm_problem.specs.Dumping.{Dumping, start, arrivals, steps}
-use Rattle.mm_cut.proofs.Sums.{sum_by-filter, sum_by-add}
 use Rattle.mm_flow.specs.Cut.{Side}
 use Rattle.mm_planner.specs.Network.{in_node, out_node, inflow}
 use Rattle.mm_planner.specs.Runs.{goes_on, is_end, first_step}
-use Rattle.mm_planner.proofs.Ranges.{sum_by-same_range, sum_by-none, sum_by-one, sum_by-suc, at_same, at_other}
-use Rattle.mm_planner.proofs.FromFlow.{inflow_is}
+use Rattle.mm_planner.proofs.FromFlow.{sum_by_steps-suc, inflow_is}
 
 -- a run begins with a step of the problem
 pub first_step-low : (side : Side) (s t : ℕ) → 1 ≤ first_step side s t
@@ -66,16 +67,16 @@ module _ (q : Dumping) (s : ℕ) where
       let here : ℕ → ℕ = λ t. cond (eqb t (suc j)) (arrivals q s t) 0 in
       omega (
         arith,
-        sum_by-same_range f (λ t. before t + here t) 1 (length q.windows) (λ t _ _. one_step_more i j t (arrivals q s t) order),
+        sum_by_range_same f (λ t. before t + here t) 1 (length q.windows) (λ t _ _. one_step_more i j t (arrivals q s t) order),
         sum_by-add before here (steps q),
-        sum_by-one here 1 (length q.windows) (suc j) (omega arith) (omega arith) (λ t _ _ other. at_other t (suc j) (arrivals q s t) other),
-        at_same (suc j) (suc j) (arrivals q s (suc j)) refl,
+        sum_by_range_one here 1 (length q.windows) (suc j) (omega arith) (omega arith) (λ t _ _ other. cond-eqb_other t (suc j) (arrivals q s t) other),
+        cond-eqb_same (suc j) (suc j) (arrivals q s (suc j)) refl,
       )
 
   -- nothing arrives over no steps
   arrived_over-none : (i j : ℕ) → j < i → arrived_over i j ≡ 0
   unfolding arrived_over
-  arrived_over-none i j order = sum_by-none (λ t. cond (leb i t && leb t j) (arrivals q s t) 0) 1 (length q.windows) (λ t _ _. no_steps i j t (arrivals q s t) order)
+  arrived_over-none i j order = sum_by_range_zeros (λ t. cond (leb i t && leb t j) (arrivals q s t) 0) 1 (length q.windows) (λ t _ _. no_steps i j t (arrivals q s t) order)
 
   -- what comes over a run from one step to another
   pub coming_over : ℕ → ℕ → ℕ
@@ -147,8 +148,8 @@ module _ (q : Dumping) (s : ℕ) where
     runs_so_far (suc t) within =
         omega (
           arith,
-          sum_by-suc (λ u. cond (is_end side s u) (coming_over (first_step side s u) u) 0) t,
-          sum_by-suc (λ u. cond (side (in_node s u)) (inflow q u s) 0) t,
+          sum_by_steps-suc (λ u. cond (is_end side s u) (coming_over (first_step side s u) u) 0) t,
+          sum_by_steps-suc (λ u. cond (side (in_node s u)) (inflow q u s) 0) t,
           runs_so_far t (omega arith),
           run_so_far t (omega arith),
           ends_or_goes_on (side (in_node s (suc t))) (side (out_node s (suc t))) (coming_over (first_step side s (suc t)) (suc t)),

@@ -3,7 +3,4 @@ pub mod Taken
 pub mod Runs
 pub mod Planned
 pub mod Growing
-pub mod Lines
-pub mod CheckFault
-pub mod Checking
 pub mod PlanTexts

@@ -1,47 +1,39 @@
 -- The plan texts that answer a setup and a forecast.
 use Rattle.std.specs.Prelude.{◌≡◌, ℕ, List, Err, pos}
 use Rattle.std.specs.List.Sorted.{IsSortedByKey, IsNonDecreasing}
+use Rattle.mm_problem.specs.declared.fault.Fault.TheVariants as problem
 use Rattle.mm_problem.specs.Dumping.{Dumping}
 use Rattle.mm_plan.specs.Table.{amount}
 use Rattle.mm_plan.specs.Volumes.{loss}
-use Rattle.mm_plan.specs.Least.{IsLeast}
-use Rattle.mm_plan.specs.Filled.{IsFilled}
 use Rattle.mm_plan.specs.Sheet.{SheetRows}
 use Rattle.mm_plan.specs.Printing.{stretch_key, key_cmp}
-use Rattle.mm_cut.specs.Cuts.{IsCut, bound}
 use Rattle.mm_cut.specs.declared.verdict.Verdict.{Verdict}
 use Rattle.mm_cut.specs.declared.verdict.Verdict.TheVariants.{Least}
-use Rattle.mm_planner.specs.declared.fault.Fault.{Fault}
-use Rattle.mm_planner.specs.declared.fault.Fault.TheVariants.{NoMemory, Problem, Plan}
-use Rattle.mm_planner.specs.Checking.{problem_in, SaysProblem, SaysSheet, Checks}
-
--- the sheet's plan loses least, and its cut shows it: loss and bound are as the sheet says, and are one number
-pub record ShowsLeast (q : Dumping) (s : SheetRows) : Type 0 where
-  pub least : IsLeast q (amount s.plan)
-  pub cut : IsCut q s.cut s.by_channels
-  pub loss : loss q (amount s.plan) ≡ s.loss
-  pub bound : bound q s.cut s.by_channels ≡ s.bound
-  pub tight : s.bound ≡ pos s.loss
+use Rattle.mm_check.specs.declared.fault.Fault.{Fault}
+use Rattle.mm_check.specs.declared.fault.Fault.TheVariants.{NoMemory, Problem, Plan}
+use Rattle.mm_check.specs.Checking.{problem_in, SaysProblem, SaysSheet, Checks}
+use Rattle.mm_planner.specs.Planned.{ShowsLeast}
 
 -- the stretches stand in store order, then by first and by last step, and the counted steps rise
 pub record IsInOrder (s : SheetRows) : Type 0 where
   pub cut : IsSortedByKey (stretch_key s.stores) key_cmp s.cut
   pub counts : IsNonDecreasing s.by_channels
 
--- the text says a sheet, in order, for the problem that the setup and the forecast say; its plan leaves no window idle, and
--- the sheet shows that it loses least
+-- the text says a sheet, in order, for the problem that the setup and the forecast say, and the sheet shows that its plan loses
+-- least: loss and bound are as it says, and are one number
 pub record PlansLeast (setup forecast text : List ℕ) : Type 0 where
   pub problem : Dumping
   pub sheet : SheetRows
   pub says_problem : SaysProblem setup forecast problem
   pub says_sheet : SaysSheet problem text sheet
-  pub shows_least : ShowsLeast problem sheet
-  pub filled : IsFilled problem (amount sheet.plan)
+  pub shows_least : ShowsLeast problem sheet.plan sheet.cut sheet.by_channels sheet.loss
+  pub tight : sheet.bound ≡ pos sheet.loss
   pub in_order : IsInOrder sheet
 
--- the first fault of the setup and the forecast, want of memory aside
+-- the first fault of the setup and the forecast; want of memory has one case, and no other fault stands for it
 abbrev pub IsPlanningFault : List ℕ → List ℕ → Fault → Type 0
 IsPlanningFault setup forecast NoMemory = Unit {0}
+IsPlanningFault setup forecast (Problem problem.NoMemory) = ⊥
 IsPlanningFault setup forecast (Problem e) = problem_in setup forecast ≡ Err e
 IsPlanningFault setup forecast (Plan e) = ⊥
 

@@ -1,8 +1,10 @@
 -- What a planner gives: a plan that loses least, and a cut that shows it.
 use Rattle.std.specs.Prelude.{◌≡◌, ℕ, List, pos}
 use Rattle.mm_problem.specs.Dumping.{Dumping, IsDumping}
+use Rattle.mm_plan.specs.Table.{Table, amount, HasShape}
 use Rattle.mm_plan.specs.Volumes.{Amounts, loss}
 use Rattle.mm_plan.specs.Least.{IsLeast}
+use Rattle.mm_plan.specs.Filled.{IsFilled}
 use Rattle.mm_plan.specs.declared.stretch.Stretch.{Stretch}
 use Rattle.mm_cut.specs.Cuts.{IsCut, bound}
 use Rattle.mm_flow.specs.Flow.{Flow}
@@ -12,6 +14,16 @@ use Rattle.mm_planner.specs.declared.nodes.TheConstants.{SOURCE, SINK}
 use Rattle.mm_planner.specs.Network.{net}
 use Rattle.mm_planner.specs.Taken.{AreTaken}
 use Rattle.mm_planner.specs.Runs.{stretches, counts}
+
+-- the plan has the problem's shape, loses least and leaves no window idle, the cut is well formed, and its bound and the plan's loss
+-- are n: so the cut shows that the plan loses least
+pub record ShowsLeast (q : Dumping) (x : Table) (ds : List Stretch) (ts : List ℕ) (n : ℕ) : Type 0 where
+  pub shape : HasShape q x
+  pub least : IsLeast q (amount x)
+  pub filled : IsFilled q (amount x)
+  pub cut : IsCut q ds ts
+  pub loss : loss q (amount x) ≡ n
+  pub bound : bound q ds ts ≡ pos n
 
 -- the plan loses least, the cut is well formed, and its bound is what the plan loses
 pub record IsPlanned (q : Dumping) (x : Amounts) (ds : List Stretch) (ts : List ℕ) : Type 0 where

@@ -8,9 +8,8 @@ ghost use Rattle.mm_planner.specs.Network.{come_arc, hold_arc, keep_arc, take_ar
 ghost use Rattle.mm_planner.specs.Taken.{step_width};
 ghost use Rattle.mm_planner.specs.Growing.{AddsArcs, IsStep, HasRoom};
 
-use crate::fault::NoMemory;
 use crate::nodes::{SINK, SOURCE, channel_node, in_node, next_node, out_node, pass_node};
-use mm_flow::Network;
+use mm_flow::{Network, NoMemory};
 use mm_problem::Problem;
 
 // The blocks that come to a store in a step, with those that it holds as the first step begins.

@@ -8,9 +8,8 @@ ghost use Rattle.mm_planner.specs.Taken.{step_width};
 ghost use Rattle.mm_planner.specs.Growing.{with_arcs, nodes_alone};
 
 use crate::arcs::add_step;
-use crate::fault::NoMemory;
 use crate::nodes::STEP_NODES;
-use mm_flow::Network;
+use mm_flow::{Network, NoMemory};
 use mm_problem::Problem;
 use std::alloc::Global;
 

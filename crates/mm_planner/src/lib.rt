@@ -1,13 +1,9 @@
-//! The planner: a dump plan that loses least, and the cut that shows that no plan loses less. Texts are planned and
-//! checked here.
+//! The planner: a dump plan that loses least, and the cut that shows that no plan loses less.
 #![tactic(auto)]
 
 mod arcs;
 mod building;
-mod check;
-mod fault;
 mod laws;
-mod lines;
 mod nodes;
 mod planner;
 mod runs;
@@ -15,9 +11,9 @@ mod sheets;
 mod taken;
 mod texts;
 
-pub use check::check_bytes;
-pub use fault::{Fault, NoMemory};
 pub use laws::{plans_check_least, solutions_plan};
-pub use planner::plan;
+pub use planner::{Planned, plan};
 pub use sheets::sheet;
 pub use texts::plan_bytes;
+
+pub use mm_check::{Fault, NoMemory, check_bytes};

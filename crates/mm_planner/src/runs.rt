@@ -5,9 +5,8 @@ ghost use Rattle.mm_cut.specs.Stretches.{goes_past, is_inner};
 ghost use Rattle.mm_flow.specs.Solution.{side_of};
 ghost use Rattle.mm_planner.specs.Runs.{goes_on, is_end, is_by_channels, stretches_of, stretches, counts_of};
 
-use crate::fault::NoMemory;
 use crate::nodes::{in_node, out_node, pass_node};
-use mm_plan::Stretch;
+use mm_plan::{NoMemory, Stretch};
 use mm_problem::Problem;
 use std::alloc::Global;
 

@@ -2,16 +2,11 @@
 ghost use Rattle.std.specs.Prelude.{◌≡◌, ◌<◌, length, pos, map, All, IfOk};
 ghost use Rattle.mm_problem.specs.Dumping.{IsDumping, row};
 ghost use Rattle.mm_base.specs.Id.{IsIdField};
-ghost use Rattle.mm_plan.specs.Table.{amount, HasShape};
-ghost use Rattle.mm_plan.specs.Volumes.{loss};
-ghost use Rattle.mm_plan.specs.Least.{IsLeast};
-ghost use Rattle.mm_plan.specs.Filled.{IsFilled};
 ghost use Rattle.mm_plan.specs.Sheet.{IsSheet, IsShapedFor};
-ghost use Rattle.mm_cut.specs.Cuts.{IsCut, bound};
+ghost use Rattle.mm_planner.specs.Planned.{ShowsLeast};
 
-use crate::fault::NoMemory;
-use crate::planner::plan;
-use mm_plan::Sheet;
+use crate::planner::{Planned, plan};
+use mm_plan::{NoMemory, Sheet};
 use mm_problem::{Problem, StoreId};
 use std::alloc::Global;
 
@@ -44,19 +39,17 @@ fn store_ids(alloc: Global, problem: &Problem) -> Result<Vec<StoreId>, NoMemory>
 pub fn sheet(alloc: Global, problem: &Problem) -> Result<Sheet, NoMemory>
     ensures is_sheet { IfOk result IsSheet }
     ensures stores { IfOk result (IsShapedFor problem.now) }
-    ensures shape { IfOk result (λ sheet. HasShape problem.now sheet.plan) }
-    ensures least { IfOk result (λ sheet. IsLeast problem.now (amount sheet.plan)) }
-    ensures filled { IfOk result (λ sheet. IsFilled problem.now (amount sheet.plan)) }
-    ensures cut { IfOk result (λ sheet. IsCut problem.now sheet.cut sheet.by_channels) }
-
-    // What the sheet says of loss and bound is so, and the two are one number.
-    ensures loss { IfOk result (λ sheet. loss problem.now (amount sheet.plan) ≡ sheet.loss) }
-    ensures bound { IfOk result
-        (λ sheet. bound problem.now sheet.cut sheet.by_channels ≡ sheet.bound) }
+    ensures shows_least { IfOk result
+        (λ sheet. ShowsLeast problem.now sheet.plan sheet.cut sheet.by_channels sheet.loss) }
     ensures tight { IfOk result (λ sheet. sheet.bound ≡ pos sheet.loss) }
 {
     let stores = store_ids(alloc, problem)?;
-    let (plan, cut, by_channels, loss) = plan(alloc, problem)?;
+    let Planned {
+        plan,
+        cut,
+        by_channels,
+        loss,
+    } = plan(alloc, problem)?;
     let bound = loss as i64;
     Ok(Sheet::new(stores, plan, loss, cut, by_channels, bound))
 }

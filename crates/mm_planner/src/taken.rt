@@ -10,9 +10,8 @@ ghost use Rattle.mm_planner.specs.Taken.{take_place, AreTaken, IsTakenTo};
 ghost use Rattle.mm_planner.specs.Growing.{IsStep};
 
 use crate::building::step_width;
-use crate::fault::NoMemory;
 use mm_flow::Solved;
-use mm_plan::Plan;
+use mm_plan::{NoMemory, Plan};
 use mm_problem::Problem;
 use std::alloc::Global;
 

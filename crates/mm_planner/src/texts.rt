@@ -1,27 +1,10 @@
 //! From the octets of a setup and a forecast to the text of a plan.
-ghost use Rattle.std.specs.Prelude.{◌≡◌, IfOk, IfErr};
-ghost use Rattle.mm_base.specs.Reading.{Gives};
-ghost use Rattle.mm_problem.specs.declared.fault.Fault.TheVariants as problem;
-ghost use Rattle.mm_planner.specs.Checking.{problem_in};
+ghost use Rattle.std.specs.Prelude.{IfOk, IfErr};
 ghost use Rattle.mm_planner.specs.PlanTexts.{PlansLeast, IsPlanningFault};
 
-use crate::fault::Fault;
 use crate::sheets::sheet;
-use mm_problem::{Problem, Setup};
+use mm_check::{Fault, read_problem};
 use std::alloc::Global;
-
-// The problem that the setup and the forecast say.
-#[tactic(auto, unfolding(crate::specs::Checking::problem_in))]
-pub(crate) fn read_problem(
-    alloc: Global,
-    setup: &[u8],
-    forecast: &[u8],
-) -> Result<Problem, mm_problem::Fault>
-    ensures { Gives problem.NoMemory (λ problem. problem) result (problem_in setup.now forecast.now) }
-{
-    let setup = Setup::read(alloc, setup)?;
-    Problem::read(alloc, &setup, forecast)
-}
 
 /// The text of a dump plan that loses least in the problem that the setup and the forecast say, with the cut that shows
 /// it. Otherwise the first fault, of the setup and then of the forecast.

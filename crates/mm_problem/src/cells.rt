@@ -6,9 +6,9 @@ ghost use Rattle.mm_problem.specs.declared.fault.Fault.TheVariants.{NoMemory};
 ghost use Rattle.mm_base.specs.Reading.{Gives};
 
 use crate::fault::{Fault, Name};
-use mm_base::{MAX_BLOCKS, MAX_STEPS};
-use mm_base::numbers::Numeral;
 use crate::reading::test;
+use mm_base::numbers::Numeral;
+use mm_base::{MAX_BLOCKS, MAX_STEPS};
 
 // The amount of blocks in a cell.
 pub(crate) fn amount_of(row: u32, column: u32, name: Name, text: &[u8]) -> Result<u32, Fault>

@@ -10,8 +10,8 @@ ghost use Rattle.mm_base.specs.Reading.{Gives};
 
 use crate::fault::{Fault, Name};
 use crate::keys::{array_at, array_if_any, has_only};
-use mm_base::{CHANNELS, MAX_ROUTES, MAX_STORES};
 use crate::reading::test;
+use mm_base::{CHANNELS, MAX_ROUTES, MAX_STORES};
 use std::alloc::Global;
 use toml::{Table, Value};
 

@@ -1,9 +1,7 @@
 //! Why a setup or a forecast is refused.
 ghost use Rattle.std.specs.Prelude.{◌≡◌};
-ghost use Rattle.mm_base.specs.Refusals.{number_of};
-ghost use Rattle.mm_problem.specs.Fault.{refusal_of};
 
-use mm_base::Refusal;
+use mm_base::{Refusal, Refused};
 use std::alloc::{AllocError, AllocFailed};
 use std::fmt;
 use thiserror::Error;
@@ -92,11 +90,12 @@ pub enum Fault {
     Limit { name: Name },
 }
 
-impl Fault {
-    /// Which refusal it is.
-    pub fn refusal(self) -> Refusal
-        ensures refusal { result ≡ refusal_of self }
-    {
+impl Refused for Fault {
+    ghost use Rattle.mm_problem.specs.Fault.{refusal_of};
+
+    ghost refusal_of = { refusal_of };
+
+    fn refusal(self) -> Refusal {
         match self {
             Fault::NoMemory => Refusal::NoMemory,
             Fault::SetupText => Refusal::SetupText,
@@ -107,13 +106,6 @@ impl Fault {
             Fault::StepNumber { .. } => Refusal::StepNumber,
             Fault::Limit { .. } => Refusal::Limit,
         }
-    }
-
-    /// The refusal's number.
-    pub fn number(self) -> u8
-        ensures number { result ≡ number_of (refusal_of self) }
-    {
-        self.refusal().number()
     }
 }
 

@@ -17,8 +17,8 @@ mod tests;
 
 pub use fault::{Fault, Name};
 pub use mm_base::{
-    CHANNELS, Kind, LimitRow, MAX_APID, MAX_BLOCKS, MAX_CHANNEL, MAX_ROUTES, MAX_STEPS, MAX_STORES, RouteRow, StoreId, StoreRow, lines,
-    numbers,
+    CHANNELS, Kind, LimitRow, MAX_APID, MAX_BLOCKS, MAX_CHANNEL, MAX_ROUTES, MAX_STEPS, MAX_STORES,
+    RouteRow, StoreId, StoreRow, lines, numbers,
 };
 pub use problem::Problem;
 pub use setup::Setup;

@@ -1,17 +1,16 @@
 //! The dumping problem: what the setup and the forecast say together.
 ghost use Rattle.std.specs.Prelude.{◌≡◌, ℕ, ◌+◌, ◌-◌, ◌*◌, ◌<◌, ◌≤◌, length, IfSome, IfNone};
 ghost use Rattle.mm_base.specs.declared.limits.TheConstants.{MAX_STORES, MAX_STEPS, MAX_BLOCKS, MAX_CHANNEL, CHANNELS};
+ghost use Rattle.mm_base.specs.Id.{IsIdField};
 ghost use Rattle.mm_problem.specs.Dumping.{row, place_in, place, size, start, channel, limit, window, arrivals, IsDumping};
 ghost use Rattle.mm_problem.specs.Forecast.{limit_of, limits_of, problem_of};
 ghost use Rattle.mm_problem.specs.declared.fault.Fault.TheVariants.{NoMemory};
 ghost use Rattle.mm_base.specs.Reading.{Gives};
 
 use crate::fault::Fault;
-use mm_base::StoreId;
-use mm_base::CHANNELS;
-use mm_base::{LimitRow, StoreRow};
 use crate::setup::Setup;
 use crate::steps::{StepTable, forecast_of};
+use mm_base::{CHANNELS, LimitRow, StoreId, StoreRow};
 use std::alloc::Global;
 use std::marker::Model;
 
@@ -27,6 +26,7 @@ pub struct Problem {
 }
 
 impl Model for Problem {
+    ghost use Rattle.mm_base.specs.Id.{IsIdField};
     ghost use Rattle.mm_problem.specs.Dumping.{Dumping, IsDumping};
 
     ghost Value = { Dumping };
@@ -132,8 +132,12 @@ impl Problem {
     pub fn id(&self, store: usize) -> StoreId
         requires store { store < length self.now.rows }
         ensures id { result ≡ (row self.now store).id }
+        ensures is_field { IsIdField result }
     {
-        self.rows[store].id
+        let id = self.rows[store].id;
+        // Its field is that of an identifier, as `field` ensures.
+        let _field = id.field();
+        id
     }
 
     /// How many blocks a store holds at the most.

@@ -8,8 +8,8 @@ ghost use Rattle.mm_problem.specs.Setup.{IsSetup};
 
 use crate::document::{Arrays, arrays_at, document_of, test_counts};
 use crate::fault::Fault;
-use mm_base::{LimitRow, RouteRow, StoreRow};
 use crate::tables::{limits_of, routes_of, stores_of};
+use mm_base::{LimitRow, RouteRow, StoreRow};
 use std::alloc::Global;
 use std::marker::Model;
 

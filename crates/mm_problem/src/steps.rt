@@ -11,11 +11,10 @@ ghost use Rattle.mm_problem.specs.StepLists.{steps_of};
 
 use crate::cells::{amount_of, test_step};
 use crate::fault::{Fault, Name};
-use mm_base::MAX_STEPS;
 use crate::reading::test;
 use crate::records::{next_record, reader_of};
-use mm_base::StoreRow;
 use csv::ByteRecord;
+use mm_base::{MAX_STEPS, StoreRow};
 use std::alloc::Global;
 
 // The windows of the steps read so far, and step by step what arrives at each store.

@@ -8,12 +8,9 @@ ghost use Rattle.mm_base.specs.SameRoutes.{same_route};
 ghost use Rattle.mm_problem.specs.Tables.{table_at, id_at, kind_of, kind_at, start_at, store_at, has_store, next_store, stores_in, route_at, next_route, routes_in, limit_at, next_limit, limits_in};
 
 use crate::fault::{Fault, Name};
-use mm_base::StoreId;
 use crate::keys::{has_only, number_at, text_at, value_at};
-use mm_base::Kind;
-use mm_base::{MAX_APID, MAX_BLOCKS, MAX_CHANNEL};
 use crate::reading::test;
-use mm_base::{LimitRow, RouteRow, StoreRow};
+use mm_base::{Kind, LimitRow, MAX_APID, MAX_BLOCKS, MAX_CHANNEL, RouteRow, StoreId, StoreRow};
 use std::alloc::Global;
 use toml::{Table, Value};
 

@@ -1,4 +1,4 @@
-use crate::{Fault, Kind, Name, StoreId};
+use crate::{Fault, Name, StoreId};
 use std::alloc::Global;
 use std::process::Abort;
 
@@ -23,10 +23,8 @@ fn id(rt: &impl Abort, text: &str) -> StoreId {
     StoreId::of_text(text.as_bytes()).expect(rt, "an identifier")
 }
 
-static FAULTS: [(Fault, &str); 11] = [
+static FAULTS: [(Fault, &str); 9] = [
     (Fault::NoMemory, "0 NoMemory"),
-    (Fault::BadId, "15 BadId"),
-    (Fault::BadEnum, "16 BadEnum"),
     (Fault::SetupText, "27 SetupText"),
     (
         Fault::SetupField {
@@ -60,34 +58,4 @@ fn faults_are_printed_with_their_fields(rt: HostRuntime) {
         let shown = fault.to_string(rt.alloc()).expect(&rt, "memory");
         assert_eq!(rt; shown.as_str(), *text);
     }
-}
-
-static BAD_TEXTS: [&str; 5] = ["", "sci", "A B", "ABCDEFGHI", "\u{c4}"];
-
-static BAD_FIELDS: [[u8; 8]; 4] = [*b"        ", *b" SCI    ", *b"SC I    ", *b"SCI\0\0\0\0\0"];
-
-fn text_refused(rt: &impl Abort, text: &str) {
-    let refusal = StoreId::of_text(text.as_bytes()).expect_err(rt, text);
-    assert!(rt; refusal == Fault::BadId, "{text}");
-}
-
-fn field_refused(rt: &impl Abort, field: [u8; 8]) {
-    let refusal = StoreId::of_field(field).expect_err(rt, "no identifier");
-    assert!(rt; refusal == Fault::BadId, "{field:?}");
-}
-
-#[test]
-fn identifiers_and_kinds(rt: HostRuntime) {
-    let sci = id(&rt, "SCI");
-    assert!(rt; sci.field() == *b"SCI     ");
-    assert!(rt; sci.text() == b"SCI".as_slice());
-    assert!(rt; StoreId::of_field(*b"SCI     ").expect(&rt, "an identifier") == sci);
-    for text in &BAD_TEXTS {
-        text_refused(&rt, text);
-    }
-    for field in &BAD_FIELDS {
-        field_refused(&rt, *field);
-    }
-    assert!(rt; Kind::of_code(1).expect(&rt, "a kind") == Kind::Bounded);
-    assert!(rt; Kind::of_code(2).expect_err(&rt, "no kind") == Fault::BadEnum);
 }

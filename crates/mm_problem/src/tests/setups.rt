@@ -1,6 +1,6 @@
 //! Texts of setups, each with what it says or the fault that it must give.
 use super::{ROUTE, STORE, id, joined, repeated};
-use crate::{Kind, LimitRow, RouteRow, Setup, StoreRow};
+use crate::{Kind, LimitRow, Problem, RouteRow, Setup, StoreRow};
 use std::alloc::Global;
 use std::process::Abort;
 
@@ -379,6 +379,18 @@ fn a_setup_is_read(rt: HostRuntime) {
         blocks: 0,
     };
     assert!(rt; setup.limits() == [limit].as_slice());
+}
+
+// Spreadsheets and editors may write a byte order mark at the beginning of a file.
+#[test]
+fn a_byte_order_mark_is_passed_over(rt: HostRuntime) {
+    let alloc = rt.alloc();
+    let text = joined(&rt, alloc, &["\u{feff}", STORE]);
+    let setup = Setup::read(alloc, text.as_bytes()).expect(&rt, "a setup");
+    assert!(rt; setup.stores().len() == 1);
+    let forecast = joined(&rt, alloc, &["\u{feff}", "step,window,SCI\n1,2,3\n"]);
+    let problem = Problem::read(alloc, &setup, forecast.as_bytes()).expect(&rt, "a problem");
+    assert!(rt; problem.arrivals(0, 1) == 3);
 }
 
 #[test]

@@ -11,23 +11,21 @@ fill-requires-clause-fits c =
     let planned = c.solutions_plan.ensures c.args.problem.now (slice_index solved.flow.items) (side_of solved.side.items) solved.value (amount c.in_ok-taken.taken) c.solved.ensures.problem c.in_ok-solved.ensures.solved.solution c.in_ok-taken.ensures.taken in
     planned.plan.fits
 
-pub returns : goal.returns
-returns c =
+pub returns-clause-shows_least : goal.returns-clause-shows_least
+returns-clause-shows_least c =
     let q = c.args.problem.now in
     let solved = c.in_ok-solved.solved in
     let x = amount c.in_ok-taken.taken in
     let y = amount c.in_ok-plan.plan in
     let of_side = c.solutions_plan.ensures q (slice_index solved.flow.items) (side_of solved.side.items) solved.value x c.solved.ensures.problem c.in_ok-solved.ensures.solved.solution c.in_ok-taken.ensures.taken in
-    let of_taken = planned_lists q x solved.side.items c.as_slice-side.result.now c.in_ok-stretches.stretches.items c.as_slice.result.now c.in_ok-counts.counts.items c.as_slice-side.ensures.value c.in_ok-stretches.ensures c.as_slice.ensures.value c.in_ok-counts.ensures of_side in
+    let of_taken = planned_lists q x solved.side.items c.as_slice-side.result.now c.in_ok-cut.cut.items c.as_slice.result.now c.in_ok-by_channels.by_channels.items c.as_slice-side.ensures.value c.in_ok-cut.ensures c.as_slice.ensures.value c.in_ok-by_channels.ensures of_side in
     let filled = c.in_ok-plan.ensures in
-    let planned = planned_filled q x y c.in_ok-stretches.stretches.items c.in_ok-counts.counts.items of_taken filled.fits (loss-le q x y filled.no_worse.losses) in
+    let planned = planned_filled q x y c.in_ok-cut.cut.items c.in_ok-by_channels.by_channels.items of_taken filled.fits (loss-le q x y filled.no_worse.losses) in
     record {
       shape = filled.shape;
-      is_table = search rules;
       least = planned.plan;
       filled = filled.filled;
       cut = planned.cut;
       loss = sym c.loss_of-loss.ensures.loss;
       bound = planned.tight ∙ ap pos (sym c.loss_of-loss.ensures.loss);
-      most = c.loss_of-loss.ensures.most;
     }

@@ -8,4 +8,4 @@ use Rattle.mm_planner.proofs.planner.solved.Goals as goal
 pub unreachable-requires : goal.unreachable-requires
 unreachable-requires c =
     no_unlimited_path c.args.problem.now
-    (subst (λ (g : Graph). HasUnlimitedPath g SOURCE SINK) c.in_ok-network.ensures.built (c.solve.ensures.unbounded (cc)).1)
+    (subst (λ (g : Graph). HasUnlimitedPath g SOURCE SINK) c.in-Ok.ensures.built (c.solve.ensures.unbounded (cc)).1)

@@ -14,10 +14,10 @@ returns-clause-is_sheet c =
     let s = c.new.result in
     let stores = c.in_ok-stores.ensures in
     let planned = c.in_ok-plan.ensures in
-    let shaped : IsShapedFor q s = record { stores = rw c.new.ensures stores.ids; steps = rw c.new.ensures planned.shape.steps } in
-    let shape : HasShape q s.plan = rw c.new.ensures planned.shape in
+    let shaped : IsShapedFor q s = record { stores = rw c.new.ensures stores.ids; steps = rw c.new.ensures planned.shows_least.shape.steps } in
+    let shape : HasShape q s.plan = rw c.new.ensures planned.shows_least.shape in
     let table : IsTable s.plan = rw c.new.ensures planned.is_table in
     let ids : All IsIdField s.stores = rw c.new.ensures stores.each in
-    let cut : IsCut q s.cut s.by_channels = rw c.new.ensures planned.cut in
+    let cut : IsCut q s.cut s.by_channels = rw c.new.ensures planned.shows_least.cut in
     let tight : s.bound ≡ pos s.loss = first_of (search rules, grind (arith, common_steps)) in
     planned_is_sheet q s c.store_ids.ensures.problem shaped shape table ids cut (rw c.new.ensures planned.most) tight

@@ -1,10 +1,12 @@
-use Rattle.std.proofs.Common.{◌≡◌, ℕ, List, slice_index, replicate, ap, ◌∙◌, subst, arith, rules}
+use Rattle.std.proofs.Common.{◌≡◌, ℕ, List, slice_index, replicate, ap, sym, ◌∙◌, refl, subst, arith, rules}
 use Rattle.std.proofs.lemmas.List.{get_or_read}
 use Rattle.mm_flow.specs.declared.search.Mark.{Mark}
 use Rattle.mm_flow.specs.declared.limits.TheConstants.{UNLIMITED}
+use Rattle.mm_flow.specs.Solution.{HasUnlimitedPath}
 use Rattle.mm_flow.specs.Marks.{no_mark, mark, HasMark, IsSearched}
 use Rattle.mm_flow.proofs.Marking.{slice_index-nothing}
-use Rattle.mm_flow.proofs.Ends.{value_bounded, unlimited_path, no_unlimited_path}
+use Rattle.mm_flow.proofs.Ends.{value_bounded, nothing_augmented, unlimited_path, no_unlimited_path}
+use Rattle.mm_flow.proofs.LevelPaths.{marking_levelled}
 use Rattle.mm_flow.proofs.tables.Tables.new.Goals as goal
 use Rattle.mm_flow.proofs.tables.Tables.new.Goals.{After-run, After-index}
 
@@ -14,10 +16,14 @@ nothing_there c k =
     let items : c.deref.result.now ≡ replicate c.arc_count.result 0 = search rules in
     ap (λ (xs : List ℕ). slice_index xs k) items ∙ slice_index-nothing c.arc_count.result k
 
--- the search, from the source
-searched_there : (c : After-run) → IsSearched c.args.network.now.graph (slice_index c.deref.result.now) c.args.source UNLIMITED c.run.new.self.marks.items
+-- the search, from the source that it has
+searched_there : (c : After-run) → IsSearched c.args.network.now.graph (slice_index c.deref.result.now) c.run.new.self.source UNLIMITED c.run.new.self.marks.items
 searched_there c =
-    subst (λ (s : ℕ). IsSearched c.args.network.now.graph (slice_index c.deref.result.now) s UNLIMITED c.run.new.self.marks.items) c.in_ok-search.ensures.source c.run.ensures.searched
+    subst (λ (s : ℕ). IsSearched c.args.network.now.graph (slice_index c.deref.result.now) s UNLIMITED c.run.new.self.marks.items) (sym c.run.ensures.source) c.run.ensures.searched
+
+-- that source
+source_is : (c : After-run) → c.run.new.self.source ≡ c.args.source
+source_is c = c.run.ensures.source ∙ c.in_ok-search.ensures.source
 
 -- the level of the sink
 level_is : (c : After-index) → c.index.result.now.level ≡ (mark c.run.new.self.marks.items c.args.sink).level
@@ -26,31 +32,43 @@ level_is c =
 
 pub returns-then-index-gt0-clause-unbounded : goal.returns-then-index-gt0-clause-unbounded
 returns-then-index-gt0-clause-unbounded c =
-    let run = (goal.at.returns-then-index-gt0-clause-unbounded c).After-run in
-    let has : HasMark c.run.new.self.marks.items c.args.sink = omega (arith, level_is (goal.at.returns-then-index-gt0-clause-unbounded c).After-index, c.if-index-gt0.true) in
-    λ same. (c.if-source-sink.false, unlimited_path c.args.network.now.graph c.args.source c.args.sink (slice_index c.deref.result.now) c.run.new.self.marks.items c.arc_count.ensures.network (nothing_there run) (searched_there run) has)
-
-pub returns-clause-ready : goal.returns-clause-ready
-returns-clause-ready c =
     let g = c.args.network.now.graph in
-    let run = (goal.at.returns-clause-ready c).After-run in
-    let level = level_is (goal.at.returns-clause-ready c).After-index in
+    let run = (goal.at.returns-then-index-gt0-clause-unbounded c).After-run in
+    let marks = c.run.new.self.marks.items in
+    let has : HasMark marks c.args.sink = omega (arith, level_is (goal.at.returns-then-index-gt0-clause-unbounded c).After-index, c.if-index-gt0.true) in
+    λ same. (c.if-source-sink.false, subst (λ (s : ℕ). HasUnlimitedPath g s c.args.sink) (source_is run) (unlimited_path g c.run.new.self.source c.args.sink (slice_index c.deref.result.now) marks c.arc_count.ensures.network (nothing_there run) (searched_there run) has))
+
+pub invariant_of-result : goal.invariant_of-result
+invariant_of-result c =
+    let g = c.args.network.now.graph in
+    let nothing = slice_index c.deref.result.now in
+    let source = c.run.new.self.source in
+    let marks = c.run.new.self.marks.items in
+    let run = (goal.at.invariant_of-result c).After-run in
+    let level = level_is (goal.at.invariant_of-result c).After-index in
+    let searched = searched_there run in
     let flow : c.in_ok-flow.flow.items ≡ c.deref.result.now = search rules in
     record {
-      ends = c.if-source-sink.false;
-      source_known = c.requires.source;
-      sink_known = c.requires.sink;
-      linked = c.in_ok-links.ensures;
-      from = c.run.ensures.source ∙ c.in_ok-search.ensures.source;
-      marks = c.run.ensures.searched.marking.size;
-      order = c.run.ensures.order;
-      arcs = omega (arith, c.in_ok-flow.ensures.len, c.arc_count.ensures.count);
-      nothing = λ k. ap (λ (xs : List ℕ). slice_index xs k) flow ∙ nothing_there run k;
-      bounded = value_bounded g c.args.source c.args.sink (slice_index c.deref.result.now) c.run.new.self.marks.items c.arc_count.ensures.network (searched_there run) (λ has. omega (arith, level, has, c.if-index-gt0.false));
+      at_work = record {
+        ends = λ same. c.if-source-sink.false (sym (source_is run) ∙ same);
+        source_known = omega (arith, source_is run);
+        sink_known = c.requires.sink;
+        linked = c.in_ok-links.ensures;
+        levelled = marking_levelled g nothing source UNLIMITED marks (omega arith) searched.marking;
+        order = c.run.ensures.order;
+        arcs = omega (arith, c.in_ok-flow.ensures.len, c.arc_count.ensures.count);
+        bounded = value_bounded g source c.args.sink nothing marks c.arc_count.ensures.network searched (λ has. omega (arith, level, has, c.if-index-gt0.false));
+        augmented = nothing_augmented g source c.args.sink (slice_index c.in_ok-flow.flow.items) (λ k. ap (λ (xs : List ℕ). slice_index xs k) flow ∙ nothing_there run k);
+      };
     }
+
+pub returns-clause-task : goal.returns-clause-task
+returns-clause-task c = record { graph = refl; source = source_is (goal.at.returns-clause-task c).After-run; sink = refl }
 
 pub returns-clause-bounded : goal.returns-clause-bounded
 returns-clause-bounded c =
+    let g = c.args.network.now.graph in
     let run = (goal.at.returns-clause-bounded c).After-run in
     let level = level_is (goal.at.returns-clause-bounded c).After-index in
-    no_unlimited_path c.args.network.now.graph c.args.source c.args.sink (slice_index c.deref.result.now) c.run.new.self.marks.items (searched_there run) (λ has. omega (arith, level, has, c.if-index-gt0.false))
+    let none = no_unlimited_path g c.run.new.self.source c.args.sink (slice_index c.deref.result.now) c.run.new.self.marks.items (searched_there run) (λ has. omega (arith, level, has, c.if-index-gt0.false)) in
+    subst (λ (s : ℕ). ¬ HasUnlimitedPath g s c.args.sink) (source_is run) none

@@ -16,8 +16,10 @@ returns c =
     let marks = c.args.self.search.marks.items in
     let flow = slice_index c.args.self.flow.items in
     let same_side : side_of side ≡ reached_side marks = fun_ext λ n. ap (λ (table : List Bool). slice_index_or table n false) c.in_ok-side.ensures ∙ get_or-map (λ (m : Mark). nat_lt 0 m.level) marks n no_mark in
-    λ g source sink ended. record {
+    let t = c.args.self in
+    let ended = c.requires.over in
+    record {
       arcs = ended.arcs;
       nodes = omega (arith, ap length c.in_ok-side.ensures, length-map marks (λ (m : Mark). nat_lt 0 m.level), ended.searched.marking.size);
-      solution = subst (λ (shown : Side). IsSolution g source sink flow shown c.args.value) (sym same_side) (solved_by g source sink flow c.args.value marks ended.is_flow ended.searched ended.ended);
+      solution = subst (λ (shown : Side). IsSolution t.network.now.graph t.search.source t.sink flow shown t.value) (sym same_side) (solved_by t.network.now.graph t.search.source t.sink flow t.value marks ended.is_flow ended.searched ended.ended);
     }

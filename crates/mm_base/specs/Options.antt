@@ -1,0 +1,8 @@
+-- Reading in steps of what may be missing.
+use Rattle.std.specs.Prelude.{Option, Some, None}
+
+-- the next step, unless this one found nothing
+infixl 10 ◌>>=◌
+abbrev pub ◌>>=◌ : {A B : Type 0} → Option A → (A → Option B) → Option B
+(Some x) >>= f = f x
+None >>= f = None

@@ -1,0 +1,33 @@
+//! What the faults of all crates have in common: each is one of the refusals.
+ghost use Rattle.std.specs.Prelude.{◌≡◌};
+ghost use Rattle.mm_base.specs.Refusals.{number_of, name_of};
+ghost use Rattle.mm_base.specs.declared.refusal.Refusal.{Refusal};
+
+use crate::refusal::Refusal;
+
+/// A fault that is one of the refusals, with its number and its name.
+pub trait Refused {
+    /// Which refusal it is.
+    ghost refusal_of: { Self → Refusal };
+
+    fn refusal(self) -> Refusal
+        ensures refusal { result ≡ refusal_of self };
+
+    /// The refusal's number.
+    final fn number(self) -> u8
+    where
+        Self: Sized,
+        ensures number { result ≡ number_of (refusal_of self) }
+    {
+        self.refusal().number()
+    }
+
+    /// The refusal's name.
+    final fn name(self) -> &'static str
+    where
+        Self: Sized,
+        ensures name { result.now ≡ name_of (refusal_of self) }
+    {
+        self.refusal().name()
+    }
+}

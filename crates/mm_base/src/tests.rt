@@ -1,0 +1,88 @@
+use crate::numbers::{Numeral, push_number};
+use crate::{Fault, Kind, NoMemory, Refusal, StoreId, lines};
+use std::process::Abort;
+
+fn id(rt: &impl Abort, text: &str) -> StoreId {
+    StoreId::of_text(text.as_bytes()).expect(rt, "an identifier")
+}
+
+static BAD_TEXTS: [&str; 5] = ["", "sci", "A B", "ABCDEFGHI", "\u{c4}"];
+
+static BAD_FIELDS: [[u8; 8]; 4] = [*b"        ", *b" SCI    ", *b"SC I    ", *b"SCI\0\0\0\0\0"];
+
+fn text_refused(rt: &impl Abort, text: &str) {
+    let refusal = StoreId::of_text(text.as_bytes()).expect_err(rt, text);
+    assert!(rt; refusal == Fault::BadId, "{text}");
+}
+
+fn field_refused(rt: &impl Abort, field: [u8; 8]) {
+    let refusal = StoreId::of_field(field).expect_err(rt, "no identifier");
+    assert!(rt; refusal == Fault::BadId, "{field:?}");
+}
+
+#[test]
+fn identifiers_and_kinds(rt: HostRuntime) {
+    let sci = id(&rt, "SCI");
+    assert!(rt; sci.field() == *b"SCI     ");
+    assert!(rt; sci.text() == b"SCI".as_slice());
+    assert!(rt; StoreId::of_field(*b"SCI     ").expect(&rt, "an identifier") == sci);
+    for text in &BAD_TEXTS {
+        text_refused(&rt, text);
+    }
+    for field in &BAD_FIELDS {
+        field_refused(&rt, *field);
+    }
+    assert!(rt; Kind::of_code(1).expect(&rt, "a kind") == Kind::Bounded);
+    assert!(rt; Kind::of_code(2).expect_err(&rt, "no kind") == Fault::BadEnum);
+}
+
+static REFUSALS: [(Refusal, &str); 6] = [
+    (Refusal::NoMemory, "0 NoMemory"),
+    (Refusal::IdlePacket, "6 Idle"),
+    (Refusal::NoRetrieval, "19 Idle"),
+    (Refusal::Cell, "31 Cell"),
+    (Refusal::NoMemoryInStep, "45 NoMemory"),
+    (Refusal::ChannelDiffers, "53 ChannelDiffers"),
+];
+
+#[test]
+fn refusals_are_printed_with_number_and_name(rt: HostRuntime) {
+    for (refusal, text) in &REFUSALS {
+        let shown = refusal.to_string(rt.alloc()).expect(&rt, "memory");
+        assert_eq!(rt; shown.as_str(), *text);
+    }
+    let shown = NoMemory.to_string(rt.alloc()).expect(&rt, "memory");
+    assert_eq!(rt; shown.as_str(), "0 NoMemory");
+    let shown = Fault::BadEnum.to_string(rt.alloc()).expect(&rt, "memory");
+    assert_eq!(rt; shown.as_str(), "16 BadEnum");
+}
+
+static NUMERALS: [(&str, Numeral); 7] = [
+    ("0", Numeral::Number(0)),
+    ("256", Numeral::Number(256)),
+    ("257", Numeral::TooLarge),
+    ("99999999999999999999999", Numeral::TooLarge),
+    ("", Numeral::NotNumber),
+    ("01", Numeral::NotNumber),
+    ("-1", Numeral::NotNumber),
+];
+
+#[test]
+fn numbers_are_read_and_written(rt: HostRuntime) {
+    for (text, numeral) in &NUMERALS {
+        assert!(rt; Numeral::read(text.as_bytes(), 256) == *numeral, "{text}");
+    }
+    let mut text = Vec::from_slice(rt.alloc(), b"size ").expect(&rt, "memory");
+    push_number(&mut text, 1000000).expect(&rt, "memory");
+    assert!(rt; text.as_slice() == b"size 1000000".as_slice());
+}
+
+#[test]
+fn a_line_ends_at_its_line_feed(rt: HostRuntime) {
+    let Some((line, rest)) = lines::split_line(b"one\ntwo\n") else {
+        panic!(rt; "two lines");
+    };
+    assert!(rt; line == b"one".as_slice());
+    assert!(rt; rest == b"two\n".as_slice());
+    assert!(rt; lines::split_line(b"one").is_none());
+}

@@ -1,0 +1,54 @@
+//! Why texts have no plan or no verdict.
+ghost use Rattle.std.specs.Prelude.{◌≡◌};
+
+pub use mm_plan::NoMemory;
+
+use thiserror::Error;
+
+/// Why texts have no plan or no verdict: a fault of the setup or the forecast, or one of the plan text. It is shown as
+/// the fault of the crate that found it. Want of memory is `NoMemory` alone, whoever lacked it.
+#[derive(Clone, Copy, Debug, PartialEq, Eq, Error)]
+pub enum Fault {
+    #[error("0 NoMemory")]
+    NoMemory,
+    #[error(transparent)]
+    Problem(mm_problem::Fault),
+    #[error(transparent)]
+    Plan(mm_plan::Fault),
+}
+
+impl From<mm_problem::Fault> for Fault {
+    ghost use Rattle.mm_check.specs.Fault.{of_problem};
+
+    ghost from_gives = { λ fault e. e ≡ of_problem fault };
+
+    fn from(fault: mm_problem::Fault) -> Fault {
+        match fault {
+            mm_problem::Fault::NoMemory => Fault::NoMemory,
+            _ => Fault::Problem(fault),
+        }
+    }
+}
+
+impl From<mm_plan::Fault> for Fault {
+    ghost use Rattle.mm_check.specs.Fault.{of_plan};
+
+    ghost from_gives = { λ fault e. e ≡ of_plan fault };
+
+    fn from(fault: mm_plan::Fault) -> Fault {
+        match fault {
+            mm_plan::Fault::NoMemory => Fault::NoMemory,
+            _ => Fault::Plan(fault),
+        }
+    }
+}
+
+impl From<NoMemory> for Fault {
+    ghost use Rattle.mm_check.specs.declared.fault.Fault.TheVariants.{NoMemory};
+
+    ghost from_gives = { λ _ e. e ≡ NoMemory };
+
+    fn from(_error: NoMemory) -> Fault {
+        Fault::NoMemory
+    }
+}

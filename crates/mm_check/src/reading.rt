@@ -1,0 +1,17 @@
+//! From the octets of a setup and a forecast to the problem that they say together.
+ghost use Rattle.mm_base.specs.Reading.{Gives};
+ghost use Rattle.mm_problem.specs.declared.fault.Fault.TheVariants as problem;
+ghost use Rattle.mm_check.specs.Checking.{problem_in};
+
+use mm_problem::{Fault, Problem, Setup};
+use std::alloc::Global;
+
+/// The problem that a setup and a forecast say, or their first fault.
+#[tactic(auto, unfolding(crate::specs::Checking::problem_in))]
+pub fn read_problem(alloc: Global, setup: &[u8], forecast: &[u8]) -> Result<Problem, Fault>
+    ensures gives { Gives problem.NoMemory (λ problem. problem) result
+        (problem_in setup.now forecast.now) }
+{
+    let setup = Setup::read(alloc, setup)?;
+    Problem::read(alloc, &setup, forecast)
+}

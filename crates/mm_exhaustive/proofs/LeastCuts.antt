@@ -1,0 +1,164 @@
+-- The least capacity over all sides, one node after another.
+use Rattle.std.proofs.Common.{◌≡◌, ◌≢◌, ℕ, ◌+◌, ◌*◌, ◌<◌, ◌≤◌, min, cond, not, ◌&&◌, Bool, true, false, Option, Some, None, length, ap, sym, ◌∙◌, refl, arith, inl, inr, subst}
+use Rattle.std.specs.Prelude.{IsSome, IfSome, IsSomeAnd, unwrap_or}
+use Rattle.std.specs.List.{range_with_len, filter, sum_by}
+use Rattle.std.proofs.lemmas.Bool.{cases_Bool, cases_eq, cases_lt}
+use Rattle.mm_flow.specs.declared.arc.Arc.{Arc}
+use Rattle.mm_flow.specs.declared.limits.TheConstants.{MAX_CAPACITY}
+use Rattle.mm_flow.specs.Graph.{Graph, arc, places, IsNetwork}
+use Rattle.mm_flow.specs.Cut.{Side, IsCut, leaves, capacity_of, limit_of}
+use Rattle.mm_exhaustive.specs.LeastCut.{AgreesBelow, IsLeastOver, IsLeastCut, IsCutCapacity, least_of}
+use Rattle.mm_exhaustive.proofs.Sums.{sum_by-filter_more, filter-same, All-range}
+
+-- what an arc adds to a side's capacity, where it adds a number
+pub added_some : (b : Bool) (most : Option ℕ) (c : ℕ) → cond b most (Some 0) ≡ Some c → (c ≡ cond b (unwrap_or most 0) 0) × (b ≡ true → IsSome most)
+added_some true None c is = absurd (cc)
+added_some true (Some x) c is = (cc, λ on. refl)
+added_some false most c is = (cc, λ on. absurd (cc))
+
+-- an arc that adds no number leaves the side and is unlimited
+pub added_none : (b : Bool) (most : Option ℕ) → cond b most (Some 0) ≡ None → (b ≡ true) × (most ≡ None)
+added_none true most is = (refl, is)
+added_none false most is = absurd (cc)
+
+-- the capacities of the first arcs out of a side, none of which is unlimited, add up to the total
+pub record IsCounted (g : Graph) (side : Side) (n total : ℕ) : Type 0 where
+  pub total_is : total ≡ sum_by (limit_of g) (filter (leaves g side) (range_with_len 0 n))
+  pub small : total ≤ n * MAX_CAPACITY
+  pub limited : (k : ℕ) → k < n → leaves g side k ≡ true → IsSome (arc g k).capacity
+
+-- no arc is counted
+pub counted_none : (g : Graph) (side : Side) → IsCounted g side 0 0
+counted_none g side = record {
+  total_is = refl;
+  small = omega arith;
+  limited = λ k lt out. absurd (omega arith);
+}
+
+-- what one arc adds is within the limit
+added_small : (b : Bool) (most : Option ℕ) → ((c : ℕ) → most ≡ Some c → c ≤ MAX_CAPACITY) → cond b (unwrap_or most 0) 0 ≤ MAX_CAPACITY
+added_small true None limit = omega arith
+added_small true (Some c) limit = limit c refl
+added_small false most limit = omega arith
+
+-- one more arc is counted
+pub counted_more : (g : Graph) (side : Side) (n total added : ℕ) (a : Arc) → IsNetwork g → n < length g.arcs → IsCounted g side n total → a ≡ arc g n → Some added ≡ cond (side a.from && not (side a.to)) a.capacity (Some 0) → IsCounted g side (n + 1) (total + added)
+counted_more g side n total added a network lt counted is adds =
+    let adds_here : cond (leaves g side n) (arc g n).capacity (Some 0) ≡ Some added = sym (adds ∙ ap (λ (b : Arc). cond (side b.from && not (side b.to)) b.capacity (Some 0)) is) in
+    let parts = added_some (leaves g side n) (arc g n).capacity added adds_here in
+    record {
+      total_is = omega (arith, counted.total_is, parts.0, sum_by-filter_more (limit_of g) (leaves g side) n);
+      small = omega (arith, counted.small, parts.0, added_small (leaves g side n) (arc g n).capacity (network.each n lt).capacity);
+      limited = λ k less out. elim (cases_eq k n) [
+        | inl same ↦ subst (λ (j : ℕ). IsSome (arc g j).capacity) (sym same) (parts.1 (sym (ap (leaves g side) same) ∙ out))
+        | inr ne ↦ counted.limited k (omega arith) out
+      ];
+    }
+
+-- where all arcs are counted, the side is a cut with the total as its capacity
+pub counted_all : (g : Graph) (source sink : ℕ) (side : Side) (n total : ℕ) → n ≡ length g.arcs → side source ≡ true → side sink ≡ false → IsCounted g side n total → IsCut g source sink side × (capacity_of g side ≡ total)
+unfolding capacity_of
+counted_all g source sink side n total all has lacks counted = (
+  record { has_source = has; lacks_sink = lacks; limited = λ k lt out. counted.limited k (omega arith) out },
+  ap (λ (m : ℕ). sum_by (limit_of g) (filter (leaves g side) (range_with_len 0 m))) (sym all) ∙ sym counted.total_is,
+)
+
+module _ (g : Graph) (source sink : ℕ) (network : IsNetwork g) (source_lt : source < g.nodes) (sink_lt : sink < g.nodes) (side cut : Side) (agrees : AgreesBelow side cut g.nodes) where
+  -- an arc leaves both of two sides that agree at all nodes, or neither
+  leaves_same : (k : ℕ) → k < length g.arcs → leaves g cut k ≡ leaves g side k
+  leaves_same k lt =
+      let from = agrees (arc g k).from (network.each k lt).from in
+      let to = agrees (arc g k).to (network.each k lt).to in
+      ap (λ b. b && not (cut (arc g k).to)) from ∙ ap (λ b. side (arc g k).from && not b) to
+
+  -- their capacities are equal
+  capacity_same : capacity_of g cut ≡ capacity_of g side
+  unfolding capacity_of
+  capacity_same =
+      ap (sum_by (limit_of g)) (filter-same (leaves g cut) (leaves g side) (places g)
+      (All-range (λ k. leaves g cut k ≡ leaves g side k) 0 (length g.arcs) (λ k _ lt. leaves_same k (omega arith))))
+
+  -- if one is a cut, the other is
+  cut_same : IsCut g source sink cut → IsCut g source sink side
+  cut_same is_cut = record {
+    has_source = sym (agrees source source_lt) ∙ is_cut.has_source;
+    lacks_sink = sym (agrees sink sink_lt) ∙ is_cut.lacks_sink;
+    limited = λ k lt out. is_cut.limited k lt (leaves_same k lt ∙ out);
+  }
+
+-- where all nodes are settled, the side's own capacity is the least
+pub least_settled : (g : Graph) (source sink : ℕ) (side : Side) (n : ℕ) (most : Option ℕ) → IsNetwork g → source < g.nodes → sink < g.nodes → n ≡ g.nodes → IsCutCapacity g source sink side most → IsLeastOver g source sink side n most
+least_settled g source sink side n None network source_lt sink_lt all none = record {
+  found = tt;
+  within = λ cut agrees is_cut. none (cut_same g source sink network source_lt sink_lt side cut (λ k lt. agrees k (omega arith)) is_cut);
+}
+least_settled g source sink side n (Some c) network source_lt sink_lt all capacity = record {
+  found = (side, (λ k lt. refl), capacity.0, capacity.1);
+  within = λ cut agrees is_cut. omega (arith, capacity.1, capacity_same g source sink network source_lt sink_lt side cut (λ k lt. agrees k (omega arith)));
+}
+
+-- the smaller of two is within what the first is within
+least_of-first : (a b : Option ℕ) (m : ℕ) → IsSomeAnd a (λ c. c ≤ m) → IsSomeAnd (least_of a b) (λ c. c ≤ m)
+least_of-first None b m none = absurd none
+least_of-first (Some a) None m le = le
+least_of-first (Some a) (Some b) m le = omega arith
+
+-- the smaller of two is within what the second is within
+least_of-second : (a b : Option ℕ) (m : ℕ) → IsSomeAnd b (λ c. c ≤ m) → IsSomeAnd (least_of a b) (λ c. c ≤ m)
+least_of-second None b m le = le
+least_of-second (Some a) None m none = absurd none
+least_of-second (Some a) (Some b) m le = omega arith
+
+-- the smaller of two is one of them
+least_of-one : (P : ℕ → Type 0) (a b : Option ℕ) → IfSome a P → IfSome b P → IfSome (least_of a b) P
+least_of-one P None b one other = other
+least_of-one P (Some a) None one other = one
+least_of-one P (Some a) (Some b) one other = elim (cases_lt a b) [
+  | inl less ↦ let smaller : a ≡ min a b = omega arith in subst P smaller one
+  | inr more ↦ let smaller : b ≡ min a b = omega arith in subst P smaller other
+]
+
+-- what holds of a number that there may be, by what follows from it
+IfSome-weaker : (P Q : ℕ → Type 0) (o : Option ℕ) → ((c : ℕ) → P c → Q c) → IfSome o P → IfSome o Q
+IfSome-weaker P Q None weaker has = tt
+IfSome-weaker P Q (Some c) weaker has = weaker c has
+
+-- one node more is put on the source's side and off it
+pub least_both : (g : Graph) (source sink : ℕ) (side inside outside : Side) (n : ℕ) (one other : Option ℕ)
+    → ((k : ℕ) → k ≢ n → inside k ≡ side k) → inside n ≡ true → ((k : ℕ) → k ≢ n → outside k ≡ side k) → outside n ≡ false
+    → IsLeastOver g source sink inside (n + 1) one → IsLeastOver g source sink outside (n + 1) other → IsLeastOver g source sink side n (least_of one other)
+least_both g source sink side inside outside n one other inside_same on outside_same off least_in least_out =
+    let Found : ℕ → Type 0 = λ c. (cut : Side) × AgreesBelow side cut n × IsCut g source sink cut × (capacity_of g cut ≡ c) in
+    let agrees_in : (cut : Side) → AgreesBelow inside cut (n + 1) → AgreesBelow side cut n = λ cut agrees k lt. agrees k (omega arith) ∙ inside_same k (λ same. absurd (omega arith)) in
+    let agrees_out : (cut : Side) → AgreesBelow outside cut (n + 1) → AgreesBelow side cut n = λ cut agrees k lt. agrees k (omega arith) ∙ outside_same k (λ same. absurd (omega arith)) in
+    let InFound : ℕ → Type 0 = λ c. (cut : Side) × AgreesBelow inside cut (n + 1) × IsCut g source sink cut × (capacity_of g cut ≡ c) in
+    let OutFound : ℕ → Type 0 = λ c. (cut : Side) × AgreesBelow outside cut (n + 1) × IsCut g source sink cut × (capacity_of g cut ≡ c) in
+    record {
+      found = least_of-one Found one other
+          (IfSome-weaker InFound Found one (λ c has. (has.0, agrees_in has.0 has.1, has.2, has.3)) least_in.found)
+          (IfSome-weaker OutFound Found other (λ c has. (has.0, agrees_out has.0 has.1, has.2, has.3)) least_out.found);
+      within = λ cut agrees is_cut. elim (cases_Bool (cut n)) [
+        | inl there ↦
+            let agrees_there : AgreesBelow inside cut (n + 1) = λ k lt. elim (cases_eq k n) [
+              | inl same ↦ ap cut same ∙ there ∙ sym on ∙ ap inside (sym same)
+              | inr ne ↦ agrees k (omega arith) ∙ sym (inside_same k ne)
+            ] in
+            least_of-first one other (capacity_of g cut) (least_in.within cut agrees_there is_cut)
+        | inr away ↦
+            let agrees_away : AgreesBelow outside cut (n + 1) = λ k lt. elim (cases_eq k n) [
+              | inl same ↦ ap cut same ∙ away ∙ sym off ∙ ap outside (sym same)
+              | inr ne ↦ agrees k (omega arith) ∙ sym (outside_same k ne)
+            ] in
+            least_of-second one other (capacity_of g cut) (least_out.within cut agrees_away is_cut)
+      ];
+    }
+
+-- where no node is settled, the least over the sides that agree is the least of all
+pub least_of_all : (g : Graph) (source sink : ℕ) (side : Side) (least : Option ℕ) → IsLeastOver g source sink side 0 least → IsLeastCut g source sink least
+least_of_all g source sink side least over =
+    let Found : ℕ → Type 0 = λ c. (cut : Side) × IsCut g source sink cut × (capacity_of g cut ≡ c) in
+    let AllFound : ℕ → Type 0 = λ c. (cut : Side) × AgreesBelow side cut 0 × IsCut g source sink cut × (capacity_of g cut ≡ c) in
+    record {
+      found = IfSome-weaker AllFound Found least (λ c has. (has.0, has.2, has.3)) over.found;
+      within = λ cut is_cut. over.within cut (λ k lt. absurd (omega arith)) is_cut;
+    }

@@ -1,0 +1,26 @@
+use Rattle.std.proofs.Common.{List, ℕ, slice_index, ap, ◌∙◌, arith}
+use Rattle.std.proofs.lemmas.Bool.{ltb-true}
+use Rattle.std.proofs.lemmas.List.{get_or_read}
+use Rattle.mm_flow.specs.declared.search.Mark.{Mark}
+use Rattle.mm_flow.specs.Residual.{residual}
+use Rattle.mm_flow.specs.Marks.{no_mark, mark, level}
+use Rattle.mm_flow.proofs.Entries.{tail-twin, head-twin}
+use Rattle.mm_flow.proofs.phase.Phase.leads_up.Goals as goal
+
+pub returns-then-below-height : goal.returns-then-below-height
+returns-then-below-height c = λ some.
+    let t = c.args.self.now.tables in
+    let g = t.network.now.graph in
+    let marks = t.search.marks.items in
+    let e = c.args.entry in
+    let twin_is = c.twin-back.ensures.twin in
+    let read = ap (λ (m : Mark). m.level) (get_or_read marks c.head-from.result c.index.result.now (omega (arith, t.at_work.levelled.size, c.head-from.ensures.known)) c.index.ensures no_mark) in
+    let from = ap (level marks) c.head-from.ensures.node in
+    let below = ap (level marks) (tail-twin g e c.requires.known) in
+    let above = ap (level marks) (head-twin g e c.requires.known) in
+    record {
+      known = omega (arith, c.twin-back.ensures.known, twin_is);
+      marked = omega (arith, c.if-below-height.true.0, read, from, below);
+      up = omega (arith, c.if-below-height.true.1, c.requires.height, read, from, below, above);
+      open_still = omega (arith, ltb-true 0 c.residual.result some, c.residual.ensures, ap (λ (flow : List ℕ). residual g (slice_index flow) c.twin-back.result) c.deref.ensures.value, ap (residual g (slice_index t.flow.items)) twin_is);
+    }

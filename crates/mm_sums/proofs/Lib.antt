@@ -1,0 +1,7 @@
+pub mod Tests
+pub mod Pairs
+pub mod Ranges
+pub mod Sums
+pub mod RangeSums
+pub mod Grids
+pub mod Groups

@@ -1,0 +1,26 @@
+-- What holds of each two elements of a list.
+use Rattle.std.proofs.Common.{suc, List, [], ◌∷◌, ◌++◌, All, arith}
+use Rattle.std.specs.Prelude.{AllPairs, map}
+use Rattle.std.proofs.lemmas.List.Elements.{All-append, All-map}
+use Rattle.std.proofs.lemmas.List.Kept.{AllPairs-cons}
+
+-- the first element and each later one
+pub AllPairs-head : {X : Type 0} (R : X → X → Type 0) (x : X) (xs : List X) → AllPairs R (x ∷ xs) → All (R x) xs
+AllPairs-head R x xs pairs = λ k d within. pairs 0 (suc k) d (omega arith) (omega arith)
+
+-- each two elements after the first
+pub AllPairs-tail : {X : Type 0} (R : X → X → Type 0) (x : X) (xs : List X) → AllPairs R (x ∷ xs) → AllPairs R xs
+AllPairs-tail R x xs pairs = λ i j d before within. pairs (suc i) (suc j) d (omega arith) (omega arith)
+
+-- each two elements of one list after another
+pub AllPairs-append : {X : Type 0} (R : X → X → Type 0) (xs ys : List X) → AllPairs R xs → AllPairs R ys → All (λ x. All (R x) ys) xs → AllPairs R (xs ++ ys)
+AllPairs-append R [] ys front back across = back
+AllPairs-append R (x ∷ xs) ys front back across =
+    AllPairs-cons R x (xs ++ ys) (All-append (R x) xs ys (AllPairs-head R x xs front) (across 0 x (omega arith)))
+    (AllPairs-append R xs ys (AllPairs-tail R x xs front) back (λ k d within. across (suc k) d (omega arith)))
+
+-- each two of what is made of a list's elements
+pub AllPairs-map : {X Y : Type 0} (R : X → X → Type 0) (make : Y → X) (ys : List Y) → AllPairs (λ t u. R (make t) (make u)) ys → AllPairs R (map make ys)
+AllPairs-map R make [] each = λ i j d before within. absurd (omega arith)
+AllPairs-map R make (t ∷ ts) each =
+    AllPairs-cons R (make t) (map make ts) (All-map (R (make t)) make ts (AllPairs-head (λ u w. R (make u) (make w)) t ts each)) (AllPairs-map R make ts (AllPairs-tail (λ u w. R (make u) (make w)) t ts each))
