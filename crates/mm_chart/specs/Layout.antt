@@ -3,7 +3,7 @@ use Rattle.std.specs.Prelude.{ℕ, ◌+◌, ◌-◌, ◌*◌, ◌/◌, ◌<◌, 
 use Rattle.std.specs.List.{sum_by, range_with_len}
 use Rattle.mm_base.specs.declared.limits.TheConstants.{MAX_STORES}
 use Rattle.mm_problem.specs.Dumping.{Dumping, limit}
-use Rattle.mm_chart.specs.declared.layout.TheConstants.{LEFT, ROOM, MAX_WIDTH, WINDOW_BASE, CHANNEL_PITCH, STORE_PITCH, TALL, THIN, LOSS, OVER}
+use Rattle.mm_chart.specs.declared.layout.TheConstants.{LEFT, ROOM, MAX_WIDTH, WINDOW_BASE, CHANNEL_PITCH, STORE_PITCH, TALL, THIN, LOSS, OVER, WORDS_BELOW, LINE_PITCH}
 use Rattle.mm_chart.specs.declared.series.Series.{Series}
 use Rattle.mm_chart.specs.declared.series.Series.TheVariants.{WindowCounts, Window, Used, ChannelCounts, Sent, Inner, Last, Written, Left, Lost, Arrivals, CountedWindow, CountedLimits}
 
@@ -38,6 +38,10 @@ store_base q s = WINDOW_BASE + CHANNEL_PITCH * limits_below q (length q.limits) 
 -- the line of the last row
 abbrev pub bottom : Dumping → ℕ
 bottom q = store_base q (length q.rows - 1)
+
+-- a line of words below the rows
+abbrev pub word_line : Dumping → ℕ → ℕ
+word_line q n = bottom q + WORDS_BELOW + LINE_PITCH * n
 
 -- the height in which the whole of a series is drawn
 abbrev pub room_of : Series → ℕ

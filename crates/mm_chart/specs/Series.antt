@@ -8,7 +8,7 @@ use Rattle.mm_cut.specs.Stretches.{store_of, covers, goes_past, is_inner, is_inn
 use Rattle.mm_cut.specs.Counts.{is_listed}
 use Rattle.mm_cut.specs.Cuts.{limit_or_0, limit_sum}
 use Rattle.mm_chart.specs.declared.series.Series.{Series}
-use Rattle.mm_chart.specs.declared.series.Series.TheVariants.{WindowCounts, Window, Used, ChannelCounts, Sent, Inner, Last, Written, Left, Lost, Arrivals, CountedWindow, CountedLimits}
+use Rattle.mm_chart.specs.declared.series.Series.TheVariants.{WindowCounts, Window, Used, ChannelCounts, Sent, LimitsCount, Inner, Last, Written, Left, Lost, Arrivals, CountedWindow, CountedLimits}
 use Rattle.mm_chart.specs.Picture.{Drawn, amounts, cut, counts}
 
 abbrev pub one_if : Bool → ℕ
@@ -55,6 +55,7 @@ amount_of p Window t = window p.problem t
 amount_of p Used t = sum_by (sent p t) (stores p.problem)
 amount_of p (ChannelCounts c) t = one_if (counts_channel p c t)
 amount_of p (Sent c) t = sum_by (sent p t) (stores_of p.problem c)
+amount_of p LimitsCount t = one_if (counts_limits p t)
 amount_of p (Inner s) t = one_if (is_inner_of p s t)
 amount_of p (Last s) t = one_if (is_last_of p s t)
 amount_of p (Written s) t = written p.problem (amounts p) s t

@@ -11,6 +11,10 @@ use Rattle.mm_chart.specs.Picture.{Drawn}
 use Rattle.mm_chart.specs.Series.{amount_at, whole_of, scaled}
 use Rattle.mm_chart.specs.Layout.{edge, step_width, room_of, base_of}
 
+-- fixed words, as they are written
+unfoldable pub said : List ℕ → List ℕ
+said words = words
+
 -- ---- numbers
 
 -- the character between thousands
@@ -30,7 +34,7 @@ grouped n = separated (decimal n)
 -- a number that may be below 0
 abbrev pub signed_grouped : ℤ → List ℕ
 signed_grouped (pos n) = grouped n
-signed_grouped (negsuc n) = codes "&#8722;" ++ grouped (n + 1)
+signed_grouped (negsuc n) = said (codes "&#8722;") ++ grouped (n + 1)
 
 -- ---- words at a place
 
@@ -46,13 +50,13 @@ style_name style.Tick = codes "k"
 style_name style.Heading = codes "b"
 style_name style.Plain = codes "w"
 
-abbrev pub opened : Style → ℕ → ℕ → List ℕ
-opened style x y = codes "<text class='" ++ style_name style ++ codes "' x='" ++ decimal x ++ codes "' y='" ++ decimal y ++ codes "'>"
+unfoldable pub opened : Style → ℕ → ℕ → List ℕ
+opened style x y = said (codes "<text class='") ++ style_name style ++ said (codes "' x='") ++ decimal x ++ said (codes "' y='") ++ decimal y ++ said (codes "'>")
 
-abbrev pub closed : List ℕ
-closed = codes "</text>" ++ line_feed ∷ []
+unfoldable pub closed : List ℕ
+closed = said (codes "</text>" ++ line_feed ∷ [])
 
-abbrev pub labelled : Style → ℕ → ℕ → List ℕ → List ℕ
+unfoldable pub labelled : Style → ℕ → ℕ → List ℕ → List ℕ
 labelled style x y words = opened style x y ++ words ++ closed
 
 -- ---- heights
@@ -62,26 +66,26 @@ abbrev pub height_of : Drawn → Series → ℕ → ℕ → ℕ
 height_of p x whole t = scaled (room_of x) whole (amount_at p x t)
 
 -- to the right edge of a step
-abbrev pub right_to : Drawn → ℕ → List ℕ
-right_to p t = codes "H" ++ decimal (edge p.problem t)
+unfoldable pub right_to : Drawn → ℕ → List ℕ
+right_to p t = said (codes "H") ++ decimal (edge p.problem t)
 
 -- up or down to a line
-abbrev pub line_at : ℕ → List ℕ
-line_at y = codes "V" ++ decimal y
+unfoldable pub line_at : ℕ → List ℕ
+line_at y = said (codes "V") ++ decimal y
 
 -- to a place
-abbrev pub begun : ℕ → ℕ → List ℕ
-begun x y = codes "M" ++ decimal x ++ codes " " ++ decimal y
+unfoldable pub begun : ℕ → ℕ → List ℕ
+begun x y = said (codes "M") ++ decimal x ++ said (codes " ") ++ decimal y
 
 -- a step of a height after one of another: from the base line where there was none, and down to it where there is none now
-abbrev pub outline : Drawn → ℕ → ℕ → ℕ → ℕ → List ℕ
+unfoldable pub outline : Drawn → ℕ → ℕ → ℕ → ℕ → List ℕ
 outline p base before here t =
     if here == 0 then (if before == 0 then [] else line_at base)
     else if here == before then right_to p t
     else (if before == 0 then begun (edge p.problem (t - 1)) base else []) ++ line_at (base - here) ++ right_to p t
 
 -- the outline of one step of a series
-abbrev pub step_outline : Drawn → Series → ℕ → ℕ → List ℕ
+unfoldable pub step_outline : Drawn → Series → ℕ → ℕ → List ℕ
 step_outline p x whole t = outline p (base_of p.problem x) (height_of p x whole (t - 1)) (height_of p x whole t) t
 
 -- the letter of a series in the style sheet
@@ -98,8 +102,12 @@ series_name (Left s) = codes "f"
 series_name (Lost s) = codes "l"
 series_name _ = codes "o"
 
+-- the beginning of its outline
+unfoldable pub path_begun : Series → List ℕ
+path_begun x = said (codes "<path class='") ++ series_name x ++ said (codes "' d='")
+
 -- a series over all steps
-abbrev pub profile : Drawn → Series → List ℕ
+unfoldable pub profile : Drawn → Series → List ℕ
 profile p x =
-    codes "<path class='" ++ series_name x ++ codes "' d='" ++ flat_map (step_outline p x (whole_of p x)) (steps p.problem)
-    ++ codes "V" ++ decimal (base_of p.problem x) ++ codes "'/>" ++ line_feed ∷ []
+    path_begun x ++ flat_map (step_outline p x (whole_of p x)) (steps p.problem)
+    ++ said (codes "V") ++ decimal (base_of p.problem x) ++ said (codes "'/>" ++ line_feed ∷ [])

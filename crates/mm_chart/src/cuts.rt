@@ -63,9 +63,7 @@ pub(crate) fn is_inner_of(problem: &Problem, stretches: &[Stretch], store: usize
     requires { All (IsStretch problem.now) stretches.now }
     ensures { result ≡ list_any (λ d. (store_of problem.now d == store) && goes_past step d) stretches.now }
 {
-    stretches
-        .iter()
-        .any(|stretch| store_of(problem, stretch) == store && goes_past(step, stretch))
+    stretches.iter().any(|stretch| store_of(problem, stretch) == store && goes_past(step, stretch))
 }
 
 // Whether it is the last step of a stretch of the store.
@@ -73,9 +71,7 @@ pub(crate) fn is_last_of(problem: &Problem, stretches: &[Stretch], store: usize,
     requires { All (IsStretch problem.now) stretches.now }
     ensures { result ≡ list_any (λ d. (store_of problem.now d == store) && (d.last == step)) stretches.now }
 {
-    stretches
-        .iter()
-        .any(|stretch| store_of(problem, stretch) == store && stretch.last == step)
+    stretches.iter().any(|stretch| store_of(problem, stretch) == store && stretch.last == step)
 }
 
 // The limits of the channels of the stores that are inner in the step, each channel once.

@@ -2,7 +2,7 @@
 ghost use Rattle.std.specs.Prelude.{◌≡◌, ◌+◌, ◌-◌, ◌*◌, ◌/◌, ◌<◌, ◌≤◌, length};
 ghost use Rattle.mm_base.specs.declared.limits.TheConstants.{MAX_STORES, MAX_STEPS};
 ghost use Rattle.mm_problem.specs.Dumping.{IsDumping};
-ghost use Rattle.mm_chart.specs.Layout.{step_width, edge, limits_below, has_limit, channel_base, store_base, bottom, room_of, base_of, IsPlaced, tick_every};
+ghost use Rattle.mm_chart.specs.Layout.{step_width, edge, limits_below, has_limit, channel_base, store_base, bottom, word_line, room_of, base_of, IsPlaced, tick_every};
 
 use crate::picture::Picture;
 use crate::series::Series;
@@ -38,6 +38,24 @@ pub const LOSS: u32 = 10;
 /// How far the marks of a cut reach over a row, above and below.
 pub const OVER: u32 = 4;
 
+/// Where the names of rows end.
+pub const NAME_AT: u32 = 160;
+
+/// The line of the ticks.
+pub const TICK_AT: u32 = 88;
+
+/// The line of the headline.
+pub const HEADLINE_AT: u32 = 30;
+
+/// How far the words stand below the last row.
+pub const WORDS_BELOW: u32 = 36;
+
+/// From one line of words to the next.
+pub const LINE_PITCH: u32 = 18;
+
+/// Where lines of words begin.
+pub const MARGIN: u32 = 16;
+
 // The width of a step.
 pub(crate) fn step_width(problem: &Problem) -> u32
     ensures width { result ≡ step_width problem.now }
@@ -49,16 +67,23 @@ pub(crate) fn step_width(problem: &Problem) -> u32
 // The right edge of a step; of step 0 it is where the first begins.
 pub(crate) fn edge(problem: &Problem, step: u32) -> u32
     requires { step ≤ MAX_STEPS }
-    ensures { result ≡ edge problem.now step }
+    ensures edge { result ≡ edge problem.now step }
+    ensures least { LEFT ≤ result }
+    ensures most { result ≤ LEFT + MAX_WIDTH * MAX_STEPS }
 {
     LEFT + step_width(problem) * step
 }
 
-fn has_limit(problem: &Problem, channel: u8) -> u32
+// 1 where the channel has a limit.
+pub(crate) fn has_limit(problem: &Problem, channel: u8) -> u32
     ensures limit { result ≡ has_limit problem.now channel }
     ensures most { result ≤ 1 }
 {
-    if problem.limit(channel).is_some() { 1 } else { 0 }
+    if problem.limit(channel).is_some() {
+        1
+    } else {
+        0
+    }
 }
 
 // How many of the channels below this one have a limit.
@@ -102,6 +127,14 @@ pub(crate) fn bottom(problem: &Problem) -> u32
     ensures most { result ≤ WINDOW_BASE + CHANNEL_PITCH * 8 + STORE_PITCH * MAX_STORES }
 {
     store_base(problem, problem.stores() - 1)
+}
+
+// A line of words below the rows.
+pub(crate) fn word_line(problem: &Problem, line: u32) -> u32
+    requires { line ≤ 12 }
+    ensures { result ≡ word_line problem.now line }
+{
+    bottom(problem) + WORDS_BELOW + LINE_PITCH * line
 }
 
 // The height in which the whole of a series is drawn.

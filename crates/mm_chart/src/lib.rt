@@ -2,10 +2,16 @@
 #![tactic(auto)]
 
 mod cuts;
+mod document;
 mod layout;
 mod pen;
 mod picture;
+mod rows;
 mod series;
+mod sums;
+mod words;
 
+pub use document::{chart_bytes, draw};
+pub use mm_check::Fault;
 pub use picture::Picture;
 pub use series::Series;

@@ -5,7 +5,7 @@ ghost use Rattle.mm_base.specs.declared.limits.TheConstants.{MAX_STEPS};
 ghost use Rattle.mm_base.specs.Characters.{line_feed};
 ghost use Rattle.mm_chart.specs.Series.{IsSeries};
 ghost use Rattle.mm_chart.specs.Layout.{IsPlaced};
-ghost use Rattle.mm_chart.specs.Svg.{separated, grouped, signed_grouped, style_name, opened, closed, labelled, height_of, right_to, line_at, begun, outline, step_outline, series_name, profile};
+ghost use Rattle.mm_chart.specs.Svg.{said, separated, grouped, signed_grouped, style_name, opened, closed, labelled, height_of, right_to, line_at, begun, outline, step_outline, series_name, path_begun, profile};
 
 use crate::layout::{base_of, edge, room_of};
 use crate::picture::{Picture, scaled};
@@ -31,6 +31,14 @@ pub enum Style {
     Tick,
     Heading,
     Plain,
+}
+
+// Writes fixed words.
+#[tactic(auto, unfolding(crate::specs::Svg::said))]
+pub(crate) fn push_said(text: &mut Vec<u8>, words: &[u8]) -> Result<(), AllocError>
+    ensures { OnOk result (text.new.items ≡ text.old.items ++ said words.now) }
+{
+    text.extend_from_slice(words)
 }
 
 // Digits with a comma after each that has a whole number of thousands after it.
@@ -62,7 +70,7 @@ pub fn push_signed_grouped(text: &mut Vec<u8>, number: i64) -> Result<(), AllocE
     ensures { OnOk result (text.new.items ≡ text.old.items ++ signed_grouped number) }
 {
     if number < 0 {
-        text.extend_from_slice(b"&#8722;")?;
+        push_said(text, b"&#8722;")?;
     }
     push_grouped(text, number.unsigned_abs())
 }
@@ -85,30 +93,49 @@ impl Style {
     }
 }
 
-// Begins words at a place.
+// Writes a word and a number.
 #[tactic(auto, using(std::proofs::Common::append_assoc))]
-pub(crate) fn push_opened(text: &mut Vec<u8>, style: Style, x: u32, y: u32) -> Result<(), AllocError>
+pub(crate) fn push_value(text: &mut Vec<u8>, word: &[u8], number: u32) -> Result<(), AllocError>
+    ensures { OnOk result (text.new.items ≡ text.old.items ++ (said word.now ++ decimal number)) }
+{
+    push_said(text, word)?;
+    push_number(text, u64::from(number))
+}
+
+// Begins words at a place.
+#[tactic(auto, using(std::proofs::Common::append_assoc), unfolding(crate::specs::Svg::opened))]
+pub(crate) fn push_opened(
+    text: &mut Vec<u8>,
+    style: Style,
+    x: u32,
+    y: u32,
+) -> Result<(), AllocError>
     ensures { OnOk result (text.new.items ≡ text.old.items ++ opened style x y) }
 {
-    text.extend_from_slice(b"<text class='")?;
+    push_said(text, b"<text class='")?;
     text.extend_from_slice(style.name())?;
-    text.extend_from_slice(b"' x='")?;
-    push_number(text, u64::from(x))?;
-    text.extend_from_slice(b"' y='")?;
-    push_number(text, u64::from(y))?;
-    text.extend_from_slice(b"'>")
+    push_value(text, b"' x='", x)?;
+    push_value(text, b"' y='", y)?;
+    push_said(text, b"'>")
 }
 
 // Ends them.
+#[tactic(auto, unfolding(crate::specs::Svg::closed))]
 pub(crate) fn push_closed(text: &mut Vec<u8>) -> Result<(), AllocError>
     ensures { OnOk result (text.new.items ≡ text.old.items ++ closed) }
 {
-    text.extend_from_slice(b"</text>\n")
+    push_said(text, b"</text>\n")
 }
 
 // Fixed words at a place.
-#[tactic(auto, using(std::proofs::Common::append_assoc))]
-pub(crate) fn push_labelled(text: &mut Vec<u8>, style: Style, x: u32, y: u32, words: &[u8]) -> Result<(), AllocError>
+#[tactic(auto, using(std::proofs::Common::append_assoc), unfolding(crate::specs::Svg::labelled))]
+pub(crate) fn push_labelled(
+    text: &mut Vec<u8>,
+    style: Style,
+    x: u32,
+    y: u32,
+    words: &[u8],
+) -> Result<(), AllocError>
     ensures { OnOk result (text.new.items ≡ text.old.items ++ labelled style x y words.now) }
 {
     push_opened(text, style, x, y)?;
@@ -127,35 +154,37 @@ fn height_of(picture: &Picture, series: Series, whole: u64, step: u32) -> u32
 }
 
 // To the right edge of a step.
+#[tactic(auto, unfolding(crate::specs::Svg::right_to))]
 fn push_right(text: &mut Vec<u8>, picture: &Picture, step: u32) -> Result<(), AllocError>
     requires { step ≤ MAX_STEPS }
     ensures { OnOk result (text.new.items ≡ text.old.items ++ right_to picture.now step) }
 {
-    text.extend_from_slice(b"H")?;
+    push_said(text, b"H")?;
     push_number(text, u64::from(edge(picture.problem(), step)))
 }
 
 // Up or down to a line.
+#[tactic(auto, unfolding(crate::specs::Svg::line_at))]
 fn push_line(text: &mut Vec<u8>, y: u32) -> Result<(), AllocError>
     ensures { OnOk result (text.new.items ≡ text.old.items ++ line_at y) }
 {
-    text.extend_from_slice(b"V")?;
+    push_said(text, b"V")?;
     push_number(text, u64::from(y))
 }
 
 // To a place.
-#[tactic(auto, using(std::proofs::Common::append_assoc))]
+#[tactic(auto, using(std::proofs::Common::append_assoc), unfolding(crate::specs::Svg::begun))]
 pub(crate) fn push_begun(text: &mut Vec<u8>, x: u32, y: u32) -> Result<(), AllocError>
     ensures { OnOk result (text.new.items ≡ text.old.items ++ begun x y) }
 {
-    text.extend_from_slice(b"M")?;
+    push_said(text, b"M")?;
     push_number(text, u64::from(x))?;
-    text.extend_from_slice(b" ")?;
+    push_said(text, b" ")?;
     push_number(text, u64::from(y))
 }
 
 // A step of a height after one of another.
-#[tactic(auto, using(std::proofs::Common::append_assoc))]
+#[tactic(auto, using(std::proofs::Common::append_assoc), unfolding(crate::specs::Svg::outline))]
 fn push_outline(
     text: &mut Vec<u8>,
     picture: &Picture,
@@ -201,6 +230,7 @@ fn series_name(series: Series) -> &'static [u8]
 }
 
 // The outline of one step of a series.
+#[tactic(auto, unfolding(crate::specs::Svg::step_outline))]
 fn push_step(
     text: &mut Vec<u8>,
     picture: &Picture,
@@ -240,22 +270,25 @@ fn push_steps(
     Ok(())
 }
 
+// Begins the outline of a series.
+#[tactic(auto, using(std::proofs::Common::append_assoc), unfolding(crate::specs::Svg::path_begun))]
+fn push_path(text: &mut Vec<u8>, series: Series) -> Result<(), AllocError>
+    ensures { OnOk result (text.new.items ≡ text.old.items ++ path_begun series) }
+{
+    push_said(text, b"<path class='")?;
+    text.extend_from_slice(series_name(series))?;
+    push_said(text, b"' d='")
+}
+
 /// Draws a series over all steps.
-#[tactic(auto, using(std::proofs::Common::append_assoc))]
-pub fn push_profile(
-    text: &mut Vec<u8>,
-    picture: &Picture,
-    series: Series,
-) -> Result<(), AllocError>
+#[tactic(auto, using(std::proofs::Common::append_assoc), unfolding(crate::specs::Svg::profile))]
+pub fn push_profile(text: &mut Vec<u8>, picture: &Picture, series: Series) -> Result<(), AllocError>
     requires series { IsSeries picture.now series }
     requires placed { IsPlaced series }
     ensures { OnOk result (text.new.items ≡ text.old.items ++ profile picture.now series) }
 {
-    text.extend_from_slice(b"<path class='")?;
-    text.extend_from_slice(series_name(series))?;
-    text.extend_from_slice(b"' d='")?;
+    push_path(text, series)?;
     push_steps(text, picture, series, picture.whole(series))?;
-    text.extend_from_slice(b"V")?;
-    push_number(text, u64::from(base_of(picture.problem(), series)))?;
-    text.extend_from_slice(b"'/>\n")
+    push_value(text, b"V", base_of(picture.problem(), series))?;
+    push_said(text, b"'/>\n")
 }

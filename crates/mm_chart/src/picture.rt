@@ -8,14 +8,16 @@ ghost use Rattle.mm_plan.specs.Table.{amount, HasShape};
 ghost use Rattle.mm_plan.specs.Volumes.{written, left, lost};
 ghost use Rattle.mm_plan.specs.Simulated.{written_in, left_in, lost_in, CoversProblem, AgreeEach};
 ghost use Rattle.mm_cut.specs.Verdicts.{IsVerdict};
-ghost use Rattle.mm_cut.specs.Stretches.{IsStretch};
+ghost use Rattle.mm_cut.specs.Stretches.{IsStretch, AreStretches};
 ghost use Rattle.mm_cut.specs.Cuts.{IsCut};
 ghost use Rattle.mm_chart.specs.Picture.{has_cut, cut, counts, IsDrawn};
 ghost use Rattle.mm_chart.specs.declared.series.Series.TheVariants.{CountedWindow, CountedLimits};
+ghost use Rattle.mm_chart.specs.Words.{coming_sum, held_sum};
 ghost use Rattle.mm_chart.specs.Series.{one_if, sent, counts_window, counts_limits, counts_channel, is_inner_of, is_last_of, IsSeries, amount_of, amount_at, total_of, most_of, whole_of, scaled};
 
 use crate::cuts::{is_inner, is_inner_of, is_inner_on, is_last_of, is_listed, limit_sum};
 use crate::series::Series;
+use crate::sums::{cut_coming, cut_held};
 use mm_cut::{Verdict, verify};
 use mm_plan::{NoMemory, Sheet, Simulated, Stretch, simulate};
 use mm_problem::Problem;
@@ -121,6 +123,7 @@ impl Picture {
     // The stretches that are drawn.
     pub(crate) fn cut(&self) -> &[Stretch]
         ensures cut { result.now ≡ cut self.now }
+        ensures stretches { AreStretches self.now.problem result.now }
         ensures each { All (IsStretch self.now.problem) result.now }
     {
         if has_cut(self.verdict) {
@@ -139,6 +142,20 @@ impl Picture {
         } else {
             &[]
         }
+    }
+
+    /// What comes in over the cut's stretches.
+    pub fn coming(&self) -> u64
+        ensures { result ≡ coming_sum self.now }
+    {
+        cut_coming(&self.problem, self.cut())
+    }
+
+    /// What the stores may hold as they end.
+    pub fn held(&self) -> u64
+        ensures { result ≡ held_sum self.now }
+    {
+        cut_held(&self.problem, self.cut())
     }
 
     fn counts_window(&self, step: u32) -> bool
@@ -257,6 +274,7 @@ impl Picture {
             Series::Used => self.used(step),
             Series::ChannelCounts(channel) => one_if(self.counts_channel(channel, step)),
             Series::Sent(channel) => self.sent_on(channel, step),
+            Series::LimitsCount => one_if(self.counts_limits(step)),
             Series::Inner(store) => one_if(self.is_inner_of(store, step)),
             Series::Last(store) => one_if(self.is_last_of(store, step)),
             Series::Written(store) => u64::from(self.volumes.written(store, step)),

@@ -12,6 +12,8 @@ pub enum Series {
     ChannelCounts(u8),
     /// What leaves the stores of a channel.
     Sent(u8),
+    /// 1 where the step counts by the limits of channels.
+    LimitsCount,
     /// 1 in the inner steps of the stretches of a store.
     Inner(usize),
     /// 1 in the last steps of the stretches of a store.
