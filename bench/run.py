@@ -8,7 +8,7 @@ Prints for each the wall time of the whole process, the least of some rounds, an
 FOLDER is bench/out and ROUNDS is 20 where they are not said. It wants crates/mm_tool/out/mm_tool (`./mm_tool --help` proves and
 builds it) and compiles the two others by `rustc -O` and `g++ -O2`. Without g++ and libmaxflow (Debian's libmaxflow-dev)
 the column of libmaxflow is left out, without valgrind the instructions, without crates/bench_propose/out/bench_propose
-(`rt run` there) the count of fallbacks, each with a line that says so.
+(`rt run` there) the count of fallbacks, without GNU time the peak memory, each with a line that says so.
 
 The exit status is 0 where each plan was shown to lose least, and libmaxflow found the same loss.
 """
@@ -27,18 +27,19 @@ CRATES = HERE.parent / "crates"
 TOOL = CRATES / "mm_tool" / "out" / "mm_tool"
 PROPOSALS = CRATES / "bench_propose" / "out" / "bench_propose"
 MAXFLOW = "/usr/include/maxflow-3.0"
+GNU_TIME = "/usr/bin/time"
 INSTRUCTIONS = re.compile(rb"Collected : (\d+)")
 
 
 def timed(words, out):
-    """Runs a program with its standard output in a file: its status, milliseconds and peak memory in megabytes."""
+    """Runs a program with its standard output in a file: its status and milliseconds."""
     with open(out, "wb") as file:
         actions = [(os.POSIX_SPAWN_DUP2, file.fileno(), 1)]
         begin = time.perf_counter()
         process = os.posix_spawn(words[0], words, os.environ, file_actions=actions)
-        _, status, usage = os.wait4(process, 0)
+        _, status = os.waitpid(process, 0)
         spent = 1000 * (time.perf_counter() - begin)
-    return os.waitstatus_to_exitcode(status), spent, usage.ru_maxrss / 1024
+    return os.waitstatus_to_exitcode(status), spent
 
 
 def instructions(words):
@@ -49,6 +50,15 @@ def instructions(words):
     ended = subprocess.run(command, stdout=subprocess.DEVNULL, stderr=subprocess.PIPE)
     found = INSTRUCTIONS.search(ended.stderr)
     return f"{int(found[1]) // 1000:,}" if found else "?"
+
+
+def peak(words, note):
+    """The most memory that a program has at once, in megabytes, by GNU time, which begins it from a small process of its own. This
+    script would count with a child of its own."""
+    if not Path(GNU_TIME).exists():
+        return None
+    subprocess.run([GNU_TIME, "-f", "%M", "-o", note, *words], stdout=subprocess.DEVNULL, check=True)
+    return int(note.read_text()) / 1024
 
 
 def compiled(folder):
@@ -71,21 +81,18 @@ class Measure:
 
     def __init__(self, programs, problem, scratch):
         files = [str(problem / "setup.toml"), str(problem / "forecast.csv")]
-        self.plan, self.verdict, self.other = (Path(scratch) / name for name in ("plan", "verdict", "other"))
+        self.plan, self.verdict, self.other, self.note = (Path(scratch) / name for name in ("plan", "verdict", "other", "note"))
         self.commands = {"plan": [str(TOOL), "plan", *files], "check": [str(TOOL), "check", *files, str(self.plan)]}
         self.commands |= {name: [program, *files] for name, program in programs.items()}
         self.outs = {"plan": self.plan, "check": self.verdict}
         self.least = dict.fromkeys(self.commands, float("inf"))
-        self.peak = 0
         self.failed = False
 
     def round(self):
         for name, words in self.commands.items():
-            status, spent, peak = timed(words, self.outs.get(name, self.other))
+            status, spent = timed(words, self.outs.get(name, self.other))
             self.failed |= status != 0
             self.least[name] = min(self.least[name], spent)
-            if name == "plan":
-                self.peak = max(self.peak, peak)
             if name == "libmaxflow":
                 self.failed |= self.loss(self.other) != self.loss(self.plan)
 
@@ -96,10 +103,16 @@ class Measure:
     def is_least(self):
         return not self.failed and self.verdict.read_text().startswith("least ")
 
+    def ratios(self):
+        """How many times the time of each of the other programs `plan` takes."""
+        return {other: self.least["plan"] / self.least[other] for other in list(self.least)[2:]}
+
+    def peak(self):
+        return peak(self.commands["plan"], self.note)
+
     def row(self, name):
-        least = self.least
-        cells = [f"{spent:.2f}" for spent in least.values()]
-        cells += [f"{least['plan'] / least[other]:.2f}" for other in list(least)[2:]]
+        cells = [f"{spent:.2f}" for spent in self.least.values()]
+        cells += [f"{ratio:.2f}" for ratio in self.ratios().values()]
         cells += [instructions(words) for words in self.commands.values()]
         return f"| {name} | {' | '.join(cells)} | {self.verdict.read_text().strip()} |"
 
@@ -111,8 +124,20 @@ def heads(names):
     print("|---|" + "---|" * (len(cells) + 1))
 
 
+def tell_most(measures):
+    """The greatest of each ratio, and of the peaks."""
+    print()
+    for other in measures[0].ratios():
+        print(f"`plan` takes at most {max(measure.ratios()[other] for measure in measures):.2f} times the time of {other}.")
+    peaks = [measure.peak() for measure in measures]
+    if None in peaks:
+        print("Peak memory is left out: GNU time is not there.")
+    else:
+        print(f"The peak memory of `plan` is at most {max(peaks):.1f} MB.")
+
+
 def main(top, rounds):
-    failed, peak = [], 0
+    failed, measures = [], []
     with tempfile.TemporaryDirectory() as scratch:
         programs = compiled(scratch)
         heads(["plan", "check", *programs])
@@ -121,10 +146,10 @@ def main(top, rounds):
             for _ in range(rounds):
                 measure.round()
             print(measure.row(problem.name), flush=True)
-            peak = max(peak, measure.peak)
+            measures.append(measure)
             if not measure.is_least():
                 failed.append(problem.name)
-    print(f"\nThe peak memory of `plan` is at most {peak:.0f} MB, of which this script's own count.")
+        tell_most(measures)
     if PROPOSALS.exists():
         print(subprocess.run([PROPOSALS, "10000", "1"], check=True, capture_output=True, text=True).stdout, end="")
     else:

@@ -5,7 +5,11 @@
 #   `<!-- output N: COMMAND -->`. In the block a line `...` stands for any lines, and what follows two spaces is a note;
 # - the commands of a fenced block in which a line begins with `./mm_tool ` are run, and each must end with status 0, or with N
 #   under `<!-- status N -->`;
-# - each file that a link or a path of any document names is there.
+# - each file that a link or a path of any document names is there;
+# - each name in code style in a crate's README stands in the sources of that crate, or of another that it names; so does each
+#   contract in README's table of crates; and each promise of docs/PROMISES.md names something of its crates;
+# - each refusal of mm_base's table stands in docs/FORMATS.md with its number and name, and the test and the crate that
+#   'Where each refusal is met' names for a refusal are there.
 # The commands of one document are run one after another in one new folder, in which the top of the repository is seen.
 # The program must be built from the sources that are there: `./mm_tool --help` builds it. Prints one line where all is well.
 set -u
@@ -136,10 +140,89 @@ check_paths() {
   while IFS= read -r path; do
     [ -e "$top/$path" ] || fail "$document: there is no $path"
   done < <(grep -oE '(^|[ `(])(docs|examples|bench|crates)/[A-Za-z0-9_./-]+' "$top/$document" |
-    sed -E 's/^[ `(]//; s/[./]+$//' | grep -vE '/(NAME|THING|out/)' | sort -u)
+    sed -E 's/^[ `(]//; s/[./]+$//' | grep -vE '/(NAME|THING|out)(/|$)' | sort -u)
+}
+
+# The names in code style of standard input: of two letters or more, without path and parentheses.
+names() {
+  grep -oE '`([A-Za-z_0-9]+::)*[A-Za-z_][A-Za-z_0-9]+(\(\))?`' | tr -d '`()' | sed 's/.*:://' | sort -u
+}
+
+# The folders of the crates that standard input names in code style.
+crates_named() {
+  names | while IFS= read -r name; do
+    if [ -d "$top/crates/$name" ]; then printf '%s\n' "$top/crates/$name"; fi
+  done
+}
+
+# Whether a name is that of a crate, or stands in the sources of one of these folders.
+stands_in() {
+  local name=$1
+  shift
+  [ -d "$top/crates/$name" ] || grep -rqw --include='*.rt' --include='*.antt' --exclude-dir=out -- "$name" "$@"
+}
+
+# The names of a crate's README.
+check_crate_names() {
+  local crate=$1 name folders
+  mapfile -t folders < <(crates_named <"$top/crates/$crate/README.md")
+  while IFS= read -r name; do
+    stands_in "$name" "$top/crates/$crate" "${folders[@]}" ||
+      fail "crates/$crate/README.md: $name stands in no source of the crates that it names"
+  done < <(names <"$top/crates/$crate/README.md")
+}
+
+# The contracts that README's table of crates names, one row for each crate.
+check_table_names() {
+  local row name folders
+  while IFS= read -r row; do
+    mapfile -t folders < <(cut -d '|' -f 2 <<<"$row" | crates_named)
+    while IFS= read -r name; do
+      stands_in "$name" "${folders[@]}" || fail "README.md: $name stands in no source of ${folders[*]##*/}"
+    done < <(cut -d '|' -f 3 <<<"$row" | names)
+  done < <(grep -E '^\| \[`[a-z_]+`\]\(crates/' "$top/README.md")
+}
+
+# Each promise of docs/PROMISES.md whose heading names a crate.
+check_promises() {
+  local heading name folders found
+  while IFS= read -r heading; do
+    mapfile -t folders < <(crates_named <<<"$heading")
+    found=0
+    while IFS= read -r name; do
+      if [ ! -d "$top/crates/$name" ] && stands_in "$name" "${folders[@]}"; then found=1; fi
+    done < <(awk -v heading="$heading" '/^## /{inside = ($0 == heading); next} inside' "$top/docs/PROMISES.md" | names)
+    [ "$found" = 1 ] || fail "docs/PROMISES.md: '${heading#\#\# }' names nothing of its crates"
+  done < <(grep -E '^## .*`mm_' "$top/docs/PROMISES.md")
+}
+
+# The refusals of mm_base's table, in the tables of causes of docs/FORMATS.md.
+check_refusals() {
+  local refusal
+  sed '/^## Where each refusal is met/q' "$top/docs/FORMATS.md" >"$work/causes"
+  while IFS= read -r refusal; do
+    grep -qE "^\|.*\`$refusal[ \`]" "$work/causes" || fail "docs/FORMATS.md: no row for $refusal"
+  done < <(sed -nE 's/^ *Refusal::[A-Za-z0-9]+ => \(([0-9]+), "([A-Za-z0-9]+)"\),$/\1 \2/p' "$top/crates/mm_base/src/refusal.rt")
+}
+
+# The tests that docs/FORMATS.md names for refusals.
+check_refusal_tests() {
+  local refusal name crate
+  while IFS='|' read -r _ refusal name crate _; do
+    name=${name// /} crate=${crate// /}
+    grep -rqE --include='*.rt' --exclude-dir=out "^ *fn $name\(" "$top/crates/$crate/src" ||
+      fail "docs/FORMATS.md: $crate has no test $name, in which$refusal is met"
+  done < <(awk '/^## /{inside = /^## Where each refusal is met/} inside && /^\| `/' "$top/docs/FORMATS.md" | tr -d '`')
 }
 
 if is_built; then is_ready=1; else is_ready=0; fi
+for readme in "$top"/crates/*/README.md; do
+  check_crate_names "$(basename "$(dirname "$readme")")"
+done
+check_table_names
+check_promises
+check_refusals
+check_refusal_tests
 while IFS= read -r document; do
   check_paths
   case $document in

@@ -20,23 +20,9 @@ const SETUP: &[u8] = b"[[store]]\nid = \"SCI\"\nsize = 4\ntype = \"bounded\"\nch
 
 const FORECAST: &[u8] = b"step,window,SCI\n1,2,3\n2,2,3\n3,0,4\n";
 
-// Two blocks leave in each of the first two steps, and two are lost.
-const LEAST: &[u8] =
-    b"mmplan 1\nstores SCI\ndump 1 2\ndump 2 2\ndump 3 0\nloss 2\nstretch SCI 1 3\nbound 2\nend\n";
-
-// One block fewer leaves in the second step, and three are lost.
-const MORE: &[u8] =
-    b"mmplan 1\nstores SCI\ndump 1 2\ndump 2 1\ndump 3 0\nloss 3\nstretch SCI 1 3\nbound 2\nend\n";
-
 // Telemetry with this sequence count and two octets of data.
 fn telemetry(rt: &impl Abort, alloc: Global, count: u16) -> Packet {
-    let header = Header {
-        apid: 100,
-        count: count % 1000,
-        low: 0,
-        service: 3,
-        subtype: 25,
-    };
+    let header = Header::new(100, count % 1000, 3, 25);
     let data = vec![in alloc; 7, 9].expect(rt, "memory");
     Packet::tm(header, 1, 2, 3, Octets::new(data))
 }
@@ -96,11 +82,23 @@ fn a_request_is_read_again(rt: HostRuntime) {
     }
 }
 
+// Two blocks leave in each of the first two steps, and two are lost; or one fewer leaves in the second step, and three are lost.
+static PLANS: [(&[u8], Option<u64>); 2] = [
+    (
+        b"mmplan 1\nstores SCI\ndump 1 2\ndump 2 2\ndump 3 0\nloss 2\nstretch SCI 1 3\nbound 2\nend\n",
+        Some(2),
+    ),
+    (
+        b"mmplan 1\nstores SCI\ndump 1 2\ndump 2 1\ndump 3 0\nloss 3\nstretch SCI 1 3\nbound 2\nend\n",
+        None,
+    ),
+];
+
 #[test]
 fn only_the_least_plan_is_believed(rt: HostRuntime) {
-    for (plan, loss) in [(LEAST, Some(2)), (MORE, None)] {
+    for (plan, loss) in &PLANS {
         let found = least_loss(rt.alloc(), SETUP, FORECAST, plan).expect(&rt, "texts");
-        assert_eq!(rt; found, loss);
+        assert_eq!(rt; found, *loss);
     }
 }
 

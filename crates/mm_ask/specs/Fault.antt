@@ -17,15 +17,16 @@ use Rattle.mm_ask.specs.declared.fault.LineFault.TheVariants.{NoMemory, HexLine,
 
 -- which refusal it is
 abbrev pub refusal_of : LineFault → Refusal
-refusal_of NoMemory = refusal.NoMemory
-refusal_of HexLine = refusal.HexLine
-refusal_of (Packet fault) = packet_refusal fault
-refusal_of (Request fault) = request_refusal fault
+refusal_of = elim [
+  | NoMemory ↦ refusal.NoMemory
+  | HexLine ↦ refusal.HexLine
+  | Packet fault ↦ packet_refusal fault
+  | Request fault ↦ request_refusal fault
+]
 
 -- which refusal a fault of the setup is
 abbrev pub setup_refusal_of : Fault → Refusal
-setup_refusal_of fault.NoMemory = refusal.NoMemory
-setup_refusal_of (fault.Setup reason) = setup_refusal reason
+setup_refusal_of = elim [ fault.NoMemory ↦ refusal.NoMemory | fault.Setup reason ↦ setup_refusal reason ]
 
 -- the refusal of a packet, as one of its line
 abbrev pub of_packet : PacketFault → LineFault

@@ -1,7 +1,7 @@
 //! Why a line is no request, and why a setup is refused.
 ghost use Rattle.std.specs.Prelude.{◌≡◌};
 
-use mm_base::{NoMemory, Refusal, Refused};
+use mm_base::{NoMemory, Refusal, Refused, refusals};
 use thiserror::Error;
 
 /// Why a line is no request. It is printed as its number, a space and its name.
@@ -17,21 +17,6 @@ pub enum LineFault {
     Packet(mm_packet::Fault),
     /// A refusal of the request other than want of memory.
     Request(mm_st15::Fault),
-}
-
-impl Refused for LineFault {
-    ghost use Rattle.mm_ask.specs.Fault.{refusal_of};
-
-    ghost refusal_of = { refusal_of };
-
-    fn refusal(self) -> Refusal {
-        match self {
-            LineFault::NoMemory => Refusal::NoMemory,
-            LineFault::HexLine => Refusal::HexLine,
-            LineFault::Packet(fault) => fault.refusal(),
-            LineFault::Request(fault) => fault.refusal(),
-        }
-    }
 }
 
 impl From<mm_packet::Fault> for LineFault {
@@ -60,6 +45,16 @@ impl From<mm_st15::Fault> for LineFault {
     }
 }
 
+impl Refused for LineFault {
+    fn refusal(self) -> Refusal {
+        refusals!(self; NoMemory, HexLine; below Packet, Request)
+    }
+
+    ghost use Rattle.mm_ask.specs.Fault.{refusal_of};
+
+    ghost refusal_of = { refusal_of };
+}
+
 /// Why nothing is answered: the setup is refused, or a growth. It is shown as its number, its name
 /// and its fields.
 #[derive(Clone, Copy, Debug, PartialEq, Eq, Error)]
@@ -69,29 +64,6 @@ pub enum Fault {
     /// A fault of the setup other than want of memory.
     #[error(transparent)]
     Setup(mm_problem::Fault),
-}
-
-impl Refused for Fault {
-    ghost use Rattle.mm_ask.specs.Fault.{setup_refusal_of};
-
-    ghost refusal_of = { setup_refusal_of };
-
-    fn refusal(self) -> Refusal {
-        match self {
-            Fault::NoMemory => Refusal::NoMemory,
-            Fault::Setup(fault) => fault.refusal(),
-        }
-    }
-}
-
-impl From<NoMemory> for Fault {
-    ghost use Rattle.mm_ask.specs.declared.fault.Fault.TheVariants.{NoMemory};
-
-    ghost from_gives = { λ _ e. e ≡ NoMemory };
-
-    fn from(_error: NoMemory) -> Fault {
-        Fault::NoMemory
-    }
 }
 
 impl From<mm_problem::Fault> for Fault {
@@ -104,5 +76,25 @@ impl From<mm_problem::Fault> for Fault {
             mm_problem::Fault::NoMemory => Fault::NoMemory,
             _ => Fault::Setup(fault),
         }
+    }
+}
+
+impl Refused for Fault {
+    fn refusal(self) -> Refusal {
+        refusals!(self; NoMemory; below Setup)
+    }
+
+    ghost use Rattle.mm_ask.specs.Fault.{setup_refusal_of};
+
+    ghost refusal_of = { setup_refusal_of };
+}
+
+impl From<NoMemory> for Fault {
+    ghost use Rattle.mm_ask.specs.declared.fault.Fault.TheVariants.{NoMemory};
+
+    ghost from_gives = { λ _ e. e ≡ NoMemory };
+
+    fn from(_error: NoMemory) -> Fault {
+        Fault::NoMemory
     }
 }

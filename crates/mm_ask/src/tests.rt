@@ -8,18 +8,8 @@ mod reports;
 
 // A bounded store of size 4 on channel 0, with one route.
 const SCI: &str = "\
-[[store]]
-id = \"SCI\"
-size = 4
-type = \"bounded\"
-channel = 0
-
-[[route]]
-apid = 100
-service = 3
-subtype = 25
-store = \"SCI\"
-";
+    [[store]]\nid = \"SCI\"\nsize = 4\ntype = \"bounded\"\nchannel = 0\n\n\
+    [[route]]\napid = 100\nservice = 3\nsubtype = 25\nstore = \"SCI\"\n";
 
 // Requests on the store.
 const ENABLE: &str = "1864C000000D200F010000015343492020202020";

@@ -6,5 +6,4 @@ use Rattle.mm_base.specs.declared.refusal.Refusal.TheVariants as refusal
 
 -- which refusal it is
 abbrev pub refusal_of : Fault → Refusal
-refusal_of BadId = refusal.BadId
-refusal_of BadEnum = refusal.BadEnum
+refusal_of = elim [ BadId ↦ refusal.BadId | BadEnum ↦ refusal.BadEnum ]

@@ -17,3 +17,8 @@ test false fault = Err fault
 abbrev pub Gives : {F X Y : Type 0} → F → (X → Y) → Result X F → Result Y F → Type 0
 Gives lacks view (Ok x) given = given ≡ Ok (view x)
 Gives lacks view (Err e) given = e ≢ lacks → given ≡ Err e
+
+-- a refusal, unless it is want of memory, is one for which P holds
+abbrev pub IfRefused : {F X : Type 0} → F → Result X F → (F → Type 0) → Type 0
+IfRefused lacks (Ok x) P = Unit {0}
+IfRefused lacks (Err e) P = e ≢ lacks → P e

@@ -14,14 +14,14 @@ pub enum Fault {
 }
 
 impl Refused for Fault {
-    ghost use Rattle.mm_base.specs.Fault.{refusal_of};
-
-    ghost refusal_of = { refusal_of };
-
     fn refusal(self) -> Refusal {
         match self {
             Fault::BadId => Refusal::BadId,
             Fault::BadEnum => Refusal::BadEnum,
         }
     }
+
+    ghost use Rattle.mm_base.specs.Fault.{refusal_of};
+
+    ghost refusal_of = { refusal_of };
 }

@@ -31,3 +31,17 @@ pub trait Refused {
         self.refusal().name()
     }
 }
+
+/// Which refusal each case of a fault is: the one of the same name, where a case may have fields; another where it says `as`; and for a
+/// case that has a fault of a crate below, that fault's.
+#[macro_export]
+macro_rules! refusals {
+    ($fault:expr; $($same:ident),* $(; with $($field:ident),*)? $(; but $($case:ident as $other:ident),*)? $(; below $($lower:ident),*)?) => {
+        match $fault {
+            $(Self::$same => Refusal::$same,)*
+            $($(Self::$field { .. } => Refusal::$field,)*)?
+            $($(Self::$case => Refusal::$other,)*)?
+            $($(Self::$lower(fault) => fault.refusal(),)*)?
+        }
+    };
+}

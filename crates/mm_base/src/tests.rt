@@ -48,13 +48,13 @@ static REFUSALS: [(Refusal, &str); 6] = [
 #[test]
 fn refusals_are_printed_with_number_and_name(rt: HostRuntime) {
     for (refusal, text) in &REFUSALS {
-        let shown = refusal.to_string(rt.alloc()).expect(&rt, "memory");
-        assert_eq!(rt; shown.as_str(), *text);
+        assert_eq!(rt;
+            refusal.to_string(rt.alloc()).expect(&rt, "memory").as_str(),
+            *text
+        );
     }
-    let shown = NoMemory.to_string(rt.alloc()).expect(&rt, "memory");
-    assert_eq!(rt; shown.as_str(), "0 NoMemory");
-    let shown = Fault::BadEnum.to_string(rt.alloc()).expect(&rt, "memory");
-    assert_eq!(rt; shown.as_str(), "16 BadEnum");
+    let shown = format!(in rt.alloc(); "{} {}", NoMemory, Fault::BadEnum).expect(&rt, "memory");
+    assert_eq!(rt; shown.as_str(), "0 NoMemory 16 BadEnum");
 }
 
 static NUMERALS: [(&str, Numeral); 7] = [

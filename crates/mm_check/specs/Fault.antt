@@ -12,9 +12,7 @@ use Rattle.mm_check.specs.declared.fault.Fault.TheVariants.{NoMemory, Problem, P
 
 -- which refusal it is
 abbrev pub refusal_of : Fault → Refusal
-refusal_of NoMemory = refusal.NoMemory
-refusal_of (Problem fault) = problem_refusal fault
-refusal_of (Plan fault) = plan_refusal fault
+refusal_of = elim [ NoMemory ↦ refusal.NoMemory | Problem fault ↦ problem_refusal fault | Plan fault ↦ plan_refusal fault ]
 
 -- a fault of the setup or the forecast
 abbrev pub of_problem : ProblemFault → Fault

@@ -1,6 +1,6 @@
 //! The checker: from the octets of three texts to a verdict and its line.
 ghost use Rattle.std.specs.Prelude.{◌≡◌, ℕ, IfOk};
-ghost use Rattle.mm_plan.specs.Fault.{IfRefused};
+ghost use Rattle.mm_base.specs.Reading.{IfRefused};
 ghost use Rattle.mm_plan.specs.Table.{HasShape};
 ghost use Rattle.mm_plan.specs.declared.fault.Fault.TheVariants as plan_fault;
 ghost use Rattle.mm_check.specs.declared.fault.Fault.TheVariants.{NoMemory};

@@ -1,7 +1,7 @@
 //! Why texts have no plan or no verdict.
 ghost use Rattle.std.specs.Prelude.{◌≡◌};
 
-use mm_base::{NoMemory, Refusal, Refused};
+use mm_base::{NoMemory, Refusal, Refused, refusals};
 use thiserror::Error;
 
 /// Why texts have no plan or no verdict: a fault of the setup or the forecast, or one of the plan text. It is shown as
@@ -14,20 +14,6 @@ pub enum Fault {
     Problem(mm_problem::Fault),
     #[error(transparent)]
     Plan(mm_plan::Fault),
-}
-
-impl Refused for Fault {
-    ghost use Rattle.mm_check.specs.Fault.{refusal_of};
-
-    ghost refusal_of = { refusal_of };
-
-    fn refusal(self) -> Refusal {
-        match self {
-            Fault::NoMemory => Refusal::NoMemory,
-            Fault::Problem(fault) => fault.refusal(),
-            Fault::Plan(fault) => fault.refusal(),
-        }
-    }
 }
 
 impl From<mm_problem::Fault> for Fault {
@@ -54,6 +40,16 @@ impl From<mm_plan::Fault> for Fault {
             _ => Fault::Plan(fault),
         }
     }
+}
+
+impl Refused for Fault {
+    fn refusal(self) -> Refusal {
+        refusals!(self; NoMemory; below Problem, Plan)
+    }
+
+    ghost use Rattle.mm_check.specs.Fault.{refusal_of};
+
+    ghost refusal_of = { refusal_of };
 }
 
 impl From<NoMemory> for Fault {

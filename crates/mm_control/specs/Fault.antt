@@ -6,5 +6,4 @@ use Rattle.mm_control.specs.declared.fault.Fault.TheVariants.{NoSuchRoute, Table
 
 -- which refusal it is
 abbrev pub refusal_of : Fault → Refusal
-refusal_of NoSuchRoute = refusal.NoSuchRoute
-refusal_of TableFull = refusal.TableFull
+refusal_of = elim [ NoSuchRoute ↦ refusal.NoSuchRoute | TableFull ↦ refusal.TableFull ]

@@ -1,6 +1,6 @@
 //! Why a row is not added to the storage control, or not deleted from it.
 
-use mm_base::{Refusal, Refused};
+use mm_base::{Refusal, Refused, refusals};
 use thiserror::Error;
 
 /// A refusal of this crate. It is shown as its number, a space and its name.
@@ -19,9 +19,6 @@ impl Refused for Fault {
     ghost refusal_of = { refusal_of };
 
     fn refusal(self) -> Refusal {
-        match self {
-            Fault::NoSuchRoute => Refusal::NoSuchRoute,
-            Fault::TableFull => Refusal::TableFull,
-        }
+        refusals!(self; NoSuchRoute, TableFull)
     }
 }

@@ -130,7 +130,7 @@ module _ (q : Dumping) (x : Amounts) (ds : List Stretch) (are : AreStretches q d
       omega (arith, each, all_stores, sum_by-filter (in_step x t) (is_of q c) (stores q))
 
   -- a channel of an inner store has a limit, where each has one
-  inner_has_limit : (t c : ℕ) → All (IsLimited q t) ds → is_inner_on q ds t c ≡ true → IsSome (limit q c)
+  pub inner_has_limit : (t c : ℕ) → All (IsLimited q t) ds → is_inner_on q ds t c ≡ true → IsSome (limit q c)
   inner_has_limit t c limited inner =
       let some = Any-from_list_any (goes_past_on q t c) ds inner in
       let on = and_parts (goes_past t some.1) (eqb (channel_of q some.1) c) some.4 in
@@ -163,7 +163,7 @@ module _ (q : Dumping) (x : Amounts) (ds : List Stretch) (are : AreStretches q d
       omega (arith, groups, each, sum_by-filter (limit_or_0 q) (is_inner_on q ds t) (channels q))
 
   -- a listed step is one that is counted
-  listed_is_counted : (ts : List ℕ) (t : ℕ) → AreCounted q ds ts → is_listed ts t ≡ true → IsCounted q ds t
+  pub listed_is_counted : (ts : List ℕ) (t : ℕ) → AreCounted q ds ts → is_listed ts t ≡ true → IsCounted q ds t
   listed_is_counted ts t counted listed =
       let at = Any-from_list_any (λ k. eqb k t) ts listed in
       subst (IsCounted q ds) (at.3 ∙ eqb-true at.1 t at.4) (counted.each at.0 at.1 at.2)

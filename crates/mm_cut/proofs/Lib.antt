@@ -1,7 +1,9 @@
 pub mod StretchLosses
 pub mod Exchange
 pub mod Duality
+pub mod PartSums
 pub mod Counting
 pub mod Prefixes
 pub mod Exclusion
+pub mod Helping
 mod WorkedExamples

@@ -1,5 +1,5 @@
 -- Cuts, which show that no plan loses less than their bound.
-use Rattle.std.specs.Prelude.{ℕ, ◌+◌, ◌==◌, if◌then◌else◌, List, filter, unwrap_or, ℤ, pos, ◌-ℤ◌, ◌≤ℤ◌}
+use Rattle.std.specs.Prelude.{ℕ, ◌+◌, Bool, ◌==◌, ◌&&◌, not, if◌then◌else◌, List, filter, unwrap_or, ℤ, pos, ◌-ℤ◌, ◌≤ℤ◌}
 use Rattle.std.specs.List.{sum_by}
 use Rattle.mm_problem.specs.Dumping.{Dumping, size, start, limit, window, arrivals, steps, channels}
 use Rattle.mm_plan.specs.Volumes.{Amounts, loss}
@@ -40,6 +40,22 @@ leaving q ds ts t = if is_listed ts t then limit_sum q ds t else window q t
 -- what may leave in all inner steps, each step once
 abbrev pub leaving_sum : Dumping → List Stretch → List ℕ → ℕ
 leaving_sum q ds ts = sum_by (leaving q ds ts) (filter (is_inner ds) (steps q))
+
+-- whether a step counts by its window: it is inner, and not counted by channels
+abbrev pub counts_window : List Stretch → List ℕ → ℕ → Bool
+counts_window ds ts t = is_inner ds t && not (is_listed ts t)
+
+-- whether it counts by the limits of channels
+abbrev pub counts_limits : List Stretch → List ℕ → ℕ → Bool
+counts_limits ds ts t = is_inner ds t && is_listed ts t
+
+-- what may leave in the steps that count by their windows
+abbrev pub windows_sum : Dumping → List Stretch → List ℕ → ℕ
+windows_sum q ds ts = sum_by (window q) (filter (counts_window ds ts) (steps q))
+
+-- what may leave in the steps that count by the limits of channels
+abbrev pub limits_sum : Dumping → List Stretch → List ℕ → ℕ
+limits_sum q ds ts = sum_by (limit_sum q ds) (filter (counts_limits ds ts) (steps q))
 
 -- what comes in over all stretches
 abbrev pub coming_sum : Dumping → List Stretch → ℕ

@@ -1,9 +1,9 @@
 //! The bound of a cut.
-ghost use Rattle.std.specs.Prelude.{◌≡◌, ◌+◌, ◌*◌, ◌≤◌, length, All};
+ghost use Rattle.std.specs.Prelude.{◌≡◌, ℕ, ◌+◌, ◌*◌, ◌<◌, ◌≤◌, length, slice_index_or, false, All};
 ghost use Rattle.mm_base.specs.declared.limits.TheConstants.{MAX_STORES, MAX_STEPS, MAX_BLOCKS, CHANNELS};
 ghost use Rattle.mm_problem.specs.Dumping.{IsDumping};
 ghost use Rattle.mm_cut.specs.Stretches.{is_inner_on, IsStretch};
-ghost use Rattle.mm_cut.specs.Cuts.{opening, coming, coming_sum, held_sum, limit_sum, leaving, leaving_sum, IsCut, bound};
+ghost use Rattle.mm_cut.specs.Cuts.{opening, coming, coming_sum, held_sum, limit_sum, counts_window, counts_limits, windows_sum, limits_sum, IsCut, bound};
 
 use crate::counts::{is_inner, is_listed};
 use crate::stretches::{channel_of, covers, goes_past, store_of};
@@ -41,13 +41,29 @@ fn coming(problem: &Problem, stretch: &Stretch) -> u64
     coming
 }
 
-// Whether a step is inner in some stretch of a store of the channel.
-fn is_inner_on(problem: &Problem, stretches: &[Stretch], step: u32, channel: u8) -> bool
+/// Whether a step is inner in some stretch of a store of the channel.
+pub fn is_inner_on(problem: &Problem, stretches: &[Stretch], step: u32, channel: u8) -> bool
     requires { All (IsStretch problem.now) stretches.now }
     ensures { result ≡ is_inner_on problem.now stretches.now step channel }
 {
     stretches.iter().any(|stretch| goes_past(step, stretch)
         && channel_of(problem, stretch) == channel)
+}
+
+// The channels of the stores that are inner in the step.
+fn inner_channels(problem: &Problem, stretches: &[Stretch], step: u32) -> [bool; CHANNELS]
+    requires { All (IsStretch problem.now) stretches.now }
+    ensures channels { length result ≡ CHANNELS }
+    ensures inner { (c : ℕ) → c < CHANNELS
+        → slice_index_or result c false ≡ is_inner_on problem.now stretches.now step c }
+{
+    let mut inner = [false; CHANNELS];
+    for stretch in stretches {
+        if goes_past(step, stretch) {
+            inner[channel_of(problem, stretch) as usize] = true;
+        }
+    }
+    inner
 }
 
 // The limits of the channels of the stores that are inner in the step, each channel once.
@@ -58,42 +74,56 @@ fn limit_sum(problem: &Problem, stretches: &[Stretch], step: u32) -> u64
     ensures sum { result ≡ limit_sum problem.now stretches.now step }
     ensures most { result ≤ CHANNELS * MAX_BLOCKS }
 {
+    let inner = inner_channels(problem, stretches, step);
     let mut sum: u64 = 0;
     for channel in 0..CHANNELS as u8 {
-        if is_inner_on(problem, stretches, step, channel) {
+        if inner[channel as usize] {
             sum += u64::from(problem.limit(channel).unwrap_or(0));
         }
     }
     sum
 }
 
-// The most that may leave the stores that are inner in the step.
-fn leaving(problem: &Problem, stretches: &[Stretch], counts: &[u32], step: u32) -> u64
-    requires is_dumping { IsDumping problem.now }
-    requires stretches { All (IsStretch problem.now) stretches.now }
-    requires first { 1 ≤ step }
-    requires last { step ≤ length problem.now.windows }
-    ensures leaving { result ≡ leaving problem.now stretches.now counts.now step }
-    ensures most { result ≤ CHANNELS * MAX_BLOCKS }
+/// Whether a step counts by its window: it is an inner step of some stretch, and not counted by channels.
+pub fn counts_window(stretches: &[Stretch], counts: &[u32], step: u32) -> bool
+    ensures { result ≡ counts_window stretches.now counts.now step }
 {
-    if is_listed(counts, step) {
-        limit_sum(problem, stretches, step)
-    } else {
-        u64::from(problem.window(step))
-    }
+    is_inner(stretches, step) && !is_listed(counts, step)
 }
 
-// What may leave in all inner steps, each step once.
+/// Whether a step counts by the limits of channels.
+pub fn counts_limits(stretches: &[Stretch], counts: &[u32], step: u32) -> bool
+    ensures { result ≡ counts_limits stretches.now counts.now step }
+{
+    is_inner(stretches, step) && is_listed(counts, step)
+}
+
+// What may leave in the steps that count by their windows.
 #[tactic(auto, using(mm_sums::proofs::RangeSums::sum_by_filter_range_next))]
-fn leaving_sum(problem: &Problem, stretches: &[Stretch], counts: &[u32]) -> u64
+fn windows_sum(problem: &Problem, stretches: &[Stretch], counts: &[u32]) -> u64
+    ensures sum { result ≡ windows_sum problem.now stretches.now counts.now }
+    ensures most { result ≤ MAX_STEPS * MAX_BLOCKS }
+{
+    let mut sum: u64 = 0;
+    for step in 1..problem.steps() + 1 {
+        if counts_window(stretches, counts, step) {
+            sum += u64::from(problem.window(step));
+        }
+    }
+    sum
+}
+
+// What may leave in the steps that count by the limits of channels.
+#[tactic(auto, using(mm_sums::proofs::RangeSums::sum_by_filter_range_next))]
+fn limits_sum(problem: &Problem, stretches: &[Stretch], counts: &[u32]) -> u64
     requires { All (IsStretch problem.now) stretches.now }
-    ensures sum { result ≡ leaving_sum problem.now stretches.now counts.now }
+    ensures sum { result ≡ limits_sum problem.now stretches.now counts.now }
     ensures most { result ≤ MAX_STEPS * (CHANNELS * MAX_BLOCKS) }
 {
     let mut sum: u64 = 0;
     for step in 1..problem.steps() + 1 {
-        if is_inner(stretches, step) {
-            sum += leaving(problem, stretches, counts, step);
+        if counts_limits(stretches, counts, step) {
+            sum += limit_sum(problem, stretches, step);
         }
     }
     sum
@@ -127,15 +157,47 @@ fn held_sum(problem: &Problem, stretches: &[Stretch]) -> u64
     sum
 }
 
+/// The sums that the bound of a cut is made of, in blocks.
+#[derive(Clone, Copy, Debug, PartialEq, Eq)]
+pub struct Parts {
+    /// What comes in over the stretches, with what stands there where one begins with step 1.
+    pub coming: u64,
+    /// What may be held as they end: the sizes of their stores.
+    pub held: u64,
+    /// What may leave by the windows of the inner steps that are not counted by channels.
+    pub windows: u64,
+    /// What may leave by the limits of the channels in the steps that are.
+    pub limits: u64,
+}
+
+/// The sums that the bound of a cut is made of.
+pub fn parts_of(problem: &Problem, stretches: &[Stretch], counts: &[u32]) -> Parts
+    requires { IsCut problem.now stretches.now counts.now }
+    ensures coming { result.coming ≡ coming_sum problem.now stretches.now }
+    ensures held { result.held ≡ held_sum problem.now stretches.now }
+    ensures windows { result.windows ≡ windows_sum problem.now stretches.now counts.now }
+    ensures limits { result.limits ≡ limits_sum problem.now stretches.now counts.now }
+    ensures few_come { result.coming ≤ MAX_STEPS * MAX_STORES * (MAX_BLOCKS + MAX_STEPS * MAX_BLOCKS) }
+    ensures few_stay { result.held ≤ MAX_STEPS * MAX_STORES * MAX_BLOCKS }
+    ensures few_leave { result.windows + result.limits ≤ MAX_STEPS * (CHANNELS * MAX_BLOCKS + MAX_BLOCKS) }
+{
+    // at most one stretch for each store and step, so that the sums fit
+    prove!(problem.stores() <= MAX_STORES && problem.steps() <= MAX_STEPS);
+    Parts {
+        coming: coming_sum(problem, stretches),
+        held: held_sum(problem, stretches),
+        windows: windows_sum(problem, stretches, counts),
+        limits: limits_sum(problem, stretches, counts),
+    }
+}
+
 /// The bound of a cut, in blocks: what comes in over its stretches, less what may be held as they end and what may
 /// leave in inner steps. No plan that fits loses less. It may be below 0.
+#[tactic(auto, using(crate::proofs::PartSums::leaving_sum_parts))]
 pub fn bound(problem: &Problem, stretches: &[Stretch], counts: &[u32]) -> i64
     requires { IsCut problem.now stretches.now counts.now }
     ensures bound { result ≡ bound problem.now stretches.now counts.now }
 {
-    // at most one stretch for each store and step, so that the sums fit
-    prove!(problem.stores() <= MAX_STORES && problem.steps() <= MAX_STEPS);
-    let held = held_sum(problem, stretches);
-    let leaving = leaving_sum(problem, stretches, counts);
-    coming_sum(problem, stretches) as i64 - (held + leaving) as i64
+    let parts = parts_of(problem, stretches, counts);
+    parts.coming as i64 - (parts.held + parts.windows + parts.limits) as i64
 }

@@ -1,4 +1,5 @@
 //! The laws of cuts and verdicts, over their definitions alone.
+ghost use Rattle.mm_cut.specs.Changes.{CutsCountAlike, OnlyCountedHelps};
 ghost use Rattle.mm_cut.specs.Cuts.{CutsBoundLosses};
 ghost use Rattle.mm_cut.specs.Verdicts.{VerdictsExclude};
 
@@ -10,4 +11,16 @@ pub fn cuts_bound_losses()
 /// Of one plan, cut, printed loss and printed bound no two verdicts hold.
 pub fn verdicts_exclude()
     ensures { VerdictsExclude }
+{}
+
+/// Two problems that agree in all that a cut counts give it the same bound.
+pub fn cuts_count_alike()
+    ensures { CutsCountAlike }
+{}
+
+/// Only what a cut counts can lower its bound: the arrivals of its stretches and their stores' sizes, the windows of the
+/// steps that count by them, and in the steps that count by channels the limits of the channels concerned. No plan that
+/// fits a problem which helps nowhere there loses less than the bound.
+pub fn only_counted_helps()
+    ensures { OnlyCountedHelps }
 {}

@@ -8,8 +8,8 @@ use mm_base::{MAX_STEPS, MAX_STORES};
 use mm_plan::Stretch;
 use mm_problem::Problem;
 
-// The place of a stretch's store.
-pub(crate) fn store_of(problem: &Problem, stretch: &Stretch) -> usize
+/// The place of a stretch's store, from 0 in setup order.
+pub fn store_of(problem: &Problem, stretch: &Stretch) -> usize
     requires { IsStretch problem.now stretch.now }
     ensures store { result ≡ store_of problem.now stretch.now }
     ensures within { result < length problem.now.rows }
@@ -33,8 +33,8 @@ pub(crate) fn covers(stretch: &Stretch, step: u32) -> bool
     stretch.first <= step && step <= stretch.last
 }
 
-// Whether it is an inner step of the stretch.
-pub(crate) fn goes_past(step: u32, stretch: &Stretch) -> bool
+/// Whether a step is an inner step of the stretch: one of its steps, and not its last.
+pub fn goes_past(step: u32, stretch: &Stretch) -> bool
     ensures { result ≡ goes_past step stretch.now }
 {
     stretch.first <= step && step < stretch.last

@@ -6,6 +6,12 @@ use mm_problem::{Problem, Setup};
 use std::alloc::Global;
 use std::test::Fail;
 
+const THREE_STEPS: &str = "step,window,SCI\n1,2,3\n2,2,3\n3,0,4\n";
+
+const APART: &str = "step,window,SCI\n1,0,5\n2,9,0\n3,0,5\n";
+
+const TWO_STEPS_OF_A: &str = "step,window,A\n1,5,3\n2,0,3\n";
+
 const SCI: &str = "[[store]]\nid = \"SCI\"\nsize = 4\ntype = \"bounded\"\nchannel = 0\n";
 
 const SCI_STARTS_WITH_2: &str =
@@ -14,21 +20,6 @@ const SCI_STARTS_WITH_2: &str =
 const SCI_OF_SIZE_2: &str = "[[store]]\nid = \"SCI\"\nsize = 2\ntype = \"bounded\"\nchannel = 0\n";
 
 const A: &str = "[[store]]\nid = \"A\"\nsize = 3\ntype = \"bounded\"\nchannel = 0\n";
-
-const A_LIMITED: &str =
-    "[[store]]\nid = \"A\"\nsize = 3\ntype = \"bounded\"\nchannel = 0\n[[limit]]\nchannel = 0\nblocks = 1\n";
-
-const A_AND_B: &str =
-    "[[store]]\nid = \"A\"\nsize = 3\ntype = \"bounded\"\nchannel = 0\n\n[[store]]\nid = \"B\"\nsize = 3\ntype = \"bounded\"\nchannel = 0\n";
-
-const A_AND_B_LIMITED: &str =
-    "[[store]]\nid = \"A\"\nsize = 3\ntype = \"bounded\"\nchannel = 0\n\n[[store]]\nid = \"B\"\nsize = 3\ntype = \"bounded\"\nchannel = 0\n\n[[limit]]\nchannel = 0\nblocks = 1\n";
-
-const THREE_STEPS: &str = "step,window,SCI\n1,2,3\n2,2,3\n3,0,4\n";
-
-const APART: &str = "step,window,SCI\n1,0,5\n2,9,0\n3,0,5\n";
-
-const TWO_STEPS_OF_A: &str = "step,window,A\n1,5,3\n2,0,3\n";
 
 // A plan with its cut, and what is found of them by hand.
 struct Row {
@@ -40,6 +31,15 @@ struct Row {
     bound: Option<i64>,
     verdict: Verdict,
 }
+
+const A_LIMITED: &str =
+    "[[store]]\nid = \"A\"\nsize = 3\ntype = \"bounded\"\nchannel = 0\n[[limit]]\nchannel = 0\nblocks = 1\n";
+
+const A_AND_B: &str =
+    "[[store]]\nid = \"A\"\nsize = 3\ntype = \"bounded\"\nchannel = 0\n\n[[store]]\nid = \"B\"\nsize = 3\ntype = \"bounded\"\nchannel = 0\n";
+
+const A_AND_B_LIMITED: &str =
+    "[[store]]\nid = \"A\"\nsize = 3\ntype = \"bounded\"\nchannel = 0\n\n[[store]]\nid = \"B\"\nsize = 3\ntype = \"bounded\"\nchannel = 0\n\n[[limit]]\nchannel = 0\nblocks = 1\n";
 
 const ROWS: [Row; 13] = [
     // first_run
@@ -207,14 +207,9 @@ fn plans_and_cuts_of_the_worked_examples(rt: HostRuntime) -> Result<(), Fail> {
             row.sheet
         );
         assert_eq!(rt; bound_of(&problem, &sheet), row.bound, "for {}", row.sheet);
-        let verdict = verify(
-            &problem,
-            sheet.plan(),
-            sheet.cut(),
-            sheet.by_channels(),
-            sheet.loss(),
-            sheet.bound(),
-        );
+        let (cut, counts) = (sheet.cut(), sheet.by_channels());
+        let (loss, bound) = (sheet.loss(), sheet.bound());
+        let verdict = verify(&problem, sheet.plan(), cut, counts, loss, bound);
         assert_eq!(rt; verdict, row.verdict, "for {}", row.sheet);
     }
     Ok(())

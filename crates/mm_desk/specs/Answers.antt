@@ -1,15 +1,15 @@
 -- Which replies an event may have. No public clause cites this module.
-use Rattle.std.specs.Prelude.{◌≢◌, Ok, Err}
+use Rattle.std.specs.Prelude.{◌≡◌, ◌≢◌, Ok, Err}
 use Rattle.mm_desk.specs.declared.event.Event.{Event}
 use Rattle.mm_desk.specs.declared.event.Event.TheVariants.{Offer, Begin, Next, Abort, Delete, Enable, Disable}
 use Rattle.mm_desk.specs.declared.fault.Fault.TheVariants.{NoMemory}
 use Rattle.mm_desk.specs.declared.reply.Reply.{Reply}
 use Rattle.mm_desk.specs.declared.reply.Reply.TheVariants as reply
 
--- the reply is of the event's sort, and not that there is no memory
+-- the reply is of the event's sort, and not that there is no memory; a packet that is handed back is the one offered
 abbrev pub Answers : Event → Reply → Type 0
 Answers (Offer now packet) (reply.Offered (Ok offered)) = Unit {0}
-Answers (Offer now packet) (reply.Offered (Err back)) = back.fault ≢ NoMemory
+Answers (Offer now packet) (reply.Offered (Err back)) = (back.fault ≢ NoMemory) × (back.packet ≡ packet)
 Answers (Begin from to) (reply.Done done) = done ≢ Err NoMemory
 Answers Next (reply.Given given) = given ≢ Err NoMemory
 Answers Abort (reply.Done done) = done ≢ Err NoMemory

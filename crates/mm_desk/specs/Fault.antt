@@ -1,4 +1,4 @@
--- The refusals of this crate.
+-- What a store refuses.
 use Rattle.mm_base.specs.declared.refusal.Refusal.{Refusal}
 use Rattle.mm_base.specs.declared.refusal.Refusal.TheVariants as refusal
 use Rattle.mm_store.specs.declared.fault.Fault.{Fault as StoreFault}
@@ -8,14 +8,16 @@ use Rattle.mm_desk.specs.declared.fault.Fault.TheVariants.{NoMemory, HoldsMore, 
 
 -- which refusal it is
 abbrev pub refusal_of : Fault → Refusal
-refusal_of NoMemory = refusal.NoMemory
-refusal_of HoldsMore = refusal.HoldsMore
-refusal_of Disabled = refusal.Disabled
-refusal_of Busy = refusal.Busy
-refusal_of Idle = refusal.NoRetrieval
-refusal_of BadRange = refusal.BadRange
-refusal_of ClockEnd = refusal.ClockEnd
-refusal_of StorageOn = refusal.StorageOn
+refusal_of = elim [
+  | NoMemory ↦ refusal.NoMemory
+  | HoldsMore ↦ refusal.HoldsMore
+  | Disabled ↦ refusal.Disabled
+  | Busy ↦ refusal.Busy
+  | Idle ↦ refusal.NoRetrieval
+  | BadRange ↦ refusal.BadRange
+  | ClockEnd ↦ refusal.ClockEnd
+  | StorageOn ↦ refusal.StorageOn
+]
 
 -- the refusal of a packet store, as one of this crate
 abbrev pub fault_of_store : StoreFault → Fault

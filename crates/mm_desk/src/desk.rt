@@ -177,6 +177,7 @@ impl<N: Opening> Desk<N> {
         packet: BlockPacket,
     ) -> Result<Offered, Returned>
         ensures tells { Tells seat.old (Event.Offer now packet) (Reply.Offered result) seat.new }
+        ensures back { IfErr result (λ back. back.packet ≡ packet) }
     {
         match self.call(rt, alloc, seat, Event::Offer(now, packet)) {
             Ok(Reply::Offered(answer)) => answer,

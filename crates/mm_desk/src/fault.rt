@@ -1,7 +1,7 @@
 //! Why a store refuses what is asked of it.
 ghost use Rattle.std.specs.Prelude.{◌≡◌};
 
-use mm_base::{Refusal, Refused};
+use mm_base::{NoMemory, Refusal, Refused, refusals};
 use thiserror::Error;
 
 /// A refusal of this crate. It is shown as its number and its name.
@@ -10,8 +10,6 @@ use thiserror::Error;
 pub enum Fault {
     /// An allocation was refused.
     NoMemory,
-    /// The store holds more packets than the new size has blocks.
-    HoldsMore,
     /// Storage is off.
     Disabled,
     /// A retrieval is on.
@@ -24,35 +22,8 @@ pub enum Fault {
     ClockEnd,
     /// Storage is on.
     StorageOn,
-}
-
-impl Refused for Fault {
-    ghost use Rattle.mm_desk.specs.Fault.{refusal_of};
-
-    ghost refusal_of = { refusal_of };
-
-    fn refusal(self) -> Refusal {
-        match self {
-            Fault::NoMemory => Refusal::NoMemory,
-            Fault::HoldsMore => Refusal::HoldsMore,
-            Fault::Disabled => Refusal::Disabled,
-            Fault::Busy => Refusal::Busy,
-            Fault::Idle => Refusal::NoRetrieval,
-            Fault::BadRange => Refusal::BadRange,
-            Fault::ClockEnd => Refusal::ClockEnd,
-            Fault::StorageOn => Refusal::StorageOn,
-        }
-    }
-}
-
-impl From<mm_base::NoMemory> for Fault {
-    ghost use Rattle.mm_desk.specs.declared.fault.Fault.TheVariants.{NoMemory};
-
-    ghost from_gives = { λ _ e. e ≡ NoMemory };
-
-    fn from(_error: mm_base::NoMemory) -> Fault {
-        Fault::NoMemory
-    }
+    /// The store holds more packets than the new size has blocks.
+    HoldsMore,
 }
 
 impl From<mm_store::Fault> for Fault {
@@ -65,5 +36,28 @@ impl From<mm_store::Fault> for Fault {
             mm_store::Fault::NoMemory => Fault::NoMemory,
             mm_store::Fault::HoldsMore => Fault::HoldsMore,
         }
+    }
+}
+
+impl Refused for Fault {
+    fn refusal(self) -> Refusal {
+        refusals!(
+            self;
+            NoMemory, HoldsMore, Disabled, Busy, BadRange, ClockEnd, StorageOn; but Idle as NoRetrieval
+        )
+    }
+
+    ghost use Rattle.mm_desk.specs.Fault.{refusal_of};
+
+    ghost refusal_of = { refusal_of };
+}
+
+impl From<NoMemory> for Fault {
+    ghost use Rattle.mm_desk.specs.declared.fault.Fault.TheVariants.{NoMemory};
+
+    ghost from_gives = { λ _ e. e ≡ NoMemory };
+
+    fn from(_error: NoMemory) -> Fault {
+        Fault::NoMemory
     }
 }

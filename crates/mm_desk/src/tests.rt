@@ -10,13 +10,7 @@ use std::test::Fail;
 
 // Telemetry with this sequence count, by which the tests know it again.
 fn packet(rt: &impl Abort, alloc: Global, count: u16) -> BlockPacket {
-    let header = Header {
-        apid: 100,
-        count: count % 1000,
-        low: 0,
-        service: 3,
-        subtype: 25,
-    };
+    let header = Header::new(100, count % 1000, 3, 25);
     let packet = Packet::tm(header, 0, 0, 0, Octets::new(Vec::new(alloc)));
     BlockPacket::of(packet).expect(rt, "a short packet")
 }
@@ -24,13 +18,13 @@ fn packet(rt: &impl Abort, alloc: Global, count: u16) -> BlockPacket {
 // What is asked of a store, with packets by their sequence counts.
 #[derive(Clone, Copy, Debug)]
 enum Ask {
+    Enable,
+    Disable,
     Offer(u64, u16),
     Begin(u64, u64),
     Next,
     Abort,
     Delete(u64),
-    Enable,
-    Disable,
     Rest,
     Resize(u32),
     ChangeKind(Kind),

@@ -1,5 +1,9 @@
-pub mod Stations
-pub mod Recorded
-pub mod Recorders
-pub mod Closings
-pub mod Steps
+pub use Rattle.mm_ready.specs.Ready
+pub mod Places
+pub mod Step
+pub mod Mission
+pub mod Numbers
+pub mod Going
+pub mod Course
+pub mod Ending
+pub mod Flying

@@ -1,18 +1,20 @@
-//! One step of a run: recorders write into stores behind locks, in threads of their own.
+//! The run of a dump plan: every step recorded and dumped, with the report of what came, was lost, dumped and is held.
 #![tactic(auto)]
 
-mod closing;
-mod held;
-mod offering;
-mod opening;
-mod recorder;
-mod source;
-mod station;
+mod course;
+mod flight;
+mod flying;
+mod orders;
+mod places;
+mod room;
+mod run;
 mod step;
+mod tallies;
 
-pub use held::Held;
-pub use source::Source;
-pub use step::{NotBegun, Recording, record};
+pub use flight::{Flight, Flown, Halted, NotFlown};
+pub use flying::fly;
+pub use mm_ready::Cause;
+pub use run::carry_out;
 
 #[cfg(test)]
 mod tests;

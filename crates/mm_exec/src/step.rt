@@ -1,155 +1,216 @@
-//! A step of recorders: each in a thread of its own where one can be made, over any number of stores.
-ghost use Rattle.std.specs.Prelude.{◌≡◌, ◌≢◌, ◌≤◌, ℕ, [], All, IsTrue, IfNone, IfOk, IfErr, vec_len, vec_capacity};
-ghost use Rattle.mm_exec.specs.Closings.{labels_of, states_of, AllRecorded};
-ghost use Rattle.mm_exec.specs.Recorders.{AreUnused};
-ghost use Rattle.mm_exec.specs.Stations.{AreNamed};
-ghost use Rattle.mm_exec.specs.Steps.{step_errand, given_in, AllKeep, AreWhole};
+//! One step of a run: what comes is recorded, and then dumped.
+ghost use Rattle.std.specs.Prelude.{◌≡◌, ◌≢◌, ◌-◌, ◌<◌, ◌≤◌, ◌^◌, length, All, AllPairs, IsTrue, IfSome, IfNone, IfOk, IfErr, vec_len};
+ghost use Rattle.mm_base.specs.declared.limits.TheConstants.{MAX_STORES};
+ghost use Rattle.mm_desk.specs.declared.desk.TheConstants.{MAX_SEATS};
+ghost use Rattle.mm_crew.specs.Stations.{AreNamed};
+ghost use Rattle.mm_record.specs.Steps.{step_errand};
+ghost use Rattle.mm_exec.specs.Step.{HasRecorded, HasDumped, HasStepped, IsCauseIn, HasBrokenOff, dump_cause, BrokeRecording, BrokeOrders, BrokeStep};
+ghost use Rattle.mm_record.specs.Causes.{cause_in};
 
-use crate::closing::close_all;
-use crate::held::Held;
-use crate::opening::{Rooms, new_rooms, open_all, pair_all, part_all};
-use crate::recorder::{Recorder, record_all};
-use crate::source::Source;
-use mm_base::NoMemory;
 use mm_control::ControlTable;
-use mm_desk::{Fault, Opening};
+use mm_desk::{Fault, Held};
+use mm_dump::{Dumping, NotDumped, dump};
+use mm_order::{Link, Order, OrderBroken};
+use mm_ready::Cause;
+use mm_record::{NotBegun, Recording, Source, record};
+use mm_runs::halves_make_step_runs;
 use std::alloc::Global;
-use std::marker::Brand;
 use std::sync::Wait;
 use std::thread::Threads;
 
-/// What a step of recorders leaves: its stores and its sources, the fault at which the first recorder broke off where one
-/// did, and whether each store's log is a shuffle of the lists that the recorders kept.
+/// What a step takes and gives back: the stores, the sources and the links.
 #[derive(Drop)]
-pub struct Recording<S: Drop> {
-    pub stores: Vec<Held>,
-    pub sources: Vec<S>,
-    pub broken: Option<Fault>,
-    pub agree: bool,
+pub(crate) struct Cargo<S: Drop, L: Drop> {
+    pub(crate) stores: Vec<Held>,
+    pub(crate) sources: Vec<S>,
+    pub(crate) links: Vec<L>,
 }
 
-/// The stores and the sources of a step for which there was no memory, as they were.
+/// A step that was broken off: why, how many blocks were drawn, and what is left.
 #[derive(Drop)]
-pub struct NotBegun<S: Drop> {
-    pub stores: Vec<Held>,
-    pub sources: Vec<S>,
+pub(crate) struct BrokenOff<S: Drop, L: Drop> {
+    pub(crate) cause: Cause,
+    pub(crate) spent: u64,
+    pub(crate) cargo: Cargo<S, L>,
 }
 
-// The fault at which the first recorder broke off, where one did.
-fn first_broken<N: Opening, S: Drop>(recorders: &[Recorder<N, S>]) -> Option<Fault>
-    ensures none { IfNone result (AreWhole recorders.now) }
+// Why a step of recorders ends a run, where it does.
+fn recorders_cause(step: u32, agree: bool, broken: Option<Fault>) -> Option<Cause>
+    ensures is { result ≡ cause_in step agree broken }
+    ensures none { IfNone result (IsTrue agree × (broken ≡ None)) }
+    ensures some { IfSome result (IsCauseIn step) }
 {
-    for recorder in recorders {
-        if recorder.broken.is_some() {
-            return recorder.broken;
-        }
+    if !agree {
+        return Some(Cause::LogMismatch { step });
     }
-    None
+    match broken {
+        None => None,
+        Some(Fault::NoMemory) => Some(Cause::NoMemory { step }),
+        Some(_) => Some(Cause::LogMismatch { step }),
+    }
 }
 
-// Records a step in rooms made for it.
-fn record_in<N: Opening + Send + Sync, S: Source + Send + Drop, R: Threads + Wait + Sync>(
+// Why a step of dump workers ends a run, where it does.
+fn dumpers_cause(step: u32, agree: bool, broken: Option<OrderBroken>) -> Option<Cause>
+    ensures is { result ≡ dump_cause step agree broken }
+    ensures none { IfNone result (IsTrue agree × (broken ≡ None)) }
+    ensures some { IfSome result (IsCauseIn step) }
+{
+    if !agree {
+        return Some(Cause::LogMismatch { step });
+    }
+    match broken {
+        None => None,
+        Some(OrderBroken::Refused) => Some(Cause::LogMismatch { step }),
+        Some(OrderBroken::NoMemory) => Some(Cause::NoMemory { step }),
+        Some(OrderBroken::LinkFailed) => Some(Cause::LinkFailed { step }),
+    }
+}
+
+// Records what comes in a step.
+fn record_part<S: Source + Send + Drop, L: Drop, R: Threads + Wait + Sync>(
     rt: &R,
     alloc: Global,
     control: &ControlTable,
     step: u32,
     now: u64,
-    stores: Vec<Held>,
-    sources: Vec<S>,
-    rooms: Rooms<N, S>,
-) -> Recording<S>
-    requires few { vec_len stores ≤ 16 }
-    requires many { vec_len sources ≤ 16 }
-    requires named { AreNamed (step_errand step now control.now stores.items).ids }
-    requires states { N.states ≡ states_of stores.items }
-    requires seated { vec_len rooms.seatings ≡ vec_len sources }
-    requires unused { All (λ s. AreUnused (vec_len stores) s.seats.items) rooms.seatings.items }
-    requires recorders { (rooms.recorders.items ≡ []) × (vec_len sources ≤ vec_capacity rooms.recorders) }
-    requires stations { (rooms.stations.items ≡ []) × (vec_len stores ≤ vec_capacity rooms.stations) }
-    ensures labels { labels_of result.stores.items ≡ labels_of stores.items }
-    ensures recorded { IsTrue result.agree → IfNone result.broken (AllRecorded (step_errand step now control.now stores.items)
-        (given_in S.gives step sources.items) (states_of stores.items) (states_of result.stores.items)) }
-    ensures nothing_left { IfNone result.broken (All (λ s. S.gives s step ≡ []) result.sources.items) }
-    ensures kept { AllKeep S.gives step sources.items result.sources.items }
-    ensures others { (t : ℕ) → t ≢ step → given_in S.gives t result.sources.items ≡ given_in S.gives t sources.items }
+    cargo: Cargo<S, L>,
+) -> Result<Cargo<S, L>, BrokenOff<S, L>>
+    requires few { vec_len cargo.stores ≤ MAX_STORES }
+    requires many { vec_len cargo.sources ≤ MAX_SEATS }
+    requires named { AreNamed (step_errand step now control.now cargo.stores.items).ids }
+    ensures ok { IfOk result (HasRecorded S.gives (step_errand step now control.now cargo.stores.items) cargo) }
+    ensures err { IfErr result (HasBrokenOff S.gives step 0 cargo) }
+    ensures how { IfErr result (BrokeRecording S.gives (step_errand step now control.now cargo.stores.items) cargo) }
 {
-    let Rooms {
-        seatings,
-        recorders,
-        stations,
-    } = rooms;
-    let seats = sources.len() as u32;
-    let (stations, stores) = open_all(alloc, stores, stations, seats);
-    let (recorders, sources) = pair_all(sources, seatings, recorders);
-    let recorders = record_all(rt, alloc, &stations, control, step, now, recorders);
-    let (stores, agree) = close_all(stations, &recorders, stores);
-    let broken = first_broken(&recorders);
-    let sources = part_all(recorders, sources);
-    Recording {
+    let Cargo {
         stores,
         sources,
-        broken,
-        agree,
+        links,
+    } = cargo;
+    match record(rt, alloc, control, step, now, stores, sources) {
+        Ok(
+            Recording {
+                stores,
+                sources,
+                broken,
+                agree,
+            },
+        ) => {
+            let cargo = Cargo {
+                stores,
+                sources,
+                links,
+            };
+            match recorders_cause(step, agree, broken) {
+                Some(cause) => Err(BrokenOff {
+                    cause,
+                    spent: 0,
+                    cargo,
+                }),
+                None => Ok(cargo),
+            }
+        }
+        Err(NotBegun { stores, sources }) => Err(BrokenOff {
+            cause: Cause::NoMemory { step },
+            spent: 0,
+            cargo: Cargo {
+                stores,
+                sources,
+                links,
+            },
+        }),
     }
 }
 
-// Records a step, where there is memory for it.
-fn record_as<N: Opening + Send + Sync, S: Source + Send + Drop, R: Threads + Wait + Sync>(
+// Carries out the orders of a step.
+fn dump_part<S: Source + Drop, L: Link + Send + Drop, R: Threads + Wait + Sync>(
     rt: &R,
     alloc: Global,
-    control: &ControlTable,
+    window: u32,
+    orders: &[Order],
     step: u32,
-    now: u64,
-    stores: Vec<Held>,
-    sources: Vec<S>,
-) -> Result<Recording<S>, NotBegun<S>>
-    requires few { vec_len stores ≤ 16 }
-    requires many { vec_len sources ≤ 16 }
-    requires named { AreNamed (step_errand step now control.now stores.items).ids }
-    requires states { N.states ≡ states_of stores.items }
-    ensures labels { IfOk result (λ r. labels_of r.stores.items ≡ labels_of stores.items) }
-    ensures recorded { IfOk result (λ r. IsTrue r.agree → IfNone r.broken (AllRecorded (step_errand step now control.now stores.items)
-        (given_in S.gives step sources.items) (states_of stores.items) (states_of r.stores.items))) }
-    ensures nothing_left { IfOk result (λ r. IfNone r.broken (All (λ s. S.gives s step ≡ []) r.sources.items)) }
-    ensures kept { IfOk result (λ r. AllKeep S.gives step sources.items r.sources.items) }
-    ensures others { IfOk result (λ r. (t : ℕ) → t ≢ step → given_in S.gives t r.sources.items ≡ given_in S.gives t sources.items) }
-    ensures stores_back { IfErr result (λ back. back.stores ≡ stores) }
-    ensures sources_back { IfErr result (λ back. back.sources ≡ sources) }
+    cargo: Cargo<S, L>,
+) -> Result<Cargo<S, L>, BrokenOff<S, L>>
+    requires some_link { 1 ≤ vec_len cargo.links }
+    requires few_links { vec_len cargo.links ≤ MAX_SEATS }
+    requires few { vec_len cargo.stores ≤ MAX_STORES }
+    requires few_orders { length orders.now ≤ MAX_STORES }
+    requires places { All (λ o. o.place < vec_len cargo.stores) orders.now }
+    requires amounts { All (λ o. 1 ≤ o.amount) orders.now }
+    requires apart { AllPairs (λ a b. a.place ≢ b.place) orders.now }
+    requires room { All (λ l. L.failed l < 2 ^ 64 - 1) cargo.links.items }
+    ensures ok { IfOk result (HasDumped L.sent L.failed orders.now cargo) }
+    ensures err { IfErr result (HasBrokenOff S.gives step window cargo) }
+    ensures how { IfErr result (BrokeOrders L.sent L.failed step orders.now cargo) }
 {
-    match new_rooms(alloc, stores.len() as u32, sources.len() as u32) {
-        Ok(rooms) => Ok(record_in::<N, S, R>(
-            rt, alloc, control, step, now, stores, sources, rooms,
-        )),
-        Err(_) => Err(NotBegun { stores, sources }),
+    let Cargo {
+        stores,
+        sources,
+        links,
+    } = cargo;
+    match dump(rt, alloc, u64::from(window), orders, stores, links) {
+        Ok(
+            Dumping {
+                stores,
+                links,
+                broken,
+                agree,
+                spent,
+            },
+        ) => {
+            let cargo = Cargo {
+                stores,
+                sources,
+                links,
+            };
+            match dumpers_cause(step, agree, broken) {
+                Some(cause) => Err(BrokenOff {
+                    cause,
+                    spent,
+                    cargo,
+                }),
+                None => Ok(cargo),
+            }
+        }
+        Err(NotDumped { stores, links }) => Err(BrokenOff {
+            cause: Cause::NoMemory { step },
+            spent: 0,
+            cargo: Cargo {
+                stores,
+                sources,
+                links,
+            },
+        }),
     }
 }
 
-/// Records a step: each source's packets of the step are taken by a recorder of its own, which offers a copy of each, at this
-/// moment, to the stores that its report type is routed to. Where there is no memory for seats, recorders and desks, nothing
-/// is begun.
-pub fn record<S: Source + Send + Drop, R: Threads + Wait + Sync>(
+// Carries out one step: records what comes, and then carries out its orders.
+pub(crate) fn carry_step<S: Source + Send + Drop, L: Link + Send + Drop, R: Threads + Wait + Sync>(
     rt: &R,
     alloc: Global,
     control: &ControlTable,
+    window: u32,
+    orders: &[Order],
     step: u32,
     now: u64,
-    stores: Vec<Held>,
-    sources: Vec<S>,
-) -> Result<Recording<S>, NotBegun<S>>
-    requires few { vec_len stores ≤ 16 }
-    requires many { vec_len sources ≤ 16 }
-    requires named { AreNamed (step_errand step now control.now stores.items).ids }
-    ensures labels { IfOk result (λ r. labels_of r.stores.items ≡ labels_of stores.items) }
-    // What was recorded, where no recorder broke off.
-    ensures recorded { IfOk result (λ r. IsTrue r.agree → IfNone r.broken (AllRecorded (step_errand step now control.now stores.items)
-        (given_in S.gives step sources.items) (states_of stores.items) (states_of r.stores.items))) }
-    ensures nothing_left { IfOk result (λ r. IfNone r.broken (All (λ s. S.gives s step ≡ []) r.sources.items)) }
-    // What the sources keep in any case.
-    ensures kept { IfOk result (λ r. AllKeep S.gives step sources.items r.sources.items) }
-    ensures others { IfOk result (λ r. (t : ℕ) → t ≢ step → given_in S.gives t r.sources.items ≡ given_in S.gives t sources.items) }
-    // Where there was no memory.
-    ensures stores_back { IfErr result (λ back. back.stores ≡ stores) }
-    ensures sources_back { IfErr result (λ back. back.sources ≡ sources) }
+    cargo: Cargo<S, L>,
+) -> Result<Cargo<S, L>, BrokenOff<S, L>>
+    requires few { vec_len cargo.stores ≤ MAX_STORES }
+    requires many { vec_len cargo.sources ≤ MAX_SEATS }
+    requires named { AreNamed (step_errand step now control.now cargo.stores.items).ids }
+    requires some_link { 1 ≤ vec_len cargo.links }
+    requires few_links { vec_len cargo.links ≤ MAX_SEATS }
+    requires few_orders { length orders.now ≤ MAX_STORES }
+    requires places { All (λ o. o.place < vec_len cargo.stores) orders.now }
+    requires amounts { All (λ o. 1 ≤ o.amount) orders.now }
+    requires apart { AllPairs (λ a b. a.place ≢ b.place) orders.now }
+    requires room { All (λ l. L.failed l < 2 ^ 64 - 1) cargo.links.items }
+    ensures ok { IfOk result (HasStepped S.gives L.sent L.failed (step_errand step now control.now cargo.stores.items) orders.now cargo) }
+    ensures err { IfErr result (HasBrokenOff S.gives step window cargo) }
+    ensures how { IfErr result (BrokeStep S.gives L.sent L.failed (step_errand step now control.now cargo.stores.items) orders.now cargo) }
 {
-    record_as::<Brand, S, R>(rt, alloc, control, step, now, stores, sources)
+    halves_make_step_runs();
+    let recorded = record_part(rt, alloc, control, step, now, cargo)?;
+    dump_part(rt, alloc, window, orders, step, recorded)
 }

@@ -72,7 +72,7 @@ fn cuts_counted_by_hand(rt: HostRuntime) -> Result<(), Fail> {
 }
 
 // The next of the linear congruential numbers, of 24 bits (Numerical Recipes, section 7.1), below a limit.
-fn next_below(state: &mut u32, limit: u32) -> u32
+pub(crate) fn next_below(state: &mut u32, limit: u32) -> u32
     requires { 0 < limit }
     ensures { result < limit }
 {

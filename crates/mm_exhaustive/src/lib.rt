@@ -8,6 +8,8 @@ mod cut_tests;
 mod cuts;
 pub mod laws;
 #[cfg(test)]
+mod path_tests;
+#[cfg(test)]
 mod tests;
 mod trying;
 

@@ -1,9 +1,12 @@
 //! The planner beside the plain one, on tiny problems.
+ghost use Rattle.mm_plan.specs.Table.{HasShape};
 
 use crate::least_plan;
-use mm_plan::{fits, loss_of};
-use mm_planner::plan;
+use mm_cut::{Verdict, verify};
+use mm_plan::{Plan, fill, fits, loss_of};
+use mm_planner::{Planned, plan, plan_by_flow};
 use mm_problem::{Problem, Setup};
+use mm_propose::propose;
 use std::alloc::Global;
 use std::process::Abort;
 use std::test::Fail;
@@ -11,23 +14,81 @@ use std::test::Fail;
 const LIMIT_1: &str = "[[limit]]\nchannel = 0\nblocks = 1\n";
 
 // A store in a setup.
-fn store(alloc: Global, id: &str, size: u32, start: u32, channel: u8) -> Result<String, Fail> {
+pub(crate) fn store(
+    alloc: Global,
+    id: &str,
+    size: u32,
+    start: u32,
+    channel: u8,
+) -> Result<String, Fail> {
     Ok(format!(in alloc;
         "[[store]]\nid = \"{id}\"\nsize = {size}\ntype = \"bounded\"\nchannel = {channel}\nstart = {start}\n"
     )?)
 }
 
-// The least loss by the plain planner. The planner's is the same, and each of the two plans fits and loses that.
-fn least_loss(rt: &impl Abort, alloc: Global, setup: &str, forecast: &str) -> Result<u64, Fail> {
+// The limit of a channel in a setup.
+pub(crate) fn limit(alloc: Global, channel: u32, blocks: u32) -> Result<String, Fail> {
+    Ok(format!(in alloc; "[[limit]]\nchannel = {channel}\nblocks = {blocks}\n")?)
+}
+
+// The problem of two texts.
+pub(crate) fn problem(alloc: Global, setup: &str, forecast: &str) -> Result<Problem, Fail> {
     let setup = Setup::read(alloc, setup.as_bytes())?;
-    let problem = Problem::read(alloc, &setup, forecast.as_bytes())?;
+    Ok(Problem::read(alloc, &setup, forecast.as_bytes())?)
+}
+
+// What a planned dump loses: its plan fits, and its cut shows that no plan loses less.
+fn shown_loss(rt: &impl Abort, problem: &Problem, planned: &Planned) -> u64 {
+    let Planned {
+        plan,
+        cut,
+        by_channels,
+        loss,
+    } = planned;
+    assert!(rt; plan.has_shape(problem));
+    assert!(rt; *loss < 1 << 63);
+    let verdict = verify(problem, plan, cut, by_channels, *loss, *loss as i64);
+    assert_eq!(rt; verdict, Verdict::Least(*loss));
+    *loss
+}
+
+// What a plan that fits loses once its idle windows are used.
+fn filled_loss(alloc: Global, problem: &Problem, plan: &Plan) -> Result<u64, Fail>
+    requires { HasShape problem.now plan.now }
+{
+    match fits(problem, plan) {
+        Ok(()) => {
+            let filled = fill(alloc, problem, plan)?;
+            Ok(loss_of(problem, &filled))
+        }
+        Err(step) => Err(step)?,
+    }
+}
+
+// The loss of a problem by the planner, by the network alone, and by the proposal alone, which is the same.
+pub(crate) fn planned_loss(rt: &impl Abort, alloc: Global, problem: &Problem) -> Result<u64, Fail> {
+    let loss = shown_loss(rt, problem, &plan(alloc, problem)?);
+    assert_eq!(rt;
+        shown_loss(rt, problem, &plan_by_flow(alloc, problem)?),
+        loss
+    );
+    let proposed = propose(alloc, problem)?;
+    assert_eq!(rt; filled_loss(alloc, problem, &proposed.plan)?, loss);
+    Ok(loss)
+}
+
+// The least loss by the plain planner, which each path of the planner finds too.
+pub(crate) fn least_loss(
+    rt: &impl Abort,
+    alloc: Global,
+    setup: &str,
+    forecast: &str,
+) -> Result<u64, Fail> {
+    let problem = problem(alloc, setup, forecast)?;
     let (tried, least) = least_plan(alloc, &problem)?;
-    let planned = plan(alloc, &problem)?;
-    assert_eq!(rt; planned.loss, least);
     assert_eq!(rt; fits(&problem, &tried), Ok(()));
-    assert_eq!(rt; fits(&problem, &planned.plan), Ok(()));
     assert_eq!(rt; loss_of(&problem, &tried), least);
-    assert_eq!(rt; loss_of(&problem, &planned.plan), least);
+    assert_eq!(rt; planned_loss(rt, alloc, &problem)?, least);
     Ok(least)
 }
 

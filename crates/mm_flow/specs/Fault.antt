@@ -6,6 +6,4 @@ use Rattle.mm_flow.specs.declared.fault.Fault.TheVariants.{NoMemory, Unbounded, 
 
 -- which refusal it is
 abbrev pub refusal_of : Fault → Refusal
-refusal_of NoMemory = refusal.NoMemory
-refusal_of Unbounded = refusal.Unbounded
-refusal_of SameEnds = refusal.SameEnds
+refusal_of = elim [ NoMemory ↦ refusal.NoMemory | Unbounded ↦ refusal.Unbounded | SameEnds ↦ refusal.SameEnds ]

@@ -1,7 +1,7 @@
 //! Why a network is not solved.
 ghost use Rattle.std.specs.Prelude.{◌≡◌};
 
-use mm_base::{Refusal, Refused};
+use mm_base::{Refusal, Refused, refusals};
 use std::alloc::AllocError;
 use thiserror::Error;
 
@@ -18,17 +18,13 @@ pub enum Fault {
 }
 
 impl Refused for Fault {
+    fn refusal(self) -> Refusal {
+        refusals!(self; NoMemory, Unbounded, SameEnds)
+    }
+
     ghost use Rattle.mm_flow.specs.Fault.{refusal_of};
 
     ghost refusal_of = { refusal_of };
-
-    fn refusal(self) -> Refusal {
-        match self {
-            Fault::NoMemory => Refusal::NoMemory,
-            Fault::Unbounded => Refusal::Unbounded,
-            Fault::SameEnds => Refusal::SameEnds,
-        }
-    }
 }
 
 impl From<AllocError> for Fault {

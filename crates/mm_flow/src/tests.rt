@@ -22,7 +22,7 @@ struct Case {
     value: Option<u64>,
 }
 
-const CASES: [Case; 18] = [
+static CASES: [Case; 18] = [
     Case {
         name: "no arcs",
         nodes: 2,
@@ -285,7 +285,7 @@ struct Stores {
     value: u64,
 }
 
-const STORES: [Stores; 5] = [
+static STORES: [Stores; 5] = [
     // 10 arrive and 2 are lost.
     Stores {
         name: "first_run",
@@ -406,7 +406,7 @@ fn solvers_agree_on_made_networks(rt: HostRuntime) {
     assert!(rt; positive > 100);
 }
 
-const BACKWARDS: Case = Case {
+static BACKWARDS: Case = Case {
     name: "backwards",
     nodes: 3,
     arcs: &[(2, 1, Some(3)), (1, 0, Some(2))],

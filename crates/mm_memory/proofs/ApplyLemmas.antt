@@ -13,7 +13,7 @@ use Rattle.mm_base.specs.declared.limits.TheConstants.{MAX_STORES}
 use Rattle.mm_base.specs.declared.rows.RouteRow.{RouteRow}
 use Rattle.mm_memory.specs.declared.answer.Answer.{Answer}
 use Rattle.mm_memory.specs.declared.fault.Fault.TheVariants.{NoMemory}
-use Rattle.mm_memory.specs.declared.held.Held.{Held}
+use Rattle.mm_desk.specs.declared.held.Held.{Held}
 use Rattle.mm_memory.specs.Acting.{Outcome}
 use Rattle.mm_memory.specs.Applying.{ComesUnlessNoMemory, Applies, AppliesEach, changed, without, outcome_told}
 use Rattle.mm_memory.specs.Instruction.{Parsed}

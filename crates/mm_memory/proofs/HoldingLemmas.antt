@@ -5,7 +5,7 @@ use Rattle.std.specs.List.{AllPairs}
 use Rattle.std.proofs.lemmas.List.{get_or-map, length-map}
 use Rattle.mm_base.specs.declared.rows.StoreRow.{StoreRow}
 use Rattle.mm_problem.specs.Setup.{AreStores}
-use Rattle.mm_memory.specs.declared.held.Held.{Held}
+use Rattle.mm_desk.specs.declared.held.Held.{Held}
 use Rattle.mm_memory.specs.Holdings.{AreHeld, HaveOtherIds, opened}
 
 pub AreHeld-opened : (rows : List StoreRow) → AreStores rows → AreHeld (map opened rows)

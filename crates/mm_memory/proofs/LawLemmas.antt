@@ -6,7 +6,7 @@ use Rattle.mm_base.specs.SameRoutes.{same_route}
 use Rattle.mm_base.specs.declared.rows.RouteRow.{RouteRow}
 use Rattle.mm_control.specs.Laws.{AreSets}
 use Rattle.mm_control.specs.Routes.{IsInOrder, has_row, with_row}
-use Rattle.mm_memory.specs.declared.held.Held.{Held}
+use Rattle.mm_desk.specs.declared.held.Held.{Held}
 use Rattle.mm_memory.specs.Holdings.{AreHeld}
 use Rattle.mm_memory.specs.Laws.{ids_of}
 

@@ -9,7 +9,7 @@ use Rattle.std.proofs.lemmas.List.{get_or-map, length-map, same_lists}
 use Rattle.std.proofs.lemmas.List.Folds.{find_at}
 use Rattle.std.proofs.lemmas.Option.{slice_get_past, get_or_from_slice_get, same_Some}
 use Rattle.std.proofs.lemmas.Slice.Eq.{bytes_eq-Decides}
-use Rattle.mm_memory.specs.declared.held.Held.{Held}
+use Rattle.mm_desk.specs.declared.held.Held.{Held}
 use Rattle.mm_memory.specs.Holdings.{HaveOtherIds, StandsAt, has_id, store_of, with_changed}
 
 -- the first place that passes is the store's place, and where none passes no store has the identifier
@@ -31,7 +31,7 @@ same_id a b same = (bytes_eq-Decides a b).0 same
 pub is_itself : (a b : List ℕ) → a ≡ b → bytes_eq a b ≡ true
 is_itself a b = (bytes_eq-Decides a b).1
 
-is_other : (a b : List ℕ) → a ≢ b → bytes_eq a b ≡ false
+pub is_other : (a b : List ℕ) → a ≢ b → bytes_eq a b ≡ false
 is_other a b other =
     elim (bytes_eq a b) as (λ t. bytes_eq a b ≡ t → t ≡ false) [
       | true ↦ λ e. absurd (other (same_id a b e))

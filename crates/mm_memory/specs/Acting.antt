@@ -5,7 +5,7 @@ use Rattle.mm_desk.specs.declared.fault.Fault.{Fault as StateFault}
 use Rattle.mm_desk.specs.Machine.{State, begin, abort, delete, step}
 use Rattle.mm_desk.specs.Rest.{rest_fault, resize_fault}
 use Rattle.mm_memory.specs.declared.fault.Fault.{Fault}
-use Rattle.mm_memory.specs.declared.held.Held.{Held}
+use Rattle.mm_desk.specs.declared.held.Held.{Held}
 use Rattle.mm_memory.specs.declared.instruction.Change.{Change}
 use Rattle.mm_memory.specs.declared.instruction.Change.TheVariants.{Enable, Disable, Begin, Abort, DeleteContent, Resize, SetKind, SetChannel}
 use Rattle.mm_memory.specs.Fault.{of_state}

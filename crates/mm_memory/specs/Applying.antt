@@ -12,7 +12,7 @@ use Rattle.mm_memory.specs.declared.answer.Answer.{Answer}
 use Rattle.mm_memory.specs.declared.answer.Answer.TheVariants.{Done, Refused}
 use Rattle.mm_memory.specs.declared.fault.Fault.{Fault}
 use Rattle.mm_memory.specs.declared.fault.Fault.TheVariants.{NoMemory, NoSuchStore, Exists, TooManyStores, Control}
-use Rattle.mm_memory.specs.declared.held.Held.{Held}
+use Rattle.mm_desk.specs.declared.held.Held.{Held}
 use Rattle.mm_memory.specs.declared.instruction.Form.{Form}
 use Rattle.mm_memory.specs.declared.instruction.Action.{Action}
 use Rattle.mm_memory.specs.declared.instruction.Action.TheVariants.{Create, Delete, Route, Report, Change as Changes}

@@ -10,15 +10,17 @@ use Rattle.mm_memory.specs.declared.fault.Fault.TheVariants.{NoMemory, BadId, Ba
 
 -- which refusal it is
 abbrev pub refusal_of : Fault → Refusal
-refusal_of NoMemory = refusal.NoMemory
-refusal_of BadId = refusal.BadId
-refusal_of BadEnum = refusal.BadEnum
-refusal_of NoSuchStore = refusal.NoSuchStore
-refusal_of Exists = refusal.Exists
-refusal_of TooManyStores = refusal.TooManyStores
-refusal_of BadSize = refusal.BadSize
-refusal_of (State fault) = state_refusal fault
-refusal_of (Control fault) = control_refusal fault
+refusal_of = elim [
+  | NoMemory ↦ refusal.NoMemory
+  | BadId ↦ refusal.BadId
+  | BadEnum ↦ refusal.BadEnum
+  | NoSuchStore ↦ refusal.NoSuchStore
+  | Exists ↦ refusal.Exists
+  | TooManyStores ↦ refusal.TooManyStores
+  | BadSize ↦ refusal.BadSize
+  | State fault ↦ state_refusal fault
+  | Control fault ↦ control_refusal fault
+]
 
 -- the refusal of a store's state, as one of this crate
 abbrev pub of_state : StateFault → Fault

@@ -9,7 +9,7 @@ use Rattle.mm_store.specs.Content.{empty_store}
 use Rattle.mm_control.specs.Routes.{with_row}
 use Rattle.mm_desk.specs.declared.event.Event.TheVariants.{Enable}
 use Rattle.mm_desk.specs.Machine.{State, opening, step}
-use Rattle.mm_memory.specs.declared.held.Held.{Held}
+use Rattle.mm_desk.specs.declared.held.Held.{Held}
 
 pub record Holdings : Type 0 where
   pub stores : List Held

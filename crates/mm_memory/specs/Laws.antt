@@ -2,7 +2,7 @@
 use Rattle.std.specs.Prelude.{◌≡◌, ℕ, List, map}
 use Rattle.mm_base.specs.declared.rows.RouteRow.{RouteRow}
 use Rattle.mm_control.specs.Routes.{has_row}
-use Rattle.mm_memory.specs.declared.held.Held.{Held}
+use Rattle.mm_desk.specs.declared.held.Held.{Held}
 use Rattle.mm_memory.specs.Holdings.{AreHeld, table_of}
 
 -- the identifiers of stores, in order

@@ -13,7 +13,7 @@ use Rattle.mm_st15.specs.declared.report_entry.Status.{Status}
 use Rattle.mm_st15.specs.declared.report_entry.Summary.{Summary}
 use Rattle.mm_st15.specs.declared.request.Request.{Request}
 use Rattle.mm_st15.specs.declared.request.Request.TheVariants as request
-use Rattle.mm_memory.specs.declared.held.Held.{Held}
+use Rattle.mm_desk.specs.declared.held.Held.{Held}
 use Rattle.mm_memory.specs.Holdings.{Holdings, store_of}
 use Rattle.mm_memory.specs.Instruction.{is_id}
 

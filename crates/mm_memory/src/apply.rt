@@ -10,14 +10,14 @@ ghost use Rattle.mm_memory.specs.Reports.{reports_on};
 ghost use Rattle.mm_memory.specs.Instruction.{instructions_of};
 
 use crate::answer::{Answer, Answers};
+use crate::change::change_store;
 use crate::fault::Fault;
-use crate::held::Held;
 use crate::instruction::{Action, Change, Form, Instruction, RouteChange};
 use crate::memory::Memory;
 use crate::places::place_of;
 use crate::request::instructions_of;
 use mm_base::{MAX_STORES, NoMemory, RouteRow, StoreId};
-use mm_desk::StoreState;
+use mm_desk::{Held, StoreState};
 use mm_st15::{Request, Row};
 use mm_store::AnyStore;
 use std::alloc::Global;
@@ -97,7 +97,7 @@ impl Memory {
             → ComesUnlessNoMemory (TakesMemory change.now h)
             (changed id.now (act change.now h) self.old) self.old (result, self.new) }
     {
-        self.stores[place].change(change)
+        change_store(&mut self.stores[place], change)
     }
 
     // Changes the storage control by a row.

@@ -4,50 +4,48 @@ ghost use Rattle.mm_memory.specs.Acting.{act, TakesMemory};
 ghost use Rattle.mm_memory.specs.Applying.{ComesUnlessNoMemory};
 
 use crate::fault::Fault;
-use crate::held::Held;
 use crate::instruction::Change;
+use mm_desk::Held;
 
-impl Held {
-    // Changes the store, which keeps its identifier.
-    pub(crate) fn change(&mut self, change: &Change) -> Result<(), Fault>
-        ensures done { ComesUnlessNoMemory (TakesMemory change.now self.old) (act change.now self.old)
-            self.old (result, self.new) }
-        ensures same_id { self.new.id ≡ self.old.id }
-    {
-        match change {
-            Change::Enable => {
-                self.state.enable();
-                Ok(())
-            }
-            Change::Disable => {
-                self.state.disable();
-                Ok(())
-            }
-            Change::Begin(from, to) => {
-                self.state.begin(*from, *to)?;
-                Ok(())
-            }
-            Change::Abort => {
-                self.state.abort()?;
-                Ok(())
-            }
-            Change::DeleteContent(limit) => {
-                let _count = self.state.delete(*limit)?;
-                Ok(())
-            }
-            Change::Resize(size) => {
-                self.state.resize(size.count())?;
-                Ok(())
-            }
-            Change::SetKind(kind) => {
-                self.state.change_kind(*kind)?;
-                Ok(())
-            }
-            Change::SetChannel(channel) => {
-                self.state.at_rest()?;
-                self.channel = *channel;
-                Ok(())
-            }
+// Changes a store, which keeps its identifier.
+pub(crate) fn change_store(held: &mut Held, change: &Change) -> Result<(), Fault>
+    ensures done { ComesUnlessNoMemory (TakesMemory change.now held.old) (act change.now held.old)
+        held.old (result, held.new) }
+    ensures same_id { held.new.id ≡ held.old.id }
+{
+    match change {
+        Change::Enable => {
+            held.state.enable();
+            Ok(())
+        }
+        Change::Disable => {
+            held.state.disable();
+            Ok(())
+        }
+        Change::Begin(from, to) => {
+            held.state.begin(*from, *to)?;
+            Ok(())
+        }
+        Change::Abort => {
+            held.state.abort()?;
+            Ok(())
+        }
+        Change::DeleteContent(limit) => {
+            let _count = held.state.delete(*limit)?;
+            Ok(())
+        }
+        Change::Resize(size) => {
+            held.state.resize(size.count())?;
+            Ok(())
+        }
+        Change::SetKind(kind) => {
+            held.state.change_kind(*kind)?;
+            Ok(())
+        }
+        Change::SetChannel(channel) => {
+            held.state.at_rest()?;
+            held.channel = *channel;
+            Ok(())
         }
     }
 }

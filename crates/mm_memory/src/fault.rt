@@ -1,7 +1,7 @@
 //! Why an instruction is refused.
 ghost use Rattle.std.specs.Prelude.{◌≡◌};
 
-use mm_base::{NoMemory, Refusal, Refused};
+use mm_base::{NoMemory, Refusal, Refused, refusals};
 use thiserror::Error;
 
 /// A refusal of this crate, or of a store's state or the storage control. It is shown as its
@@ -29,36 +29,6 @@ pub enum Fault {
     Control(mm_control::Fault),
 }
 
-impl Refused for Fault {
-    ghost use Rattle.mm_memory.specs.Fault.{refusal_of};
-
-    ghost refusal_of = { refusal_of };
-
-    fn refusal(self) -> Refusal {
-        match self {
-            Fault::NoMemory => Refusal::NoMemory,
-            Fault::BadId => Refusal::BadId,
-            Fault::BadEnum => Refusal::BadEnum,
-            Fault::NoSuchStore => Refusal::NoSuchStore,
-            Fault::Exists => Refusal::Exists,
-            Fault::TooManyStores => Refusal::TooManyStores,
-            Fault::BadSize => Refusal::BadSize,
-            Fault::State(fault) => fault.refusal(),
-            Fault::Control(fault) => fault.refusal(),
-        }
-    }
-}
-
-impl From<NoMemory> for Fault {
-    ghost use Rattle.mm_memory.specs.declared.fault.Fault.TheVariants as fault;
-
-    ghost from_gives = { λ _ e. e ≡ fault.NoMemory };
-
-    fn from(_error: NoMemory) -> Fault {
-        Fault::NoMemory
-    }
-}
-
 impl From<mm_desk::Fault> for Fault {
     ghost use Rattle.mm_memory.specs.Fault.{of_state};
 
@@ -79,5 +49,29 @@ impl From<mm_control::Fault> for Fault {
 
     fn from(fault: mm_control::Fault) -> Fault {
         Fault::Control(fault)
+    }
+}
+
+impl Refused for Fault {
+    fn refusal(self) -> Refusal {
+        refusals!(
+            self;
+            NoMemory, BadId, BadEnum, NoSuchStore, Exists, TooManyStores, BadSize;
+            below State, Control
+        )
+    }
+
+    ghost use Rattle.mm_memory.specs.Fault.{refusal_of};
+
+    ghost refusal_of = { refusal_of };
+}
+
+impl From<NoMemory> for Fault {
+    ghost use Rattle.mm_memory.specs.declared.fault.Fault.TheVariants.{NoMemory};
+
+    ghost from_gives = { λ _ e. e ≡ NoMemory };
+
+    fn from(_error: NoMemory) -> Fault {
+        Fault::NoMemory
     }
 }

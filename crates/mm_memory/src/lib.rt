@@ -5,7 +5,6 @@ mod answer;
 mod apply;
 mod change;
 mod fault;
-mod held;
 mod instruction;
 pub mod laws;
 mod memory;
@@ -17,9 +16,9 @@ mod testing;
 
 pub use answer::{Answer, Answers};
 pub use fault::Fault;
-pub use held::Held;
 pub use memory::Memory;
 pub use mm_base::NoMemory;
+pub use mm_desk::Held;
 
 #[cfg(test)]
 mod tests;

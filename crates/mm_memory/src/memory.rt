@@ -3,12 +3,11 @@ ghost use Rattle.std.specs.Prelude.{◌≡◌, [], IfOk, slice_get};
 ghost use Rattle.std.specs.Option.{option_copied, option_copied_mut, option_map};
 ghost use Rattle.mm_memory.specs.Holdings.{AreHeld, memory_of, store_of, state_of};
 
-use crate::held::Held;
 use crate::places::place_of;
 use crate::setup::{control_of, stores_of};
 use mm_base::{NoMemory, StoreId};
 use mm_control::ControlTable;
-use mm_desk::StoreState;
+use mm_desk::{Held, StoreState};
 use mm_problem::Setup;
 use std::alloc::Global;
 use std::marker::Model;
@@ -75,6 +74,14 @@ impl Memory {
     {
         let held = self.stores.get(place as usize)?;
         Some((held.id, held.channel))
+    }
+
+    /// The stores, in order.
+    pub fn stores(&self) -> &[Held]
+        ensures stores { result.now ≡ self.now.stores }
+        ensures are_held { AreHeld self.now.stores }
+    {
+        &self.stores
     }
 
     /// The storage control.

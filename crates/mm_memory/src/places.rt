@@ -2,8 +2,8 @@
 ghost use Rattle.std.specs.Prelude.{◌≡◌, None, MatchOption};
 ghost use Rattle.mm_memory.specs.Holdings.{StandsAt, store_of};
 
-use crate::held::Held;
 use mm_base::StoreId;
+use mm_desk::Held;
 
 // The place of the store with this identifier.
 pub(crate) fn place_of(stores: &[Held], id: &StoreId) -> Option<usize>

@@ -6,10 +6,10 @@ ghost use Rattle.mm_st15.specs.Request.{count_of};
 ghost use Rattle.mm_st15.specs.declared.report.TheConstants.{MOST_ROWS};
 ghost use Rattle.mm_memory.specs.Reports.{status_of, types_to, summary_of, statuses_of, configuration_of, asked_about, summary_at, control_at, reports_on};
 
-use crate::held::Held;
 use crate::memory::Memory;
 use crate::testing::id_of;
 use mm_base::{NoMemory, StoreId};
+use mm_desk::Held;
 use mm_st15::{Configuration, Entries, Report, Request, Row, Status, Summary, Target};
 use mm_store::PacketStore;
 use std::alloc::Global;

@@ -4,10 +4,9 @@ ghost use Rattle.mm_problem.specs.Setup.{IsStoreRow};
 ghost use Rattle.mm_base.specs.declared.limits.TheConstants.{MAX_ROUTES};
 ghost use Rattle.mm_memory.specs.Holdings.{opened, table_of};
 
-use crate::held::Held;
 use mm_base::{NoMemory, RouteRow, StoreRow};
 use mm_control::ControlTable;
-use mm_desk::StoreState;
+use mm_desk::{Held, StoreState};
 use mm_store::AnyStore;
 use std::alloc::Global;
 

@@ -7,6 +7,13 @@ use mm_store::PacketStore;
 use std::alloc::Global;
 use std::process::Abort;
 
+// Rows: the subtype and the data of a request with one instruction, and the answer to it.
+macro_rules! rows {
+    ($($subtype:literal $data:literal => $answer:expr),* $(,)?) => {
+        [$(($subtype, $data, $answer)),*]
+    };
+}
+
 mod applying;
 mod growths;
 mod holding;
@@ -60,13 +67,7 @@ fn memory_of(rt: &impl Abort, alloc: Global, setup: &str) -> Memory {
 // The request of a subtype with these octets for its data.
 fn request(rt: &impl Abort, alloc: Global, subtype: u8, data: &[u8]) -> Request {
     assert!(rt; data.len() <= TELECOMMAND_BODY);
-    let header = Header {
-        apid: 100,
-        count: 0,
-        low: 0,
-        service: 15,
-        subtype,
-    };
+    let header = Header::new(100, 0, 15, subtype);
     let data = data.to_vec(alloc).expect(rt, "memory");
     let packet = Packet::tc(header, 0, Octets::new(data));
     Request::read(alloc, &packet).expect(rt, "a request")

@@ -1,4 +1,4 @@
--- The refusals of this crate.
+-- Refusals of packets and blocks.
 use Rattle.mm_base.specs.declared.refusal.Refusal.{Refusal}
 use Rattle.mm_base.specs.declared.refusal.Refusal.TheVariants as refusal
 use Rattle.mm_packet.specs.declared.fault.Fault.{Fault}
@@ -6,12 +6,14 @@ use Rattle.mm_packet.specs.declared.fault.Fault.TheVariants.{NoMemory, Short, Ve
 
 -- which refusal it is
 abbrev pub refusal_of : Fault → Refusal
-refusal_of NoMemory = refusal.NoMemory
-refusal_of Short = refusal.Short
-refusal_of Version = refusal.Version
-refusal_of Idle = refusal.IdlePacket
-refusal_of NoSecondaryHeader = refusal.NoSecondaryHeader
-refusal_of Segmented = refusal.Segmented
-refusal_of HeaderCut = refusal.HeaderCut
-refusal_of PusVersion = refusal.PusVersion
-refusal_of TooLong = refusal.TooLong
+refusal_of = elim [
+  | NoMemory ↦ refusal.NoMemory
+  | Short ↦ refusal.Short
+  | Version ↦ refusal.Version
+  | Idle ↦ refusal.IdlePacket
+  | NoSecondaryHeader ↦ refusal.NoSecondaryHeader
+  | Segmented ↦ refusal.Segmented
+  | HeaderCut ↦ refusal.HeaderCut
+  | PusVersion ↦ refusal.PusVersion
+  | TooLong ↦ refusal.TooLong
+]

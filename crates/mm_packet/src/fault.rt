@@ -1,7 +1,7 @@
 //! Why octets are no packet, and why a packet does not go into a block.
 ghost use Rattle.std.specs.Prelude.{◌≡◌};
 
-use mm_base::{Refusal, Refused};
+use mm_base::{Refusal, Refused, refusals};
 use std::alloc::AllocError;
 use thiserror::Error;
 
@@ -29,6 +29,20 @@ pub enum Fault {
     TooLong,
 }
 
+impl Refused for Fault {
+    fn refusal(self) -> Refusal {
+        refusals!(
+            self;
+            NoMemory, Short, Version, NoSecondaryHeader, Segmented, HeaderCut, PusVersion, TooLong;
+            but Idle as IdlePacket
+        )
+    }
+
+    ghost use Rattle.mm_packet.specs.Fault.{refusal_of};
+
+    ghost refusal_of = { refusal_of };
+}
+
 impl From<AllocError> for Fault {
     ghost use Rattle.mm_packet.specs.declared.fault.Fault.TheVariants.{NoMemory};
 
@@ -36,25 +50,5 @@ impl From<AllocError> for Fault {
 
     fn from(_error: AllocError) -> Fault {
         Fault::NoMemory
-    }
-}
-
-impl Refused for Fault {
-    ghost use Rattle.mm_packet.specs.Fault.{refusal_of};
-
-    ghost refusal_of = { refusal_of };
-
-    fn refusal(self) -> Refusal {
-        match self {
-            Fault::NoMemory => Refusal::NoMemory,
-            Fault::Short => Refusal::Short,
-            Fault::Version => Refusal::Version,
-            Fault::Idle => Refusal::IdlePacket,
-            Fault::NoSecondaryHeader => Refusal::NoSecondaryHeader,
-            Fault::Segmented => Refusal::Segmented,
-            Fault::HeaderCut => Refusal::HeaderCut,
-            Fault::PusVersion => Refusal::PusVersion,
-            Fault::TooLong => Refusal::TooLong,
-        }
     }
 }

@@ -1,4 +1,5 @@
 //! The fields of a packet's headers.
+ghost use Rattle.std.specs.Prelude.{◌≡◌};
 
 /// The APID of idle packets, which this profile refuses: 2047. Every other APID is below it.
 pub const IDLE_APID: u16 = 2047;
@@ -25,6 +26,23 @@ pub struct Header {
     pub service: u8,
     /// The message subtype.
     pub subtype: u8,
+}
+
+impl Header {
+    /// The header of a packet whose acknowledgement flags, or time reference status, are 0.
+    pub fn new(apid: u16, count: u16, service: u8, subtype: u8) -> Header
+        ensures primary { (result.apid ≡ apid) × (result.count ≡ count) }
+        ensures message { (result.service ≡ service) × (result.subtype ≡ subtype) }
+        ensures low { result.low ≡ 0 }
+    {
+        Header {
+            apid,
+            count,
+            low: 0,
+            service,
+            subtype,
+        }
+    }
 }
 
 /// The packet type, with the fields of the secondary header that only it has.

@@ -20,10 +20,7 @@ pub fn u16_at(octets: &[u8]) -> Option<(u16, &[u8])>
     ensures value { option_map (λ x. (x.0, x.1.now)) result ≡ number_at w16 octets.now }
     ensures spelled { IfSome result (λ x. octets.now ≡ to_be_bytes w16 x.0 ++ x.1.now) }
 {
-    if octets.len() < 2 {
-        return None;
-    }
-    let (front, rest) = octets.split_at(2);
+    let (front, rest) = octets.split_at_checked(2)?;
     Some((u16::from_be_bytes([front[0], front[1]]), rest))
 }
 
@@ -32,10 +29,7 @@ pub fn u32_at(octets: &[u8]) -> Option<(u32, &[u8])>
     ensures value { option_map (λ x. (x.0, x.1.now)) result ≡ number_at w32 octets.now }
     ensures spelled { IfSome result (λ x. octets.now ≡ to_be_bytes w32 x.0 ++ x.1.now) }
 {
-    if octets.len() < 4 {
-        return None;
-    }
-    let (front, rest) = octets.split_at(4);
+    let (front, rest) = octets.split_at_checked(4)?;
     let number = u32::from_be_bytes([front[0], front[1], front[2], front[3]]);
     Some((number, rest))
 }
@@ -45,10 +39,7 @@ pub fn u64_at(octets: &[u8]) -> Option<(u64, &[u8])>
     ensures value { option_map (λ x. (x.0, x.1.now)) result ≡ number_at w64 octets.now }
     ensures spelled { IfSome result (λ x. octets.now ≡ to_be_bytes w64 x.0 ++ x.1.now) }
 {
-    if octets.len() < 8 {
-        return None;
-    }
-    let (front, rest) = octets.split_at(8);
+    let (front, rest) = octets.split_at_checked(8)?;
     let number = u64::from_be_bytes([
         front[0], front[1], front[2], front[3], front[4], front[5], front[6], front[7],
     ]);

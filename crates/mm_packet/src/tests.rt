@@ -7,10 +7,7 @@ use std::process::Abort;
 use std::test::Fail;
 
 // A telecommand of APID 100, service 15, subtype 1, source 0, with the data 01 and eight octets.
-const ENABLE: [u8; 20] = [
-    0x18, 0x64, 0xC0, 0x00, 0x00, 0x0D, 0x20, 0x0F, 0x01, 0x00, 0x00, 0x01, 0x53, 0x43, 0x49, 0x20,
-    0x20, 0x20, 0x20, 0x20,
-];
+const ENABLE: [u8; 20] = *b"\x18\x64\xC0\0\0\x0D\x20\x0F\x01\0\0\x01SCI     ";
 
 const ENABLE_HEADER: Header = Header {
     apid: 100,
@@ -21,17 +18,12 @@ const ENABLE_HEADER: Header = Header {
 };
 
 // The two packets of a request that creates two stores.
-const CREATE_TWO_STORES: [u8; 40] = [
-    0x18, 0x64, 0xC0, 0x00, 0x00, 0x21, 0x20, 0x0F, 0x14, 0x00, 0x00, 0x02, 0x53, 0x43, 0x49, 0x20,
-    0x20, 0x20, 0x20, 0x20, 0x00, 0x00, 0x00, 0x04, 0x01, 0x00, 0x48, 0x4B, 0x20, 0x20, 0x20, 0x20,
-    0x20, 0x20, 0x00, 0x00, 0x00, 0x02, 0x00, 0x01,
-];
+const CREATE_TWO_STORES: [u8; 40] =
+    *b"\x18\x64\xC0\0\0\x21\x20\x0F\x14\0\0\x02SCI     \0\0\0\x04\x01\0HK      \0\0\0\x02\0\x01";
 
 // Telemetry of APID 1,234, count 5,678, service 3, subtype 25, with three octets of data.
-const REPORT: [u8; 24] = [
-    0x0C, 0xD2, 0xD6, 0x2E, 0x00, 0x11, 0x2A, 0x03, 0x19, 0x12, 0x34, 0x56, 0x78, 0x01, 0x02, 0x03,
-    0x04, 0x05, 0x06, 0x07, 0x08, 0xAA, 0xBB, 0xCC,
-];
+const REPORT: [u8; 24] =
+    *b"\x0C\xD2\xD6\x2E\0\x11\x2A\x03\x19\x12\x34\x56\x78\x01\x02\x03\x04\x05\x06\x07\x08\xAA\xBB\xCC";
 
 const REPORT_HEADER: Header = Header {
     apid: 1234,
@@ -39,6 +31,14 @@ const REPORT_HEADER: Header = Header {
     low: 10,
     service: 3,
     subtype: 25,
+};
+
+const HIGHEST: Header = Header {
+    apid: 2046,
+    count: 16383,
+    low: 15,
+    service: 255,
+    subtype: 255,
 };
 
 // The headers of a packet, by its readers.
@@ -169,7 +169,7 @@ fn packets_refused(rt: HostRuntime) {
     refused(
         &rt,
         rt.alloc(),
-        &[0x18, 0x64, 0xC0, 0, 0, 3, 0x20, 0x0F, 1, 0],
+        b"\x18\x64\xC0\0\0\x03\x20\x0F\x01\0",
         Fault::HeaderCut,
     );
 }
@@ -181,14 +181,6 @@ fn each_proper_prefix_is_short(rt: HostRuntime) {
     }
     assert!(rt; Packet::parse(rt.alloc(), &CREATE_TWO_STORES).is_ok());
 }
-
-const HIGHEST: Header = Header {
-    apid: 2046,
-    count: 16383,
-    low: 15,
-    service: 255,
-    subtype: 255,
-};
 
 #[test]
 fn a_packet_of_1024_octets_goes_into_a_block(rt: HostRuntime) {
@@ -234,6 +226,7 @@ fn packets_are_equal_where_each_field_is(rt: HostRuntime) {
     let alloc = rt.alloc();
     let packet = telemetry(&rt, alloc, HIGHEST, 1, 4);
     assert!(rt; packet.is(&telemetry(&rt, alloc, HIGHEST, 1, 4)));
+    assert_eq!(rt; Header::new(100, 0, 15, 1), ENABLE_HEADER);
     assert!(rt; !packet.is(&telemetry(&rt, alloc, LOWEST, 1, 4)));
     assert!(rt; !packet.is(&telemetry(&rt, alloc, HIGHEST, 2, 4)));
     assert!(rt; !packet.is(&telemetry(&rt, alloc, HIGHEST, 1, 5)));

@@ -7,10 +7,12 @@ pub mod Spelled
 pub mod Lines
 pub mod Drafts
 pub mod Runs
+pub mod SheetTexts
 pub mod Completions
 pub mod Texts
 pub mod Shapes
 pub mod Prints
+pub mod Places
 pub mod Writes
 pub mod Raises
 pub mod Tabling

@@ -1,14 +1,19 @@
 -- What a greater amount of one store makes of a step.
-use Rattle.std.proofs.Common.{◌≡◌, ℕ, ◌+◌, ◌<◌, ◌≤◌, cond, length, Some, refl, sym, ◌∙◌, ap, subst, inl, inr, arith}
+use Rattle.std.proofs.Common.{◌≡◌, ℕ, ◌+◌, ◌<◌, ◌≤◌, List, Option, cond, min, length, get_or, Some, None, refl, sym, ◌∙◌, ap, subst, inl, inr, arith}
 use Rattle.std.specs.Prelude.{◌≢◌, ◌⊎◌}
 use Rattle.std.specs.List.{sum_by}
-use Rattle.std.proofs.lemmas.Bool.{cases_Bool}
+use Rattle.std.specs.Option.{option_map}
+use Rattle.std.proofs.lemmas.Bool.{cases_Bool, cases_eq}
+use Rattle.std.proofs.lemmas.Option.{same_Some}
+use Rattle.mm_base.specs.declared.limits.TheConstants.{CHANNELS}
 use Rattle.std.proofs.lemmas.Bool.Decides.{eqb_tells}
-use Rattle.mm_problem.specs.Dumping.{Dumping, stores, stores_of, is_of, channel, limit}
+use Rattle.mm_problem.specs.Dumping.{Dumping, IsDumping, stores, stores_of, is_of, channel, limit}
 use Rattle.mm_plan.specs.Volumes.{Amounts}
 use Rattle.mm_plan.specs.Fit.{in_step, FitsAt}
 use Rattle.mm_plan.specs.Filled.{IsWindowUsed, IsLimitUsed}
-use Rattle.mm_plan.specs.Filling.{IsRoom}
+use Rattle.mm_plan.specs.Filling.{IsRest, room_in}
+use Rattle.mm_plan.proofs.Options.{none_is_some}
+use Rattle.mm_plan.proofs.Limits.{limited_below}
 use Rattle.mm_sums.proofs.RangeSums.{sum_by_range-le, sum_by_filter_range-le, sum_by_range_changed, sum_by_filter_range_changed}
 
 -- in the step d blocks more leave one store, and as many as before the others
@@ -42,25 +47,61 @@ own_raised q x y s t d raised =
       | inr other ↦ absurd (other.1 refl)
     ]
 
--- a plan fits where one amount is greater by no more than there is room for
-pub fits_raised : (q : Dumping) (x y : Amounts) (s t d n : ℕ) → FitsAt q x t → IsRoom q x s t n → d ≤ n → IsRaised q x y s t d → FitsAt q y t
-fits_raised q x y s t d n fits room within raised = record {
-  windowed = omega (arith, all_raised q x y s t d raised, room.windowed);
-  limited = λ c b e. elim (eqb_tells (channel q s) c) [
+-- a limit of which d blocks more are used
+more_used : (rest : Option ℕ) (a b d : ℕ) → b ≡ a + d → option_map (λ r. a + r) (option_map (λ r. r + d) rest) ≡ option_map (λ r. b + r) rest
+more_used None a b d e = refl
+more_used (Some r) a b d e = ap Some (omega (arith, e))
+
+-- where one amount is greater, as much less is not used
+pub rest_raised : (q : Dumping) (x y : Amounts) (s t d idle less : ℕ) (rests after : List (Option ℕ)) → IsRest q x t idle rests → IsRaised q x y s t d → less + d ≡ idle
+    → get_or rests (channel q s) None ≡ option_map (λ r. r + d) (get_or after (channel q s) None)
+    → ((c : ℕ) → c ≢ channel q s → get_or after c None ≡ get_or rests c None) → IsRest q y t less after
+rest_raised q x y s t d idle less rests after is raised is_less here others = record {
+  windowed = omega (arith, all_raised q x y s t d raised, is.windowed, is_less);
+  limited = λ c below. elim (eqb_tells (channel q s) c) [
     | inl same ↦
-        let own : limit q (channel q s) ≡ Some b = ap (limit q) same.1 ∙ e in
-        let le : sum_by (in_step y t) (stores_of q (channel q s)) ≤ b = omega (arith, own_raised q x y s t d raised, room.limited b own) in
-        subst (λ k. sum_by (in_step y t) (stores_of q k) ≤ b) same.1 le
-    | inr other ↦ omega (arith, rw other.0 at (channel_raised q x y s t d c raised), fits.limited c b e)
+        let own = is.limited (channel q s) (omega (arith, below, same.1)) in
+        let now : limit q (channel q s) ≡ option_map (λ r. sum_by (in_step y t) (stores_of q (channel q s)) + r) (get_or after (channel q s) None) =
+        own ∙ ap (option_map (λ r. sum_by (in_step x t) (stores_of q (channel q s)) + r)) here ∙ more_used (get_or after (channel q s) None) _ _ d (own_raised q x y s t d raised) in
+        subst (λ k. limit q k ≡ option_map (λ r. sum_by (in_step y t) (stores_of q k) + r) (get_or after k None)) same.1 now
+    | inr other ↦
+        let as_many : sum_by (in_step y t) (stores_of q c) ≡ sum_by (in_step x t) (stores_of q c) = omega (arith, rw other.0 at (channel_raised q x y s t d c raised)) in
+        let stays = others c (λ e. other.1 (sym e)) in
+        rw (as_many, stays) (is.limited c below)
   ];
 }
 
--- with all of the room the window is used, or the limit of the store's channel
-pub used_raised : (q : Dumping) (x y : Amounts) (s t n : ℕ) → IsRoom q x s t n → IsRaised q x y s t n → IsWindowUsed q y t ⊎ IsLimitUsed q y t (channel q s)
-used_raised q x y s t n room raised = elim room.used [
-  | inl all ↦ inl (all_raised q x y s t n raised ∙ all)
-  | inr own ↦ inr (own ∙ ap Some (sym (own_raised q x y s t n raised)))
-]
+-- what is not used of a limit is 0 or more
+fits_with : (limit rest : Option ℕ) (a b : ℕ) → limit ≡ option_map (λ r. a + r) rest → limit ≡ Some b → a ≤ b
+fits_with limit None a b e some = none_is_some b (sym e ∙ some)
+fits_with limit (Some r) a b e some = omega (arith, same_Some (a + r) b (sym e ∙ some))
+
+-- a plan of which something is not used fits
+pub rest_fits : (q : Dumping) (x : Amounts) (t idle : ℕ) (rests : List (Option ℕ)) → IsDumping q → IsRest q x t idle rests → FitsAt q x t
+rest_fits q x t idle rests dumping is = record {
+  windowed = omega (arith, is.windowed);
+  limited = λ c b e. fits_with (limit q c) (get_or rests c None) _ b (is.limited c (omega (arith, limited_below q c b e, dumping.channels.all))) e;
+}
+
+-- where as much was used as there was room for, nothing is idle, or nothing of the limit is left
+used_up : (idle less d : ℕ) (rest after : Option ℕ) → less + d ≡ idle → rest ≡ option_map (λ r. r + d) after → d ≡ room_in idle rest → (less ≡ 0) ⊎ (after ≡ Some 0)
+used_up idle less d rest None is_less e all = inl (omega (arith, is_less, all ∙ ap (room_in idle) e))
+used_up idle less d rest (Some r) is_less e all =
+    let room : d ≡ min idle (r + d) = all ∙ ap (room_in idle) e in
+    elim (cases_eq less 0) [
+      | inl none ↦ inl none
+      | inr some ↦ let nothing : r ≡ 0 = omega (arith, room, is_less, some) in inr (ap Some nothing)
+    ]
+
+-- then the window is used, or the limit of the store's channel
+pub used_raised : (q : Dumping) (y : Amounts) (s t d idle less : ℕ) (rests after : List (Option ℕ)) → channel q s < CHANNELS → IsRest q y t less after → less + d ≡ idle
+    → get_or rests (channel q s) None ≡ option_map (λ r. r + d) (get_or after (channel q s) None)
+    → d ≡ room_in idle (get_or rests (channel q s) None) → IsWindowUsed q y t ⊎ IsLimitUsed q y t (channel q s)
+used_raised q y s t d idle less rests after below is is_less here all =
+    elim (used_up idle less d (get_or rests (channel q s) None) (get_or after (channel q s) None) is_less here all) [
+      | inl none ↦ inl (omega (arith, is.windowed, none))
+      | inr none ↦ inr (is.limited (channel q s) below ∙ ap (option_map (λ r. sum_by (in_step y t) (stores_of q (channel q s)) + r)) none ∙ ap Some (omega arith))
+    ]
 
 -- what is used stays used where no amount is smaller and the plan still fits
 pub used_kept : (q : Dumping) (x y : Amounts) (t c : ℕ) → IsNoLess q x y t → FitsAt q y t → IsWindowUsed q x t ⊎ IsLimitUsed q x t c → IsWindowUsed q y t ⊎ IsLimitUsed q y t c

@@ -3,7 +3,7 @@ use Rattle.std.proofs.Common.{◌≡◌, ℕ, ◌+◌, ◌-◌, ◌*◌, ◌<◌
 use Rattle.std.proofs.lemmas.Bool.{cases_lt}
 use Rattle.std.proofs.lemmas.List.{get_or_push, length_push, get_or_append_left, get_or_default}
 use Rattle.mm_base.specs.Grid.{grid_place, cell}
-use Rattle.mm_base.proofs.Places.{grid_place-lt, same_from_grid_place}
+use Rattle.mm_plan.proofs.Places.{grid_place-lt, same_from_grid_place}
 use Rattle.mm_problem.specs.Dumping.{Dumping}
 use Rattle.mm_plan.specs.Volumes.{Amounts, left}
 use Rattle.mm_plan.specs.Simulated.{AgreeEach}

@@ -1,7 +1,7 @@
 -- What a write to one place of a table changes.
 use Rattle.std.proofs.Common.{ℕ, ◌<◌, length, set, refl, arith, get_or-set_same, get_or-set_other}
 use Rattle.mm_base.specs.Grid.{grid_place}
-use Rattle.mm_base.proofs.Places.{grid_place-lt, same_from_grid_place}
+use Rattle.mm_plan.proofs.Places.{grid_place-lt, same_from_grid_place}
 use Rattle.mm_plan.specs.Table.{Table, IsPlace, IsTable, ChangesAmount}
 
 pub changes_amount : (old : Table) (s t n : ℕ) → IsTable old → IsPlace old s t → ChangesAmount old (record { stores = old.stores; steps = old.steps; amounts = set old.amounts (grid_place old.stores t s) n }) s t n

@@ -1,7 +1,8 @@
 -- Filling a plan, one step after the other.
-use Rattle.std.specs.Prelude.{◌≡◌, ◌≢◌, ℕ, ◌+◌, ◌<◌, ◌≤◌, List, length, slice_index, min, Some, ◌⊎◌}
+use Rattle.std.specs.Prelude.{◌≡◌, ◌≢◌, ℕ, ◌+◌, ◌<◌, ◌≤◌, List, length, slice_index, slice_index_or, min, Option, Some, None, option_map}
 use Rattle.std.specs.List.{sum_by}
-use Rattle.mm_problem.specs.Dumping.{Dumping, stores, stores_of, channel, window, limit}
+use Rattle.mm_base.specs.declared.limits.TheConstants.{CHANNELS}
+use Rattle.mm_problem.specs.Dumping.{Dumping, stores, stores_of, window, limit}
 use Rattle.mm_plan.specs.Volumes.{Amounts, written, left}
 use Rattle.mm_plan.specs.Fit.{in_step}
 
@@ -21,10 +22,16 @@ AreLeft q x t blocks = (s : ℕ) → s < length q.rows → slice_index blocks s 
 abbrev pub AreSplit : Dumping → Amounts → ℕ → List ℕ → Type 0
 AreSplit q x t blocks = (s : ℕ) → s < length q.rows → x s t + slice_index blocks s ≡ written q x s t
 
--- so many blocks more may leave a store in a step, and no more
-pub record IsRoom (q : Dumping) (x : Amounts) (s t n : ℕ) : Type 0 where
-  pub windowed : sum_by (in_step x t) (stores q) + n ≤ window q t
-  pub limited : (b : ℕ) → limit q (channel q s) ≡ Some b → sum_by (in_step x t) (stores_of q (channel q s)) + n ≤ b
-  pub used :
-      sum_by (in_step x t) (stores q) + n ≡ window q t
-      ⊎ limit q (channel q s) ≡ Some (sum_by (in_step x t) (stores_of q (channel q s)) + n)
+-- of the limit of each channel that has one, what is not used in the step
+abbrev pub AreUnused : Dumping → Amounts → ℕ → List (Option ℕ) → Type 0
+AreUnused q x t rests = (c : ℕ) → c < CHANNELS → limit q c ≡ option_map (λ rest. sum_by (in_step x t) (stores_of q c) + rest) (slice_index_or rests c None)
+
+-- what is not used in the step: of its window, and of the limits
+pub record IsRest (q : Dumping) (x : Amounts) (t idle : ℕ) (rests : List (Option ℕ)) : Type 0 where
+  pub windowed : sum_by (in_step x t) (stores q) + idle ≡ window q t
+  pub limited : AreUnused q x t rests
+
+-- how many blocks more may leave a store, with what is not used of the window and of its channel's limit
+abbrev pub room_in : ℕ → Option ℕ → ℕ
+room_in idle None = idle
+room_in idle (Some rest) = min idle rest

@@ -1,5 +1,5 @@
 //! Why a plan text or a sheet is refused.
-use mm_base::{Refusal, Refused};
+use mm_base::{Refusal, Refused, refusals};
 use thiserror::Error;
 
 /// Why a plan text or a sheet is refused. It is shown as its number, its name and its fields.
@@ -16,15 +16,11 @@ pub enum Fault {
 }
 
 impl Refused for Fault {
+    fn refusal(self) -> Refusal {
+        refusals!(self; NoMemory, Shape; with PlanText)
+    }
+
     ghost use Rattle.mm_plan.specs.Fault.{refusal_of};
 
     ghost refusal_of = { refusal_of };
-
-    fn refusal(self) -> Refusal {
-        match self {
-            Fault::NoMemory => Refusal::NoMemory,
-            Fault::PlanText { .. } => Refusal::PlanText,
-            Fault::Shape => Refusal::Shape,
-        }
-    }
 }

@@ -1,16 +1,15 @@
 //! Filling a plan, so that no window stays idle that a store could use.
-ghost use Rattle.std.specs.Prelude.{◌≡◌, ℕ, ◌+◌, ◌-◌, ◌<◌, ◌≤◌, length, slice_index, IfOk, ◌⊎◌};
-ghost use Rattle.std.specs.List.{sum_by};
-ghost use Rattle.mm_base.specs.declared.limits.TheConstants.{MAX_STORES, MAX_BLOCKS};
-ghost use Rattle.mm_problem.specs.Dumping.{start, stores, window, channel};
+ghost use Rattle.std.specs.Prelude.{◌≡◌, ◌≢◌, ℕ, ◌+◌, ◌-◌, ◌<◌, ◌≤◌, length, slice_index, slice_index_or, None, option_map, IfOk, IfSome, ◌⊎◌};
+ghost use Rattle.mm_base.specs.declared.limits.TheConstants.{MAX_STORES, MAX_BLOCKS, CHANNELS};
+ghost use Rattle.mm_problem.specs.Dumping.{start, channel};
 ghost use Rattle.mm_plan.specs.Table.{amount, HasShape, ChangesAmount};
-ghost use Rattle.mm_plan.specs.Fit.{in_step, FitsAt, Fits};
+ghost use Rattle.mm_plan.specs.Fit.{FitsAt, Fits};
 ghost use Rattle.mm_plan.specs.Filled.{IsWindowUsed, IsLimitUsed, IsFilled, IsNowhereWorse};
-ghost use Rattle.mm_plan.specs.Filling.{SameElsewhere, IsLoweredAt, AreLeft, AreSplit, IsRoom};
+ghost use Rattle.mm_plan.specs.Filling.{SameElsewhere, IsLoweredAt, AreLeft, AreSplit, AreUnused, IsRest, room_in};
 
-use crate::fit::{channel_amount, step_amount};
+use crate::fit::{channel_amounts, step_amount};
 use crate::plan::Plan;
-use mm_base::{MAX_STORES, NoMemory};
+use mm_base::{CHANNELS, MAX_STORES, NoMemory};
 use mm_problem::Problem;
 use std::alloc::Global;
 
@@ -48,55 +47,111 @@ fn lower_to_written(problem: &Problem, plan: &mut Plan, left: &mut [u32], step: 
     }
 }
 
-// What of a step's window is idle.
-fn idle(problem: &Problem, plan: &Plan, step: u32) -> u32
-    requires shape { HasShape problem.now plan.now }
-    requires first { 1 ≤ step }
-    requires last { step ≤ length problem.now.windows }
-    requires fits { FitsAt problem.now (amount plan.now) step }
-    ensures { sum_by (in_step (amount plan.now) step) (stores problem.now) + result ≡ window problem.now step }
-{
-    problem.window(step) - step_amount(problem, plan, step) as u32
+// What is not used in a step of its window, and of the limit of each channel that has one.
+#[derive(Clone, Copy)]
+struct Rest {
+    idle: u32,
+    by_channel: [Option<u32>; CHANNELS],
 }
 
-// How many blocks more may leave a store in a step.
-fn room(problem: &Problem, plan: &Plan, store: usize, step: u32) -> u32
+// What is not used of a limit, where there is one.
+fn unused(limit: Option<u32>, amount: u64) -> Option<u32>
+    requires fits { IfSome limit (λ blocks. amount ≤ blocks) }
+    ensures { limit ≡ option_map (λ rest. amount + rest) result }
+{
+    match limit {
+        Some(blocks) => Some(blocks - amount as u32),
+        None => None,
+    }
+}
+
+// What is not used of each channel's limit in a step.
+fn unused_limits(problem: &Problem, plan: &Plan, step: u32) -> [Option<u32>; CHANNELS]
     requires shape { HasShape problem.now plan.now }
-    requires store { store < length problem.now.rows }
     requires first { 1 ≤ step }
     requires last { step ≤ length problem.now.windows }
     requires fits { FitsAt problem.now (amount plan.now) step }
-    ensures { IsRoom problem.now (amount plan.now) store step result }
+    ensures channels { length result ≡ CHANNELS }
+    ensures unused { AreUnused problem.now (amount plan.now) step result }
 {
-    let idle = idle(problem, plan, step);
-    let channel = problem.channel(store);
-    match problem.limit(channel) {
-        Some(blocks) => {
-            let rest = blocks - channel_amount(problem, plan, channel, step) as u32;
-            idle.min(rest)
+    let amounts = channel_amounts(problem, plan, step);
+    let mut by_channel = [None; CHANNELS];
+    for channel in 0..CHANNELS {
+        by_channel[channel] = unused(problem.limit(channel as u8), amounts[channel]);
+    }
+    by_channel
+}
+
+impl Rest {
+    // The rest of a step.
+    fn of(problem: &Problem, plan: &Plan, step: u32) -> Rest
+        requires shape { HasShape problem.now plan.now }
+        requires first { 1 ≤ step }
+        requires last { step ≤ length problem.now.windows }
+        requires fits { FitsAt problem.now (amount plan.now) step }
+        ensures { IsRest problem.now (amount plan.now) step result.idle result.by_channel }
+    {
+        Rest {
+            idle: problem.window(step) - step_amount(problem, plan, step) as u32,
+            by_channel: unused_limits(problem, plan, step),
         }
-        None => idle,
+    }
+
+    // How many blocks more may leave a store of a channel.
+    fn room(&self, channel: usize) -> u32
+        requires { channel < CHANNELS }
+        ensures { result ≡ room_in self.now.idle (slice_index_or self.now.by_channel channel None) }
+    {
+        match self.by_channel[channel] {
+            Some(rest) => self.idle.min(rest),
+            None => self.idle,
+        }
+    }
+
+    // Uses some of it for a store of a channel.
+    fn take(&mut self, channel: usize, blocks: u32)
+        requires channel { channel < CHANNELS }
+        requires room { blocks ≤ room_in self.old.idle (slice_index_or self.old.by_channel channel None) }
+        ensures idle { self.new.idle + blocks ≡ self.old.idle }
+        ensures here { slice_index_or self.old.by_channel channel None
+            ≡ option_map (λ rest. rest + blocks) (slice_index_or self.new.by_channel channel None) }
+        ensures others { (c : ℕ) → c ≢ channel
+            → slice_index_or self.new.by_channel c None ≡ slice_index_or self.old.by_channel c None }
+    {
+        self.idle -= blocks;
+        if let Some(rest) = self.by_channel[channel] {
+            self.by_channel[channel] = Some(rest - blocks);
+        }
     }
 }
 
 // Lets as much more leave a store in a step as there is room for, of the blocks that would stay in it. Answers what
 // still stays.
-fn raise(problem: &Problem, plan: &mut Plan, store: usize, step: u32, left: u32) -> u32
+fn raise(
+    problem: &Problem,
+    plan: &mut Plan,
+    rest: &mut Rest,
+    store: usize,
+    step: u32,
+    left: u32,
+) -> u32
     requires shape { HasShape problem.now plan.old }
     requires store { store < length problem.now.rows }
     requires first { 1 ≤ step }
     requires last { step ≤ length problem.now.windows }
-    requires fits { FitsAt problem.now (amount plan.old) step }
+    requires rest { IsRest problem.now (amount plan.old) step rest.old.idle rest.old.by_channel }
     requires most { amount plan.old store step + left ≤ MAX_BLOCKS }
     ensures least { result ≤ left }
     ensures changed { ChangesAmount plan.old plan.new store step (amount plan.old store step + (left - result)) }
-    ensures fits { FitsAt problem.now (amount plan.new) step }
+    ensures rest { IsRest problem.now (amount plan.new) step rest.new.idle rest.new.by_channel }
     ensures used { 0 < result → IsWindowUsed problem.now (amount plan.new) step
         ⊎ IsLimitUsed problem.now (amount plan.new) step (channel problem.now store) }
 {
-    let more = room(problem, plan, store, step).min(left);
+    let channel = problem.channel(store) as usize;
+    let more = rest.room(channel).min(left);
     let blocks = plan.amount(store, step) + more;
     plan.set(store, step, blocks);
+    rest.take(channel, more);
     left - more
 }
 
@@ -117,8 +172,9 @@ fn use_rest(problem: &Problem, plan: &mut Plan, left: &mut [u32], step: u32)
         → IsWindowUsed problem.now (amount plan.new) step
         ⊎ IsLimitUsed problem.now (amount plan.new) step (channel problem.now s) }
 {
+    let mut rest = Rest::of(problem, plan, step);
     for store in 0..problem.stores() {
-        left[store] = raise(problem, plan, store, step, left[store]);
+        left[store] = raise(problem, plan, &mut rest, store, step, left[store]);
     }
 }
 

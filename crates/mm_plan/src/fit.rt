@@ -1,13 +1,13 @@
 //! Whether a plan fits the pass windows and the limits of the channels.
-ghost use Rattle.std.specs.Prelude.{◌≡◌, ℕ, ◌≤◌, ◌↔◌, length, IsTrue, IsOk, IfErr};
+ghost use Rattle.std.specs.Prelude.{◌≡◌, ℕ, ◌<◌, ◌≤◌, ◌↔◌, length, slice_index, Some, IsTrue, IsOk, IfErr};
 ghost use Rattle.std.specs.List.{sum_by};
-ghost use Rattle.mm_base.specs.declared.limits.TheConstants.{MAX_STORES, MAX_BLOCKS};
-ghost use Rattle.mm_problem.specs.Dumping.{stores, stores_of};
+ghost use Rattle.mm_base.specs.declared.limits.TheConstants.{MAX_STORES, MAX_BLOCKS, CHANNELS};
+ghost use Rattle.mm_problem.specs.Dumping.{stores, stores_of, limit};
 ghost use Rattle.mm_plan.specs.Table.{amount, HasShape};
 ghost use Rattle.mm_plan.specs.Fit.{in_step, FitsAt, Fits, FitsLimit, IsFirstMisfit};
 
 use crate::plan::Plan;
-use mm_problem::Problem;
+use mm_problem::{CHANNELS, Problem};
 
 // What is to leave all stores in a step.
 #[tactic(auto, using(mm_sums::proofs::RangeSums::sum_by_range_more))]
@@ -24,31 +24,28 @@ pub(crate) fn step_amount(problem: &Problem, plan: &Plan, step: u32) -> u64
     amount
 }
 
-// What is to leave the stores of a channel in a step.
-#[tactic(auto, using(mm_sums::proofs::RangeSums::sum_by_filter_range_more))]
-pub(crate) fn channel_amount(problem: &Problem, plan: &Plan, channel: u8, step: u32) -> u64
+// What is to leave the stores of each channel in a step.
+pub(crate) fn channel_amounts(problem: &Problem, plan: &Plan, step: u32) -> [u64; CHANNELS]
     requires shape { HasShape problem.now plan.now }
     requires first { 1 ≤ step }
     requires last { step ≤ length problem.now.windows }
-    ensures { result ≡ sum_by (in_step (amount plan.now) step) (stores_of problem.now channel) }
+    ensures channels { length result ≡ CHANNELS }
+    ensures amounts { (c : ℕ) → c < CHANNELS
+        → slice_index result c ≡ sum_by (in_step (amount plan.now) step) (stores_of problem.now c) }
 {
-    let mut amount: u64 = 0;
+    let mut amounts = [0; CHANNELS];
     for store in 0..problem.stores() {
-        if problem.channel(store) == channel {
-            amount += u64::from(plan.amount(store, step));
-        }
+        amounts[problem.channel(store) as usize] += u64::from(plan.amount(store, step));
     }
-    amount
+    amounts
 }
 
-fn fits_limit(problem: &Problem, plan: &Plan, channel: u8, step: u32) -> bool
-    requires shape { HasShape problem.now plan.now }
-    requires first { 1 ≤ step }
-    requires last { step ≤ length problem.now.windows }
-    ensures { IsTrue result ↔ FitsLimit problem.now (amount plan.now) step channel }
+// Whether no more leaves the stores of a channel than its limit, where it has one.
+fn fits_limit(problem: &Problem, channel: u8, amount: u64) -> bool
+    ensures { IsTrue result ↔ ((b : ℕ) → limit problem.now channel ≡ Some b → amount ≤ b) }
 {
     match problem.limit(channel) {
-        Some(blocks) => channel_amount(problem, plan, channel, step) <= u64::from(blocks),
+        Some(blocks) => amount <= u64::from(blocks),
         None => true,
     }
 }
@@ -59,8 +56,9 @@ fn fits_limits(problem: &Problem, plan: &Plan, step: u32) -> bool
     requires last { step ≤ length problem.now.windows }
     ensures { IsTrue result ↔ ((c : ℕ) → FitsLimit problem.now (amount plan.now) step c) }
 {
+    let amounts = channel_amounts(problem, plan, step);
     for channel in 0..problem.channels() {
-        if !fits_limit(problem, plan, channel, step) {
+        if !fits_limit(problem, channel, amounts[channel as usize]) {
             return false;
         }
     }

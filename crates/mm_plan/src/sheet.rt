@@ -3,7 +3,8 @@ ghost use Rattle.std.specs.Prelude.{◌≡◌, ◌<◌, ◌↔◌, ◌∷◌, []
 ghost use Rattle.mm_plan.specs.Sheet.{SheetRows, IsSheet, IsShapedFor, sheet_text};
 ghost use Rattle.mm_plan.specs.Printing.{IsPrinted};
 ghost use Rattle.mm_plan.specs.Table.{HasShape};
-ghost use Rattle.mm_plan.specs.Fault.{IfRefused, IsTextFault};
+ghost use Rattle.mm_base.specs.Reading.{IfRefused};
+ghost use Rattle.mm_plan.specs.Fault.{IsTextFault};
 ghost use Rattle.mm_plan.specs.declared.draft.Stage.TheVariants.{Done};
 ghost use Rattle.mm_plan.specs.declared.fault.Fault.TheVariants.{Shape};
 

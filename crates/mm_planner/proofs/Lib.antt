@@ -12,7 +12,6 @@ pub mod RunLists
 pub mod NoPath
 pub mod TakenAmounts
 pub mod Filling
-pub mod SheetTexts
 pub mod CutOrder
 pub mod PlanTextLemmas
 pub mod SheetLimits

@@ -15,7 +15,7 @@ use Rattle.mm_check.specs.Checking.{SaysProblem}
 use Rattle.mm_planner.specs.Planned.{ShowsLeast}
 use Rattle.mm_planner.specs.PlanTexts.{PlansLeast, PlansCheckLeast}
 use Rattle.mm_planner.proofs.CutOrder.{cut_in_order, bound_in_order}
-use Rattle.mm_planner.proofs.SheetTexts.{one_sheet}
+use Rattle.mm_plan.proofs.SheetTexts.{one_sheet}
 
 -- a sheet shows that its plan loses least
 abbrev SheetShows : Dumping → SheetRows → Type 0

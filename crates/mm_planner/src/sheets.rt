@@ -1,6 +1,6 @@
 //! The sheet of a plan that loses least.
-ghost use Rattle.std.specs.Prelude.{◌≡◌, ◌<◌, length, pos, map, All, IfOk};
-ghost use Rattle.mm_problem.specs.Dumping.{IsDumping, row};
+ghost use Rattle.std.specs.Prelude.{◌≡◌, pos, map, All, IfOk};
+ghost use Rattle.mm_problem.specs.Dumping.{IsDumping};
 ghost use Rattle.mm_base.specs.Id.{IsIdField};
 ghost use Rattle.mm_plan.specs.Sheet.{IsSheet, IsShapedFor};
 ghost use Rattle.mm_planner.specs.Planned.{ShowsLeast};
@@ -11,17 +11,6 @@ use mm_plan::Sheet;
 use mm_problem::{Problem, StoreId};
 use std::alloc::Global;
 
-// The identifier of a store, which is well formed.
-fn store_id(problem: &Problem, store: usize) -> StoreId
-    requires store { store < length problem.now.rows }
-    ensures id { result ≡ (row problem.now store).id }
-    ensures is_field { IsIdField result }
-{
-    let id = problem.id(store);
-    let _field = id.field();
-    id
-}
-
 // The identifiers of the stores, in the problem's order.
 fn store_ids(alloc: Global, problem: &Problem) -> Result<Vec<StoreId>, NoMemory>
     ensures ids { IfOk result (λ ids. ids.items ≡ map (λ row. row.id) problem.now.rows) }
@@ -30,7 +19,7 @@ fn store_ids(alloc: Global, problem: &Problem) -> Result<Vec<StoreId>, NoMemory>
 {
     let mut ids = Vec::new(alloc);
     for store in 0..problem.stores() {
-        ids.push(store_id(problem, store))?;
+        ids.push(problem.id(store))?;
     }
     Ok(ids)
 }

@@ -11,6 +11,7 @@ ghost use Rattle.mm_planner.specs.Growing.{IsStep};
 
 use crate::building::step_width;
 use mm_base::NoMemory;
+use mm_base::grid::place;
 use mm_flow::Solved;
 use mm_plan::Plan;
 use mm_problem::Problem;
@@ -24,7 +25,7 @@ fn take_place(problem: &Problem, step: u32, store: usize) -> usize
     ensures is_dumping { IsDumping problem.now }
 {
     let width = step_width(problem) as usize;
-    (step as usize - 1) * width + 3 * problem.stores() + store
+    place(width, step, 3 * problem.stores() + store)
 }
 
 // What flows on the arc with this number.

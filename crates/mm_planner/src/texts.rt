@@ -1,6 +1,6 @@
 //! From the octets of a setup and a forecast to the text of a plan.
 ghost use Rattle.std.specs.Prelude.{IfOk};
-ghost use Rattle.mm_plan.specs.Fault.{IfRefused};
+ghost use Rattle.mm_base.specs.Reading.{IfRefused};
 ghost use Rattle.mm_check.specs.declared.fault.Fault.TheVariants.{NoMemory};
 ghost use Rattle.mm_planner.specs.PlanTexts.{PlansLeast, IsPlanningFault};
 

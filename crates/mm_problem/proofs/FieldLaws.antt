@@ -14,51 +14,29 @@ use Rattle.mm_problem.specs.Name.{text_of}
 use Rattle.mm_problem.specs.ReadableSetup.{HasOnly, SaysText, SaysNumber, SaysId}
 use Rattle.mm_problem.specs.Tables.{id_at}
 use Rattle.mm_base.proofs.IdFields.{is_id_text_decides}
-use Rattle.mm_base.proofs.ReadingSteps.{bind_ok, test_ok, ok_or_ok, cond_ok}
+use Rattle.mm_problem.proofs.ReadingSteps.{bind_ok, test_ok, ok_or_ok, cond_ok}
 
 -- ---- the kinds of values
 
 -- a value that is a text
 pub string_said : (o : Option Data) (text : List ℕ) → option_and_then as_str o ≡ Some text → o ≡ Some (string text)
-string_said None text h = absurd (cc)
 string_said (Some (string s)) text h = cc
-string_said (Some (integer z)) text h = absurd (cc)
-string_said (Some (float x)) text h = absurd (cc)
-string_said (Some (boolean b)) text h = absurd (cc)
-string_said (Some (datetime d)) text h = absurd (cc)
-string_said (Some (array ds)) text h = absurd (cc)
-string_said (Some (table ms)) text h = absurd (cc)
+string_said other text h = absurd (cc)
 
 -- a value that is a whole number
 pub integer_said : (o : Option Data) (z : ℤ) → option_and_then as_integer o ≡ Some z → o ≡ Some (integer z)
-integer_said None z h = absurd (cc)
-integer_said (Some (string s)) z h = absurd (cc)
 integer_said (Some (integer y)) z h = cc
-integer_said (Some (float x)) z h = absurd (cc)
-integer_said (Some (boolean b)) z h = absurd (cc)
-integer_said (Some (datetime d)) z h = absurd (cc)
-integer_said (Some (array ds)) z h = absurd (cc)
-integer_said (Some (table ms)) z h = absurd (cc)
+integer_said other z h = absurd (cc)
 
 -- a value that is an array
 pub array_said : (d : Data) (ds : Items) → as_array d ≡ Some ds → d ≡ array ds
-array_said (string s) ds h = absurd (cc)
-array_said (integer z) ds h = absurd (cc)
-array_said (float x) ds h = absurd (cc)
-array_said (boolean b) ds h = absurd (cc)
-array_said (datetime t) ds h = absurd (cc)
 array_said (array es) ds h = cc
-array_said (table ms) ds h = absurd (cc)
+array_said other ds h = absurd (cc)
 
 -- a value that is a table
 pub table_said : (d : Data) (ms : Members) → as_table d ≡ Some ms → d ≡ table ms
-table_said (string s) ms h = absurd (cc)
-table_said (integer z) ms h = absurd (cc)
-table_said (float x) ms h = absurd (cc)
-table_said (boolean b) ms h = absurd (cc)
-table_said (datetime t) ms h = absurd (cc)
-table_said (array ds) ms h = absurd (cc)
 table_said (table ns) ms h = cc
+table_said other ms h = absurd (cc)
 
 -- ---- keys
 

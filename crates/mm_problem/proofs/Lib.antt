@@ -1,3 +1,4 @@
+pub mod ReadingSteps
 pub mod TomlViews
 pub mod RowsIn
 pub mod FieldLaws

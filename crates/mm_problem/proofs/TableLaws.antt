@@ -23,7 +23,7 @@ use Rattle.mm_problem.specs.Setup.{IsStoreRow, HaveOtherIds, IsRouteRow, IsLimit
 use Rattle.mm_base.specs.SameRoutes.{same_route}
 use Rattle.mm_problem.specs.Tables.{store_keys, route_keys, limit_keys, kind_of, kind_at, start_from, store_at, next_store, route_at, next_route, limit_at, next_limit}
 use Rattle.mm_problem.proofs.FieldLaws.{table_said, has_only_decides, found_decides, text_said, id_said, id_read, number_said, number_read}
-use Rattle.mm_base.proofs.ReadingSteps.{bind_ok, test_ok, ok_or_ok, ok_same}
+use Rattle.mm_problem.proofs.ReadingSteps.{bind_ok, test_ok, ok_or_ok, ok_same}
 use Rattle.mm_problem.proofs.RowLaws.{IsNext}
 
 -- ---- rows that differ from a row

@@ -1,7 +1,7 @@
 //! Why a setup or a forecast is refused.
 ghost use Rattle.std.specs.Prelude.{◌≡◌};
 
-use mm_base::{Refusal, Refused};
+use mm_base::{Refusal, Refused, refusals};
 use std::alloc::{AllocError, AllocFailed};
 use std::fmt;
 use thiserror::Error;
@@ -90,23 +90,28 @@ pub enum Fault {
     Limit { name: Name },
 }
 
+impl<T: Drop> From<AllocFailed<T>> for Fault {
+    ghost use Rattle.mm_problem.specs.declared.fault.Fault.TheVariants.{NoMemory};
+
+    ghost from_gives = { λ _ e. e ≡ NoMemory };
+
+    fn from(_error: AllocFailed<T>) -> Fault {
+        Fault::NoMemory
+    }
+}
+
 impl Refused for Fault {
+    fn refusal(self) -> Refusal {
+        refusals!(
+            self;
+            NoMemory, SetupText, ForecastText, Header;
+            with SetupField, Cell, StepNumber, Limit
+        )
+    }
+
     ghost use Rattle.mm_problem.specs.Fault.{refusal_of};
 
     ghost refusal_of = { refusal_of };
-
-    fn refusal(self) -> Refusal {
-        match self {
-            Fault::NoMemory => Refusal::NoMemory,
-            Fault::SetupText => Refusal::SetupText,
-            Fault::SetupField { .. } => Refusal::SetupField,
-            Fault::ForecastText => Refusal::ForecastText,
-            Fault::Header => Refusal::Header,
-            Fault::Cell { .. } => Refusal::Cell,
-            Fault::StepNumber { .. } => Refusal::StepNumber,
-            Fault::Limit { .. } => Refusal::Limit,
-        }
-    }
 }
 
 impl From<AllocError> for Fault {
@@ -115,16 +120,6 @@ impl From<AllocError> for Fault {
     ghost from_gives = { λ _ e. e ≡ NoMemory };
 
     fn from(_error: AllocError) -> Fault {
-        Fault::NoMemory
-    }
-}
-
-impl<T: Drop> From<AllocFailed<T>> for Fault {
-    ghost use Rattle.mm_problem.specs.declared.fault.Fault.TheVariants.{NoMemory};
-
-    ghost from_gives = { λ _ e. e ≡ NoMemory };
-
-    fn from(_error: AllocFailed<T>) -> Fault {
         Fault::NoMemory
     }
 }

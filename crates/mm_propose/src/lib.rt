@@ -2,6 +2,7 @@
 #![tactic(auto)]
 
 mod amounts;
+mod arcs;
 mod cuts;
 mod greedy;
 mod moves;

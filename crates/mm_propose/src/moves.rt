@@ -35,6 +35,13 @@ impl Walks {
     }
 }
 
+// How many arcs of a path stand before the first that bears no more.
+fn bearing(stores: &Stores, spans: &[Span], path: &[Link]) -> usize {
+    path.iter()
+        .position(|link| link.most(stores, spans) == 0)
+        .unwrap_or(path.len())
+}
+
 // How many blocks a path bears.
 fn most_on(stores: &Stores, spans: &[Span], path: &[Link]) -> u32 {
     let mut most = u32::MAX;
@@ -44,14 +51,17 @@ fn most_on(stores: &Stores, spans: &[Span], path: &[Link]) -> u32 {
     most
 }
 
-// Moves as many blocks along a path as it bears.
-fn move_along(stores: &Stores, spans: &mut [Span], path: &[Link]) {
-    let blocks = most_on(stores, spans, path);
-    for link in path.iter() {
+// Moves as many blocks along the path as it bears, and keeps of it what comes before the first arc that bears no more.
+fn move_along(stores: &Stores, spans: &mut [Span], walks: &mut Walks) {
+    let blocks = most_on(stores, spans, walks.path.as_slice());
+    for link in walks.path.iter() {
         if let Some(span) = spans.get_mut(link.span) {
-            link.change.apply(span, blocks);
+            link.change.apply(stores, span, blocks);
         }
     }
+    let bearing = bearing(stores, spans, walks.path.as_slice());
+    walks.path.truncate(bearing);
+    walks.have_moved = true;
 }
 
 // Forgets the node that the path has come back to, since no blocks come to it, and the arc from it.
@@ -83,12 +93,7 @@ fn move_to(
         }
         if let Some(link) = lost_to(spans, place) {
             walks.path.push(link)?;
-            move_along(stores, spans, walks.path.as_slice());
-            walks.have_moved = true;
-            walks.path.clear();
-            if last.most(stores, spans) > 0 {
-                walks.path.push(last)?;
-            }
+            move_along(stores, spans, walks);
         } else if let Some(link) = link_to(stores, spans, place) {
             walks.path.push(link)?;
         } else {

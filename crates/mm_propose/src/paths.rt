@@ -46,8 +46,8 @@ impl Change {
         }
     }
 
-    // Changes the span.
-    pub(crate) fn apply(self, span: &mut Span, blocks: u32) {
+    // Changes the span, and looks at the arcs that this changes.
+    pub(crate) fn apply(self, stores: &Stores, span: &mut Span, blocks: u32) {
         match self {
             Change::LoseLess(store) => span.lost.take(store, blocks),
             Change::HoldMore(store) => span.held.add(store, blocks),
@@ -60,6 +60,25 @@ impl Change {
             Change::SendLess(channel) => span.sent.take(channel, blocks),
             Change::IdleLess => span.idle = span.idle.saturating_sub(blocks),
         }
+        self.look_at_arcs(stores, span);
+    }
+
+    fn look_at_arcs(self, stores: &Stores, span: &mut Span) {
+        let mut arcs = span.arcs;
+        match self {
+            Change::IdleLess => (),
+            Change::SendMore(channel) | Change::SendLess(channel) => {
+                arcs.look_at_channel(span, channel)
+            }
+            Change::LoseLess(store)
+            | Change::HoldMore(store)
+            | Change::HoldLess(store)
+            | Change::KeepMore(store)
+            | Change::KeepLess(store)
+            | Change::DumpMore(store)
+            | Change::DumpLess(store) => arcs.look_at_store(span, store, stores.size(store)),
+        }
+        span.arcs = arcs;
     }
 }
 
@@ -90,7 +109,7 @@ impl Link {
     }
 }
 
-// The best of the arcs that were looked at: it bears blocks, and comes from a node of the lowest batch.
+// The best of the arcs that were looked at: it comes from a node of the lowest batch.
 #[derive(Clone, Copy)]
 struct Choice {
     batch: u16,
@@ -98,89 +117,115 @@ struct Choice {
 }
 
 impl Choice {
-    // Looks at an arc.
-    fn consider(&mut self, stores: &Stores, spans: &[Span], link: Link) {
-        let Some(batch) = batch_at(spans, link.from) else {
-            return;
-        };
-        if batch < self.batch && link.most(stores, spans) > 0 {
-            self.batch = batch;
-            self.link = Some(link);
+    // Looks at an arc that bears blocks, with the batch in which its node was found.
+    fn consider(&mut self, batch: Option<u16>, link: Link) {
+        if let Some(batch) = batch {
+            if batch < self.batch {
+                self.batch = batch;
+                self.link = Some(link);
+            }
         }
     }
 
     // Looks at the arcs to where blocks come into a store: it kept them, or held them and would now not.
-    fn into_store(&mut self, stores: &Stores, spans: &[Span], span: usize, store: usize) {
-        if let Some(before) = span.checked_sub(1) {
-            let keep = Link::new(before, Node::Out(store), Change::KeepMore(store));
-            self.consider(stores, spans, keep);
+    fn into_store(&mut self, before: Option<&Span>, span: &Span, at: usize, store: usize) {
+        let out = Node::Out(store);
+        if let Some(before) = before {
+            let keep = Link::new(at.saturating_sub(1), out, Change::KeepMore(store));
+            self.consider(before.found.batch(out), keep);
         }
-        let hold = Link::new(span, Node::Out(store), Change::HoldLess(store));
-        self.consider(stores, spans, hold);
+        if span.arcs.holding.has(store) {
+            let hold = Link::new(at, out, Change::HoldLess(store));
+            self.consider(span.found.batch(out), hold);
+        }
     }
 
-    // Looks at the arcs to what a store holds: blocks come in, do not leave after all, or are not kept after all.
-    fn out_of_store(&mut self, stores: &Stores, spans: &[Span], span: usize, store: usize) {
-        let hold = Link::new(span, Node::In(store), Change::HoldMore(store));
-        self.consider(stores, spans, hold);
-        let channel = Node::Channel(stores.channel(store));
-        let dump = Link::new(span, channel, Change::DumpLess(store));
-        self.consider(stores, spans, dump);
-        let after = Place {
-            span: span.saturating_add(1),
-            node: Node::In(store),
+    // Looks at the arcs to what a store holds: blocks come in, or do not leave after all.
+    fn out_of_store(&mut self, stores: &Stores, span: &Span, at: usize, store: usize) {
+        if span.arcs.roomy.has(store) {
+            let hold = Link::new(at, Node::In(store), Change::HoldMore(store));
+            self.consider(span.found.batch(Node::In(store)), hold);
+        }
+        if span.arcs.dumping.has(store) {
+            let channel = Node::Channel(stores.channel(store));
+            let dump = Link::new(at, channel, Change::DumpLess(store));
+            self.consider(span.found.batch(channel), dump);
+        }
+    }
+
+    // Looks at the arc from the span behind: blocks are not kept after all.
+    fn not_kept(&mut self, after: Option<&Span>, span: &Span, at: usize, store: usize) {
+        let Some(after) = after else {
+            return;
         };
-        let keep = Link {
-            from: after,
-            span,
-            change: Change::KeepLess(store),
-        };
-        self.consider(stores, spans, keep);
+        if span.arcs.keeping.has(store) {
+            let from = Place {
+                span: at.saturating_add(1),
+                node: Node::In(store),
+            };
+            let change = Change::KeepLess(store);
+            let keep = Link {
+                from,
+                span: at,
+                change,
+            };
+            self.consider(after.found.batch(Node::In(store)), keep);
+        }
     }
 
     // Looks at the arcs to a channel: from its stores, and from the pass.
-    fn to_channel(&mut self, stores: &Stores, spans: &[Span], span: usize, channel: usize) {
-        let mut rest = stores.on(channel);
+    fn to_channel(&mut self, stores: &Stores, span: &Span, at: usize, channel: usize) {
+        let mut rest = stores.on(channel).both(span.found.nodes().stores_out());
         for _ in 0..MAX_STORES {
             let Some(store) = rest.first() else {
                 break;
             };
-            let dump = Link::new(span, Node::Out(store), Change::DumpMore(store));
-            self.consider(stores, spans, dump);
+            let dump = Link::new(at, Node::Out(store), Change::DumpMore(store));
+            self.consider(span.found.batch(Node::Out(store)), dump);
             rest = rest.rest();
         }
-        let send = Link::new(span, Node::Pass, Change::SendLess(channel));
-        self.consider(stores, spans, send);
+        if span.arcs.sending.has(Node::Channel(channel)) {
+            let send = Link::new(at, Node::Pass, Change::SendLess(channel));
+            self.consider(span.found.batch(Node::Pass), send);
+        }
     }
 
     // Looks at the arcs to the pass.
-    fn to_pass(&mut self, stores: &Stores, spans: &[Span], span: usize) {
-        for channel in 0..CHANNELS {
-            let send = Link::new(span, Node::Channel(channel), Change::SendMore(channel));
-            self.consider(stores, spans, send);
+    fn to_pass(&mut self, span: &Span, at: usize) {
+        let mut rest = span.found.nodes().both(span.arcs.open);
+        for _ in 0..CHANNELS {
+            let Some(channel) = rest.first_channel() else {
+                break;
+            };
+            let node = Node::Channel(channel);
+            let send = Link::new(at, node, Change::SendMore(channel));
+            self.consider(span.found.batch(node), send);
+            rest = rest.rest();
         }
     }
 }
 
-// The batch of a place, where it was found and leads on.
-fn batch_at(spans: &[Span], place: Place) -> Option<u16> {
-    match spans.get(place.span) {
-        Some(span) => span.found.batch(place.node),
-        None => None,
-    }
+// The span before one.
+fn span_before(spans: &[Span], at: usize) -> Option<&Span> {
+    spans.get(at.checked_sub(1)?)
 }
 
 /// The arc by which blocks come to a place from one of a lower batch, where there still is one that bears any.
 pub(crate) fn link_to(stores: &Stores, spans: &[Span], place: Place) -> Option<Link> {
+    let at = place.span;
+    let span = spans.get(at)?;
     let mut choice = Choice {
-        batch: batch_at(spans, place)?,
+        batch: span.found.batch(place.node)?,
         link: None,
     };
     match place.node {
-        Node::In(store) => choice.into_store(stores, spans, place.span, store),
-        Node::Out(store) => choice.out_of_store(stores, spans, place.span, store),
-        Node::Channel(channel) => choice.to_channel(stores, spans, place.span, channel),
-        Node::Pass => choice.to_pass(stores, spans, place.span),
+        Node::In(store) => choice.into_store(span_before(spans, at), span, at, store),
+        Node::Out(store) => {
+            choice.out_of_store(stores, span, at, store);
+            choice.not_kept(spans.get(at.saturating_add(1)), span, at, store);
+        }
+        Node::Channel(channel) => choice.to_channel(stores, span, at, channel),
+        Node::Pass => choice.to_pass(span, at),
     }
     choice.link
 }
@@ -190,7 +235,7 @@ pub(crate) fn lost_to(spans: &[Span], place: Place) -> Option<Link> {
     let Node::In(store) = place.node else {
         return None;
     };
-    if spans.get(place.span)?.lost.of(store) == 0 {
+    if !spans.get(place.span)?.arcs.losing.has(store) {
         return None;
     }
     Some(Link::new(place.span, place.node, Change::LoseLess(store)))

@@ -2,6 +2,7 @@
 ghost use Rattle.std.specs.Prelude.{◌≤◌, length, IfOk};
 ghost use Rattle.mm_plan.specs.Table.{HasShape};
 
+use crate::arcs::Arcs;
 use crate::cuts::{counts_of, stretches_of};
 use crate::greedy::dump_by_next_overflow;
 use crate::moves::{Walks, move_lost};
@@ -48,9 +49,18 @@ fn plan_of(alloc: Global, problem: &Problem, spans: &[Span]) -> Result<Plan, NoM
     Ok(plan)
 }
 
+// Looks at which arcs of each span bear blocks.
+fn look_at_arcs(stores: &Stores, spans: &mut [Span]) {
+    for span in spans.iter_mut() {
+        let arcs = Arcs::of(stores, span);
+        span.arcs = arcs;
+    }
+}
+
 // Moves lost blocks as long as a search finds where to. The last search finds what the cut is made of.
 fn improve(alloc: Global, stores: &Stores, spans: &mut [Span]) -> Result<(), NoMemory> {
     let mut walks = Walks::new(alloc);
+    look_at_arcs(stores, spans);
     for _ in 0..SEARCHES {
         search(stores, spans);
         if !move_lost(stores, spans, &mut walks)? {

@@ -14,9 +14,22 @@ impl StoreSet {
         StoreSet(self.0 | 1 << (store & 15))
     }
 
-    // The set, with the store where it is so.
+    pub(crate) fn without(self, store: usize) -> StoreSet {
+        StoreSet(self.0 & !(1 << (store & 15)))
+    }
+
+    // The set with the store where it is so, and otherwise without it.
     pub(crate) fn with_if(self, is_so: bool, store: usize) -> StoreSet {
-        StoreSet(self.0 | u16::from(is_so) << (store & 15))
+        StoreSet(self.without(store).0 | u16::from(is_so) << (store & 15))
+    }
+
+    pub(crate) fn has(self, store: usize) -> bool {
+        self.0 >> (store & 15) & 1 == 1
+    }
+
+    // The stores of one set or the other.
+    pub(crate) fn either(self, other: StoreSet) -> StoreSet {
+        StoreSet(self.0 | other.0)
     }
 
     // The stores of both sets.
@@ -96,9 +109,19 @@ impl NodeSet {
         StoreSet((self.0 >> 16 & 0xffff) as u16)
     }
 
-    // Whether one of them is a channel's.
-    pub(crate) fn has_channel(self) -> bool {
-        self.0 >> 32 & 0xff != 0
+    // Those of them that are a channel's.
+    pub(crate) fn channels(self) -> NodeSet {
+        NodeSet(self.0 & 0xff << 32)
+    }
+
+    // The first channel whose node is one of them, where there is one.
+    pub(crate) fn first_channel(self) -> Option<usize> {
+        let channels = self.channels().0 >> 32;
+        if channels == 0 {
+            None
+        } else {
+            Some(channels.trailing_zeros() as usize)
+        }
     }
 
     // The place of the first node, where there is one.

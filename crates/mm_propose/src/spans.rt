@@ -2,6 +2,7 @@
 ghost use Rattle.std.specs.Prelude.{◌≤◌, length};
 
 use crate::amounts::Amounts;
+use crate::arcs::Arcs;
 use crate::search::Found;
 use mm_plan::NoMemory;
 use mm_problem::{CHANNELS, Problem};
@@ -30,6 +31,8 @@ pub(crate) struct Span {
     pub(crate) sent: Amounts,
     /// What of the window is not used.
     pub(crate) idle: u32,
+    /// Which of its arcs bear blocks.
+    pub(crate) arcs: Arcs,
     /// What the last search found here.
     pub(crate) found: Found,
 }
@@ -79,6 +82,7 @@ fn empty_span(problem: &Problem, first: u32, last: u32, come: Amounts, window: u
         kept: Amounts::NOTHING,
         sent: Amounts::NOTHING,
         idle: window,
+        arcs: Arcs::NONE,
         found: Found::nothing(),
     }
 }

@@ -1,4 +1,4 @@
--- The refusals of this crate.
+-- Why a packet is no request, and no report.
 use Rattle.mm_base.specs.declared.refusal.Refusal.{Refusal}
 use Rattle.mm_base.specs.declared.refusal.Refusal.TheVariants as refusal
 use Rattle.mm_st15.specs.declared.fault.Fault.{Fault}
@@ -6,7 +6,9 @@ use Rattle.mm_st15.specs.declared.fault.Fault.TheVariants.{NoMemory, NotSt15, Un
 
 -- which refusal it is
 abbrev pub refusal_of : Fault → Refusal
-refusal_of NoMemory = refusal.NoMemory
-refusal_of NotSt15 = refusal.NotSt15
-refusal_of UnknownSubtype = refusal.UnknownSubtype
-refusal_of CountMismatch = refusal.CountMismatch
+refusal_of = elim [
+  | NoMemory ↦ refusal.NoMemory
+  | NotSt15 ↦ refusal.NotSt15
+  | UnknownSubtype ↦ refusal.UnknownSubtype
+  | CountMismatch ↦ refusal.CountMismatch
+]

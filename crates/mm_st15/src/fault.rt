@@ -1,7 +1,7 @@
 //! Why a packet is no request, and no report.
 ghost use Rattle.std.specs.Prelude.{◌≡◌};
 
-use mm_base::{Refusal, Refused};
+use mm_base::{Refusal, Refused, refusals};
 use std::alloc::AllocError;
 use thiserror::Error;
 
@@ -20,18 +20,13 @@ pub enum Fault {
 }
 
 impl Refused for Fault {
+    fn refusal(self) -> Refusal {
+        refusals!(self; NoMemory, NotSt15, UnknownSubtype, CountMismatch)
+    }
+
     ghost use Rattle.mm_st15.specs.Fault.{refusal_of};
 
     ghost refusal_of = { refusal_of };
-
-    fn refusal(self) -> Refusal {
-        match self {
-            Fault::NoMemory => Refusal::NoMemory,
-            Fault::NotSt15 => Refusal::NotSt15,
-            Fault::UnknownSubtype => Refusal::UnknownSubtype,
-            Fault::CountMismatch => Refusal::CountMismatch,
-        }
-    }
 }
 
 impl From<AllocError> for Fault {

@@ -6,5 +6,4 @@ use Rattle.mm_store.specs.declared.fault.Fault.TheVariants.{NoMemory, HoldsMore}
 
 -- which refusal it is
 abbrev pub refusal_of : Fault → Refusal
-refusal_of NoMemory = refusal.NoMemory
-refusal_of HoldsMore = refusal.HoldsMore
+refusal_of = elim [ NoMemory ↦ refusal.NoMemory | HoldsMore ↦ refusal.HoldsMore ]

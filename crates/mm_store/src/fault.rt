@@ -1,7 +1,7 @@
 //! Why a packet store cannot be made or changed.
 ghost use Rattle.std.specs.Prelude.{◌≡◌};
 
-use mm_base::{Refusal, Refused};
+use mm_base::{Refusal, Refused, refusals};
 use std::alloc::AllocError;
 use thiserror::Error;
 
@@ -16,16 +16,13 @@ pub enum Fault {
 }
 
 impl Refused for Fault {
+    fn refusal(self) -> Refusal {
+        refusals!(self; NoMemory, HoldsMore)
+    }
+
     ghost use Rattle.mm_store.specs.Fault.{refusal_of};
 
     ghost refusal_of = { refusal_of };
-
-    fn refusal(self) -> Refusal {
-        match self {
-            Fault::NoMemory => Refusal::NoMemory,
-            Fault::HoldsMore => Refusal::HoldsMore,
-        }
-    }
 }
 
 impl From<AllocError> for Fault {

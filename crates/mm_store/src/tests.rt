@@ -43,13 +43,7 @@ type Step = (Call, Told);
 
 // Telemetry with this sequence count.
 fn packet(rt: &impl Abort, alloc: Global, count: u16) -> BlockPacket {
-    let header = Header {
-        apid: 100,
-        count: count % 1000,
-        low: 0,
-        service: 3,
-        subtype: 25,
-    };
+    let header = Header::new(100, count % 1000, 3, 25);
     let packet = Packet::tm(header, 0, 0, 0, Octets::new(Vec::new(alloc)));
     BlockPacket::of(packet).expect(rt, "a short packet")
 }
@@ -175,12 +169,13 @@ fn blocks_reused(rt: HostRuntime) {
 }
 
 // A packet that a full bounded store refuses gets no time. The clock ends for a full store and for an empty one.
-static ONE_BLOCK_CIRCULAR: [Step; 8] = [
+static ONE_BLOCK_CIRCULAR: [Step; 9] = [
     (PutAt(0, 1), Kept(1)),
     (PutAt(0, 2), KeptOver(2, 1)),
     (AskState, State(1, 1, 2, 2, 2)),
     (DeleteUpTo(2), Deleted(1)),
     (PutAt(LAST, 3), Kept(LAST)),
+    (AskState, State(1, 1, LAST, LAST, LAST)),
     (PutAt(0, 4), ClockEnd(4)),
     (DeleteUpTo(LAST), Deleted(1)),
     (PutAt(0, 5), ClockEnd(5)),

@@ -1,12 +1,6 @@
 -- What a test of numbers tells, and what is counted where a test passes.
-use Rattle.std.proofs.Common.{◌≡◌, ◌≢◌, ℕ, ◌<◌, ◌≤◌, nat_le, Bool, true, false, cond, eqb, refl, arith}
-use Rattle.std.specs.Bool.{Decides}
+use Rattle.std.proofs.Common.{◌≡◌, ◌≢◌, ℕ, ◌<◌, Bool, true, false, cond, eqb, refl, arith}
 use Rattle.std.proofs.lemmas.Bool.{cond-true, cond-false, eq-eqb, ne_eqb}
-use Rattle.std.proofs.lemmas.Bool.Decides.{nat_tests}
-
--- the test of an order
-pub Decides-nat_le : (a b : ℕ) → Decides (nat_le a b) (a ≤ b)
-Decides-nat_le a b = (λ h. grind (arith, nat_tests), λ h. grind (arith, nat_tests))
 
 -- what is counted where two numbers are equal
 pub cond-eqb_same : (a b n : ℕ) → a ≡ b → cond (eqb a b) n 0 ≡ n

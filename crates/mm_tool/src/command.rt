@@ -1,5 +1,7 @@
 //! The command line.
 
+use crate::chart::{chart_command, chart_task};
+use crate::flight::{FlyFiles, RunFiles, fly_command, fly_task, run_command, run_task};
 use clap::error::ErrorKind;
 use clap::{Arg, ArgMatches, Command, Error};
 use std::alloc::{AllocError, Global};
@@ -19,6 +21,16 @@ pub enum Task<'a> {
         forecast: &'a str,
         plan: &'a str,
     },
+    /// Draw the plan.
+    Chart {
+        setup: &'a str,
+        forecast: &'a str,
+        plan: &'a str,
+    },
+    /// Carry the plan out.
+    Run(RunFiles<'a>),
+    /// Plan the dumps, and carry the plan out.
+    Fly(FlyFiles<'a>),
     /// Answer the requests of the storage service, one after another, in a memory of the setup.
     Ask {
         setup: &'a str,
@@ -27,7 +39,7 @@ pub enum Task<'a> {
 }
 
 const ABOUT: &str =
-    "Plans when a spacecraft's packet stores are dumped, checks such plans, and answers requests of the storage service";
+    "Plans when a spacecraft's packet stores are dumped, checks, draws and carries out such plans, and answers requests of the storage service";
 
 const TOOL_HELP: &str = "\
 Without words the program reads a script from standard input: a first line with the words, and then
@@ -36,15 +48,18 @@ each file under a line `=== NAME`.
 Examples:
   mm_tool plan setup.toml forecast.csv
   mm_tool check setup.toml forecast.csv plan.txt
+  mm_tool chart setup.toml forecast.csv plan.txt > chart.svg
+  mm_tool run setup.toml forecast.csv plan.txt sources.hex links.txt
+  mm_tool fly setup.toml forecast.csv sources.hex links.txt
   mm_tool ask setup.toml requests.hex
 
 Exit status: 0 where the task is done and, for check, the plan is least, for ask, nothing is refused; 1
-where something is refused, the verdict is another, or a write failed; 2 where the command line is no good,
-or help was asked for.";
+where something is refused, a run is halted, the verdict is another, or a write failed; 2 where the command
+line is no good, or help was asked for.";
 
-const SETUP_HELP: &str = "The packet stores, routes and limits of channels, in TOML";
+pub(crate) const SETUP_HELP: &str = "The packet stores, routes and limits of channels, in TOML";
 
-const FORECAST_HELP: &str = "The windows and arrivals of each step, in CSV";
+pub(crate) const FORECAST_HELP: &str = "The windows and arrivals of each step, in CSV";
 
 const PLAN_ABOUT: &str = "Plans the dumps so that the fewest blocks are lost";
 
@@ -104,7 +119,7 @@ Example:
 
 The formats are described in docs/FORMATS.md. Exit status: 0 where nothing is refused, 1 otherwise.";
 
-fn file<'a>(alloc: Global, name: &'a str, help: &'a str) -> Arg<'a> {
+pub(crate) fn file<'a>(alloc: Global, name: &'a str, help: &'a str) -> Arg<'a> {
     Arg::new(alloc, name).required(true).help(help)
 }
 
@@ -143,6 +158,9 @@ fn tool_command<'a>(alloc: Global) -> Result<Command<'a>, AllocError> {
         .arg_required_else_help(true)
         .subcommand(plan_command(alloc)?)?
         .subcommand(check_command(alloc)?)?
+        .subcommand(chart_command(alloc)?)?
+        .subcommand(run_command(alloc)?)?
+        .subcommand(fly_command(alloc)?)?
         .subcommand(ask_command(alloc)?)
 }
 
@@ -175,6 +193,9 @@ pub fn parse<'a, S: AsStr>(alloc: Global, words: &'a [S]) -> Result<Task<'a>, Er
     let task = match matches.subcommand() {
         Some(("plan", files)) => plan_task(files),
         Some(("check", files)) => check_task(files),
+        Some(("chart", files)) => chart_task(files),
+        Some(("run", files)) => run_task(files),
+        Some(("fly", files)) => fly_task(files),
         Some(("ask", files)) => ask_task(files),
         _ => None,
     };

@@ -1,8 +1,11 @@
-//! The program of the mass memory: it plans dumps, judges plans, and answers requests of the storage service.
+//! The program of the mass memory: it plans dumps, judges plans and carries them out, and answers requests of the storage
+//! service.
 #![tactic(auto)]
 
+mod chart;
 mod command;
 mod files;
+mod flight;
 mod run;
 mod script;
 #[cfg(test)]
@@ -19,11 +22,12 @@ fn main(rt: HostRuntime) -> io::Result<ExitCode> {
     let (mut out, mut err) = (rt.stdout(), rt.stderr());
     let status = if words.is_empty() {
         match read_to_end(alloc, &mut Device(rt.reader())) {
-            Ok(script) => run::run_script(alloc, &script, &mut out, &mut err),
+            Ok(script) => run::run_script(&rt, alloc, &script, &mut out, &mut err),
             Err(fault) => run::refuse_input(&mut out, fault),
         }
     } else {
         run::run_tool(
+            &rt,
             alloc,
             words.as_slice(),
             &mut SystemFiles::new(&rt),

@@ -1,23 +1,28 @@
 //! The program, over any files and any writers.
 ghost use Rattle.std.specs.Prelude.{◌≤◌};
 
+use crate::chart::chart;
 use crate::command::{Task, parse};
 use crate::files::{Files, ReadFault};
+use crate::flight::{fly, print_run, run_plan};
 use crate::script::{ScriptFiles, first_line};
 use clap::error::ErrorKind;
 use mm_ask::{Outcome, ask_bytes};
 use mm_base::Refusal;
 use mm_check::check_bytes;
 use mm_cut::Verdict;
+use mm_flight::Printed;
 use mm_planner::plan_bytes;
 use std::alloc::{AllocError, Global};
 use std::convert::AsStr;
 use std::io::{self, Write};
+use std::sync::Wait;
+use std::thread::Threads;
 use thiserror::Error;
 
 /// How a run of the program ended.
 #[derive(Clone, Copy, Debug, PartialEq, Eq)]
-enum Status {
+pub(crate) enum Status {
     Done,
     Refused,
     BadCommandLine,
@@ -37,7 +42,7 @@ impl Status {
 
 /// Why a task is refused. It is shown as its number, its name and its fields.
 #[derive(Debug, Drop, Error)]
-enum Fault<'a> {
+pub(crate) enum Fault<'a> {
     #[error("{}", Refusal::NoMemory)]
     NoMemory,
     #[error("{} name {name}", Refusal::NotRead)]
@@ -45,10 +50,12 @@ enum Fault<'a> {
     #[error(transparent)]
     Texts(#[from] mm_check::Fault),
     #[error(transparent)]
+    Run(#[from] mm_flight::Fault),
+    #[error(transparent)]
     Setup(#[from] mm_ask::Fault),
 }
 
-fn read_file<'a, F: Files>(
+pub(crate) fn read_file<'a, F: Files>(
     alloc: Global,
     files: &mut F,
     name: &'a str,
@@ -115,7 +122,36 @@ fn ask<'a, F: Files>(
     Ok((status_of_answers(outcome), lines))
 }
 
-fn carry_out<F: Files, W: Write>(
+// Says why a task is refused.
+fn refuse<W: Write>(out: &mut W, refusal: Fault<'_>) -> io::Result<Status> {
+    writeln!(out, "refused {refusal}")?;
+    Ok(Status::Refused)
+}
+
+// Prints the text of a task.
+fn print_text<W: Write>(
+    out: &mut W,
+    done: Result<(Status, Vec<u8>), Fault<'_>>,
+) -> io::Result<Status> {
+    match done {
+        Ok((status, text)) => {
+            out.write_all(&text)?;
+            Ok(status)
+        }
+        Err(refusal) => refuse(out, refusal),
+    }
+}
+
+// Prints what a run prints.
+fn print_ended<W: Write>(out: &mut W, ended: Result<Printed, Fault<'_>>) -> io::Result<Status> {
+    match ended {
+        Ok(printed) => print_run(out, &printed),
+        Err(refusal) => refuse(out, refusal),
+    }
+}
+
+fn carry_out<R: Threads + Wait + Sync, F: Files, W: Write>(
+    rt: &R,
     alloc: Global,
     task: Task<'_>,
     files: &mut F,
@@ -128,21 +164,20 @@ fn carry_out<F: Files, W: Write>(
             forecast,
             plan,
         } => check(alloc, files, setup, forecast, plan),
+        Task::Chart {
+            setup,
+            forecast,
+            plan,
+        } => chart(alloc, files, setup, forecast, plan),
+        Task::Run(names) => return print_ended(out, run_plan(rt, alloc, files, names)),
+        Task::Fly(names) => return print_ended(out, fly(rt, alloc, files, names)),
         Task::Ask { setup, requests } => ask(alloc, files, setup, requests),
     };
-    match done {
-        Ok((status, text)) => {
-            out.write_all(&text)?;
-            Ok(status)
-        }
-        Err(refusal) => {
-            writeln!(out, "refused {refusal}")?;
-            Ok(Status::Refused)
-        }
-    }
+    print_text(out, done)
 }
 
-fn run<S: AsStr, F: Files, W: Write, E: Write>(
+fn run<R: Threads + Wait + Sync, S: AsStr, F: Files, W: Write, E: Write>(
+    rt: &R,
     alloc: Global,
     words: &[S],
     files: &mut F,
@@ -150,11 +185,8 @@ fn run<S: AsStr, F: Files, W: Write, E: Write>(
     err: &mut E,
 ) -> io::Result<Status> {
     match parse(alloc, words) {
-        Ok(task) => carry_out(alloc, task, files, out),
-        Err(error) if error.kind() == ErrorKind::OutOfMemory => {
-            writeln!(out, "refused {}", Fault::NoMemory)?;
-            Ok(Status::Refused)
-        }
+        Ok(task) => carry_out(rt, alloc, task, files, out),
+        Err(error) if error.kind() == ErrorKind::OutOfMemory => refuse(out, Fault::NoMemory),
         Err(error) => {
             write!(err, "{error}")?;
             Ok(Status::BadCommandLine)
@@ -165,7 +197,8 @@ fn run<S: AsStr, F: Files, W: Write, E: Write>(
 /// Runs the program on its words, without its own name. What it finds goes to `out`, the texts of a bad command line
 /// and of help to `err`. The exit status is 0 where the task is done, 1 where something is refused, a verdict is not
 /// `Least` or a write failed, and 2 for a bad command line or a call for help.
-pub fn run_tool<S: AsStr, F: Files, W: Write, E: Write>(
+pub fn run_tool<R: Threads + Wait + Sync, S: AsStr, F: Files, W: Write, E: Write>(
+    rt: &R,
     alloc: Global,
     words: &[S],
     files: &mut F,
@@ -174,14 +207,20 @@ pub fn run_tool<S: AsStr, F: Files, W: Write, E: Write>(
 ) -> u8
     ensures status { result ≤ 2 }
 {
-    match run(alloc, words, files, out, err) {
+    match run(rt, alloc, words, files, out, err) {
         Ok(status) => status.code(),
         Err(_) => Status::Refused.code(),
     }
 }
 
 /// Runs the program on a script: a first line with the words, parted by single spaces, and then the files.
-pub fn run_script<W: Write, E: Write>(alloc: Global, script: &[u8], out: &mut W, err: &mut E) -> u8
+pub fn run_script<R: Threads + Wait + Sync, W: Write, E: Write>(
+    rt: &R,
+    alloc: Global,
+    script: &[u8],
+    out: &mut W,
+    err: &mut E,
+) -> u8
     ensures status { result ≤ 2 }
 {
     let (line, files) = first_line(script);
@@ -196,6 +235,7 @@ pub fn run_script<W: Write, E: Write>(alloc: Global, script: &[u8], out: &mut W,
         Err(_) => return refuse_input(out, ReadFault::NoMemory),
     };
     run_tool(
+        rt,
         alloc,
         words.as_slice(),
         &mut ScriptFiles::new(files),

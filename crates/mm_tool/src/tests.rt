@@ -1,27 +1,21 @@
 //! The worked examples, each through the whole program, and the program's answers to files and writers that fail.
 
 mod asking;
+mod charting;
 mod checking;
 mod failing;
+mod flying;
 mod planning;
 mod words;
 
 use crate::run::run_script;
 use std::process::Abort;
+use std::sync::Wait;
+use std::thread::Threads;
 
 pub(crate) const SCI: &str = "\
-[[store]]
-id = \"SCI\"
-size = 4
-type = \"bounded\"
-channel = 0
-
-[[route]]
-apid = 100
-service = 3
-subtype = 25
-store = \"SCI\"
-";
+    [[store]]\nid = \"SCI\"\nsize = 4\ntype = \"bounded\"\nchannel = 0\n\n\
+    [[route]]\napid = 100\nservice = 3\nsubtype = 25\nstore = \"SCI\"\n";
 
 pub(crate) const SCI_STARTS_WITH_2: &str =
     "[[store]]\nid = \"SCI\"\nsize = 4\ntype = \"bounded\"\nchannel = 0\nstart = 2\n";
@@ -30,16 +24,8 @@ pub(crate) const SCI_OF_SIZE_2: &str =
     "[[store]]\nid = \"SCI\"\nsize = 2\ntype = \"bounded\"\nchannel = 0\n";
 
 pub(crate) const A_WITH_LIMIT_1: &str = "\
-[[store]]
-id = \"A\"
-size = 3
-type = \"bounded\"
-channel = 0
-
-[[limit]]
-channel = 0
-blocks = 1
-";
+    [[store]]\nid = \"A\"\nsize = 3\ntype = \"bounded\"\nchannel = 0\n\n\
+    [[limit]]\nchannel = 0\nblocks = 1\n";
 
 pub(crate) const THREE_STEPS: &str = "step,window,SCI\n1,2,3\n2,2,3\n3,0,4\n";
 
@@ -60,23 +46,41 @@ end
 ";
 
 // What the program prints for a script, and its status; it says nothing on standard error.
-pub(crate) fn run<R: Abort + AllocGlobal>(rt: &R, script: &str) -> (String, u8) {
+pub(crate) fn run<R: Abort + AllocGlobal + Threads + Wait + Sync>(
+    rt: &R,
+    script: &str,
+) -> (String, u8) {
     let alloc = rt.alloc();
     let (mut out, mut err) = (Vec::new(alloc), Vec::new(alloc));
-    let status = run_script(alloc, script.as_bytes(), &mut out, &mut err);
+    let status = run_script(rt, alloc, script.as_bytes(), &mut out, &mut err);
     assert!(rt; err.is_empty(), "for {script}");
     (String::from_utf8(out).expect(rt, "UTF-8"), status)
 }
 
 // The program prints this for a script, and ends with this status.
-pub(crate) fn prints<R: Abort + AllocGlobal>(rt: &R, script: &str, want: &str, status: u8) {
+pub(crate) fn prints<R: Abort + AllocGlobal + Threads + Wait + Sync>(
+    rt: &R,
+    script: &str,
+    want: &str,
+    status: u8,
+) {
     let (out, got) = run(rt, script);
     assert_eq!(rt; out.as_str(), want, "for {script}");
     assert_eq!(rt; got, status, "for {script}");
 }
 
+// The program prints its line for each of these scripts, and ends with status 1.
+pub(crate) fn refuses<R: Abort + AllocGlobal + Threads + Wait + Sync>(
+    rt: &R,
+    cases: &[(&str, &str)],
+) {
+    for (script, want) in cases {
+        prints(rt, script, want, 1);
+    }
+}
+
 // `check` prints this line for these files; its status is 0 where the line is `least`.
-pub(crate) fn checks<R: Abort + AllocGlobal>(
+pub(crate) fn checks<R: Abort + AllocGlobal + Threads + Wait + Sync>(
     rt: &R,
     setup: &str,
     forecast: &str,

@@ -2,20 +2,21 @@
 use super::{SCI, some_refused};
 use crate::{Fault, LineFault, Outcome, ask_bytes};
 
+const REFUSED_WHOLE: &str = "\
+    1864C00000042011010000\n\
+    1864C0000004200F0E0000\n\
+    1864C0000004200F010000\n\
+    1864C0000005200F12000000\n\
+    1864C0000005200F01000000\n\
+    186\n\
+    1864C0000004200F16000000\n\
+    1864C0000013200F14000001484B202020202020000000020200\n";
+
 #[test]
 fn requests_that_are_refused_whole(rt: HostRuntime) {
-    let lines = "\
-        1864C00000042011010000\n\
-        1864C0000004200F0E0000\n\
-        1864C0000004200F010000\n\
-        1864C0000005200F12000000\n\
-        1864C0000005200F01000000\n\
-        186\n\
-        1864C0000004200F16000000\n\
-        1864C0000013200F14000001484B202020202020000000020200\n";
     some_refused(
         &rt,
-        lines,
+        REFUSED_WHOLE,
         "1 refused 12 NotSt15\n\
         2 refused 13 UnknownSubtype\n\
         3 refused 14 CountMismatch\n\

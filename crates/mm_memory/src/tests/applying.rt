@@ -54,10 +54,10 @@ fn configuration_report(rt: HostRuntime) {
     assert_eq!(rt; configuration(&answers), Some((1, sci_on(0))));
 }
 
-const CHANNEL_CHANGE: [Row; 3] = [
-    (28, b"\x01SCI     \x05", STORAGE_ON),
-    (2, b"\x01SCI     ", DONE),
-    (28, b"\x01SCI     \x05", DONE),
+const CHANNEL_CHANGE: [Row; 3] = rows![
+    28 b"\x01SCI     \x05" => STORAGE_ON,
+    2 b"\x01SCI     " => DONE,
+    28 b"\x01SCI     \x05" => DONE,
 ];
 
 #[test]
@@ -69,12 +69,12 @@ fn channel_of_a_store_changed(rt: HostRuntime) {
     assert_eq!(rt; configuration(&answers), Some((4, sci_on(5))));
 }
 
-const DELETION: [Row; 5] = [
-    (21, b"\x01SCI     ", STORAGE_ON),
-    (2, b"\x01SCI     ", DONE),
-    (21, b"\x01SCI     ", DONE),
-    (1, b"\x01SCI     ", NO_SUCH_STORE),
-    (20, b"\x01SCI     \x00\x00\x00\x00\x01\x00", BAD_SIZE),
+const DELETION: [Row; 5] = rows![
+    21 b"\x01SCI     " => STORAGE_ON,
+    2 b"\x01SCI     " => DONE,
+    21 b"\x01SCI     " => DONE,
+    1 b"\x01SCI     " => NO_SUCH_STORE,
+    20 b"\x01SCI     \x00\x00\x00\x00\x01\x00" => BAD_SIZE,
 ];
 
 #[test]
@@ -88,12 +88,12 @@ fn delete_store_with_routes(rt: HostRuntime) {
     assert_eq!(rt; memory.entry(1), None);
 }
 
-const RETRIEVAL: [Row; 5] = [
-    (9, b"\x01SCI     \0\0\0\0\0\0\0\x01\0\0\0\0\0\0\0\xFF", DONE),
-    (11, b"\x01SCI     \0\0\0\0\0\0\0\xFF", BUSY),
-    (17, b"\x01SCI     ", DONE),
-    (11, b"\x01SCI     \0\0\0\0\0\0\0\xFF", DONE),
-    (17, b"\x01SCI     ", IDLE),
+const RETRIEVAL: [Row; 5] = rows![
+    9 b"\x01SCI     \0\0\0\0\0\0\0\x01\0\0\0\0\0\0\0\xFF" => DONE,
+    11 b"\x01SCI     \0\0\0\0\0\0\0\xFF" => BUSY,
+    17 b"\x01SCI     " => DONE,
+    11 b"\x01SCI     \0\0\0\0\0\0\0\xFF" => DONE,
+    17 b"\x01SCI     " => IDLE,
 ];
 
 #[test]
@@ -122,13 +122,13 @@ fn routes_added_and_deleted(rt: HostRuntime) {
     }
 }
 
-const CREATED_LAST: [Row; 6] = [
-    (2, b"\x01SCI     ", DONE),
-    (21, b"\x01SCI     ", DONE),
-    (20, b"\x01SCI     \x00\x00\x00\x02\x00\x07", DONE),
-    (27, b"\x01SCI     ", DONE),
-    (27, b"\x01SCI     ", DONE),
-    (25, b"\x01SCI     \x00\x00\x00\x03", DONE),
+const CREATED_LAST: [Row; 6] = rows![
+    2 b"\x01SCI     " => DONE,
+    21 b"\x01SCI     " => DONE,
+    20 b"\x01SCI     \x00\x00\x00\x02\x00\x07" => DONE,
+    27 b"\x01SCI     " => DONE,
+    27 b"\x01SCI     " => DONE,
+    25 b"\x01SCI     \x00\x00\x00\x03" => DONE,
 ];
 
 #[test]

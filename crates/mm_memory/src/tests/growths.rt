@@ -14,13 +14,7 @@ fn memory_in_room(alloc: Global, setup: &str) -> Option<Memory> {
 // The request of a subtype with these octets for its data, where there is room for it.
 fn request_in_room(rt: &impl Abort, alloc: Global, subtype: u8, data: &[u8]) -> Option<Request> {
     assert!(rt; data.len() <= TELECOMMAND_BODY);
-    let header = Header {
-        apid: 100,
-        count: 0,
-        low: 0,
-        service: 15,
-        subtype,
-    };
+    let header = Header::new(100, 0, 15, subtype);
     let packet = Packet::tc(header, 0, Octets::new(data.to_vec(alloc).ok()?));
     Request::read(alloc, &packet).ok()
 }

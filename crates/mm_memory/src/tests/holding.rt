@@ -5,13 +5,7 @@ use mm_st15::{Report, Summary};
 
 // Telemetry with this sequence count, by which the tests know it again.
 fn packet(rt: &impl Abort, alloc: Global, count: u16) -> BlockPacket {
-    let header = Header {
-        apid: 100,
-        count: count % 1000,
-        low: 0,
-        service: 3,
-        subtype: 25,
-    };
+    let header = Header::new(100, count % 1000, 3, 25);
     let packet = Packet::tm(header, 0, 0, 0, Octets::new(Vec::new(alloc)));
     BlockPacket::of(packet).expect(rt, "a short packet")
 }
@@ -70,16 +64,16 @@ fn two_packets_each(rt: &impl Abort, alloc: Global) -> Memory {
     memory
 }
 
-const HELD: [Row; 9] = [
-    (25, b"\x01SCI     \0\0\0\0", BAD_SIZE),
-    (25, b"\x01SCI     \0\0\0\x01", STORAGE_ON),
-    (9, b"\x01SCI     \0\0\0\0\0\0\0\x01\0\0\0\0\0\0\0\xFF", DONE),
-    (2, b"\x01SCI     ", DONE),
-    (25, b"\x01SCI     \0\0\0\x01", BUSY),
-    (17, b"\x01SCI     ", DONE),
-    (25, b"\x01SCI     \0\0\0\x01", HOLDS_MORE),
-    (25, b"\x01SCI     \0\0\0\x02", DONE),
-    (1, b"\x01SCI     ", DONE),
+const HELD: [Row; 9] = rows![
+    25 b"\x01SCI     \0\0\0\0" => BAD_SIZE,
+    25 b"\x01SCI     \0\0\0\x01" => STORAGE_ON,
+    9 b"\x01SCI     \0\0\0\0\0\0\0\x01\0\0\0\0\0\0\0\xFF" => DONE,
+    2 b"\x01SCI     " => DONE,
+    25 b"\x01SCI     \0\0\0\x01" => BUSY,
+    17 b"\x01SCI     " => DONE,
+    25 b"\x01SCI     \0\0\0\x01" => HOLDS_MORE,
+    25 b"\x01SCI     \0\0\0\x02" => DONE,
+    1 b"\x01SCI     " => DONE,
 ];
 
 #[test]
@@ -92,21 +86,21 @@ fn a_store_that_holds_more_is_not_resized(rt: HostRuntime) {
     assert_eq!(rt; offered(&rt, alloc, &mut memory, &sci, 9), Told::Lost);
 }
 
-const TO_BOUNDED: [Row; 6] = [
-    (27, b"\x01HK      ", STORAGE_ON),
-    (2, b"\x01HK      ", DONE),
-    (27, b"\x01HK      ", DONE),
-    (25, b"\x01HK      \0\0\0\x01", HOLDS_MORE),
-    (25, b"\x01HK      \0\0\0\x02", DONE),
-    (1, b"\x01HK      ", DONE),
+const TO_BOUNDED: [Row; 6] = rows![
+    27 b"\x01HK      " => STORAGE_ON,
+    2 b"\x01HK      " => DONE,
+    27 b"\x01HK      " => DONE,
+    25 b"\x01HK      \0\0\0\x01" => HOLDS_MORE,
+    25 b"\x01HK      \0\0\0\x02" => DONE,
+    1 b"\x01HK      " => DONE,
 ];
 
-const TO_CIRCULAR: [Row; 5] = [
-    (26, b"\x01SCI     ", STORAGE_ON),
-    (2, b"\x01SCI     ", DONE),
-    (26, b"\x01SCI     ", DONE),
-    (25, b"\x01SCI     \0\0\0\x02", DONE),
-    (1, b"\x01SCI     ", DONE),
+const TO_CIRCULAR: [Row; 5] = rows![
+    26 b"\x01SCI     " => STORAGE_ON,
+    2 b"\x01SCI     " => DONE,
+    26 b"\x01SCI     " => DONE,
+    25 b"\x01SCI     \0\0\0\x02" => DONE,
+    1 b"\x01SCI     " => DONE,
 ];
 
 #[test]
@@ -125,20 +119,16 @@ fn change_kind_and_resize(rt: HostRuntime) {
     );
 }
 
-const BEGIN_AT_8: [Row; 3] = [
-    (
-        9,
-        b"\x01SCI     \0\0\0\0\0\0\0\x09\0\0\0\0\0\0\0\x08",
-        BAD_RANGE,
-    ),
-    (9, b"\x01SCI     \0\0\0\0\0\0\0\x08\0\0\0\0\0\0\0\x08", DONE),
-    (9, b"\x01SCI     \0\0\0\0\0\0\0\x08\0\0\0\0\0\0\0\x08", BUSY),
+const BEGIN_AT_8: [Row; 3] = rows![
+    9 b"\x01SCI     \0\0\0\0\0\0\0\x09\0\0\0\0\0\0\0\x08" => BAD_RANGE,
+    9 b"\x01SCI     \0\0\0\0\0\0\0\x08\0\0\0\0\0\0\0\x08" => DONE,
+    9 b"\x01SCI     \0\0\0\0\0\0\0\x08\0\0\0\0\0\0\0\x08" => BUSY,
 ];
 
-const AFTERWARDS: [Row; 3] = [
-    (17, b"\x01SCI     ", IDLE),
-    (11, b"\x01SCI     \0\0\0\0\0\0\0\x08", DONE),
-    (2, b"\x01SCI     ", DONE),
+const AFTERWARDS: [Row; 3] = rows![
+    17 b"\x01SCI     " => IDLE,
+    11 b"\x01SCI     \0\0\0\0\0\0\0\x08" => DONE,
+    2 b"\x01SCI     " => DONE,
 ];
 
 #[test]

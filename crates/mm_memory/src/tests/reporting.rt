@@ -63,11 +63,11 @@ fn control_of_the_stores_that_are_there(rt: HostRuntime) {
 }
 
 // A store for each pair of statuses.
-const STATUSES: [Row; 4] = [
-    (20, b"\x01READ    \x00\x00\x00\x04\x01\x00", DONE),
-    (9, b"\x01READ    \0\0\0\0\0\0\0\x01\0\0\0\0\0\0\0\xFF", DONE),
-    (2, b"\x01HK      ", DONE),
-    (9, b"\x01SCI     \0\0\0\0\0\0\0\x01\0\0\0\0\0\0\0\xFF", DONE),
+const STATUSES: [Row; 4] = rows![
+    20 b"\x01READ    \x00\x00\x00\x04\x01\x00" => DONE,
+    9 b"\x01READ    \0\0\0\0\0\0\0\x01\0\0\0\0\0\0\0\xFF" => DONE,
+    2 b"\x01HK      " => DONE,
+    9 b"\x01SCI     \0\0\0\0\0\0\0\x01\0\0\0\0\0\0\0\xFF" => DONE,
 ];
 
 fn status(id: [u8; 8], storage: u8, retrieval: u8) -> Status {

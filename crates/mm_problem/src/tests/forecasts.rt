@@ -28,6 +28,13 @@ fn refused_rows(rt: &impl Abort, alloc: Global, rows: &str, fault: &str) {
     refused(rt, alloc, text.as_bytes(), fault)
 }
 
+// Each of these records behind a good header is answered with its fault.
+fn refused_each(rt: &impl Abort, alloc: Global, cases: &[(&str, &str)]) {
+    for (rows, fault) in cases {
+        refused_rows(rt, alloc, rows, fault);
+    }
+}
+
 // The records of the first steps.
 fn numbered(rt: &impl Abort, alloc: Global, steps: u32) -> String {
     let mut text = String::new(alloc);
@@ -50,10 +57,8 @@ static CELLS_REFUSED: [(&str, &str); 7] = [
 
 #[test]
 fn forecast_cells(rt: HostRuntime) {
-    for (rows, fault) in &CELLS_REFUSED {
-        refused_rows(&rt, rt.alloc(), rows, fault);
-    }
-    refused(&rt, rt.alloc(), b"step,window,HK\n1,2,3", "30 Header")
+    refused(&rt, rt.alloc(), b"step,window,HK\n1,2,3", "30 Header");
+    refused_each(&rt, rt.alloc(), &CELLS_REFUSED)
 }
 
 static HEADERS_REFUSED: [&str; 8] = [
@@ -99,13 +104,10 @@ static RECORDS_REFUSED: [(&str, &str); 20] = [
 
 #[test]
 fn records_refused(rt: HostRuntime) {
-    let alloc = rt.alloc();
-    for (rows, fault) in &RECORDS_REFUSED {
-        refused_rows(&rt, alloc, rows, fault);
-    }
+    refused_each(&rt, rt.alloc(), &RECORDS_REFUSED);
     refused(
         &rt,
-        alloc,
+        rt.alloc(),
         b"step,window,SCI\n1,2,\xff\n",
         "31 Cell row 1 column 3",
     );

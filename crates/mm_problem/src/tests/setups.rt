@@ -11,16 +11,12 @@ fn refused(rt: &impl Abort, alloc: Global, text: &[u8], fault: &str) {
     assert_eq!(rt; shown.as_str(), fault);
 }
 
-// A store's table with these lines is refused.
-fn refused_store(rt: &impl Abort, alloc: Global, lines: &str, fault: &str) {
-    let text = joined(rt, alloc, &["[[store]]\n", lines]);
-    refused(rt, alloc, text.as_bytes(), fault);
-}
-
-// These lines are refused behind a good store.
-fn refused_behind_store(rt: &impl Abort, alloc: Global, lines: &str, fault: &str) {
-    let text = joined(rt, alloc, &[STORE, lines]);
-    refused(rt, alloc, text.as_bytes(), fault);
+// Each of these lines is refused with its fault after this text.
+fn refused_after(rt: &impl Abort, alloc: Global, head: &str, cases: &[(&str, &str)]) {
+    for (lines, fault) in cases {
+        let text = joined(rt, alloc, &[head, lines]);
+        refused(rt, alloc, text.as_bytes(), fault);
+    }
 }
 
 // Texts of three parts, each joined, are refused with their faults.
@@ -231,10 +227,7 @@ static STORES_REFUSED: [(&str, &str); 31] = [
 
 #[test]
 fn stores_refused(rt: HostRuntime) {
-    let alloc = rt.alloc();
-    for (lines, fault) in &STORES_REFUSED {
-        refused_store(&rt, alloc, lines, fault);
-    }
+    refused_after(&rt, rt.alloc(), "[[store]]\n", &STORES_REFUSED);
 }
 
 static ROUTES_REFUSED: [(&str, &str); 9] = [
@@ -286,11 +279,8 @@ static ROUTE_TEXTS_REFUSED: [([&str; 3], &str); 2] = [
 
 #[test]
 fn routes_refused(rt: HostRuntime) {
-    let alloc = rt.alloc();
-    for (lines, fault) in &ROUTES_REFUSED {
-        refused_behind_store(&rt, alloc, lines, fault);
-    }
-    refused_parts(&rt, alloc, &ROUTE_TEXTS_REFUSED)
+    refused_after(&rt, rt.alloc(), STORE, &ROUTES_REFUSED);
+    refused_parts(&rt, rt.alloc(), &ROUTE_TEXTS_REFUSED)
 }
 
 static LIMITS_REFUSED: [(&str, &str); 8] = [
@@ -324,13 +314,10 @@ static LIMITS_REFUSED: [(&str, &str); 8] = [
 
 #[test]
 fn limits_refused(rt: HostRuntime) {
-    let alloc = rt.alloc();
-    for (lines, fault) in &LIMITS_REFUSED {
-        refused_behind_store(&rt, alloc, lines, fault);
-    }
+    refused_after(&rt, rt.alloc(), STORE, &LIMITS_REFUSED);
     refused_parts(
         &rt,
-        alloc,
+        rt.alloc(),
         &[(
             ["limit = [1]\n", STORE, ""],
             "28 SetupField row 1 name limit",

@@ -1,6 +1,6 @@
 //! What `ask` prints.
 
-use super::{SCI, prints};
+use super::{SCI, prints, refuses};
 
 // Requests for the store SCI, what is printed for them, and the status.
 struct Asked {
@@ -113,7 +113,5 @@ const REFUSED: [(&str, &str); 3] = [
 
 #[test]
 fn files_of_ask_refused(rt: HostRuntime) {
-    for (script, want) in REFUSED {
-        prints(&rt, script, want, 1);
-    }
+    refuses(&rt, &REFUSED);
 }

@@ -5,17 +5,10 @@ use super::{
     TWO_STEPS_OF_A, checks, prints,
 };
 use std::process::Abort;
+use std::sync::Wait;
+use std::thread::Threads;
 
 const A: &str = "[[store]]\nid = \"A\"\nsize = 3\ntype = \"bounded\"\nchannel = 0\n";
-
-const STRETCHES_APART: &str =
-    "mmplan 1\nstores SCI\ndump 1 0\ndump 2 2\ndump 3 0\nloss 6\nstretch SCI 1 1\nstretch SCI 3 3\nbound 6\nend\n";
-
-const ONE_STRETCH: &str =
-    "mmplan 1\nstores SCI\ndump 1 0\ndump 2 2\ndump 3 0\nloss 6\nstretch SCI 1 3\nbound -1\nend\n";
-
-const MORE_THAN_IS_HELD: &str =
-    "mmplan 1\nstores SCI\ndump 1 0\ndump 2 9\ndump 3 0\nloss 6\nstretch SCI 1 1\nstretch SCI 3 3\nbound 6\nend\n";
 
 // Plans of `A_WITH_LIMIT_1`: a least one, one in the form without counts, one above the limit, and one that counts a
 // step that is not inner.
@@ -32,7 +25,12 @@ const NOT_INNER: &str =
     "mmplan 2\nstores A\ndump 1 1\ndump 2 0\nloss 2\nstretch A 1 2\ncount 2 channels\nbound 2\nend\n";
 
 // The plan of first_run with one text in the place of another.
-fn first_run_checks<R: Abort + AllocGlobal>(rt: &R, old: &str, new: &str, want: &str) {
+fn first_run_checks<R: Abort + AllocGlobal + Threads + Wait + Sync>(
+    rt: &R,
+    old: &str,
+    new: &str,
+    want: &str,
+) {
     let plan = FIRST_PLAN
         .replace(rt.alloc(), old, new)
         .expect(rt, "memory");
@@ -66,19 +64,31 @@ fn plan_that_does_not_fit(rt: HostRuntime) {
 
 #[test]
 fn two_stretches_of_one_store(rt: HostRuntime) {
-    checks(&rt, SCI_OF_SIZE_2, APART, STRETCHES_APART, "least 6\n");
     checks(
         &rt,
         SCI_OF_SIZE_2,
         APART,
-        ONE_STRETCH,
+        "mmplan 1\nstores SCI\ndump 1 0\ndump 2 2\ndump 3 0\nloss 6\nstretch SCI 1 1\nstretch SCI 3 3\nbound 6\nend\n",
+        "least 6\n",
+    );
+    checks(
+        &rt,
+        SCI_OF_SIZE_2,
+        APART,
+        "mmplan 1\nstores SCI\ndump 1 0\ndump 2 2\ndump 3 0\nloss 6\nstretch SCI 1 3\nbound -1\nend\n",
         "not shown, loss 6 bound -1\n",
     );
 }
 
 #[test]
 fn amount_above_content(rt: HostRuntime) {
-    checks(&rt, SCI_OF_SIZE_2, APART, MORE_THAN_IS_HELD, "least 6\n");
+    checks(
+        &rt,
+        SCI_OF_SIZE_2,
+        APART,
+        "mmplan 1\nstores SCI\ndump 1 0\ndump 2 9\ndump 3 0\nloss 6\nstretch SCI 1 1\nstretch SCI 3 3\nbound 6\nend\n",
+        "least 6\n",
+    );
 }
 
 // Texts in the place of others in the plan of first_run, and what is said then.

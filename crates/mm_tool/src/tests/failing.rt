@@ -5,9 +5,17 @@ use crate::files::{Files, ReadFault};
 use crate::run::run_tool;
 use std::alloc::Global;
 use std::io::{self, ErrorKind, Write};
+use std::sync::Wait;
+use std::thread::Threads;
 
 // A request to enable the store SCI.
 const ENABLE_SCI: &str = "1864C000000D200F010000015343492020202020\n";
+
+// A packet for each step.
+const THREE_PACKETS: &str = "\
+    1 1 0864C000000E200319000000000000000000000000\n\
+    1 2 0864C000000E200319000000000000000000000000\n\
+    1 3 0864C000000E200319000000000000000000000000\n";
 
 // The files of first_run, and this request, of which the read after so many fails.
 #[derive(Drop)]
@@ -25,6 +33,8 @@ impl Files for FailingFiles {
             "S" => SCI,
             "F" => THREE_STEPS,
             "R" => ENABLE_SCI,
+            "X" => THREE_PACKETS,
+            "L" => "links 1\n",
             _ => FIRST_PLAN,
         };
         Vec::from_slice(alloc, text.as_bytes()).map_err(|_| ReadFault::NoMemory)
@@ -52,7 +62,7 @@ impl Write for FailingWriter {
 }
 
 // A command of first_run, what is printed where the read after so many fails, and the status.
-static PRINTED: [(&[&str], u32, &str, u8); 8] = [
+static PRINTED: [(&[&str], u32, &str, u8); 11] = [
     (
         &["check", "S", "F", "P"],
         0,
@@ -74,6 +84,24 @@ static PRINTED: [(&[&str], u32, &str, u8); 8] = [
     (&["check", "S", "F", "P"], 3, "least 2\n", 0),
     (&["plan", "S", "F"], 0, "refused 50 NotRead name S\n", 1),
     (&["plan", "S", "F"], 1, "refused 50 NotRead name F\n", 1),
+    (
+        &["run", "S", "F", "P", "X", "L"],
+        3,
+        "refused 50 NotRead name X\n",
+        1,
+    ),
+    (
+        &["run", "S", "F", "P", "X", "L"],
+        4,
+        "refused 50 NotRead name L\n",
+        1,
+    ),
+    (
+        &["fly", "S", "F", "X", "L"],
+        3,
+        "refused 50 NotRead name L\n",
+        1,
+    ),
     (&["ask", "S", "R"], 0, "refused 50 NotRead name S\n", 1),
     (&["ask", "S", "R"], 1, "refused 50 NotRead name R\n", 1),
 ];
@@ -84,7 +112,7 @@ fn files_that_fail(rt: HostRuntime) {
     for (words, left, want, status) in &PRINTED {
         let (mut out, mut err) = (Vec::new(alloc), Vec::new(alloc));
         let mut files = FailingFiles { left: *left };
-        let got = run_tool(alloc, words, &mut files, &mut out, &mut err);
+        let got = run_tool(&rt, alloc, words, &mut files, &mut out, &mut err);
         assert_eq!(rt; out.as_slice(), want.as_bytes());
         assert_eq!(rt; got, *status);
         assert!(rt; err.is_empty());
@@ -92,12 +120,13 @@ fn files_that_fail(rt: HostRuntime) {
 }
 
 // The status where the write after so many fails.
-fn status_of(alloc: Global, words: &[&str], writes: u32) -> u8 {
+fn status_of<R: Threads + Wait + Sync>(rt: &R, alloc: Global, words: &[&str], writes: u32) -> u8 {
     let mut err = Vec::new(alloc);
     run_tool(
+        rt,
         alloc,
         words,
-        &mut FailingFiles { left: 3 },
+        &mut FailingFiles { left: 5 },
         &mut FailingWriter { left: writes },
         &mut err,
     )
@@ -106,11 +135,23 @@ fn status_of(alloc: Global, words: &[&str], writes: u32) -> u8 {
 #[test]
 fn writers_that_fail(rt: HostRuntime) {
     let alloc = rt.alloc();
-    assert_eq!(rt; status_of(alloc, &["check", "S", "F", "P"], 0), 1);
-    assert_eq!(rt; status_of(alloc, &["check", "S", "F", "P"], 1), 0);
-    assert_eq!(rt; status_of(alloc, &["plan", "S", "F"], 0), 1);
-    assert_eq!(rt; status_of(alloc, &["plan", "S", "F"], 1), 0);
-    assert_eq!(rt; status_of(alloc, &["ask", "S", "R"], 0), 1);
-    assert_eq!(rt; status_of(alloc, &["ask", "S", "R"], 1), 0);
-    assert_eq!(rt; status_of(alloc, &["plan", "S", "-"], 0), 1);
+    assert_eq!(rt; status_of(&rt, alloc, &["check", "S", "F", "P"], 0), 1);
+    assert_eq!(rt; status_of(&rt, alloc, &["check", "S", "F", "P"], 1), 0);
+    assert_eq!(rt; status_of(&rt, alloc, &["plan", "S", "F"], 0), 1);
+    assert_eq!(rt; status_of(&rt, alloc, &["plan", "S", "F"], 1), 0);
+    // A run is printed in one piece, and a plan and its run in two.
+    assert_eq!(rt;
+        status_of(&rt, alloc, &["run", "S", "F", "P", "X", "L"], 0),
+        1
+    );
+    assert_eq!(rt;
+        status_of(&rt, alloc, &["run", "S", "F", "P", "X", "L"], 1),
+        0
+    );
+    assert_eq!(rt; status_of(&rt, alloc, &["fly", "S", "F", "X", "L"], 0), 1);
+    assert_eq!(rt; status_of(&rt, alloc, &["fly", "S", "F", "X", "L"], 1), 1);
+    assert_eq!(rt; status_of(&rt, alloc, &["fly", "S", "F", "X", "L"], 2), 0);
+    assert_eq!(rt; status_of(&rt, alloc, &["ask", "S", "R"], 0), 1);
+    assert_eq!(rt; status_of(&rt, alloc, &["ask", "S", "R"], 1), 0);
+    assert_eq!(rt; status_of(&rt, alloc, &["plan", "S", "-"], 0), 1);
 }

@@ -2,43 +2,22 @@
 
 use super::{
     A_WITH_LIMIT_1, APART, SCI, SCI_OF_SIZE_2, SCI_STARTS_WITH_2, THREE_STEPS, TWO_STEPS_OF_A,
-    checks, prints, run,
+    checks, prints, refuses, run,
 };
 use std::process::Abort;
+use std::sync::Wait;
+use std::thread::Threads;
 
 const A_OF_SIZE_1: &str = "[[store]]\nid = \"A\"\nsize = 1\ntype = \"bounded\"\nchannel = 0\n";
 
 const A_AND_B: &str = "\
-[[store]]
-id = \"A\"
-size = 3
-type = \"bounded\"
-channel = 0
-
-[[store]]
-id = \"B\"
-size = 3
-type = \"bounded\"
-channel = 0
-";
+    [[store]]\nid = \"A\"\nsize = 3\ntype = \"bounded\"\nchannel = 0\n\n\
+    [[store]]\nid = \"B\"\nsize = 3\ntype = \"bounded\"\nchannel = 0\n";
 
 const A_WITH_LIMIT_1_AND_B: &str = "\
-[[store]]
-id = \"A\"
-size = 3
-type = \"bounded\"
-channel = 0
-
-[[store]]
-id = \"B\"
-size = 3
-type = \"bounded\"
-channel = 1
-
-[[limit]]
-channel = 0
-blocks = 1
-";
+    [[store]]\nid = \"A\"\nsize = 3\ntype = \"bounded\"\nchannel = 0\n\n\
+    [[store]]\nid = \"B\"\nsize = 3\ntype = \"bounded\"\nchannel = 1\n\n\
+    [[limit]]\nchannel = 0\nblocks = 1\n";
 
 const SHARED_WINDOW: &str = "step,window,A,B\n1,2,3,3\n2,0,2,2\n";
 
@@ -147,7 +126,7 @@ fn is_planned(plan: &str, row: &Planned) -> bool {
         && (plan.len() == fixed || !row.is_whole)
 }
 
-fn plans<R: Abort + AllocGlobal>(rt: &R, row: &Planned) {
+fn plans<R: Abort + AllocGlobal + Threads + Wait + Sync>(rt: &R, row: &Planned) {
     let script = format!(in rt.alloc();
         "plan S F\n=== S\n{}=== F\n{}",
         row.setup, row.forecast
@@ -185,9 +164,7 @@ const REFUSED: [(&str, &str); 5] = [
 
 #[test]
 fn plans_refused(rt: HostRuntime) {
-    for (script, want) in REFUSED {
-        prints(&rt, script, want, 1);
-    }
+    refuses(&rt, &REFUSED);
 }
 
 // The store of first_run, and the head of the one that follows it.
@@ -267,7 +244,7 @@ fn forecast_cells(rt: HostRuntime) {
 }
 
 // The numbers from the first up to before the end, each between two texts.
-fn numbered<R: Abort + AllocGlobal>(
+fn numbered<R: Abort + AllocGlobal + Threads + Wait + Sync>(
     rt: &R,
     first: u32,
     end: u32,
@@ -282,7 +259,7 @@ fn numbered<R: Abort + AllocGlobal>(
 }
 
 // The text of the most stores over the most steps, without any window, when as much arrives as may.
-fn fullest_forecast<R: Abort + AllocGlobal>(rt: &R) -> String {
+fn fullest_forecast<R: Abort + AllocGlobal + Threads + Wait + Sync>(rt: &R) -> String {
     let columns = numbered(rt, 0, 16, ",S", "");
     let full =
         ",0,1000000,1000000,1000000,1000000,1000000,1000000,1000000,1000000,1000000,1000000,1000000,1000000,1000000,1000000,1000000,1000000\n";
@@ -291,7 +268,7 @@ fn fullest_forecast<R: Abort + AllocGlobal>(rt: &R) -> String {
 }
 
 // Its plan, which dumps nothing.
-fn fullest_plan<R: Abort + AllocGlobal>(rt: &R) -> String {
+fn fullest_plan<R: Abort + AllocGlobal + Threads + Wait + Sync>(rt: &R) -> String {
     let ids = numbered(rt, 0, 16, " S", "");
     let dumps = numbered(rt, 1, 257, "dump ", " 0 0 0 0 0 0 0 0 0 0 0 0 0 0 0 0\n");
     let cut = numbered(rt, 0, 16, "stretch S", " 1 256\n");

@@ -5,7 +5,7 @@ use super::{FIRST_PLAN, SCI, THREE_STEPS, prints};
 use crate::files::ReadFault;
 use crate::run::{refuse_input, run_script};
 
-const LINES: [&str; 13] = [
+const LINES: [&str; 19] = [
     "",
     "\n",
     "plan S\n",
@@ -16,6 +16,12 @@ const LINES: [&str; 13] = [
     "check S F\n",
     "check --help\n",
     "check S F P Q\n",
+    "chart S F\n",
+    "chart --help\n",
+    "run S F P X\n",
+    "run --help\n",
+    "fly S F X\n",
+    "fly --help\n",
     "ask S\n",
     "ask --help\n",
     "--help\n",
@@ -26,7 +32,7 @@ fn command_lines(rt: HostRuntime) {
     let alloc = rt.alloc();
     for line in LINES {
         let (mut out, mut err) = (Vec::new(alloc), Vec::new(alloc));
-        let status = run_script(alloc, line.as_bytes(), &mut out, &mut err);
+        let status = run_script(&rt, alloc, line.as_bytes(), &mut out, &mut err);
         assert_eq!(rt; status, 2, "for {line}");
         assert!(rt; out.is_empty(), "for {line}");
         assert!(rt; !err.is_empty(), "for {line}");
@@ -37,12 +43,15 @@ fn command_lines(rt: HostRuntime) {
 fn a_first_line_that_is_not_utf8(rt: HostRuntime) {
     let alloc = rt.alloc();
     let (mut out, mut err) = (Vec::new(alloc), Vec::new(alloc));
-    assert_eq!(rt; run_script(alloc, b"plan \xff F\n", &mut out, &mut err), 2);
+    assert_eq!(rt;
+        run_script(&rt, alloc, b"plan \xff F\n", &mut out, &mut err),
+        2
+    );
     assert!(rt; out.is_empty());
     assert!(rt; !err.is_empty());
     let mut refusing = FailingWriter { left: 0 };
     assert_eq!(rt;
-        run_script(alloc, b"plan \xff F\n", &mut out, &mut refusing),
+        run_script(&rt, alloc, b"plan \xff F\n", &mut out, &mut refusing),
         1
     );
 }

@@ -1,6 +1,6 @@
 use Rattle.std.proofs.Common.{ap, arith}
 use Rattle.std.specs.Prelude.{is_ok}
-use Rattle.mm_memory.specs.declared.held.Held.{Held}
+use Rattle.mm_desk.specs.declared.held.Held.{Held}
 use Rattle.mm_memory.proofs.ApplyLemmas.{AreHeld-pushed}
 use Rattle.mm_memory.proofs.memory.Memory.create.Goals as goal
 

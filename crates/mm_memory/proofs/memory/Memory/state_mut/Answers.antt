@@ -2,7 +2,7 @@ use Rattle.std.proofs.Common.{List, refl, sym, subst, ap, ◌∙◌}
 use Rattle.std.specs.Option.{option_map}
 use Rattle.std.proofs.lemmas.Option.{slice_get_read}
 use Rattle.mm_desk.specs.Machine.{State}
-use Rattle.mm_memory.specs.declared.held.Held.{Held}
+use Rattle.mm_desk.specs.declared.held.Held.{Held}
 use Rattle.mm_memory.specs.Holdings.{Holdings, StandsAt}
 use Rattle.mm_memory.proofs.PlaceLemmas.{lent_alike, with_changed-stands}
 use Rattle.mm_memory.proofs.memory.Memory.state_mut.Goals as goal

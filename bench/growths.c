@@ -1,0 +1,41 @@
+/* Loaded before the C library: refuses the allocation whose number, from 1, the variable GROWTH has, and writes how many were asked for
+ * into the file that GROWTHS_MET names. */
+#include <errno.h>
+#include <fcntl.h>
+#include <stddef.h>
+#include <stdio.h>
+#include <stdlib.h>
+#include <unistd.h>
+
+void *__libc_malloc(size_t size);
+void *__libc_realloc(void *block, size_t size);
+
+static long met, refused;
+
+__attribute__((constructor)) static void begin(void) {
+    const char *number = getenv("GROWTH");
+    refused = number ? atol(number) : 0;
+    met = 0;
+}
+
+static int is_refused(void) {
+    met++;
+    if (met != refused) {
+        return 0;
+    }
+    errno = ENOMEM;
+    return 1;
+}
+
+void *malloc(size_t size) { return is_refused() ? NULL : __libc_malloc(size); }
+
+void *realloc(void *block, size_t size) { return is_refused() ? NULL : __libc_realloc(block, size); }
+
+__attribute__((destructor)) static void end(void) {
+    const char *name = getenv("GROWTHS_MET");
+    int file = name ? open(name, O_WRONLY | O_CREAT | O_TRUNC, 0600) : -1;
+    if (file >= 0) {
+        dprintf(file, "%ld\n", met);
+        close(file);
+    }
+}

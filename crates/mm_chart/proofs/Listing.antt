@@ -1,0 +1,203 @@
+-- The sum of a chart is its cut's bound, and what its words list is all that its cut counts.
+use Rattle.std.proofs.Common.{◌≡◌, ℕ, ◌<◌, ◌≤◌, Bool, true, false, eqb, leb, ltb, not, cond, ◌&&◌, ◌||◌, List, [], length, get_or, ◌⊎◌, inl, inr, refl, sym, ap, ◌∙◌, subst, arith}
+use Rattle.std.proofs.lemmas.Int.{ints}
+use Rattle.std.proofs.lemmas.Bool.{cases_lt, and_parts}
+use Rattle.std.proofs.lemmas.Bool.Decides.{nat_tests}
+use Rattle.std.proofs.lemmas.List.Folds.{Any-from_list_any, list_any_at}
+use Rattle.std.proofs.lemmas.List.Elements.{All-contains}
+use Rattle.std.proofs.lemmas.List.Sums.{passes_at_first}
+use Rattle.std.proofs.lemmas.Slice.Eq.{bytes_eq-Decides}
+use Rattle.std.specs.Str.{bytes_eq}
+use Rattle.mm_sums.proofs.RangeSums.{term-le-sum_by_range}
+use Rattle.mm_problem.specs.Dumping.{Dumping, no_row, row, place, size, start, channel, arrivals}
+use Rattle.mm_plan.specs.Table.{amount}
+use Rattle.mm_plan.specs.declared.stretch.Stretch.{Stretch}
+use Rattle.mm_cut.specs.Stretches.{store_of, channel_of, covers, goes_past, goes_past_on, is_inner, is_inner_on, IsStretch}
+use Rattle.mm_cut.specs.Counts.{is_listed}
+use Rattle.mm_cut.specs.Cuts.{bound, counts_window, counts_limits}
+use Rattle.mm_cut.specs.Changes.{ChangesStretch, HelpsNowhere}
+use Rattle.mm_cut.specs.Verdicts.{IsVerdict}
+use Rattle.mm_cut.specs.declared.verdict.Verdict.{Verdict}
+use Rattle.mm_cut.specs.declared.verdict.Verdict.TheVariants.{NotShown, Least}
+use Rattle.mm_cut.proofs.PartSums.{leaving_sum_parts}
+use Rattle.mm_cut.proofs.Helping.{only_counted_helps}
+use Rattle.mm_chart.specs.declared.series.Series.{Series}
+use Rattle.mm_chart.specs.declared.series.Series.TheVariants.{WindowCounts, ChannelCounts, LimitsCount, Inner, Last}
+use Rattle.mm_chart.specs.Picture.{Drawn, IsDrawn, has_cut, cut, counts}
+use Rattle.mm_chart.specs.Series.{one_if, amount_of, total_of, is_inner_of, is_last_of, counts_channel}
+use Rattle.mm_chart.specs.Words.{is_marked}
+use Rattle.mm_chart.specs.Listed.{sum_of, SumsAddUp, is_shaded, place_of, KeepsListed, OnlyListedHelps}
+
+-- the numbers of the sum are the parts of the bound
+sum_is_bound : (p : Drawn) → sum_of p ≡ bound p.problem (cut p) (counts p)
+sum_is_bound p = omega (arith, ints, leaving_sum_parts p.problem (cut p) (counts p))
+
+-- where there is a cut, it is the sheet's
+shown_bound : (p : Drawn) (v : Verdict) → p.verdict ≡ v → has_cut v ≡ true → bound p.problem (cut p) (counts p) ≡ bound p.problem p.sheet.cut p.sheet.by_channels
+shown_bound p v here has =
+    let shown : has_cut p.verdict ≡ true = ap has_cut here ∙ has in
+    ap (λ b. bound p.problem (cond b p.sheet.cut []) (cond b p.sheet.by_channels [])) shown
+
+pub sums_add_up : SumsAddUp
+sums_add_up p is = record {
+  least = λ n here.
+      let said = subst (IsVerdict p.problem (amount p.sheet.plan) p.sheet.cut p.sheet.by_channels p.sheet.loss p.sheet.bound) here is.verdict in
+      sum_is_bound p ∙ shown_bound p (Least n) here refl ∙ sym said.0.bound ∙ sym said.2;
+  not_shown = λ n m here.
+      let said = subst (IsVerdict p.problem (amount p.sheet.plan) p.sheet.cut p.sheet.by_channels p.sheet.loss p.sheet.bound) here is.verdict in
+      sum_is_bound p ∙ shown_bound p (NotShown n m) here refl ∙ sym said.0.bound ∙ sym said.2;
+}
+
+-- ---- marks
+
+either_first : (a b : Bool) → a ≡ true → (a || b) ≡ true
+either_first a b holds = rw holds refl
+
+either_second : (a b : Bool) → b ≡ true → (a || b) ≡ true
+either_second true b holds = refl
+either_second false b holds = holds
+
+same_two : (a b : ℕ) → (eqb a a && eqb b b) ≡ true
+same_two a b = grind (arith, nat_tests)
+
+same_and : (a : ℕ) (b : Bool) → b ≡ true → (eqb a a && b) ≡ true
+same_and a b holds = rw holds (grind (arith, nat_tests))
+
+-- a step of the problem with an amount is marked
+in_range : (t m n : ℕ) → 1 ≤ t → t ≤ m → 1 ≤ n → ltb 0 (cond (leb 1 t && leb t m) n 0) ≡ true
+in_range t m n first last some = grind (arith, nat_tests)
+
+marked_at : (p : Drawn) (x : Series) (t : ℕ) → 1 ≤ t → t ≤ length p.problem.windows → 1 ≤ amount_of p x t → is_marked p x t ≡ true
+marked_at p x t first last some = in_range t (length p.problem.windows) (amount_of p x t) first last some
+
+one_of : (b : Bool) → b ≡ true → 1 ≤ one_if b
+one_of b holds = rw holds (omega arith)
+
+-- an inner step of a stretch is a step of the problem
+inner_first : (a b t m : ℕ) → (leb a t && ltb t b) ≡ true → 1 ≤ a → b ≤ m → 1 ≤ t
+inner_first a b t m inner first last = grind (arith, nat_tests)
+
+inner_last : (a b t m : ℕ) → (leb a t && ltb t b) ≡ true → 1 ≤ a → b ≤ m → t ≤ m
+inner_last a b t m inner first last = grind (arith, nat_tests)
+
+-- a stretch that begins with step 1 has that step
+covers_one : (b : ℕ) → 1 ≤ b → (leb 1 1 && leb 1 b) ≡ true
+covers_one b order = grind (arith, nat_tests)
+
+-- a step of a stretch is an inner one or the last
+inner_or_last : (a b t : ℕ) → (leb a t && leb t b) ≡ true → ((leb a t && ltb t b) ≡ true) ⊎ (t ≡ b)
+inner_or_last a b t covers = elim (cases_lt t b) [
+  | inl inner ↦ inl (grind (arith, nat_tests))
+  | inr last ↦ inr (grind (arith, nat_tests))
+]
+
+module _ (p : Drawn) (is : IsDrawn p) where
+  abbrev ds : List Stretch
+  ds = cut p
+
+  abbrev ts : List ℕ
+  ts = counts p
+
+  -- a step that is inner in some stretch is a step of the problem
+  inner_step : (t : ℕ) → is_inner ds t ≡ true → (1 ≤ t) × (t ≤ length p.problem.windows)
+  inner_step t inner =
+      let some = Any-from_list_any (goes_past t) ds inner in
+      let at = All-contains (IsStretch p.problem) ds some.1 is.is_cut.stretches.each (some.0, some.2, some.3) in (
+        inner_first some.1.first some.1.last t (length p.problem.windows) some.4 at.first at.last,
+        inner_last some.1.first some.1.last t (length p.problem.windows) some.4 at.first at.last,
+      )
+
+  window_marked : (t : ℕ) → counts_window ds ts t ≡ true → is_marked p WindowCounts t ≡ true
+  window_marked t counted =
+      let step = inner_step t (and_parts (is_inner ds t) (not (is_listed ts t)) counted).0 in
+      marked_at p WindowCounts t step.0 step.1 (one_of (counts_window ds ts t) counted)
+
+  inner_from_on : (t c : ℕ) → is_inner_on p.problem ds t c ≡ true → is_inner ds t ≡ true
+  inner_from_on t c inner =
+      let some = Any-from_list_any (goes_past_on p.problem t c) ds inner in
+      let on = and_parts (goes_past t some.1) (eqb (channel_of p.problem some.1) c) some.4 in
+      list_any_at (goes_past t) ds some.0 some.1 some.2 (rw some.3 on.0)
+
+  limits_marked : (t : ℕ) → is_listed ts t ≡ true → is_inner ds t ≡ true → is_marked p LimitsCount t ≡ true
+  limits_marked t listed inner =
+      let step = inner_step t inner in
+      let counted : counts_limits ds ts t ≡ true = rw (inner, listed) refl in
+      marked_at p LimitsCount t step.0 step.1 (one_of (counts_limits ds ts t) counted)
+
+  channel_marked : (t c : ℕ) → is_listed ts t ≡ true → is_inner_on p.problem ds t c ≡ true → is_marked p (ChannelCounts c) t ≡ true
+  channel_marked t c listed on =
+      let inner = inner_from_on t c on in
+      let step = inner_step t inner in
+      let counted : counts_channel p c t ≡ true = rw (inner, listed, on) refl in
+      marked_at p (ChannelCounts c) t step.0 step.1 (one_of (counts_channel p c t) counted)
+
+  -- of one stretch
+  module _ (k : ℕ) (d : Stretch) (inside : k < length ds) where
+    abbrev e : Stretch
+    e = get_or ds k d
+
+    abbrev s : ℕ
+    s = store_of p.problem e
+
+    here : IsStretch p.problem e
+    here = is.is_cut.stretches.each k d inside
+
+    inner_marked : (t : ℕ) → goes_past t e ≡ true → is_marked p (Inner s) t ≡ true
+    inner_marked t inner =
+        let first = inner_first e.first e.last t (length p.problem.windows) inner here.first here.last in
+        let last = inner_last e.first e.last t (length p.problem.windows) inner here.first here.last in
+        let of : is_inner_of p s t ≡ true = list_any_at (λ f. eqb (store_of p.problem f) s && goes_past t f) ds k d inside (same_and s (goes_past t e) inner) in
+        marked_at p (Inner s) t first last (one_of (is_inner_of p s t) of)
+
+    last_of : is_last_of p s e.last ≡ true
+    last_of = list_any_at (λ f. eqb (store_of p.problem f) s && eqb f.last e.last) ds k d inside (same_two s e.last)
+
+    last_marked : is_marked p (Last s) e.last ≡ true
+    last_marked = marked_at p (Last s) e.last (omega (arith, here.first, here.order)) here.last (one_of (is_last_of p s e.last) last_of)
+
+    -- its store is named
+    is_named : 1 ≤ total_of p (Last s)
+    is_named =
+        let term = term-le-sum_by_range (amount_of p (Last s)) 1 (length p.problem.windows) e.last (omega (arith, here.first, here.order)) (omega (arith, here.last)) in
+        omega (arith, term, one_of (is_last_of p s e.last) last_of)
+
+    shaded : (t : ℕ) → covers e t ≡ true → is_shaded p s t ≡ true
+    shaded t at = elim (inner_or_last e.first e.last t at) [
+      | inl inner ↦ either_first (is_marked p (Inner s) t) (is_marked p (Last s) t) (inner_marked t inner)
+      | inr last ↦ either_second (is_marked p (Inner s) t) (is_marked p (Last s) t) (rw last last_marked)
+    ]
+
+    same_id : (row p.problem s).id ≡ e.store
+    same_id =
+        (bytes_eq-Decides (get_or p.problem.rows s no_row).id e.store).0 (passes_at_first (λ r. bytes_eq r.id e.store) p.problem.rows no_row here.store)
+
+    stretch_kept : (r : Dumping) → KeepsListed p r → ChangesStretch ◌≤◌ p.problem r ts e
+    stretch_kept r h =
+        let keeps = h.stores s here.store is_named in
+        let there : place_of p r s ≡ store_of r e = ap (place r) same_id in
+        record {
+          store = subst (λ i. i < length r.rows) there keeps.there;
+          start = λ first.
+              let at : covers e 1 ≡ true = rw first (covers_one e.last (omega (arith, here.first, here.order))) in
+              subst (λ i. start p.problem s ≤ start r i) there (keeps.start (shaded 1 at));
+          arrivals = λ t at. subst (λ i. arrivals p.problem s t ≤ arrivals r i t) there (keeps.arrivals t (shaded t at));
+          size = subst (λ i. size r i ≤ size p.problem s) there keeps.size;
+          channel = λ t listed inner.
+              let marked = limits_marked t listed (list_any_at (goes_past t) ds k d inside inner) in
+              subst (λ i. channel r i ≡ channel p.problem s) there (keeps.channel t marked (inner_marked t inner));
+        }
+
+  listed_kept : (r : Dumping) → KeepsListed p r → HelpsNowhere p.problem r ds ts
+  listed_kept r h = record {
+    steps = h.steps;
+    channels = h.channels;
+    stretches = λ k d inside. stretch_kept k d inside r h;
+    windows = λ t at. h.windows t (window_marked t at);
+    limited = λ t c listed on. h.limited t c (limits_marked t listed (inner_from_on t c on)) (channel_marked t c listed on);
+    limits = λ t c listed on. h.limits t c (limits_marked t listed (inner_from_on t c on)) (channel_marked t c listed on);
+  }
+
+pub only_listed_helps : OnlyListedHelps
+only_listed_helps p n r x is here h fits =
+    let least = only_counted_helps p.problem r (cut p) (counts p) x is.is_cut (listed_kept p is r h) fits in
+    omega (arith, ints, least, sum_is_bound p, (sums_add_up p is).least n here)

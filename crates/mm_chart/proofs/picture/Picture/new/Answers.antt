@@ -1,0 +1,12 @@
+use Rattle.mm_chart.proofs.Shown.{drawn_cut}
+use Rattle.mm_chart.proofs.picture.Picture.new.Goals as goal
+
+pub invariant_of-result : goal.invariant_of-result
+invariant_of-result c = (
+  record { shape = c.requires.shape; verdict = c.verdict_of-verdict.ensures; is_cut = drawn_cut _ _ _ _ _ _ _ c.verdict_of-verdict.ensures },
+  record { shape = c.in_ok-volumes.ensures.shape; written = c.in_ok-volumes.ensures.written; left = c.in_ok-volumes.ensures.left; lost = c.in_ok-volumes.ensures.lost },
+  rw c.cut_of.ensures at c.in_ok-shades.ensures,
+)
+
+pub shades_of-requires : goal.shades_of-requires
+shades_of-requires c = rw c.cut_of.ensures (drawn_cut _ _ _ _ _ _ _ c.verdict_of-verdict.ensures).stretches.each

@@ -1,0 +1,49 @@
+-- What a chart is drawn of: a problem, a sheet for it, and the verdict on the sheet.
+use Rattle.std.specs.Prelude.{Bool, true, false, List, [], if◌then◌else◌, ℕ}
+use Rattle.mm_problem.specs.Dumping.{Dumping}
+use Rattle.mm_plan.specs.declared.stretch.Stretch.{Stretch}
+use Rattle.mm_plan.specs.Table.{amount, HasShape}
+use Rattle.mm_plan.specs.Volumes.{Amounts, written, left, lost}
+use Rattle.mm_plan.specs.Simulated.{VolumeTables, written_in, left_in, lost_in, CoversProblem, AgreeEach}
+use Rattle.mm_plan.specs.Sheet.{SheetRows}
+use Rattle.mm_cut.specs.Cuts.{IsCut}
+use Rattle.mm_cut.specs.Verdicts.{IsVerdict}
+use Rattle.mm_cut.specs.declared.verdict.Verdict.{Verdict}
+use Rattle.mm_cut.specs.declared.verdict.Verdict.TheVariants.{BoundIs, NotShown, Least}
+
+pub record Drawn : Type 0 where
+  pub problem : Dumping
+  pub sheet : SheetRows
+  pub verdict : Verdict
+
+-- the amounts that the sheet's plan asks for
+abbrev pub amounts : Drawn → Amounts
+amounts p = amount p.sheet.plan
+
+-- whether the sheet's stretches and counts have been found to be a cut
+abbrev pub has_cut : Verdict → Bool
+has_cut (BoundIs m) = true
+has_cut (NotShown n m) = true
+has_cut (Least n) = true
+has_cut _ = false
+
+-- the cut that is drawn: the sheet's, or none where it is not one
+abbrev pub cut : Drawn → List Stretch
+cut p = if has_cut p.verdict then p.sheet.cut else []
+
+-- the steps of that cut that are counted by channels
+abbrev pub counts : Drawn → List ℕ
+counts p = if has_cut p.verdict then p.sheet.by_channels else []
+
+-- the sheet's plan is one for the problem, and the verdict is that on the sheet
+pub record IsDrawn (p : Drawn) : Type 0 where
+  pub shape : HasShape p.problem p.sheet.plan
+  pub verdict : IsVerdict p.problem (amounts p) p.sheet.cut p.sheet.by_channels p.sheet.loss p.sheet.bound p.verdict
+  pub is_cut : IsCut p.problem (cut p) (counts p)
+
+-- the tables are what the plan does to the stores
+pub record AreVolumesOf (p : Drawn) (v : VolumeTables) : Type 0 where
+  pub shape : CoversProblem p.problem v
+  pub written : AgreeEach p.problem (written_in v) (written p.problem (amounts p))
+  pub left : AgreeEach p.problem (left_in v) (left p.problem (amounts p))
+  pub lost : AgreeEach p.problem (lost_in v) (lost p.problem (amounts p))

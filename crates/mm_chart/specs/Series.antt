@@ -1,0 +1,87 @@
+-- The numbers that a chart draws: one for each step.
+use Rattle.std.specs.Prelude.{ℕ, ◌+◌, ◌-◌, ◌*◌, ◌/◌, ◌<◌, min, max, nat_le, Bool, ◌==◌, ◌&&◌, if◌then◌else◌, List, [], ◌∷◌, length}
+use Rattle.std.specs.List.{sum_by, list_any}
+use Rattle.mm_problem.specs.Dumping.{size, window, arrivals, stores, stores_of, steps}
+use Rattle.mm_plan.specs.Volumes.{written, left, lost}
+use Rattle.mm_cut.specs.Stretches.{store_of, goes_past, is_inner_on}
+use Rattle.mm_cut.specs.Cuts.{limit_or_0, counts_window, counts_limits}
+use Rattle.mm_chart.specs.declared.series.Series.{Series}
+use Rattle.mm_chart.specs.declared.series.Series.TheVariants.{WindowCounts, Window, Used, ChannelCounts, Sent, LimitsCount, CountedWindow, Inner, Last, Written, Left, Lost, Arrivals}
+use Rattle.mm_chart.specs.Picture.{Drawn, amounts, cut, counts}
+
+abbrev pub one_if : Bool → ℕ
+one_if b = if b then 1 else 0
+
+-- what leaves a store in a step
+abbrev pub sent : Drawn → ℕ → ℕ → ℕ
+sent p t s = written p.problem (amounts p) s t - left p.problem (amounts p) s t
+
+-- whether a step counts by the limit of this channel
+abbrev pub counts_channel : Drawn → ℕ → ℕ → Bool
+counts_channel p c t = counts_limits (cut p) (counts p) t && is_inner_on p.problem (cut p) t c
+
+-- whether it is an inner step of a stretch of the store
+abbrev pub is_inner_of : Drawn → ℕ → ℕ → Bool
+is_inner_of p s t = list_any (λ d. (store_of p.problem d == s) && goes_past t d) (cut p)
+
+-- whether it is the last step of a stretch of the store
+abbrev pub is_last_of : Drawn → ℕ → ℕ → Bool
+is_last_of p s t = list_any (λ d. (store_of p.problem d == s) && (d.last == t)) (cut p)
+
+-- the store or the channel is there
+abbrev pub IsSeries : Drawn → Series → Type 0
+IsSeries p (Inner s) = s < length p.problem.rows
+IsSeries p (Last s) = s < length p.problem.rows
+IsSeries p (Written s) = s < length p.problem.rows
+IsSeries p (Left s) = s < length p.problem.rows
+IsSeries p (Lost s) = s < length p.problem.rows
+IsSeries p (Arrivals s) = s < length p.problem.rows
+IsSeries p _ = Unit {0}
+
+-- the number of a step
+abbrev pub amount_of : Drawn → Series → ℕ → ℕ
+amount_of p WindowCounts t = one_if (counts_window (cut p) (counts p) t)
+amount_of p Window t = window p.problem t
+amount_of p Used t = sum_by (sent p t) (stores p.problem)
+amount_of p CountedWindow t = if counts_window (cut p) (counts p) t then window p.problem t else 0
+amount_of p (ChannelCounts c) t = one_if (counts_channel p c t)
+amount_of p (Sent c) t = sum_by (sent p t) (stores_of p.problem c)
+amount_of p LimitsCount t = one_if (counts_limits (cut p) (counts p) t)
+amount_of p (Inner s) t = one_if (is_inner_of p s t)
+amount_of p (Last s) t = one_if (is_last_of p s t)
+amount_of p (Written s) t = written p.problem (amounts p) s t
+amount_of p (Left s) t = left p.problem (amounts p) s t
+amount_of p (Lost s) t = lost p.problem (amounts p) s t
+amount_of p (Arrivals s) t = arrivals p.problem s t
+
+-- the same, and 0 at what is no step
+abbrev pub amount_at : Drawn → Series → ℕ → ℕ
+amount_at p x t = if nat_le 1 t && nat_le t (length p.problem.windows) then amount_of p x t else 0
+
+-- the sum over all steps
+abbrev pub total_of : Drawn → Series → ℕ
+total_of p x = sum_by (amount_of p x) (steps p.problem)
+
+-- the largest of what f gives for these numbers, and 0 where there is none
+abbrev pub largest : (ℕ → ℕ) → List ℕ → ℕ
+largest f [] = 0
+largest f (t ∷ ts) = max (f t) (largest f ts)
+
+-- the largest number of a step
+abbrev pub most_of : Drawn → Series → ℕ
+most_of p x = largest (amount_of p x) (steps p.problem)
+
+-- the amount that is drawn in full height
+abbrev pub whole_of : Drawn → Series → ℕ
+whole_of p Window = most_of p Window
+whole_of p Used = most_of p Window
+whole_of p (Sent c) = limit_or_0 p.problem c
+whole_of p (Written s) = size p.problem s
+whole_of p (Left s) = size p.problem s
+whole_of p (Arrivals s) = size p.problem s
+whole_of p (Lost s) = most_of p (Lost s)
+whole_of p _ = 1
+
+-- an amount in a scale in which the whole has this height: amount * height / whole, rounded up, and at most the height
+abbrev pub scaled : ℕ → ℕ → ℕ → ℕ
+scaled height whole amount = if whole == 0 then 0 else min height ((amount * height + (whole - 1)) / whole)

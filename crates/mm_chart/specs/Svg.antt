@@ -1,0 +1,125 @@
+-- Parts of the text of a picture: Scalable Vector Graphics (SVG) 1.1.
+use Rattle.std.specs.Prelude.{ℕ, ◌+◌, ◌-◌, ◌%◌, ◌==◌, if◌then◌else◌, List, [], ◌∷◌, ◌++◌, length, codes, decimal, flat_map, ℤ, pos, negsuc}
+use Rattle.mm_base.specs.Characters.{line_feed}
+use Rattle.mm_problem.specs.Dumping.{steps}
+use Rattle.mm_chart.specs.declared.pen.Style.{Style}
+use Rattle.mm_chart.specs.declared.pen.Style.TheVariants as style
+use Rattle.mm_chart.specs.declared.series.Series.{Series}
+use Rattle.mm_chart.specs.declared.series.Series.TheVariants.{WindowCounts, Window, Used, ChannelCounts, Sent, Inner, Last, Written, Left, Lost}
+use Rattle.mm_chart.specs.Picture.{Drawn}
+use Rattle.mm_chart.specs.Series.{amount_at, total_of, whole_of, scaled}
+use Rattle.mm_chart.specs.Layout.{edge, room_of, base_of}
+
+-- fixed words, as they are written
+unfoldable pub said : List ℕ → List ℕ
+said words = words
+
+-- a character as it stands in the text of an element (Extensible Markup Language 1.0, 2.4)
+abbrev pub escaped_char : ℕ → List ℕ
+escaped_char c = if c == 38 then codes "&amp;" else if c == 60 then codes "&lt;" else if c == 62 then codes "&gt;" else c ∷ []
+
+-- words from outside, with each character that would be read as markup escaped
+unfoldable pub escaped : List ℕ → List ℕ
+escaped text = flat_map escaped_char text
+
+-- ---- numbers
+
+-- the character between thousands
+abbrev pub comma : ℕ
+comma = 44
+
+-- digits with a comma after each that has a whole number of thousands after it
+abbrev pub separated : List ℕ → List ℕ
+separated [] = []
+separated (c ∷ []) = c ∷ []
+separated (c ∷ d ∷ cs) = (if length (d ∷ cs) % 3 == 0 then c ∷ comma ∷ [] else c ∷ []) ++ separated (d ∷ cs)
+
+-- a number with its thousands separated
+abbrev pub grouped : ℕ → List ℕ
+grouped n = separated (decimal n)
+
+-- a number that may be below 0
+abbrev pub signed_grouped : ℤ → List ℕ
+signed_grouped (pos n) = grouped n
+signed_grouped (negsuc n) = said (codes "&#8722;") ++ grouped (n + 1)
+
+-- ---- words at a place
+
+-- the letter of a style in the style sheet
+abbrev pub style_name : Style → List ℕ
+style_name style.Headline = codes "h"
+style_name style.Doubtful = codes "m"
+style_name style.Alarm = codes "a"
+style_name style.Name = codes "n"
+style_name style.Side = codes "s"
+style_name style.Total = codes "t"
+style_name style.Loss = codes "r"
+style_name style.Tick = codes "k"
+style_name style.Heading = codes "b"
+style_name style.Plain = codes "w"
+
+unfoldable pub opened : Style → ℕ → ℕ → List ℕ
+opened style x y = said (codes "<text class='") ++ style_name style ++ said (codes "' x='") ++ decimal x ++ said (codes "' y='") ++ decimal y ++ said (codes "'>")
+
+unfoldable pub closed : List ℕ
+closed = said (codes "</text>" ++ line_feed ∷ [])
+
+unfoldable pub labelled : Style → ℕ → ℕ → List ℕ → List ℕ
+labelled style x y words = opened style x y ++ words ++ closed
+
+-- ---- heights
+
+-- how high a step of a series is drawn
+abbrev pub height_of : Drawn → Series → ℕ → ℕ → ℕ
+height_of p x whole t = scaled (room_of x) whole (amount_at p x t)
+
+-- to the right edge of a step
+unfoldable pub right_to : Drawn → ℕ → List ℕ
+right_to p t = said (codes "H") ++ decimal (edge p.problem t)
+
+-- up or down to a line
+unfoldable pub line_at : ℕ → List ℕ
+line_at y = said (codes "V") ++ decimal y
+
+-- to a place
+unfoldable pub begun : ℕ → ℕ → List ℕ
+begun x y = said (codes "M") ++ decimal x ++ said (codes " ") ++ decimal y
+
+-- a step of a height after one of another: from the base line where there was none, and down to it where there is none now
+unfoldable pub outline : Drawn → ℕ → ℕ → ℕ → ℕ → List ℕ
+outline p base before here t =
+    if here == 0 then (if before == 0 then [] else line_at base)
+    else if here == before then right_to p t
+    else (if before == 0 then begun (edge p.problem (t - 1)) base else []) ++ line_at (base - here) ++ right_to p t
+
+-- the outline of one step of a series
+unfoldable pub step_outline : Drawn → Series → ℕ → ℕ → List ℕ
+step_outline p x whole t = outline p (base_of p.problem x) (height_of p x whole (t - 1)) (height_of p x whole t) t
+
+-- the letter of a series in the style sheet
+abbrev pub series_name : Series → List ℕ
+series_name WindowCounts = codes "c"
+series_name (ChannelCounts c) = codes "c"
+series_name (Inner s) = codes "c"
+series_name (Last s) = codes "e"
+series_name Window = codes "p"
+series_name Used = codes "u"
+series_name (Sent c) = codes "v"
+series_name (Written s) = codes "g"
+series_name (Left s) = codes "f"
+series_name (Lost s) = codes "l"
+series_name _ = codes "o"
+
+-- the beginning of its outline
+unfoldable pub path_begun : Series → List ℕ
+path_begun x = said (codes "<path class='") ++ series_name x ++ said (codes "' d='")
+
+-- the outline of a series over all steps
+unfoldable pub outlined : Drawn → Series → List ℕ
+outlined p x =
+    path_begun x ++ flat_map (step_outline p x (whole_of p x)) (steps p.problem)
+    ++ said (codes "V") ++ decimal (base_of p.problem x) ++ said (codes "'/>" ++ line_feed ∷ [])
+
+-- a series over all steps, or nothing where it has none
+unfoldable pub profile : Drawn → Series → List ℕ
+profile p x = if total_of p x == 0 then [] else outlined p x

@@ -1,0 +1,158 @@
+-- What a chart says in words.
+use Rattle.std.specs.Prelude.{ℕ, ◌+◌, ◌-◌, ◌==◌, nat_le, nat_lt, Bool, ◌&&◌, not, if◌then◌else◌, List, [], ◌++◌, codes, decimal, flat_map}
+use Rattle.std.specs.List.{sum_by}
+use Rattle.mm_problem.specs.Dumping.{steps, stores}
+use Rattle.mm_cut.specs.declared.verdict.Verdict.{Verdict}
+use Rattle.mm_cut.specs.declared.verdict.Verdict.TheVariants.{NotShown, Least}
+use Rattle.mm_cut.specs.Cuts.{coming_sum, held_sum, windows_sum, limits_sum}
+use Rattle.mm_check.specs.Lines.{line_of}
+use Rattle.mm_chart.specs.declared.layout.TheConstants.{MARGIN, HEADLINE_AT, LINE_PITCH}
+use Rattle.mm_chart.specs.declared.words.TheConstants.{MANY_RANGES, INDENT, NO_FEWER, ONLY_SHOWN, MARKED_WINDOWS, MARKED_PASSES, MARKED_LIMITS, MARKED, AT_LEAST, WHY, IN_STRETCHES, COME, AS_ENDS, STAND, BY_WINDOWS, NO_WINDOWS, BY_LIMITS, NO_LIMITS, HELP, WIDER, NO_WIDER, HIGHER, NO_HIGHER, LARGER, FEWER}
+use Rattle.mm_chart.specs.declared.pen.Style.TheVariants as style
+use Rattle.mm_chart.specs.declared.series.Series.{Series}
+use Rattle.mm_chart.specs.declared.series.Series.TheVariants.{WindowCounts, CountedWindow, LimitsCount, Last}
+use Rattle.mm_chart.specs.Picture.{Drawn, cut, counts}
+use Rattle.mm_chart.specs.Series.{one_if, amount_at, total_of}
+use Rattle.mm_chart.specs.Layout.{word_line}
+use Rattle.mm_chart.specs.Svg.{said, grouped, signed_grouped, opened, closed, labelled}
+use Rattle.mm_chart.specs.Rows.{all_coming, counted, name}
+
+-- ---- the headline
+
+-- some of all blocks
+unfoldable pub of_all : Drawn → ℕ → List ℕ
+of_all p n = grouped n ++ said (codes " of ") ++ grouped (all_coming p)
+
+-- what the verdict lets the chart say
+unfoldable pub headline_of : Drawn → Verdict → List ℕ
+headline_of p (Least n) = opened style.Headline MARGIN HEADLINE_AT ++ of_all p n ++ said NO_FEWER.now ++ closed
+headline_of p (NotShown n m) =
+    opened style.Doubtful MARGIN HEADLINE_AT ++ of_all p n ++ said ONLY_SHOWN.now ++ signed_grouped m ++ closed
+headline_of p v = labelled style.Alarm MARGIN HEADLINE_AT (line_of v)
+
+abbrev pub headline : Drawn → List ℕ
+headline p = headline_of p p.verdict
+
+-- ---- steps as ranges
+
+-- whether a step has a number of the series
+abbrev pub is_marked : Drawn → Series → ℕ → Bool
+is_marked p x t = nat_lt 0 (amount_at p x t)
+
+-- 1 where a range of such steps begins
+abbrev pub begins : Drawn → Series → ℕ → ℕ
+begins p x t = one_if (is_marked p x t && not (is_marked p x (t - 1)))
+
+-- how many ranges there are
+abbrev pub ranges_of : Drawn → Series → ℕ
+ranges_of p x = sum_by (begins p x) (steps p.problem)
+
+-- the first step of a range, where the step before is not in it
+unfoldable pub range_first : Bool → ℕ → List ℕ
+range_first before t = if before then [] else said (codes " ") ++ decimal t
+
+-- its last step, where the step after is not in it: its number, where it has several, and a comma
+unfoldable pub range_last : Bool → Bool → ℕ → List ℕ
+range_last before after t = if after then [] else (if before then said (codes "&#8211;") ++ decimal t else []) ++ said (codes ",")
+
+-- what a step adds to the ranges
+unfoldable pub range_part : Drawn → Series → ℕ → List ℕ
+range_part p x t =
+    if is_marked p x t then range_first (is_marked p x (t - 1)) t ++ range_last (is_marked p x (t - 1)) (is_marked p x (t + 1)) t else []
+
+-- how many such steps there are
+abbrev pub marks : Drawn → Series → ℕ
+marks p x = sum_by (λ t. one_if (is_marked p x t)) (steps p.problem)
+
+-- where such steps are marked
+abbrev pub marked_where : Series → List ℕ
+marked_where WindowCounts = MARKED_WINDOWS.now
+marked_where CountedWindow = MARKED_PASSES.now
+marked_where LimitsCount = MARKED_LIMITS.now
+marked_where _ = MARKED.now
+
+-- before one step or several
+unfoldable pub step_word : Drawn → Series → List ℕ
+step_word p x = if marks p x == 1 then said (codes "In step") else said (codes "In steps")
+
+-- the steps as ranges, or their number where they are many ranges
+unfoldable pub in_steps : Drawn → Series → List ℕ
+in_steps p x =
+    if nat_le (ranges_of p x) MANY_RANGES then step_word p x ++ flat_map (range_part p x) (steps p.problem)
+    else said (codes "In the ") ++ grouped (marks p x) ++ marked_where x
+
+-- ---- why no plan loses fewer
+
+-- a line on the steps of a series, or on that there are none
+unfoldable pub steps_line : Drawn → Series → ℕ → List ℕ → List ℕ → List ℕ
+steps_line p x y words none =
+    if total_of p x == 0 then labelled style.Plain MARGIN y none
+    else opened style.Plain MARGIN y ++ in_steps p x ++ words ++ closed
+
+-- what leaves at most
+unfoldable pub at_most : ℕ → List ℕ → List ℕ
+at_most n back = said (codes " at most ") ++ grouped n ++ back
+
+-- the sum
+unfoldable pub sum_line : Drawn → ℕ → List ℕ → List ℕ
+sum_line p y bound =
+    opened style.Plain MARGIN y
+    ++ grouped (coming_sum p.problem (cut p)) ++ said (codes " &#8722; ") ++ grouped (held_sum p.problem (cut p)) ++ said (codes " &#8722; ")
+    ++ grouped (windows_sum p.problem (cut p) (counts p)) ++ said (codes " &#8722; ") ++ grouped (limits_sum p.problem (cut p) (counts p))
+    ++ said (codes " = ") ++ bound ++ said AT_LEAST.now ++ closed
+
+-- what is shown
+unfoldable pub why_heading : ℕ → List ℕ → List ℕ
+why_heading y bound = opened style.Heading MARGIN y ++ said WHY.now ++ bound ++ closed
+
+-- what comes, less what the stores hold, less what leaves
+unfoldable pub why : Drawn → List ℕ → List ℕ
+why p bound =
+    why_heading (word_line p.problem 0) bound
+    ++ counted style.Plain MARGIN (word_line p.problem 1) IN_STRETCHES.now (coming_sum p.problem (cut p)) COME.now
+    ++ counted style.Plain MARGIN (word_line p.problem 2) AS_ENDS.now (held_sum p.problem (cut p)) STAND.now
+    ++ steps_line p CountedWindow (word_line p.problem 3) (at_most (windows_sum p.problem (cut p) (counts p)) BY_WINDOWS.now) NO_WINDOWS.now
+    ++ steps_line p LimitsCount (word_line p.problem 4) (at_most (limits_sum p.problem (cut p) (counts p)) BY_LIMITS.now) NO_LIMITS.now
+    ++ sum_line p (word_line p.problem 5) bound
+
+-- ---- what would help
+
+-- a new line, before the ninth store
+unfoldable pub broken : ℕ → ℕ → List ℕ
+broken y s = if s == 8 then closed ++ opened style.Plain INDENT (y + LINE_PITCH) else []
+
+-- the identifier of a store with a stretch
+unfoldable pub stretched : Drawn → ℕ → List ℕ
+stretched p s = if total_of p (Last s) == 0 then [] else said (codes " ") ++ name p.problem s
+
+-- the same, on a line of 8 stores
+unfoldable pub stretched_at : Drawn → ℕ → ℕ → List ℕ
+stretched_at p y s = broken y s ++ stretched p s
+
+-- the stores that have a stretch
+unfoldable pub stores_line : Drawn → ℕ → List ℕ
+stores_line p y = opened style.Plain MARGIN y ++ said LARGER.now ++ flat_map (stretched_at p y) (stores p.problem) ++ closed
+
+-- what the cut counts: nothing else can lower the loss
+unfoldable pub help : Drawn → List ℕ
+help p =
+    labelled style.Heading MARGIN (word_line p.problem 7) HELP.now
+    ++ steps_line p WindowCounts (word_line p.problem 8) WIDER.now NO_WIDER.now
+    ++ steps_line p LimitsCount (word_line p.problem 9) HIGHER.now NO_HIGHER.now
+    ++ labelled style.Plain MARGIN (word_line p.problem 10) FEWER.now
+    ++ stores_line p (word_line p.problem 11)
+
+-- the sum where there is a cut to its bound, and the help where it is the loss and there is one
+unfoldable pub words_of : Drawn → Verdict → List ℕ
+words_of p (Least n) = if n == 0 then [] else why p (grouped n) ++ help p
+words_of p (NotShown n m) = why p (signed_grouped m)
+words_of p v = []
+
+abbrev pub words : Drawn → List ℕ
+words p = words_of p p.verdict
+
+-- how many lines they have room for
+abbrev pub word_lines : Verdict → ℕ
+word_lines (Least n) = if n == 0 then 0 else 13
+word_lines (NotShown n m) = 6
+word_lines v = 0

@@ -1,0 +1,292 @@
+//! Parts of the text of a picture: Scalable Vector Graphics (SVG) 1.1.
+ghost use Rattle.std.specs.Prelude.{◌≡◌, ◌+◌, ◌-◌, ◌*◌, ◌<◌, ◌≤◌, ◌++◌, ◌∷◌, [], OnOk, length, codes, decimal, flat_map, ◌^◌};
+ghost use Rattle.mm_problem.specs.Dumping.{steps};
+ghost use Rattle.mm_base.specs.declared.limits.TheConstants.{MAX_STEPS};
+ghost use Rattle.mm_base.specs.Characters.{line_feed};
+ghost use Rattle.mm_chart.specs.Series.{IsSeries};
+ghost use Rattle.mm_chart.specs.Layout.{IsPlaced};
+ghost use Rattle.mm_chart.specs.Svg.{said, separated, grouped, signed_grouped, style_name, opened, closed, labelled, height_of, right_to, line_at, begun, outline, step_outline, series_name, path_begun, outlined, profile};
+
+use crate::layout::{base_of, edge, room_of};
+use crate::picture::{Picture, scaled};
+use crate::series::Series;
+use itoa::Buffer;
+use mm_base::numbers::push_number;
+use std::alloc::AllocError;
+
+/// How words look.
+#[derive(Clone, Copy, Debug, PartialEq, Eq)]
+pub enum Style {
+    Headline,
+    /// A headline where less is shown.
+    Doubtful,
+    /// A headline that warns.
+    Alarm,
+    /// The name of a row.
+    Name,
+    /// What is said beside a name.
+    Side,
+    /// What is said at the right of a row.
+    Total,
+    /// What a store loses.
+    Loss,
+    Tick,
+    Heading,
+    Plain,
+}
+
+// Writes fixed words.
+#[tactic(auto, unfolding(crate::specs::Svg::said))]
+pub(crate) fn push_said(text: &mut Vec<u8>, words: &[u8]) -> Result<(), AllocError>
+    ensures { OnOk result (text.new.items ≡ text.old.items ++ said words.now) }
+{
+    text.extend_from_slice(words)
+}
+
+// Digits with a comma after each that has a whole number of thousands after it.
+fn push_separated(text: &mut Vec<u8>, digits: &[u8]) -> Result<(), AllocError>
+    ensures { OnOk result (text.new.items ≡ text.old.items ++ separated digits.now) }
+{
+    let mut rest = digits;
+    while let [digit, after @ ..] = rest {
+        text.push(*digit)?;
+        if !after.is_empty() && after.len() % 3 == 0 {
+            text.push(b',')?;
+        }
+        rest = after;
+    }
+    Ok(())
+}
+
+/// Writes a number with its thousands separated.
+pub fn push_grouped(text: &mut Vec<u8>, number: u64) -> Result<(), AllocError>
+    ensures { OnOk result (text.new.items ≡ text.old.items ++ grouped number) }
+{
+    let mut buffer = Buffer::new();
+    push_separated(text, buffer.format(number).as_bytes())
+}
+
+/// Writes a number that may be below 0.
+#[tactic(auto, using(std::proofs::Common::append_assoc))]
+pub fn push_signed_grouped(text: &mut Vec<u8>, number: i64) -> Result<(), AllocError>
+    ensures { OnOk result (text.new.items ≡ text.old.items ++ signed_grouped number) }
+{
+    if number < 0 {
+        push_said(text, b"&#8722;")?;
+    }
+    push_grouped(text, number.unsigned_abs())
+}
+
+impl Style {
+    fn name(self) -> &'static [u8]
+        ensures { result.now ≡ style_name self }
+    {
+        match self {
+            Style::Headline => b"h",
+            Style::Doubtful => b"m",
+            Style::Alarm => b"a",
+            Style::Name => b"n",
+            Style::Side => b"s",
+            Style::Total => b"t",
+            Style::Loss => b"r",
+            Style::Tick => b"k",
+            Style::Heading => b"b",
+            Style::Plain => b"w",
+        }
+    }
+}
+
+// Writes a word and a number.
+#[tactic(auto, using(std::proofs::Common::append_assoc))]
+pub(crate) fn push_value(text: &mut Vec<u8>, word: &[u8], number: u32) -> Result<(), AllocError>
+    ensures { OnOk result (text.new.items ≡ text.old.items ++ (said word.now ++ decimal number)) }
+{
+    push_said(text, word)?;
+    push_number(text, u64::from(number))
+}
+
+// Begins words at a place.
+#[tactic(auto, using(std::proofs::Common::append_assoc), unfolding(crate::specs::Svg::opened))]
+pub(crate) fn push_opened(
+    text: &mut Vec<u8>,
+    style: Style,
+    x: u32,
+    y: u32,
+) -> Result<(), AllocError>
+    ensures { OnOk result (text.new.items ≡ text.old.items ++ opened style x y) }
+{
+    push_said(text, b"<text class='")?;
+    text.extend_from_slice(style.name())?;
+    push_value(text, b"' x='", x)?;
+    push_value(text, b"' y='", y)?;
+    push_said(text, b"'>")
+}
+
+// Ends them.
+#[tactic(auto, unfolding(crate::specs::Svg::closed))]
+pub(crate) fn push_closed(text: &mut Vec<u8>) -> Result<(), AllocError>
+    ensures { OnOk result (text.new.items ≡ text.old.items ++ closed) }
+{
+    push_said(text, b"</text>\n")
+}
+
+// Fixed words at a place.
+#[tactic(auto, using(std::proofs::Common::append_assoc), unfolding(crate::specs::Svg::labelled))]
+pub(crate) fn push_labelled(
+    text: &mut Vec<u8>,
+    style: Style,
+    x: u32,
+    y: u32,
+    words: &[u8],
+) -> Result<(), AllocError>
+    ensures { OnOk result (text.new.items ≡ text.old.items ++ labelled style x y words.now) }
+{
+    push_opened(text, style, x, y)?;
+    text.extend_from_slice(words)?;
+    push_closed(text)
+}
+
+// How high a step of a series is drawn.
+fn height_of(picture: &Picture, series: Series, whole: u64, step: u32) -> u32
+    requires series { IsSeries picture.now series }
+    requires whole { whole ≤ 2 ^ 40 }
+    ensures height { result ≡ height_of picture.now series whole step }
+    ensures most { result ≤ 40 }
+{
+    scaled(room_of(series), whole, picture.amount_at(series, step))
+}
+
+// To the right edge of a step.
+#[tactic(auto, unfolding(crate::specs::Svg::right_to))]
+fn push_right(text: &mut Vec<u8>, picture: &Picture, step: u32) -> Result<(), AllocError>
+    requires { step ≤ MAX_STEPS }
+    ensures { OnOk result (text.new.items ≡ text.old.items ++ right_to picture.now step) }
+{
+    push_said(text, b"H")?;
+    push_number(text, u64::from(edge(picture.problem(), step)))
+}
+
+// Up or down to a line.
+#[tactic(auto, unfolding(crate::specs::Svg::line_at))]
+pub(crate) fn push_line(text: &mut Vec<u8>, y: u32) -> Result<(), AllocError>
+    ensures { OnOk result (text.new.items ≡ text.old.items ++ line_at y) }
+{
+    push_said(text, b"V")?;
+    push_number(text, u64::from(y))
+}
+
+// To a place.
+#[tactic(auto, using(std::proofs::Common::append_assoc), unfolding(crate::specs::Svg::begun))]
+pub(crate) fn push_begun(text: &mut Vec<u8>, x: u32, y: u32) -> Result<(), AllocError>
+    ensures { OnOk result (text.new.items ≡ text.old.items ++ begun x y) }
+{
+    push_said(text, b"M")?;
+    push_number(text, u64::from(x))?;
+    push_said(text, b" ")?;
+    push_number(text, u64::from(y))
+}
+
+// A step of a height after one of another.
+#[tactic(auto, using(std::proofs::Common::append_assoc), unfolding(crate::specs::Svg::outline))]
+fn push_outline(
+    text: &mut Vec<u8>,
+    picture: &Picture,
+    base: u32,
+    before: u32,
+    here: u32,
+    step: u32,
+) -> Result<(), AllocError>
+    requires first { 1 ≤ step }
+    requires last { step ≤ MAX_STEPS }
+    requires high { here ≤ base }
+    ensures { OnOk result (text.new.items ≡ text.old.items ++ outline picture.now base before here step) }
+{
+    if here == 0 {
+        if before != 0 {
+            push_line(text, base)?;
+        }
+        return Ok(());
+    }
+    if here != before {
+        if before == 0 {
+            push_begun(text, edge(picture.problem(), step - 1), base)?;
+        }
+        push_line(text, base - here)?;
+    }
+    push_right(text, picture, step)
+}
+
+fn series_name(series: Series) -> &'static [u8]
+    ensures { result.now ≡ series_name series }
+{
+    match series {
+        Series::WindowCounts | Series::ChannelCounts(_) | Series::Inner(_) => b"c",
+        Series::Last(_) => b"e",
+        Series::Window => b"p",
+        Series::Used => b"u",
+        Series::Sent(_) => b"v",
+        Series::Written(_) => b"g",
+        Series::Left(_) => b"f",
+        Series::Lost(_) => b"l",
+        _ => b"o",
+    }
+}
+
+// The outlines of all steps.
+#[tactic(auto, using(std::proofs::Common::append_assoc, crate::proofs::Ranges::flat_map_next), unfolding(crate::specs::Svg::step_outline))]
+fn push_steps(
+    text: &mut Vec<u8>,
+    picture: &Picture,
+    series: Series,
+    whole: u64,
+) -> Result<(), AllocError>
+    requires series { IsSeries picture.now series }
+    requires placed { IsPlaced series }
+    requires whole { whole ≤ 2 ^ 40 }
+    ensures { OnOk result (text.new.items ≡ text.old.items ++ flat_map (step_outline picture.now series whole) (steps picture.now.problem)) }
+{
+    let base = base_of(picture.problem(), series);
+    let mut before = height_of(picture, series, whole, 0);
+    for step in 1..picture.problem().steps() + 1 {
+        let here = height_of(picture, series, whole, step);
+        push_outline(text, picture, base, before, here, step)?;
+        before = here;
+    }
+    Ok(())
+}
+
+// Begins the outline of a series.
+#[tactic(auto, using(std::proofs::Common::append_assoc), unfolding(crate::specs::Svg::path_begun))]
+fn push_path(text: &mut Vec<u8>, series: Series) -> Result<(), AllocError>
+    ensures { OnOk result (text.new.items ≡ text.old.items ++ path_begun series) }
+{
+    push_said(text, b"<path class='")?;
+    text.extend_from_slice(series_name(series))?;
+    push_said(text, b"' d='")
+}
+
+// The outline of a series over all steps.
+#[tactic(auto, using(std::proofs::Common::append_assoc), unfolding(crate::specs::Svg::outlined))]
+fn push_outlined(text: &mut Vec<u8>, picture: &Picture, series: Series) -> Result<(), AllocError>
+    requires series { IsSeries picture.now series }
+    requires placed { IsPlaced series }
+    ensures { OnOk result (text.new.items ≡ text.old.items ++ outlined picture.now series) }
+{
+    push_path(text, series)?;
+    push_steps(text, picture, series, picture.whole(series))?;
+    push_value(text, b"V", base_of(picture.problem(), series))?;
+    push_said(text, b"'/>\n")
+}
+
+/// Draws a series over all steps, or nothing where it has none.
+#[tactic(auto, unfolding(crate::specs::Svg::profile))]
+pub fn push_profile(text: &mut Vec<u8>, picture: &Picture, series: Series) -> Result<(), AllocError>
+    requires series { IsSeries picture.now series }
+    requires placed { IsPlaced series }
+    ensures { OnOk result (text.new.items ≡ text.old.items ++ profile picture.now series) }
+{
+    if picture.total(series) == 0 {
+        return Ok(());
+    }
+    push_outlined(text, picture, series)
+}

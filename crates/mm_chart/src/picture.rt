@@ -1,0 +1,355 @@
+//! A plan to be drawn, and the numbers of its chart.
+ghost use Rattle.std.specs.Prelude.{◌≡◌, ◌^◌, ◌+◌, ◌*◌, ◌<◌, ◌≤◌, [], if◌then◌else◌, All, IfOk, length};
+ghost use Rattle.mm_base.specs.declared.limits.TheConstants.{MAX_STORES, MAX_STEPS, MAX_BLOCKS};
+ghost use Rattle.std.specs.List.{sum_by};
+ghost use Rattle.mm_problem.specs.Dumping.{IsDumping, stores, stores_of};
+ghost use Rattle.mm_plan.specs.Sheet.{IsSheet};
+ghost use Rattle.mm_plan.specs.Table.{amount, HasShape};
+ghost use Rattle.mm_plan.specs.Volumes.{written, left, lost};
+ghost use Rattle.mm_plan.specs.Simulated.{written_in, left_in, lost_in, CoversProblem, AgreeEach};
+ghost use Rattle.mm_cut.specs.Verdicts.{IsVerdict};
+ghost use Rattle.mm_cut.specs.Stretches.{IsStretch, AreStretches};
+ghost use Rattle.mm_cut.specs.Cuts.{IsCut, coming_sum, held_sum, counts_window, counts_limits, windows_sum, limits_sum};
+ghost use Rattle.mm_chart.specs.Picture.{has_cut, cut, counts, IsDrawn};
+ghost use Rattle.mm_chart.specs.declared.series.Series.TheVariants.{CountedWindow};
+ghost use Rattle.mm_chart.specs.Series.{one_if, sent, counts_channel, is_inner_of, is_last_of, IsSeries, amount_of, amount_at, total_of, most_of, whole_of, scaled};
+
+use crate::series::Series;
+use crate::shades::{Shade, is_inner_of, is_inner_on, is_last_of, shades_of};
+use mm_base::NoMemory;
+use mm_cut::{Parts, Verdict, counts_limits, counts_window, parts_of, verify};
+use mm_plan::{Sheet, Simulated, Stretch, simulate};
+use mm_problem::Problem;
+use std::alloc::Global;
+use std::marker::Model;
+
+/// A problem, a sheet for it, the verdict on the sheet, and what its plan does to the stores.
+#[derive(Debug, Drop)]
+pub struct Picture {
+    problem: Problem,
+    sheet: Sheet,
+    verdict: Verdict,
+    volumes: Simulated,
+    // The stretches that are drawn.
+    shades: Vec<Shade>,
+}
+
+impl Model for Picture {
+    ghost use Rattle.std.specs.Prelude.{◌≡◌, map};
+    ghost use Rattle.mm_chart.specs.Picture.{Drawn, cut, IsDrawn, AreVolumesOf};
+    ghost use Rattle.mm_chart.specs.Shading.{shade_of};
+
+    ghost Value = { Drawn };
+
+    ghost view = { λ a. record { problem = a.problem; sheet = a.sheet; verdict = a.verdict } };
+
+    ghost invariant = { λ a. IsDrawn (record { problem = a.problem; sheet = a.sheet; verdict = a.verdict })
+        × AreVolumesOf (record { problem = a.problem; sheet = a.sheet; verdict = a.verdict }) a.volumes
+        × (a.shades.items ≡ map (shade_of a.problem) (cut (record { problem = a.problem; sheet = a.sheet; verdict = a.verdict }))) };
+}
+
+fn has_cut(verdict: Verdict) -> bool
+    ensures { result ≡ has_cut verdict }
+{
+    match verdict {
+        Verdict::BoundIs(_) | Verdict::NotShown { .. } | Verdict::Least(_) => true,
+        _ => false,
+    }
+}
+
+fn one_if(test: bool) -> u64
+    ensures one { result ≡ one_if test }
+    ensures most { result ≤ 1 }
+{
+    if test { 1 } else { 0 }
+}
+
+// The stretches of a sheet, where they are those of a cut.
+fn cut_of(sheet: &Sheet, verdict: Verdict) -> &[Stretch]
+    ensures { result.now ≡ (if has_cut verdict then sheet.now.cut else []) }
+{
+    if has_cut(verdict) { sheet.cut() } else { &[] }
+}
+
+// The verdict on a sheet.
+fn verdict_of(problem: &Problem, sheet: &Sheet) -> Verdict
+    requires shape { HasShape problem.now sheet.now.plan }
+    requires is_sheet { IsSheet sheet.now }
+    ensures { IsVerdict problem.now (amount sheet.now.plan) sheet.now.cut sheet.now.by_channels
+        sheet.now.loss sheet.now.bound result }
+{
+    verify(
+        problem,
+        sheet.plan(),
+        sheet.cut(),
+        sheet.by_channels(),
+        sheet.loss(),
+        sheet.bound(),
+    )
+}
+
+// What its plan does to the stores.
+fn volumes_of(alloc: Global, problem: &Problem, sheet: &Sheet) -> Result<Simulated, NoMemory>
+    requires { HasShape problem.now sheet.now.plan }
+    ensures shape { IfOk result (CoversProblem problem.now) }
+    ensures written { IfOk result (λ v. AgreeEach problem.now (written_in v) (written problem.now (amount sheet.now.plan))) }
+    ensures left { IfOk result (λ v. AgreeEach problem.now (left_in v) (left problem.now (amount sheet.now.plan))) }
+    ensures lost { IfOk result (λ v. AgreeEach problem.now (lost_in v) (lost problem.now (amount sheet.now.plan))) }
+{
+    simulate(alloc, problem, sheet.plan())
+}
+
+impl Picture {
+    /// The picture of a sheet that has the problem's shape.
+    pub fn new(alloc: Global, problem: Problem, sheet: Sheet) -> Result<Picture, NoMemory>
+        requires shape { HasShape problem sheet.plan }
+        requires is_sheet { IsSheet sheet }
+        ensures problem { IfOk result (λ p. p.problem ≡ problem) }
+        ensures sheet { IfOk result (λ p. p.sheet ≡ sheet) }
+    {
+        let verdict = verdict_of(&problem, &sheet);
+        let volumes = volumes_of(alloc, &problem, &sheet)?;
+        let shades = shades_of(alloc, &problem, cut_of(&sheet, verdict))?;
+        Ok(Picture {
+            problem,
+            sheet,
+            verdict,
+            volumes,
+            shades,
+        })
+    }
+
+    /// The verdict on the sheet.
+    pub fn verdict(&self) -> Verdict
+        ensures verdict { result ≡ self.now.verdict }
+        ensures is_drawn { IsDrawn self.now }
+    {
+        self.verdict
+    }
+
+    pub fn problem(&self) -> &Problem
+        ensures { result.now ≡ self.now.problem }
+    {
+        &self.problem
+    }
+
+    // The stretches that are drawn.
+    pub(crate) fn cut(&self) -> &[Stretch]
+        ensures cut { result.now ≡ cut self.now }
+        ensures stretches { AreStretches self.now.problem result.now }
+        ensures each { All (IsStretch self.now.problem) result.now }
+    {
+        cut_of(&self.sheet, self.verdict)
+    }
+
+    // The steps of the cut that are counted by channels.
+    pub(crate) fn counts(&self) -> &[u32]
+        ensures { result.now ≡ counts self.now }
+    {
+        if has_cut(self.verdict) {
+            self.sheet.by_channels()
+        } else {
+            &[]
+        }
+    }
+
+    /// The sums of the cut's bound.
+    pub fn parts(&self) -> Parts
+        ensures coming { result.coming ≡ coming_sum self.now.problem (cut self.now) }
+        ensures held { result.held ≡ held_sum self.now.problem (cut self.now) }
+        ensures windows { result.windows ≡ windows_sum self.now.problem (cut self.now) (counts self.now) }
+        ensures limits { result.limits ≡ limits_sum self.now.problem (cut self.now) (counts self.now) }
+    {
+        parts_of(&self.problem, self.cut(), self.counts())
+    }
+
+    fn counts_window(&self, step: u32) -> bool
+        ensures { result ≡ counts_window (cut self.now) (counts self.now) step }
+    {
+        counts_window(self.cut(), self.counts(), step)
+    }
+
+    fn counts_limits(&self, step: u32) -> bool
+        ensures { result ≡ counts_limits (cut self.now) (counts self.now) step }
+    {
+        counts_limits(self.cut(), self.counts(), step)
+    }
+
+    #[tactic(auto, using(crate::proofs::Mapped::list_any_map))]
+    fn counts_channel(&self, channel: u8, step: u32) -> bool
+        ensures { result ≡ counts_channel self.now channel step }
+    {
+        self.counts_limits(step) && is_inner_on(self.shades.as_slice(), channel, step)
+    }
+
+    #[tactic(auto, using(crate::proofs::Mapped::list_any_map))]
+    fn is_inner_of(&self, store: usize, step: u32) -> bool
+        ensures { result ≡ is_inner_of self.now store step }
+    {
+        is_inner_of(self.shades.as_slice(), store, step)
+    }
+
+    #[tactic(auto, using(crate::proofs::Mapped::list_any_map))]
+    fn is_last_of(&self, store: usize, step: u32) -> bool
+        ensures { result ≡ is_last_of self.now store step }
+    {
+        is_last_of(self.shades.as_slice(), store, step)
+    }
+
+    // The step's window, where the step counts by it.
+    fn counted_window(&self, step: u32) -> u64
+        requires first { 1 ≤ step }
+        requires last { step ≤ length self.now.problem.windows }
+        ensures window { result ≡ amount_of self.now CountedWindow step }
+        ensures most { result ≤ MAX_BLOCKS }
+    {
+        if self.counts_window(step) {
+            u64::from(self.problem.window(step))
+        } else {
+            0
+        }
+    }
+
+    // What leaves a store in a step.
+    fn sent(&self, store: usize, step: u32) -> u64
+        requires store { store < length self.now.problem.rows }
+        requires first { 1 ≤ step }
+        requires last { step ≤ length self.now.problem.windows }
+        ensures sent { result ≡ sent self.now step store }
+        ensures most { result < 2 ^ 32 }
+    {
+        let written = self.volumes.written(store, step);
+        let left = self.volumes.left(store, step);
+        u64::from(written.saturating_sub(left))
+    }
+
+    // What leaves all stores in a step.
+    #[tactic(auto, using(mm_sums::proofs::RangeSums::sum_by_range_more))]
+    fn used(&self, step: u32) -> u64
+        requires first { 1 ≤ step }
+        requires last { step ≤ length self.now.problem.windows }
+        ensures used { result ≡ sum_by (sent self.now step) (stores self.now.problem) }
+        ensures most { result ≤ MAX_STORES * 2 ^ 32 }
+    {
+        let mut used: u64 = 0;
+        for store in 0..self.problem.stores() {
+            used += self.sent(store, step);
+        }
+        used
+    }
+
+    // What leaves the stores of a channel in a step.
+    #[tactic(auto, using(mm_sums::proofs::RangeSums::sum_by_filter_range_more))]
+    fn sent_on(&self, channel: u8, step: u32) -> u64
+        requires first { 1 ≤ step }
+        requires last { step ≤ length self.now.problem.windows }
+        ensures sent { result ≡ sum_by (sent self.now step) (stores_of self.now.problem channel) }
+        ensures most { result ≤ MAX_STORES * 2 ^ 32 }
+    {
+        let mut sent: u64 = 0;
+        for store in 0..self.problem.stores() {
+            if self.problem.channel(store) == channel {
+                sent += self.sent(store, step);
+            }
+        }
+        sent
+    }
+
+    /// The number of a step.
+    pub fn amount(&self, series: Series, step: u32) -> u64
+        requires series { IsSeries self.now series }
+        requires first { 1 ≤ step }
+        requires last { step ≤ length self.now.problem.windows }
+        ensures amount { result ≡ amount_of self.now series step }
+        ensures most { result ≤ MAX_STORES * 2 ^ 32 }
+    {
+        match series {
+            Series::WindowCounts => one_if(self.counts_window(step)),
+            Series::Window => u64::from(self.problem.window(step)),
+            Series::CountedWindow => self.counted_window(step),
+            Series::Used => self.used(step),
+            Series::ChannelCounts(channel) => one_if(self.counts_channel(channel, step)),
+            Series::Sent(channel) => self.sent_on(channel, step),
+            Series::LimitsCount => one_if(self.counts_limits(step)),
+            Series::Inner(store) => one_if(self.is_inner_of(store, step)),
+            Series::Last(store) => one_if(self.is_last_of(store, step)),
+            Series::Written(store) => u64::from(self.volumes.written(store, step)),
+            Series::Left(store) => u64::from(self.volumes.left(store, step)),
+            Series::Lost(store) => u64::from(self.volumes.lost(store, step)),
+            Series::Arrivals(store) => u64::from(self.problem.arrivals(store, step)),
+        }
+    }
+
+    // The same, and 0 at what is no step.
+    pub(crate) fn amount_at(&self, series: Series, step: u32) -> u64
+        requires { IsSeries self.now series }
+        ensures amount { result ≡ amount_at self.now series step }
+        ensures most { result ≤ MAX_STORES * 2 ^ 32 }
+    {
+        if 1 <= step && step <= self.problem.steps() {
+            self.amount(series, step)
+        } else {
+            0
+        }
+    }
+
+    /// The sum over all steps.
+    #[tactic(auto, using(crate::proofs::Ranges::sum_by_next))]
+    pub fn total(&self, series: Series) -> u64
+        requires { IsSeries self.now series }
+        ensures total { result ≡ total_of self.now series }
+        ensures most { result ≤ MAX_STEPS * (MAX_STORES * 2 ^ 32) }
+    {
+        let mut total: u64 = 0;
+        for step in 1..self.problem.steps() + 1 {
+            total += self.amount(series, step);
+        }
+        total
+    }
+
+    /// The largest number of a step.
+    #[tactic(auto, using(crate::proofs::Ranges::largest_next))]
+    pub fn most(&self, series: Series) -> u64
+        requires { IsSeries self.now series }
+        ensures largest { result ≡ most_of self.now series }
+        ensures most { result ≤ MAX_STORES * 2 ^ 32 }
+    {
+        let mut most: u64 = 0;
+        for step in 1..self.problem.steps() + 1 {
+            most = most.max(self.amount(series, step));
+        }
+        most
+    }
+
+    /// The amount that is drawn in full height.
+    pub fn whole(&self, series: Series) -> u64
+        requires { IsSeries self.now series }
+        ensures whole { result ≡ whole_of self.now series }
+        ensures most { result ≤ MAX_STORES * 2 ^ 32 }
+    {
+        match series {
+            Series::Window | Series::Used => self.most(Series::Window),
+            Series::Sent(channel) => u64::from(self.problem.limit(channel).unwrap_or(0)),
+            Series::Written(store) | Series::Left(store) | Series::Arrivals(store) => {
+                u64::from(self.problem.size(store))
+            }
+            Series::Lost(_) => self.most(series),
+            _ => 1,
+        }
+    }
+}
+
+/// An amount in a scale in which the whole has this height, rounded up, and at most the height.
+pub fn scaled(height: u32, whole: u64, amount: u64) -> u32
+    requires height { height ≤ 64 }
+    requires whole { whole ≤ 2 ^ 40 }
+    requires amount { amount ≤ 2 ^ 40 }
+    ensures scaled { result ≡ scaled height whole amount }
+    ensures most { result ≤ height }
+{
+    if whole == 0 {
+        return 0;
+    }
+    let height = u64::from(height);
+    height.min((amount * height + (whole - 1)) / whole) as u32
+}

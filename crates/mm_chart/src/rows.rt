@@ -1,0 +1,351 @@
+//! The rows of a chart.
+ghost use Rattle.std.specs.Prelude.{◌≡◌, ◌+◌, ◌-◌, ◌*◌, ◌^◌, ◌<◌, ◌≤◌, ◌++◌, ◌∷◌, [], OnOk, length, codes, decimal, flat_map};
+ghost use Rattle.mm_base.specs.declared.limits.TheConstants.{MAX_STORES, MAX_STEPS, MAX_BLOCKS};
+ghost use Rattle.mm_base.specs.Id.{id_text};
+ghost use Rattle.mm_problem.specs.Dumping.{IsDumping, row, stores, steps, channels};
+ghost use Rattle.mm_chart.specs.Layout.{edge};
+ghost use Rattle.mm_chart.specs.Rows.{right, counted, frame, name, guide, numbered, windows_words, windows_row, channel_side, channel_row, channel_part, coming_to, all_coming, store_side, store_loss, store_words, store_bars, store_row, tick, rows};
+
+use crate::layout::{
+    LEFT, NAME_AT, TALL, THIN, TICK_AT, WINDOW_BASE, bottom, channel_base, edge, has_limit,
+    step_width, store_base, tick_every,
+};
+use crate::pen::{
+    Style, push_begun, push_closed, push_grouped, push_labelled, push_line, push_opened,
+    push_profile, push_said, push_value,
+};
+use crate::picture::Picture;
+use crate::series::Series;
+use mm_base::numbers::push_number;
+use mm_problem::Problem;
+use std::alloc::AllocError;
+
+// Where the words at the right of a row begin.
+fn right(problem: &Problem) -> u32
+    ensures { result ≡ right problem.now }
+{
+    edge(problem, problem.steps()) + 8
+}
+
+// Words with a number among them.
+#[tactic(auto, using(std::proofs::Common::append_assoc), unfolding(crate::specs::Rows::counted))]
+pub(crate) fn push_counted(
+    text: &mut Vec<u8>,
+    style: Style,
+    x: u32,
+    y: u32,
+    front: &[u8],
+    number: u64,
+    back: &[u8],
+) -> Result<(), AllocError>
+    ensures { OnOk result (text.new.items ≡ text.old.items ++ counted style x y front.now number back.now) }
+{
+    push_opened(text, style, x, y)?;
+    text.extend_from_slice(front)?;
+    push_grouped(text, number)?;
+    text.extend_from_slice(back)?;
+    push_closed(text)
+}
+
+// The identifier of a store: it has no character that wants to be escaped.
+#[tactic(auto, using(crate::proofs::Names::escaped_id), unfolding(crate::specs::Rows::name))]
+pub(crate) fn push_name(
+    text: &mut Vec<u8>,
+    problem: &Problem,
+    store: usize,
+) -> Result<(), AllocError>
+    requires { store < length problem.now.rows }
+    ensures { OnOk result (text.new.items ≡ text.old.items ++ name problem.now store) }
+{
+    let id = problem.id(store);
+    text.extend_from_slice(id.text())
+}
+
+// The frame of a row.
+#[tactic(auto, using(std::proofs::Common::append_assoc), unfolding(crate::specs::Rows::frame))]
+fn push_frame(
+    text: &mut Vec<u8>,
+    problem: &Problem,
+    base: u32,
+    height: u32,
+) -> Result<(), AllocError>
+    requires { height ≤ base }
+    ensures { OnOk result (text.new.items ≡ text.old.items ++ frame problem.now base height) }
+{
+    let width = edge(problem, problem.steps()) - LEFT;
+    push_value(text, b"<rect class='o' x='", LEFT)?;
+    push_value(text, b"' y='", base - height)?;
+    push_value(text, b"' width='", width)?;
+    push_value(text, b"' height='", height)?;
+    push_said(text, b"'/>\n")
+}
+
+#[tactic(auto, using(std::proofs::Common::append_assoc), unfolding(crate::specs::Rows::windows_words))]
+fn push_windows_words(text: &mut Vec<u8>, picture: &Picture) -> Result<(), AllocError>
+    ensures { OnOk result (text.new.items ≡ text.old.items ++ windows_words picture.now) }
+{
+    let right = right(picture.problem());
+    push_labelled(text, Style::Name, NAME_AT, WINDOW_BASE - 18, b"windows")?;
+    let most = picture.most(Series::Window);
+    push_counted(
+        text,
+        Style::Side,
+        NAME_AT,
+        WINDOW_BASE - 4,
+        b"up to ",
+        most,
+        b"",
+    )?;
+    let used = picture.total(Series::Used);
+    push_counted(
+        text,
+        Style::Total,
+        right,
+        WINDOW_BASE - 18,
+        b"",
+        used,
+        b" sent",
+    )?;
+    let windows = picture.total(Series::Window);
+    push_counted(
+        text,
+        Style::Total,
+        right,
+        WINDOW_BASE - 4,
+        b"of ",
+        windows,
+        b"",
+    )
+}
+
+#[tactic(auto, using(std::proofs::Common::append_assoc), unfolding(crate::specs::Rows::windows_row))]
+fn push_windows_row(text: &mut Vec<u8>, picture: &Picture) -> Result<(), AllocError>
+    ensures { OnOk result (text.new.items ≡ text.old.items ++ windows_row picture.now) }
+{
+    push_profile(text, picture, Series::WindowCounts)?;
+    push_profile(text, picture, Series::Window)?;
+    push_profile(text, picture, Series::Used)?;
+    push_frame(text, picture.problem(), WINDOW_BASE, TALL)?;
+    push_windows_words(text, picture)
+}
+
+// The channel and its limit.
+#[tactic(auto, using(std::proofs::Common::append_assoc), unfolding(crate::specs::Rows::channel_side))]
+fn push_channel_side(text: &mut Vec<u8>, picture: &Picture, channel: u8) -> Result<(), AllocError>
+    ensures { OnOk result (text.new.items ≡ text.old.items ++ channel_side picture.now channel) }
+{
+    let base = channel_base(picture.problem(), channel);
+    let limit = picture.problem().limit(channel).unwrap_or(0);
+    push_opened(text, Style::Side, NAME_AT, base - 5)?;
+    push_value(text, b"channel ", u32::from(channel))?;
+    push_said(text, b": ")?;
+    push_grouped(text, u64::from(limit))?;
+    push_said(text, b" a step")?;
+    push_closed(text)
+}
+
+#[tactic(auto, using(std::proofs::Common::append_assoc), unfolding(crate::specs::Rows::channel_row))]
+fn push_channel_row(text: &mut Vec<u8>, picture: &Picture, channel: u8) -> Result<(), AllocError>
+    ensures { OnOk result (text.new.items ≡ text.old.items ++ channel_row picture.now channel) }
+{
+    let base = channel_base(picture.problem(), channel);
+    push_profile(text, picture, Series::ChannelCounts(channel))?;
+    push_profile(text, picture, Series::Sent(channel))?;
+    push_frame(text, picture.problem(), base, THIN)?;
+    push_channel_side(text, picture, channel)?;
+    let right = right(picture.problem());
+    let sent = picture.total(Series::Sent(channel));
+    push_counted(text, Style::Total, right, base - 5, b"", sent, b" sent")
+}
+
+// Nothing for a channel without a limit.
+#[tactic(auto, unfolding(crate::specs::Rows::channel_part))]
+fn push_channel_part(text: &mut Vec<u8>, picture: &Picture, channel: u8) -> Result<(), AllocError>
+    ensures { OnOk result (text.new.items ≡ text.old.items ++ channel_part picture.now channel) }
+{
+    if has_limit(picture.problem(), channel) == 0 {
+        return Ok(());
+    }
+    push_channel_row(text, picture, channel)
+}
+
+#[tactic(auto, using(std::proofs::Common::append_assoc, crate::proofs::Ranges::flat_map_range_more))]
+fn push_channels(text: &mut Vec<u8>, picture: &Picture) -> Result<(), AllocError>
+    ensures { OnOk result (text.new.items ≡ text.old.items ++ flat_map (channel_part picture.now) (channels picture.now.problem)) }
+{
+    for channel in 0..picture.problem().channels() {
+        push_channel_part(text, picture, channel)?;
+    }
+    Ok(())
+}
+
+// What a store holds at the beginning and what comes to it.
+#[tactic(auto, unfolding(crate::specs::Rows::coming_to))]
+fn coming_to(picture: &Picture, store: usize) -> u64
+    requires { store < length picture.now.problem.rows }
+    ensures coming { result ≡ coming_to picture.now store }
+    ensures most { result ≤ 2 ^ 45 }
+{
+    u64::from(picture.problem().start(store)) + picture.total(Series::Arrivals(store))
+}
+
+// What comes to all stores.
+#[tactic(auto, using(mm_sums::proofs::RangeSums::sum_by_range_more))]
+pub(crate) fn all_coming(picture: &Picture) -> u64
+    ensures { result ≡ all_coming picture.now }
+{
+    let mut coming: u64 = 0;
+    for store in 0..picture.problem().stores() {
+        coming += coming_to(picture, store);
+    }
+    coming
+}
+
+// A store's size and channel.
+#[tactic(auto, using(std::proofs::Common::append_assoc), unfolding(crate::specs::Rows::store_side))]
+fn push_store_side(text: &mut Vec<u8>, picture: &Picture, store: usize) -> Result<(), AllocError>
+    requires store { store < length picture.now.problem.rows }
+    requires few { store < MAX_STORES }
+    ensures { OnOk result (text.new.items ≡ text.old.items ++ store_side picture.now store) }
+{
+    let problem = picture.problem();
+    push_opened(text, Style::Side, NAME_AT, store_base(problem, store) - 4)?;
+    push_grouped(text, u64::from(problem.size(store)))?;
+    push_value(text, b", channel ", u32::from(problem.channel(store)))?;
+    push_closed(text)
+}
+
+// What it loses.
+#[tactic(auto, unfolding(crate::specs::Rows::store_loss))]
+fn push_store_loss(text: &mut Vec<u8>, picture: &Picture, store: usize) -> Result<(), AllocError>
+    requires store { store < length picture.now.problem.rows }
+    requires few { store < MAX_STORES }
+    ensures { OnOk result (text.new.items ≡ text.old.items ++ store_loss picture.now store) }
+{
+    let right = right(picture.problem());
+    let y = store_base(picture.problem(), store) - 18;
+    let lost = picture.total(Series::Lost(store));
+    if lost == 0 {
+        return push_labelled(text, Style::Total, right, y, b"nothing lost");
+    }
+    push_counted(text, Style::Loss, right, y, b"", lost, b" lost")
+}
+
+#[tactic(auto, using(std::proofs::Common::append_assoc), unfolding(crate::specs::Rows::store_words))]
+fn push_store_words(text: &mut Vec<u8>, picture: &Picture, store: usize) -> Result<(), AllocError>
+    requires store { store < length picture.now.problem.rows }
+    requires few { store < MAX_STORES }
+    ensures { OnOk result (text.new.items ≡ text.old.items ++ store_words picture.now store) }
+{
+    let problem = picture.problem();
+    let base = store_base(problem, store);
+    push_opened(text, Style::Name, NAME_AT, base - 18)?;
+    push_name(text, problem, store)?;
+    push_closed(text)?;
+    push_store_side(text, picture, store)?;
+    push_store_loss(text, picture, store)?;
+    let coming = coming_to(picture, store);
+    push_counted(
+        text,
+        Style::Total,
+        right(problem),
+        base - 4,
+        b"of ",
+        coming,
+        b"",
+    )
+}
+
+#[tactic(auto, using(std::proofs::Common::append_assoc), unfolding(crate::specs::Rows::store_bars))]
+fn push_store_bars(text: &mut Vec<u8>, picture: &Picture, store: usize) -> Result<(), AllocError>
+    requires store { store < length picture.now.problem.rows }
+    requires few { store < MAX_STORES }
+    ensures { OnOk result (text.new.items ≡ text.old.items ++ store_bars picture.now store) }
+{
+    push_profile(text, picture, Series::Inner(store))?;
+    push_profile(text, picture, Series::Last(store))?;
+    push_profile(text, picture, Series::Written(store))?;
+    push_profile(text, picture, Series::Left(store))?;
+    push_profile(text, picture, Series::Lost(store))
+}
+
+#[tactic(auto, using(std::proofs::Common::append_assoc), unfolding(crate::specs::Rows::store_row))]
+fn push_store_row(text: &mut Vec<u8>, picture: &Picture, store: usize) -> Result<(), AllocError>
+    requires store { store < length picture.now.problem.rows }
+    requires few { store < MAX_STORES }
+    ensures { OnOk result (text.new.items ≡ text.old.items ++ store_row picture.now store) }
+{
+    push_store_bars(text, picture, store)?;
+    let base = store_base(picture.problem(), store);
+    push_frame(text, picture.problem(), base, TALL)?;
+    push_store_words(text, picture, store)
+}
+
+#[tactic(auto, using(std::proofs::Common::append_assoc, crate::proofs::Ranges::flat_map_range_more))]
+fn push_stores(text: &mut Vec<u8>, picture: &Picture) -> Result<(), AllocError>
+    ensures { OnOk result (text.new.items ≡ text.old.items ++ flat_map (store_row picture.now) (stores picture.now.problem)) }
+{
+    for store in 0..picture.problem().stores() {
+        push_store_row(text, picture, store)?;
+    }
+    Ok(())
+}
+
+// A line from a tick through all rows.
+#[tactic(auto, using(std::proofs::Common::append_assoc), unfolding(crate::specs::Rows::guide))]
+fn push_guide(text: &mut Vec<u8>, problem: &Problem, x: u32) -> Result<(), AllocError>
+    ensures { OnOk result (text.new.items ≡ text.old.items ++ guide problem.now x) }
+{
+    push_said(text, b"<path class='i' d='")?;
+    push_begun(text, x, TICK_AT + 4)?;
+    push_line(text, bottom(problem))?;
+    push_said(text, b"'/>\n")
+}
+
+// The number of a step, and a line from it.
+#[tactic(auto, using(std::proofs::Common::append_assoc), unfolding(crate::specs::Rows::numbered))]
+fn push_numbered(text: &mut Vec<u8>, problem: &Problem, step: u32, x: u32) -> Result<(), AllocError>
+    ensures { OnOk result (text.new.items ≡ text.old.items ++ numbered problem.now step x) }
+{
+    push_opened(text, Style::Tick, x, TICK_AT)?;
+    push_number(text, u64::from(step))?;
+    push_closed(text)?;
+    push_guide(text, problem, x)
+}
+
+// The number of a step, where a tick is due.
+#[tactic(auto, using(std::proofs::Common::append_assoc), unfolding(crate::specs::Rows::tick))]
+fn push_tick(text: &mut Vec<u8>, picture: &Picture, step: u32) -> Result<(), AllocError>
+    requires first { 1 ≤ step }
+    requires last { step ≤ MAX_STEPS }
+    ensures { OnOk result (text.new.items ≡ text.old.items ++ tick picture.now step) }
+{
+    let problem = picture.problem();
+    if step != 1 && step % tick_every(problem.steps()) != 0 {
+        return Ok(());
+    }
+    let middle = edge(problem, step - 1) + step_width(problem) / 2;
+    push_numbered(text, problem, step, middle)
+}
+
+#[tactic(auto, using(std::proofs::Common::append_assoc, crate::proofs::Ranges::flat_map_next))]
+fn push_ticks(text: &mut Vec<u8>, picture: &Picture) -> Result<(), AllocError>
+    ensures { OnOk result (text.new.items ≡ text.old.items ++ flat_map (tick picture.now) (steps picture.now.problem)) }
+{
+    for step in 1..picture.problem().steps() + 1 {
+        push_tick(text, picture, step)?;
+    }
+    Ok(())
+}
+
+/// Writes the ticks, and the rows of the windows, the channels with a limit, and the stores.
+#[tactic(auto, using(std::proofs::Common::append_assoc), unfolding(crate::specs::Rows::rows))]
+pub fn push_rows(text: &mut Vec<u8>, picture: &Picture) -> Result<(), AllocError>
+    ensures { OnOk result (text.new.items ≡ text.old.items ++ rows picture.now) }
+{
+    push_labelled(text, Style::Side, NAME_AT, TICK_AT, b"step")?;
+    push_ticks(text, picture)?;
+    push_windows_row(text, picture)?;
+    push_channels(text, picture)?;
+    push_stores(text, picture)
+}

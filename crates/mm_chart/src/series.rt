@@ -1,0 +1,29 @@
+//! What a chart draws: a number for each step.
+
+/// A number for each step. Stores count from 0 in setup order.
+#[derive(Clone, Copy, Debug, PartialEq, Eq)]
+pub enum Series {
+    /// 1 where the step counts by its window.
+    WindowCounts,
+    Window,
+    /// The window, where the step counts by it.
+    CountedWindow,
+    /// What leaves all stores.
+    Used,
+    /// 1 where the step counts by the channel's limit.
+    ChannelCounts(u8),
+    /// What leaves the stores of a channel.
+    Sent(u8),
+    /// 1 where the step counts by the limits of channels.
+    LimitsCount,
+    /// 1 in the inner steps of the stretches of a store.
+    Inner(usize),
+    /// 1 in the last steps of the stretches of a store.
+    Last(usize),
+    /// What stands in a store once the step's arrivals have come.
+    Written(usize),
+    /// What stands in a store as the step ends.
+    Left(usize),
+    Lost(usize),
+    Arrivals(usize),
+}

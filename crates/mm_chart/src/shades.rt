@@ -1,0 +1,73 @@
+//! Stretches with the place and the channel of their stores, which are looked up once.
+ghost use Rattle.std.specs.Prelude.{◌≡◌, ◌<◌, ◌==◌, ◌&&◌, nat_le, nat_lt, All, IfOk, map};
+ghost use Rattle.std.specs.List.{list_any};
+ghost use Rattle.mm_cut.specs.Stretches.{IsStretch};
+ghost use Rattle.mm_chart.specs.Shading.{shade_of};
+
+use mm_base::NoMemory;
+use mm_cut::store_of;
+use mm_plan::Stretch;
+use mm_problem::Problem;
+use std::alloc::Global;
+
+/// A stretch with the place and the channel of its store.
+#[derive(Clone, Copy, Debug, PartialEq, Eq)]
+pub struct Shade {
+    pub store: usize,
+    pub channel: u8,
+    pub first: u32,
+    pub last: u32,
+}
+
+fn shade_of(problem: &Problem, stretch: &Stretch) -> Shade
+    requires { IsStretch problem.now stretch.now }
+    ensures { result ≡ shade_of problem.now stretch.now }
+{
+    let store = store_of(problem, stretch);
+    Shade {
+        store,
+        channel: problem.channel(store),
+        first: stretch.first,
+        last: stretch.last,
+    }
+}
+
+// The shades of stretches, in order.
+pub(crate) fn shades_of(
+    alloc: Global,
+    problem: &Problem,
+    stretches: &[Stretch],
+) -> Result<Vec<Shade>, NoMemory>
+    requires { All (IsStretch problem.now) stretches.now }
+    ensures { IfOk result (λ shades. shades.items ≡ map (shade_of problem.now) stretches.now) }
+{
+    let mut shades = Vec::new(alloc);
+    for stretch in stretches {
+        shades.push(shade_of(problem, stretch))?;
+    }
+    Ok(shades)
+}
+
+// Whether it is an inner step of a stretch of the store.
+pub(crate) fn is_inner_of(shades: &[Shade], store: usize, step: u32) -> bool
+    ensures { result ≡ list_any (λ h. (h.store == store) && (nat_le h.first step && nat_lt step h.last)) shades.now }
+{
+    shades.iter().any(|shade| shade.store == store && (shade.first <= step && step < shade.last))
+}
+
+// Whether it is an inner step of a stretch of a store of the channel.
+pub(crate) fn is_inner_on(shades: &[Shade], channel: u8, step: u32) -> bool
+    ensures { result ≡ list_any (λ h. (nat_le h.first step && nat_lt step h.last) && (h.channel == channel)) shades.now }
+{
+    shades.iter().any(|shade| (shade.first <= step && step < shade.last)
+        && shade.channel == channel)
+}
+
+// Whether it is the last step of a stretch of the store.
+pub(crate) fn is_last_of(shades: &[Shade], store: usize, step: u32) -> bool
+    ensures { result ≡ list_any (λ h. (h.store == store) && (h.last == step)) shades.now }
+{
+    shades
+        .iter()
+        .any(|shade| shade.store == store && shade.last == step)
+}

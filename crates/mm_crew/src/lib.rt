@@ -1,0 +1,15 @@
+//! The stores of a step behind desks, and crews of workers with seats at them.
+#![tactic(auto)]
+
+mod closing;
+mod crew;
+mod opening;
+mod station;
+
+pub use closing::{agrees_at, close_all};
+pub use crew::{Seating, Worker, first_broken, new_seatings, pair_all, part_all};
+pub use opening::{Rooms, new_rooms, open_all};
+pub use station::{Station, place_of};
+
+#[cfg(test)]
+mod tests;

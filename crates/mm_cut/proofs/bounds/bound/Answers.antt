@@ -1,8 +1,0 @@
-use Rattle.mm_cut.proofs.Counting.{few_stretches}
-use Rattle.mm_cut.proofs.bounds.bound.Goals as goal
-
-pub held_sum-held-requires-clause-few : goal.held_sum-held-requires-clause-few
-held_sum-held-requires-clause-few c = few_stretches c.args.problem.now c.args.stretches.now c.stores.ensures.is_dumping c.requires.stretches
-
-pub coming_sum-requires-clause-few : goal.coming_sum-requires-clause-few
-coming_sum-requires-clause-few c = few_stretches c.args.problem.now c.args.stretches.now c.stores.ensures.is_dumping c.requires.stretches

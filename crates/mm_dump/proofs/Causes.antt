@@ -1,0 +1,58 @@
+-- The worst of causes, one after another.
+use Rattle.std.proofs.Common.{◌≡◌, ℕ, ◌+◌, ◌<◌, List, [], ◌∷◌, ◌++◌, length, get_or, map, take, refl, sym, ap, ◌∙◌}
+use Rattle.std.specs.Prelude.{Option, Some, None}
+use Rattle.std.proofs.lemmas.List.{map-append, take_more}
+use Rattle.mm_order.specs.declared.order.OrderBroken.{OrderBroken}
+use Rattle.mm_order.specs.declared.order.OrderBroken.TheVariants.{LinkFailed, NoMemory, Refused}
+use Rattle.mm_dump.specs.Courses.{worse, worst_of}
+
+-- the worst of three is found in either order
+worse-assoc : (a b c : Option OrderBroken) → worse (worse a b) c ≡ worse a (worse b c)
+worse-assoc None b c = refl
+worse-assoc (Some Refused) b c = refl
+worse-assoc (Some NoMemory) None c = refl
+worse-assoc (Some NoMemory) (Some Refused) c = refl
+worse-assoc (Some NoMemory) (Some NoMemory) None = refl
+worse-assoc (Some NoMemory) (Some NoMemory) (Some Refused) = refl
+worse-assoc (Some NoMemory) (Some NoMemory) (Some NoMemory) = refl
+worse-assoc (Some NoMemory) (Some NoMemory) (Some LinkFailed) = refl
+worse-assoc (Some NoMemory) (Some LinkFailed) None = refl
+worse-assoc (Some NoMemory) (Some LinkFailed) (Some Refused) = refl
+worse-assoc (Some NoMemory) (Some LinkFailed) (Some NoMemory) = refl
+worse-assoc (Some NoMemory) (Some LinkFailed) (Some LinkFailed) = refl
+worse-assoc (Some LinkFailed) None c = refl
+worse-assoc (Some LinkFailed) (Some Refused) c = refl
+worse-assoc (Some LinkFailed) (Some NoMemory) None = refl
+worse-assoc (Some LinkFailed) (Some NoMemory) (Some Refused) = refl
+worse-assoc (Some LinkFailed) (Some NoMemory) (Some NoMemory) = refl
+worse-assoc (Some LinkFailed) (Some NoMemory) (Some LinkFailed) = refl
+worse-assoc (Some LinkFailed) (Some LinkFailed) None = refl
+worse-assoc (Some LinkFailed) (Some LinkFailed) (Some Refused) = refl
+worse-assoc (Some LinkFailed) (Some LinkFailed) (Some NoMemory) = refl
+worse-assoc (Some LinkFailed) (Some LinkFailed) (Some LinkFailed) = refl
+
+-- what is worse than nothing is itself
+pub worse-alone : (a : Option OrderBroken) → worse a None ≡ a
+worse-alone None = refl
+worse-alone (Some Refused) = refl
+worse-alone (Some NoMemory) = refl
+worse-alone (Some LinkFailed) = refl
+
+-- the worst of causes and one more
+pub worst-push : (whys : List (Option OrderBroken)) (why : Option OrderBroken) → worst_of (whys ++ why ∷ []) ≡ worse (worst_of whys) why
+worst-push [] why = worse-alone why
+worst-push (one ∷ whys) why = ap (worse one) (worst-push whys why) ∙ sym (worse-assoc one (worst_of whys) why)
+
+-- the same of the first elements of a list
+pub worst_more : {X : Type 0} (cause : X → Option OrderBroken) (xs : List X) (i : ℕ) (d : X) → i < length xs
+    → worst_of (map cause (take (i + 1) xs)) ≡ worse (worst_of (map cause (take i xs))) (cause (get_or xs i d))
+worst_more cause xs i d within =
+    ap (λ ys. worst_of (map cause ys)) (take_more xs i d within) ∙ ap worst_of (map-append cause (take i xs) (get_or xs i d ∷ []))
+    ∙ worst-push (map cause (take i xs)) (cause (get_or xs i d))
+
+-- the same as a loop finds it
+pub worst_next : {X : Type 0} (cause : X → Option OrderBroken) (xs : List X) (i : ℕ) (x : X) (worst next : Option OrderBroken) → i < length xs → x ≡ get_or xs i x
+    → worst ≡ worst_of (map cause (take i xs)) → next ≡ worse worst (cause x) → next ≡ worst_of (map cause (take (i + 1) xs))
+worst_next cause xs i x worst next within at so_far found =
+    found ∙ ap (λ (w : Option OrderBroken). worse w (cause x)) so_far ∙ ap (λ y. worse (worst_of (map cause (take i xs))) (cause y)) at
+    ∙ sym (worst_more cause xs i x within)

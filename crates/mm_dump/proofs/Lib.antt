@@ -1,0 +1,13 @@
+pub mod Moves
+pub mod Carrying
+pub mod Causes
+pub mod Working
+pub mod Crews
+pub mod Gears
+pub mod Finding
+pub mod Ordered
+pub mod Readiness
+pub mod Gathering
+pub mod Settling
+pub mod Settled
+pub mod Rising

@@ -1,0 +1,85 @@
+-- What a step's dump leaves: its stores, and its links.
+use Rattle.std.specs.Prelude.{◌≡◌, ℕ, ◌+◌, ◌<◌, ◌≤◌, ◌==◌, List, [], ◌∷◌, ◌++◌, length, map, filter, flat_map, sum_by, count_by, Option, None}
+use Rattle.mm_store.specs.declared.stored.Stored.{Stored}
+use Rattle.mm_desk.specs.declared.entry.Entry.{Entry}
+use Rattle.mm_desk.specs.Machine.{State}
+use Rattle.mm_desk.specs.Orders.{IsOrderOf}
+use Rattle.mm_desk.specs.Runs.{IsRun, opening_at}
+use Rattle.mm_order.specs.declared.order.Order.{Order}
+use Rattle.mm_order.specs.declared.order.OrderBroken.{OrderBroken}
+use Rattle.mm_order.specs.Sending.{Sent, all_sent}
+use Rattle.mm_crew.specs.Stations.{id_at}
+use Rattle.mm_dump.specs.Courses.{Course, worst_of, sent_by, fails_of, IsCourse}
+use Rattle.mm_dump.specs.Workers.{AreCourses}
+
+-- how many blocks orders want of the store at a place: none where no order names it
+abbrev pub wanted : List Order → ℕ → ℕ
+wanted orders place = sum_by (λ o. o.amount) (filter (λ o. o.place == place) orders)
+
+-- how often a number stands in a list
+abbrev pub times : ℕ → List ℕ → ℕ
+times x xs = count_by (λ y. y == x) xs
+
+-- the places of the stores that orders name
+abbrev pub places_of : List Order → List ℕ
+places_of orders = map (λ o. o.place) orders
+
+-- a store of which this many blocks were wanted gave these packets, by a legal log that is one whole order; where none were
+-- wanted it was left alone
+pub record HasDumped (amount : ℕ) (gave : List Stored) (s t : State) : Type 0 where
+  pub calls : List Entry
+  pub run : IsRun s calls t
+  pub none : amount ≡ 0 → (gave ≡ []) × (calls ≡ [])
+  pub whole : 1 ≤ amount → (seat : ℕ) × IsOrderOf seat amount gave calls
+
+-- each link took what the stores at these places gave, one store after another, and none failed
+unfoldable pub AllTook : {L : Type 0} → (L → List Sent) → (L → ℕ) → List (List ℕ) → (ℕ → List Stored) → List (List ℕ) → List L → List L → Type 0
+AllTook sent failed ids gave [] [] [] = Unit {0}
+AllTook sent failed ids gave (places ∷ more) (old ∷ olds) (new ∷ news) =
+    (sent new ≡ sent old ++ flat_map (λ k. all_sent (id_at ids k) (gave k)) places) × (failed new ≡ failed old)
+    × AllTook sent failed ids gave more olds news
+AllTook sent failed ids gave more olds news = ⊥
+
+-- every order was carried out, each by one link: what the store at each place gave, and at which places each link carried out
+-- orders
+pub record AllDumped {L : Type 0} (sent : L → List Sent) (failed : L → ℕ) (ids : List (List ℕ)) (orders : List Order)
+    (before after : List State) (old new : List L) : Type 0 where
+  pub gave : ℕ → List Stored
+  pub places : List (List ℕ)
+  pub stores : (k : ℕ) → k < length after → HasDumped (wanted orders k) (gave k) (opening_at before k) (opening_at after k)
+  pub once : (k : ℕ) → sum_by (times k) places ≡ times k (places_of orders)
+  pub links : AllTook sent failed ids gave places old new
+
+-- the store at a place went by a legal log, that of the order taken there, whole or broken; where none was taken it was left
+-- alone and gave nothing
+pub record HasTried (taken place : ℕ) (c : Course) (s t : State) : Type 0 where
+  pub run : IsRun s c.calls t
+  pub none : taken ≡ 0 → (c.calls ≡ []) × (c.sent ≡ [])
+  pub some : 0 < taken → (c.order.place ≡ place) × IsCourse c
+
+-- each link took what the orders at these places sent, one after another, its last order alone may have broken, and its
+-- failures rose by the sends that failed
+unfoldable pub AllTried : {L : Type 0} → (L → List Sent) → (L → ℕ) → List (List ℕ) → (ℕ → Course) → List (List ℕ) → List L → List L → Type 0
+AllTried sent failed ids course [] [] [] = Unit {0}
+AllTried sent failed ids course (places ∷ more) (old ∷ olds) (new ∷ news) =
+    (sent new ≡ sent old ++ sent_by ids (map course places)) × (failed new ≡ failed old + fails_of (map course places))
+    × ((why : Option OrderBroken) × AreCourses why (map course places))
+    × AllTried sent failed ids course more olds news
+AllTried sent failed ids course more olds news = ⊥
+
+-- orders were carried out, each by one link, and this is the worst cause for which one broke; where none broke, all were carried
+-- out
+pub record AllSettled {L : Type 0} (sent : L → List Sent) (failed : L → ℕ) (ids : List (List ℕ)) (orders : List Order)
+    (why : Option OrderBroken) (before after : List State) (old new : List L) : Type 0 where
+  pub course : ℕ → Course
+  pub places : List (List ℕ)
+  pub stores : (k : ℕ) → k < length after → HasTried (sum_by (times k) places) k (course k) (opening_at before k) (opening_at after k)
+  pub amounts : (k : ℕ) → 0 < sum_by (times k) places → (course k).order.amount ≡ wanted orders k
+  pub once : (k : ℕ) → sum_by (times k) places ≤ times k (places_of orders)
+  pub all : why ≡ None → (k : ℕ) → sum_by (times k) places ≡ times k (places_of orders)
+  pub links : AllTried sent failed ids course places old new
+  pub cause : worst_of (map (λ ks. worst_of (map (λ c. c.why) (map course ks))) places) ≡ why
+
+-- how many packets links took, and how many of their sends failed
+abbrev pub used_by : {L : Type 0} → (L → List Sent) → (L → ℕ) → List L → ℕ
+used_by sent failed links = sum_by (λ l. length (sent l) + failed l) links

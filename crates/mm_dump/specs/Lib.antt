@@ -1,0 +1,6 @@
+pub mod Taken
+pub mod Gear
+pub mod Courses
+pub mod Workers
+pub mod Crews
+pub mod Dumped

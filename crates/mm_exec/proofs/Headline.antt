@@ -1,0 +1,89 @@
+-- What was printed is what is lost.
+use Rattle.std.proofs.Common.{◌≡◌, ℕ, zero, suc, ◌+◌, ◌-◌, ◌<◌, ◌≤◌, min, List, length, sym, ap, subst, ◌∙◌, arith}
+use Rattle.std.specs.Prelude.{pos}
+use Rattle.std.specs.List.Sorted.{IsSortedByKey}
+use Rattle.mm_sums.proofs.RangeSums.{sum_by_range_same}
+use Rattle.mm_problem.specs.Dumping.{Dumping, size, arrivals}
+use Rattle.mm_plan.specs.Table.{amount, HasShape}
+use Rattle.mm_plan.specs.Volumes.{Amounts, left, written, lost, store_loss, loss}
+use Rattle.mm_plan.specs.Least.{IsLeast}
+use Rattle.mm_plan.specs.Filled.{IsFilled}
+use Rattle.mm_plan.specs.Sheet.{SheetRows, IsSheet, IsShapedFor}
+use Rattle.mm_plan.specs.Printing.{IsOrdered, IsPrinted, stretch_key, key_cmp}
+use Rattle.mm_plan.proofs.Steps.{left_start, left_step}
+use Rattle.mm_planner.specs.Planned.{ShowsLeast}
+use Rattle.mm_planner.proofs.CutOrder.{cut_in_order, bound_in_order}
+use Rattle.mm_report.specs.Report.{Reported, totals_of}
+use Rattle.mm_exec.specs.Mission.{Mission, as_came}
+use Rattle.mm_exec.specs.Flying.{PlansFor, LosesWhatIsPrinted}
+use Rattle.mm_exec.proofs.Coming.{came_at}
+
+-- a printed sheet that shows that its plan loses least
+pub printed_plans : (q : Dumping) (text : List ℕ) (s : SheetRows) → IsSheet s → IsShapedFor q s → ShowsLeast q s.plan s.cut s.by_channels s.loss → s.bound ≡ pos s.loss
+    → (printed : IsPrinted s text) → PlansFor q text printed.0
+printed_plans q text s is shaped shows tight printed =
+    let r = printed.0 in
+    let ordered : IsOrdered s r = printed.1 in
+    let same_plan = sym ordered.plan in
+    let same_loss = sym ordered.loss in
+    record {
+      says_sheet = record {
+        is_sheet = printed.2 is;
+        text = printed.3;
+        shape = record { stores = ordered.stores ∙ shaped.stores; steps = ap (λ x. x.steps) ordered.plan ∙ shaped.steps };
+      };
+      shows_least = record {
+        shape = subst (HasShape q) same_plan shows.shape;
+        least = subst (λ x. IsLeast q (amount x)) same_plan shows.least;
+        filled = subst (λ x. IsFilled q (amount x)) same_plan shows.filled;
+        cut = cut_in_order q s.cut r.cut s.by_channels r.by_channels ordered.cut.same ordered.counts.same shows.cut;
+        loss = ap (λ x. loss q (amount x)) ordered.plan ∙ shows.loss ∙ same_loss;
+        bound = bound_in_order q s.cut r.cut s.by_channels r.by_channels ordered.cut.same ordered.counts.same ∙ shows.bound ∙ ap pos same_loss;
+      };
+      tight = ordered.bound ∙ tight ∙ ap pos same_loss;
+      in_order = record { cut = subst (λ ids. IsSortedByKey (stretch_key ids) key_cmp r.cut) (sym ordered.stores) ordered.cut.order; counts = ordered.counts.order };
+    }
+
+-- where as much arrives, a plan leaves and loses as much
+module _ (q : Dumping) (other : List ℕ) (x : Amounts)
+    (same : (s t : ℕ) → s < length q.rows → 1 ≤ t → t ≤ length q.windows → arrivals (record q { arrived = other }) s t ≡ arrivals q s t) where
+  abbrev c : Dumping
+  c = record q { arrived = other }
+
+  written_alike : (s t : ℕ) → s < length q.rows → 1 ≤ t → t ≤ length q.windows → left c x s (t - 1) ≡ left q x s (t - 1) → written c x s t ≡ written q x s t
+  written_alike s t store first last before =
+      ap (λ (v : ℕ). min (v + arrivals c s t) (size q s)) before ∙ ap (λ (a : ℕ). min (left q x s (t - 1) + a) (size q s)) (same s t store first last)
+
+  left_alike : (s n : ℕ) → s < length q.rows → n ≤ length q.windows → left c x s n ≡ left q x s n
+  left_alike s zero store last = left_start c x s ∙ sym (left_start q x s)
+  left_alike s (suc n) store last =
+      let before = left_alike s n store (omega arith) in
+      let back : suc n - 1 ≡ n = omega arith in
+      let here : left c x s (suc n - 1) ≡ left q x s (suc n - 1) = ap (left c x s) back ∙ before ∙ sym (ap (left q x s) back) in
+      let full = written_alike s (suc n) store (omega arith) last here in
+      left_step c x s n (suc n) (omega arith) ∙ ap (λ (u : ℕ). u - min (x s (suc n)) u) full ∙ sym (left_step q x s n (suc n) (omega arith))
+
+  lost_alike : (s t : ℕ) → s < length q.rows → 1 ≤ t → t ≤ length q.windows → lost c x s t ≡ lost q x s t
+  lost_alike s t store first last =
+      let before = left_alike s (t - 1) store (omega arith) in
+      ap (λ (v : ℕ). v + arrivals c s t - written c x s t) before
+      ∙ ap (λ (a : ℕ). left q x s (t - 1) + a - written c x s t) (same s t store first last)
+      ∙ ap (λ (u : ℕ). left q x s (t - 1) + arrivals q s t - u) (written_alike s t store first last before)
+
+  loss_alike : loss c x ≡ loss q x
+  loss_alike =
+      sum_by_range_same (store_loss c x) (store_loss q x) 0 (length q.rows)
+      (λ s from within. sum_by_range_same (lost c x s) (lost q x s) 1 (length q.windows) (λ t first last. lost_alike s t (omega arith) first (omega arith)))
+
+-- the headline, of a plan that was printed and carried out
+pub headline_of : (m : Mission) (text : List ℕ) (sheet : SheetRows) (report : Reported) → m.amounts ≡ amount sheet.plan → PlansFor m.problem text sheet
+    → (totals_of report.steps).lost ≡ loss (as_came m) m.amounts → LosesWhatIsPrinted m sheet report
+headline_of m text sheet report amounts plans total = record {
+  fits = plans.shows_least.least.fits;
+  least = λ other fits. rw (← plans.shows_least.loss) (plans.shows_least.least.least other fits);
+  cut = plans.shows_least.cut;
+  shown = plans.shows_least.bound;
+  lost = λ met.
+      let all = loss_alike m.problem (as_came m).arrived m.amounts (λ s t store first last. came_at m s t store first last ∙ met s t store first last) in
+      total ∙ all ∙ ap (loss m.problem) amounts ∙ plans.shows_least.loss;
+}

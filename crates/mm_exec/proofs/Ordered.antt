@@ -1,0 +1,69 @@
+-- What the orders of a step want of each store.
+use Rattle.std.proofs.Common.{◌≡◌, ◌≢◌, ◌⊎◌, inl, inr, ℕ, ◌<◌, ◌≤◌, Bool, true, false, cond, ltb, eqb, List, All, refl, ◌∙◌, arith}
+use Rattle.std.specs.Prelude.{filter, slice_index, AllPairs}
+use Rattle.std.specs.List.{sum_by, range_with_len}
+use Rattle.std.proofs.lemmas.Bool.{lt-ltb, le-ltb, ltb-true, ne_eqb, eq-eqb, cases_lt}
+use Rattle.std.proofs.lemmas.List.Elements.{All-map}
+use Rattle.mm_sums.proofs.Pairs.{AllPairs-map}
+use Rattle.mm_sums.proofs.Ranges.{All-filter-range_with_len, AllPairs-filter-range_with_len}
+use Rattle.mm_sums.proofs.RangeSums.{sum_by_range_one}
+use Rattle.mm_sums.proofs.Sums.{sum_by-filter, sum_by-map, sum_by-map-filter}
+use Rattle.mm_plan.specs.Volumes.{Amounts}
+use Rattle.mm_order.specs.declared.order.Order.{Order}
+use Rattle.mm_dump.specs.Dumped.{wanted, times, places_of}
+use Rattle.mm_exec.specs.Going.{once_of}
+use Rattle.mm_exec.specs.Places.{AreApart}
+use Rattle.mm_exec.specs.Numbers.{orders_of}
+use Rattle.mm_exec.proofs.Listing.{is_ordered, order_of}
+
+module _ (x : Amounts) (places : List ℕ) (t n : ℕ) where
+  -- the sum of the terms of one store
+  one_term : (weight : ℕ → ℕ) (s : ℕ) → AreApart places n → s < n
+      → sum_by (λ r. cond (is_ordered x places t r) (cond (eqb (slice_index places r) (slice_index places s)) (weight r) 0) 0) (range_with_len 0 n)
+      ≡ cond (is_ordered x places t s) (weight s) 0
+  one_term weight s apart within =
+      sum_by_range_one (λ r. cond (is_ordered x places t r) (cond (eqb (slice_index places r) (slice_index places s)) (weight r) 0) 0) 0 n s (omega arith) (omega arith)
+      (λ r from to other. rw (ne_eqb (slice_index places r) (slice_index places s) (apart r s (omega arith) within other)) (none (is_ordered x places t r)))
+      ∙ rw (eq-eqb (slice_index places s) (slice_index places s) refl) refl
+    where
+      none : (b : Bool) → let z : ℕ = 0 in cond b z z ≡ z
+      none true = refl
+      none false = refl
+
+  -- the orders want of a store what is to leave it
+  pub wanted_is : (s : ℕ) → AreApart places n → s < n → wanted (orders_of x places t n) (slice_index places s) ≡ x s t
+  wanted_is s apart within =
+      sum_by-filter (λ (o : Order). o.amount) (λ o. eqb o.place (slice_index places s)) (orders_of x places t n)
+      ∙ sum_by-map-filter (λ (o : Order). cond (eqb o.place (slice_index places s)) o.amount 0) (order_of x places t) (is_ordered x places t) (range_with_len 0 n)
+      ∙ one_term (λ r. x r t) s apart within
+      ∙ by_amount (cases_lt 0 (x s t))
+    where
+      by_amount : (0 < x s t) ⊎ (x s t ≤ 0) → cond (ltb 0 (x s t)) (x s t) 0 ≡ x s t
+      by_amount (inl some) = rw (lt-ltb 0 (x s t) some) refl
+      by_amount (inr nothing) = rw (le-ltb 0 (x s t) nothing) (omega arith)
+
+  -- a store has one order, where packets are to leave it
+  pub times_is : (s : ℕ) → AreApart places n → s < n → times (slice_index places s) (places_of (orders_of x places t n)) ≡ once_of (x s t)
+  times_is s apart within =
+      sum_by-map (λ (y : ℕ). cond (eqb y (slice_index places s)) 1 0) (λ (o : Order). o.place) (orders_of x places t n)
+      ∙ sum_by-map-filter (λ (o : Order). cond (eqb o.place (slice_index places s)) 1 0) (order_of x places t) (is_ordered x places t) (range_with_len 0 n)
+      ∙ one_term (λ r. 1) s apart within
+
+  -- the orders are of stores that are there
+  pub places_within : (m : ℕ) → ((s : ℕ) → s < n → slice_index places s < m) → All (λ o. o.place < m) (orders_of x places t n)
+  places_within m within =
+      All-map (λ (o : Order). o.place < m) (order_of x places t) (filter (is_ordered x places t) (range_with_len 0 n))
+      (All-filter-range_with_len (λ (s : ℕ). slice_index places s < m) (is_ordered x places t) 0 n (λ s from to passes. within s (omega arith)))
+
+  -- each is of one packet or more
+  pub amounts_some : All (λ o. 1 ≤ o.amount) (orders_of x places t n)
+  amounts_some =
+      All-map (λ (o : Order). 1 ≤ o.amount) (order_of x places t) (filter (is_ordered x places t) (range_with_len 0 n))
+      (All-filter-range_with_len (λ (s : ℕ). 1 ≤ x s t) (is_ordered x places t) 0 n (λ s from to passes. ltb-true 0 (x s t) passes))
+
+  -- no two are of one store
+  pub places_apart : AreApart places n → AllPairs (λ a b. a.place ≢ b.place) (orders_of x places t n)
+  places_apart apart =
+      AllPairs-map (λ (a b : Order). a.place ≢ b.place) (order_of x places t) (filter (is_ordered x places t) (range_with_len 0 n))
+      (AllPairs-filter-range_with_len (λ (r s : ℕ). slice_index places r ≢ slice_index places s) (is_ordered x places t) 0 n
+      (λ r s from before to one other. apart r s (omega arith) (omega arith) (λ same. omega (arith, same))))

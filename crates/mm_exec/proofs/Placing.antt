@@ -1,0 +1,56 @@
+-- The stores of the problem at their places in the memory.
+use Rattle.std.proofs.Common.{◌≡◌, ◌≢◌, ◌⊎◌, inl, inr, ℕ, ◌<◌, Bool, true, List, [], length, map, take, get_or, refl, sym, subst, ap, ◌∙◌}
+use Rattle.std.specs.Prelude.{slice_index}
+use Rattle.std.specs.List.{position_or_len}
+use Rattle.std.proofs.lemmas.Bool.{lt-ltb, cases_order}
+use Rattle.std.proofs.lemmas.List.{get_or-map, get_or-take}
+use Rattle.std.proofs.lemmas.List.Quantifiers.{position-Some}
+use Rattle.std.proofs.lemmas.Slice.Eq.{bytes_eq-Decides}
+use Rattle.mm_problem.specs.Dumping.{Dumping, row, no_row}
+use Rattle.mm_problem.specs.Setup.{AreStores}
+use Rattle.mm_desk.specs.declared.held.Held.{Held}
+use Rattle.mm_desk.specs.Machine.{IsState}
+use Rattle.mm_desk.specs.Runs.{blank, opening_at}
+use Rattle.mm_crew.specs.Closings.{states_of}
+use Rattle.mm_crew.specs.Stations.{id_at}
+use Rattle.mm_memory.specs.Holdings.{has_id}
+use Rattle.mm_exec.specs.Places.{IsPlaceOf, ArePlaces, AreSound}
+
+-- what stands at the first place that passes passes
+place_passes : {X : Type 0} (p : X → Bool) (xs : List X) (d : X) → position_or_len p xs < length xs → p (get_or xs (position_or_len p xs) d) ≡ true
+place_passes p xs d within =
+    (position-Some p xs (position_or_len p xs) d (rw (lt-ltb (position_or_len p xs) (length xs) within) refl)).1
+
+-- no store
+abbrev pub no_held : Held
+no_held = record { id = []; channel = 0; state = blank }
+
+-- the store at the place has the identifier
+pub id_there : (id : List ℕ) (stores : List Held) (place : ℕ) → IsPlaceOf id stores place → id_at (map (λ h. h.id) stores) place ≡ id
+id_there id stores place is =
+    let within : position_or_len (has_id id) stores < length stores = subst (λ (k : ℕ). k < length stores) is.is is.within in
+    let passes = place_passes (has_id id) stores no_held within in
+    let same : (get_or stores (position_or_len (has_id id) stores) no_held).id ≡ id = (bytes_eq-Decides _ id).0 passes in
+    get_or-map (λ (h : Held). h.id) stores place no_held [] is.within
+    ∙ ap (λ (k : ℕ). (get_or stores k no_held).id) is.is ∙ same
+
+-- stores with identifiers of their own stand at places of their own
+pub places_differ : (q : Dumping) (stores : List Held) (places : List ℕ) → AreStores q.rows → ArePlaces q stores (length q.rows) places
+    → (r s : ℕ) → r < length q.rows → s < length q.rows → r ≢ s → slice_index places r ≢ slice_index places s
+places_differ q stores places are stand r s first second other same =
+    let one = id_there (row q r).id stores (slice_index places r) (stand r first) in
+    let two = id_there (row q s).id stores (slice_index places s) (stand s second) in
+    let ids : (row q r).id ≡ (row q s).id = sym one ∙ ap (λ (k : ℕ). id_at (map (λ h. h.id) stores) k) same ∙ two in
+    by_order ids (cases_order r s)
+  where
+    by_order : (row q r).id ≡ (row q s).id → (r ≡ s) ⊎ ((r < s) ⊎ (s < r)) → ⊥
+    by_order ids (inl equal) = other equal
+    by_order ids (inr (inl before)) = are.named r s no_row before second ids
+    by_order ids (inr (inr after)) = are.named s r no_row after first (sym ids)
+
+-- places that are cut down to those of the problem's stores
+pub places_cut : (q : Dumping) (stores : List Held) (n : ℕ) (all : List ℕ) → ArePlaces q stores n all → ArePlaces q stores n (take n all)
+places_cut q stores n all are s within = subst (IsPlaceOf (row q s).id stores) (sym (get_or-take n all s 0 within)) (are s within)
+
+pub sound_cut : (stores : List Held) (n : ℕ) (all : List ℕ) → AreSound stores n all → AreSound stores n (take n all)
+sound_cut stores n all sound s within = subst (λ (k : ℕ). IsState (opening_at (states_of stores) k)) (sym (get_or-take n all s 0 within)) (sound s within)

@@ -1,8 +1,0 @@
-use Rattle.std.proofs.Common.{length, take}
-use Rattle.mm_exec.specs.Recorded.{offers_named, Adds}
-use Rattle.mm_exec.specs.Stations.{ids_of, id_at}
-use Rattle.mm_exec.proofs.offering.offer_named.Given as goal
-
-abbrev pub invariant-loop-id : goal.invariant-loop-id
-invariant-loop-id g l =
-    Adds (length l.stations) (λ k. offers_named l.now l.packet (id_at (ids_of l.stations) k) (take l.id-index l.named)) l.initial.seats l.seats

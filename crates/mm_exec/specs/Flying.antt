@@ -1,0 +1,76 @@
+-- A run that begins with its plan: what is printed, and what is lost.
+use Rattle.std.specs.Prelude.{◌≡◌, ◌≤◌, ℕ, List, [], length, pos}
+use Rattle.mm_packet.specs.Packet.{SpacePacket}
+use Rattle.mm_problem.specs.Dumping.{Dumping, arrivals}
+use Rattle.mm_plan.specs.Table.{amount}
+use Rattle.mm_plan.specs.Volumes.{Amounts, loss}
+use Rattle.mm_plan.specs.Fit.{Fits}
+use Rattle.mm_plan.specs.Sheet.{SheetRows}
+use Rattle.mm_cut.specs.Cuts.{IsCut, bound}
+use Rattle.mm_planner.specs.Checking.{SaysSheet}
+use Rattle.mm_planner.specs.Planned.{ShowsLeast}
+use Rattle.mm_planner.specs.PlanTexts.{IsInOrder}
+use Rattle.mm_memory.specs.Holdings.{Holdings}
+use Rattle.mm_order.specs.Sending.{Sent}
+use Rattle.mm_report.specs.declared.cause.Cause.TheVariants.{NoMemory}
+use Rattle.mm_report.specs.Report.{Reported, totals_of}
+use Rattle.mm_runs.specs.Numbers.{AtEach}
+use Rattle.mm_exec.specs.declared.flight.Flown.{Flown}
+use Rattle.mm_exec.specs.declared.flight.NotFlown.{NotFlown}
+use Rattle.mm_exec.specs.declared.flying.Printed.{Printed}
+use Rattle.mm_exec.specs.Mission.{Mission, mission, came}
+use Rattle.mm_exec.specs.Ending.{IsCarriedOut, IsHalted}
+
+-- the text says this sheet for the problem, in the order in which sheets are printed, and the sheet shows that its plan loses least: what
+-- `mm_planner` promises of a text for a setup and a forecast, here for a problem
+pub record PlansFor (q : Dumping) (text : List ℕ) (sheet : SheetRows) : Type 0 where
+  pub says_sheet : SaysSheet q text sheet
+  pub shows_least : ShowsLeast q sheet.plan sheet.cut sheet.by_channels sheet.loss
+  pub tight : sheet.bound ≡ pos sheet.loss
+  pub in_order : IsInOrder sheet
+
+-- the plan and its text, which says the plan
+pub record IsPrintedFor (q : Dumping) (printed : Printed) : Type 0 where
+  pub sheet : SheetRows
+  pub plans : PlansFor q printed.text.items sheet
+  pub plan_is : printed.sheet.plan ≡ sheet.plan
+
+-- what came is what was forecast, in each store and step
+abbrev pub AsForecast : Mission → Type 0
+AsForecast m = AtEach (length m.problem.rows) (length m.problem.windows) (λ s t. came m s t ≡ arrivals m.problem s t)
+
+-- THE HEADLINE: what was printed is what is lost. The printed plan fits every window and every channel's limit, no plan that fits loses
+-- fewer blocks than the printed number, and the printed cut shows this; and where what came is what was forecast, the packets lost in
+-- the run are the printed number
+pub record LosesWhatIsPrinted (m : Mission) (sheet : SheetRows) (report : Reported) : Type 0 where
+  pub fits : Fits m.problem (amount sheet.plan)
+  pub least : (other : Amounts) → Fits m.problem other → sheet.loss ≤ loss m.problem other
+  pub cut : IsCut m.problem sheet.cut sheet.by_channels
+  pub shown : bound m.problem sheet.cut sheet.by_channels ≡ pos sheet.loss
+  pub lost : AsForecast m → (totals_of report.steps).lost ≡ sheet.loss
+
+-- a plan was made, printed and carried out
+pub record Flies {S L : Type 0} (gives : S → ℕ → List SpacePacket) (sent : L → List Sent) (failed : L → ℕ) (q : Dumping) (base : ℕ) (before : Holdings)
+    (sources : List S) (links : List L) (after : Holdings) (flown : Flown S L) : Type 0 where
+  pub sheet : SheetRows
+  pub plans : PlansFor q flown.sheet.items sheet
+  pub carried_out : IsCarriedOut gives sent failed (mission gives q sheet.plan base before sources) sources links after
+      (record { report = flown.report; sources = flown.sources; links = flown.links })
+  pub headline : LosesWhatIsPrinted (mission gives q sheet.plan base before sources) sheet flown.report
+
+-- a plan was made and printed, and its run was halted
+pub record FliesNot {S L : Type 0} (gives : S → ℕ → List SpacePacket) (sent : L → List Sent) (failed : L → ℕ) (q : Dumping) (base : ℕ) (before : Holdings)
+    (sources : List S) (links : List L) (after : Holdings) (ended : NotFlown S L) : Type 0 where
+  pub sheet : SheetRows
+  pub plans : PlansFor q ended.sheet.items sheet
+  pub halted : IsHalted gives sent failed (mission gives q sheet.plan base before sources) sheet.plan sources links after ended.halted
+
+-- there was no memory to plan: nothing is printed, and nothing was done
+pub record HasNoPlan {S L : Type 0} (before : Holdings) (sources : List S) (links : List L) (after : Holdings) (ended : NotFlown S L) : Type 0 where
+  pub sheet_is : ended.sheet.items ≡ []
+  pub cause_is : ended.halted.cause ≡ NoMemory 0
+  pub memory_is : after ≡ before
+  pub sources_are : ended.halted.sources.items ≡ sources
+  pub links_are : ended.halted.links.items ≡ links
+  pub report_is : ended.halted.report.steps ≡ []
+  pub spent_is : ended.halted.spent ≡ 0

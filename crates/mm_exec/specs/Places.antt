@@ -1,0 +1,26 @@
+-- The places of the problem's stores in the memory.
+use Rattle.std.specs.Prelude.{◌≡◌, ◌≢◌, ℕ, ◌<◌, List, length, slice_index}
+use Rattle.std.specs.List.{position_or_len}
+use Rattle.mm_problem.specs.Dumping.{Dumping, row}
+use Rattle.mm_desk.specs.declared.held.Held.{Held}
+use Rattle.mm_desk.specs.Machine.{IsState}
+use Rattle.mm_desk.specs.Runs.{opening_at}
+use Rattle.mm_crew.specs.Closings.{states_of}
+use Rattle.mm_memory.specs.Holdings.{has_id}
+
+-- the store with this identifier stands at this place
+pub record IsPlaceOf (id : List ℕ) (stores : List Held) (place : ℕ) : Type 0 where
+  pub is : place ≡ position_or_len (has_id id) stores
+  pub within : place < length stores
+
+-- the first stores of the problem stand at these places
+abbrev pub ArePlaces : Dumping → List Held → ℕ → List ℕ → Type 0
+ArePlaces q stores n places = (s : ℕ) → s < n → IsPlaceOf (row q s).id stores (slice_index places s)
+
+-- the states at these places are states
+abbrev pub AreSound : List Held → ℕ → List ℕ → Type 0
+AreSound stores n places = (s : ℕ) → s < n → IsState (opening_at (states_of stores) (slice_index places s))
+
+-- the stores stand at places of their own
+abbrev pub AreApart : List ℕ → ℕ → Type 0
+AreApart places n = (r s : ℕ) → r < n → s < n → r ≢ s → slice_index places r ≢ slice_index places s

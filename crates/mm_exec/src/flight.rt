@@ -1,0 +1,39 @@
+//! What a run leaves.
+
+use mm_ready::Cause;
+use mm_report::Report;
+
+/// What a run that was carried out leaves: its report, its sources and its links.
+#[derive(Drop)]
+pub struct Flight<S: Drop, L: Drop> {
+    pub report: Report,
+    pub sources: Vec<S>,
+    pub links: Vec<L>,
+}
+
+/// What a run that was halted leaves: why, the report of the whole steps before, how many blocks were drawn from the window of
+/// the step in which it was halted, its sources and its links.
+#[derive(Drop)]
+pub struct Halted<S: Drop, L: Drop> {
+    pub cause: Cause,
+    pub report: Report,
+    pub spent: u64,
+    pub sources: Vec<S>,
+    pub links: Vec<L>,
+}
+
+/// What a run leaves that was planned, printed and carried out: the text of the plan, the report, the sources and the links.
+#[derive(Drop)]
+pub struct Flown<S: Drop, L: Drop> {
+    pub sheet: Vec<u8>,
+    pub report: Report,
+    pub sources: Vec<S>,
+    pub links: Vec<L>,
+}
+
+/// What a run leaves that was planned and then halted: the text of the plan, empty where none was made, and the rest.
+#[derive(Drop)]
+pub struct NotFlown<S: Drop, L: Drop> {
+    pub sheet: Vec<u8>,
+    pub halted: Halted<S, L>,
+}

@@ -1,0 +1,94 @@
+//! A run that begins with its plan.
+ghost use Rattle.std.specs.Prelude.{◌-◌, ◌<◌, ◌^◌, ◌⊎◌, All, IfOk, IfErr};
+ghost use Rattle.mm_exec.specs.Flying.{IsPrintedFor, Flies, FliesNot, HasNoPlan};
+
+use crate::flight::{Flight, Flown, Halted, NotFlown};
+use crate::run::carry_out;
+use mm_base::NoMemory;
+use mm_memory::Memory;
+use mm_order::Link;
+use mm_plan::Sheet;
+use mm_planner::sheet;
+use mm_problem::Problem;
+use mm_ready::Cause;
+use mm_record::Source;
+use mm_report::Report;
+use std::alloc::Global;
+use std::sync::Wait;
+use std::thread::Threads;
+
+/// The sheet of a plan that loses least, and its text.
+#[derive(Drop)]
+pub(crate) struct Printed {
+    pub(crate) sheet: Sheet,
+    pub(crate) text: Vec<u8>,
+}
+
+// Plans, and prints the sheet.
+fn print_plan(alloc: Global, problem: &Problem) -> Result<Printed, NoMemory>
+    ensures { IfOk result (IsPrintedFor problem.now) }
+{
+    let sheet = sheet(alloc, problem)?;
+    let text = sheet.print(alloc)?;
+    Ok(Printed { sheet, text })
+}
+
+/// Plans, prints the plan with the cut that shows that it loses least, and carries it out.
+///
+/// **What was printed is what is lost.** The printed plan fits every window and every channel's limit, no plan that fits loses fewer
+/// blocks than the printed number, and the printed cut shows this. Where what came is what was forecast, the packets lost in the run
+/// are the printed number, whatever the order in which the stores were asked, and whatever the kind of each (`headline`).
+pub fn fly<S: Source + Send + Drop, L: Link + Send + Drop, R: Threads + Wait + Sync>(
+    rt: &R,
+    alloc: Global,
+    memory: &mut Memory,
+    problem: &Problem,
+    sources: Vec<S>,
+    links: Vec<L>,
+    base: u64,
+) -> Result<Flown<S, L>, NotFlown<S, L>>
+    requires links { All (λ l. L.failed l < 2 ^ 64 - 1) links.items }
+    ensures flown { IfOk result (Flies S.gives L.sent L.failed problem.now base memory.old sources.items links.items memory.new) }
+    ensures not_flown { IfErr result (λ ended. FliesNot S.gives L.sent L.failed problem.now base memory.old sources.items links.items memory.new ended
+        ⊎ HasNoPlan memory.old sources.items links.items memory.new ended) }
+{
+    let Ok(Printed { sheet, text }) = print_plan(alloc, problem) else {
+        return Err(NotFlown {
+            sheet: Vec::new(alloc),
+            halted: Halted {
+                cause: Cause::NoMemory { step: 0 },
+                report: Report::none(alloc),
+                spent: 0,
+                sources,
+                links,
+            },
+        });
+    };
+    match carry_out(
+        rt,
+        alloc,
+        memory,
+        problem,
+        sheet.plan(),
+        sources,
+        links,
+        base,
+    ) {
+        Ok(
+            Flight {
+                report,
+                sources,
+                links,
+            },
+        ) => Ok(Flown {
+            sheet: text,
+            report,
+            sources,
+            links,
+        }),
+        Err(halted) => Err(NotFlown {
+            sheet: text,
+            halted,
+        }),
+    }
+}

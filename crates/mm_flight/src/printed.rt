@@ -1,0 +1,119 @@
+//! What a run prints.
+ghost use Rattle.std.specs.Prelude.{◌≡◌, [], IfOk};
+ghost use Rattle.mm_report.specs.declared.cause.Cause.{Cause};
+
+use crate::ending::{push_end, push_lacking, step_of};
+use mm_base::NoMemory;
+use mm_report::{Cause, Report};
+use std::alloc::Global;
+
+/// Whether a run was carried out whole and its report printed.
+#[derive(Clone, Copy, Debug, PartialEq, Eq)]
+pub enum Outcome {
+    CarriedOut,
+    /// The run did not begin, or was halted, or there is no memory for the report.
+    Stopped,
+}
+
+/// What a run prints: three texts, one after the other.
+#[derive(Debug, Drop)]
+pub struct Printed {
+    /// The plan text, where the plan was made here.
+    pub sheet: Vec<u8>,
+    /// The report, and nothing where the run did not begin.
+    pub report: Vec<u8>,
+    /// The line on why the run did not begin or was halted, where one of these is so.
+    pub end: Vec<u8>,
+    pub outcome: Outcome,
+}
+
+/// Room for the lines that are printed where there is no memory any more.
+#[derive(Drop)]
+pub(crate) struct Spare {
+    report: Vec<u8>,
+    end: Vec<u8>,
+}
+
+// The longest of these lines have fewer octets.
+const LINE: usize = 64;
+
+impl Spare {
+    pub(crate) fn new(alloc: Global) -> Result<Spare, NoMemory>
+        ensures report { IfOk result (λ spare. spare.report.items ≡ []) }
+        ensures end { IfOk result (λ spare. spare.end.items ≡ []) }
+    {
+        Ok(Spare {
+            report: Vec::with_capacity(alloc, LINE)?,
+            end: Vec::with_capacity(alloc, LINE)?,
+        })
+    }
+}
+
+impl Printed {
+    ghost use Rattle.mm_flight.specs.Printed.{TellsAll, TellsEnd};
+
+    /// What a run prints that was carried out.
+    pub(crate) fn whole(
+        alloc: Global,
+        sheet: Vec<u8>,
+        spare: Spare,
+        report: &Report,
+    ) -> Result<Printed, NoMemory>
+        requires empty { spare.report.items ≡ [] }
+        requires no_end { spare.end.items ≡ [] }
+        ensures { IfOk result (TellsAll sheet.items report.now) }
+    {
+        let Spare {
+            report: mut lacking,
+            end,
+        } = spare;
+        match report.text(alloc) {
+            Ok(report) => Ok(Printed {
+                sheet,
+                report,
+                end,
+                outcome: Outcome::CarriedOut,
+            }),
+            Err(NoMemory) => {
+                push_lacking(&mut lacking)?;
+                Ok(Printed {
+                    sheet,
+                    report: lacking,
+                    end,
+                    outcome: Outcome::Stopped,
+                })
+            }
+        }
+    }
+
+    /// What a run prints that did not begin, or was halted.
+    pub(crate) fn stopped(
+        alloc: Global,
+        sheet: Vec<u8>,
+        spare: Spare,
+        cause: &Cause,
+        report: &Report,
+    ) -> Result<Printed, NoMemory>
+        requires empty { spare.report.items ≡ [] }
+        requires no_end { spare.end.items ≡ [] }
+        ensures { IfOk result (TellsEnd sheet.items cause.now report.now) }
+    {
+        let Spare {
+            report: mut told,
+            mut end,
+        } = spare;
+        if step_of(cause).is_some() {
+            match report.text(alloc) {
+                Ok(text) => told = text,
+                Err(NoMemory) => push_lacking(&mut told)?,
+            }
+        }
+        push_end(&mut end, cause)?;
+        Ok(Printed {
+            sheet,
+            report: told,
+            end,
+            outcome: Outcome::Stopped,
+        })
+    }
+}

@@ -1,0 +1,67 @@
+//! What the texts of a run say.
+ghost use Rattle.std.specs.Prelude.{◌≡◌, All, IfOk};
+ghost use Rattle.mm_base.specs.Reading.{IfRefused};
+ghost use Rattle.mm_problem.specs.declared.fault.Fault.TheVariants as problem;
+ghost use Rattle.mm_scripted.specs.Sources.{AreFew};
+ghost use Rattle.mm_scripted.specs.declared.fault.Fault.TheVariants as ends;
+ghost use Rattle.mm_flight.specs.Texts.{SaysGround, SaysEnds, IsGroundFault, IsEndsFault};
+
+use mm_memory::Memory;
+use mm_packet::BlockPacket;
+use mm_problem::{Problem, Setup};
+use mm_scripted::{Deliveries, ScriptedLink, ScriptedSource, read_links};
+use std::alloc::Global;
+
+/// What a setup and a forecast say: the problem, and the memory before anything is stored.
+#[derive(Drop)]
+pub(crate) struct Ground {
+    pub(crate) problem: Problem,
+    pub(crate) memory: Memory,
+}
+
+/// What the sources and the links say.
+#[derive(Drop)]
+pub(crate) struct Ends {
+    /// The packets of step 0, in the order of the lines.
+    pub(crate) opening: Vec<BlockPacket>,
+    pub(crate) sources: Vec<ScriptedSource>,
+    pub(crate) links: Vec<ScriptedLink>,
+}
+
+/// Reads the setup and the forecast. Otherwise the first fault, of the setup and then of the forecast.
+#[tactic(auto, unfolding(mm_check::specs::Checking::problem_in))]
+pub(crate) fn read_ground(
+    alloc: Global,
+    setup: &[u8],
+    forecast: &[u8],
+) -> Result<Ground, mm_problem::Fault>
+    ensures found { IfOk result (λ g. SaysGround setup.now forecast.now g.problem g.memory) }
+    ensures refused { IfRefused problem.NoMemory result (IsGroundFault setup.now forecast.now) }
+{
+    let setup = Setup::read(alloc, setup)?;
+    let problem = Problem::read(alloc, &setup, forecast)?;
+    match Memory::of_setup(alloc, &setup) {
+        Ok(memory) => Ok(Ground { problem, memory }),
+        Err(_) => Err(mm_problem::Fault::NoMemory),
+    }
+}
+
+/// Reads the sources and the links. Otherwise the first fault, of the sources and then of the links.
+pub(crate) fn read_ends(
+    alloc: Global,
+    sources: &[u8],
+    links: &[u8],
+) -> Result<Ends, mm_scripted::Fault>
+    ensures found { IfOk result (λ e. SaysEnds sources.now links.now e.opening.items e.sources.items e.links.items) }
+    ensures few { IfOk result (λ e. AreFew e.sources.items) }
+    ensures unfailed { IfOk result (λ e. All (λ l. l.failed ≡ 0) e.links.items) }
+    ensures refused { IfRefused ends.NoMemory result (IsEndsFault sources.now links.now) }
+{
+    let Deliveries { opening, sources } = Deliveries::read(alloc, sources)?;
+    let links = read_links(alloc, links)?;
+    Ok(Ends {
+        opening,
+        sources,
+        links,
+    })
+}

@@ -1,0 +1,2 @@
+pub use Rattle.mm_report.specs.Cause
+pub mod Ready

@@ -1,0 +1,222 @@
+-- Lists of calls that go on, seat by seat.
+use Rattle.std.proofs.Common.{◌≡◌, ◌≢◌, ◌⊎◌, inl, inr, ℕ, zero, suc, ◌+◌, ◌<◌, ◌≤◌, ◌==◌, true, false, eqb, List, [], ◌∷◌, ◌++◌, length, get_or, map, filter, take, drop, bytes_eq, Ok, Err, refl, sym, subst, ap, ◌∙◌, append_assoc, length-set, get_or-set_same, get_or-set_other, arith}
+use Rattle.std.proofs.Math.ListN.{set}
+use Rattle.std.proofs.lemmas.Bool.Decides.{eqb_tells}
+use Rattle.std.proofs.lemmas.List.{append-nil, map-append, take_more, take_all, take-append-drop}
+use Rattle.std.proofs.lemmas.List.Elements.{filter-append, All-append}
+use Rattle.mm_packet.specs.Packet.{SpacePacket}
+use Rattle.mm_desk.specs.declared.entry.Entry.{Entry}
+use Rattle.mm_desk.specs.declared.event.Event.{Event}
+use Rattle.mm_desk.specs.declared.event.Event.TheVariants.{Offer}
+use Rattle.mm_desk.specs.declared.fault.Fault.{Fault}
+use Rattle.mm_desk.specs.declared.fault.Fault.TheVariants.{NoMemory, HoldsMore, Disabled, Busy, Idle, BadRange, ClockEnd, StorageOn}
+use Rattle.mm_desk.specs.declared.reply.Offered.{Offered}
+use Rattle.mm_desk.specs.declared.reply.Returned.{Returned}
+use Rattle.mm_desk.specs.declared.reply.Reply.{Reply}
+use Rattle.mm_desk.specs.declared.reply.Reply.TheVariants as reply
+use Rattle.mm_desk.specs.Offers.{AreTaken, IsTaken}
+use Rattle.mm_desk.specs.Offers.{asked as asked_in}
+use Rattle.mm_desk.specs.Runs.{entry}
+use Rattle.mm_desk.specs.Seats.{Place, Tells, new_seat, with_call}
+use Rattle.mm_crew.specs.Crews.{list_at}
+use Rattle.mm_crew.specs.Stations.{id_at}
+use Rattle.mm_record.specs.Offering.{offers_named, GoesBy, GoesPartly, Adds, AddsPartly}
+
+-- a list that stays goes on by nothing
+pub goes_nowhere : (xs : List Entry) → GoesBy [] xs xs
+goes_nowhere xs = record { all = sym (append-nil (asked_in xs)); taken = λ t. t }
+
+pub partly_nowhere : (more : List Event) (xs : List Entry) → GoesPartly more xs xs
+partly_nowhere more xs = record { did = []; rest = more; are = refl; first = sym (append-nil (asked_in xs)) }
+
+-- one list of events after another
+pub goes_more : (f g : List Event) (a b c : List Entry) → GoesBy f a b → GoesBy g b c → GoesBy (f ++ g) a c
+goes_more f g a b c one two = record {
+  all = two.all ∙ ap (λ (x : List Event). x ++ g) one.all ∙ append_assoc (asked_in a) f g;
+  taken = λ t. two.taken (one.taken t);
+}
+
+pub partly_after : (f g : List Event) (a b c : List Entry) → GoesBy f a b → GoesPartly g b c → GoesPartly (f ++ g) a c
+partly_after f g a b c one two = record {
+  did = f ++ two.did;
+  rest = two.rest;
+  are = ap (λ (x : List Event). f ++ x) two.are ∙ sym (append_assoc f two.did two.rest);
+  first = two.first ∙ ap (λ (x : List Event). x ++ two.did) one.all ∙ append_assoc (asked_in a) f two.did;
+}
+
+pub partly_before : (f g : List Event) (a b : List Entry) → GoesPartly f a b → GoesPartly (f ++ g) a b
+partly_before f g a b one = record {
+  did = one.did;
+  rest = one.rest ++ g;
+  are = ap (λ (x : List Event). x ++ g) one.are ∙ append_assoc one.did one.rest g;
+  first = one.first;
+}
+
+-- the list with a call more
+asked_more : (es : List Entry) (e : Entry) → asked_in (es ++ e ∷ []) ≡ asked_in es ++ e.event ∷ []
+asked_more es e = map-append (λ (e : Entry). e.event) es (e ∷ [])
+
+-- an offer that is not refused is one offer more
+pub offer_taken : (old new : Place) (now : ℕ) (p : SpacePacket) (o : Offered) → Tells old (Offer now p) (reply.Offered (Ok o)) new
+    → GoesBy (Offer now p ∷ []) old.list new.list
+offer_taken old new now p o tells =
+    let e : Entry = entry old.number (Offer now p) (reply.Offered (Ok o)) in
+    let list : new.list ≡ old.list ++ e ∷ [] = ap (λ (s : Place). s.list) (tells.told (λ same. cc)) in
+    record {
+      all = ap asked_in list ∙ asked_more old.list e;
+      taken = λ t. subst AreTaken (sym list) (All-append (λ (x : Entry). IsTaken x.event x.reply) old.list (e ∷ []) t (λ i d within. one i d within));
+    }
+  where
+    one : (i : ℕ) (d : Entry) → i < 1 → IsTaken (get_or (entry old.number (Offer now p) (reply.Offered (Ok o)) ∷ []) i d).event (get_or (entry old.number (Offer now p) (reply.Offered (Ok o)) ∷ []) i d).reply
+    one zero d within = tt
+    one (suc i) d within = absurd (omega arith)
+
+-- an offer that is refused is in the list, or for want of memory is not
+pub offer_refused : (old new : Place) (now : ℕ) (p : SpacePacket) (back : Returned) → Tells old (Offer now p) (reply.Offered (Err back)) new
+    → back.packet ≡ p → GoesPartly (Offer now p ∷ []) old.list new.list
+offer_refused old new now p back tells same = by_fault back.fault refl
+  where
+    told : new ≡ with_call old (Offer now p) (reply.Offered (Err back)) → GoesPartly (Offer now p ∷ []) old.list new.list
+    told same = record {
+      did = Offer now p ∷ [];
+      rest = [];
+      are = refl;
+      first = ap (λ (s : Place). asked_in s.list) same ∙ asked_more old.list (entry old.number (Offer now p) (reply.Offered (Err back)));
+    }
+
+    fault_of : Reply → Fault
+    fault_of (reply.Offered (Err back)) = back.fault
+    fault_of other = Disabled
+
+    stays : back.fault ≡ NoMemory → GoesPartly (Offer now p ∷ []) old.list new.list
+    stays lack =
+        let back_is : back ≡ record { fault = NoMemory; packet = p } = λ i. record { fault = lack i; packet = same i } in
+        let as_it_was : new ≡ old = tells.lacks (ap (λ (b : Returned). reply.Offered (Err b)) back_is) in
+        subst (λ (s : Place). GoesPartly (Offer now p ∷ []) old.list s.list) (sym as_it_was) (partly_nowhere (Offer now p ∷ []) old.list)
+
+    by_fault : (f : Fault) → back.fault ≡ f → GoesPartly (Offer now p ∷ []) old.list new.list
+    by_fault NoMemory e = stays e
+    by_fault HoldsMore e = told (tells.told (λ lacks. let lack : back.fault ≡ NoMemory = ap fault_of lacks in cc))
+    by_fault Disabled e = told (tells.told (λ lacks. let lack : back.fault ≡ NoMemory = ap fault_of lacks in cc))
+    by_fault Busy e = told (tells.told (λ lacks. let lack : back.fault ≡ NoMemory = ap fault_of lacks in cc))
+    by_fault Idle e = told (tells.told (λ lacks. let lack : back.fault ≡ NoMemory = ap fault_of lacks in cc))
+    by_fault BadRange e = told (tells.told (λ lacks. let lack : back.fault ≡ NoMemory = ap fault_of lacks in cc))
+    by_fault ClockEnd e = told (tells.told (λ lacks. let lack : back.fault ≡ NoMemory = ap fault_of lacks in cc))
+    by_fault StorageOn e = told (tells.told (λ lacks. let lack : back.fault ≡ NoMemory = ap fault_of lacks in cc))
+
+-- the seat at the place of the one store with an identifier changes, and no other
+module _ (G : List Event → List Entry → List Entry → Type 0) (nothing : (xs : List Entry) → G [] xs xs) (now : ℕ) (p : SpacePacket) (ids : List (List ℕ)) (id : List ℕ) (seats : List Place) (place count : ℕ) (seat : Place) where
+  carried : (m n : List Event) (a b c d : List Entry) → m ≡ n → a ≡ b → c ≡ d → G m a c → G n b d
+  carried m n a b c d e f h goes = subst (λ x. G x b d) e (subst (λ x. G m x d) f (subst (λ x. G m a x) h goes))
+
+  each_at : length seats ≡ count → place < count → ((j : ℕ) → j < count → bytes_eq (id_at ids j) id ≡ (j == place))
+      → G (Offer now p ∷ []) (list_at seats place) seat.list
+      → (k : ℕ) → k < count → G (offers_named now p (id_at ids k) (id ∷ [])) (list_at seats k) (list_at (set seats place seat) k)
+  each_at seated within is goes k inside = by_place (eqb_tells k place)
+    where
+      by_place : ((eqb k place ≡ true) × (k ≡ place)) ⊎ ((eqb k place ≡ false) × (k ≢ place))
+          → G (offers_named now p (id_at ids k) (id ∷ [])) (list_at seats k) (list_at (set seats place seat) k)
+      by_place (inl here) =
+          let mine : bytes_eq (id_at ids k) id ≡ true = is k inside ∙ here.0 in
+          let one : offers_named now p (id_at ids k) (id ∷ []) ≡ Offer now p ∷ [] = rw mine refl in
+          let before : list_at seats k ≡ list_at seats place = ap (list_at seats) here.1 in
+          let at : list_at (set seats place seat) place ≡ seat.list = ap (λ (s : Place). s.list) (get_or-set_same seats place seat (new_seat 0 0) (omega arith)) in
+          let after : list_at (set seats place seat) k ≡ seat.list = ap (list_at (set seats place seat)) here.1 ∙ at in
+          carried _ _ _ _ _ _ (sym one) (sym before) (sym after) goes
+      by_place (inr other) =
+          let not_mine : bytes_eq (id_at ids k) id ≡ false = is k inside ∙ other.0 in
+          let none : offers_named now p (id_at ids k) (id ∷ []) ≡ [] = rw not_mine refl in
+          let after : list_at (set seats place seat) k ≡ list_at seats k = ap (λ (s : Place). s.list) (get_or-set_other seats place k seat (new_seat 0 0) other.1) in
+          carried _ _ _ _ _ _ (sym none) refl (sym after) (nothing (list_at seats k))
+
+pub adds_at : (now : ℕ) (p : SpacePacket) (ids : List (List ℕ)) (id : List ℕ) (seats : List Place) (place count : ℕ) (seat : Place)
+    → length seats ≡ count → place < count → ((j : ℕ) → j < count → bytes_eq (id_at ids j) id ≡ (j == place))
+    → GoesBy (Offer now p ∷ []) (list_at seats place) seat.list
+    → Adds count (λ k. offers_named now p (id_at ids k) (id ∷ [])) seats (set seats place seat)
+adds_at now p ids id seats place count seat seated within is goes = record {
+  seated = length-set seats place seat;
+  lists = each_at GoesBy goes_nowhere now p ids id seats place count seat seated within is goes;
+}
+
+pub adds_partly_at : (now : ℕ) (p : SpacePacket) (ids : List (List ℕ)) (id : List ℕ) (seats : List Place) (place count : ℕ) (seat : Place)
+    → length seats ≡ count → place < count → ((j : ℕ) → j < count → bytes_eq (id_at ids j) id ≡ (j == place))
+    → GoesPartly (Offer now p ∷ []) (list_at seats place) seat.list
+    → AddsPartly count (λ k. offers_named now p (id_at ids k) (id ∷ [])) seats (set seats place seat)
+adds_partly_at now p ids id seats place count seat seated within is goes = record {
+  seated = length-set seats place seat;
+  lists = each_at GoesPartly (partly_nowhere []) now p ids id seats place count seat seated within is goes;
+}
+
+-- no store has the identifier, so nothing is offered
+pub adds_nothing : (now : ℕ) (p : SpacePacket) (ids : List (List ℕ)) (id : List ℕ) (seats : List Place) (count : ℕ)
+    → ((j : ℕ) → j < count → bytes_eq (id_at ids j) id ≡ false)
+    → Adds count (λ k. offers_named now p (id_at ids k) (id ∷ [])) seats seats
+adds_nothing now p ids id seats count none = record {
+  seated = refl;
+  lists = λ k within. rw (none k within) (goes_nowhere (list_at seats k));
+}
+
+-- seats that stay, where nothing is to be offered
+pub adds_none : (count : ℕ) (seats : List Place) → Adds count (λ k. []) seats seats
+adds_none count seats = record { seated = refl; lists = λ k within. goes_nowhere (list_at seats k) }
+
+-- seats that stay, with all left to do
+pub adds_partly_none : (count : ℕ) (more : ℕ → List Event) (seats : List Place) → AddsPartly count more seats seats
+adds_partly_none count more seats = record { seated = refl; lists = λ k within. partly_nowhere (more k) (list_at seats k) }
+
+-- one after another
+pub adds_more : (count : ℕ) (f g h : ℕ → List Event) (a b c : List Place) → Adds count f a b → Adds count g b c
+    → ((k : ℕ) → h k ≡ f k ++ g k) → Adds count h a c
+adds_more count f g h a b c one two both = record {
+  seated = two.seated ∙ one.seated;
+  lists = λ k within. rw (both k) (goes_more (f k) (g k) (list_at a k) (list_at b k) (list_at c k) (one.lists k within) (two.lists k within));
+}
+
+pub adds_partly_after : (count : ℕ) (f g h : ℕ → List Event) (a b c : List Place) → Adds count f a b → AddsPartly count g b c
+    → ((k : ℕ) → h k ≡ f k ++ g k) → AddsPartly count h a c
+adds_partly_after count f g h a b c one two both = record {
+  seated = two.seated ∙ one.seated;
+  lists = λ k within. rw (both k) (partly_after (f k) (g k) (list_at a k) (list_at b k) (list_at c k) (one.lists k within) (two.lists k within));
+}
+
+pub adds_partly_before : (count : ℕ) (f g h : ℕ → List Event) (a b : List Place) → AddsPartly count f a b
+    → ((k : ℕ) → h k ≡ f k ++ g k) → AddsPartly count h a b
+adds_partly_before count f g h a b one both = record {
+  seated = one.seated;
+  lists = λ k within. rw (both k) (partly_before (f k) (g k) (list_at a k) (list_at b k) (one.lists k within));
+}
+
+-- the offers by names, one after another
+offers_more : (now : ℕ) (p : SpacePacket) (id : List ℕ) (xs ys : List (List ℕ)) → offers_named now p id (xs ++ ys) ≡ offers_named now p id xs ++ offers_named now p id ys
+offers_more now p id xs ys = ap (map (λ _. Offer now p)) (filter-append (bytes_eq id) xs ys) ∙ map-append (λ _. Offer now p) (filter (bytes_eq id) xs) (filter (bytes_eq id) ys)
+
+-- after one name more
+pub adds_name : (now : ℕ) (p : SpacePacket) (ids named : List (List ℕ)) (i : ℕ) (id : List ℕ) (count : ℕ) (a b c : List Place)
+    → i < length named → get_or named i id ≡ id
+    → Adds count (λ k. offers_named now p (id_at ids k) (take i named)) a b
+    → Adds count (λ k. offers_named now p (id_at ids k) (id ∷ [])) b c
+    → Adds count (λ k. offers_named now p (id_at ids k) (take (i + 1) named)) a c
+adds_name now p ids named i id count a b c within at one two =
+    let next : take (i + 1) named ≡ take i named ++ id ∷ [] = take_more named i id within ∙ ap (λ (x : List ℕ). take i named ++ x ∷ []) at in
+    adds_more count _ _ _ a b c one two
+    (λ k. ap (offers_named now p (id_at ids k)) next ∙ offers_more now p (id_at ids k) (take i named) (id ∷ []))
+
+-- a name at which it ends
+pub adds_name_partly : (now : ℕ) (p : SpacePacket) (ids named : List (List ℕ)) (i : ℕ) (id : List ℕ) (count : ℕ) (a b c : List Place)
+    → i < length named → get_or named i id ≡ id
+    → Adds count (λ k. offers_named now p (id_at ids k) (take i named)) a b
+    → AddsPartly count (λ k. offers_named now p (id_at ids k) (id ∷ [])) b c
+    → AddsPartly count (λ k. offers_named now p (id_at ids k) named) a c
+adds_name_partly now p ids named i id count a b c within at one two =
+    let next : take (i + 1) named ≡ take i named ++ id ∷ [] = take_more named i id within ∙ ap (λ (x : List ℕ). take i named ++ x ∷ []) at in
+    let here = adds_partly_after count _ _ (λ k. offers_named now p (id_at ids k) (take (i + 1) named)) a b c one two
+    (λ k. ap (offers_named now p (id_at ids k)) next ∙ offers_more now p (id_at ids k) (take i named) (id ∷ [])) in
+    adds_partly_before count _ (λ k. offers_named now p (id_at ids k) (drop (i + 1) named)) _ a c here
+    (λ k. ap (offers_named now p (id_at ids k)) (sym (take-append-drop (i + 1) named)) ∙ offers_more now p (id_at ids k) (take (i + 1) named) (drop (i + 1) named))
+
+-- at the end of the names
+pub adds_names : (now : ℕ) (p : SpacePacket) (ids named : List (List ℕ)) (i : ℕ) (count : ℕ) (a b : List Place)
+    → length named ≤ i → Adds count (λ k. offers_named now p (id_at ids k) (take i named)) a b
+    → Adds count (λ k. offers_named now p (id_at ids k) named) a b
+adds_names now p ids named i count a b past one =
+    subst (λ (xs : List (List ℕ)). Adds count (λ k. offers_named now p (id_at ids k) xs) a b) (take_all i named past) one

@@ -1,0 +1,18 @@
+use Rattle.std.proofs.Common.{rules, ◌≡◌, ◌<◌, [], ◌∷◌, ◌++◌, length, get_or, sym, ap, ◌∙◌}
+use Rattle.mm_desk.specs.Machine.{IsState}
+use Rattle.mm_record.specs.Rows.{counters_of}
+use Rattle.mm_record.proofs.Memories.{all_more, map_more}
+use Rattle.mm_record.proofs.memory_step.all_counters.Goals as goal
+
+pub loop-held-preserved : goal.loop-held-preserved
+loop-held-preserved c =
+    let stores = c.args.stores.now in
+    let i = c.loop-held.held-index in
+    let h = c.held-item.result in
+    let within : i < length stores = search rules in
+    let at : get_or stores i h ≡ h = search rules in
+    let pushed : c.push.new.self.items ≡ c.loop-held.counters.items ++ counters_of h ∷ [] = search rules in
+    record {
+      counters = pushed ∙ ap (λ cs. cs ++ counters_of h ∷ []) c.loop-held.invariant.counters ∙ sym (map_more counters_of stores i h within at);
+      sound = all_more (λ h. IsState h.state) stores i h within at c.loop-held.invariant.sound c.counters_of.ensures.sound;
+    }

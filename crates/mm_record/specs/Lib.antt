@@ -1,0 +1,9 @@
+pub use Rattle.mm_crew.specs.Closings
+pub use Rattle.mm_crew.specs.Stations
+pub mod Causes
+pub mod Recorded
+pub mod Offering
+pub mod Recorders
+pub mod Steps
+pub mod Rows
+pub mod MemorySteps

@@ -1,0 +1,29 @@
+-- What recorders offer: each packet that a source gives goes to each store that its report type is routed to.
+use Rattle.std.specs.Prelude.{ℕ, Bool, false, List, map, filter}
+use Rattle.mm_base.specs.declared.rows.RouteRow.{RouteRow}
+use Rattle.mm_packet.specs.declared.header.PacketType.{PacketType}
+use Rattle.mm_packet.specs.declared.header.PacketType.TheVariants.{Telecommand, Telemetry}
+use Rattle.mm_packet.specs.Packet.{SpacePacket}
+use Rattle.mm_control.specs.Routes.{has_row}
+use Rattle.mm_desk.specs.declared.event.Event.{Event}
+use Rattle.mm_desk.specs.declared.event.Event.TheVariants.{Offer}
+use Rattle.mm_crew.specs.Stations.{id_at}
+
+-- what all recorders of a step share: the step, its moment, the routes, and the identifiers of the stores
+pub record Errand : Type 0 where
+  pub step : ℕ
+  pub now : ℕ
+  pub routes : List RouteRow
+  pub ids : List (List ℕ)
+
+-- whether a packet goes into the store with an identifier: telemetry where the table has that row, and a telecommand never
+abbrev pub is_routed : List RouteRow → List ℕ → SpacePacket → Bool
+is_routed routes id p = by_kind p.kind where
+  by_kind : PacketType → Bool
+  by_kind (Telecommand source) = false
+  by_kind (Telemetry counter destination time) =
+      has_row (record { apid = p.header.apid; service = p.header.service; subtype = p.header.subtype; store = id }) routes
+
+-- the offers of packets to the store at a place, in the order of the packets
+abbrev pub offers : Errand → ℕ → List SpacePacket → List Event
+offers e k ps = map (λ p. Offer e.now p) (filter (is_routed e.routes (id_at e.ids k)) ps)

@@ -1,0 +1,62 @@
+//! What is tested before a step of recorders is begun. Nothing here takes memory.
+ghost use Rattle.std.specs.Prelude.{◌≡◌, not, find};
+ghost use Rattle.std.specs.List.{list_any};
+ghost use Rattle.std.specs.Option.{option_copied};
+ghost use Rattle.mm_record.specs.Causes.{is_ready, is_late, is_miscounted, cause_before};
+
+use mm_desk::Held;
+use mm_report::{Cause, LATEST_START, MAX_SOURCES};
+use mm_store::PacketStore;
+
+/// Whether a store can take part in a step: its storage is on, and no retrieval from it is.
+pub fn is_ready(held: &Held) -> bool
+    ensures ready { result ≡ is_ready held.now }
+{
+    held.state.storage() && held.state.retrieval().is_none()
+}
+
+/// Whether a moment is too late for the start of a run.
+pub fn is_late(moment: u64) -> bool
+    ensures late { result ≡ is_late moment }
+{
+    moment > LATEST_START
+}
+
+// Whether there are too few or too many sources.
+fn is_miscounted(sources: usize) -> bool
+    ensures { result ≡ is_miscounted sources }
+{
+    sources < 1 || sources > MAX_SOURCES
+}
+
+// The first store that cannot take part in a step.
+fn not_ready(stores: &[Held]) -> Option<&Held>
+    ensures { option_copied result ≡ find (λ h. not (is_ready h)) stores.now }
+{
+    stores.iter().find(|held| !is_ready(held))
+}
+
+// Whether the last storage time of a store is too late.
+fn any_late(stores: &[Held]) -> bool
+    ensures { result ≡ list_any (λ h. is_late h.state.store.last) stores.now }
+{
+    stores
+        .iter()
+        .any(|held| is_late(held.state.store().last_time()))
+}
+
+/// Why a step of recorders over these stores, with this many sources, is not begun.
+pub fn cause_before(stores: &[Held], base: u64, sources: usize) -> Option<Cause>
+    ensures cause { result ≡ cause_before stores.now base sources }
+{
+    if let Some(held) = not_ready(stores) {
+        return Some(Cause::NotReady { store: held.id });
+    }
+    if is_late(base) || any_late(stores) {
+        return Some(Cause::ClockTooLate);
+    }
+    if is_miscounted(sources) {
+        return Some(Cause::Counts);
+    }
+    None
+}

@@ -1,0 +1,4 @@
+pub mod Tally
+pub mod Report
+pub mod Text
+pub mod Cause

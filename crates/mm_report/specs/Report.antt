@@ -1,0 +1,34 @@
+-- The report of a run: a row of tallies for each whole step.
+use Rattle.std.specs.Prelude.{◌≡◌, ℕ, zero, suc, ◌-◌, ◌*◌, ◌≤◌, List, [], ◌∷◌, length, take, drop, sum_by, slice_index_or}
+use Rattle.mm_report.specs.declared.tally.Tally.{Tally}
+use Rattle.mm_report.specs.declared.tally.Totals.{Totals}
+
+-- the identifiers of the stores, the steps that there is room for, and for each whole step a tally for each store in order
+pub record Reported : Type 0 where
+  pub ids : List (List ℕ)
+  pub most : ℕ
+  pub steps : List (List Tally)
+
+-- what the last step brought
+abbrev pub last_of : List (List Tally) → List Tally
+last_of steps = slice_index_or steps (length steps - 1) []
+
+-- what all steps brought to all stores; what is held is held as the last step ends
+abbrev pub totals_of : List (List Tally) → Totals
+totals_of steps = record {
+  arrived = sum_by (sum_by (λ x. x.arrived)) steps;
+  lost = sum_by (sum_by (λ x. x.lost)) steps;
+  dumped = sum_by (sum_by (λ x. x.dumped)) steps;
+  held = sum_by (λ x. x.held) (last_of steps);
+}
+
+-- k rows of n tallies, which stand one after the other
+abbrev pub in_rows : ℕ → ℕ → List Tally → List (List Tally)
+in_rows n zero tallies = []
+in_rows n (suc k) tallies = take n tallies ∷ in_rows n k (drop n tallies)
+
+-- there are whole rows, no more than there is room for
+pub record IsRoomy (n most steps len capacity : ℕ) : Type 0 where
+  pub whole : len ≡ steps * n
+  pub within : steps ≤ most
+  pub room : most * n ≤ capacity

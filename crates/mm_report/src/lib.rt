@@ -1,0 +1,15 @@
+//! The report of a run: what each step brought to each store, the text that says it, and why it ended.
+#![tactic(auto)]
+
+mod cause;
+mod report;
+mod tally;
+mod text;
+
+pub use cause::{Cause, LATEST_START, MAX_SOURCES};
+pub use mm_base::NoMemory;
+pub use report::Report;
+pub use tally::{Tally, Totals};
+
+#[cfg(test)]
+mod tests;

@@ -1,0 +1,4 @@
+pub mod Replays
+pub mod Stepping
+pub mod Adding
+pub mod Drawing

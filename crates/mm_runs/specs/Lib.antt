@@ -1,0 +1,4 @@
+pub mod StepRuns
+pub mod Numbers
+pub mod Draws
+pub mod Laws

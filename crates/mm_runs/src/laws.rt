@@ -1,0 +1,27 @@
+//! Laws of whole runs, over the definitions alone.
+ghost use Rattle.mm_runs.specs.Laws.{RunsLoseAsPlanned, RunsLoseThePlansLoss, HalvesMakeStepRuns, DrawsMeetNoRefusal};
+
+use mm_desk::laws::{any_order_loses_alike, events_keep_a_state, orders_dump_the_oldest};
+
+/// Step runs of whole orders, each from the state that the one before left, lose and leave what the plan says, in every store
+/// and step, whatever the order in which a step's offers were made, and whatever the kind of each store. What comes in the
+/// problem is what was offered.
+pub fn runs_lose_as_planned()
+    ensures each { RunsLoseAsPlanned }
+    ensures total { RunsLoseThePlansLoss }
+{
+    any_order_loses_alike();
+    events_keep_a_state();
+    orders_dump_the_oldest();
+}
+
+/// Offers that a store takes, in any order that keeps each recorder's own, and then a dump make a step run.
+pub fn halves_make_step_runs()
+    ensures law { HalvesMakeStepRuns }
+{}
+
+/// Where the plan fits a step's window, none of the step's draws is refused, whatever their order: one draw of one block for each
+/// packet that an order was given.
+pub fn draws_meet_no_refusal()
+    ensures law { DrawsMeetNoRefusal }
+{}

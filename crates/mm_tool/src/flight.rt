@@ -1,0 +1,171 @@
+//! The commands `run` and `fly`: a dump plan is carried out over the sources and the links of two texts.
+
+use crate::command::{FORECAST_HELP, SETUP_HELP, Task, file};
+use crate::files::Files;
+use crate::run::{Fault, Status, read_file};
+use clap::{ArgMatches, Command};
+use mm_flight::{FlyTexts, Outcome, Printed, RunTexts, fly_bytes, run_bytes};
+use std::alloc::{AllocError, Global};
+use std::io::{self, Write};
+use std::sync::Wait;
+use std::thread::Threads;
+
+const PLAN_HELP: &str = "The dump plan; its loss and its cut are not judged";
+
+const SOURCES_HELP: &str = "The packets: lines `source step HEX`";
+
+const LINKS_HELP: &str = "The links: `links N`, then lines `fail LINK SEND`";
+
+const RUN_ABOUT: &str =
+    "Carries out a dump plan with the packets of a file, and reports what came, was lost, dumped and is held";
+
+const FLY_ABOUT: &str = "Plans the dumps, and carries the plan out as `run` does";
+
+const RUN_HELP: &str = "\
+Prints a report:
+  step T ID arrived A lost L dumped D held H
+                              what step T brought to a store, in blocks
+  differs step T ID forecast F came A
+                              another number of packets came than the forecast says
+  total arrived A lost L dumped D held H
+                              the sums; held is what the stores hold after the last step
+  halted step T NUMBER NAME   the run was halted in step T, and the report is of the steps before it
+or one line:
+  refused NUMBER NAME ..      a file was not read or is not what it should be, or the run did not begin
+
+Each line of SOURCES is a packet: the number of its source, 1 to 8, its step, and its octets in hexadecimal
+digits. A packet of step 0 is offered to the stores before the run. LINKS begins with `links N`; each line
+`fail L K` after it lets the K-th send of link L fail.
+
+Example:
+  mm_tool run setup.toml forecast.csv plan.txt sources.hex links.txt
+
+The formats are described in docs/FORMATS.md. Exit status: 0 where the plan is carried out, also where what
+comes is not what the forecast says, 1 otherwise.";
+
+const FLY_HELP: &str = "\
+Prints the plan text that `plan` prints, and then what `run` prints of it.
+
+Example:
+  mm_tool fly setup.toml forecast.csv sources.hex links.txt
+
+The formats are described in docs/FORMATS.md. Exit status: 0 where the plan is carried out, also where what
+comes is not what the forecast says, 1 otherwise.";
+
+/// The files of a run.
+#[derive(Clone, Copy, Debug, PartialEq, Eq)]
+pub struct RunFiles<'a> {
+    setup: &'a str,
+    forecast: &'a str,
+    plan: &'a str,
+    sources: &'a str,
+    links: &'a str,
+}
+
+/// The files of a run whose plan is made.
+#[derive(Clone, Copy, Debug, PartialEq, Eq)]
+pub struct FlyFiles<'a> {
+    setup: &'a str,
+    forecast: &'a str,
+    sources: &'a str,
+    links: &'a str,
+}
+
+/// The words of the command `run`.
+pub fn run_command<'a>(alloc: Global) -> Result<Command<'a>, AllocError> {
+    Command::new(alloc, "run")
+        .about(RUN_ABOUT)
+        .after_help(RUN_HELP)
+        .arg(file(alloc, "SETUP", SETUP_HELP))?
+        .arg(file(alloc, "FORECAST", FORECAST_HELP))?
+        .arg(file(alloc, "PLAN", PLAN_HELP))?
+        .arg(file(alloc, "SOURCES", SOURCES_HELP))?
+        .arg(file(alloc, "LINKS", LINKS_HELP))
+}
+
+/// The words of the command `fly`.
+pub fn fly_command<'a>(alloc: Global) -> Result<Command<'a>, AllocError> {
+    Command::new(alloc, "fly")
+        .about(FLY_ABOUT)
+        .after_help(FLY_HELP)
+        .arg(file(alloc, "SETUP", SETUP_HELP))?
+        .arg(file(alloc, "FORECAST", FORECAST_HELP))?
+        .arg(file(alloc, "SOURCES", SOURCES_HELP))?
+        .arg(file(alloc, "LINKS", LINKS_HELP))
+}
+
+/// What the words of the command `run` ask for.
+pub fn run_task<'a>(files: &ArgMatches<'a>) -> Option<Task<'a>> {
+    Some(Task::Run(RunFiles {
+        setup: files.get_str("SETUP")?,
+        forecast: files.get_str("FORECAST")?,
+        plan: files.get_str("PLAN")?,
+        sources: files.get_str("SOURCES")?,
+        links: files.get_str("LINKS")?,
+    }))
+}
+
+/// What the words of the command `fly` ask for.
+pub fn fly_task<'a>(files: &ArgMatches<'a>) -> Option<Task<'a>> {
+    Some(Task::Fly(FlyFiles {
+        setup: files.get_str("SETUP")?,
+        forecast: files.get_str("FORECAST")?,
+        sources: files.get_str("SOURCES")?,
+        links: files.get_str("LINKS")?,
+    }))
+}
+
+/// What the run of the plan in the files prints.
+pub fn run_plan<'a, R: Threads + Wait + Sync, F: Files>(
+    rt: &R,
+    alloc: Global,
+    files: &mut F,
+    names: RunFiles<'a>,
+) -> Result<Printed, Fault<'a>> {
+    let setup = read_file(alloc, files, names.setup)?;
+    let forecast = read_file(alloc, files, names.forecast)?;
+    let plan = read_file(alloc, files, names.plan)?;
+    let sources = read_file(alloc, files, names.sources)?;
+    let links = read_file(alloc, files, names.links)?;
+    let texts = RunTexts {
+        setup: &setup,
+        forecast: &forecast,
+        plan: &plan,
+        sources: &sources,
+        links: &links,
+    };
+    let printed = run_bytes(rt, alloc, texts)?;
+    Ok(printed)
+}
+
+/// What the plan for the files and its run print.
+pub fn fly<'a, R: Threads + Wait + Sync, F: Files>(
+    rt: &R,
+    alloc: Global,
+    files: &mut F,
+    names: FlyFiles<'a>,
+) -> Result<Printed, Fault<'a>> {
+    let setup = read_file(alloc, files, names.setup)?;
+    let forecast = read_file(alloc, files, names.forecast)?;
+    let sources = read_file(alloc, files, names.sources)?;
+    let links = read_file(alloc, files, names.links)?;
+    let texts = FlyTexts {
+        setup: &setup,
+        forecast: &forecast,
+        sources: &sources,
+        links: &links,
+    };
+    let printed = fly_bytes(rt, alloc, texts)?;
+    Ok(printed)
+}
+
+/// Prints what a run prints.
+pub fn print_run<W: Write>(out: &mut W, printed: &Printed) -> io::Result<Status> {
+    out.write_all(&printed.sheet)?;
+    out.write_all(&printed.report)?;
+    out.write_all(&printed.end)?;
+    match printed.outcome {
+        Outcome::CarriedOut => Ok(Status::Done),
+        Outcome::Stopped => Ok(Status::Refused),
+    }
+}
