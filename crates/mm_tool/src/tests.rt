@@ -82,6 +82,7 @@ pub(crate) fn refuses<R: Abort + AllocGlobal + Threads + Wait + Sync>(
 // `check` prints this line for these files; its status is 0 where the line is `least`.
 pub(crate) fn checks<R: Abort + AllocGlobal + Threads + Wait + Sync>(
     rt: &R,
+    example: &str,
     setup: &str,
     forecast: &str,
     plan: &str,
@@ -89,7 +90,7 @@ pub(crate) fn checks<R: Abort + AllocGlobal + Threads + Wait + Sync>(
 ) {
     let script = format!(in rt.alloc();
         "check S F P\n=== S\n{setup}=== F\n{forecast}=== P\n{plan}"
-    ).expect(rt, "memory");
+    ).expect(rt, example);
     prints(
         rt,
         script.as_str(),

@@ -10,7 +10,7 @@ struct Asked {
     status: u8,
 }
 
-const ASKED: [Asked; 8] = [
+static ASKED: [Asked; 8] = [
     Asked {
         example: "no_request",
         requests: "",
@@ -105,7 +105,7 @@ fn answers_to_requests(rt: HostRuntime) {
     }
 }
 
-const REFUSED: [(&str, &str); 3] = [
+static REFUSED: [(&str, &str); 3] = [
     ("ask S R\n=== S\n[[store\n=== R\n", "refused 27 SetupText\n"),
     ("ask S R\n=== S\n[[store\n", "refused 50 NotRead name R\n"),
     ("ask S R\n=== R\n", "refused 50 NotRead name S\n"),

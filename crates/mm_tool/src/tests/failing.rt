@@ -5,6 +5,7 @@ use crate::files::{Files, ReadFault};
 use crate::run::run_tool;
 use std::alloc::Global;
 use std::io::{self, ErrorKind, Write};
+use std::process::Abort;
 use std::sync::Wait;
 use std::thread::Threads;
 
@@ -17,10 +18,10 @@ const THREE_PACKETS: &str = "\
     1 2 0864C000000E200319000000000000000000000000\n\
     1 3 0864C000000E200319000000000000000000000000\n";
 
-// The files of first_run, and this request, of which the read after so many fails.
+// The files of first_run, a request, and links of which the first send fails. The read after so many fails.
 #[derive(Drop)]
 struct FailingFiles {
-    left: u32,
+    left: usize,
 }
 
 impl Files for FailingFiles {
@@ -35,6 +36,7 @@ impl Files for FailingFiles {
             "R" => ENABLE_SCI,
             "X" => THREE_PACKETS,
             "L" => "links 1\n",
+            "BROKEN" => "links 1\nfail 1 1\n",
             _ => FIRST_PLAN,
         };
         Vec::from_slice(alloc, text.as_bytes()).map_err(|_| ReadFault::NoMemory)
@@ -44,12 +46,23 @@ impl Files for FailingFiles {
 // A writer that refuses the write after so many.
 #[derive(Drop)]
 pub(crate) struct FailingWriter {
-    pub(crate) left: u32,
+    left: u32,
+    has_refused: bool,
+}
+
+impl FailingWriter {
+    pub(crate) fn after(writes: u32) -> FailingWriter {
+        FailingWriter {
+            left: writes,
+            has_refused: false,
+        }
+    }
 }
 
 impl Write for FailingWriter {
     fn write(&mut self, buf: &[u8]) -> io::Result<usize> {
         if self.left == 0 {
+            self.has_refused = true;
             return Err(io::Error::from(ErrorKind::BrokenPipe));
         }
         self.left -= 1;
@@ -61,97 +74,70 @@ impl Write for FailingWriter {
     }
 }
 
-// A command of first_run, what is printed where the read after so many fails, and the status.
-static PRINTED: [(&[&str], u32, &str, u8); 11] = [
-    (
-        &["check", "S", "F", "P"],
-        0,
-        "refused 50 NotRead name S\n",
-        1,
-    ),
-    (
-        &["check", "S", "F", "P"],
-        1,
-        "refused 50 NotRead name F\n",
-        1,
-    ),
-    (
-        &["check", "S", "F", "P"],
-        2,
-        "refused 50 NotRead name P\n",
-        1,
-    ),
-    (&["check", "S", "F", "P"], 3, "least 2\n", 0),
-    (&["plan", "S", "F"], 0, "refused 50 NotRead name S\n", 1),
-    (&["plan", "S", "F"], 1, "refused 50 NotRead name F\n", 1),
-    (
-        &["run", "S", "F", "P", "X", "L"],
-        3,
-        "refused 50 NotRead name X\n",
-        1,
-    ),
-    (
-        &["run", "S", "F", "P", "X", "L"],
-        4,
-        "refused 50 NotRead name L\n",
-        1,
-    ),
-    (
-        &["fly", "S", "F", "X", "L"],
-        3,
-        "refused 50 NotRead name L\n",
-        1,
-    ),
-    (&["ask", "S", "R"], 0, "refused 50 NotRead name S\n", 1),
-    (&["ask", "S", "R"], 1, "refused 50 NotRead name R\n", 1),
+// Commands with their files in the order in which they are read, the fewest writes of what is printed, and the status,
+// where nothing fails. A run is printed as the plan text where it was made, the report, and the last line where it was halted.
+static COMMANDS: [(&[&str], u32, u8); 9] = [
+    (&["plan", "S", "F"], 1, 0),
+    (&["check", "S", "F", "P"], 1, 0),
+    (&["chart", "S", "F", "P"], 1, 0),
+    (&["run", "S", "F", "P", "X", "L"], 1, 0),
+    (&["run", "S", "F", "P", "X", "BROKEN"], 2, 1),
+    (&["fly", "S", "F", "X", "L"], 2, 0),
+    (&["fly", "S", "F", "X", "BROKEN"], 3, 1),
+    (&["ask", "S", "R"], 1, 0),
+    (&["plan", "S", "-"], 1, 1),
 ];
 
-#[test]
-fn files_that_fail(rt: HostRuntime) {
+// Each file of a command in turn is not read, and its name is told.
+fn reads_fail<R: Abort + AllocGlobal + Threads + Wait + Sync>(rt: &R, words: &[&str]) {
     let alloc = rt.alloc();
-    for (words, left, want, status) in &PRINTED {
+    for (left, name) in words.iter().skip(1).enumerate() {
         let (mut out, mut err) = (Vec::new(alloc), Vec::new(alloc));
-        let mut files = FailingFiles { left: *left };
-        let got = run_tool(&rt, alloc, words, &mut files, &mut out, &mut err);
-        assert_eq!(rt; out.as_slice(), want.as_bytes());
-        assert_eq!(rt; got, *status);
-        assert!(rt; err.is_empty());
+        let mut files = FailingFiles { left };
+        let status = run_tool(rt, alloc, words, &mut files, &mut out, &mut err);
+        let want = format!(in alloc; "refused 50 NotRead name {name}\n").expect(rt, "memory");
+        let is_told = out.as_slice() == want.as_bytes();
+        assert!(rt; is_told && err.is_empty() && status == 1, "for {name}");
     }
 }
 
-// The status where the write after so many fails.
-fn status_of<R: Threads + Wait + Sync>(rt: &R, alloc: Global, words: &[&str], writes: u32) -> u8 {
-    let mut err = Vec::new(alloc);
-    run_tool(
-        rt,
-        alloc,
-        words,
-        &mut FailingFiles { left: 5 },
-        &mut FailingWriter { left: writes },
-        &mut err,
-    )
+#[test]
+fn each_file_that_is_not_read(rt: HostRuntime) {
+    for (words, _writes, _status) in &COMMANDS {
+        reads_fail(&rt, words);
+    }
+}
+
+// No command writes as often for the first run.
+const MANY_WRITES: u32 = 100;
+
+// How many writes of a command's output can be refused, each in turn; its status is 1 each time, and this one then.
+fn refused_writes<R: Abort + AllocGlobal + Threads + Wait + Sync>(
+    rt: &R,
+    words: &[&str],
+    status: u8,
+) -> u32 {
+    let alloc = rt.alloc();
+    for writes in 0..MANY_WRITES {
+        let mut files = FailingFiles { left: words.len() };
+        let (mut out, mut err) = (FailingWriter::after(writes), Vec::new(alloc));
+        let got = run_tool(rt, alloc, words, &mut files, &mut out, &mut err);
+        let want = if out.has_refused { 1 } else { status };
+        assert!(rt; got == want && err.is_empty(), "after {writes} writes");
+        if !out.has_refused {
+            return writes;
+        }
+    }
+    MANY_WRITES
 }
 
 #[test]
-fn writers_that_fail(rt: HostRuntime) {
-    let alloc = rt.alloc();
-    assert_eq!(rt; status_of(&rt, alloc, &["check", "S", "F", "P"], 0), 1);
-    assert_eq!(rt; status_of(&rt, alloc, &["check", "S", "F", "P"], 1), 0);
-    assert_eq!(rt; status_of(&rt, alloc, &["plan", "S", "F"], 0), 1);
-    assert_eq!(rt; status_of(&rt, alloc, &["plan", "S", "F"], 1), 0);
-    // A run is printed in one piece, and a plan and its run in two.
-    assert_eq!(rt;
-        status_of(&rt, alloc, &["run", "S", "F", "P", "X", "L"], 0),
-        1
-    );
-    assert_eq!(rt;
-        status_of(&rt, alloc, &["run", "S", "F", "P", "X", "L"], 1),
-        0
-    );
-    assert_eq!(rt; status_of(&rt, alloc, &["fly", "S", "F", "X", "L"], 0), 1);
-    assert_eq!(rt; status_of(&rt, alloc, &["fly", "S", "F", "X", "L"], 1), 1);
-    assert_eq!(rt; status_of(&rt, alloc, &["fly", "S", "F", "X", "L"], 2), 0);
-    assert_eq!(rt; status_of(&rt, alloc, &["ask", "S", "R"], 0), 1);
-    assert_eq!(rt; status_of(&rt, alloc, &["ask", "S", "R"], 1), 0);
-    assert_eq!(rt; status_of(&rt, alloc, &["plan", "S", "-"], 0), 1);
+fn each_write_that_fails(rt: HostRuntime) {
+    for (words, fewest, status) in &COMMANDS {
+        let writes = refused_writes(&rt, words, *status);
+        assert!(rt;
+            *fewest <= writes && writes < MANY_WRITES,
+            "{writes} writes, not {fewest}"
+        );
+    }
 }

@@ -33,7 +33,7 @@ struct Planned {
     verdict: &'static str,
 }
 
-const PLANNED: [Planned; 9] = [
+static PLANNED: [Planned; 9] = [
     Planned {
         example: "first_run",
         setup: SCI,
@@ -135,7 +135,14 @@ fn plans<R: Abort + AllocGlobal + Threads + Wait + Sync>(rt: &R, row: &Planned) 
     let example = row.example;
     assert_eq!(rt; status, 0, "for {example}");
     assert!(rt; is_planned(plan.as_str(), row), "for {example}: {plan}");
-    checks(rt, row.setup, row.forecast, plan.as_str(), row.verdict)
+    checks(
+        rt,
+        example,
+        row.setup,
+        row.forecast,
+        plan.as_str(),
+        row.verdict,
+    )
 }
 
 #[test]
@@ -145,7 +152,7 @@ fn plans_of_the_examples(rt: HostRuntime) {
     }
 }
 
-const REFUSED: [(&str, &str); 5] = [
+static REFUSED: [(&str, &str); 5] = [
     (
         "plan S F\n=== S\n[[store\n=== F\n",
         "refused 27 SetupText\n",

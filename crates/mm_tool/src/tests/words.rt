@@ -5,7 +5,7 @@ use super::{FIRST_PLAN, SCI, THREE_STEPS, prints};
 use crate::files::ReadFault;
 use crate::run::{refuse_input, run_script};
 
-const LINES: [&str; 19] = [
+static LINES: [&str; 19] = [
     "",
     "\n",
     "plan S\n",
@@ -30,12 +30,11 @@ const LINES: [&str; 19] = [
 #[test]
 fn command_lines(rt: HostRuntime) {
     let alloc = rt.alloc();
-    for line in LINES {
+    for line in &LINES {
         let (mut out, mut err) = (Vec::new(alloc), Vec::new(alloc));
         let status = run_script(&rt, alloc, line.as_bytes(), &mut out, &mut err);
-        assert_eq!(rt; status, 2, "for {line}");
-        assert!(rt; out.is_empty(), "for {line}");
-        assert!(rt; !err.is_empty(), "for {line}");
+        let is_told = out.is_empty() && !err.is_empty();
+        assert!(rt; status == 2 && is_told, "for {line}");
     }
 }
 
@@ -43,17 +42,11 @@ fn command_lines(rt: HostRuntime) {
 fn a_first_line_that_is_not_utf8(rt: HostRuntime) {
     let alloc = rt.alloc();
     let (mut out, mut err) = (Vec::new(alloc), Vec::new(alloc));
-    assert_eq!(rt;
-        run_script(&rt, alloc, b"plan \xff F\n", &mut out, &mut err),
-        2
-    );
-    assert!(rt; out.is_empty());
-    assert!(rt; !err.is_empty());
-    let mut refusing = FailingWriter { left: 0 };
-    assert_eq!(rt;
-        run_script(&rt, alloc, b"plan \xff F\n", &mut out, &mut refusing),
-        1
-    );
+    let status = run_script(&rt, alloc, b"plan \xff F\n", &mut out, &mut err);
+    assert!(rt; status == 2 && out.is_empty() && !err.is_empty());
+    let mut refusing = FailingWriter::after(0);
+    let status = run_script(&rt, alloc, b"plan \xff F\n", &mut out, &mut refusing);
+    assert!(rt; status == 1 && out.is_empty());
 }
 
 // What stands before the first file is passed over, and of two files of one name the first is read.
@@ -69,6 +62,7 @@ fn files_of_a_script(rt: HostRuntime) {
 #[test]
 fn input_that_is_not_read(rt: HostRuntime) {
     let mut out = Vec::new(rt.alloc());
-    assert_eq!(rt; refuse_input(&mut out, ReadFault::NotRead), 1);
-    assert!(rt; out.as_slice() == b"refused 50 NotRead name -\n".as_slice());
+    let status = refuse_input(&mut out, ReadFault::NotRead);
+    let is_told = out.as_slice() == b"refused 50 NotRead name -\n".as_slice();
+    assert!(rt; status == 1 && is_told);
 }
