@@ -3,14 +3,17 @@
 # - a fenced block under `<!-- file: PATH -->` with that file, whole;
 # - a fenced block under `<!-- output: COMMAND -->` with what the command prints; it must end with status 0, or with N under
 #   `<!-- output N: COMMAND -->`. In the block a line `...` stands for any lines, and what follows two spaces is a note;
+# - a fenced block under `<!-- session -->`: a line `$ COMMAND`, and below it what that command prints, in the same way; each must
+#   end with status 0, or with N under `<!-- session N -->`;
 # - the commands of a fenced block in which a line begins with `./mm_tool ` are run, and each must end with status 0, or with N
 #   under `<!-- status N -->`;
 # - each file that a link or a path of any document names is there;
-# - each name in code style in a crate's README stands in the sources of that crate, or of another that it names; so does each
-#   contract in README's table of crates; and each promise of docs/PROMISES.md names something of its crates;
-# - each refusal of mm_base's table stands in docs/FORMATS.md with its number and name, and the test and the crate that
-#   'Where each refusal is met' names for a refusal are there.
-# The commands of one document are run one after another in one new folder, in which the top of the repository is seen.
+# - each name in code style in a crate's README stands in the sources of that crate, or of another that it names; README's table of
+#   crates has those of crates.txt; and each promise of docs/PROMISES.md names something of its crates;
+# - each refusal of mm_base's table has one row in the tables of refusals of docs/FORMATS.md, with its number, its name and the
+#   words of mm_words; and the test and the crate that 'Where each refusal is met' names for a refusal are there.
+# The commands of one document are run one after another in one new folder, in which the top of the repository is seen, but not its
+# folder out.
 # The program must be built from the sources that are there: `./mm_tool --help` builds it. Prints one line where all is well.
 set -u
 top=$(cd "$(dirname "${BASH_SOURCE[0]}")/.." && pwd)
@@ -29,12 +32,12 @@ is_built() {
     \( -name '*.rt' -o -name '*.antt' \) -print -quit)" ]
 }
 
-# The lines of $work/block without notes, in `wanted`.
+# The lines of $work/wanted without notes, in `wanted`.
 read_wanted() {
-  mapfile -t wanted < <(sed 's/  .*$//' "$work/block")
+  mapfile -t wanted < <(sed 's/  .*$//' "$work/wanted")
 }
 
-# Whether the lines of $work/printed are those of $work/block.
+# Whether the lines of $work/printed are those of $work/wanted.
 is_printed() {
   local got at=0 skips=0 line wanted
   read_wanted
@@ -66,11 +69,9 @@ check_file() {
   fi
 }
 
-# Takes a marker `output: COMMAND` or `output N: COMMAND`.
-check_output() {
-  local command=${1#*: } wants=${1%%:*} status
-  wants=${wants#output} wants=${wants# } wants=${wants:-0}
-  blocks=$((blocks + 1))
+# Takes a command and the status with which it must end; what it must print stands in $work/wanted.
+check_printed() {
+  local command=$1 wants=$2 status
   run "$command"
   status=$?
   if [ "$status" != "$wants" ]; then
@@ -81,6 +82,32 @@ check_output() {
     read_wanted
     diff <(printf '%s\n' "${wanted[@]}") "$work/printed" | head -n 20
   fi
+}
+
+# Takes a marker `output: COMMAND` or `output N: COMMAND`.
+check_output() {
+  local wants=${1%%:*}
+  wants=${wants#output} wants=${wants# }
+  blocks=$((blocks + 1))
+  cp "$work/block" "$work/wanted"
+  check_printed "${1#*: }" "${wants:-0}"
+}
+
+# Takes a marker `session` or `session N`.
+check_session() {
+  local wants=${1#session} line command=""
+  wants=${wants# } wants=${wants:-0}
+  blocks=$((blocks + 1))
+  while IFS= read -r line; do
+    if [ "${line#\$ }" = "$line" ]; then
+      printf '%s\n' "$line" >>"$work/wanted"
+    else
+      if [ -n "$command" ]; then check_printed "$command" "$wants"; fi
+      command=${line#\$ }
+      : >"$work/wanted"
+    fi
+  done <"$work/block"
+  check_printed "$command" "$wants"
 }
 
 # Takes the status with which each command of the block must end.
@@ -106,6 +133,7 @@ check_block() {
   case $marker in
     file:*) check_file "${marker#file: }" ;;
     output*) when_built check_output "$marker" ;;
+    session*) when_built check_session "$marker" ;;
     status*) when_built check_commands "${marker#status }" ;;
     *) if grep -q '^\./mm_tool ' "$work/block"; then when_built check_commands 0; fi ;;
   esac
@@ -113,7 +141,7 @@ check_block() {
 }
 
 check_blocks() {
-  local line fenced=0 number=0 marker="" marked='^<!-- ((file|output|output [0-9]+): .*|status [0-9]+) -->$'
+  local line fenced=0 number=0 marker="" marked='^<!-- ((file|output|output [0-9]+): .*|(status|session) [0-9]+|session) -->$'
   while IFS= read -r line || [ -n "$line" ]; do
     number=$((number + 1))
     case $fenced$line in
@@ -172,15 +200,11 @@ check_crate_names() {
   done < <(names <"$top/crates/$crate/README.md")
 }
 
-# The contracts that README's table of crates names, one row for each crate.
-check_table_names() {
-  local row name folders
-  while IFS= read -r row; do
-    mapfile -t folders < <(cut -d '|' -f 2 <<<"$row" | crates_named)
-    while IFS= read -r name; do
-      stands_in "$name" "${folders[@]}" || fail "README.md: $name stands in no source of ${folders[*]##*/}"
-    done < <(cut -d '|' -f 3 <<<"$row" | names)
-  done < <(grep -E '^\| \[`[a-z_]+`\]\(crates/' "$top/README.md")
+# README's table of crates: first a row for each crate that stands above the line `# Tools` of crates.txt, in that order.
+check_crate_rows() {
+  sed '/^# Tools/q' "$top/crates.txt" | grep -oE '^[a-z_0-9]+' >"$work/crates"
+  grep -E '^\| \[`[a-z_0-9]+`\]\(crates/' "$top/README.md" | cut -d '`' -f 2 | head -n "$(wc -l <"$work/crates")" >"$work/rows"
+  diff "$work/crates" "$work/rows" || fail "README.md: the table of crates has other rows than crates.txt"
 }
 
 # Each promise of docs/PROMISES.md whose heading names a crate.
@@ -196,13 +220,38 @@ check_promises() {
   done < <(grep -E '^## .*`mm_' "$top/docs/PROMISES.md")
 }
 
-# The refusals of mm_base's table, in the tables of causes of docs/FORMATS.md.
+# The table of mm_base: number, name and case of each refusal.
+refusals() {
+  sed -nE 's/^ *Refusal::([A-Za-z0-9]+) => \(([0-9]+), "([A-Za-z0-9]+)"\),$/\2 \3 \1/p' "$top/crates/mm_base/src/refusal.rt"
+}
+
+# The tables of mm_words: the function, the case and its words, separated by tabs.
+words() {
+  awk '
+    /^fn / { table = $2; sub(/\(.*/, "", table); name = "" }
+    /^ *Refusal::[A-Za-z0-9]+ =>/ { name = $1; sub(/.*::/, "", name) }
+    name != "" && match($0, /".*"/) {
+      printf "%s\t%s\t%s\n", table, name, substr($0, RSTART + 1, RLENGTH - 2)
+      name = ""
+    }' "$top/crates/mm_words/src/words.rt"
+}
+
+# The words that a table of mm_words has for a refusal.
+words_of() {
+  awk -F '\t' -v table="$1" -v name="$2" '$1 == table && $2 == name { print $3 }' "$work/words"
+}
+
+# The tables of refusals in docs/FORMATS.md: one row for each refusal, with its number, its name and its words.
 check_refusals() {
-  local refusal
-  sed '/^## Where each refusal is met/q' "$top/docs/FORMATS.md" >"$work/causes"
-  while IFS= read -r refusal; do
-    grep -qE "^\|.*\`$refusal[ \`]" "$work/causes" || fail "docs/FORMATS.md: no row for $refusal"
-  done < <(sed -nE 's/^ *Refusal::[A-Za-z0-9]+ => \(([0-9]+), "([A-Za-z0-9]+)"\),$/\1 \2/p' "$top/crates/mm_base/src/refusal.rt")
+  local number name case row
+  words >"$work/words"
+  awk '/^## /{inside = /^## Refusals/} inside && /^\| `[0-9]/' "$top/docs/FORMATS.md" >"$work/rows"
+  [ "$(wc -l <"$work/rows")" = "$(refusals | wc -l)" ] || fail "docs/FORMATS.md: not one row for each refusal"
+  while read -r number name case; do
+    row=$(grep -E "^\| \`$number $name[ \`]" "$work/rows")
+    [ "${row#*\` }" = "| $(words_of expected "$case") | $(words_of advice "$case") |" ] ||
+      fail "docs/FORMATS.md: the row of $number $name has other words than mm_words"
+  done < <(refusals)
 }
 
 # The tests that docs/FORMATS.md names for refusals.
@@ -219,7 +268,7 @@ if is_built; then is_ready=1; else is_ready=0; fi
 for readme in "$top"/crates/*/README.md; do
   check_crate_names "$(basename "$(dirname "$readme")")"
 done
-check_table_names
+check_crate_rows
 check_promises
 check_refusals
 check_refusal_tests
@@ -230,6 +279,7 @@ while IFS= read -r document; do
       room=$work/$(printf '%s' "$document" | tr / _)
       mkdir "$room"
       ln -s "$top"/* "$room/"
+      rm -f "$room/out"
       check_blocks
       ;;
   esac

@@ -1,0 +1,8 @@
+//! The words of each refusal for people: what was expected, and what to do.
+#![tactic(auto)]
+
+#[cfg(test)]
+mod tests;
+mod words;
+
+pub use words::Words;
