@@ -1,5 +1,5 @@
 -- What a step that was broken off leaves at a store.
-use Rattle.std.proofs.Common.{◌≡◌, ◌≢◌, ◌⊎◌, inl, inr, ℕ, zero, suc, ◌+◌, ◌<◌, ◌≤◌, ◌^◌, Bool, true, false, cond, eqb, List, [], ◌∷◌, ◌++◌, length, map, filter, All, refl, sym, ap, subst, ◌∙◌, arith, append_assoc}
+use Rattle.std.proofs.Common.{◌≡◌, ◌≢◌, ◌⊎◌, inl, inr, ℕ, zero, suc, ◌+◌, ◌<◌, ◌≤◌, ◌^◌, Bool, true, false, cond, eqb, List, [], ◌∷◌, ◌++◌, length, map, filter, All, Vec, Global, refl, sym, ap, subst, ◌∙◌, arith, append_assoc}
 use Rattle.std.specs.Prelude.{Option, Some, None, IfSome, IfNone, IsTrue, sum_by, slice_index_or}
 use Rattle.std.specs.List.{AllZip}
 use Rattle.std.proofs.lemmas.Bool.{cases_lt}
@@ -46,7 +46,7 @@ use Rattle.mm_exec.proofs.Coming.{timed_list}
 use Rattle.mm_exec.proofs.Parts.{as_many}
 
 -- what an order broke for was at worst a link
-IsMild : Option OrderBroken → Type 0
+abbrev IsMild : Option OrderBroken → Type 0
 IsMild None = Unit {0}
 IsMild (Some broken.LinkFailed) = Unit {0}
 IsMild why = ⊥
@@ -65,26 +65,28 @@ mild_both (Some broken.LinkFailed) (Some why) mild = (tt, mild)
 -- nor is that of an order among those of one link
 mild_there : (course : ℕ → Course) (k : ℕ) (ks : List ℕ) → IsMild (worst_of (map (λ c. c.why) (map course ks))) → 0 < times k ks → IsMild (course k).why
 mild_there course k [] mild some = absurd (omega (arith, some))
-mild_there course k (x ∷ ks) mild some = by_test (mild_both (course x).why (worst_of (map (λ c. c.why) (map course ks))) mild) (eqb_tells x k)
+mild_there course k (x ∷ ks) mild some = by_test (mild_there course k ks) (mild_both (course x).why (worst_of (map (λ c. c.why) (map course ks))) mild) (eqb_tells x k)
   where
-    by_test : IsMild (course x).why × IsMild (worst_of (map (λ c. c.why) (map course ks))) → ((eqb x k ≡ true) × (x ≡ k)) ⊎ ((eqb x k ≡ false) × (x ≢ k)) → IsMild (course k).why
-    by_test both (inl same) = subst (λ (y : ℕ). IsMild (course y).why) same.1 both.0
-    by_test both (inr other) =
+    by_test : (IsMild (worst_of (map (λ c. c.why) (map course ks))) → 0 < times k ks → IsMild (course k).why)
+        → IsMild (course x).why × IsMild (worst_of (map (λ c. c.why) (map course ks))) → ((eqb x k ≡ true) × (x ≡ k)) ⊎ ((eqb x k ≡ false) × (x ≢ k)) → IsMild (course k).why
+    by_test rest both (inl same) = subst (λ (y : ℕ). IsMild (course y).why) same.1 both.0
+    by_test rest both (inr other) =
         let more : times k (x ∷ ks) ≡ cond {A = ℕ} (eqb x k) 1 0 + times k ks = sum_by-cons (λ (y : ℕ). cond {A = ℕ} (eqb y k) 1 0) x ks in
-        let same : times k (x ∷ ks) ≡ times k ks = rw other.0 at more in
-        mild_there course k ks both.1 (omega (arith, some, same))
+        let none_here : cond {A = ℕ} (eqb x k) 1 0 ≡ 0 = ap (λ (b : Bool). cond {A = ℕ} b 1 0) other.0 in
+        rest both.1 (omega (arith, some, more, none_here))
 
 -- nor is that of an order of any link
 mild_anywhere : (course : ℕ → Course) (k : ℕ) (places : List (List ℕ)) → IsMild (worst_of (map (λ ks. worst_of (map (λ c. c.why) (map course ks))) places))
     → 0 < sum_by (times k) places → IsMild (course k).why
 mild_anywhere course k [] mild some = absurd (omega (arith, some))
 mild_anywhere course k (ks ∷ more) mild some =
-    by_count (mild_both (worst_of (map (λ c. c.why) (map course ks))) (worst_of (map (λ ks. worst_of (map (λ c. c.why) (map course ks))) more)) mild) (cases_lt 0 (times k ks))
+    by_count (mild_anywhere course k more) (mild_both (worst_of (map (λ c. c.why) (map course ks))) (worst_of (map (λ ks. worst_of (map (λ c. c.why) (map course ks))) more)) mild) (cases_lt 0 (times k ks))
   where
-    by_count : IsMild (worst_of (map (λ c. c.why) (map course ks))) × IsMild (worst_of (map (λ ks. worst_of (map (λ c. c.why) (map course ks))) more))
+    by_count : (IsMild (worst_of (map (λ ks. worst_of (map (λ c. c.why) (map course ks))) more)) → 0 < sum_by (times k) more → IsMild (course k).why)
+        → IsMild (worst_of (map (λ c. c.why) (map course ks))) × IsMild (worst_of (map (λ ks. worst_of (map (λ c. c.why) (map course ks))) more))
         → (0 < times k ks) ⊎ (times k ks ≤ 0) → IsMild (course k).why
-    by_count both (inl here) = mild_there course k ks both.0 here
-    by_count both (inr none) = mild_anywhere course k more both.1 (omega (arith, some, none, sum_by-cons (times k) ks more))
+    by_count rest both (inl here) = mild_there course k ks both.0 here
+    by_count rest both (inr none) = rest both.1 (omega (arith, some, none, sum_by-cons (times k) ks more))
 
 -- offers of more packets
 offers-append : (e : Errand) (k : ℕ) (ps qs : List SpacePacket) → offers e k (ps ++ qs) ≡ offers e k ps ++ offers e k qs
@@ -144,11 +146,11 @@ first_turns gives e (x ∷ xs) (y ∷ ys) (turn ∷ turns) k had within =
 
 -- a cause that is none of lists that disagree
 agrees : (step : ℕ) (agree : Bool) (why : Option Fault) (cause : Cause) → cause_in step agree why ≡ Some cause → cause ≢ LogMismatch step → IsTrue agree
-agrees step true why cause is other = tt
+agrees step true why cause is other = refl
 agrees step false why cause is other = absurd (other (sym (cc is)))
 
 dump_agrees : (step : ℕ) (agree : Bool) (why : Option OrderBroken) (cause : Cause) → dump_cause step agree why ≡ Some cause → cause ≢ LogMismatch step → IsTrue agree
-dump_agrees step true why cause is other = tt
+dump_agrees step true why cause is other = refl
 dump_agrees step false why cause is other = absurd (other (sym (cc is)))
 
 -- recorders know nothing of links
@@ -164,7 +166,7 @@ link_failed step false why is = absurd (cc is)
 link_failed step true None is = absurd (cc is)
 link_failed step true (Some broken.Refused) is = absurd (cc is)
 link_failed step true (Some broken.NoMemory) is = absurd (cc is)
-link_failed step true (Some broken.LinkFailed) is = (tt, tt)
+link_failed step true (Some broken.LinkFailed) is = (refl, tt)
 
 -- offers at a moment that fits have moments that fit
 timed_offers_of : (e : Errand) (k : ℕ) (gives : List (List SpacePacket)) → e.now < 2 ^ 64 → AreTimed (map (offers e k) gives)
@@ -186,7 +188,7 @@ left_alone e gives k s = record {
 
 -- a store at which all offers were made, and then some calls
 module _ (e : Errand) (gives : List (List SpacePacket)) (k : ℕ) (s mid : State) (first : HasRecorded e gives k s mid) where
-  then_calls : (t : State) (calls : List Entry) → IsRun mid calls t → AreOneOrder calls → WentByOneLog e gives k s t
+  abbrev then_calls : (t : State) (calls : List Entry) → IsRun mid calls t → AreOneOrder calls → WentByOneLog e gives k s t
   then_calls t calls run order = record {
     firsts = map (offers e k) gives;
     are = all_first e k gives;
@@ -197,7 +199,7 @@ module _ (e : Errand) (gives : List (List SpacePacket)) (k : ℕ) (s mid : State
     order = order;
   }
 
-  then_tried : (t : State) (taken : ℕ) (c : Course) → HasTried taken k c mid t → WentByOneLog e gives k s t
+  abbrev then_tried : (t : State) (taken : ℕ) (c : Course) → HasTried taken k c mid t → WentByOneLog e gives k s t
   then_tried t taken c tried = then_calls t c.calls tried.run (by_count (cases_lt 0 taken))
     where
       by_count : (0 < taken) ⊎ (taken ≤ 0) → AreOneOrder c.calls
@@ -250,8 +252,8 @@ module _ {S L : Type 0} (gives : S → ℕ → List SpacePacket) (sent : L → L
   inside held same = omega (arith, within, as_many held before.stores.items same, length-map held (λ (h : Held). h.state))
 
   -- the state of a store of a vector that is the one before
-  same_held : (P : State → Type 0) (xs ys : Vec Held) → ys ≡ xs → P (opening_at (states_of xs.items) k) → P (opening_at (states_of ys.items) k)
-  same_held P xs ys same holds = subst (λ (v : Vec Held). P (opening_at (states_of v.items) k)) (sym same) holds
+  same_held : (P : State → Type 0) (xs ys : Vec Held Global) → ys ≡ xs → P (opening_at (states_of xs.items) k) → P (opening_at (states_of ys.items) k)
+  same_held P xs ys same holds = subst (λ (v : Vec Held Global). P (opening_at (states_of v.items) k)) (sym same) holds
 
   -- broken off by recorders
   by_recorders : BrokeRecording gives e before off → off.cause ≢ LogMismatch step → WentByOneLog e came k old new
@@ -336,7 +338,7 @@ module _ {S L : Type 0} (gives : S → ℕ → List SpacePacket) (sent : L → L
 -- broken off for a link, nothing is left in the sources
 pub nothing_left : {S L : Type 0} (gives : S → ℕ → List SpacePacket) (sent : L → List Sent) (failed : L → ℕ) (e : Errand) (orders : List Order) (before : Cargo S L)
     (off : BrokenOff S L) → off.cause ≡ LinkFailed e.step → BrokeStep gives sent failed e orders before off → All (λ s. gives s e.step ≡ []) off.cargo.sources.items
-nothing_left gives sent failed e orders before off is_link (inl recording) = by_how recording.how
+nothing_left {S = S} gives sent failed e orders before off is_link (inl recording) = by_how recording.how
   where
     by_how : ((off.cargo.stores ≡ before.stores) × (off.cargo.sources ≡ before.sources) × (off.cause ≡ NoMemory e.step))
         ⊎ ((left : Recording S) × Records gives e before.stores.items before.sources.items left
@@ -344,8 +346,8 @@ nothing_left gives sent failed e orders before off is_link (inl recording) = by_
         → All (λ s. gives s e.step ≡ []) off.cargo.sources.items
     by_how (inl (stores, sources, cause)) = absurd (cc (cause, is_link))
     by_how (inr (left, records, stores, sources, cause)) = absurd (no_link e.step left.agree left.broken (cause ∙ ap (λ (c : Cause). Some c) is_link))
-nothing_left gives sent failed e orders before off is_link (inr dumping) =
-    subst (λ (v : Vec S). All (λ s. gives s e.step ≡ []) v.items) (sym dumping.broke.sources) dumping.recorded.nothing_left
+nothing_left {S = S} gives sent failed e orders before off is_link (inr dumping) =
+    subst (λ (v : Vec S Global). All (λ s. gives s e.step ≡ []) v.items) (sym dumping.broke.sources) dumping.recorded.nothing_left
 
 -- the laws
 pub steps_are_logs : {S L : Type 0} (gives : S → ℕ → List SpacePacket) (sent : L → List Sent) (failed : L → ℕ) → BrokenStepsAreLogs gives sent failed

@@ -1,5 +1,5 @@
 //! The run of a dump plan.
-ghost use Rattle.std.specs.Prelude.{◌≡◌, ◌-◌, ◌<◌, ◌^◌, [], All, IfOk, IfErr, OnOk, vec_len};
+ghost use Rattle.std.specs.Prelude.{◌≡◌, ◌-◌, ◌<◌, ◌^◌, [], All, length, IfOk, IfErr, OnOk};
 ghost use Rattle.mm_plan.specs.Table.{amount};
 ghost use Rattle.mm_memory.specs.Holdings.{AreHeld};
 ghost use Rattle.mm_ready.specs.Ready.{outset, MayBegin};
@@ -55,7 +55,7 @@ fn carry_cargo<S: Source + Send + Drop, L: Link + Send + Drop, R: Threads + Wait
     requires links { All (λ l. L.failed l < 2 ^ 64 - 1) cargo.links.items }
     ensures ok { IfOk result (HasCarried S.gives L.sent L.failed
         (mission S.gives problem.now plan.now base (record { stores = cargo.stores.items; routes = control.now }) cargo.sources.items) cargo) }
-    ensures began { OnOk result (MayBegin (outset problem.now plan.now cargo.stores.items base (vec_len cargo.sources) (vec_len cargo.links))) }
+    ensures began { OnOk result (MayBegin (outset problem.now plan.now cargo.stores.items base (length cargo.sources.items) (length cargo.links.items))) }
     ensures err { IfErr result (IsEnded S.gives L.sent L.failed
         (mission S.gives problem.now plan.now base (record { stores = cargo.stores.items; routes = control.now }) cargo.sources.items) plan.now cargo) }
 {
