@@ -49,7 +49,7 @@ came_at m s t store first last =
     ∙ get_or-map-range_with_len (λ r. came m r t) 0 n s s 0 store (omega arith)
 
 -- offers of packets at a moment that fits
-timed_list : (now : ℕ) (ps : List SpacePacket) → now < 2 ^ 64 → All HasTimes (map (λ p. Offer now p) ps)
+pub timed_list : (now : ℕ) (ps : List SpacePacket) → now < 2 ^ 64 → All HasTimes (map (λ p. Offer now p) ps)
 timed_list now [] fits = All-nil HasTimes
 timed_list now (p ∷ ps) fits = All-cons HasTimes (Offer now p) (map (λ p. Offer now p) ps) fits (timed_list now ps fits)
 

@@ -57,7 +57,7 @@ module _ {S L : Type 0} (gives : S → ℕ → List SpacePacket) (sent : L → L
   -- the stores are those of the memory, in order
   ended_labels : IsEnded gives sent failed m plan cargo stopped → labels_of stopped.off.cargo.stores.items ≡ labels_of m.memory.stores
   ended_labels (inl in_step) =
-      in_step.off.labels ∙ ap labels_of in_step.gone.held_is ∙ in_step.gone.went.labels (in_step.step - 1) (omega arith)
+      in_step.0.off.labels ∙ ap labels_of in_step.0.gone.held_is ∙ in_step.0.gone.went.labels (in_step.0.step - 1) (omega arith)
   ended_labels (inr before) = ap (λ (c : Cargo S L). labels_of c.stores.items) before.0.cargo_is ∙ ap labels_of lifted
 
   pub ended_ids : IsEnded gives sent failed m plan cargo stopped → map (λ (h : Held). h.id) stopped.off.cargo.stores.items ≡ map (λ (h : Held). h.id) m.memory.stores
@@ -68,24 +68,25 @@ module _ {S L : Type 0} (gives : S → ℕ → List SpacePacket) (sent : L → L
       → IsHalted gives sent failed m plan cargo.sources.items cargo.links.items memory
       (record { cause = stopped.off.cause; report = stopped.report; spent = stopped.off.spent; sources = stopped.off.cargo.sources; links = stopped.off.cargo.links })
   halted_of memory back (inl in_step) = inl (
-    in_step.step,
-    in_step.off.cause,
+    in_step.0.step,
+    in_step.0.off.cause,
     record {
-      first = in_step.first;
-      last = in_step.last;
-      before = in_step.before;
-      gone = in_step.gone;
+      began = in_step.1;
+      first = in_step.0.first;
+      last = in_step.0.last;
+      before = in_step.0.before;
+      gone = in_step.0.gone;
       off = stopped.off;
       stores_are = ap (λ (h : Holdings). h.stores) back;
       halted_is = refl;
       labels = ap (λ (h : Holdings). labels_of h.stores) back ∙ ended_labels (inl in_step);
       routes = ap (λ (h : Holdings). h.routes) back;
-      keep = in_step.off.keep;
-      others = in_step.off.others;
-      spent_within = in_step.off.within;
-      orders = in_step.orders;
-      orders_are = in_step.orders_are;
-      how = in_step.how;
+      keep = in_step.0.off.keep;
+      others = in_step.0.off.others;
+      spent_within = in_step.0.off.within;
+      orders = in_step.0.orders;
+      orders_are = in_step.0.orders_are;
+      how = in_step.0.how;
     },
   )
   halted_of memory back (inr before) = inr (

@@ -10,3 +10,4 @@ pub mod Gone
 pub mod Starting
 pub mod Ended
 pub mod Headline
+pub mod Halts

@@ -9,7 +9,7 @@ use Rattle.mm_dump.specs.Dumped.{wanted}
 use Rattle.mm_plan.specs.Table.{Table}
 use Rattle.mm_report.specs.declared.cause.Cause.{Cause}
 use Rattle.mm_report.specs.declared.cause.Cause.TheVariants.{NoMemory}
-use Rattle.mm_ready.specs.Ready.{Outset, outset, Stops}
+use Rattle.mm_ready.specs.Ready.{Outset, outset, MayBegin, Stops}
 use Rattle.mm_exec.specs.declared.course.Carried.{Carried}
 use Rattle.mm_exec.specs.declared.course.Stopped.{Stopped}
 use Rattle.mm_exec.specs.declared.step.Cargo.{Cargo}
@@ -48,9 +48,10 @@ pub record IsNotBegun {S L : Type 0} (cargo : Cargo S L) (stopped : Stopped S L)
   pub report_is : stopped.report.steps ≡ []
   pub spent_is : stopped.off.spent ≡ 0
 
--- how a run ended that was not carried out: in a step; or before the first, where the test of the cause is the first to fail, or there was
--- no memory
+-- how a run ended that was not carried out: in a step, where all tests before it passed; or before the first, where the test of the cause is
+-- the first to fail, or there was no memory
 abbrev pub IsEnded : {S L : Type 0} → (S → ℕ → List SpacePacket) → (L → List Sent) → (L → ℕ) → Mission → Table → Cargo S L → Stopped S L → Type 0
 IsEnded gives sent failed m plan cargo stopped =
-    HasStopped gives sent failed m cargo stopped
+    (HasStopped gives sent failed m cargo stopped
+    × MayBegin (outset m.problem plan m.memory.stores m.base (length cargo.sources.items) (length cargo.links.items)))
     ⊎ (IsNotBegun cargo stopped × IsRefusal (outset m.problem plan m.memory.stores m.base (length cargo.sources.items) (length cargo.links.items)) stopped.off.cause)

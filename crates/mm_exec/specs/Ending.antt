@@ -12,7 +12,7 @@ use Rattle.mm_order.specs.declared.order.Order.{Order}
 use Rattle.mm_dump.specs.Dumped.{wanted}
 use Rattle.mm_order.specs.Sending.{Sent}
 use Rattle.mm_report.specs.Report.{totals_of}
-use Rattle.mm_ready.specs.Ready.{outset}
+use Rattle.mm_ready.specs.Ready.{outset, MayBegin}
 use Rattle.mm_exec.specs.declared.flight.Flight.{Flight}
 use Rattle.mm_exec.specs.declared.flight.Halted.{Halted}
 use Rattle.mm_exec.specs.Mission.{Mission, as_came, stand}
@@ -22,9 +22,11 @@ use Rattle.mm_exec.specs.declared.step.Cargo.{Cargo}
 use Rattle.mm_exec.specs.Course.{IsRefusal}
 use Rattle.mm_exec.specs.Going.{HasGone}
 
--- the plan was carried out, and left this memory. The lost packets of the report are as many as the plan loses of what came
-pub record IsCarriedOut {S L : Type 0} (gives : S → ℕ → List SpacePacket) (sent : L → List Sent) (failed : L → ℕ) (m : Mission) (sources : List S) (links : List L)
-    (memory : Holdings) (flight : Flight S L) : Type 0 where
+-- the tests before a run passed, and the plan was carried out, and left this memory. The lost packets of the report are as many as the
+-- plan loses of what came
+pub record IsCarriedOut {S L : Type 0} (gives : S → ℕ → List SpacePacket) (sent : L → List Sent) (failed : L → ℕ) (m : Mission) (plan : Table) (sources : List S)
+    (links : List L) (memory : Holdings) (flight : Flight S L) : Type 0 where
+  pub began : MayBegin (outset m.problem plan m.memory.stores m.base (length sources) (length links))
   pub routes : memory.routes ≡ m.memory.routes
   pub gone : HasGone gives sent failed m sources links (length m.problem.windows) memory.stores flight.sources.items flight.links.items flight.report
   pub total_lost : (totals_of flight.report.steps).lost ≡ loss (as_came m) m.amounts
@@ -37,10 +39,12 @@ pub record IsUntouched {S L : Type 0} (m : Mission) (sources : List S) (links : 
   pub report_is : halted.report.steps ≡ []
   pub spent_is : halted.spent ≡ 0
 
--- the run was halted in a step: those before it are carried out, and the report is theirs. The memory has its stores in their order, and
--- its routes; each source keeps the rest of what it gave in the step, and no more was drawn in it than its window
-pub record IsHaltedIn {S L : Type 0} (gives : S → ℕ → List SpacePacket) (sent : L → List Sent) (failed : L → ℕ) (m : Mission) (sources : List S) (links : List L)
-    (memory : Holdings) (step : ℕ) (halted : Halted S L) : Type 0 where
+-- the tests before a run passed, and the run was halted in a step: those before it are carried out, and the report is theirs. The memory
+-- has its stores in their order, and its routes; each source keeps the rest of what it gave in the step, and no more was drawn in it than
+-- its window
+pub record IsHaltedIn {S L : Type 0} (gives : S → ℕ → List SpacePacket) (sent : L → List Sent) (failed : L → ℕ) (m : Mission) (plan : Table) (sources : List S)
+    (links : List L) (memory : Holdings) (step : ℕ) (halted : Halted S L) : Type 0 where
+  pub began : MayBegin (outset m.problem plan m.memory.stores m.base (length sources) (length links))
   pub first : 1 ≤ step
   pub last : step ≤ length m.problem.windows
   -- what the step began with, and the report of the steps before it
@@ -64,6 +68,6 @@ pub record IsHaltedIn {S L : Type 0} (gives : S → ℕ → List SpacePacket) (s
 -- first to fail, or there was no memory
 abbrev pub IsHalted : {S L : Type 0} → (S → ℕ → List SpacePacket) → (L → List Sent) → (L → ℕ) → Mission → Table → List S → List L → Holdings → Halted S L → Type 0
 IsHalted gives sent failed m plan sources links memory halted =
-    ((step : ℕ) × IsCauseIn step halted.cause × IsHaltedIn gives sent failed m sources links memory step halted)
+    ((step : ℕ) × IsCauseIn step halted.cause × IsHaltedIn gives sent failed m plan sources links memory step halted)
     ⊎ (IsUntouched m sources links memory halted
     × IsRefusal (outset m.problem plan m.memory.stores m.base (length sources) (length links)) halted.cause)

@@ -54,7 +54,7 @@ pub record Flies {S L : Type 0} (gives : S → ℕ → List SpacePacket) (sent :
     (sources : List S) (links : List L) (after : Holdings) (flown : Flown S L) : Type 0 where
   pub sheet : SheetRows
   pub plans : PlansFor q flown.sheet.items sheet
-  pub carried_out : IsCarriedOut gives sent failed (mission gives q sheet.plan base before sources) sources links after
+  pub carried_out : IsCarriedOut gives sent failed (mission gives q sheet.plan base before sources) sheet.plan sources links after
       (record { report = flown.report; sources = flown.sources; links = flown.links })
   pub headline : LosesWhatIsPrinted (mission gives q sheet.plan base before sources) sheet flown.report
 

@@ -7,3 +7,4 @@ pub mod Going
 pub mod Course
 pub mod Ending
 pub mod Flying
+pub mod Halts

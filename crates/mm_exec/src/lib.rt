@@ -4,6 +4,7 @@
 mod course;
 mod flight;
 mod flying;
+pub mod laws;
 mod orders;
 mod places;
 mod room;

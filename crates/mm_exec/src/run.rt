@@ -1,7 +1,8 @@
 //! The run of a dump plan.
-ghost use Rattle.std.specs.Prelude.{◌≡◌, ◌-◌, ◌<◌, ◌^◌, [], All, IfOk, IfErr, vec_len};
+ghost use Rattle.std.specs.Prelude.{◌≡◌, ◌-◌, ◌<◌, ◌^◌, [], All, length, IfOk, IfErr, OnOk};
 ghost use Rattle.mm_plan.specs.Table.{amount};
 ghost use Rattle.mm_memory.specs.Holdings.{AreHeld};
+ghost use Rattle.mm_ready.specs.Ready.{outset, MayBegin};
 ghost use Rattle.mm_exec.specs.Mission.{mission};
 ghost use Rattle.mm_exec.specs.Course.{HasCarried, IsEnded};
 ghost use Rattle.mm_exec.specs.Ending.{IsCarriedOut, IsHalted};
@@ -54,6 +55,7 @@ fn carry_cargo<S: Source + Send + Drop, L: Link + Send + Drop, R: Threads + Wait
     requires links { All (λ l. L.failed l < 2 ^ 64 - 1) cargo.links.items }
     ensures ok { IfOk result (HasCarried S.gives L.sent L.failed
         (mission S.gives problem.now plan.now base (record { stores = cargo.stores.items; routes = control.now }) cargo.sources.items) cargo) }
+    ensures began { OnOk result (MayBegin (outset problem.now plan.now cargo.stores.items base (length cargo.sources.items) (length cargo.links.items))) }
     ensures err { IfErr result (IsEnded S.gives L.sent L.failed
         (mission S.gives problem.now plan.now base (record { stores = cargo.stores.items; routes = control.now }) cargo.sources.items) plan.now cargo) }
 {
@@ -83,7 +85,7 @@ pub fn carry_out<S: Source + Send + Drop, L: Link + Send + Drop, R: Threads + Wa
 ) -> Result<Flight<S, L>, Halted<S, L>>
     requires links { All (λ l. L.failed l < 2 ^ 64 - 1) links.items }
     ensures carried_out { IfOk result (IsCarriedOut S.gives L.sent L.failed
-        (mission S.gives problem.now plan.now base memory.old sources.items) sources.items links.items memory.new) }
+        (mission S.gives problem.now plan.now base memory.old sources.items) plan.now sources.items links.items memory.new) }
     ensures halted { IfErr result (IsHalted S.gives L.sent L.failed
         (mission S.gives problem.now plan.now base memory.old sources.items) plan.now sources.items links.items memory.new) }
 {

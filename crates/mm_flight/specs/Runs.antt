@@ -39,7 +39,7 @@ scripted problem plan memory sources = mission gives problem plan 0 memory sourc
 pub record EndsWhole (problem : Dumping) (plan : Table) (memory : Holdings) (sources : List ScriptedSource) (links : List ScriptedLink) (sheet : List ℕ) (p : Printed) : Type 0 where
   pub left : Holdings
   pub flight : Flight ScriptedSource ScriptedLink
-  pub carried_out : IsCarriedOut gives sent failed (scripted problem plan memory sources) sources links left flight
+  pub carried_out : IsCarriedOut gives sent failed (scripted problem plan memory sources) plan sources links left flight
   pub tells : TellsAll sheet flight.report p
 
 -- the run did not begin, or was halted, and this is printed

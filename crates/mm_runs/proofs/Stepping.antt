@@ -19,7 +19,7 @@ use Rattle.mm_desk.specs.Orders.{begun, given, ended, last_time, removed, IsOrde
 use Rattle.mm_desk.specs.Runs.{IsRun, entry, replay}
 use Rattle.mm_runs.specs.StepRuns.{IsDumpOf, IsStepRun, AreTimed}
 use Rattle.mm_runs.specs.Numbers.{AtEach, AsPlanned}
-use Rattle.mm_runs.specs.Laws.{IsRunOf}
+use Rattle.mm_runs.specs.Laws.{IsRunOf, StepRunsKeepStates}
 use Rattle.mm_runs.proofs.Replays.{IsLegal-parts, replay-append, All-front, timed_log}
 
 -- the time of the packet given last is no later than that of any
@@ -77,6 +77,7 @@ record StepLeaves (s t : State) (n wanted : ℕ) : Type 0 where
   holds : length t.store.content ≡ filled s n - min wanted (filled s n)
   loses : t.lost ≡ s.lost + (length s.store.content + n - filled s n)
   dumps : t.deleted ≡ s.deleted + min wanted (filled s n)
+  retrieval : t.retrieval ≡ s.retrieval
 
 module _ (leave : OffersLeave) (keep : ReplaysKeepStates) (dump : OrdersDumpTheOldest) where
   -- a whole order after the offers
@@ -98,6 +99,7 @@ module _ (leave : OffersLeave) (keep : ReplaysKeepStates) (dump : OrdersDumpTheO
         holds = omega (arith, parts, dumps.many, came.volume);
         loses = ap (λ (u : State). u.lost) dumps.others ∙ came.lost;
         dumps = ap (λ (u : State). u.deleted) dumps.others ∙ omega (arith, dumps.many, came.volume, came.deleted);
+        retrieval = ap (λ (u : State). u.retrieval) dumps.others ∙ came.retrieval;
       }
     where
       by_last : (last time : ℕ) → last < 2 ^ 64 → time ≤ last → time ≤ clock_end
@@ -123,6 +125,7 @@ module _ (leave : OffersLeave) (keep : ReplaysKeepStates) (dump : OrdersDumpTheO
             holds = omega (arith, came.volume);
             loses = came.lost;
             dumps = omega (arith, came.deleted);
+            retrieval = came.retrieval;
           })
 
   -- a step run
@@ -135,6 +138,12 @@ module _ (leave : OffersLeave) (keep : ReplaysKeepStates) (dump : OrdersDumpTheO
       let second : IsRun mid is.dumped t = record { legal = legal.1; leaves = is.run.leaves ∙ replay-append s is.recorded is.dumped } in
       let came = leave s mid offers is.recorded sound.store.within sound.store.has_room first is.shuffle is.taken in
       dump_leaves s mid t (count_of offers) wanted gave is.dumped (keep s is.recorded sound (timed_log offers is.recorded is.shuffle timed)) came is.dump second
+
+  -- a step run leaves a state, and the retrieval as it was
+  pub keeps_state : StepRunsKeepStates
+  keeps_state s t offers wanted gave sound timed is =
+      let leaves = run_leaves s t offers wanted gave sound timed is in
+      (leaves.sound, leaves.retrieval)
 
   -- a store after some steps
   record Stands (q : Dumping) (x : Amounts) (s t : ℕ) (state : State) : Type 0 where

@@ -7,7 +7,7 @@ use Rattle.mm_plan.specs.Volumes.{Amounts, loss}
 use Rattle.mm_store.specs.declared.stored.Stored.{Stored}
 use Rattle.mm_desk.specs.declared.entry.Entry.{Entry}
 use Rattle.mm_desk.specs.declared.event.Event.{Event}
-use Rattle.mm_desk.specs.Machine.{State}
+use Rattle.mm_desk.specs.Machine.{State, IsState}
 use Rattle.mm_desk.specs.Offers.{AreTaken, IsShuffleOfEvents, count_of}
 use Rattle.mm_desk.specs.Runs.{IsRun}
 use Rattle.mm_runs.specs.StepRuns.{IsDumpOf, IsStepRun, AreTimed}
@@ -27,6 +27,11 @@ abbrev pub HalvesMakeStepRuns : Type 0
 HalvesMakeStepRuns = (offers : List (List Event)) (wanted : ℕ) (gave : List Stored) (recorded dumped : List Entry) (s mid t : State)
     → IsRun s recorded mid → IsShuffleOfEvents offers recorded → AreTaken recorded → IsRun mid dumped t → IsDumpOf wanted gave dumped
     → IsStepRun offers wanted gave s t
+
+-- a step run whose moments fit leaves a state, with a retrieval on only where one was
+abbrev pub StepRunsKeepStates : Type 0
+StepRunsKeepStates = (s t : State) (offers : List (List Event)) (wanted : ℕ) (gave : List Stored) → IsState s → AreTimed offers → IsStepRun offers wanted gave s t
+    → IsState t × (t.retrieval ≡ s.retrieval)
 
 -- in each store and step a run has the volumes, the losses and the dumps of its plan
 abbrev pub RunsLoseAsPlanned : Type 0

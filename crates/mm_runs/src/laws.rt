@@ -1,5 +1,5 @@
 //! Laws of whole runs, over the definitions alone.
-ghost use Rattle.mm_runs.specs.Laws.{RunsLoseAsPlanned, RunsLoseThePlansLoss, HalvesMakeStepRuns, DrawsMeetNoRefusal};
+ghost use Rattle.mm_runs.specs.Laws.{RunsLoseAsPlanned, RunsLoseThePlansLoss, HalvesMakeStepRuns, StepRunsKeepStates, DrawsMeetNoRefusal};
 
 use mm_desk::laws::{any_order_loses_alike, events_keep_a_state, orders_dump_the_oldest};
 
@@ -19,6 +19,15 @@ pub fn runs_lose_as_planned()
 pub fn halves_make_step_runs()
     ensures law { HalvesMakeStepRuns }
 {}
+
+/// A step run leaves a store in a state that a store may have, with a retrieval on only where one was on before it.
+pub fn step_runs_keep_states()
+    ensures law { StepRunsKeepStates }
+{
+    any_order_loses_alike();
+    events_keep_a_state();
+    orders_dump_the_oldest();
+}
 
 /// Where the plan fits a step's window, none of the step's draws is refused, whatever their order: one draw of one block for each
 /// packet that an order was given.

@@ -10,7 +10,7 @@ returns-in-Ok-carry_out-clause-flown g c =
     let p = c.in-Ok.ensures in
     let plan = c.plan.ensures ∙ p.plan_is in
     let carried = subst (λ (x : Table). IsCarriedOut g.S.Source.gives g.L.Link.sent g.L.Link.failed
-    (mission g.S.Source.gives c.args.problem.now x c.args.base c.args.memory.now c.args.sources.items) c.args.sources.items c.args.links.items
+    (mission g.S.Source.gives c.args.problem.now x c.args.base c.args.memory.now c.args.sources.items) x c.args.sources.items c.args.links.items
     c.carry_out.new.memory c.in-Ok-carry_out.field-0) plan c.in-Ok-carry_out.ensures.carried_out in
     record {
       sheet = p.sheet;

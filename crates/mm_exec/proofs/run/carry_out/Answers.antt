@@ -1,6 +1,7 @@
 use Rattle.std.proofs.Common.{◌∙◌, List, length, map, refl, sym, ap, subst}
 use Rattle.mm_desk.specs.declared.held.Held.{Held}
 use Rattle.mm_memory.specs.Holdings.{Holdings}
+use Rattle.mm_ready.specs.Ready.{outset, MayBegin}
 use Rattle.mm_exec.specs.declared.step.Cargo.{Cargo}
 use Rattle.mm_exec.specs.Mission.{mission}
 use Rattle.mm_exec.specs.Course.{IsEnded}
@@ -37,6 +38,9 @@ returns-in-Ok-clause-carried_out g c =
     (mission g.S.Source.gives c.args.problem.now c.args.plan.now c.args.base h c.args.sources.items) c.args.sources.items c.args.links.items (length c.args.problem.now.windows)
     done.cargo.stores.items done.cargo.sources.items done.cargo.links.items done.report) same c.in-Ok.ensures.ok in
     record {
+      began =
+          subst (λ (held : List Held). MayBegin (outset c.args.problem.now c.args.plan.now held c.args.base (length c.args.sources.items) (length c.args.links.items)))
+          c.lift-stores.ensures.stores c.in-Ok.ensures.began;
       routes = ap (λ (h : Holdings). h.routes) c.restore.ensures.after ∙ ap (λ (h : Holdings). h.routes) c.lift-stores.ensures.left;
       gone =
           subst (λ (held : List Held). HasGone g.S.Source.gives g.L.Link.sent g.L.Link.failed
