@@ -57,7 +57,7 @@ fn is_done(alloc: Global, memory: &mut Memory, request: &Request) -> Option<bool
 }
 
 // What came of a request. One that found no memory has changed nothing, and is carried out once more.
-fn carried(
+fn carried_out_or_unchanged(
     alloc: Global,
     memory: &mut Memory,
     id: &StoreId,
@@ -82,8 +82,8 @@ fn deleted_in_room(alloc: Global) -> Option<Met> {
     let mut memory = memory_in_room(alloc)?;
     let off = Request::DisableStorage(target(alloc, &id)?);
     let out = Request::DeleteStores(target(alloc, &id)?);
-    let first = carried(alloc, &mut memory, &id, &off, (true, true, 16));
-    let second = carried(alloc, &mut memory, &id, &out, (false, false, 15));
+    let first = carried_out_or_unchanged(alloc, &mut memory, &id, &off, (true, true, 16));
+    let second = carried_out_or_unchanged(alloc, &mut memory, &id, &out, (false, false, 15));
     Some(first.and(second))
 }
 

@@ -125,7 +125,7 @@ fn whole(alloc: Global, left: &Traces, packets: u32, report: &Report, want: &[u8
 }
 
 // What a run left that was halted. Each of its sources may lack one packet, which its recorder had in hand.
-fn halted(
+fn halted_for_want_of_memory(
     alloc: Global,
     left: &Traces,
     packets: u32,
@@ -166,11 +166,7 @@ fn halted(
 }
 
 // What a run has left in its one store, its sources and its links.
-fn left_by(
-    memory: &mut Memory,
-    sources: &mut [ScriptedSource],
-    links: &[Wire],
-) -> Option<Traces> {
+fn left_by(memory: &mut Memory, sources: &mut [ScriptedSource], links: &[Wire]) -> Option<Traces> {
     let id = StoreId::of_text(b"SCI").ok()?;
     traces_of(memory.state_mut(&id)?, sources, links)
 }
@@ -199,7 +195,7 @@ fn carried<R: Threads + Wait + Sync>(
             None => Met::Wrong("a packet found twice"),
         },
         Err(mut end) => match left_by(&mut memory, &mut end.sources, &end.links) {
-            Some(left) => halted(alloc, &left, 11, many, &end),
+            Some(left) => halted_for_want_of_memory(alloc, &left, 11, many, &end),
             None => Met::Wrong("a packet found twice after a halt"),
         },
     }
@@ -254,16 +250,20 @@ pub(crate) fn flight<R: Threads + Wait + Sync>(rt: &R, alloc: Global) -> Met {
     }
     match fly(rt, alloc, &mut memory, &problem, sources, links, 0) {
         Ok(mut flown) => match left_by(&mut memory, &mut flown.sources, &flown.links) {
-            Some(left) => whole(alloc, &left, 10, &flown.report, TEN_CAME)
-                .provided(flown.sheet.as_slice() == PLAN, "another plan"),
+            Some(left) => whole(alloc, &left, 10, &flown.report, TEN_CAME).provided(
+                flown.sheet.as_slice() == PLAN,
+                "another plan",
+            ),
             None => Met::Wrong("a packet found twice"),
         },
         Err(mut end) => {
             let memory = &mut memory;
             match left_by(memory, &mut end.halted.sources, &end.halted.links) {
                 Some(left) if end.sheet.is_empty() => unplanned(&left, &end),
-                Some(left) => halted(alloc, &left, 10, 1, &end.halted)
-                    .provided(end.sheet.as_slice() == PLAN, "another plan"),
+                Some(left) => halted_for_want_of_memory(alloc, &left, 10, 1, &end.halted).provided(
+                    end.sheet.as_slice() == PLAN,
+                    "another plan",
+                ),
                 None => Met::Wrong("a packet found twice after a halt"),
             }
         }

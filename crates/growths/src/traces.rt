@@ -3,7 +3,6 @@
 use crate::wire::Wire;
 use mm_desk::StoreState;
 use mm_record::Source;
-use mm_scripted::ScriptedSource;
 use mm_store::PacketStore;
 
 // A set of packets, a bit for each sequence count.
@@ -66,7 +65,7 @@ fn sent_over(links: &[Wire]) -> Option<Packets> {
 }
 
 // The packets that sources still give in the three steps of a run, in order.
-fn left_in(sources: &mut [ScriptedSource]) -> Option<Packets> {
+fn left_in<S: Source>(sources: &mut [S]) -> Option<Packets> {
     let mut packets = 0;
     for place in 0..sources.len() {
         let source = sources.get_mut(place)?;
@@ -81,9 +80,9 @@ fn left_in(sources: &mut [ScriptedSource]) -> Option<Packets> {
 }
 
 /// What a run has left. A retrieval that is on is aborted. Nothing where a packet is found twice, or a store's times do not rise.
-pub(crate) fn traces_of(
+pub(crate) fn traces_of<S: Source>(
     state: &mut StoreState,
-    sources: &mut [ScriptedSource],
+    sources: &mut [S],
     links: &[Wire],
 ) -> Option<Traces> {
     let held = held_by(state)?;
