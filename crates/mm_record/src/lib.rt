@@ -6,6 +6,7 @@ mod memory_step;
 mod offering;
 mod readiness;
 mod recorder;
+mod round;
 mod source;
 mod step;
 
