@@ -1,5 +1,5 @@
 -- A packet spells one report, and that report is not refused.
-use Rattle.std.proofs.Common.{◌≡◌, ℕ, ◌*◌, ◌<◌, ◌≤◌, ◌^◌, true, List, ◌∷◌, ◌++◌, length, take, drop, Option, Some, None, Result, Ok, Err, refl, sym, ap, subst, ◌∙◌, arith, append_assoc, length-append, eq-eqb}
+use Rattle.std.proofs.Common.{◌≡◌, ℕ, ◌*◌, ◌<◌, ◌≤◌, ◌^◌, true, List, ◌∷◌, ◌++◌, length, take, drop, Some, None, Result, Err, refl, sym, ap, ◌∙◌, arith, append_assoc, length-append, eq-eqb}
 use Rattle.std.specs.Prelude.{MatchResult, IfOk, MatchOption, IsOkUnless}
 use Rattle.std.specs.List.{flat_map, AllByRecursion}
 use Rattle.std.specs.Int.{w16, to_be_bytes, from_be_bytes}
@@ -25,6 +25,7 @@ use Rattle.mm_st15.specs.Report.{kind_of, moment_of, data_of, IsReport, SpellsRe
 use Rattle.mm_st15.specs.Counted.{counted_at}
 use Rattle.mm_st15.specs.Layout.{Layout, row_octets, FitsRow, row_layout, summary_layout, status_layout, configuration_layout}
 use Rattle.mm_st15.proofs.CountLemmas.{counted_again, rows_counted}
+use Rattle.mm_st15.proofs.OnlyLemmas.{read_alone}
 use Rattle.mm_st15.proofs.LayoutLemmas.{behind_id, IsReadable, entries_from, entries_again, entries_in, entries_in_again, length_of_entries, row_readable, summary_readable, status_readable, configuration_readable}
 
 -- the rows behind their count
@@ -112,6 +113,5 @@ one_report packet a b a_fits b_fits a_spells b_spells =
 pub is_only : (packet : SpacePacket) (r : Report) (result : Result Report Fault) → IsReport r → SpellsReport packet r
     → IfOk result (λ x. IsReport x × SpellsReport packet x) → MatchOption (report_fault packet) (IsOkUnless result NoMemory) (λ fault. result ≡ Err fault)
     → MatchResult result (λ x. x ≡ r) (λ fault. fault ≡ NoMemory)
-is_only packet r (Ok x) fits spells found refused = one_report packet x r found.0 fits found.1 spells
-is_only packet r (Err fault) fits spells found refused =
-    subst (λ (f : Option Fault). MatchOption f (IsOkUnless {T = Report} (Err fault) NoMemory) (λ other. ◌≡◌ {A = Result Report Fault} (Err fault) (Err other))) (not_refused packet r fits spells) refused
+is_only packet r result fits spells =
+    read_alone (λ x. IsReport x × SpellsReport packet x) (report_fault packet) r result (λ x is. one_report packet x r is.0 fits is.1 spells) (not_refused packet r fits spells)

@@ -1,5 +1,5 @@
 -- A packet spells one request, and that request is not refused.
-use Rattle.std.proofs.Common.{◌≡◌, ℕ, ◌<◌, ◌≤◌, Bool, true, false, List, [], ◌∷◌, length, Option, Some, None, Result, Ok, Err, refl, sym, ap, subst, ◌∙◌}
+use Rattle.std.proofs.Common.{◌≡◌, ℕ, ◌<◌, ◌≤◌, Bool, true, false, List, [], ◌∷◌, length, Some, None, Result, Err, refl, sym, ap, subst, ◌∙◌}
 use Rattle.std.specs.List.{flat_map}
 use Rattle.std.specs.Prelude.{if◌then◌else◌, MatchBool, MatchResult, IfOk, MatchOption, IsOkUnless, is_some}
 use Rattle.mm_packet.specs.Packet.{SpacePacket, IsTelecommand}
@@ -16,6 +16,7 @@ use Rattle.mm_st15.specs.declared.service.TheConstants.{SERVICE}
 use Rattle.mm_st15.specs.RequestKind.{Subtype, listed, bare, subtype_of, width_in, code_of, kind_at, width_of}
 use Rattle.mm_st15.specs.Request.{Instructions, of_parts, count_in, octets_in, FitIn, kind_of, data_of, IsRequest, SpellsRequest, instructions_at, request_fault}
 use Rattle.mm_st15.proofs.CountLemmas.{counted_again}
+use Rattle.mm_st15.proofs.OnlyLemmas.{read_alone}
 use Rattle.mm_st15.proofs.LayoutLemmas.{IsReadable, entries_in, entries_in_again, length_of_entries, target_readable, report_type_readable, time_range_readable, time_limit_readable, configuration_readable, size_readable, channel_readable}
 
 -- the instructions of a subtype can be read
@@ -169,6 +170,5 @@ one_request packet a b a_fits b_fits a_spells b_spells =
 pub is_only : (packet : SpacePacket) (r : Request) (result : Result Request Fault) → IsRequest r → SpellsRequest packet r
     → IfOk result (λ x. IsRequest x × SpellsRequest packet x) → MatchOption (request_fault packet) (IsOkUnless result NoMemory) (λ fault. result ≡ Err fault)
     → MatchResult result (λ x. x ≡ r) (λ fault. fault ≡ NoMemory)
-is_only packet r (Ok x) fits spells found refused = one_request packet x r found.0 fits found.1 spells
-is_only packet r (Err fault) fits spells found refused =
-    subst (λ (f : Option Fault). MatchOption f (IsOkUnless {T = Request} (Err fault) NoMemory) (λ other. ◌≡◌ {A = Result Request Fault} (Err fault) (Err other))) (not_refused packet r fits spells) refused
+is_only packet r result fits spells =
+    read_alone (λ x. IsRequest x × SpellsRequest packet x) (request_fault packet) r result (λ x is. one_request packet x r is.0 fits is.1 spells) (not_refused packet r fits spells)
