@@ -2,25 +2,27 @@
  * into the file that GROWTHS_MET names. */
 #include <errno.h>
 #include <fcntl.h>
+#include <stdatomic.h>
 #include <stddef.h>
 #include <stdio.h>
 #include <stdlib.h>
 #include <unistd.h>
 
 void *__libc_malloc(size_t size);
+void *__libc_calloc(size_t count, size_t size);
 void *__libc_realloc(void *block, size_t size);
 
-static long met, refused;
+static atomic_long met;
+static long refused;
 
 __attribute__((constructor)) static void begin(void) {
     const char *number = getenv("GROWTH");
     refused = number ? atol(number) : 0;
-    met = 0;
+    atomic_store(&met, 0);
 }
 
 static int is_refused(void) {
-    met++;
-    if (met != refused) {
+    if (atomic_fetch_add(&met, 1) + 1 != refused) {
         return 0;
     }
     errno = ENOMEM;
@@ -29,13 +31,15 @@ static int is_refused(void) {
 
 void *malloc(size_t size) { return is_refused() ? NULL : __libc_malloc(size); }
 
+void *calloc(size_t count, size_t size) { return is_refused() ? NULL : __libc_calloc(count, size); }
+
 void *realloc(void *block, size_t size) { return is_refused() ? NULL : __libc_realloc(block, size); }
 
 __attribute__((destructor)) static void end(void) {
     const char *name = getenv("GROWTHS_MET");
     int file = name ? open(name, O_WRONLY | O_CREAT | O_TRUNC, 0600) : -1;
     if (file >= 0) {
-        dprintf(file, "%ld\n", met);
+        dprintf(file, "%ld\n", atomic_load(&met));
         close(file);
     }
 }

@@ -1,4 +1,5 @@
 //! A store that is deleted with its routes from a memory of sixteen stores.
+use crate::met::Met;
 use mm_base::StoreId;
 use mm_memory::{Answer, Memory};
 use mm_problem::Setup;
@@ -55,44 +56,38 @@ fn is_done(alloc: Global, memory: &mut Memory, request: &Request) -> Option<bool
     Some(answers.each.as_slice() == [Answer::Done].as_slice() && answers.reports.is_empty())
 }
 
-// What is wrong with the answer, and with what is left, where a request is carried out, or else found no memory.
-fn carried(
+// What came of a request. One that found no memory has changed nothing, and is carried out once more.
+fn carried_out_or_unchanged(
     alloc: Global,
     memory: &mut Memory,
     id: &StoreId,
     request: &Request,
     after: (bool, bool, usize),
-) -> Option<&'static str> {
+) -> Met {
     let before = seen(memory, id);
-    let done = match is_done(alloc, memory, request) {
-        Some(done) => done,
+    let (met, done) = match is_done(alloc, memory, request) {
+        Some(done) => (Met::Whole, done),
         None => {
-            if seen(memory, id) != before {
-                return Some("apply: changed without memory");
-            }
-            is_done(alloc, memory, request).unwrap_or(false)
+            let met = Met::Wanted.provided(seen(memory, id) == before, "changed without memory");
+            (met, is_done(alloc, memory, request).unwrap_or(false))
         }
     };
-    if !done {
-        return Some("apply: another answer");
-    }
-    if seen(memory, id) != after {
-        return Some("apply: another memory");
-    }
-    None
+    met.provided(done, "another answer")
+        .provided(seen(memory, id) == after, "another memory")
 }
 
-/// What is wrong with what `apply` answers and leaves, if anything.
-pub(crate) fn deleted(alloc: Global) -> Option<&'static str> {
+// What storage off and then a deletion come to; nothing where there was no memory to ask.
+fn deleted_in_room(alloc: Global) -> Option<Met> {
     let id = StoreId::of_text(b"C").ok()?;
     let mut memory = memory_in_room(alloc)?;
     let off = Request::DisableStorage(target(alloc, &id)?);
     let out = Request::DeleteStores(target(alloc, &id)?);
-    carried(alloc, &mut memory, &id, &off, (true, true, 16)).or(carried(
-        alloc,
-        &mut memory,
-        &id,
-        &out,
-        (false, false, 15),
-    ))
+    let first = carried_out_or_unchanged(alloc, &mut memory, &id, &off, (true, true, 16));
+    let second = carried_out_or_unchanged(alloc, &mut memory, &id, &out, (false, false, 15));
+    Some(first.and(second))
+}
+
+/// What came of the requests that delete a store with its routes.
+pub(crate) fn deleted(alloc: Global) -> Met {
+    deleted_in_room(alloc).unwrap_or(Met::Unready)
 }

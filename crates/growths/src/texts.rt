@@ -1,4 +1,5 @@
 //! A plan and a verdict from texts: two stores of size 3, whose arrivals meet a window of 2 in the first step.
+use crate::met::Met;
 use mm_check::{Fault, check_bytes};
 use mm_cut::Verdict;
 use mm_planner::plan_bytes;
@@ -17,32 +18,26 @@ const ENDS: &[u8] = b"\ndump 2 0 0\nloss 2\nstretch A 1 2\nstretch B 1 2\nbound 
 const PLAN: &[u8] = b"mmplan 1\nstores A B\ndump 1 2 0\ndump 2 0 0\nloss 2\n\
     stretch A 1 2\nstretch B 1 2\nbound 2\nend\n";
 
-/// What is wrong with what `plan_bytes` answers, if anything.
-pub(crate) fn planned(alloc: Global) -> Option<&'static str> {
+/// What came of `plan_bytes`.
+pub(crate) fn planned(alloc: Global) -> Met {
     match plan_bytes(alloc, SETUP, FORECAST) {
-        Ok(text) => {
-            if text.starts_with(BEGINS) && text.ends_with(ENDS) {
-                None
-            } else {
-                Some("plan_bytes: another text")
-            }
-        }
-        Err(Fault::NoMemory) => None,
-        Err(_) => Some("plan_bytes: another fault"),
+        Ok(text) => Met::Whole.provided(
+            text.starts_with(BEGINS) && text.ends_with(ENDS),
+            "another text",
+        ),
+        Err(Fault::NoMemory) => Met::Wanted,
+        Err(_) => Met::Wrong("another fault"),
     }
 }
 
-/// What is wrong with what `check_bytes` answers on a plan, if anything.
-pub(crate) fn checked(alloc: Global) -> Option<&'static str> {
+/// What came of `check_bytes` on a plan.
+pub(crate) fn checked(alloc: Global) -> Met {
     match check_bytes(alloc, SETUP, FORECAST, PLAN) {
-        Ok((verdict, line)) => {
-            if verdict == Verdict::Least(2) && line.as_slice() == b"least 2\n".as_slice() {
-                None
-            } else {
-                Some("check_bytes: another verdict")
-            }
-        }
-        Err(Fault::NoMemory) => None,
-        Err(_) => Some("check_bytes: another fault"),
+        Ok((verdict, line)) => Met::Whole.provided(
+            verdict == Verdict::Least(2) && line.as_slice() == b"least 2\n".as_slice(),
+            "another verdict",
+        ),
+        Err(Fault::NoMemory) => Met::Wanted,
+        Err(_) => Met::Wrong("another fault"),
     }
 }

@@ -1,0 +1,41 @@
+//! What the calls of a part met.
+
+/// What the calls of a part answered, where one growth may be refused.
+#[derive(Clone, Copy, Debug, PartialEq, Eq)]
+pub(crate) enum Met {
+    /// Memory lacked for what the calls are made on.
+    Unready,
+    /// A call answered that memory was wanted.
+    Wanted,
+    /// No plan was made, for want of memory, and nothing was done.
+    Unplanned,
+    /// A run was halted for want of memory in this step, or before the first one, in step 0.
+    Halted(u32),
+    /// The same, and a retrieval was on, which ended by `abort`.
+    HaltedOn(u32),
+    /// All is as with ample memory.
+    Whole,
+    /// What none of the calls may answer or leave.
+    Wrong(&'static str),
+}
+
+impl Met {
+    /// What came of these calls and of those after them.
+    pub(crate) fn and(self, after: Met) -> Met {
+        match (self, after) {
+            (Met::Wrong(_), _) => self,
+            (_, Met::Wrong(_)) => after,
+            (Met::Whole, _) => after,
+            _ => self,
+        }
+    }
+
+    /// The same, where what was seen is right.
+    pub(crate) fn provided(self, right: bool, wrong: &'static str) -> Met {
+        if right {
+            self
+        } else {
+            self.and(Met::Wrong(wrong))
+        }
+    }
+}

@@ -1,0 +1,138 @@
+//! Where the packets of a run are: each has a sequence count of its own, from 1 on.
+
+use crate::wire::Wire;
+use mm_desk::StoreState;
+use mm_record::Source;
+use mm_store::PacketStore;
+
+// A set of packets, a bit for each sequence count.
+type Packets = u32;
+
+/// What a run has left, as far as its store, its sources and its links show it.
+#[derive(Clone, Copy)]
+pub(crate) struct Traces {
+    held: Packets,
+    sent_ones: Packets,
+    left: Packets,
+    offered: u64,
+    lost: u64,
+    size: u32,
+    /// How many packets were deleted.
+    pub(crate) deleted: u64,
+    /// How many packets were sent.
+    pub(crate) sent: u32,
+    /// Whether a retrieval was on, which has been aborted.
+    pub(crate) retrieval: bool,
+}
+
+// A set with one packet more. Nothing where it has it already, or its count is none of a run.
+fn with(packets: Packets, count: u16) -> Option<Packets> {
+    let one = 1u32.checked_shl(u32::from(count))?;
+    if packets & one == 0 {
+        Some(packets | one)
+    } else {
+        None
+    }
+}
+
+// The packets that a store holds, whose times rise.
+fn held_by(state: &StoreState) -> Option<Packets> {
+    let mut packets = 0;
+    let mut after = 0;
+    for _ in 0..state.store().len() {
+        let (time, packet) = state.store().first_in(0, u64::MAX, after)?;
+        if time <= after {
+            return None;
+        }
+        packets = with(packets, packet.packet().count())?;
+        after = time;
+    }
+    match state.store().first_in(0, u64::MAX, after) {
+        None => Some(packets),
+        Some(_) => None,
+    }
+}
+
+// The packets that links have sent, each of them once.
+fn sent_over(links: &[Wire]) -> Option<Packets> {
+    let mut packets = 0;
+    for link in links {
+        for place in 0..link.sent() {
+            packets = with(packets, link.count(place)?)?;
+        }
+    }
+    Some(packets)
+}
+
+// The packets that sources still give in the three steps of a run, in order.
+fn left_in<S: Source>(sources: &mut [S]) -> Option<Packets> {
+    let mut packets = 0;
+    for place in 0..sources.len() {
+        let source = sources.get_mut(place)?;
+        for step in 1..4 {
+            for _ in 0..source.left(step) {
+                let packet = source.next(step)?;
+                packets = with(packets, packet.packet().count())?;
+            }
+        }
+    }
+    Some(packets)
+}
+
+/// What a run has left. A retrieval that is on is aborted. Nothing where a packet is found twice, or a store's times do not rise.
+pub(crate) fn traces_of<S: Source>(
+    state: &mut StoreState,
+    sources: &mut [S],
+    links: &[Wire],
+) -> Option<Traces> {
+    let held = held_by(state)?;
+    let sent_ones = sent_over(links)?;
+    let left = left_in(sources)?;
+    let retrieval = state.retrieval().is_some();
+    if state.abort().is_ok() != retrieval || state.retrieval().is_some() || !state.storage() {
+        return None;
+    }
+    Some(Traces {
+        held,
+        sent_ones,
+        left,
+        offered: state.offered(),
+        lost: state.lost(),
+        size: state.store().size(),
+        deleted: state.deleted(),
+        sent: sent_ones.count_ones(),
+        retrieval,
+    })
+}
+
+impl Traces {
+    /// How many of this many packets the sources gave.
+    pub(crate) fn given(&self, packets: u32) -> u32 {
+        packets.saturating_sub(self.left.count_ones())
+    }
+
+    /// How many of the packets given were not offered.
+    pub(crate) fn unoffered(&self, packets: u32) -> u64 {
+        u64::from(self.given(packets)).saturating_sub(self.offered)
+    }
+
+    // Whether what was offered is lost, deleted or held, and no more is held than there is room for.
+    fn is_sound(&self) -> bool {
+        let held = self.held.count_ones();
+        let known = self.lost.saturating_add(self.deleted);
+        held <= self.size && self.offered == known.saturating_add(u64::from(held))
+    }
+
+    /// Whether each of this many packets is in one place alone: still in a source, in the store, sent and deleted, counted as lost,
+    /// or, of at most so many, in the hand of a recorder that was broken off.
+    pub(crate) fn is_kept(&self, packets: u32, in_hand: u32) -> bool {
+        let gone = self.sent_ones & !self.held;
+        let found = self.held | self.sent_ones | self.left;
+        let missing = u64::from(packets.saturating_sub(found.count_ones()));
+        self.is_sound()
+            && (self.held | self.sent_ones) & self.left == 0
+            && u64::from(gone.count_ones()) == self.deleted
+            && self.unoffered(packets) <= u64::from(in_hand)
+            && missing == self.lost.saturating_add(self.unoffered(packets))
+    }
+}
