@@ -8,7 +8,7 @@ ghost use Rattle.mm_crew.specs.Stations.{AreNamed};
 ghost use Rattle.mm_record.specs.Steps.{step_errand, IsWhy, Records};
 
 use crate::recorder::{Recorder, record_all};
-use crate::round::Round;
+use crate::round::{Round, Task};
 use crate::source::Source;
 use mm_control::ControlTable;
 use mm_crew::{Rooms, close_all, new_rooms, open_all, pair_all, part_all};
@@ -33,14 +33,6 @@ pub struct Recording<S: Drop> {
 pub struct NotBegun<S: Drop> {
     pub stores: Vec<Held>,
     pub sources: Vec<S>,
-}
-
-// A step, its moment and its routes.
-#[derive(Drop)]
-struct Task<'a> {
-    control: &'a ControlTable,
-    step: u32,
-    moment: u64,
 }
 
 // Why recorders broke off: want of memory only where none broke off for another reason.
