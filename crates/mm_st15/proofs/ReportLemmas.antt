@@ -25,7 +25,6 @@ use Rattle.mm_st15.specs.Report.{kind_of, moment_of, data_of, IsReport, SpellsRe
 use Rattle.mm_st15.specs.Counted.{counted_at}
 use Rattle.mm_st15.specs.Layout.{Layout, row_octets, FitsRow, row_layout, summary_layout, status_layout, configuration_layout}
 use Rattle.mm_st15.proofs.CountLemmas.{counted_again, rows_counted}
-use Rattle.mm_st15.proofs.OnlyLemmas.{read_alone}
 use Rattle.mm_st15.proofs.LayoutLemmas.{behind_id, IsReadable, entries_from, entries_again, entries_in, entries_in_again, length_of_entries, row_readable, summary_readable, status_readable, configuration_readable}
 
 -- the rows behind their count
@@ -108,10 +107,3 @@ one_report packet a b a_fits b_fits a_spells b_spells =
     let body : data_of a ≡ data_of b = sym a_spells.body ∙ b_spells.body in
     let from : report_from (kind_of a) (moment_of a) (data_of a) ≡ report_from (kind_of b) (moment_of b) (data_of b) = cc in
     sym (report_again a a_fits) ∙ from ∙ report_again b b_fits
-
--- a packet that spells a report is read as that report
-pub is_only : (packet : SpacePacket) (r : Report) (result : Result Report Fault) → IsReport r → SpellsReport packet r
-    → IfOk result (λ x. IsReport x × SpellsReport packet x) → MatchOption (report_fault packet) (IsOkUnless result NoMemory) (λ fault. result ≡ Err fault)
-    → MatchResult result (λ x. x ≡ r) (λ fault. fault ≡ NoMemory)
-is_only packet r result fits spells =
-    read_alone (λ x. IsReport x × SpellsReport packet x) (report_fault packet) r result (λ x is. one_report packet x r is.0 fits is.1 spells) (not_refused packet r fits spells)

@@ -16,7 +16,6 @@ use Rattle.mm_st15.specs.declared.service.TheConstants.{SERVICE}
 use Rattle.mm_st15.specs.RequestKind.{Subtype, listed, bare, subtype_of, width_in, code_of, kind_at, width_of}
 use Rattle.mm_st15.specs.Request.{Instructions, of_parts, count_in, octets_in, FitIn, kind_of, data_of, IsRequest, SpellsRequest, instructions_at, request_fault}
 use Rattle.mm_st15.proofs.CountLemmas.{counted_again}
-use Rattle.mm_st15.proofs.OnlyLemmas.{read_alone}
 use Rattle.mm_st15.proofs.LayoutLemmas.{IsReadable, entries_in, entries_in_again, length_of_entries, target_readable, report_type_readable, time_range_readable, time_limit_readable, configuration_readable, size_readable, channel_readable}
 
 -- the instructions of a subtype can be read
@@ -165,10 +164,3 @@ one_request packet a b a_fits b_fits a_spells b_spells =
     let body : data_of a ≡ data_of b = sym a_spells.body ∙ b_spells.body in
     let from : request_from (kind_of a) (data_of a) ≡ request_from (kind_of b) (data_of b) = cc in
     sym (request_again a a_fits) ∙ from ∙ request_again b b_fits
-
--- a packet that spells a request is read as that request
-pub is_only : (packet : SpacePacket) (r : Request) (result : Result Request Fault) → IsRequest r → SpellsRequest packet r
-    → IfOk result (λ x. IsRequest x × SpellsRequest packet x) → MatchOption (request_fault packet) (IsOkUnless result NoMemory) (λ fault. result ≡ Err fault)
-    → MatchResult result (λ x. x ≡ r) (λ fault. fault ≡ NoMemory)
-is_only packet r result fits spells =
-    read_alone (λ x. IsRequest x × SpellsRequest packet x) (request_fault packet) r result (λ x is. one_request packet x r is.0 fits is.1 spells) (not_refused packet r fits spells)
