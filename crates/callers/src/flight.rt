@@ -10,7 +10,7 @@ ghost use Rattle.callers.specs.declared.ends.Burst.{Burst};
 ghost use Rattle.callers.specs.declared.ends.Downlink.{Downlink};
 
 use crate::ends::{Burst, Downlink};
-use mm_exec::{Flown, fly};
+use mm_exec::{Flown, NotFlown, fly};
 use mm_memory::Memory;
 use mm_order::Link;
 use mm_problem::{Problem, Setup};
@@ -49,12 +49,14 @@ pub fn plan_and_fly<R: Threads + Wait + Sync>(
         problem.now 0 (memory_of setup.now) sources.items links.items left ended
         × (cause ≡ ended.halted.cause))) }
 {
-    let mut memory = Memory::of_setup(alloc, setup).map_err(|_| Cause::NoMemory { step: 0 })?;
+    let Ok(mut memory) = Memory::of_setup(alloc, setup) else {
+        return Err(Cause::NoMemory { step: 0 });
+    };
     match fly(rt, alloc, &mut memory, problem, sources, links, 0) {
         Ok(flown) => Ok(Told {
             lost: flown.report.totals().lost,
             flown,
         }),
-        Err(ended) => Err(ended.halted.cause),
+        Err(NotFlown { halted, .. }) => Err(halted.cause),
     }
 }
