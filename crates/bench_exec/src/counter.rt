@@ -1,5 +1,5 @@
 //! Links that count octets.
-ghost use Rattle.std.specs.Prelude.{◌≡◌, ◌-◌, ◌<◌, ◌^◌, ◌∷◌, ◌++◌, All, IsTrue, OnOk, OnErr};
+ghost use Rattle.std.specs.Prelude.{◌≡◌, ◌-◌, ◌<◌, ◌^◌, [], ◌∷◌, ◌++◌, All, IsTrue, OnOk, OnErr};
 ghost use Rattle.bench_exec.specs.Counted.{expected_at};
 
 use crate::packets::{HEADERS, packet};
@@ -81,7 +81,15 @@ impl Link for Counter {
         let number = usize::from(packet.packet().apid());
         let store = *store;
         let octets = u64::from(HEADERS).saturating_add(packet.packet().body().len() as u64);
-        if self.expects(number, packet) && self.keep(Taken { store, time, number }).is_ok() {
+        if self.expects(number, packet)
+            && self
+                .keep(Taken {
+                    store,
+                    time,
+                    number,
+                })
+                .is_ok()
+        {
             self.octets = self.octets.saturating_add(octets);
             return Ok(());
         }

@@ -52,7 +52,7 @@ pub struct Tally {
     dump: Duration,
     came: u64,
     lost: u64,
-    dumped: u64,
+    dumped: u128,
     octets: u64,
 }
 
@@ -62,7 +62,15 @@ pub struct Counts(pub Tally);
 
 impl fmt::Display for Counts {
     fn fmt<W: fmt::Write>(&self, f: &mut fmt::Formatter<W>) -> fmt::Result {
-        let Counts(Tally { came, lost, dumped, octets, .. }) = self;
+        let Counts(
+            Tally {
+                came,
+                lost,
+                dumped,
+                octets,
+                ..
+            },
+        ) = self;
         write!(f, "came {came} lost {lost} dumped {dumped} octets {octets}")
     }
 }
@@ -159,7 +167,7 @@ impl Trial {
             Ok(flight) => {
                 self.tally.dump = self.tally.dump.saturating_add(spent);
                 let totals = flight.report.totals();
-                self.tally.dumped = self.tally.dumped.saturating_add(totals.dumped as u64);
+                self.tally.dumped = self.tally.dumped.saturating_add(totals.dumped);
                 for link in &flight.links {
                     self.tally.octets = self.tally.octets.saturating_add(link.octets());
                 }

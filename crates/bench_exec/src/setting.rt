@@ -72,7 +72,9 @@ impl Setting {
         let each = u32::from(self.each);
         let stores = self.stores.max(1);
         let more = u32::from(store < each % stores);
-        let come = (each / stores).saturating_add(more).saturating_mul(self.sources);
+        let come = (each / stores)
+            .saturating_add(more)
+            .saturating_mul(self.sources);
         come.min(self.blocks)
     }
 
