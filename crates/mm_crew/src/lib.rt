@@ -1,4 +1,4 @@
-//! The stores of a step behind desks, and crews of workers with seats at them.
+//! The stores of a step at desks, and crews of workers with seats at them.
 #![tactic(auto)]
 
 mod closing;

@@ -42,7 +42,7 @@ impl<N: Opening> Model for Desk<N> {
     ghost view = { λ d. record { place = d.place; seats = d.seats } };
 }
 
-/// What lay behind a desk's lock: its place, the state of the store, and the log.
+/// What was under a desk's lock: its place, the state of the store, and the log.
 #[derive(Drop)]
 pub struct Parts {
     pub place: u32,

@@ -69,7 +69,7 @@ lines_of s =
     ++ bound_line s.bound ∷ []
     ++ end_line ∷ []
 
--- the octets of a sheet: its lines, each with a line feed behind it
+-- the octets of a sheet: its lines, each with a line feed after it
 unfoldable pub sheet_text : SheetRows → List ℕ
 sheet_text s = join_with_byte line_feed (map line_text (lines_of s) ++ [] ∷ [])
 

@@ -27,7 +27,7 @@ use Rattle.mm_st15.specs.Layout.{Layout, row_octets, FitsRow, row_layout, summar
 use Rattle.mm_st15.proofs.CountLemmas.{counted_again, rows_counted}
 use Rattle.mm_st15.proofs.LayoutLemmas.{behind_id, IsReadable, entries_from, entries_again, entries_in, entries_in_again, length_of_entries, row_readable, summary_readable, status_readable, configuration_readable}
 
--- the rows behind their count
+-- the rows after their count
 rows_in : List ℕ → List Row
 rows_in octets = entries_from row_readable.of 4 (from_be_bytes w16 (take 2 octets)) (drop 2 octets)
 
@@ -42,7 +42,7 @@ report_from kind.Summaries moment octets = report.Summaries moment (entries_in s
 report_from kind.Statuses moment octets = report.Statuses moment (entries_in status_readable.of 10 octets)
 report_from kind.Configurations moment octets = report.Configurations moment (entries_in configuration_readable.of 14 octets)
 
--- the rows are read again behind their count
+-- the rows are read again after their count
 rows_again : (rows : List Row) → length rows < 2 ^ 16 → AllByRecursion FitsRow rows → rows_in (to_be_bytes w16 (length rows) ++ flat_map row_octets rows) ≡ rows
 unfolding rows_in
 rows_again rows few fits = rw (from_be_bytes-to_be_bytes_2 (length rows) few) (entries_again row_layout row_readable rows fits)

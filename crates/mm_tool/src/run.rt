@@ -222,7 +222,7 @@ pub fn run_tool<R: Threads + Wait + Sync, S: AsStr, F: Files, W: Write, E: Write
     }
 }
 
-/// Runs the program on a script: a first line with the words, parted by single spaces, and then the files.
+/// Runs the program on a script: a first line with the words, separated by single spaces, and then the files.
 pub fn run_script<R: Threads + Wait + Sync, W: Write, E: Write>(
     rt: &R,
     alloc: Global,
@@ -253,7 +253,7 @@ pub fn run_script<R: Threads + Wait + Sync, W: Write, E: Write>(
     )
 }
 
-// The words of a line, parted by single spaces; an empty line has none.
+// The words of a line, separated by single spaces; an empty line has none.
 fn words_of(alloc: Global, line: &str) -> Result<Vec<&str>, AllocError> {
     if line.is_empty() {
         Ok(Vec::new(alloc))
