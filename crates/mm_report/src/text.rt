@@ -94,7 +94,12 @@ fn push_differs_line(text: &mut Vec<u8>, cell: Cell, tally: Tally) -> Result<(),
 }
 
 // The line of a step and a store in this listing, if there is one.
-fn push_line(text: &mut Vec<u8>, listing: Listing, cell: Cell, tally: Tally) -> Result<(), AllocError>
+fn push_line(
+    text: &mut Vec<u8>,
+    listing: Listing,
+    cell: Cell,
+    tally: Tally,
+) -> Result<(), AllocError>
     ensures { OnOk result (text.new.items ≡ text.old.items ++ line_of listing cell.step cell.id tally) }
 {
     match listing {
