@@ -60,6 +60,17 @@ pub struct Closed<N: Opening> {
     pub agree: bool,
 }
 
+// The answer of a call whose reply is of this case; the event comes back where there was no memory.
+macro_rules! answered {
+    ($called:expr; $case:ident) => {
+        match $called {
+            Ok(Reply::$case(answer)) => answer,
+            Err(_) => Err(Fault::NoMemory),
+            _ => unreachable!(),
+        }
+    };
+}
+
 impl<N: Opening> Desk<N> {
     /// A desk with an empty log, at this place and with this many seats. It takes no memory.
     pub fn new(alloc: Global, state: StoreState, place: u32, seats: u32) -> Desk<N>
@@ -200,11 +211,7 @@ impl<N: Opening> Desk<N> {
     ) -> Result<(), Fault>
         ensures tells { Tells seat.old (Event.Begin from to) (Reply.Done result) seat.new }
     {
-        match self.call(rt, alloc, seat, Event::Begin(from, to)) {
-            Ok(Reply::Done(answer)) => answer,
-            Err(_) => Err(Fault::NoMemory),
-            _ => unreachable!(),
-        }
+        answered!(self.call(rt, alloc, seat, Event::Begin(from, to)); Done)
     }
 
     /// Gives a copy of the next packet of the retrieval with its storage time; nothing at its end, where it is over.
@@ -216,22 +223,14 @@ impl<N: Opening> Desk<N> {
     ) -> Result<Option<Stored>, Fault>
         ensures tells { Tells seat.old Event.Next (Reply.Given result) seat.new }
     {
-        match self.call(rt, alloc, seat, Event::Next) {
-            Ok(Reply::Given(answer)) => answer,
-            Err(_) => Err(Fault::NoMemory),
-            _ => unreachable!(),
-        }
+        answered!(self.call(rt, alloc, seat, Event::Next); Given)
     }
 
     /// Ends the retrieval.
     pub fn abort<R: Wait>(&self, rt: &R, alloc: Global, seat: &mut Seat<N>) -> Result<(), Fault>
         ensures tells { Tells seat.old Event.Abort (Reply.Done result) seat.new }
     {
-        match self.call(rt, alloc, seat, Event::Abort) {
-            Ok(Reply::Done(answer)) => answer,
-            Err(_) => Err(Fault::NoMemory),
-            _ => unreachable!(),
-        }
+        answered!(self.call(rt, alloc, seat, Event::Abort); Done)
     }
 
     /// Deletes the packets up to a time, that time included, and returns their number.
@@ -244,32 +243,20 @@ impl<N: Opening> Desk<N> {
     ) -> Result<u32, Fault>
         ensures tells { Tells seat.old (Event.Delete limit) (Reply.Deleted result) seat.new }
     {
-        match self.call(rt, alloc, seat, Event::Delete(limit)) {
-            Ok(Reply::Deleted(answer)) => answer,
-            Err(_) => Err(Fault::NoMemory),
-            _ => unreachable!(),
-        }
+        answered!(self.call(rt, alloc, seat, Event::Delete(limit)); Deleted)
     }
 
     /// Switches storage on.
     pub fn enable<R: Wait>(&self, rt: &R, alloc: Global, seat: &mut Seat<N>) -> Result<(), Fault>
         ensures tells { Tells seat.old Event.Enable (Reply.Done result) seat.new }
     {
-        match self.call(rt, alloc, seat, Event::Enable) {
-            Ok(Reply::Done(answer)) => answer,
-            Err(_) => Err(Fault::NoMemory),
-            _ => unreachable!(),
-        }
+        answered!(self.call(rt, alloc, seat, Event::Enable); Done)
     }
 
     /// Switches storage off. A retrieval goes on.
     pub fn disable<R: Wait>(&self, rt: &R, alloc: Global, seat: &mut Seat<N>) -> Result<(), Fault>
         ensures tells { Tells seat.old Event.Disable (Reply.Done result) seat.new }
     {
-        match self.call(rt, alloc, seat, Event::Disable) {
-            Ok(Reply::Done(answer)) => answer,
-            Err(_) => Err(Fault::NoMemory),
-            _ => unreachable!(),
-        }
+        answered!(self.call(rt, alloc, seat, Event::Disable); Done)
     }
 }

@@ -109,3 +109,7 @@ pub record IsFirstBadLine (text : List ℕ) (k : ℕ) : Type 0 where
   pub before : Begins (take (k - 1) (text_lines text))
   pub here : k < length (text_lines text) → ¬ Begins (take k (text_lines text))
   pub no_sheet : (s : SheetRows) → IsSheet s → text ≢ sheet_text s
+
+-- sheets of one text are one sheet
+abbrev pub OneTextOneSheet : Type 0
+OneTextOneSheet = (s r : SheetRows) → IsSheet s → IsSheet r → sheet_text s ≡ sheet_text r → s ≡ r

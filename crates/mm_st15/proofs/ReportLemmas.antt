@@ -1,5 +1,5 @@
 -- A packet spells one report, and that report is not refused.
-use Rattle.std.proofs.Common.{◌≡◌, ℕ, ◌*◌, ◌<◌, ◌≤◌, ◌^◌, true, List, ◌∷◌, ◌++◌, length, take, drop, Option, Some, None, Result, Ok, Err, refl, sym, ap, subst, ◌∙◌, arith, append_assoc, length-append, eq-eqb}
+use Rattle.std.proofs.Common.{◌≡◌, ℕ, ◌*◌, ◌<◌, ◌≤◌, ◌^◌, true, List, ◌∷◌, ◌++◌, length, take, drop, Some, None, Result, Err, refl, sym, ap, ◌∙◌, arith, append_assoc, length-append, eq-eqb}
 use Rattle.std.specs.Prelude.{MatchResult, IfOk, MatchOption, IsOkUnless}
 use Rattle.std.specs.List.{flat_map, AllByRecursion}
 use Rattle.std.specs.Int.{w16, to_be_bytes, from_be_bytes}
@@ -107,11 +107,3 @@ one_report packet a b a_fits b_fits a_spells b_spells =
     let body : data_of a ≡ data_of b = sym a_spells.body ∙ b_spells.body in
     let from : report_from (kind_of a) (moment_of a) (data_of a) ≡ report_from (kind_of b) (moment_of b) (data_of b) = cc in
     sym (report_again a a_fits) ∙ from ∙ report_again b b_fits
-
--- a packet that spells a report is read as that report
-pub is_only : (packet : SpacePacket) (r : Report) (result : Result Report Fault) → IsReport r → SpellsReport packet r
-    → IfOk result (λ x. IsReport x × SpellsReport packet x) → MatchOption (report_fault packet) (IsOkUnless result NoMemory) (λ fault. result ≡ Err fault)
-    → MatchResult result (λ x. x ≡ r) (λ fault. fault ≡ NoMemory)
-is_only packet r (Ok x) fits spells found refused = one_report packet x r found.0 fits found.1 spells
-is_only packet r (Err fault) fits spells found refused =
-    subst (λ (f : Option Fault). MatchOption f (IsOkUnless {T = Report} (Err fault) NoMemory) (λ other. ◌≡◌ {A = Result Report Fault} (Err fault) (Err other))) (not_refused packet r fits spells) refused
