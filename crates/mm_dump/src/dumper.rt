@@ -83,10 +83,7 @@ fn work<N: Opening, W: Passing, L: Link + Drop, R: Wait>(
         (gear seats.new (L.sent dumper.new.link) (L.failed dumper.new.link) dumper.new.page) }
 {
     let Floor {
-        rt,
-        queue,
-        orders,
-        ..
+        rt, queue, orders, ..
     } = *floor;
     for _ in rt.forever() {
         let Some(number) = queue.pop_as::<Takes, R>(rt, &mut dumper.pass) else {
@@ -125,7 +122,10 @@ pub(crate) fn dump_all<
     W: Passing + Send + Sync,
     L: Link + Send + Drop,
     R: Threads + Wait + Sync,
->(floor: &Floor<'_, N, W, R>, workers: Vec<DumpWorker<N, W, L>>) -> Vec<DumpWorker<N, W, L>>
+>(
+    floor: &Floor<'_, N, W, R>,
+    workers: Vec<DumpWorker<N, W, L>>,
+) -> Vec<DumpWorker<N, W, L>>
     requires within { All (λ o. o.place < length floor.now.stations.now) floor.now.orders.now }
     requires ready { All (IsReady L.sent L.failed floor.now.queue.now (length floor.now.stations.now) (length floor.now.orders.now)) workers.items }
     ensures worked { AllWorked L.sent L.failed floor.now.queue.now (ids_of floor.now.stations.now) floor.now.orders.now workers.items result.items }

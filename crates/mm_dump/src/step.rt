@@ -1,5 +1,5 @@
 //! A step's dump: workers carry out the orders of one queue, over any number of stores.
-ghost use Rattle.std.specs.Prelude.{◌≡◌, ◌≢◌, ◌+◌, ◌-◌, ◌<◌, ◌≤◌, ◌^◌, length, map, All, AllPairs, IsTrue, None, IfNone, IfOk, IfErr, vec_len};
+ghost use Rattle.std.specs.Prelude.{◌≡◌, ◌≢◌, ◌+◌, ◌-◌, ◌<◌, ◌≤◌, ◌^◌, length, map, All, AllPairs, IsTrue, None, IfNone, IfOk, IfErr, vec_len, vec_capacity};
 ghost use Rattle.mm_base.specs.declared.limits.TheConstants.{MAX_STORES};
 ghost use Rattle.mm_desk.specs.declared.desk.TheConstants.{MAX_SEATS};
 ghost use Rattle.mm_crew.specs.Closings.{labels_of, states_of};
@@ -181,8 +181,8 @@ fn dump_in<
     Dumping {
         stores,
         links,
-        agree,
         broken,
+        agree,
         spent,
     }
 }

@@ -1,11 +1,11 @@
 //! Steps of dump workers over links in memory, with what is sent, held and drawn by hand.
-ghost use Rattle.std.specs.Prelude.{◌≢◌, ◌+◌, ◌-◌, ◌<◌, ◌≤◌, ◌^◌, length, All, AllPairs, IsTrue, vec_len};
+ghost use Rattle.std.specs.Prelude.{◌≡◌, ◌≢◌, ◌+◌, ◌-◌, ◌<◌, ◌≤◌, ◌^◌, length, All, AllPairs, IsTrue, vec_len};
 ghost use Rattle.mm_base.specs.declared.limits.TheConstants.{MAX_STORES};
 
 use super::*;
 use mm_base::{Kind, StoreId};
 use mm_desk::{Held, StoreState};
-use mm_order::{Link, Order, OrderBroken, SendFailed, Taken, Wire};
+use mm_order::{Link, Order, OrderBroken, SendFailed, Wire};
 use mm_packet::{BlockPacket, Header, Octets, Packet};
 use mm_store::{AnyStore, PacketStore};
 use std::alloc::Global;
@@ -19,17 +19,12 @@ fn store_id(rt: &impl Abort, text: &[u8]) -> StoreId {
     StoreId::of_text(text).expect(rt, "an identifier")
 }
 
-// A packet that a link took has this store and this sequence count.
-fn is_taken(rt: &impl Abort, item: &Taken, name: &[u8; 3], count: u16) {
-    assert!(rt; item.store == store_id(rt, name), "the store");
-    assert!(rt; item.stored.packet.packet().count() == count, "the packet");
-}
-
 // The link took these packets, by their stores and sequence counts.
 fn took(rt: &impl Abort, link: &Wire, sent: &[(&[u8; 3], u16)]) {
-    assert!(rt; link.taken().len() == sent.len(), "as many packets");
-    for (item, (name, count)) in link.taken().iter().zip(sent) {
-        is_taken(rt, item, name, *count);
+    assert_eq!(rt; link.taken().len(), sent.len());
+    for (item, (text, count)) in link.taken().iter().zip(sent) {
+        assert_eq!(rt; item.store, store_id(rt, *text));
+        assert_eq!(rt; item.stored.packet.packet().count(), *count);
     }
 }
 
@@ -134,143 +129,85 @@ fn dumped<L: Link + Send + Drop, R: Threads + Wait + Sync + Abort>(
     }
 }
 
-// A store stands under its name and channel, and has lost nothing.
-fn stands(rt: &impl Abort, store: &Held, name: &[u8; 3]) {
-    assert!(rt; store.id == store_id(rt, name), "the identifier");
-    assert!(rt; store.channel == 3, "the channel");
-    assert!(rt; store.state.lost() == 0, "none is lost");
-    assert!(rt; store.state.retrieval().is_none(), "no retrieval is on");
-}
-
-// A store holds this many packets, and this many were deleted.
-fn has(rt: &impl Abort, store: &Held, held: u32, deleted: u64) {
-    assert!(rt; store.state.store().len() == held, "how many are held");
-    assert!(rt; store.state.deleted() == deleted, "how many are deleted");
-}
-
 // How many packets stores hold, and how many were deleted; nothing else is changed.
 fn have(rt: &impl Abort, stores: &[Held], counts: &[(u32, u64)]) {
-    assert!(rt; stores.len() == counts.len(), "as many stores");
-    for ((store, name), (held, deleted)) in stores.iter().zip(NAMES).zip(counts) {
-        stands(rt, store, name);
-        has(rt, store, *held, *deleted);
+    assert_eq!(rt; stores.len(), counts.len());
+    for ((store, text), (held, deleted)) in stores.iter().zip(NAMES).zip(counts) {
+        assert_eq!(rt; (store.id, store.channel), (store_id(rt, text), 3));
+        assert_eq!(rt; store.state.store().len(), *held);
+        assert_eq!(rt; store.state.deleted(), *deleted);
+        assert_eq!(rt; (store.state.lost(), store.state.retrieval()), (0, None));
     }
 }
-
-// A step: what stores hold, how links fail, how much may be drawn and is wanted; and then why it ends, how much is drawn, what
-// stores hold and deleted, and what each link took and how often it failed.
-struct Case {
-    held: &'static [u16],
-    until: &'static [Option<u64>],
-    window: u64,
-    wanted: &'static [u32],
-    broken: Option<OrderBroken>,
-    spent: u64,
-    counts: &'static [(u32, u64)],
-    sent: &'static [(&'static [u8; 3], u16)],
-    failures: u64,
-}
-
-// How a step ended.
-fn ended<L: Drop>(rt: &impl Abort, left: &Dumping<L>, broken: Option<OrderBroken>, spent: u64) {
-    assert!(rt; left.agree, "all agrees");
-    assert!(rt; left.broken == broken, "the worst cause");
-    assert!(rt; left.spent == spent, "how much was drawn");
-}
-
-// What each link took, and how often it failed.
-fn all_took(rt: &impl Abort, links: &[Wire], case: &Case) {
-    assert!(rt; links.len() == case.until.len(), "as many links");
-    for link in links {
-        took(rt, link, case.sent);
-        assert!(rt; link.failures() == case.failures, "how often it failed");
-    }
-}
-
-// Carries out the step of a case, and compares.
-fn tried<R: Threads + Wait + Sync + Abort>(rt: &R, alloc: Global, case: &Case) {
-    let stores = stores_with(rt, alloc, case.held);
-    let links = wires(rt, alloc, case.until);
-    let left = dumped(rt, alloc, case.window, case.wanted, stores, links);
-    ended(rt, &left, case.broken, case.spent);
-    have(rt, &left.stores, case.counts);
-    all_took(rt, &left.links, case);
-}
-
-const OLDEST: Case = Case {
-    held: &[3, 2, 0, 1],
-    until: &[None],
-    window: 9,
-    wanted: &[2, 0, 4, 3],
-    broken: None,
-    spent: 3,
-    counts: &[(1, 2), (2, 0), (0, 0), (0, 1)],
-    sent: &[(b"AAA", 1), (b"AAA", 2), (b"DDD", 1)],
-    failures: 0,
-};
-
-const NO_ORDERS: Case = Case {
-    held: &[1],
-    until: &[None, None],
-    window: 0,
-    wanted: &[0],
-    spent: 0,
-    counts: &[(1, 0)],
-    sent: &[],
-    ..OLDEST
-};
-
-const SECOND_SEND_FAILS: Case = Case {
-    held: &[3],
-    until: &[Some(1)],
-    window: 3,
-    wanted: &[3],
-    broken: Some(OrderBroken::LinkFailed),
-    spent: 2,
-    counts: &[(3, 0)],
-    sent: &[(b"AAA", 1)],
-    failures: 1,
-};
-
-const SECOND_ORDER_BREAKS: Case = Case {
-    held: &[1, 1, 1],
-    wanted: &[1, 1, 1],
-    counts: &[(0, 1), (1, 0), (1, 0)],
-    ..SECOND_SEND_FAILS
-};
-
-const SMALL_WINDOW: Case = Case {
-    held: &[2],
-    window: 1,
-    wanted: &[2],
-    broken: Some(OrderBroken::Refused),
-    spent: 1,
-    counts: &[(2, 0)],
-    sent: &[(b"AAA", 1)],
-    ..OLDEST
-};
 
 #[test]
 fn the_oldest_of_each_store_go_over_one_link(rt: HostRuntime) {
-    tried(&rt, rt.alloc(), &OLDEST);
+    let alloc = rt.alloc();
+    let stores = stores_with(&rt, alloc, &[3, 2, 0, 1]);
+    let links = wires(&rt, alloc, &[None]);
+    let left = dumped(&rt, alloc, 9, &[2, 0, 4, 3], stores, links);
+    assert_eq!(rt; (left.agree, left.broken, left.spent), (true, None, 3));
+    have(&rt, &left.stores, &[(1, 2), (2, 0), (0, 0), (0, 1)]);
+    assert_eq!(rt; left.links.len(), 1);
+    for link in &left.links {
+        took(&rt, link, &[(b"AAA", 1), (b"AAA", 2), (b"DDD", 1)]);
+        assert_eq!(rt; link.failures(), 0);
+    }
 }
 
 #[test]
 fn a_step_without_orders_leaves_all(rt: HostRuntime) {
-    tried(&rt, rt.alloc(), &NO_ORDERS);
+    let alloc = rt.alloc();
+    let stores = stores_with(&rt, alloc, &[1]);
+    let links = wires(&rt, alloc, &[None, None]);
+    let left = dumped(&rt, alloc, 0, &[0], stores, links);
+    assert_eq!(rt; (left.agree, left.broken, left.spent), (true, None, 0));
+    have(&rt, &left.stores, &[(1, 0)]);
+    for link in &left.links {
+        took(&rt, link, &[]);
+    }
 }
 
 #[test]
 fn an_order_that_breaks_deletes_nothing(rt: HostRuntime) {
-    tried(&rt, rt.alloc(), &SECOND_SEND_FAILS);
+    let alloc = rt.alloc();
+    let stores = stores_with(&rt, alloc, &[3]);
+    let links = wires(&rt, alloc, &[Some(1)]);
+    let left = dumped(&rt, alloc, 3, &[3], stores, links);
+    let broken = Some(OrderBroken::LinkFailed);
+    assert_eq!(rt; (left.agree, left.broken, left.spent), (true, broken, 2));
+    have(&rt, &left.stores, &[(3, 0)]);
+    for link in &left.links {
+        took(&rt, link, &[(b"AAA", 1)]);
+        assert_eq!(rt; link.failures(), 1);
+    }
 }
 
 #[test]
 fn a_worker_that_broke_off_takes_no_further_order(rt: HostRuntime) {
-    tried(&rt, rt.alloc(), &SECOND_ORDER_BREAKS);
+    let alloc = rt.alloc();
+    let stores = stores_with(&rt, alloc, &[1, 1, 1]);
+    let links = wires(&rt, alloc, &[Some(1)]);
+    let left = dumped(&rt, alloc, 3, &[1, 1, 1], stores, links);
+    let broken = Some(OrderBroken::LinkFailed);
+    assert_eq!(rt; (left.agree, left.broken, left.spent), (true, broken, 2));
+    have(&rt, &left.stores, &[(0, 1), (1, 0), (1, 0)]);
+    for link in &left.links {
+        took(&rt, link, &[(b"AAA", 1)]);
+    }
 }
 
 #[test]
 fn a_window_that_is_too_small_breaks_the_order(rt: HostRuntime) {
-    tried(&rt, rt.alloc(), &SMALL_WINDOW);
+    let alloc = rt.alloc();
+    let stores = stores_with(&rt, alloc, &[2]);
+    let links = wires(&rt, alloc, &[None]);
+    let left = dumped(&rt, alloc, 1, &[2], stores, links);
+    let broken = Some(OrderBroken::Refused);
+    assert_eq!(rt; (left.agree, left.broken, left.spent), (true, broken, 1));
+    have(&rt, &left.stores, &[(2, 0)]);
+    for link in &left.links {
+        took(&rt, link, &[(b"AAA", 1)]);
+        assert_eq!(rt; link.failures(), 0);
+    }
 }

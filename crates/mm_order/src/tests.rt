@@ -3,13 +3,12 @@ ghost use Rattle.std.specs.Prelude.{◌≡◌};
 ghost use Rattle.mm_desk.specs.Runs.{opening_at};
 
 use super::*;
-use Call::{Aborted, Deleted, End, Given};
 use mm_base::{Kind, Refused, StoreId};
 use mm_desk::{
     Desk, Entry, Event, Fault, Opening, PassBook, PassSeat, Passing, Reply, Seat, StoreState,
 };
 use mm_packet::{BlockPacket, Header, Octets, Packet};
-use mm_store::{AnyStore, PacketStore};
+use mm_store::{AnyStore, PacketStore, Stored};
 use std::alloc::Global;
 use std::marker::Brand;
 use std::process::Abort;
@@ -33,10 +32,6 @@ fn store_with(rt: &impl Abort, alloc: Global, held: u16) -> StoreState {
         assert!(rt; state.offer(7, packet(rt, alloc, count + 1)).is_ok());
     }
     state
-}
-
-fn store_id(rt: &impl Abort) -> StoreId {
-    StoreId::of_text(b"SCI").expect(rt, "an identifier")
 }
 
 // One entry of a seat's list, with packets by their storage times.
@@ -95,7 +90,13 @@ const WHOLE: Case = Case {
     failures: 0,
     drawn: 2,
     deleted: 2,
-    calls: &[BEGUN, Given(7), Given(8), Aborted, Deleted(8, 2)],
+    calls: &[
+        BEGUN,
+        Call::Given(7),
+        Call::Given(8),
+        Call::Aborted,
+        Call::Deleted(8, 2),
+    ],
 };
 
 const ALL_HELD: Case = Case {
@@ -103,13 +104,27 @@ const ALL_HELD: Case = Case {
     sent: &[1, 2, 3],
     drawn: 3,
     deleted: 3,
-    calls: &[BEGUN, Given(7), Given(8), Given(9), Aborted, Deleted(9, 3)],
+    calls: &[
+        BEGUN,
+        Call::Given(7),
+        Call::Given(8),
+        Call::Given(9),
+        Call::Aborted,
+        Call::Deleted(9, 3),
+    ],
     ..WHOLE
 };
 
 const MORE_THAN_HELD: Case = Case {
     amount: 5,
-    calls: &[BEGUN, Given(7), Given(8), Given(9), End, Deleted(9, 3)],
+    calls: &[
+        BEGUN,
+        Call::Given(7),
+        Call::Given(8),
+        Call::Given(9),
+        Call::End,
+        Call::Deleted(9, 3),
+    ],
     ..ALL_HELD
 };
 
@@ -118,7 +133,7 @@ const EMPTY: Case = Case {
     sent: &[],
     drawn: 0,
     deleted: 0,
-    calls: &[BEGUN, End],
+    calls: &[BEGUN, Call::End],
     ..WHOLE
 };
 
@@ -129,7 +144,7 @@ const FIRST_SEND_FAILS: Case = Case {
     failures: 1,
     drawn: 1,
     deleted: 0,
-    calls: &[BEGUN, Given(7), Aborted],
+    calls: &[BEGUN, Call::Given(7), Call::Aborted],
     ..WHOLE
 };
 
@@ -137,7 +152,7 @@ const SECOND_SEND_FAILS: Case = Case {
     until: Some(1),
     sent: &[1],
     drawn: 2,
-    calls: &[BEGUN, Given(7), Given(8), Aborted],
+    calls: &[BEGUN, Call::Given(7), Call::Given(8), Call::Aborted],
     ..FIRST_SEND_FAILS
 };
 
@@ -159,14 +174,14 @@ const SENT_AGAIN: Case = Case {
     drawn: 4,
     calls: &[
         BEGUN,
-        Given(7),
-        Given(8),
-        Aborted,
+        Call::Given(7),
+        Call::Given(8),
+        Call::Aborted,
         BEGUN,
-        Given(7),
-        Given(8),
-        Aborted,
-        Deleted(8, 2),
+        Call::Given(7),
+        Call::Given(8),
+        Call::Aborted,
+        Call::Deleted(8, 2),
     ],
     ..WHOLE
 };
@@ -182,18 +197,13 @@ const NOT_BEGUN: Case = Case {
     ..WHOLE
 };
 
-// A packet of the store that was sent has this sequence count, and the time 6 above it.
-fn is_sent(rt: &impl Abort, item: &Taken, count: u16) {
-    assert!(rt; item.store == store_id(rt), "the store");
-    assert!(rt; item.stored.packet.packet().count() == count, "the packet");
-    assert!(rt; item.stored.time == u64::from(count) + 6, "its time");
-}
-
 // The link has these packets of the store, in order, at the times 7, 8, ..
-fn has_sent(rt: &impl Abort, wire: &Wire, sent: &[u16]) {
-    assert!(rt; wire.taken().len() == sent.len(), "as many packets");
+fn has_sent(rt: &impl Abort, wire: &Wire, id: &StoreId, sent: &[u16]) {
+    assert_eq!(rt; wire.taken().len(), sent.len());
     for (item, count) in wire.taken().iter().zip(sent) {
-        is_sent(rt, item, *count);
+        assert_eq!(rt; item.store, *id);
+        assert_eq!(rt; item.stored.packet.packet().count(), *count);
+        assert_eq!(rt; item.stored.time, u64::from(*count) + 6);
     }
 }
 
@@ -205,45 +215,7 @@ fn has_called<N: Opening>(rt: &impl Abort, seat: &Seat<N>, calls: &[Call]) {
     }
 }
 
-// Carries out the orders of a case, and compares the answers.
-fn answered<N: Opening, W: Passing, R: Wait + Abort>(
-    rt: &R,
-    alloc: Global,
-    desk: &Desk<N>,
-    seat: &mut Seat<N>,
-    wire: &mut Wire,
-    book: &PassBook<W>,
-    page: &mut PassSeat<W>,
-    case: &Case,
-) {
-    let id = store_id(rt);
-    for answer in case.answers {
-        assert!(rt; wire.failures() < 9, "a link that may fail");
-        let order = carry(rt, alloc, desk, seat, &id, wire, book, page, case.amount);
-        assert!(rt; order == *answer, "the answer");
-    }
-}
-
-// What orders of a case leave of the store.
-fn leaves(rt: &impl Abort, state: &StoreState, case: &Case) {
-    assert!(rt; state.deleted() == case.deleted, "how many are deleted");
-    assert!(rt;
-        state.offered() == u64::from(case.held),
-        "how many were offered"
-    );
-    let held = u64::from(state.store().len());
-    assert!(rt;
-        held + case.deleted % 1000 == u64::from(case.held),
-        "how many are held"
-    );
-    assert!(rt; state.lost() == 0, "none is lost");
-    assert!(rt;
-        state.retrieval().is_some() == case.busy,
-        "no retrieval but the other's"
-    );
-}
-
-// Carries out the orders of a case, and compares what they leave.
+// Carries out the orders of a case, and compares.
 fn carried<N: Opening, W: Passing, R: Wait + Abort>(
     rt: &R,
     alloc: Global,
@@ -259,20 +231,34 @@ fn carried<N: Opening, W: Passing, R: Wait + Abort>(
 {
     let desk = Desk::<N>::new(alloc, state, 0, 2);
     let mut seat = Seat::new(alloc, 0, 0);
+    let mut other = Seat::new(alloc, 0, 1);
     if case.busy {
-        let mut other = Seat::new(alloc, 0, 1);
-        let begun = desk.begin(rt, alloc, &mut other, 8, 9);
-        assert!(rt; begun.is_ok(), "the other's retrieval");
+        assert_eq!(rt; desk.begin(rt, alloc, &mut other, 8, 9), Ok(()));
     }
     let (book, mut pages) = PassBook::<W>::open(alloc, blank, case.window, 1).expect(rt, "memory");
+    let id = StoreId::of_text(b"SCI").expect(rt, "an identifier");
     let mut wire = Wire::new(alloc, case.until);
     let page = &mut pages[0];
-    answered(rt, alloc, &desk, &mut seat, &mut wire, &book, page, case);
-    has_sent(rt, &wire, case.sent);
+    for answer in case.answers {
+        assert!(rt; wire.failures() < 9, "a link that may fail");
+        let link = &mut wire;
+        let amount = case.amount;
+        let order = carry(rt, alloc, &desk, &mut seat, &id, link, &book, page, amount);
+        assert_eq!(rt; order, *answer);
+    }
+    has_sent(rt, &wire, &id, case.sent);
     has_called(rt, &seat, case.calls);
-    assert!(rt; wire.failures() == case.failures, "how many sends failed");
-    assert!(rt; book.close(pages) == case.drawn, "how much was drawn");
-    leaves(rt, &desk.into_parts().state, case);
+    assert_eq!(rt; wire.failures(), case.failures);
+    assert_eq!(rt; book.close(pages), case.drawn);
+    let state = desk.into_parts().state;
+    assert_eq!(rt; state.deleted(), case.deleted);
+    assert_eq!(rt; state.offered(), u64::from(case.held));
+    assert_eq!(rt;
+        u64::from(state.store().len()) + case.deleted % 1000,
+        u64::from(case.held)
+    );
+    assert_eq!(rt; state.lost(), 0);
+    assert_eq!(rt; state.retrieval().is_some(), case.busy);
 }
 
 // Tries a case over a store of its own.
@@ -281,20 +267,18 @@ fn tried<R: Wait + Abort>(rt: &R, alloc: Global, case: &Case) {
     carried::<Brand, Brand, R>(rt, alloc, state, Blank::new(1), case);
 }
 
-const CASES: [Case; 7] = [
-    WHOLE,
-    ALL_HELD,
-    MORE_THAN_HELD,
-    EMPTY,
-    FIRST_SEND_FAILS,
-    SECOND_SEND_FAILS,
-    SMALL_WINDOW,
-];
-
 #[test]
 fn orders_are_whole_or_delete_nothing(rt: HostRuntime) {
-    for case in &CASES {
-        tried(&rt, rt.alloc(), case);
+    for case in [
+        WHOLE,
+        ALL_HELD,
+        MORE_THAN_HELD,
+        EMPTY,
+        FIRST_SEND_FAILS,
+        SECOND_SEND_FAILS,
+        SMALL_WINDOW,
+    ] {
+        tried(&rt, rt.alloc(), &case);
     }
 }
 

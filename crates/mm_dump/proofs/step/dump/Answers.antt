@@ -1,4 +1,6 @@
+use Rattle.std.proofs.Common.{rules}
 use Rattle.std.proofs.lemmas.Result.{IfOk-weaker}
+use Rattle.mm_dump.specs.Rooms.{Leaves}
 use Rattle.mm_dump.proofs.step.dump.Goals as goal
 
 pub dump_as-requires-clause-may : goal.dump_as-requires-clause-may

@@ -1,6 +1,6 @@
-use Rattle.std.proofs.Common.{rules, ◌≡◌, ◌+◌, [], length, map, vec_len, All, sym, ap, subst, ◌∙◌, arith}
+use Rattle.std.proofs.Common.{rules, ◌≡◌, ℕ, ◌+◌, [], List, length, map, vec_len, All, refl, sym, ap, subst, ◌∙◌, arith}
 use Rattle.std.specs.List.{sum}
-use Rattle.std.specs.Prelude.{IsTrue, IfNone}
+use Rattle.std.specs.Prelude.{None, IsTrue, IfNone}
 use Rattle.std.proofs.lemmas.List.{length-map}
 use Rattle.crossbeam_queue.specs.Passes.{view}
 use Rattle.mm_crew.specs.Closings.{states_of, AllWentBy}
@@ -49,7 +49,7 @@ returns g c =
     let new : links_of (owns_of c.dump_all-workers.result.items) ≡ c.strip_all-links.result.0.items = sym (c.strip_all-links.ensures.links ∙ ap links_of c.part_all-dumpers.ensures.owns) in
     let pages : c.strip_all-links.result.1.items ≡ pages_of (owns_of c.dump_all-workers.result.items) = c.strip_all-links.ensures.pages ∙ ap pages_of c.part_all-dumpers.ensures.owns in
     let both : IsTrue c.agrees-agree.result → (IfNone c.worst_broken-broken.result (AllDumped g.L.Link.sent g.L.Link.failed (map (λ h. h.id) c.args.stores.items) c.args.orders.now (states_of c.args.stores.items) (states_of c.close_all-stores.result.0.items) c.args.links.items c.strip_all-links.result.0.items)
-    × AllSettled g.L.Link.sent g.L.Link.failed (map (λ h. h.id) c.args.stores.items) c.args.orders.now c.worst_broken-broken.result (states_of c.args.stores.items) (states_of c.close_all-stores.result.0.items) c.args.links.items c.strip_all-links.result.0.items) =
+        × AllSettled g.L.Link.sent g.L.Link.failed (map (λ h. h.id) c.args.stores.items) c.args.orders.now c.worst_broken-broken.result (states_of c.args.stores.items) (states_of c.close_all-stores.result.0.items) c.args.links.items c.strip_all-links.result.0.items) =
     λ agree.
     let left = left_items c.worst_broken-broken.result (view c.strip_all-links.new.pass) (λ whole. c.is_dealt-dealt.ensures.all (c.agrees-agree.ensures.dealt agree whole)) c.is_dealt-dealt.ensures.left in
     let parted : vec_len c.part_all-dumpers.result ≡ length c.part_all-dumpers.result.items = search rules in
