@@ -1,5 +1,5 @@
 -- What a link that counts octets has taken.
-use Rattle.std.specs.Prelude.{ℕ, List, [], slice_index_or}
+use Rattle.std.specs.Prelude.{ℕ, List, [], map, slice_index_or}
 use Rattle.mm_packet.specs.declared.header.PacketType.TheVariants.{Telecommand}
 use Rattle.mm_packet.specs.Packet.{SpacePacket}
 use Rattle.mm_order.specs.Sending.{Sent, sent_at}
