@@ -12,6 +12,7 @@ count other packets.
 """
 
 import os
+import shutil
 import subprocess
 import sys
 import tempfile
@@ -75,8 +76,9 @@ class Pair:
         return self
 
     def cells(self, times):
+        """What the program and its twin took, and the ratio where the twin took enough for one."""
         ours, plain = (times(program) for program in self.programs)
-        return f"{ours:.0f} | {plain:.0f} | {ours / plain:.2f}" if plain > 0 else f"{ours:.0f} | {plain:.0f} | -"
+        return f"{ours:.0f} | {plain:.0f} | " + (f"{ours / plain:.1f}" if plain >= 20 else "")
 
 
 def above_making(mode):
@@ -88,6 +90,13 @@ def beside(program):
     return program["record"].peak - program["make"].peak
 
 
+def instructions(words):
+    """How many instructions a program takes, by valgrind."""
+    command = ["valgrind", "--tool=callgrind", "--callgrind-out-file=/dev/null", *words]
+    ended = subprocess.run(command, stdout=subprocess.DEVNULL, stderr=subprocess.PIPE, text=True, check=True)
+    return int(ended.stderr.split("Collected :")[1].split()[0])
+
+
 def setting(sources, stores, links, packets, octets, blocks):
     steps = max(1, packets // (sources * EACH))
     return sources, stores, links, steps, min(EACH, packets // sources), octets, blocks
@@ -96,16 +105,37 @@ def setting(sources, stores, links, packets, octets, blocks):
 def recording(twin, rounds, packets, octets, full):
     """The table of recording, into stores with room for all packets of a step or into full ones."""
     print(f"\nRecording {packets:,} packets of {octets} octets, stores {'full' if full else 'with room'}; milliseconds and MB\n")
-    print("| Sources | Stores | wall | plain | ratio | processor | plain | ratio | peak | plain | ratio | beside | plain | ratio |")
+    print("| Sources | Stores | wall | plain | ratio | processor | plain | ratio | peak | plain | ratio | beside | plain | beside / offered |")
     print("|" + "---|" * 14)
     for sources in SOURCES:
         for stores in STORES:
-            blocks = 16 if full else sources * EACH
-            pair = Pair(twin, ("make", "record"), *setting(sources, stores, 1, packets, octets, blocks)).run(rounds)
+            words = setting(sources, stores, 1, packets, octets, 16 if full else sources * EACH)
+            pair = Pair(twin, ("make", "record"), *words).run(rounds)
             wall = pair.cells(lambda program: program["record"].record)
             spent = pair.cells(above_making("record"))
             peak = pair.cells(lambda program: program["record"].peak)
-            print(f"| {sources} | {stores} | {wall} | {spent} | {peak} | {pair.cells(beside)} |", flush=True)
+            ours, plain = (beside(program) for program in pair.programs)
+            times = ours * 1024**2 / (sources * words[4] * octets)
+            print(f"| {sources} | {stores} | {wall} | {spent} | {peak} | {ours:.0f} | {plain:.0f} | {times:.1f} |", flush=True)
+
+
+def counted(twin):
+    """The table of instructions, which do not depend on what else the machine does."""
+    if not shutil.which("valgrind"):
+        print("\nInstructions are left out: valgrind is not there.")
+        return
+    print("\nInstructions for each packet of 64 octets, stores with room\n")
+    print("| Sources | Stores | Links | recording | plain | ratio | dumping | plain | ratio |")
+    print("|" + "---|" * 9)
+    for sources, stores, links in ((1, 1, 1), (1, 16, 1), (8, 1, 1), (8, 16, 4)):
+        words = [str(word) for word in (sources, stores, links, 1, EACH // sources, 64, EACH)]
+        packets = sources * (EACH // sources)
+        takes = [[instructions([str(path), mode, *words]) / packets for mode in ("make", "record", "dump")] for path in (PROGRAM, twin)]
+        cells = []
+        for last in (1, 2):
+            ours, plain = (take[last] - take[last - 1] for take in takes)
+            cells.append(f"{ours:,.0f} | {plain:,.0f} | {ours / plain:.1f}")
+        print(f"| {sources} | {stores} | {links} | {' | '.join(cells)} |", flush=True)
 
 
 def dumping(twin, rounds, packets):
@@ -123,13 +153,14 @@ def dumping(twin, rounds, packets):
 
 
 def crowd(twin, each):
-    """One step of eight sources of full packets into one full store."""
+    """One step of eight sources into one full store."""
     for octets in (64, 1024):
         offered = 8 * each * octets / 1024**2
         pair = Pair(twin, ("make", "record"), 8, 1, 1, 1, each, octets, 16).run(1)
         ours, plain = (beside(program) for program in pair.programs)
-        print(f"8 x {each} packets of {octets} octets, {offered:.0f} MB, in one step into one full store: beside the packets and the store")
-        print(f"{ours:.0f} MB, {ours / offered:.2f} times the octets offered (plain {plain:.0f} MB)", flush=True)
+        print(f"8 x {each} packets of {octets} octets ({offered:.0f} MB) in one step into one full store: beside the packets {ours:.0f} MB,")
+        print(f"{ours / offered:.1f} times the octets offered (plain {plain:.0f} MB); the recording takes", end=" ")
+        print(f"{pair.programs[0]['record'].record:.0f} ms (plain {pair.programs[1]['record'].record:.0f} ms).", flush=True)
 
 
 def main(rounds, packets):
@@ -142,6 +173,7 @@ def main(rounds, packets):
         recording(twin, rounds, packets, 64, False)
         recording(twin, rounds, packets, 64, True)
         dumping(twin, rounds, packets)
+        counted(twin)
         print()
         crowd(twin, min(65_535, packets // 16))
 
