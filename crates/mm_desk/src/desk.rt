@@ -152,8 +152,8 @@ impl<N: Opening> Desk<N> {
         &self,
         rt: &R,
         alloc: Global,
-        seat: &mut Seat<N>,
         event: Event,
+        seat: &mut Seat<N>,
     ) -> Result<Reply, Event>
         ensures called { IfOk result (λ reply. seat.new ≡ with_call seat.old event reply) }
         ensures answers { IfOk result (λ reply. Answers event reply) }
@@ -190,7 +190,7 @@ impl<N: Opening> Desk<N> {
         ensures tells { Tells seat.old (Event.Offer now packet) (Reply.Offered result) seat.new }
         ensures back { IfErr result (λ back. back.packet ≡ packet) }
     {
-        match self.call(rt, alloc, seat, Event::Offer(now, packet)) {
+        match self.call(rt, alloc, Event::Offer(now, packet), seat) {
             Ok(Reply::Offered(answer)) => answer,
             Err(Event::Offer(_, packet)) => Err(Returned {
                 fault: Fault::NoMemory,
@@ -211,7 +211,7 @@ impl<N: Opening> Desk<N> {
     ) -> Result<(), Fault>
         ensures tells { Tells seat.old (Event.Begin from to) (Reply.Done result) seat.new }
     {
-        answered!(self.call(rt, alloc, seat, Event::Begin(from, to)); Done)
+        answered!(self.call(rt, alloc, Event::Begin(from, to), seat); Done)
     }
 
     /// Gives a copy of the next packet of the retrieval with its storage time; nothing at its end, where it is over.
@@ -223,14 +223,14 @@ impl<N: Opening> Desk<N> {
     ) -> Result<Option<Stored>, Fault>
         ensures tells { Tells seat.old Event.Next (Reply.Given result) seat.new }
     {
-        answered!(self.call(rt, alloc, seat, Event::Next); Given)
+        answered!(self.call(rt, alloc, Event::Next, seat); Given)
     }
 
     /// Ends the retrieval.
     pub fn abort<R: Wait>(&self, rt: &R, alloc: Global, seat: &mut Seat<N>) -> Result<(), Fault>
         ensures tells { Tells seat.old Event.Abort (Reply.Done result) seat.new }
     {
-        answered!(self.call(rt, alloc, seat, Event::Abort); Done)
+        answered!(self.call(rt, alloc, Event::Abort, seat); Done)
     }
 
     /// Deletes the packets up to a time, that time included, and returns their number.
@@ -243,20 +243,20 @@ impl<N: Opening> Desk<N> {
     ) -> Result<u32, Fault>
         ensures tells { Tells seat.old (Event.Delete limit) (Reply.Deleted result) seat.new }
     {
-        answered!(self.call(rt, alloc, seat, Event::Delete(limit)); Deleted)
+        answered!(self.call(rt, alloc, Event::Delete(limit), seat); Deleted)
     }
 
     /// Switches storage on.
     pub fn enable<R: Wait>(&self, rt: &R, alloc: Global, seat: &mut Seat<N>) -> Result<(), Fault>
         ensures tells { Tells seat.old Event.Enable (Reply.Done result) seat.new }
     {
-        answered!(self.call(rt, alloc, seat, Event::Enable); Done)
+        answered!(self.call(rt, alloc, Event::Enable, seat); Done)
     }
 
     /// Switches storage off. A retrieval goes on.
     pub fn disable<R: Wait>(&self, rt: &R, alloc: Global, seat: &mut Seat<N>) -> Result<(), Fault>
         ensures tells { Tells seat.old Event.Disable (Reply.Done result) seat.new }
     {
-        answered!(self.call(rt, alloc, seat, Event::Disable); Done)
+        answered!(self.call(rt, alloc, Event::Disable, seat); Done)
     }
 }

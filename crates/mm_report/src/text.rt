@@ -94,18 +94,13 @@ fn push_differs_line(text: &mut Vec<u8>, cell: Cell, tally: Tally) -> Result<(),
 }
 
 // The line of a step and a store in this listing, if there is one.
-fn push_line(
-    text: &mut Vec<u8>,
-    listing: Listing,
-    cell: Cell,
-    tally: Tally,
-) -> Result<(), AllocError>
-    ensures { OnOk result (text.new.items ≡ text.old.items ++ line_of listing cell.step cell.id tally) }
+fn push_line(text: &mut Vec<u8>, listing: Listing, at: Cell, tally: Tally) -> Result<(), AllocError>
+    ensures { OnOk result (text.new.items ≡ text.old.items ++ line_of listing at.step at.id tally) }
 {
     match listing {
-        Listing::Numbers => push_step_line(text, cell, tally),
+        Listing::Numbers => push_step_line(text, at, tally),
         Listing::Differences if tally.forecast == tally.arrived => Ok(()),
-        Listing::Differences => push_differs_line(text, cell, tally),
+        Listing::Differences => push_differs_line(text, at, tally),
     }
 }
 
