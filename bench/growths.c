@@ -1,11 +1,13 @@
-/* Loaded before the C library: refuses the allocation whose number, from 1, the variable GROWTH has, and writes how many were asked for
- * into the file that GROWTHS_MET names. */
+/* Loaded before the C library: refuses the allocation whose number, from 1, the variable GROWTH has, whichever thread asks for it, and
+ * writes how many were asked for into the file that GROWTHS_MET names. Those that the C library makes for a new thread are counted as
+ * well: where one of them is refused, `pthread_create` makes no thread. */
 #include <errno.h>
 #include <fcntl.h>
 #include <stdatomic.h>
 #include <stddef.h>
 #include <stdio.h>
 #include <stdlib.h>
+#include <sys/syscall.h>
 #include <unistd.h>
 
 void *__libc_malloc(size_t size);
@@ -41,5 +43,13 @@ __attribute__((destructor)) static void end(void) {
     if (file >= 0) {
         dprintf(file, "%ld\n", atomic_load(&met));
         close(file);
+    }
+}
+
+/* A program with threads ends so, without its destructors. */
+void _exit(int status) {
+    end();
+    for (;;) {
+        syscall(SYS_exit_group, status);
     }
 }

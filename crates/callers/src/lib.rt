@@ -2,6 +2,8 @@
 #![tactic(auto)]
 
 pub mod checker;
+pub mod ends;
+pub mod flight;
 pub mod flow;
 pub mod memory;
 pub mod packets;

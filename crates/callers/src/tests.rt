@@ -1,6 +1,9 @@
 //! Each caller once, with what it must answer worked out by hand.
+ghost use Rattle.std.specs.Prelude.{◌<◌, ◌-◌, ◌^◌, All};
 
 use crate::checker::least_loss;
+use crate::ends::{Burst, Downlink};
+use crate::flight::{Told, plan_and_fly};
 use crate::flow::{greatest_value, in_a_row};
 use crate::memory::with_one_off;
 use crate::packets::again;
@@ -10,13 +13,18 @@ use crate::stores::third_of_two;
 use mm_base::{Kind, StoreId};
 use mm_memory::{Answer, Memory};
 use mm_packet::{BlockPacket, Header, Octets, Packet};
-use mm_problem::Setup;
+use mm_problem::{Problem, Setup};
+use mm_ready::Cause;
 use mm_st15::{Request, Target};
 use mm_store::Put;
 use std::alloc::Global;
+use std::collections::VecDeque;
 use std::process::Abort;
+use std::sync::Wait;
+use std::thread::Threads;
 
-const SETUP: &[u8] = b"[[store]]\nid = \"SCI\"\nsize = 4\ntype = \"bounded\"\nchannel = 0\n";
+const SETUP: &[u8] = b"[[store]]\nid = \"SCI\"\nsize = 4\ntype = \"bounded\"\nchannel = 0\n\
+    [[route]]\napid = 100\nservice = 3\nsubtype = 25\nstore = \"SCI\"\n";
 
 const FORECAST: &[u8] = b"step,window,SCI\n1,2,3\n2,2,3\n3,0,4\n";
 
@@ -125,4 +133,71 @@ fn a_telecommand_is_carried_out(rt: HostRuntime) {
     assert_eq!(rt; answers.each.as_slice(), [Answer::Done].as_slice());
     let id = StoreId::of_text(b"SCI").expect(&rt, "an identifier");
     assert!(rt; memory.state(&id).is_some_and(|state| !state.storage()));
+}
+
+// An instrument that gives this many packets in a step.
+fn burst(rt: &impl Abort, alloc: Global, step: u32, many: u16) -> Burst {
+    let mut packets = VecDeque::new(alloc);
+    for count in 0..many {
+        let packet = block(rt, alloc, count);
+        packets.push_back(packet).expect(rt, "memory");
+    }
+    assert!(rt; packets.len() < 65_536, "few packets");
+    Burst { step, packets }
+}
+
+// One link, which takes this many packets.
+fn one_link(rt: &impl Abort, alloc: Global, most: usize) -> Vec<Downlink>
+    ensures unfailed { All (λ l. l.failed < 2 ^ 64 - 1) result.items }
+{
+    let link = Downlink {
+        alloc,
+        most,
+        taken: Vec::new(alloc),
+        failed: 0,
+    };
+    vec![in alloc; link].expect(rt, "memory")
+}
+
+// The first run, with three, three and this many packets, over a link that takes this many.
+fn first_run<R: Threads + Wait + Sync + Abort>(
+    rt: &R,
+    alloc: Global,
+    third: u16,
+    most: usize,
+) -> Result<Told, Cause> {
+    let setup = Setup::read(alloc, SETUP).expect(rt, "a setup");
+    let problem = Problem::read(alloc, &setup, FORECAST).expect(rt, "a forecast");
+    let mut sources = Vec::new(alloc);
+    for (step, many) in [(1, 3), (2, 3), (3, third)] {
+        sources
+            .push(burst(rt, alloc, step, many))
+            .expect(rt, "memory");
+    }
+    let links = one_link(rt, alloc, most);
+    plan_and_fly(rt, alloc, &setup, &problem, sources, links)
+}
+
+// Where one packet more comes than was forecast, one more is lost than the plan says, and the plan is the same.
+#[test]
+fn what_was_printed_is_lost(rt: HostRuntime) {
+    for (third, lost) in [(4, 2), (5, 3)] {
+        let Ok(told) = first_run(&rt, rt.alloc(), third, 9) else {
+            panic!(&rt; "the plan is carried out");
+        };
+        assert_eq!(rt; told.lost, lost);
+        let (text, _loss) = PLANS[0];
+        assert_eq!(rt; told.flown.sheet.as_slice(), text);
+        for link in &told.flown.links {
+            assert_eq!(rt; (link.taken.len(), link.failed), (4, 0));
+        }
+    }
+}
+
+#[test]
+fn a_link_that_fails_halts_the_run(rt: HostRuntime) {
+    let Err(cause) = first_run(&rt, rt.alloc(), 4, 3) else {
+        panic!(&rt; "the run is halted");
+    };
+    assert_eq!(rt; cause, Cause::LinkFailed { step: 2 });
 }

@@ -18,7 +18,7 @@ reports_from : (line : ℕ) (asked : SpacePacket) (reports : List Report) (s : S
 reports_from line asked [] s = refl
 reports_from line asked (r ∷ rs) s = reports_from line asked rs (with_report line asked s r)
 
--- counts behind some reports, and then behind more
+-- counts after some reports, and then after more
 pub counts_more : (before more : List ReportKind) (a b : Counts) → a ≡ counts_after before → b ≡ fold counted a more → b ≡ counts_after (before ++ more)
 counts_more before more a b from is = is ∙ ap (λ (c : Counts). fold counted c more) from ∙ sym (fold-append counted no_counts before more)
 

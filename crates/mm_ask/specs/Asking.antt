@@ -1,12 +1,12 @@
 -- A whole conversation, from the setup and the lines.
 use Rattle.std.specs.Prelude.{◌≡◌, ℕ, ◌+◌, List, [], ◌∷◌, Ok, Err}
 use Rattle.mm_problem.specs.Document.{setup_of}
+use Rattle.mm_problem.specs.declared.fault.Fault.{Fault}
+use Rattle.mm_problem.specs.declared.fault.Fault.TheVariants.{NoMemory}
 use Rattle.mm_base.specs.Lines.{text_lines}
 use Rattle.mm_problem.specs.Setup.{SetupRows}
 use Rattle.mm_memory.specs.Holdings.{memory_of}
 use Rattle.mm_ask.specs.declared.answering.Outcome.{Outcome}
-use Rattle.mm_ask.specs.declared.fault.Fault.{Fault}
-use Rattle.mm_ask.specs.declared.fault.Fault.TheVariants.{NoMemory, Setup}
 use Rattle.mm_ask.specs.Answering.{Standing, opened, Follows}
 
 -- what one line leaves; an empty one is passed over
@@ -32,4 +32,4 @@ pub record Answers (setup requests : List ℕ) (outcome : Outcome) (text : List 
 -- the fault of the setup, want of memory aside
 abbrev pub IsSetupFault : List ℕ → Fault → Type 0
 IsSetupFault setup NoMemory = Unit {0}
-IsSetupFault setup (Setup e) = setup_of setup ≡ Err e
+IsSetupFault setup e = setup_of setup ≡ Err e

@@ -26,7 +26,7 @@ next_sequence n = (n + 1) % SEQUENCE_COUNTS
 abbrev pub next_counter : ℕ → ℕ
 next_counter n = (n + 1) % 2 ^ 16
 
--- the counts behind one report more, of this kind
+-- the counts after one report more, of this kind
 abbrev pub counted : Counts → ReportKind → Counts
 counted c Control = record c { sequence = next_sequence c.sequence; control = next_counter c.control }
 counted c Summaries = record c { sequence = next_sequence c.sequence; summaries = next_counter c.summaries }
@@ -44,7 +44,7 @@ counter_of c Configurations = c.configurations
 abbrev pub numbers_of : Counts → ReportKind → Numbers
 numbers_of c kind = record { sequence = c.sequence; counter = counter_of c kind }
 
--- the counts behind these reports
+-- the counts after these reports
 abbrev pub counts_after : List ReportKind → Counts
 counts_after kinds = fold counted no_counts kinds
 

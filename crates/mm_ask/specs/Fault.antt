@@ -1,17 +1,12 @@
--- The refusals of lines and of the setup, with those of the crates below.
+-- The refusals of lines, with those of the crates below.
 use Rattle.mm_base.specs.declared.refusal.Refusal.{Refusal}
 use Rattle.mm_base.specs.declared.refusal.Refusal.TheVariants as refusal
-use Rattle.mm_problem.specs.declared.fault.Fault.{Fault as SetupFault}
-use Rattle.mm_problem.specs.declared.fault.Fault.TheVariants as setup
-use Rattle.mm_problem.specs.Fault.{refusal_of as setup_refusal}
 use Rattle.mm_packet.specs.declared.fault.Fault.{Fault as PacketFault}
 use Rattle.mm_packet.specs.declared.fault.Fault.TheVariants as packet
 use Rattle.mm_packet.specs.Fault.{refusal_of as packet_refusal}
 use Rattle.mm_st15.specs.declared.fault.Fault.{Fault as RequestFault}
 use Rattle.mm_st15.specs.declared.fault.Fault.TheVariants as request
 use Rattle.mm_st15.specs.Fault.{refusal_of as request_refusal}
-use Rattle.mm_ask.specs.declared.fault.Fault.{Fault}
-use Rattle.mm_ask.specs.declared.fault.Fault.TheVariants as fault
 use Rattle.mm_ask.specs.declared.fault.LineFault.{LineFault}
 use Rattle.mm_ask.specs.declared.fault.LineFault.TheVariants.{NoMemory, HexLine, Packet, Request}
 
@@ -24,10 +19,6 @@ refusal_of = elim [
   | Request fault ↦ request_refusal fault
 ]
 
--- which refusal a fault of the setup is
-abbrev pub setup_refusal_of : Fault → Refusal
-setup_refusal_of = elim [ fault.NoMemory ↦ refusal.NoMemory | fault.Setup reason ↦ setup_refusal reason ]
-
 -- the refusal of a packet, as one of its line
 abbrev pub of_packet : PacketFault → LineFault
 of_packet packet.NoMemory = NoMemory
@@ -37,8 +28,3 @@ of_packet other = Packet other
 abbrev pub of_request : RequestFault → LineFault
 of_request request.NoMemory = NoMemory
 of_request other = Request other
-
--- a fault of the setup
-abbrev pub of_setup : SetupFault → Fault
-of_setup setup.NoMemory = fault.NoMemory
-of_setup other = fault.Setup other

@@ -23,9 +23,13 @@ answer_text (Refused fault) = refused_text (answer_refusal fault)
 abbrev pub refused_line : ℕ → LineFault → List ℕ
 refused_line line fault = decimal line ++ refused_text (refusal_of fault)
 
+-- a line's number, and an instruction's place in its request
+abbrev pub place_text : ℕ → ℕ → List ℕ
+place_text line place = decimal line ++ codes "." ++ decimal place
+
 -- the line on an instruction, with its place in the request
 abbrev pub answer_line : ℕ → ℕ → Answer → List ℕ
-answer_line line place answer = decimal line ++ codes "." ++ decimal place ++ answer_text answer
+answer_line line place answer = place_text line place ++ answer_text answer
 
 -- the lines on the instructions from this place on
 abbrev pub answer_lines : ℕ → ℕ → List Answer → List ℕ

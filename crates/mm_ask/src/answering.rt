@@ -50,7 +50,7 @@ impl Model for Conversation {
 impl Outcome {
     ghost use Rattle.mm_ask.specs.Answering.{outcome_after};
 
-    // The outcome behind these answers.
+    // The outcome after these answers.
     fn after(self, answers: &[Answer]) -> Outcome
         ensures { result ≡ fold outcome_after self answers.now }
     {

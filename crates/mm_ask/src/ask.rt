@@ -3,13 +3,13 @@ ghost use Rattle.std.specs.Prelude.{◌≡◌, IfOk, IfErr, OnOk};
 ghost use Rattle.mm_ask.specs.Answering.{opened};
 ghost use Rattle.mm_ask.specs.Asking.{Answers, Converses, IsSetupFault, Passes};
 ghost use Rattle.mm_base.specs.Lines.{text_lines};
+ghost use Rattle.mm_memory.specs.Holdings.{memory_of};
 
 use crate::answering::{Conversation, Outcome};
-use crate::fault::Fault;
 use mm_base::NoMemory;
 use mm_base::lines::split_line;
 use mm_memory::Memory;
-use mm_problem::Setup;
+use mm_problem::{Fault, Setup};
 use std::alloc::Global;
 
 // Answers a line, which has this number; an empty one is passed over.
@@ -42,6 +42,16 @@ fn converse(alloc: Global, conversation: &mut Conversation, requests: &[u8]) -> 
     pass(alloc, conversation, line, rest)
 }
 
+// The conversation that the requests have with the memory of the setup.
+fn conversation_of(alloc: Global, setup: &Setup, requests: &[u8]) -> Result<Conversation, NoMemory>
+    ensures { IfOk result (Converses 1 (text_lines requests.now) (opened (memory_of setup.now))) }
+{
+    let memory = Memory::of_setup(alloc, setup)?;
+    let mut conversation = Conversation::new(alloc, memory);
+    converse(alloc, &mut conversation, requests)?;
+    Ok(conversation)
+}
+
 /// The text that answers the requests, one a line, to the memory of the setup; and whether all was
 /// done that they asked. The moment of a request is its line's number. Otherwise the fault of the
 /// setup, or want of memory.
@@ -50,8 +60,8 @@ pub fn ask_bytes(alloc: Global, setup: &[u8], requests: &[u8]) -> Result<(Outcom
     ensures refused { IfErr result (IsSetupFault setup.now) }
 {
     let setup = Setup::read(alloc, setup)?;
-    let memory = Memory::of_setup(alloc, &setup)?;
-    let mut conversation = Conversation::new(alloc, memory);
-    converse(alloc, &mut conversation, requests)?;
-    Ok(conversation.into_parts())
+    match conversation_of(alloc, &setup, requests) {
+        Ok(conversation) => Ok(conversation.into_parts()),
+        Err(NoMemory) => Err(Fault::NoMemory),
+    }
 }

@@ -44,7 +44,7 @@ impl Model for Counters {
     ghost invariant = { λ c. c.sequence < SEQUENCE_COUNTS };
 }
 
-// The counter's value, which is then raised by one; behind the greatest comes 0.
+// The counter's value, which is then raised by one; after the greatest comes 0.
 fn taken(counter: &mut u16) -> u16
     ensures value { result ≡ counter.old }
     ensures raised { counter.new ≡ (counter.old + 1) % 2 ^ 16 }

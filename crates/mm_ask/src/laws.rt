@@ -11,7 +11,7 @@ pub fn numbers_count_reports()
 {}
 
 /// The counts from which the reports of a conversation have their numbers are those of the reports
-/// that it printed before: behind each line, and behind each report on a request.
+/// that it printed before: after each line, and after each report on a request.
 pub fn conversations_count_their_reports()
     ensures lines { ConversationsCount }
     ensures reports { ReportsCount }

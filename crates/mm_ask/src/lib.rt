@@ -14,8 +14,9 @@ mod text;
 pub use answering::Outcome;
 pub use ask::ask_bytes;
 pub use counters::{Counters, Numbers, SEQUENCE_COUNTS};
-pub use fault::{Fault, LineFault};
+pub use fault::LineFault;
 pub use line::{Asked, request_of};
+pub use mm_problem::Fault;
 
 #[cfg(test)]
 mod tests;

@@ -8,6 +8,7 @@ ghost use Rattle.mm_ask.specs.declared.fault.LineFault.TheVariants.{NoMemory};
 ghost use Rattle.mm_ask.specs.Line.{has_digits, octets_in, packet_alone, request_of};
 
 use crate::fault::LineFault;
+use mm_base::passed_on;
 use mm_packet::Packet;
 use mm_st15::Request;
 use std::alloc::Global;
@@ -48,6 +49,16 @@ fn octets_in(alloc: Global, line: &[u8]) -> Result<Vec<u8>, LineFault>
     }
 }
 
+impl From<mm_packet::Fault> for LineFault {
+    ghost use Rattle.mm_ask.specs.Fault.{of_packet};
+
+    ghost from_gives = { λ fault e. e ≡ of_packet fault };
+
+    fn from(fault: mm_packet::Fault) -> LineFault {
+        passed_on!(fault; mm_packet as Packet)
+    }
+}
+
 // The packet that the octets are, with nothing after it.
 fn packet_alone(alloc: Global, octets: &[u8]) -> Result<Packet, LineFault>
     ensures { Gives NoMemory (λ packet. packet) result (packet_alone octets.now) }
@@ -57,6 +68,16 @@ fn packet_alone(alloc: Global, octets: &[u8]) -> Result<Packet, LineFault>
         Ok(packet)
     } else {
         Err(LineFault::HexLine)
+    }
+}
+
+impl From<mm_st15::Fault> for LineFault {
+    ghost use Rattle.mm_ask.specs.Fault.{of_request};
+
+    ghost from_gives = { λ fault e. e ≡ of_request fault };
+
+    fn from(fault: mm_st15::Fault) -> LineFault {
+        passed_on!(fault; mm_st15 as Request)
     }
 }
 

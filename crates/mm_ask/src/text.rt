@@ -1,6 +1,6 @@
 //! The lines that are printed.
 ghost use Rattle.std.specs.Prelude.{◌≡◌, ◌+◌, ◌<◌, ◌^◌, ◌++◌, length, OnOk};
-ghost use Rattle.mm_ask.specs.Text.{refused_text, answer_text, refused_line, answer_line, answer_lines, report_line};
+ghost use Rattle.mm_ask.specs.Text.{refused_text, answer_text, refused_line, answer_lines, report_line, place_text};
 
 use crate::fault::LineFault;
 use mm_base::numbers::push_number;
@@ -42,22 +42,18 @@ pub(crate) fn push_refused_line(
     push_refused(text, fault.refusal())
 }
 
+// Begins the line on an instruction with its place in the request.
 #[tactic(auto, using(std::proofs::Common::append_assoc))]
-fn push_answer_line(
-    text: &mut Vec<u8>,
-    line: u64,
-    place: u64,
-    answer: Answer,
-) -> Result<(), AllocError>
-    ensures { OnOk result (text.new.items ≡ text.old.items ++ answer_line line place answer) }
+fn push_place(text: &mut Vec<u8>, line: u64, place: u64) -> Result<(), AllocError>
+    ensures { OnOk result (text.new.items ≡ text.old.items ++ place_text line place) }
 {
     push_number(text, line)?;
     text.extend_from_slice(b".")?;
-    push_number(text, place)?;
-    push_answer(text, answer)
+    push_number(text, place)
 }
 
 /// The lines on the instructions of a request, whose places count from 1.
+#[tactic(auto, using(std::proofs::Common::append_assoc))]
 pub(crate) fn push_answer_lines(
     text: &mut Vec<u8>,
     line: u64,
@@ -68,7 +64,8 @@ pub(crate) fn push_answer_lines(
     let mut rest = answers;
     let mut place: u64 = 1;
     while let [answer, after @ ..] = rest {
-        push_answer_line(text, line, place, *answer)?;
+        push_place(text, line, place)?;
+        push_answer(text, *answer)?;
         rest = after;
         place += 1;
     }

@@ -19,7 +19,7 @@ padding n = drop-replicate n 8 32
 no_space : (c : ℕ) → IsTrue (is_id_char c) → (c == 32) ≡ false
 no_space c h = elim (eqb_tells c 32) [ inl p ↦ absurd (false≢true (subst (λ x. is_id_char x ≡ true) p.1 h)) | inr q ↦ q.0 ]
 
--- behind the text there is a space
+-- after the text there is a space
 space_at : (text : List ℕ) (d : ℕ) → length text < length (field_of text) → get_or (field_of text) (length text) d ≡ 32
 space_at text d within =
     let room : 0 < 8 - length text = omega (arith, length-append text (replicate (8 - length text) 32), length-replicate {A = ℕ} (8 - length text) 32) in

@@ -6,7 +6,7 @@ use Rattle.std.proofs.lemmas.List.{drop_more, drop_all}
 use Rattle.mm_base.specs.Numbers.{value_after, numeral_within}
 use Rattle.mm_base.specs.declared.numbers.Numeral.TheVariants.{TooLarge}
 
--- digits behind a number make it no smaller
+-- digits after a number make it no smaller
 value_after_grows : (n : ℕ) (digits : List ℕ) → n ≤ value_after n digits
 value_after_grows n [] = omega arith
 value_after_grows n (c ∷ cs) = omega (arith, value_after_grows (n * 10 + (c - 48)) cs)
@@ -15,7 +15,7 @@ value_after_grows n (c ∷ cs) = omega (arith, value_after_grows (n * 10 + (c - 
 pub value_after_more : (n i digit : ℕ) (digits : List ℕ) → i < length digits → digit ≡ get_or digits i 0 → value_after n (drop i digits) ≡ value_after (n * 10 + (digit - 48)) (drop (i + 1) digits)
 value_after_more n i digit digits within is = rw (drop_more digits i 0 within, ← is) refl
 
--- behind the last digit the number is whole
+-- after the last digit the number is whole
 pub value_after_all : (n i : ℕ) (digits : List ℕ) → length digits ≤ i → value_after n (drop i digits) ≡ n
 value_after_all n i digits past = rw (drop_all i digits past) refl
 

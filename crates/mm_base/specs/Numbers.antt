@@ -11,7 +11,7 @@ is_number [] = false
 is_number (c ∷ []) = is_ascii_digit c
 is_number (c ∷ d ∷ cs) = not (c == 48) && list_all is_ascii_digit (c ∷ d ∷ cs)
 
--- the number with these digits behind its own
+-- the number with these digits after its own
 abbrev pub value_after : ℕ → List ℕ → ℕ
 value_after n [] = n
 value_after n (c ∷ cs) = value_after (n * 10 + (c - 48)) cs

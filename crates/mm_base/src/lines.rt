@@ -9,7 +9,7 @@ fn first_feed(text: &[u8]) -> Option<usize>
     text.iter().position(|octet| *octet == b'\n')
 }
 
-/// The text up to the first line feed, and the text behind it; nothing where the text is a single line.
+/// The text up to the first line feed, and the text after it; nothing where the text is a single line.
 pub fn split_line(text: &[u8]) -> Option<(&[u8], &[u8])>
     ensures lines { MatchOption result
         (text_lines text.now ≡ text.now ∷ [])

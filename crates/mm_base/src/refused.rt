@@ -45,3 +45,14 @@ macro_rules! refusals {
         }
     };
 }
+
+/// A fault of a crate below as a fault of this crate: want of memory stays `NoMemory`, and any other fault is one of the named case.
+#[macro_export]
+macro_rules! passed_on {
+    ($fault:expr; $lower:ident as $case:ident) => {
+        match $fault {
+            $lower::Fault::NoMemory => Self::NoMemory,
+            fault => Self::$case(fault),
+        }
+    };
+}

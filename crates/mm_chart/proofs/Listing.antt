@@ -9,18 +9,17 @@ use Rattle.std.proofs.lemmas.List.Sums.{passes_at_first}
 use Rattle.std.proofs.lemmas.Slice.Eq.{bytes_eq-Decides}
 use Rattle.std.specs.Str.{bytes_eq}
 use Rattle.mm_sums.proofs.RangeSums.{term-le-sum_by_range}
-use Rattle.mm_problem.specs.Dumping.{Dumping, no_row, row, place, size, start, channel, arrivals}
+use Rattle.mm_sums.proofs.Sums.{sum_by-filter_parts}
+use Rattle.mm_problem.specs.Dumping.{Dumping, no_row, row, place, size, start, channel, window, arrivals, steps}
 use Rattle.mm_plan.specs.Table.{amount}
 use Rattle.mm_plan.specs.declared.stretch.Stretch.{Stretch}
 use Rattle.mm_cut.specs.Stretches.{store_of, channel_of, covers, goes_past, goes_past_on, is_inner, is_inner_on, IsStretch}
 use Rattle.mm_cut.specs.Counts.{is_listed}
-use Rattle.mm_cut.specs.Cuts.{bound, counts_window, counts_limits}
-use Rattle.mm_cut.specs.Changes.{ChangesStretch, HelpsNowhere}
+use Rattle.mm_cut.specs.Cuts.{bound, limit_sum, counts_window, counts_limits}
+use Rattle.mm_cut.specs.Changes.{ChangesStretch, HelpsNowhere, OnlyCountedHelps}
 use Rattle.mm_cut.specs.Verdicts.{IsVerdict}
 use Rattle.mm_cut.specs.declared.verdict.Verdict.{Verdict}
 use Rattle.mm_cut.specs.declared.verdict.Verdict.TheVariants.{NotShown, Least}
-use Rattle.mm_cut.proofs.PartSums.{leaving_sum_parts}
-use Rattle.mm_cut.proofs.Helping.{only_counted_helps}
 use Rattle.mm_chart.specs.declared.series.Series.{Series}
 use Rattle.mm_chart.specs.declared.series.Series.TheVariants.{WindowCounts, ChannelCounts, LimitsCount, Inner, Last}
 use Rattle.mm_chart.specs.Picture.{Drawn, IsDrawn, has_cut, cut, counts}
@@ -30,7 +29,9 @@ use Rattle.mm_chart.specs.Listed.{sum_of, SumsAddUp, is_shaded, place_of, KeepsL
 
 -- the numbers of the sum are the parts of the bound
 sum_is_bound : (p : Drawn) → sum_of p ≡ bound p.problem (cut p) (counts p)
-sum_is_bound p = omega (arith, ints, leaving_sum_parts p.problem (cut p) (counts p))
+sum_is_bound p =
+    let q = p.problem in
+    omega (arith, ints, sum_by-filter_parts (is_inner (cut p)) (is_listed (counts p)) (limit_sum q (cut p)) (window q) (steps q))
 
 -- where there is a cut, it is the sheet's
 shown_bound : (p : Drawn) (v : Verdict) → p.verdict ≡ v → has_cut v ≡ true → bound p.problem (cut p) (counts p) ≡ bound p.problem p.sheet.cut p.sheet.by_channels
@@ -197,7 +198,8 @@ module _ (p : Drawn) (is : IsDrawn p) where
     limits = λ t c listed on. h.limits t c (limits_marked t listed (inner_from_on t c on)) (channel_marked t c listed on);
   }
 
-pub only_listed_helps : OnlyListedHelps
-only_listed_helps p n r x is here h fits =
+-- from the law that only what a cut counts can lower its bound
+pub only_listed_helps : OnlyCountedHelps → OnlyListedHelps
+only_listed_helps only_counted_helps p n r x is here h fits =
     let least = only_counted_helps p.problem r (cut p) (counts p) x is.is_cut (listed_kept p is r h) fits in
     omega (arith, ints, least, sum_is_bound p, (sums_add_up p is).least n here)

@@ -10,4 +10,6 @@ pub fn sums_add_up()
 /// whatever else changes, no plan that fits loses less.
 pub fn only_listed_helps()
     ensures { OnlyListedHelps }
-{}
+{
+    mm_cut::only_counted_helps()
+}

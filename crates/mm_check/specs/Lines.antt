@@ -7,13 +7,13 @@ use Rattle.mm_cut.specs.declared.verdict.Verdict.TheVariants.{DoesNotFit, LossIs
 
 -- what a verdict says
 abbrev pub text_of : Verdict → List ℕ
+text_of (Least loss) = codes "least " ++ decimal loss
+text_of (NotShown loss bound) = codes "not shown, loss " ++ decimal loss ++ codes " bound " ++ signed_decimal bound
 text_of (DoesNotFit step) = codes "does not fit, step " ++ decimal step
 text_of (LossIs loss) = codes "loss is " ++ decimal loss
 text_of (BadStretch place) = codes "bad stretch " ++ decimal place
 text_of (BadCount place) = codes "bad count " ++ decimal place
 text_of (BoundIs bound) = codes "bound is " ++ signed_decimal bound
-text_of (NotShown loss bound) = codes "not shown, loss " ++ decimal loss ++ codes " bound " ++ signed_decimal bound
-text_of (Least loss) = codes "least " ++ decimal loss
 
 -- the line with its line end
 abbrev pub line_of : Verdict → List ℕ

@@ -1,7 +1,7 @@
 //! Why texts have no plan or no verdict.
 ghost use Rattle.std.specs.Prelude.{◌≡◌};
 
-use mm_base::{NoMemory, Refusal, Refused, refusals};
+use mm_base::{NoMemory, Refusal, Refused, passed_on, refusals};
 use thiserror::Error;
 
 /// Why texts have no plan or no verdict: a fault of the setup or the forecast, or one of the plan text. It is shown as
@@ -16,16 +16,23 @@ pub enum Fault {
     Plan(mm_plan::Fault),
 }
 
+impl Refused for Fault {
+    fn refusal(self) -> Refusal {
+        refusals!(self; NoMemory; below Problem, Plan)
+    }
+
+    ghost use Rattle.mm_check.specs.Fault.{refusal_of};
+
+    ghost refusal_of = { refusal_of };
+}
+
 impl From<mm_problem::Fault> for Fault {
     ghost use Rattle.mm_check.specs.Fault.{of_problem};
 
     ghost from_gives = { λ fault e. e ≡ of_problem fault };
 
     fn from(fault: mm_problem::Fault) -> Fault {
-        match fault {
-            mm_problem::Fault::NoMemory => Fault::NoMemory,
-            _ => Fault::Problem(fault),
-        }
+        passed_on!(fault; mm_problem as Problem)
     }
 }
 
@@ -35,21 +42,8 @@ impl From<mm_plan::Fault> for Fault {
     ghost from_gives = { λ fault e. e ≡ of_plan fault };
 
     fn from(fault: mm_plan::Fault) -> Fault {
-        match fault {
-            mm_plan::Fault::NoMemory => Fault::NoMemory,
-            _ => Fault::Plan(fault),
-        }
+        passed_on!(fault; mm_plan as Plan)
     }
-}
-
-impl Refused for Fault {
-    fn refusal(self) -> Refusal {
-        refusals!(self; NoMemory; below Problem, Plan)
-    }
-
-    ghost use Rattle.mm_check.specs.Fault.{refusal_of};
-
-    ghost refusal_of = { refusal_of };
 }
 
 impl From<NoMemory> for Fault {

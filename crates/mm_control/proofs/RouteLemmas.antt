@@ -48,7 +48,7 @@ module _ {X : Type 0} (R : X → X → Type 0) where
   pub AllPairs-head : (x : X) (xs : List X) → AllPairs R (x ∷ xs) → All (R x) xs
   AllPairs-head x xs pairs = λ k d within. pairs 0 (suc k) d (omega arith) (omega arith)
 
-  -- where all of one list come before all of another, both stand in order behind one another
+  -- where all of one list come before all of another, both stand in order one after another
   AllPairs-append : (xs ys : List X) → AllPairs R xs → AllPairs R ys → All (λ x. All (R x) ys) xs → AllPairs R (xs ++ ys)
   AllPairs-append [] ys first second between = second
   AllPairs-append (x ∷ xs) ys first second between =

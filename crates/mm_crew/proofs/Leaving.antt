@@ -1,22 +1,12 @@
 -- Stores that went by logs, with one store more at the end.
 use Rattle.std.proofs.Common.{◌≡◌, ◌⊎◌, inl, inr, ℕ, zero, suc, ◌+◌, ◌<◌, ◌≤◌, List, [], ◌∷◌, ◌++◌, length, get_or, refl, sym, subst, ap, ◌∙◌, arith}
 use Rattle.std.proofs.lemmas.Bool.{cases_lt}
-use Rattle.std.proofs.lemmas.List.{length-append, length-map, map-append}
+use Rattle.std.proofs.lemmas.List.{get_or_append_left, get_or_push, length-append, length-map, map-append}
 use Rattle.mm_desk.specs.Machine.{State}
 use Rattle.mm_desk.specs.Runs.{opening_at, blank}
 use Rattle.mm_crew.specs.declared.crew.Worker.{Worker}
 use Rattle.mm_desk.specs.declared.held.Held.{Held}
 use Rattle.mm_crew.specs.Closings.{lists_at, states_of, WentBy, AllWentBy}
-
--- the element at the end, and those before it
-pub get_or-last : {X : Type 0} (xs : List X) (x d : X) → get_or (xs ++ x ∷ []) (length xs) d ≡ x
-get_or-last [] x d = refl
-get_or-last (y ∷ xs) x d = get_or-last xs x d
-
-pub get_or-front : {X : Type 0} (xs : List X) (x d : X) (k : ℕ) → k < length xs → get_or (xs ++ x ∷ []) k d ≡ get_or xs k d
-get_or-front [] x d k within = absurd (omega arith)
-get_or-front (y ∷ xs) x d zero within = refl
-get_or-front (y ∷ xs) x d (suc k) within = get_or-front xs x d k (omega arith)
 
 -- no store
 pub went_none : {N W B : Type 0} (workers : List (Worker N W B)) (before : List State) (stores : List Held) → stores ≡ [] → AllWentBy workers before (states_of stores)
@@ -36,12 +26,12 @@ went_more workers before stores h place many all one k within =
     by_place : length (states_of stores) ≡ place → (k < length (states_of stores)) ⊎ (length (states_of stores) ≤ k)
         → WentBy (lists_at k workers) (opening_at before k) (opening_at (states_of stores ++ h.state ∷ []) k)
     by_place same (inl front) =
-        subst (λ (t : State). WentBy (lists_at k workers) (opening_at before k) t) (sym (get_or-front (states_of stores) h.state blank k front)) (all k front)
+        subst (λ (t : State). WentBy (lists_at k workers) (opening_at before k) t) (sym (get_or_append_left (states_of stores) (h.state ∷ []) blank k front)) (all k front)
     by_place same (inr past) =
         let whole : length (states_of (stores ++ h ∷ [])) ≡ length (states_of stores) + 1 =
         ap length (map-append (λ (h : Held). h.state) stores (h ∷ [])) ∙ length-append (states_of stores) (h.state ∷ []) in
         let here : k ≡ place = omega arith in
         let last : opening_at (states_of stores ++ h.state ∷ []) k ≡ h.state =
-        ap (λ (n : ℕ). opening_at (states_of stores ++ h.state ∷ []) n) (here ∙ sym same) ∙ get_or-last (states_of stores) h.state blank in
+        get_or_push (states_of stores) h.state blank k (same ∙ sym here) in
         subst (λ (t : State). WentBy (lists_at k workers) (opening_at before k) t) (sym last)
         (subst (λ (n : ℕ). WentBy (lists_at n workers) (opening_at before n) h.state) (sym here) one)

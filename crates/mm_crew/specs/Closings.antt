@@ -1,4 +1,4 @@
--- What lay behind the desks of a step, beside the lists of the workers' seats.
+-- What was at the desks of a step, beside the lists of the workers' seats.
 use Rattle.std.specs.Prelude.{◌≡◌, ℕ, ◌<◌, List, length, map, slice_index_or}
 use Rattle.mm_desk.specs.declared.entry.Entry.{Entry}
 use Rattle.mm_desk.specs.declared.held.Held.{Held}

@@ -1,5 +1,5 @@
 -- Workers of a step: each has a seat at the desk of each store.
-use Rattle.std.specs.Prelude.{◌≡◌, ℕ, ◌<◌, List, length, map, slice_index_or, All, is_some, false}
+use Rattle.std.specs.Prelude.{◌≡◌, ℕ, ◌<◌, List, length, map, slice_index_or}
 use Rattle.mm_desk.specs.declared.entry.Entry.{Entry}
 use Rattle.mm_desk.specs.Seats.{Place, new_seat}
 use Rattle.mm_crew.specs.declared.crew.Seating.{Seating}
@@ -27,7 +27,3 @@ AreSeated desks workers =
 -- what workers have of their own
 abbrev pub owns_of : {N W B : Type 0} → List (Worker N W B) → List W
 owns_of workers = map (λ w. w.own) workers
-
--- no worker broke off
-abbrev pub AreWhole : {N W B : Type 0} → List (Worker N W B) → Type 0
-AreWhole workers = All (λ w. is_some w.broken ≡ false) workers

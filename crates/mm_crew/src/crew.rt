@@ -1,6 +1,6 @@
 //! Workers of a step, each with a seat at the desk of each store.
-ghost use Rattle.std.specs.Prelude.{◌≡◌, ◌≤◌, [], map, length, IfOk, IfNone, vec_len, vec_capacity};
-ghost use Rattle.mm_crew.specs.Crews.{AreSeatings, AreSeatsOf, AreWhole, list_at, owns_of};
+ghost use Rattle.std.specs.Prelude.{◌≡◌, ◌≤◌, [], map, length, IfOk, vec_len, vec_capacity};
+ghost use Rattle.mm_crew.specs.Crews.{AreSeatings, AreSeatsOf, list_at, owns_of};
 
 use mm_base::NoMemory;
 use mm_desk::{Entry, Opening, Seat};
@@ -106,16 +106,4 @@ pub fn part_all<N: Opening, W: Drop, B: Copy>(workers: Vec<Worker<N, W, B>>, own
     let mut owns = part_all(workers, owns);
     owns.push_reserved(worker.own);
     owns
-}
-
-/// Why the first worker that broke off did, where one did.
-pub fn first_broken<N: Opening, W: Drop, B: Copy>(workers: &[Worker<N, W, B>]) -> Option<B>
-    ensures none { IfNone result (AreWhole workers.now) }
-{
-    for worker in workers {
-        if worker.broken.is_some() {
-            return worker.broken;
-        }
-    }
-    None
 }

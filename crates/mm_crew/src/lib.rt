@@ -1,4 +1,4 @@
-//! The stores of a step behind desks, and crews of workers with seats at them.
+//! The stores of a step at desks, and crews of workers with seats at them.
 #![tactic(auto)]
 
 mod closing;
@@ -7,7 +7,7 @@ mod opening;
 mod station;
 
 pub use closing::{agrees_at, close_all};
-pub use crew::{Seating, Worker, first_broken, new_seatings, pair_all, part_all};
+pub use crew::{Seating, Worker, new_seatings, pair_all, part_all};
 pub use opening::{Rooms, new_rooms, open_all};
 pub use station::{Station, place_of};
 

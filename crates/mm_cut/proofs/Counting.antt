@@ -13,6 +13,7 @@ use Rattle.mm_problem.specs.Dumping.{Dumping, stores, steps, IsDumping}
 use Rattle.mm_plan.specs.declared.stretch.Stretch.{Stretch}
 use Rattle.mm_cut.specs.Stretches.{covers, goes_past, IsStretch, AreStretches}
 use Rattle.mm_cut.specs.Counts.{IsCounted, AreCounted}
+use Rattle.mm_cut.specs.Cuts.{CutsAreFew}
 use Rattle.mm_cut.proofs.Exchange.{by_store}
 
 -- how many steps a stretch has
@@ -69,3 +70,6 @@ length-counted q ds ts are counted =
     (λ i j d before inside _ _. counted.once i j d before inside) in
     let all_steps = sum_by_ones (range_with_len 0 (length q.windows)) ∙ length-range_with_len 0 (length q.windows) in
     omega (arith, places, sum_by_ones ts, all_steps)
+
+pub cuts_are_few : CutsAreFew
+cuts_are_few q ds ts is cut = (few_stretches q ds is cut.stretches, length-counted q ds ts cut.stretches cut.counted)

@@ -1,7 +1,8 @@
 -- Cuts, which show that no plan loses less than their bound.
-use Rattle.std.specs.Prelude.{ℕ, ◌+◌, Bool, ◌==◌, ◌&&◌, not, if◌then◌else◌, List, filter, unwrap_or, ℤ, pos, ◌-ℤ◌, ◌≤ℤ◌}
+use Rattle.std.specs.Prelude.{ℕ, ◌+◌, ◌*◌, ◌≤◌, Bool, ◌==◌, ◌&&◌, not, if◌then◌else◌, List, length, filter, unwrap_or, ℤ, pos, ◌-ℤ◌, ◌≤ℤ◌}
 use Rattle.std.specs.List.{sum_by}
-use Rattle.mm_problem.specs.Dumping.{Dumping, size, start, limit, window, arrivals, steps, channels}
+use Rattle.mm_base.specs.declared.limits.TheConstants.{MAX_STORES, MAX_STEPS}
+use Rattle.mm_problem.specs.Dumping.{Dumping, IsDumping, size, start, limit, window, arrivals, steps, channels}
 use Rattle.mm_plan.specs.Volumes.{Amounts, loss}
 use Rattle.mm_plan.specs.Fit.{Fits}
 use Rattle.mm_plan.specs.declared.stretch.Stretch.{Stretch}
@@ -73,3 +74,8 @@ bound q ds ts = pos (coming_sum q ds) -ℤ pos (held_sum q ds + leaving_sum q ds
 abbrev pub CutsBoundLosses : Type 0
 CutsBoundLosses =
     (q : Dumping) (x : Amounts) (ds : List Stretch) (ts : List ℕ) → Fits q x → IsCut q ds ts → bound q ds ts ≤ℤ pos (loss q x)
+
+-- a cut has at most one stretch for each store and step, and counts each step once at the most
+abbrev pub CutsAreFew : Type 0
+CutsAreFew =
+    (q : Dumping) (ds : List Stretch) (ts : List ℕ) → IsDumping q → IsCut q ds ts → (length ds ≤ MAX_STEPS * MAX_STORES) × (length ts ≤ length q.windows)

@@ -42,7 +42,7 @@ fn coming(problem: &Problem, stretch: &Stretch) -> u64
 }
 
 /// Whether a step is inner in some stretch of a store of the channel.
-pub fn is_inner_on(problem: &Problem, stretches: &[Stretch], step: u32, channel: u8) -> bool
+fn is_inner_on(problem: &Problem, stretches: &[Stretch], step: u32, channel: u8) -> bool
     requires { All (IsStretch problem.now) stretches.now }
     ensures { result ≡ is_inner_on problem.now stretches.now step channel }
 {

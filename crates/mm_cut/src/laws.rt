@@ -1,6 +1,6 @@
 //! The laws of cuts and verdicts, over their definitions alone.
 ghost use Rattle.mm_cut.specs.Changes.{CutsCountAlike, OnlyCountedHelps};
-ghost use Rattle.mm_cut.specs.Cuts.{CutsBoundLosses};
+ghost use Rattle.mm_cut.specs.Cuts.{CutsBoundLosses, CutsAreFew};
 ghost use Rattle.mm_cut.specs.Verdicts.{VerdictsExclude};
 
 /// No plan that fits loses less than the bound of any cut.
@@ -23,4 +23,9 @@ pub fn cuts_count_alike()
 /// fits a problem which helps nowhere there loses less than the bound.
 pub fn only_counted_helps()
     ensures { OnlyCountedHelps }
+{}
+
+/// A cut has no more stretches than there may be stores and steps, and no more counted steps than the problem has steps.
+pub fn cuts_are_few()
+    ensures { CutsAreFew }
 {}

@@ -9,8 +9,10 @@ mod stretches;
 mod tests;
 mod verdict;
 
-pub use bounds::{Parts, bound, counts_limits, counts_window, is_inner_on, parts_of};
+pub use bounds::{Parts, bound, counts_limits, counts_window, parts_of};
 pub use counts::first_bad_count;
-pub use laws::{cuts_bound_losses, cuts_count_alike, only_counted_helps, verdicts_exclude};
-pub use stretches::{first_bad, goes_past, store_of};
+pub use laws::{
+    cuts_are_few, cuts_bound_losses, cuts_count_alike, only_counted_helps, verdicts_exclude,
+};
+pub use stretches::{first_bad, store_of};
 pub use verdict::{Verdict, verify};

@@ -34,7 +34,7 @@ pub(crate) fn covers(stretch: &Stretch, step: u32) -> bool
 }
 
 /// Whether a step is an inner step of the stretch: one of its steps, and not its last.
-pub fn goes_past(step: u32, stretch: &Stretch) -> bool
+pub(crate) fn goes_past(step: u32, stretch: &Stretch) -> bool
     ensures { result ≡ goes_past step stretch.now }
 {
     stretch.first <= step && step < stretch.last

@@ -1,7 +1,7 @@
 -- Every event leaves a state.
 use Rattle.std.proofs.Common.{◌≡◌, ℕ, ◌<◌, ◌^◌, ltb, List, [], ◌∷◌, All, arith}
 use Rattle.std.specs.Prelude.{Option, Some, None, Result, ◌==◌, ◌||◌, not, is_some}
-use Rattle.std.proofs.lemmas.Bool.{or_parts, eqb-false}
+use Rattle.std.proofs.lemmas.Bool.{or_parts, eqb-false, cond_both}
 use Rattle.std.proofs.lemmas.List.Elements.{All-head, All-tail}
 use Rattle.mm_packet.specs.Packet.{SpacePacket}
 use Rattle.mm_store.specs.declared.stored.Stored.{Stored}
@@ -17,7 +17,6 @@ use Rattle.mm_desk.specs.declared.state.Retrieval.{Retrieval}
 use Rattle.mm_desk.specs.Laws.{KeepBalance, HasTimes}
 use Rattle.mm_desk.specs.Machine.{State, IsState, offer, give, next_of, step}
 use Rattle.mm_desk.specs.Runs.{replay}
-use Rattle.mm_desk.proofs.Choices.{choice}
 
 -- a moment that fits, and is not the last one, is before it
 before_end : (last : ℕ) → last < 2 ^ 64 → (last ≡ clock_end → ⊥) → last < clock_end
@@ -26,9 +25,9 @@ before_end last fits other = omega (arith, other)
 module _ (balance : KeepBalance) (puts : PutsKeepStores) (deletions : DeletionsKeepStores) (s : State) (sound : IsState s) where
   by_offer : (now : ℕ) (packet : SpacePacket) → now < 2 ^ 64 → IsStore (offer s now packet).1.store × ((offer s now packet).1.offered < 2 ^ 64)
   by_offer now packet fits =
-      choice (λ (r : Result Offered Returned × State). IsStore r.1.store × (r.1.offered < 2 ^ 64)) (not s.storage) _ _
+      cond_both (not s.storage) _ _ (λ (r : Result Offered Returned × State). IsStore r.1.store × (r.1.offered < 2 ^ 64))
       (λ off. (sound.store, sound.offered_fits))
-      (λ on. choice (λ (r : Result Offered Returned × State). IsStore r.1.store × (r.1.offered < 2 ^ 64)) ((s.store.last == clock_end) || (s.offered == clock_end)) _ _
+      (λ on. cond_both ((s.store.last == clock_end) || (s.offered == clock_end)) _ _ (λ (r : Result Offered Returned × State). IsStore r.1.store × (r.1.offered < 2 ^ 64))
       (λ late. (sound.store, sound.offered_fits))
       (λ early.
       let other = eqb-false s.offered clock_end (or_parts (s.store.last == clock_end) (s.offered == clock_end) early).1 in
@@ -45,16 +44,16 @@ module _ (balance : KeepBalance) (puts : PutsKeepStores) (deletions : DeletionsK
   by_event : (e : Event) → HasTimes e → IsStore (step s e).1.store × ((step s e).1.offered < 2 ^ 64)
   by_event (Offer now packet) fits = by_offer now packet fits
   by_event (Begin from to) fits =
-      choice (λ (r : Result (Unit {0}) Fault × State). IsStore r.1.store × (r.1.offered < 2 ^ 64)) (is_some s.retrieval) _ _
+      cond_both (is_some s.retrieval) _ _ (λ (r : Result (Unit {0}) Fault × State). IsStore r.1.store × (r.1.offered < 2 ^ 64))
       (λ busy. (sound.store, sound.offered_fits))
-      (λ idle. choice (λ (r : Result (Unit {0}) Fault × State). IsStore r.1.store × (r.1.offered < 2 ^ 64)) (ltb to from) _ _
+      (λ idle. cond_both (ltb to from) _ _ (λ (r : Result (Unit {0}) Fault × State). IsStore r.1.store × (r.1.offered < 2 ^ 64))
       (λ bad. (sound.store, sound.offered_fits)) (λ forward. (sound.store, sound.offered_fits)))
   by_event Next fits = by_next s.retrieval
   by_event Abort fits =
-      choice (λ (r : Result (Unit {0}) Fault × State). IsStore r.1.store × (r.1.offered < 2 ^ 64)) (is_some s.retrieval) _ _
+      cond_both (is_some s.retrieval) _ _ (λ (r : Result (Unit {0}) Fault × State). IsStore r.1.store × (r.1.offered < 2 ^ 64))
       (λ busy. (sound.store, sound.offered_fits)) (λ idle. (sound.store, sound.offered_fits))
   by_event (Delete limit) fits =
-      choice (λ (r : Result ℕ Fault × State). IsStore r.1.store × (r.1.offered < 2 ^ 64)) (is_some s.retrieval) _ _
+      cond_both (is_some s.retrieval) _ _ (λ (r : Result ℕ Fault × State). IsStore r.1.store × (r.1.offered < 2 ^ 64))
       (λ busy. (sound.store, sound.offered_fits)) (λ idle. (deletions s.store limit sound.store, sound.offered_fits))
   by_event Enable fits = (sound.store, sound.offered_fits)
   by_event Disable fits = (sound.store, sound.offered_fits)

@@ -1,7 +1,7 @@
 -- What offers leave and lose.
 use Rattle.std.proofs.Common.{◌≡◌, ℕ, suc, ◌+◌, ◌≤◌, min, ltb, List, [], ◌∷◌, length, refl, ◌∙◌, arith, length-append, rules}
 use Rattle.std.specs.Prelude.{Result, Ok, Err, IsOk, ◌==◌, ◌||◌, not}
-use Rattle.std.proofs.lemmas.Bool.{ltb-true, ltb-false}
+use Rattle.std.proofs.lemmas.Bool.{ltb-true, ltb-false, cond_both}
 use Rattle.std.proofs.lemmas.List.Elements.{All-head, All-tail}
 use Rattle.mm_base.specs.declared.kind.Kind.{Kind}
 use Rattle.mm_base.specs.declared.kind.Kind.TheVariants.{Circular, Bounded}
@@ -20,7 +20,6 @@ use Rattle.mm_desk.specs.declared.reply.Returned.{Returned}
 use Rattle.mm_desk.specs.Machine.{State, answer_of, after_put, offer, step}
 use Rattle.mm_desk.specs.Offers.{IsTaken, AreTaken, Leaves}
 use Rattle.mm_desk.specs.Runs.{replay, IsLegal}
-use Rattle.mm_desk.proofs.Choices.{choice}
 
 -- a store holds no more than its size, which is not 0
 pub record HasRoom (s : Store) : Type 0 where
@@ -54,7 +53,7 @@ full_leaves Bounded held s new same fits full = record {
 -- a put before the end of the clock
 timed_leaves : (s : Store) (new : Stored) → HasRoom s → LeavesOne s (put_timed s new)
 timed_leaves s new fits =
-    choice (LeavesOne s) (ltb (length s.content) s.size) _ _
+    cond_both (ltb (length s.content) s.size) _ _ (LeavesOne s)
     (λ free. record {
       kind = refl;
       size = refl;
@@ -79,11 +78,11 @@ by_put s done fits left = record {
 -- an offer that is not refused leaves one packet more, or a full store
 pub offer_leaves : (s : State) (now : ℕ) (packet : SpacePacket) → HasRoom s.store → IsOk (offer s now packet).0 → Leaves s (offer s now packet).1 1
 offer_leaves s now packet fits =
-    choice (λ (r : Result Offered Returned × State). IsOk r.0 → Leaves s r.1 1) (not s.storage) _ _
+    cond_both (not s.storage) _ _ (λ (r : Result Offered Returned × State). IsOk r.0 → Leaves s r.1 1)
     (λ off bad. absurd (search rules))
-    (λ on. choice (λ (r : Result Offered Returned × State). IsOk r.0 → Leaves s r.1 1) ((s.store.last == clock_end) || (s.offered == clock_end)) _ _
+    (λ on. cond_both ((s.store.last == clock_end) || (s.offered == clock_end)) _ _ (λ (r : Result Offered Returned × State). IsOk r.0 → Leaves s r.1 1)
     (λ late bad. absurd (search rules))
-    (λ early. choice (λ (done : Put × Store). IsOk (answer_of done.0) → Leaves s (after_put s done) 1) (s.store.last == clock_end) _ _
+    (λ early. cond_both (s.store.last == clock_end) _ _ (λ (done : Put × Store). IsOk (answer_of done.0) → Leaves s (after_put s done) 1)
     (λ late bad. absurd (search rules))
     (λ before taken. by_put s _ fits (timed_leaves s.store _ fits))))
 

@@ -1,7 +1,6 @@
 pub mod BalanceLemmas
 pub mod Runs
 pub mod Shuffles
-pub mod Choices
 pub mod Leaving
 pub mod Counting
 pub mod Lone

@@ -1,7 +1,7 @@
 -- What a whole dump order does.
 use Rattle.std.proofs.Common.{◌≡◌, ℕ, ◌+◌, ◌<◌, ◌≤◌, min, true, false, ltb, List, [], ◌∷◌, ◌++◌, length, All, refl, sym, ap, subst, ◌∙◌, arith, append_assoc, length-append}
 use Rattle.std.specs.Prelude.{Option, Some, None, Result, Ok, is_some}
-use Rattle.std.proofs.lemmas.Bool.{lt-ltb, le-ltb, le-leb, ltb-true, ltb-false, and_right, and_from}
+use Rattle.std.proofs.lemmas.Bool.{lt-ltb, le-ltb, le-leb, ltb-true, ltb-false, and_right, and_from, cond_both}
 use Rattle.std.proofs.lemmas.List.{append-nil}
 use Rattle.std.proofs.lemmas.List.Elements.{All-nil, All-cons, All-head, All-tail, All-push, All-weaker}
 use Rattle.mm_store.specs.declared.stored.Stored.{Stored}
@@ -16,7 +16,6 @@ use Rattle.mm_desk.specs.declared.state.Retrieval.{Retrieval}
 use Rattle.mm_desk.specs.Machine.{State, IsState, step}
 use Rattle.mm_desk.specs.Orders.{begun, given, ended, last_time, removed, IsOrderOf, Dumps}
 use Rattle.mm_desk.specs.Runs.{entry, replay, IsLegal, IsRun}
-use Rattle.mm_desk.proofs.Choices.{choice}
 
 -- a state with the retrieval of all packets on, after this time
 abbrev at : State → ℕ → State
@@ -129,7 +128,7 @@ ends : (s : State) (after seat wanted : ℕ) (gs left : List Stored) (es : List 
     → All (λ (p : Stored). p.time ≤ after) gs → Rises after left → length gs ≤ wanted
     → IsLegal (at s after) (ended seat wanted gs ∷ es) → Ends s after wanted gs (ended seat wanted gs) es
 ends s after seat wanted gs left es held early rises most =
-    choice (λ (e : Entry). IsLegal (at s after) (e ∷ es) → Ends s after wanted gs e es) (ltb (length gs) wanted) _ _
+    cond_both (ltb (length gs) wanted) _ _ (λ (e : Entry). IsLegal (at s after) (e ∷ es) → Ends s after wanted gs e es)
     (λ fewer legal. by_end left held rises (ltb-true (length gs) wanted fewer) legal)
     (λ enough legal. record {
       many = omega (arith, ltb-false (length gs) wanted enough, most, ap length held, length-append gs left);
@@ -190,12 +189,12 @@ record Begins (s : State) : Type 0 where
 begins : (s : State) → reply.Done (Ok tt) ≡ (step s (Begin 1 clock_end)).0 → Begins s
 begins s answers =
     let none : s.retrieval ≡ None =
-    choice (λ (r : Result (Unit {0}) Fault × State). reply.Done (Ok tt) ≡ reply.Done r.0 → s.retrieval ≡ None) (is_some s.retrieval) _ _
+    cond_both (is_some s.retrieval) _ _ (λ (r : Result (Unit {0}) Fault × State). reply.Done (Ok tt) ≡ reply.Done r.0 → s.retrieval ≡ None)
     (λ busy bad. absurd (cc bad)) (λ free fine. none_of s.retrieval free) answers in
     record {
       none = none;
       stepped =
-          choice (λ (r : Result (Unit {0}) Fault × State). ◌≡◌ {A = Reply × State} (reply.Done r.0, r.1) (reply.Done (Ok tt), at s 0)) (is_some s.retrieval) _ _
+          cond_both (is_some s.retrieval) _ _ (λ (r : Result (Unit {0}) Fault × State). ◌≡◌ {A = Reply × State} (reply.Done r.0, r.1) (reply.Done (Ok tt), at s 0))
           (λ busy. absurd (cc (busy, ap is_some none))) (λ free. refl);
     }
 

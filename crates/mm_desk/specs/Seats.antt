@@ -9,7 +9,7 @@ use Rattle.mm_desk.specs.declared.reply.Reply.TheVariants as reply
 use Rattle.mm_desk.specs.Machine.{State}
 use Rattle.mm_desk.specs.Runs.{entry}
 
--- what lies behind a desk's lock: its place, the state of its store, and the log of the calls made
+-- what is under a desk's lock: its place, the state of its store, and the log of the calls made
 pub record Kept : Type 0 where
   pub place : ℕ
   pub state : State

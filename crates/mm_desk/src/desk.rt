@@ -42,7 +42,7 @@ impl<N: Opening> Model for Desk<N> {
     ghost view = { λ d. record { place = d.place; seats = d.seats } };
 }
 
-/// What lay behind a desk's lock: its place, the state of the store, and the log.
+/// What was under a desk's lock: its place, the state of the store, and the log.
 #[derive(Drop)]
 pub struct Parts {
     pub place: u32,
@@ -58,6 +58,17 @@ pub struct Closed<N: Opening> {
     pub log: Vec<Entry>,
     pub seats: Vec<Seat<N>>,
     pub agree: bool,
+}
+
+// The answer of a call whose reply is of this case; the event comes back where there was no memory.
+macro_rules! answered {
+    ($called:expr; $case:ident) => {
+        match $called {
+            Ok(Reply::$case(answer)) => answer,
+            Err(_) => Err(Fault::NoMemory),
+            _ => unreachable!(),
+        }
+    };
 }
 
 impl<N: Opening> Desk<N> {
@@ -141,8 +152,8 @@ impl<N: Opening> Desk<N> {
         &self,
         rt: &R,
         alloc: Global,
-        seat: &mut Seat<N>,
         event: Event,
+        seat: &mut Seat<N>,
     ) -> Result<Reply, Event>
         ensures called { IfOk result (λ reply. seat.new ≡ with_call seat.old event reply) }
         ensures answers { IfOk result (λ reply. Answers event reply) }
@@ -179,7 +190,7 @@ impl<N: Opening> Desk<N> {
         ensures tells { Tells seat.old (Event.Offer now packet) (Reply.Offered result) seat.new }
         ensures back { IfErr result (λ back. back.packet ≡ packet) }
     {
-        match self.call(rt, alloc, seat, Event::Offer(now, packet)) {
+        match self.call(rt, alloc, Event::Offer(now, packet), seat) {
             Ok(Reply::Offered(answer)) => answer,
             Err(Event::Offer(_, packet)) => Err(Returned {
                 fault: Fault::NoMemory,
@@ -200,11 +211,7 @@ impl<N: Opening> Desk<N> {
     ) -> Result<(), Fault>
         ensures tells { Tells seat.old (Event.Begin from to) (Reply.Done result) seat.new }
     {
-        match self.call(rt, alloc, seat, Event::Begin(from, to)) {
-            Ok(Reply::Done(answer)) => answer,
-            Err(_) => Err(Fault::NoMemory),
-            _ => unreachable!(),
-        }
+        answered!(self.call(rt, alloc, Event::Begin(from, to), seat); Done)
     }
 
     /// Gives a copy of the next packet of the retrieval with its storage time; nothing at its end, where it is over.
@@ -216,22 +223,14 @@ impl<N: Opening> Desk<N> {
     ) -> Result<Option<Stored>, Fault>
         ensures tells { Tells seat.old Event.Next (Reply.Given result) seat.new }
     {
-        match self.call(rt, alloc, seat, Event::Next) {
-            Ok(Reply::Given(answer)) => answer,
-            Err(_) => Err(Fault::NoMemory),
-            _ => unreachable!(),
-        }
+        answered!(self.call(rt, alloc, Event::Next, seat); Given)
     }
 
     /// Ends the retrieval.
     pub fn abort<R: Wait>(&self, rt: &R, alloc: Global, seat: &mut Seat<N>) -> Result<(), Fault>
         ensures tells { Tells seat.old Event.Abort (Reply.Done result) seat.new }
     {
-        match self.call(rt, alloc, seat, Event::Abort) {
-            Ok(Reply::Done(answer)) => answer,
-            Err(_) => Err(Fault::NoMemory),
-            _ => unreachable!(),
-        }
+        answered!(self.call(rt, alloc, Event::Abort, seat); Done)
     }
 
     /// Deletes the packets up to a time, that time included, and returns their number.
@@ -244,32 +243,20 @@ impl<N: Opening> Desk<N> {
     ) -> Result<u32, Fault>
         ensures tells { Tells seat.old (Event.Delete limit) (Reply.Deleted result) seat.new }
     {
-        match self.call(rt, alloc, seat, Event::Delete(limit)) {
-            Ok(Reply::Deleted(answer)) => answer,
-            Err(_) => Err(Fault::NoMemory),
-            _ => unreachable!(),
-        }
+        answered!(self.call(rt, alloc, Event::Delete(limit), seat); Deleted)
     }
 
     /// Switches storage on.
     pub fn enable<R: Wait>(&self, rt: &R, alloc: Global, seat: &mut Seat<N>) -> Result<(), Fault>
         ensures tells { Tells seat.old Event.Enable (Reply.Done result) seat.new }
     {
-        match self.call(rt, alloc, seat, Event::Enable) {
-            Ok(Reply::Done(answer)) => answer,
-            Err(_) => Err(Fault::NoMemory),
-            _ => unreachable!(),
-        }
+        answered!(self.call(rt, alloc, Event::Enable, seat); Done)
     }
 
     /// Switches storage off. A retrieval goes on.
     pub fn disable<R: Wait>(&self, rt: &R, alloc: Global, seat: &mut Seat<N>) -> Result<(), Fault>
         ensures tells { Tells seat.old Event.Disable (Reply.Done result) seat.new }
     {
-        match self.call(rt, alloc, seat, Event::Disable) {
-            Ok(Reply::Done(answer)) => answer,
-            Err(_) => Err(Fault::NoMemory),
-            _ => unreachable!(),
-        }
+        answered!(self.call(rt, alloc, Event::Disable, seat); Done)
     }
 }

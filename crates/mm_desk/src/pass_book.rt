@@ -20,7 +20,7 @@ impl Passing for Brand {
     ghost window = { 0 };
 }
 
-// What lies behind the lock of a pass book.
+// What is under the lock of a pass book.
 #[derive(Drop)]
 struct Page<W: Passing> {
     window: u64,

@@ -46,18 +46,18 @@ impl<N: Opening> Seat<N> {
         self.place
     }
 
-    /// The seat's number.
-    pub fn number(&self) -> u32
-        ensures number { result ≡ self.now.number }
-    {
-        self.number
-    }
-
     /// The calls made through the seat, in order, with their replies.
     pub fn list(&self) -> &[Entry]
         ensures list { result.now ≡ self.now.list }
     {
         self.list.as_slice()
+    }
+
+    /// The seat's number.
+    pub fn number(&self) -> u32
+        ensures number { result ≡ self.now.number }
+    {
+        self.number
     }
 }
 

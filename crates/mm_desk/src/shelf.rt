@@ -1,4 +1,4 @@
-//! What lies behind a desk's lock.
+//! What is under a desk's lock.
 ghost use Rattle.std.specs.Prelude.{◌≡◌, ◌∷◌, [], ◌++◌, IfOk, IfErr, OnErr};
 ghost use Rattle.mm_desk.specs.Answers.{Answers};
 ghost use Rattle.mm_desk.specs.Runs.{entry, opening_at};

@@ -1,6 +1,6 @@
 //! The state of a packet store.
 ghost use Rattle.std.specs.Prelude.{◌≡◌, ◌≤◌, Some, None, IsOk, IsOkUnless, OnOk, OnErr, MatchOption};
-ghost use Rattle.mm_desk.specs.Machine.{IsState, opening, step};
+ghost use Rattle.mm_desk.specs.Machine.{State, IsState, opening, step};
 ghost use Rattle.mm_desk.specs.Rest.{rest_fault, resize_fault};
 
 use crate::event::Event;
@@ -34,8 +34,6 @@ pub struct StoreState {
 }
 
 impl Model for StoreState {
-    ghost use Rattle.mm_desk.specs.Machine.{State, IsState};
-
     ghost Value = { State };
 
     ghost view = { λ a. record { store = a.store; storage = a.storage; retrieval = a.retrieval; offered = a.offered; lost = a.lost; deleted = a.deleted } };

@@ -19,27 +19,30 @@ pub(crate) struct Told {
     pub(crate) listed: Reply,
 }
 
+// One answer as three replies of this case.
+macro_rules! told {
+    ($case:ident, $answer:ident) => {
+        Told {
+            answer: Reply::$case($answer),
+            logged: Reply::$case($answer),
+            listed: Reply::$case($answer),
+        }
+    };
+}
+
 impl Told {
     fn done(answer: Result<(), Fault>) -> Told
         ensures answer { result.answer ≡ Reply.Done answer }
         ensures copies { (result.logged ≡ result.answer) × (result.listed ≡ result.answer) }
     {
-        Told {
-            answer: Reply::Done(answer),
-            logged: Reply::Done(answer),
-            listed: Reply::Done(answer),
-        }
+        told!(Done, answer)
     }
 
     fn deleted(answer: Result<u32, Fault>) -> Told
         ensures answer { result.answer ≡ Reply.Deleted answer }
         ensures copies { (result.logged ≡ result.answer) × (result.listed ≡ result.answer) }
     {
-        Told {
-            answer: Reply::Deleted(answer),
-            logged: Reply::Deleted(answer),
-            listed: Reply::Deleted(answer),
-        }
+        told!(Deleted, answer)
     }
 }
 

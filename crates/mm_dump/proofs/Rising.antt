@@ -4,7 +4,7 @@ use Rattle.std.proofs.lemmas.List.Elements.{All-push, All-weaker}
 use Rattle.mm_sums.proofs.Pairs.{AllPairs-append}
 use Rattle.mm_order.specs.declared.order.Order.{Order}
 
--- the order of a place behind those of the places before it
+-- the order of a place after those of the places before it
 pub apart_more : (os : List Order) (o : Order) → All (λ (b : Order). b.place < o.place) os → AllPairs (λ (a b : Order). a.place ≢ b.place) os
     → AllPairs (λ (a b : Order). a.place ≢ b.place) (os ++ o ∷ [])
 apart_more os o below apart =

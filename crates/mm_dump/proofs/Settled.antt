@@ -5,6 +5,7 @@ use Rattle.std.specs.Prelude.{Option, Some, None, IfNone}
 use Rattle.crossbeam_queue.specs.declared.array_queue.Doing.{Doing}
 use Rattle.crossbeam_queue.specs.declared.array_queue.Slotted.{Slotted}
 use Rattle.mm_sums.proofs.Sums.{sum_by-same, sum_by-map, sum_by-flat_map}
+use Rattle.mm_desk.specs.Laws.{LoneSeatsAreLogs}
 use Rattle.mm_desk.specs.Machine.{State}
 use Rattle.mm_order.specs.declared.order.Order.{Order}
 use Rattle.mm_order.specs.declared.order.OrderBroken.{OrderBroken}
@@ -43,11 +44,17 @@ pub if_none : {A : Type 0} (P : Type 0) (o : Option A) → (o ≡ None → P) �
 if_none P None f = f refl
 if_none P (Some x) f = tt
 
+-- what is left in the queue: nothing, where no order broke
+pub left_items : (why : Option OrderBroken) (v : Hand) → (why ≡ None → Tells v []) → (items : List ℕ) × Tells v items
+    → (items : List ℕ) × Tells v items × (why ≡ None → items ≡ [])
+left_items None v all left = ([], all refl, λ none. refl)
+left_items (Some broken) v all left = (left.0, left.1, λ none. absurd (cc none))
+
 module _ {N W L Q A : Type 0} (sent : L → List Sent) (failed : L → ℕ) (queue : Slotted (Option ℕ) (Doing ℕ Hand) Q A) (ids : List (List ℕ)) (orders : List Order)
     (desks : ℕ) (olds news : List (Worker N (Dumper W L) OrderBroken)) (g : Gathered sent failed queue ids orders desks olds news)
     (taken items : List ℕ) (taken_is : taken ≡ flat_map (λ (d : Dumper W L). taken_by d.pass) (owns_of news))
     (total : (h : ℕ → ℕ) → sum_by h (range_with_len 0 (length orders)) ≡ sum_by h taken + sum_by h items)
-    (apart : AllPairs (λ (a b : Order). a.place ≢ b.place) orders) where
+    (apart : AllPairs (λ (a b : Order). a.place ≢ b.place) orders) (lone : LoneSeatsAreLogs) where
   -- the orders at a place are those whose numbers were taken
   tally_taken : (p : ℕ) → tally p (flat g.courses) ≡ sum_by (λ (k : ℕ). names p (order_at orders k)) taken
   tally_taken p =
@@ -89,7 +96,7 @@ module _ {N W L Q A : Type 0} (sent : L → List Sent) (failed : L → ℕ) (que
       places = map spots g.courses;
       stores = λ k within.
           let at = went k within in
-          tried orders g.courses k _ _ _ at.log apart known (tally_few k) (g.lists k (omega (arith, within, fits))) at.run at.shuffle;
+          tried lone orders g.courses k _ _ _ at.log apart known (tally_few k) (g.lists k (omega (arith, within, fits))) at.run at.shuffle;
       amounts = λ k some. amount_found orders g.courses k apart known (tally_few k) (omega (arith, some, spots_tally k g.courses));
       once = λ k. omega (arith, spots_tally k g.courses, tally_most k);
       all = λ whole k. spots_tally k g.courses ∙ tally_all (done whole) k;
@@ -105,7 +112,7 @@ module _ {N W L Q A : Type 0} (sent : L → List Sent) (failed : L → ℕ) (que
       places = map spots g.courses;
       stores = λ k within.
           let at = went k within in
-          dumped orders g.courses k _ _ _ at.log apart known (tally_few k) (g.lists k (omega (arith, within, fits))) at.run at.shuffle (tally_all (done whole) k) amounts (all_unbroken g.courses none);
+          dumped lone orders g.courses k _ _ _ at.log apart known (tally_few k) (g.lists k (omega (arith, within, fits))) at.run at.shuffle (tally_all (done whole) k) amounts (all_unbroken g.courses none);
       once = λ k. spots_tally k g.courses ∙ tally_all (done whole) k;
       links = all_took sent failed ids (flat g.courses) tally_few [] g.courses _ _ refl g.are none g.links;
     }

@@ -6,11 +6,11 @@ use Rattle.std.proofs.lemmas.Bool.{cases_lt}
 use Rattle.std.proofs.lemmas.List.Elements.{All-nil, All-cons, All-head, All-tail}
 use Rattle.mm_sums.proofs.Sums.{sum_by-same, sum_by-map, sum_by-flat_map}
 use Rattle.mm_desk.specs.declared.entry.Entry.{Entry}
+use Rattle.mm_desk.specs.Laws.{LoneSeatsAreLogs}
 use Rattle.mm_desk.specs.Machine.{State}
 use Rattle.mm_desk.specs.Orders.{IsOrderOf}
 use Rattle.mm_desk.specs.Runs.{IsRun}
 use Rattle.mm_desk.specs.Shuffles.{IsShuffle}
-use Rattle.mm_desk.proofs.Lone.{lone_log}
 use Rattle.mm_order.specs.declared.order.Order.{Order}
 use Rattle.mm_order.specs.declared.order.OrderBroken.{OrderBroken}
 use Rattle.mm_order.specs.Sending.{Sent, all_sent}
@@ -120,7 +120,7 @@ module _ (orders : List Order) (courses : List (List Course)) (p : ℕ) (apart :
       ap (λ (o : Order). o.amount) is.is ∙ sym wants ∙ ap (wanted orders) (ap (λ (o : Order). o.place) (sym is.is) ∙ both.0)
 
 -- what lay behind the desk of a place
-module _ (orders : List Order) (courses : List (List Course)) (p : ℕ) (s t : State) (lists : List (List Entry)) (log : List Entry)
+module _ (lone : LoneSeatsAreLogs) (orders : List Order) (courses : List (List Course)) (p : ℕ) (s t : State) (lists : List (List Entry)) (log : List Entry)
     (apart : AllPairs (λ (a b : Order). a.place ≢ b.place) orders) (known : All (λ (cs : List Course). All (Known orders) cs) courses)
     (few : tally p (flat courses) ≤ 1) (same : lists ≡ map (calls_at p) courses) (run : IsRun s log t) (shuffle : IsShuffle lists log) where
   dealt : IsShuffle (map (calls_at p) courses) log
@@ -133,10 +133,10 @@ module _ (orders : List Order) (courses : List (List Course)) (p : ℕ) (s t : S
       by_count : (0 < tally p (flat courses)) ⊎ (tally p (flat courses) ≤ 0) → log ≡ (find p (flat courses)).calls
       by_count (inl some) =
           let one = lone_list (Known orders) p courses known (omega (arith, some, few)) in
-          lone_log (map (calls_at p) courses) log one.seat dealt (λ other within off. one.others other off) ∙ one.calls ∙ ap (λ (c : Course). c.calls) (sym one.found)
+          lone (map (calls_at p) courses) log one.seat dealt (λ other within off. one.others other off) ∙ one.calls ∙ ap (λ (c : Course). c.calls) (sym one.found)
       by_count (inr none) =
           let nothing : tally p (flat courses) ≡ 0 = omega (arith, none) in
-          lone_log (map (calls_at p) courses) log 0 dealt (λ other within off. none_lists p courses nothing other) ∙ none_lists p courses nothing 0
+          lone (map (calls_at p) courses) log 0 dealt (λ other within off. none_lists p courses nothing other) ∙ none_lists p courses nothing 0
           ∙ ap (λ (c : Course). c.calls) (sym (none_found p (flat courses) nothing))
 
   run_found : IsRun s (find p (flat courses)).calls t

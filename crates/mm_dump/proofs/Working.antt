@@ -2,7 +2,7 @@
 use Rattle.std.proofs.Common.{◌≡◌, ℕ, ◌+◌, ◌<◌, ◌==◌, Bool, List, [], ◌∷◌, ◌++◌, length, map, filter, All, refl, sym, ap, subst, ◌∙◌, append_assoc, length-append, arith}
 use Rattle.std.specs.List.{flat_map}
 use Rattle.std.specs.Prelude.{Option, Some, None}
-use Rattle.std.proofs.lemmas.List.{append-nil, map-append}
+use Rattle.std.proofs.lemmas.List.{append-nil, get_or_append_left, map-append}
 use Rattle.std.proofs.lemmas.List.Concat.{flat_map-append}
 use Rattle.std.proofs.lemmas.List.Elements.{All-nil, All-cons, All-head, All-tail, All-append, All-push, filter-append}
 use Rattle.std.proofs.lemmas.List.Sums.{sum_by-cons, sum_by-append}
@@ -13,7 +13,6 @@ use Rattle.mm_order.specs.declared.order.OrderBroken.TheVariants.{LinkFailed, No
 use Rattle.mm_order.specs.Sending.{Sent, all_sent}
 use Rattle.mm_crew.specs.Crews.{list_at}
 use Rattle.mm_crew.specs.Stations.{id_at}
-use Rattle.mm_crew.proofs.Leaving.{get_or-front}
 use Rattle.mm_dump.specs.Courses.{Course, IsWhole, WentAs, IsCourse, worse, worst_of, calls_at, sent_by, fails_of}
 use Rattle.mm_dump.specs.Workers.{Gear, order_at, Shows, Goes, AreCourses, Worked}
 use Rattle.mm_dump.proofs.Causes.{worse-alone}
@@ -65,7 +64,7 @@ are_more cs c why are cause is = record {
   each = All-append IsCourse cs (c ∷ []) are.each (All-cons IsCourse c [] is (All-nil IsCourse));
   early = λ i d within.
       let inside : i < length cs = omega (arith, length-append cs (c ∷ [])) in
-      ap (λ (b : Course). b.why) (get_or-front cs c d i inside) ∙ none i d inside;
+      ap (λ (b : Course). b.why) (get_or_append_left cs (c ∷ []) d i inside) ∙ none i d inside;
   cause = worst_last cs c none ∙ cause;
 }
   where

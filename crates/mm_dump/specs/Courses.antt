@@ -27,7 +27,7 @@ pub record IsWhole (c : Course) : Type 0 where
   pub all : c.unsent ≡ []
   pub no_failure : c.fails ≡ 0
 
--- an order that broke for this cause: what it gave was sent, save the last packet where that found no draw or was not taken by
+-- an order that broke for this cause: what it gave was sent, except the last packet where that found no draw or was not taken by
 -- the link; where the link failed, the retrieval was ended
 pub record IsBroken (why : OrderBroken) (c : Course) : Type 0 where
   pub order : IsBrokenOrder c.seat c.order.amount (c.sent ++ c.unsent) c.calls

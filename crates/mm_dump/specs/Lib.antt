@@ -4,3 +4,4 @@ pub mod Courses
 pub mod Workers
 pub mod Crews
 pub mod Dumped
+pub mod Rooms

@@ -1,20 +1,18 @@
 //! A step's dump: workers carry out the orders of one queue, over any number of stores.
-ghost use Rattle.std.specs.Prelude.{◌≡◌, ◌≢◌, ◌+◌, ◌-◌, ◌<◌, ◌≤◌, ◌^◌, [], length, map, All, AllPairs, IsTrue, IfNone, IfOk, IfErr, vec_len, vec_capacity};
-ghost use Rattle.crossbeam_queue.specs.Passes.{view, IsPassOf, ruled_capacity};
+ghost use Rattle.std.specs.Prelude.{◌≡◌, ◌≢◌, ◌+◌, ◌-◌, ◌<◌, ◌≤◌, ◌^◌, length, map, All, AllPairs, IsTrue, None, IfNone, IfOk, IfErr, vec_len, vec_capacity};
 ghost use Rattle.mm_base.specs.declared.limits.TheConstants.{MAX_STORES};
 ghost use Rattle.mm_desk.specs.declared.desk.TheConstants.{MAX_SEATS};
-ghost use Rattle.mm_desk.specs.Passes.{AreUndrawn};
 ghost use Rattle.mm_crew.specs.Closings.{labels_of, states_of};
-ghost use Rattle.mm_crew.specs.Crews.{AreSeatings};
 ghost use Rattle.mm_dump.specs.Dumped.{AllDumped, AllSettled, used_by};
-ghost use Rattle.mm_dump.specs.Taken.{hand};
+ghost use Rattle.mm_dump.specs.Rooms.{MayDump, AreRooms, Leaves};
 
-use crate::dumper::{DumpWorker, Dumper, dump_all};
+use crate::dumper::{Dumper, Floor, dump_all};
 use crate::gear::{equip_all, strip_all};
 use crate::queue::{OrderPass, OrderQueue, is_dealt, new_queue, push_all};
 use crate::worst::worst_broken;
 use mm_base::NoMemory;
 use mm_crew::{Rooms, close_all, new_rooms, open_all, pair_all, part_all};
+use mm_desk::laws::lone_seats_are_logs;
 use mm_desk::{Held, Opening, PassBook, PassSeat, Passing};
 use mm_order::{Link, Order, OrderBroken};
 use std::alloc::Global;
@@ -62,20 +60,12 @@ fn new_dump_rooms<N: Opening, W: Passing, L: Drop>(
     links: u32,
     orders: u32,
 ) -> Result<DumpRooms<N, W, L>, NoMemory>
-    requires lowest { 1 ≤ links }
-    requires highest { links ≤ MAX_SEATS }
+    requires some_link { (1 ≤ links) × (links ≤ MAX_SEATS) }
     requires name { blank.name ≡ W.name }
     requires parts { blank.parts ≡ W.parts }
     requires all { W.parts ≡ links }
     requires window { window ≡ W.window }
-    ensures len { IfOk result (λ rooms. vec_len rooms.crew.seatings ≡ links) }
-    ensures seats { IfOk result (λ rooms. AreSeatings stores rooms.crew.seatings.items) }
-    ensures workers { IfOk result (λ rooms. (rooms.crew.workers.items ≡ []) × (links ≤ vec_capacity rooms.crew.workers)) }
-    ensures stations { IfOk result (λ rooms. (rooms.crew.stations.items ≡ []) × (stores ≤ vec_capacity rooms.crew.stations)) }
-    ensures dumpers { IfOk result (λ rooms. (rooms.dumpers.items ≡ []) × (links ≤ vec_capacity rooms.dumpers)) }
-    ensures queue { IfOk result (λ rooms. orders ≤ ruled_capacity rooms.queue) }
-    ensures pass { IfOk result (λ rooms. IsPassOf rooms.queue rooms.pass × (view rooms.pass ≡ hand 1024 0 [])) }
-    ensures pages { IfOk result (λ rooms. AreUndrawn links rooms.pages.items) }
+    ensures rooms { IfOk result (AreRooms stores links orders) }
 {
     let crew = new_rooms(alloc, stores, links)?;
     let dumpers = Vec::with_capacity(alloc, links as usize)?;
@@ -91,73 +81,12 @@ fn new_dump_rooms<N: Opening, W: Passing, L: Drop>(
     })
 }
 
-// Carries out a step's orders, in rooms made for it.
-fn dump_in<
-    N: Opening + Send + Sync,
-    W: Passing + Send + Sync,
-    L: Link + Send + Drop,
-    R: Threads + Wait + Sync,
->(
-    rt: &R,
-    alloc: Global,
-    orders: &[Order],
-    stores: Vec<Held>,
-    links: Vec<L>,
-    rooms: DumpRooms<N, W, L>,
-) -> Dumping<L>
-    requires lowest { 1 ≤ vec_len links }
-    requires highest { vec_len links ≤ MAX_SEATS }
-    requires few { vec_len stores ≤ MAX_STORES }
-    requires few_orders { length orders.now ≤ MAX_STORES }
-    requires places { All (λ o. o.place < vec_len stores) orders.now }
-    requires amounts { All (λ o. 1 ≤ o.amount) orders.now }
-    requires distinct { AllPairs (λ a b. a.place ≢ b.place) orders.now }
-    requires room { All (λ l. L.failed l < 2 ^ 64 - 1) links.items }
-    requires states { N.states ≡ states_of stores.items }
-    requires parts { W.parts ≡ vec_len links }
-    requires seated { vec_len rooms.crew.seatings ≡ vec_len links }
-    requires seats { AreSeatings (vec_len stores) rooms.crew.seatings.items }
-    requires workers { (rooms.crew.workers.items ≡ []) × (vec_len links ≤ vec_capacity rooms.crew.workers) }
-    requires stations { (rooms.crew.stations.items ≡ []) × (vec_len stores ≤ vec_capacity rooms.crew.stations) }
-    requires dumpers { (rooms.dumpers.items ≡ []) × (vec_len links ≤ vec_capacity rooms.dumpers) }
-    requires queue { length orders.now ≤ ruled_capacity rooms.queue }
-    requires pass { IsPassOf rooms.queue rooms.pass × (view rooms.pass ≡ hand 1024 0 []) }
-    requires pages { AreUndrawn (vec_len links) rooms.pages.items }
-    ensures labels { labels_of result.stores.items ≡ labels_of stores.items }
-    ensures dumped { IsTrue result.agree → IfNone result.broken (AllDumped L.sent L.failed (map (λ h. h.id) stores.items) orders.now
-        (states_of stores.items) (states_of result.stores.items) links.items result.links.items) }
-    ensures settled { IsTrue result.agree → AllSettled L.sent L.failed (map (λ h. h.id) stores.items) orders.now result.broken
-        (states_of stores.items) (states_of result.stores.items) links.items result.links.items }
-    ensures spent { used_by L.sent L.failed result.links.items ≡ used_by L.sent L.failed links.items + result.spent }
-    ensures within { result.spent ≤ W.window }
+// Whether all agrees: each store's log with the lists that the workers kept, and, where no order broke, no number is left queued.
+fn agrees(closed: bool, dealt: bool, broken: Option<OrderBroken>) -> bool
+    ensures closed { IsTrue result → IsTrue closed }
+    ensures dealt { IsTrue result → broken ≡ None → IsTrue dealt }
 {
-    let DumpRooms {
-        crew,
-        dumpers,
-        queue,
-        mut pass,
-        book,
-        pages,
-    } = rooms;
-    let seats = links.len() as u32;
-    push_all(rt, &queue, &mut pass, orders.len() as u32);
-    let (dumpers, links, pages) = equip_all(&queue, &mut pass, links, pages, dumpers);
-    let (workers, dumpers) = pair_all(dumpers, crew.seatings, crew.workers);
-    let (stations, stores) = open_all(alloc, stores, crew.stations, seats);
-    let workers = dump_all(rt, alloc, &stations, &queue, &book, orders, workers);
-    let (stores, closed) = close_all(stations, &workers, stores);
-    let broken = worst_broken(&workers);
-    let dumpers = part_all(workers, dumpers);
-    let (links, pages) = strip_all(&queue, &mut pass, dumpers, links, pages);
-    let dealt = is_dealt(&queue, &mut pass);
-    let spent = book.close(pages);
-    Dumping {
-        stores,
-        links,
-        broken,
-        agree: closed && (dealt || broken.is_some()),
-        spent,
-    }
+    closed && (dealt || broken.is_some())
 }
 
 // Carries out a step's orders, where there is memory for it.
@@ -175,28 +104,14 @@ fn dump_as<
     stores: Vec<Held>,
     links: Vec<L>,
 ) -> Result<Dumping<L>, NotDumped<L>>
-    requires lowest { 1 ≤ vec_len links }
-    requires highest { vec_len links ≤ MAX_SEATS }
-    requires few { vec_len stores ≤ MAX_STORES }
-    requires few_orders { length orders.now ≤ MAX_STORES }
-    requires places { All (λ o. o.place < vec_len stores) orders.now }
-    requires amounts { All (λ o. 1 ≤ o.amount) orders.now }
-    requires distinct { AllPairs (λ a b. a.place ≢ b.place) orders.now }
-    requires room { All (λ l. L.failed l < 2 ^ 64 - 1) links.items }
+    requires may { MayDump L.failed orders.now (vec_len stores) (vec_len links) links.items }
     requires states { N.states ≡ states_of stores.items }
     requires name { blank.name ≡ W.name }
     requires parts { blank.parts ≡ W.parts }
     requires all { W.parts ≡ vec_len links }
     requires window { window ≡ W.window }
-    ensures labels { IfOk result (λ d. labels_of d.stores.items ≡ labels_of stores.items) }
-    ensures dumped { IfOk result (λ d. IsTrue d.agree → IfNone d.broken (AllDumped L.sent L.failed (map (λ h. h.id) stores.items) orders.now
-        (states_of stores.items) (states_of d.stores.items) links.items d.links.items)) }
-    ensures settled { IfOk result (λ d. IsTrue d.agree → AllSettled L.sent L.failed (map (λ h. h.id) stores.items) orders.now d.broken
-        (states_of stores.items) (states_of d.stores.items) links.items d.links.items) }
-    ensures spent { IfOk result (λ d. used_by L.sent L.failed d.links.items ≡ used_by L.sent L.failed links.items + d.spent) }
-    ensures within { IfOk result (λ d. d.spent ≤ window) }
-    ensures stores_back { IfErr result (λ back. back.stores ≡ stores) }
-    ensures links_back { IfErr result (λ back. back.links ≡ links) }
+    ensures leaves { IfOk result (Leaves L.sent L.failed orders.now window stores.items links.items) }
+    ensures back { IfErr result (λ back. (back.stores ≡ stores) × (back.links ≡ links)) }
 {
     match new_dump_rooms(
         alloc,
@@ -206,8 +121,69 @@ fn dump_as<
         links.len() as u32,
         orders.len() as u32,
     ) {
-        Ok(rooms) => Ok(dump_in::<N, W, L, R>(rt, alloc, orders, stores, links, rooms)),
+        Ok(rooms) => Ok(dump_in::<N, W, L, R>(rooms, rt, alloc, orders, stores, links)),
         Err(_) => Err(NotDumped { stores, links }),
+    }
+}
+
+// Carries out a step's orders, in rooms made for it.
+fn dump_in<
+    N: Opening + Send + Sync,
+    W: Passing + Send + Sync,
+    L: Link + Send + Drop,
+    R: Threads + Wait + Sync,
+>(
+    rooms: DumpRooms<N, W, L>,
+    rt: &R,
+    alloc: Global,
+    orders: &[Order],
+    stores: Vec<Held>,
+    links: Vec<L>,
+) -> Dumping<L>
+    requires may { MayDump L.failed orders.now (vec_len stores) (vec_len links) links.items }
+    requires rooms { AreRooms (vec_len stores) (vec_len links) (length orders.now) rooms }
+    requires states { N.states ≡ states_of stores.items }
+    requires parts { W.parts ≡ vec_len links }
+    ensures leaves { Leaves L.sent L.failed orders.now W.window stores.items links.items result }
+{
+    lone_seats_are_logs();
+    let DumpRooms {
+        crew,
+        dumpers,
+        queue,
+        mut pass,
+        book,
+        pages,
+    } = rooms;
+    let seats = links.len() as u32;
+    push_all(rt, &queue, &mut pass, orders.len() as u32);
+    let (dumpers, links, pages) = equip_all(&queue, &mut pass, links, pages, dumpers);
+    let (workers, dumpers) = pair_all(dumpers, crew.seatings, crew.workers);
+    let (stations, stores) = open_all(alloc, stores, crew.stations, seats);
+    let workers = dump_all(
+        &Floor {
+            rt,
+            alloc,
+            stations: &stations,
+            queue: &queue,
+            book: &book,
+            orders,
+        },
+        workers,
+    );
+    let (stores, closed) = close_all(stations, &workers, stores);
+    let broken = worst_broken(&workers);
+    let dumpers = part_all(workers, dumpers);
+    let (links, pages) = strip_all(&queue, &mut pass, dumpers, links, pages);
+    let dealt = is_dealt(&queue, &mut pass);
+    let agree = agrees(closed, dealt, broken);
+    let spent = book.close(pages);
+    Dumping {
+        stores,
+        links,
+        broken,
+        agree,
+        spent,
     }
 }
 

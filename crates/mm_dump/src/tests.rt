@@ -1,13 +1,13 @@
-//! Steps of dump workers over scripted links, with what is sent, held and drawn by hand.
+//! Steps of dump workers over links in memory, with what is sent, held and drawn by hand.
 ghost use Rattle.std.specs.Prelude.{◌≡◌, ◌≢◌, ◌+◌, ◌-◌, ◌<◌, ◌≤◌, ◌^◌, length, All, AllPairs, IsTrue, vec_len};
 ghost use Rattle.mm_base.specs.declared.limits.TheConstants.{MAX_STORES};
 
 use super::*;
 use mm_base::{Kind, StoreId};
 use mm_desk::{Held, StoreState};
-use mm_order::{Link, Order, OrderBroken, SendFailed};
+use mm_order::{Link, Order, OrderBroken, SendFailed, Wire};
 use mm_packet::{BlockPacket, Header, Octets, Packet};
-use mm_store::{AnyStore, PacketStore, Stored};
+use mm_store::{AnyStore, PacketStore};
 use std::alloc::Global;
 use std::process::Abort;
 use std::sync::Wait;
@@ -15,92 +15,17 @@ use std::thread::Threads;
 
 mod crews;
 
-// What a scripted link took.
-#[derive(Drop)]
-struct Item {
-    store: StoreId,
-    stored: Stored,
-}
-
-// A link that fails once, after this many sends, or never.
-#[derive(Drop)]
-struct Wire {
-    alloc: Global,
-    until: Option<u64>,
-    failed: u64,
-    items: Vec<Item>,
-}
-
-impl Wire {
-    fn new(alloc: Global, until: Option<u64>) -> Wire {
-        let items = Vec::new(alloc);
-        Wire {
-            alloc,
-            until,
-            failed: 0,
-            items,
-        }
-    }
-
-    // Whether this send is taken.
-    fn takes(&mut self) -> bool
-        ensures failed { self.new.failed ≡ self.old.failed }
-        ensures items { self.new.items ≡ self.old.items }
-    {
-        match self.until {
-            None => true,
-            Some(0) => {
-                self.until = None;
-                false
-            }
-            Some(more) => {
-                self.until = Some(more - 1);
-                true
-            }
-        }
-    }
-
-    // The stores and the sequence counts of the packets sent.
-    fn has(&self, rt: &impl Abort, sent: &[(&[u8; 3], u16)]) {
-        assert_eq!(rt; self.items.len(), sent.len());
-        for (item, (text, count)) in self.items.iter().zip(sent) {
-            assert_eq!(rt; item.store, store_id(rt, *text));
-            assert_eq!(rt; item.stored.packet.packet().count(), *count);
-        }
-    }
-}
-
-impl Link for Wire {
-    ghost use Rattle.std.specs.Prelude.{map};
-
-    ghost sent = { λ w. map (λ i. record { store = i.store; stored = i.stored }) w.items.items };
-
-    ghost failed = { λ w. w.failed };
-
-    fn send(&mut self, store: &StoreId, time: u64, packet: &BlockPacket) -> Result<(), SendFailed> {
-        if self.takes() {
-            if let Ok(packet) = packet.copy(self.alloc) {
-                let stored = Stored { time, packet };
-                let item = Item {
-                    store: *store,
-                    stored,
-                };
-                if self.items.push(item).is_ok() {
-                    return Ok(());
-                }
-            }
-        }
-        self.failed += 1;
-        Err(SendFailed)
-    }
-
-    fn failures(&self) -> u64 {
-        self.failed
-    }
-}
-
 fn store_id(rt: &impl Abort, text: &[u8]) -> StoreId {
     StoreId::of_text(text).expect(rt, "an identifier")
+}
+
+// The link took these packets, by their stores and sequence counts.
+fn took(rt: &impl Abort, link: &Wire, sent: &[(&[u8; 3], u16)]) {
+    assert_eq!(rt; link.taken().len(), sent.len());
+    for (item, (text, count)) in link.taken().iter().zip(sent) {
+        assert_eq!(rt; item.store, store_id(rt, *text));
+        assert_eq!(rt; item.stored.packet.packet().count(), *count);
+    }
 }
 
 // Telemetry with this sequence count, by which the tests know it again.
@@ -225,7 +150,7 @@ fn the_oldest_of_each_store_go_over_one_link(rt: HostRuntime) {
     have(&rt, &left.stores, &[(1, 2), (2, 0), (0, 0), (0, 1)]);
     assert_eq!(rt; left.links.len(), 1);
     for link in &left.links {
-        link.has(&rt, &[(b"AAA", 1), (b"AAA", 2), (b"DDD", 1)]);
+        took(&rt, link, &[(b"AAA", 1), (b"AAA", 2), (b"DDD", 1)]);
         assert_eq!(rt; link.failures(), 0);
     }
 }
@@ -239,7 +164,7 @@ fn a_step_without_orders_leaves_all(rt: HostRuntime) {
     assert_eq!(rt; (left.agree, left.broken, left.spent), (true, None, 0));
     have(&rt, &left.stores, &[(1, 0)]);
     for link in &left.links {
-        link.has(&rt, &[]);
+        took(&rt, link, &[]);
     }
 }
 
@@ -253,7 +178,7 @@ fn an_order_that_breaks_deletes_nothing(rt: HostRuntime) {
     assert_eq!(rt; (left.agree, left.broken, left.spent), (true, broken, 2));
     have(&rt, &left.stores, &[(3, 0)]);
     for link in &left.links {
-        link.has(&rt, &[(b"AAA", 1)]);
+        took(&rt, link, &[(b"AAA", 1)]);
         assert_eq!(rt; link.failures(), 1);
     }
 }
@@ -268,7 +193,7 @@ fn a_worker_that_broke_off_takes_no_further_order(rt: HostRuntime) {
     assert_eq!(rt; (left.agree, left.broken, left.spent), (true, broken, 2));
     have(&rt, &left.stores, &[(0, 1), (1, 0), (1, 0)]);
     for link in &left.links {
-        link.has(&rt, &[(b"AAA", 1)]);
+        took(&rt, link, &[(b"AAA", 1)]);
     }
 }
 
@@ -282,7 +207,7 @@ fn a_window_that_is_too_small_breaks_the_order(rt: HostRuntime) {
     assert_eq!(rt; (left.agree, left.broken, left.spent), (true, broken, 1));
     have(&rt, &left.stores, &[(2, 0)]);
     for link in &left.links {
-        link.has(&rt, &[(b"AAA", 1)]);
+        took(&rt, link, &[(b"AAA", 1)]);
         assert_eq!(rt; link.failures(), 0);
     }
 }

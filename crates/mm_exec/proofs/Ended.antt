@@ -1,5 +1,5 @@
 -- How a run ends.
-use Rattle.std.proofs.Common.{refl, ◌≡◌, inl, inr, ℕ, ◌-◌, List, length, map, get_or, ap, ◌∙◌, arith}
+use Rattle.std.proofs.Common.{refl, ◌≡◌, inl, inr, ℕ, ◌-◌, List, length, map, get_or, ap, subst, ◌∙◌, arith}
 use Rattle.std.specs.Prelude.{sum_by}
 use Rattle.mm_sums.proofs.Sums.{sum_by-same, sum_by-map, sum_by-swap}
 use Rattle.mm_base.specs.declared.rows.RouteRow.{RouteRow}
@@ -15,7 +15,7 @@ use Rattle.mm_report.specs.declared.cause.Cause.{Cause}
 use Rattle.mm_report.specs.declared.cause.Cause.TheVariants.{PlanShape, NotReady, SizeDiffers, OpeningDiffers, ChannelDiffers, ClockTooLate, PlanDoesNotFit, Counts, NoMemory, LinkFailed, LogMismatch}
 use Rattle.mm_report.specs.declared.tally.Tally.{Tally}
 use Rattle.mm_report.specs.Report.{Reported, totals_of}
-use Rattle.mm_ready.specs.Ready.{Outset, Stops}
+use Rattle.mm_ready.specs.Ready.{Outset, outset, Stops}
 use Rattle.mm_exec.specs.declared.course.Stopped.{Stopped}
 use Rattle.mm_exec.specs.declared.step.Cargo.{Cargo}
 use Rattle.mm_exec.specs.Mission.{Mission, as_came}
@@ -23,6 +23,11 @@ use Rattle.mm_exec.specs.Numbers.{report_of, rows_of, tally_of}
 use Rattle.mm_exec.specs.Course.{IsRefusal, IsEnded}
 use Rattle.mm_exec.specs.Ending.{IsHalted}
 use Rattle.mm_exec.proofs.Parts.{same_ids}
+
+-- what holds of an outset holds of the same one, by whatever names
+pub outset_by : (P : Outset → Type 0) (q : Dumping) (plan : Table) (base : ℕ) {held stores : List Held} {counted_sources counted_links sources links : ℕ}
+    → held ≡ stores → counted_sources ≡ sources → counted_links ≡ links → P (outset q plan held base counted_sources counted_links) → P (outset q plan stores base sources links)
+outset_by P q plan base read many_sources many_links holds = subst P (λ i. outset q plan (read i) base (many_sources i) (many_links i)) holds
 
 -- a test that fails is a refusal
 pub refused : (o : Outset) (cause : Cause) → Stops o cause → IsRefusal o cause

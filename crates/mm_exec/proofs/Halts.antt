@@ -234,6 +234,19 @@ module _ (e : Errand) (gives : List (List SpacePacket)) (k : ℕ) (s mid : State
             let zero_taken : taken ≡ 0 = omega arith in
             ap (λ (u : State). u.retrieval) (tried.run.leaves ∙ ap (replay mid) (tried.none zero_taken).0) ∙ idle
 
+-- how recorders ended a step, and how dump workers did
+abbrev RecordingEnds : {S L : Type 0} → (S → ℕ → List SpacePacket) → ℕ → Errand → Cargo S L → BrokenOff S L → Type 0
+RecordingEnds {S} gives step e before off = ((off.cargo.stores ≡ before.stores) × (off.cargo.sources ≡ before.sources) × (off.cause ≡ NoMemory step))
+    ⊎ ((left : Recording S) × Records gives e before.stores.items before.sources.items left
+    × (off.cargo.stores ≡ left.stores) × (off.cargo.sources ≡ left.sources) × (cause_in step left.agree left.broken ≡ Some off.cause))
+
+abbrev OrdersEnd : {S L : Type 0} → (L → List Sent) → (L → ℕ) → ℕ → List Order → Cargo S L → BrokenOff S L → Type 0
+OrdersEnd sent failed step orders mid off = ((off.cargo.stores ≡ mid.stores) × (off.cargo.links ≡ mid.links) × (off.spent ≡ 0) × (off.cause ≡ NoMemory step))
+    ⊎ ((agree : Bool) × (why : Option OrderBroken) × (dump_cause step agree why ≡ Some off.cause)
+    × (IsTrue agree → AllSettled sent failed (map (λ h. h.id) mid.stores.items) orders why (states_of mid.stores.items)
+    (states_of off.cargo.stores.items) mid.links.items off.cargo.links.items)
+    × (used_by sent failed off.cargo.links.items ≡ used_by sent failed mid.links.items + off.spent))
+
 module _ {S L : Type 0} (gives : S → ℕ → List SpacePacket) (sent : L → List Sent) (failed : L → ℕ) (step now : ℕ) (routes : List RouteRow) (orders : List Order)
     (before : Cargo S L) (off : BrokenOff S L) (labels : labels_of off.cargo.stores.items ≡ labels_of before.stores.items) (k : ℕ) (within : k < length before.stores.items) where
   abbrev e : Errand
@@ -259,9 +272,7 @@ module _ {S L : Type 0} (gives : S → ℕ → List SpacePacket) (sent : L → L
   by_recorders : BrokeRecording gives e before off → off.cause ≢ LogMismatch step → WentByOneLog e came k old new
   by_recorders broke other = by_how broke.how
     where
-      by_how : ((off.cargo.stores ≡ before.stores) × (off.cargo.sources ≡ before.sources) × (off.cause ≡ NoMemory step))
-          ⊎ ((left : Recording S) × Records gives e before.stores.items before.sources.items left
-          × (off.cargo.stores ≡ left.stores) × (off.cargo.sources ≡ left.sources) × (cause_in step left.agree left.broken ≡ Some off.cause)) → WentByOneLog e came k old new
+      by_how : RecordingEnds gives step e before off → WentByOneLog e came k old new
       by_how (inl (stores, sources, cause)) = same_held (WentByOneLog e came k old) before.stores off.cargo.stores stores (left_alone e came k old)
       by_how (inr (left, records, stores, sources, cause)) =
           let went = records.went (agrees step left.agree left.broken off.cause cause other) k (inside left.stores.items records.labels) in
@@ -283,11 +294,7 @@ module _ {S L : Type 0} (gives : S → ℕ → List SpacePacket) (sent : L → L
       first : HasRecorded e came k old (opening_at (states_of dumping.mid.stores.items) k)
       first = dumping.recorded.stores k (inside dumping.mid.stores.items dumping.recorded.labels)
 
-      by_how : ((off.cargo.stores ≡ dumping.mid.stores) × (off.cargo.links ≡ dumping.mid.links) × (off.spent ≡ 0) × (off.cause ≡ NoMemory step))
-          ⊎ ((agree : Bool) × (why : Option OrderBroken) × (dump_cause step agree why ≡ Some off.cause)
-          × (IsTrue agree → AllSettled sent failed (map (λ h. h.id) dumping.mid.stores.items) orders why (states_of dumping.mid.stores.items)
-          (states_of off.cargo.stores.items) dumping.mid.links.items off.cargo.links.items)
-          × (used_by sent failed off.cargo.links.items ≡ used_by sent failed dumping.mid.links.items + off.spent)) → WentByOneLog e came k old new
+      by_how : OrdersEnd sent failed step orders dumping.mid off → WentByOneLog e came k old new
       by_how (inl (stores, links, spent, cause)) =
           same_held (WentByOneLog e came k old) dumping.mid.stores off.cargo.stores stores
           (then_calls e came k old (opening_at (states_of dumping.mid.stores.items) k) first (opening_at (states_of dumping.mid.stores.items) k) []
@@ -306,9 +313,7 @@ module _ {S L : Type 0} (gives : S → ℕ → List SpacePacket) (sent : L → L
     pub whole_log : BrokeStep gives sent failed e orders before off → WentWhole e came k old new
     whole_log (inl recording) = by_how recording.how
       where
-        by_how : ((off.cargo.stores ≡ before.stores) × (off.cargo.sources ≡ before.sources) × (off.cause ≡ NoMemory step))
-            ⊎ ((left : Recording S) × Records gives e before.stores.items before.sources.items left
-            × (off.cargo.stores ≡ left.stores) × (off.cargo.sources ≡ left.sources) × (cause_in step left.agree left.broken ≡ Some off.cause)) → WentWhole e came k old new
+        by_how : RecordingEnds gives step e before off → WentWhole e came k old new
         by_how (inl (stores, sources, cause)) = absurd (cc (cause, is_link))
         by_how (inr (left, records, stores, sources, cause)) = absurd (no_link step left.agree left.broken (cause ∙ ap (λ (c : Cause). Some c) is_link))
     whole_log (inr dumping) = by_how dumping.broke.how
@@ -316,11 +321,7 @@ module _ {S L : Type 0} (gives : S → ℕ → List SpacePacket) (sent : L → L
         first : HasRecorded e came k old (opening_at (states_of dumping.mid.stores.items) k)
         first = dumping.recorded.stores k (inside dumping.mid.stores.items dumping.recorded.labels)
 
-        by_how : ((off.cargo.stores ≡ dumping.mid.stores) × (off.cargo.links ≡ dumping.mid.links) × (off.spent ≡ 0) × (off.cause ≡ NoMemory step))
-            ⊎ ((agree : Bool) × (why : Option OrderBroken) × (dump_cause step agree why ≡ Some off.cause)
-            × (IsTrue agree → AllSettled sent failed (map (λ h. h.id) dumping.mid.stores.items) orders why (states_of dumping.mid.stores.items)
-            (states_of off.cargo.stores.items) dumping.mid.links.items off.cargo.links.items)
-            × (used_by sent failed off.cargo.links.items ≡ used_by sent failed dumping.mid.links.items + off.spent)) → WentWhole e came k old new
+        by_how : OrdersEnd sent failed step orders dumping.mid off → WentWhole e came k old new
         by_how (inl (stores, links, spent, cause)) = absurd (cc (cause, is_link))
         by_how (inr (agree, why, cause, settled, used)) =
             let told = link_failed step agree why (cause ∙ ap (λ (c : Cause). Some c) is_link) in
@@ -340,9 +341,7 @@ pub nothing_left : {S L : Type 0} (gives : S → ℕ → List SpacePacket) (sent
     (off : BrokenOff S L) → off.cause ≡ LinkFailed e.step → BrokeStep gives sent failed e orders before off → All (λ s. gives s e.step ≡ []) off.cargo.sources.items
 nothing_left {S = S} gives sent failed e orders before off is_link (inl recording) = by_how recording.how
   where
-    by_how : ((off.cargo.stores ≡ before.stores) × (off.cargo.sources ≡ before.sources) × (off.cause ≡ NoMemory e.step))
-        ⊎ ((left : Recording S) × Records gives e before.stores.items before.sources.items left
-        × (off.cargo.stores ≡ left.stores) × (off.cargo.sources ≡ left.sources) × (cause_in e.step left.agree left.broken ≡ Some off.cause))
+    by_how : RecordingEnds gives e.step e before off
         → All (λ s. gives s e.step ≡ []) off.cargo.sources.items
     by_how (inl (stores, sources, cause)) = absurd (cc (cause, is_link))
     by_how (inr (left, records, stores, sources, cause)) = absurd (no_link e.step left.agree left.broken (cause ∙ ap (λ (c : Cause). Some c) is_link))

@@ -4,43 +4,32 @@ use Rattle.std.specs.Prelude.{pos}
 use Rattle.std.specs.List.Sorted.{IsSortedByKey}
 use Rattle.mm_sums.proofs.RangeSums.{sum_by_range_same}
 use Rattle.mm_problem.specs.Dumping.{Dumping, size, arrivals}
-use Rattle.mm_plan.specs.Table.{amount, HasShape}
+use Rattle.mm_plan.specs.Table.{amount}
 use Rattle.mm_plan.specs.Volumes.{Amounts, left, written, lost, store_loss, loss}
-use Rattle.mm_plan.specs.Least.{IsLeast}
-use Rattle.mm_plan.specs.Filled.{IsFilled}
 use Rattle.mm_plan.specs.Sheet.{SheetRows, IsSheet, IsShapedFor}
 use Rattle.mm_plan.specs.Printing.{IsOrdered, IsPrinted, stretch_key, key_cmp}
 use Rattle.mm_plan.proofs.Steps.{left_start, left_step}
 use Rattle.mm_planner.specs.Planned.{ShowsLeast}
-use Rattle.mm_planner.proofs.CutOrder.{cut_in_order, bound_in_order}
+use Rattle.mm_planner.specs.PlanTexts.{ShowsInOrder}
 use Rattle.mm_report.specs.Report.{Reported, totals_of}
 use Rattle.mm_exec.specs.Mission.{Mission, as_came}
 use Rattle.mm_exec.specs.Flying.{PlansFor, LosesWhatIsPrinted}
 use Rattle.mm_exec.proofs.Coming.{came_at}
 
--- a printed sheet that shows that its plan loses least
-pub printed_plans : (q : Dumping) (text : List ℕ) (s : SheetRows) → IsSheet s → IsShapedFor q s → ShowsLeast q s.plan s.cut s.by_channels s.loss → s.bound ≡ pos s.loss
+-- a printed sheet that shows that its plan loses least, from the law that it does so in the order in which it is printed
+pub printed_plans : ShowsInOrder → (q : Dumping) (text : List ℕ) (s : SheetRows) → IsSheet s → IsShapedFor q s → ShowsLeast q s.plan s.cut s.by_channels s.loss → s.bound ≡ pos s.loss
     → (printed : IsPrinted s text) → PlansFor q text printed.0
-printed_plans q text s is shaped shows tight printed =
+printed_plans shows_in_order q text s is shaped shows tight printed =
     let r = printed.0 in
     let ordered : IsOrdered s r = printed.1 in
-    let same_plan = sym ordered.plan in
-    let same_loss = sym ordered.loss in
     record {
       says_sheet = record {
         is_sheet = printed.2 is;
         text = printed.3;
         shape = record { stores = ordered.stores ∙ shaped.stores; steps = ap (λ x. x.steps) ordered.plan ∙ shaped.steps };
       };
-      shows_least = record {
-        shape = subst (HasShape q) same_plan shows.shape;
-        least = subst (λ x. IsLeast q (amount x)) same_plan shows.least;
-        filled = subst (λ x. IsFilled q (amount x)) same_plan shows.filled;
-        cut = cut_in_order q s.cut r.cut s.by_channels r.by_channels ordered.cut.same ordered.counts.same shows.cut;
-        loss = ap (λ x. loss q (amount x)) ordered.plan ∙ shows.loss ∙ same_loss;
-        bound = bound_in_order q s.cut r.cut s.by_channels r.by_channels ordered.cut.same ordered.counts.same ∙ shows.bound ∙ ap pos same_loss;
-      };
-      tight = ordered.bound ∙ tight ∙ ap pos same_loss;
+      shows_least = shows_in_order q s r shows ordered;
+      tight = ordered.bound ∙ tight ∙ ap pos (sym ordered.loss);
       in_order = record { cut = subst (λ ids. IsSortedByKey (stretch_key ids) key_cmp r.cut) (sym ordered.stores) ordered.cut.order; counts = ordered.counts.order };
     }
 

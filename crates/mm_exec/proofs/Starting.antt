@@ -184,6 +184,18 @@ footing_here gives q plan base memory sources links all is begins there sound =
     footing_of gives q plan base memory sources (take (length q.rows) all) is begun.sizes begun.openings begun.early
     (places_cut q memory.stores (length q.rows) all there) (sound_cut memory.stores (length q.rows) all sound)
 
+-- the same, where the sources were counted, the stores read, and the places cut down to those of the problem's stores
+pub footing_by : {S : Type 0} (gives : S → ℕ → List SpacePacket) (q : Dumping) (plan : Table) (base : ℕ) (memory : Holdings) (sources : List S) (links : ℕ) (all : List ℕ)
+    {counted many : ℕ} {held : List Held} → IsDumping q → counted ≡ length sources → MayBegin (outset q plan memory.stores base counted links) → held ≡ memory.stores
+    → ArePlaces q held (length q.rows) all → AreSound held (length q.rows) all → many ≡ length q.rows
+    → Footing gives (mission gives q plan base memory sources) sources (take many all)
+footing_by gives q plan base memory sources links all is same begins read there sound cut =
+    let begun = subst (λ (k : ℕ). MayBegin (outset q plan memory.stores base k links)) same begins in
+    let places = subst (λ (xs : List Held). ArePlaces q xs (length q.rows) all) read there in
+    let sounds = subst (λ (xs : List Held). AreSound xs (length q.rows) all) read sound in
+    subst (λ (n : ℕ). Footing gives (mission gives q plan base memory sources) sources (take n all)) (sym cut)
+    (footing_here gives q plan base memory sources links all is begun places sounds)
+
 -- a step carried out after those before it
 pub gone_at : {S L : Type 0} (gives : S → ℕ → List SpacePacket) (sent : L → List Sent) (failed : L → ℕ) (m : Mission) (sources : List S) (links : List L) (places : List ℕ)
     → Footing gives m sources places → RunsLoseAsPlanned → (t : ℕ) → 1 ≤ t → t ≤ length m.problem.windows → (before after : Cargo S L) (report new : Reported)

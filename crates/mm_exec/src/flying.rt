@@ -8,7 +8,7 @@ use mm_base::NoMemory;
 use mm_memory::Memory;
 use mm_order::Link;
 use mm_plan::Sheet;
-use mm_planner::sheet;
+use mm_planner::{sheet, sheets_show_in_order};
 use mm_problem::Problem;
 use mm_ready::Cause;
 use mm_record::Source;
@@ -28,6 +28,7 @@ pub(crate) struct Printed {
 fn print_plan(alloc: Global, problem: &Problem) -> Result<Printed, NoMemory>
     ensures { IfOk result (IsPrintedFor problem.now) }
 {
+    sheets_show_in_order();
     let sheet = sheet(alloc, problem)?;
     let text = sheet.print(alloc)?;
     Ok(Printed { sheet, text })

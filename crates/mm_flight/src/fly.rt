@@ -8,21 +8,12 @@ ghost use Rattle.mm_flight.specs.Runs.{FliesBy, FliesEarly, FliesWhole};
 use crate::fault::Fault;
 use crate::opening::offer_all;
 use crate::printed::{Printed, Spare};
-use crate::texts::{Ends, Ground, read_ends, read_ground};
+use crate::texts::{Ends, FlightTexts, Ground, read_ends, read_ground};
 use mm_base::NoMemory;
 use mm_exec::{Flown, Halted, NotFlown, fly};
 use std::alloc::Global;
 use std::sync::Wait;
 use std::thread::Threads;
-
-/// The four texts of a run whose plan is made.
-#[derive(Clone, Copy)]
-pub struct FlyTexts<'a> {
-    pub setup: &'a [u8],
-    pub forecast: &'a [u8],
-    pub sources: &'a [u8],
-    pub links: &'a [u8],
-}
 
 // Offers the packets of step 0, plans, carries the plan out, and says what is printed of it.
 fn plan_and_carry<R: Threads + Wait + Sync>(
@@ -61,7 +52,7 @@ fn plan_and_carry<R: Threads + Wait + Sync>(
 pub fn fly_bytes<R: Threads + Wait + Sync>(
     rt: &R,
     alloc: Global,
-    texts: FlyTexts<'_>,
+    texts: FlightTexts<'_>,
 ) -> Result<Printed, Fault>
     ensures flies { IfOk result (FliesBy texts.entry.setup.now texts.entry.forecast.now texts.entry.sources.now texts.entry.links.now) }
     ensures refused { IfRefused Fault.NoMemory result

@@ -10,9 +10,10 @@ mod run;
 mod texts;
 
 pub use fault::Fault;
-pub use fly::{FlyTexts, fly_bytes};
+pub use fly::fly_bytes;
 pub use printed::{Outcome, Printed};
-pub use run::{RunTexts, run_bytes};
+pub use run::run_bytes;
+pub use texts::FlightTexts;
 
 #[cfg(test)]
 mod tests;

@@ -8,7 +8,7 @@ ghost use Rattle.mm_flight.specs.Runs.{EndsEarly, EndsWhole, Runs};
 use crate::fault::Fault;
 use crate::opening::offer_all;
 use crate::printed::{Printed, Spare};
-use crate::texts::{Ends, Ground, read_ends, read_ground};
+use crate::texts::{Ends, FlightTexts, Ground, read_ends, read_ground};
 use mm_base::NoMemory;
 use mm_check::read_sheet;
 use mm_exec::{Flight, Halted, carry_out};
@@ -16,16 +16,6 @@ use mm_plan::Plan;
 use std::alloc::Global;
 use std::sync::Wait;
 use std::thread::Threads;
-
-/// The five texts of a run.
-#[derive(Clone, Copy)]
-pub struct RunTexts<'a> {
-    pub setup: &'a [u8],
-    pub forecast: &'a [u8],
-    pub plan: &'a [u8],
-    pub sources: &'a [u8],
-    pub links: &'a [u8],
-}
 
 // Offers the packets of step 0, carries the plan out, and says what is printed of it.
 fn carry<R: Threads + Wait + Sync>(
@@ -59,20 +49,21 @@ fn carry<R: Threads + Wait + Sync>(
     }
 }
 
-/// What is printed of the run that the texts say: the packets of step 0 are offered at the moment 0, and then the plan
-/// is carried out, its first step at the moment 1. Otherwise the first fault of the texts, in the order of the setup,
-/// the forecast, the plan text, its shape, the sources and the links.
+/// What is printed of the run that the texts and a plan text say: the packets of step 0 are offered at the moment 0, and
+/// then the plan is carried out, its first step at the moment 1. Otherwise the first fault of the texts, in the order of
+/// the setup, the forecast, the plan text, its shape, the sources and the links.
 pub fn run_bytes<R: Threads + Wait + Sync>(
     rt: &R,
     alloc: Global,
-    texts: RunTexts<'_>,
+    texts: FlightTexts<'_>,
+    plan: &[u8],
 ) -> Result<Printed, Fault>
-    ensures runs { IfOk result (Runs texts.entry.setup.now texts.entry.forecast.now texts.entry.plan.now texts.entry.sources.now texts.entry.links.now) }
+    ensures runs { IfOk result (Runs texts.entry.setup.now texts.entry.forecast.now plan.now texts.entry.sources.now texts.entry.links.now) }
     ensures refused { IfRefused Fault.NoMemory result
-        (IsRunFault texts.entry.setup.now texts.entry.forecast.now texts.entry.plan.now texts.entry.sources.now texts.entry.links.now) }
+        (IsRunFault texts.entry.setup.now texts.entry.forecast.now plan.now texts.entry.sources.now texts.entry.links.now) }
 {
     let ground = read_ground(alloc, texts.setup, texts.forecast)?;
-    let sheet = read_sheet(alloc, &ground.problem, texts.plan)?;
+    let sheet = read_sheet(alloc, &ground.problem, plan)?;
     let ends = read_ends(alloc, texts.sources, texts.links)?;
     let printed = carry(rt, alloc, ground, sheet.plan(), ends)?;
     Ok(printed)

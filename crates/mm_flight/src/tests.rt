@@ -28,6 +28,16 @@ fn sources_of(alloc: Global, steps: &[(u32, u32)]) -> Result<Vec<u8>, NoMemory> 
     Ok(text)
 }
 
+// The texts of the first run, with these sources and links.
+fn texts<'a>(sources: &'a [u8], links: &'a [u8]) -> FlightTexts<'a> {
+    FlightTexts {
+        setup: SETUP.as_bytes(),
+        forecast: FORECAST.as_bytes(),
+        sources,
+        links,
+    }
+}
+
 // What is printed, in one text.
 fn text_of(rt: &impl Abort, printed: Printed) -> String {
     let mut text = printed.sheet;
@@ -39,14 +49,8 @@ fn text_of(rt: &impl Abort, printed: Printed) -> String {
 #[test]
 fn run_with_other_arrivals(rt: HostRuntime) -> Result<(), Fail> {
     let sources = sources_of(rt.alloc(), &[(1, 3), (2, 3), (3, 5)])?;
-    let texts = RunTexts {
-        setup: SETUP.as_bytes(),
-        forecast: FORECAST.as_bytes(),
-        plan: PLAN.as_bytes(),
-        sources: &sources,
-        links: b"links 1\n",
-    };
-    let printed = run_bytes(&rt, rt.alloc(), texts)?;
+    let texts = texts(&sources, b"links 1\n");
+    let printed = run_bytes(&rt, rt.alloc(), texts, PLAN.as_bytes())?;
     assert_eq!(rt; printed.outcome, Outcome::CarriedOut);
     let text = text_of(&rt, printed);
     assert_eq!(rt;
@@ -64,12 +68,7 @@ fn run_with_other_arrivals(rt: HostRuntime) -> Result<(), Fail> {
 #[test]
 fn a_plan_is_printed_before_its_run(rt: HostRuntime) -> Result<(), Fail> {
     let sources = sources_of(rt.alloc(), &[(1, 3), (2, 3), (3, 4)])?;
-    let texts = FlyTexts {
-        setup: SETUP.as_bytes(),
-        forecast: FORECAST.as_bytes(),
-        sources: &sources,
-        links: b"links 1\nfail 1 3",
-    };
+    let texts = texts(&sources, b"links 1\nfail 1 3");
     let printed = fly_bytes(&rt, rt.alloc(), texts)?;
     assert_eq!(rt; printed.outcome, Outcome::Stopped);
     assert!(rt; printed.sheet.as_slice() == PLAN.as_bytes());
@@ -92,14 +91,8 @@ fn refused<R: Threads + Wait + Sync + Abort>(
     sources: &str,
     links: &str,
 ) -> String {
-    let texts = RunTexts {
-        setup: SETUP.as_bytes(),
-        forecast: FORECAST.as_bytes(),
-        plan: plan.as_bytes(),
-        sources: sources.as_bytes(),
-        links: links.as_bytes(),
-    };
-    match run_bytes(rt, alloc, texts) {
+    let texts = texts(sources.as_bytes(), links.as_bytes());
+    match run_bytes(rt, alloc, texts, plan.as_bytes()) {
         Ok(printed) => text_of(rt, printed),
         Err(fault) => fault.to_string(alloc).expect(rt, "memory"),
     }

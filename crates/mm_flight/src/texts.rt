@@ -12,6 +12,15 @@ use mm_problem::{Problem, Setup};
 use mm_scripted::{Deliveries, ScriptedLink, ScriptedSource, read_links};
 use std::alloc::Global;
 
+/// The texts of a run, without the plan's.
+#[derive(Clone, Copy)]
+pub struct FlightTexts<'a> {
+    pub setup: &'a [u8],
+    pub forecast: &'a [u8],
+    pub sources: &'a [u8],
+    pub links: &'a [u8],
+}
+
 /// What a setup and a forecast say: the problem, and the memory before anything is stored.
 #[derive(Drop)]
 pub(crate) struct Ground {

@@ -237,7 +237,7 @@ fn arc(rt: &impl Abort, network: &mut Network, from: u32, to: u32, capacity: Opt
 fn check(rt: &impl Abort, alloc: Global, case: &Case, source: u32, sink: u32) {
     let network = built(rt, alloc, case.nodes, case.arcs);
     let value = same_value(rt, alloc, &network, source, sink);
-    assert_eq!(rt; value, case.value, "{}", case.name);
+    assert!(rt; value == case.value, "{}", case.name);
 }
 
 // The value that both solvers answer.
@@ -252,7 +252,7 @@ fn same_value(
     assert!(rt; (sink as usize) < network.node_count());
     let by_levels = value_of(rt, solve(alloc, network, source, sink));
     let by_paths = value_of(rt, solve_paths(alloc, network, source, sink));
-    assert_eq!(rt; by_levels, by_paths);
+    assert!(rt; by_levels == by_paths);
     by_levels
 }
 
@@ -261,7 +261,7 @@ fn value_of(rt: &impl Abort, answer: Result<Solved, Fault>) -> Option<u64> {
     match answer {
         Ok(solved) => Some(solved.value),
         Err(fault) => {
-            assert_eq!(rt; fault, Fault::Unbounded);
+            assert!(rt; fault == Fault::Unbounded);
             None
         }
     }
@@ -369,7 +369,7 @@ fn networks_of_stores(rt: HostRuntime) {
     for case in &STORES {
         let network = network_of(&rt, rt.alloc(), case);
         let value = same_value(&rt, rt.alloc(), &network, 0, 1);
-        assert_eq!(rt; value, Some(case.value), "{}", case.name);
+        assert!(rt; value == Some(case.value), "{}", case.name);
     }
 }
 
@@ -418,17 +418,18 @@ fn ends_in_any_order(rt: HostRuntime) {
     check(&rt, rt.alloc(), &BACKWARDS, 2, 0);
 }
 
+// Refusals with their numbers, their names, and as they are printed.
+static NAMED: [(Fault, u8, &str, &str); 3] = [
+    (Fault::NoMemory, 0, "NoMemory", "0 NoMemory"),
+    (Fault::Unbounded, 36, "Unbounded", "36 Unbounded"),
+    (Fault::SameEnds, 37, "SameEnds", "37 SameEnds"),
+];
+
 #[test]
 fn faults_have_numbers_and_names(rt: HostRuntime) -> Result<(), Fail> {
-    let table = [
-        (Fault::NoMemory, 0, "NoMemory", "0 NoMemory"),
-        (Fault::Unbounded, 36, "Unbounded", "36 Unbounded"),
-        (Fault::SameEnds, 37, "SameEnds", "37 SameEnds"),
-    ];
-    for (fault, number, name, shown) in table {
-        assert_eq!(rt; fault.number(), number);
-        assert_eq!(rt; fault.name(), name);
-        assert_eq!(rt; format!(in rt.alloc(); "{fault}")?.as_str(), shown);
+    for (fault, number, name, shown) in &NAMED {
+        assert!(rt; fault.number() == *number && fault.name() == *name);
+        assert!(rt; fault.to_string(rt.alloc())?.as_str() == *shown);
     }
     Ok(())
 }
@@ -449,41 +450,56 @@ const FOUR_NODES: [(u32, u32, Option<u64>); 5] = [
     (2, 3, Some(3)),
 ];
 
+// The one flow of 5: the arcs out of node 0 and into node 3 are full, and 1 is left from 1 to 2.
+fn is_flow_of_5(rt: &impl Abort, solved: &Solved) {
+    assert!(rt; solved.value == 5);
+    assert!(rt; solved.flow.as_slice() == [3, 2, 1, 2, 3].as_slice());
+    let side = solved.side.as_slice();
+    assert!(rt; side.first() == Some(&true) && side.last() == Some(&false));
+}
+
 #[test]
 fn network_of_four_nodes(rt: HostRuntime) {
     let network = built(&rt, rt.alloc(), 4, &FOUR_NODES);
     assert!(rt; network.node_count() == 4);
     let solved = solve(rt.alloc(), &network, 0, 3).expect(&rt, "a solution");
-    assert_eq!(rt; solved.value, 5);
-    // The one flow of 5: the arcs out of node 0 and into node 3 are full, and 1 is left from 1 to 2.
-    assert_eq!(rt; solved.flow.as_slice(), [3, 2, 1, 2, 3].as_slice());
-    assert_eq!(rt; solved.side.as_slice().first(), Some(&true));
-    assert_eq!(rt; solved.side.as_slice().last(), Some(&false));
-    let by_paths = solve_paths(rt.alloc(), &network, 0, 3).expect(&rt, "a solution");
-    assert_eq!(rt; by_paths.value, 5);
+    is_flow_of_5(&rt, &solved);
+    let by_paths = solve_paths(rt.alloc(), &network, 0, 3);
+    assert!(rt; value_of(&rt, by_paths) == Some(5));
+}
+
+// A solver answered with this refusal.
+fn is_refused(rt: &impl Abort, answer: Result<Solved, Fault>, want: Fault) {
+    match answer {
+        Ok(_) => assert!(rt; false, "a refusal"),
+        Err(fault) => assert!(rt; fault == want),
+    }
 }
 
 #[test]
 fn refusals_of_four_nodes(rt: HostRuntime) {
     let mut network = built(&rt, rt.alloc(), 4, &FOUR_NODES);
     assert!(rt; network.node_count() == 4);
-    let same = solve(rt.alloc(), &network, 0, 0).err();
-    assert_eq!(rt; same, Some(Fault::SameEnds));
+    is_refused(&rt, solve(rt.alloc(), &network, 0, 0), Fault::SameEnds);
     assert!(rt; network.arc_count() < MAX_ARCS as usize);
     let unlimited = network.add_arc(0, 3, None).expect(&rt, "an arc");
-    assert_eq!(rt; unlimited, 5);
-    let unbounded = solve(rt.alloc(), &network, 0, 3).err();
-    assert_eq!(rt; unbounded, Some(Fault::Unbounded));
+    assert!(rt; unlimited == 5);
+    is_refused(&rt, solve(rt.alloc(), &network, 0, 3), Fault::Unbounded);
+}
+
+// A network has room for this many further nodes and arcs.
+fn has_room(rt: &impl Abort, network: &Network, nodes: u32, arcs: u32) {
+    assert!(rt; network.room() == (nodes, arcs));
 }
 
 #[test]
 fn network_room(rt: HostRuntime) -> Result<(), Fail> {
     let mut network = Network::with_room(rt.alloc(), 2, 1)?;
-    assert_eq!(rt; network.room(), (2, 1));
-    assert_eq!(rt; network.add_node()?, 0);
-    assert_eq!(rt; network.add_node()?, 1);
-    assert_eq!(rt; network.add_arc(0, 1, Some(4))?, 0);
-    assert_eq!(rt; network.room(), (0, 0));
-    assert_eq!(rt; Network::new(rt.alloc()).room(), (0, 0));
+    has_room(&rt, &network, 2, 1);
+    assert!(rt; network.add_node()? == 0);
+    assert!(rt; network.add_node()? == 1);
+    assert!(rt; network.add_arc(0, 1, Some(4))? == 0);
+    has_room(&rt, &network, 0, 0);
+    has_room(&rt, &Network::new(rt.alloc()), 0, 0);
     Ok(())
 }

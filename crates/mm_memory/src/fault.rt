@@ -1,7 +1,9 @@
 //! Why an instruction is refused.
 ghost use Rattle.std.specs.Prelude.{◌≡◌};
+ghost use Rattle.mm_memory.specs.Fault.{of_state};
+ghost use Rattle.mm_memory.specs.declared.fault.Fault.TheVariants.{Control};
 
-use mm_base::{NoMemory, Refusal, Refused, refusals};
+use mm_base::{NoMemory, Refusal, Refused, passed_on, refusals};
 use thiserror::Error;
 
 /// A refusal of this crate, or of a store's state or the storage control. It is shown as its
@@ -29,23 +31,8 @@ pub enum Fault {
     Control(mm_control::Fault),
 }
 
-impl From<mm_desk::Fault> for Fault {
-    ghost use Rattle.mm_memory.specs.Fault.{of_state};
-
-    ghost from_gives = { λ f e. e ≡ of_state f };
-
-    fn from(fault: mm_desk::Fault) -> Fault {
-        match fault {
-            mm_desk::Fault::NoMemory => Fault::NoMemory,
-            refusal => Fault::State(refusal),
-        }
-    }
-}
-
 impl From<mm_control::Fault> for Fault {
-    ghost use Rattle.mm_memory.specs.declared.fault.Fault.TheVariants as fault;
-
-    ghost from_gives = { λ f e. e ≡ fault.Control f };
+    ghost from_gives = { λ fault e. e ≡ Control fault };
 
     fn from(fault: mm_control::Fault) -> Fault {
         Fault::Control(fault)
@@ -73,5 +60,13 @@ impl From<NoMemory> for Fault {
 
     fn from(_error: NoMemory) -> Fault {
         Fault::NoMemory
+    }
+}
+
+impl From<mm_desk::Fault> for Fault {
+    ghost from_gives = { λ fault e. e ≡ of_state fault };
+
+    fn from(fault: mm_desk::Fault) -> Fault {
+        passed_on!(fault; mm_desk as State)
     }
 }

@@ -1,6 +1,7 @@
 -- What the calls of an order that broke leave of a state.
 use Rattle.std.proofs.Common.{◌≡◌, ℕ, Bool, true, false, nat_lt, if◌then◌else◌, List, [], ◌∷◌, ◌++◌, length, refl, sym, ap, subst, ◌∙◌, append_assoc}
 use Rattle.std.specs.Prelude.{Option, Some, None, Result, Ok, Err, is_some}
+use Rattle.std.proofs.lemmas.Bool.{cond_both}
 use Rattle.mm_store.specs.declared.stored.Stored.{Stored}
 use Rattle.mm_store.specs.Content.{clock_end, first_in}
 use Rattle.mm_desk.specs.declared.entry.Entry.{Entry}
@@ -13,7 +14,6 @@ use Rattle.mm_desk.specs.declared.state.Retrieval.{Retrieval}
 use Rattle.mm_desk.specs.Machine.{State, begin, next_of, give, abort, step}
 use Rattle.mm_desk.specs.Orders.{begun, given, ended, last_time}
 use Rattle.mm_desk.specs.Runs.{entry, replay, IsLegal, IsRun}
-use Rattle.mm_desk.proofs.Choices.{choice}
 use Rattle.mm_order.specs.declared.stop.Stop.{Stop}
 use Rattle.mm_order.specs.declared.stop.Stop.TheVariants.{AtBegin, AtNext, AtDraw, AtSend, AtAbort, AtDelete}
 use Rattle.mm_order.specs.Broken.{lacks, listed, stopped, AreStopped, IsBrokenOrder, IsAbortedOrder}
@@ -46,7 +46,7 @@ close_on s t u first second = second ∙ ap (λ (v : State). record v { retrieva
 begin_keeps : (s : State) (from to : ℕ) → AreClose s (begin s from to).1
 begin_keeps s from to =
     let P : Result (Unit {0}) Fault × State → Type 0 = λ r. AreClose s r.1 in
-    choice P (is_some s.retrieval) _ _ (λ busy. refl) (λ free. choice P (nat_lt to from) _ _ (λ bad. refl) (λ good. refl))
+    cond_both (is_some s.retrieval) _ _ P (λ busy. refl) (λ free. cond_both (nat_lt to from) _ _ P (λ bad. refl) (λ good. refl))
 
 next_keeps : (s : State) → AreClose s (next_of s s.retrieval).1
 next_keeps s = of s.retrieval
@@ -62,12 +62,12 @@ next_keeps s = of s.retrieval
 abort_keeps : (s : State) → AreClose s (abort s).1
 abort_keeps s =
     let P : Result (Unit {0}) Fault × State → Type 0 = λ r. AreClose s r.1 in
-    choice P (is_some s.retrieval) _ _ (λ on. refl) (λ off. refl)
+    cond_both (is_some s.retrieval) _ _ P (λ on. refl) (λ off. refl)
 
 -- a deletion that is refused changes nothing
 refused_keeps : (s : State) (limit : ℕ) (fault : Fault) → reply.Deleted (Err fault) ≡ (step s (Delete limit)).0 → (step s (Delete limit)).1 ≡ s
 refused_keeps s limit fault answers =
-    choice (λ (r : Result ℕ Fault × State). reply.Deleted (Err fault) ≡ reply.Deleted r.0 → r.1 ≡ s) (is_some s.retrieval) _ _
+    cond_both (is_some s.retrieval) _ _ (λ (r : Result ℕ Fault × State). reply.Deleted (Err fault) ≡ reply.Deleted r.0 → r.1 ≡ s)
     (λ busy same. refl) (λ free bad. absurd (cc bad)) answers
 
 -- a harmless call changes the retrieval at most
@@ -107,7 +107,7 @@ listed_harmless seat event answer harmless =
 
 ended_harmless : (seat wanted : ℕ) (gave : List Stored) → AreHarmless (ended seat wanted gave ∷ [])
 ended_harmless seat wanted gave =
-    choice (λ (e : Entry). AreHarmless (e ∷ [])) (nat_lt (length gave) wanted) (entry seat Next (reply.Given (Ok None))) (entry seat Abort (reply.Done (Ok tt)))
+    cond_both (nat_lt (length gave) wanted) (entry seat Next (reply.Given (Ok None))) (entry seat Abort (reply.Done (Ok tt))) (λ (e : Entry). AreHarmless (e ∷ []))
     (λ fewer. (tt, tt)) (λ enough. (tt, tt))
 
 -- the calls after the packets
@@ -145,7 +145,7 @@ broken_keeps s t seat wanted gave calls order run =
 -- an accepted abort leaves no retrieval on
 abort_none : (s : State) → reply.Done (Ok tt) ≡ (step s Abort).0 → (step s Abort).1.retrieval ≡ None
 abort_none s answers =
-    choice (λ (r : Result (Unit {0}) Fault × State). reply.Done (Ok tt) ≡ reply.Done r.0 → r.1.retrieval ≡ None) (is_some s.retrieval) _ _
+    cond_both (is_some s.retrieval) _ _ (λ (r : Result (Unit {0}) Fault × State). reply.Done (Ok tt) ≡ reply.Done r.0 → r.1.retrieval ≡ None)
     (λ on same. refl) (λ off bad. absurd (cc bad)) answers
 
 -- nor does the end of a retrieval
@@ -166,7 +166,7 @@ LeavesNone e = (s : State) → e.reply ≡ (step s e.event).0 → (step s e.even
 
 ended_none : (seat wanted : ℕ) (gave : List Stored) → LeavesNone (ended seat wanted gave)
 ended_none seat wanted gave =
-    choice LeavesNone (nat_lt (length gave) wanted) (entry seat Next (reply.Given (Ok None))) (entry seat Abort (reply.Done (Ok tt)))
+    cond_both (nat_lt (length gave) wanted) (entry seat Next (reply.Given (Ok None))) (entry seat Abort (reply.Done (Ok tt))) LeavesNone
     (λ fewer. end_none) (λ enough. abort_none)
 
 -- where a retrieval is begun none was on
@@ -181,7 +181,7 @@ none_before s answers = of s.retrieval answers
 refused_begin : (s : State) (fault : Fault) → reply.Done (Err fault) ≡ (step s (Begin 1 clock_end)).0 → (step s (Begin 1 clock_end)).1 ≡ s
 refused_begin s fault answers =
     let P : Result (Unit {0}) Fault × State → Type 0 = λ r. reply.Done (Err fault) ≡ reply.Done r.0 → r.1 ≡ s in
-    choice P (is_some s.retrieval) _ _ (λ busy same. refl) (λ free bad. absurd (cc bad)) answers
+    cond_both (is_some s.retrieval) _ _ P (λ busy same. refl) (λ free bad. absurd (cc bad)) answers
 
 -- the calls of a legal log, and then others
 legal_parts : (s : State) (es ds : List Entry) → IsLegal s (es ++ ds) → IsLegal s es × IsLegal (replay s es) ds

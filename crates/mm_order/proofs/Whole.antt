@@ -1,5 +1,6 @@
 -- An order put together from its begin, its packets and its end.
 use Rattle.std.proofs.Common.{◌≡◌, ℕ, ◌+◌, ◌≤◌, Bool, true, false, nat_lt, List, [], ◌∷◌, ◌++◌, length, Option, Some, Ok, Err, refl, sym, ap, subst, ◌∙◌, append_assoc, arith}
+use Rattle.std.proofs.lemmas.Bool.{cond_both}
 use Rattle.std.proofs.lemmas.List.{append-nil}
 use Rattle.mm_store.specs.declared.stored.Stored.{Stored}
 use Rattle.mm_desk.specs.declared.entry.Entry.{Entry}
@@ -8,7 +9,6 @@ use Rattle.mm_desk.specs.declared.fault.Fault.{Fault}
 use Rattle.mm_desk.specs.declared.reply.Reply.TheVariants as reply
 use Rattle.mm_desk.specs.Orders.{begun, given, ended, last_time, removed}
 use Rattle.mm_desk.specs.Seats.{Place}
-use Rattle.mm_desk.proofs.Choices.{choice}
 use Rattle.mm_order.specs.declared.order.OrderBroken.{OrderBroken}
 use Rattle.mm_order.specs.declared.order.OrderBroken.TheVariants as broken
 use Rattle.mm_order.specs.declared.order.OrderBroken.TheVariants.{LinkFailed}
@@ -32,7 +32,7 @@ seat_went id calls a seat leaves = record {
 -- no refusal of the desk has the link as its cause
 not_the_link : (fault : Fault) → cause_of_fault fault ≡ LinkFailed → ⊥
 not_the_link fault =
-    choice (λ (why : OrderBroken). why ≡ LinkFailed → ⊥) (is_lack fault) broken.NoMemory broken.Refused (λ lack e. cc) (λ refused e. cc)
+    cond_both (is_lack fault) broken.NoMemory broken.Refused (λ (why : OrderBroken). why ≡ LinkFailed → ⊥) (λ lack e. cc) (λ refused e. cc)
 
 -- where the link is the cause the order stopped at a send, and was then aborted
 pub link_failed : (stop : Stop) → cause_of stop ≡ LinkFailed → stop ≡ AtSend (Ok tt)

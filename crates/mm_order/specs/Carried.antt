@@ -40,7 +40,7 @@ pub record Carried (id : List ℕ) (wanted : ℕ) (before after : Carrier) : Typ
   pub order : IsOrderOf before.seat.number wanted gave calls
   pub went : Went id calls gave 0 before after
 
--- an order broke: what it was given was sent, save the last packet where that found no draw or was not taken by the link
+-- an order broke: what it was given was sent, except the last packet where that found no draw or was not taken by the link
 pub record Broke (id : List ℕ) (wanted : ℕ) (why : OrderBroken) (before after : Carrier) : Type 0 where
   pub sent : List Stored
   pub unsent : List Stored

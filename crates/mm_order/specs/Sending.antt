@@ -1,7 +1,8 @@
 -- What was sent over a link.
-use Rattle.std.specs.Prelude.{ℕ, List, map}
+use Rattle.std.specs.Prelude.{ℕ, List, [], map}
 use Rattle.mm_packet.specs.Packet.{SpacePacket}
 use Rattle.mm_store.specs.declared.stored.Stored.{Stored}
+use Rattle.mm_order.specs.declared.wire.Taken.{Taken}
 
 -- a packet that was sent: its store, and the packet with its storage time
 pub record Sent : Type 0 where
@@ -15,3 +16,16 @@ sent_at id time packet = record { store = id; stored = record { time = time; pac
 -- these packets of a store
 abbrev pub all_sent : List ℕ → List Stored → List Sent
 all_sent id gave = map (λ stored. record { store = id; stored = stored }) gave
+
+-- a link in memory: what was sent over it, and how many sends have failed
+pub record Wired : Type 0 where
+  pub sent : List Sent
+  pub failed : ℕ
+
+-- nothing was sent over it, and no send has failed
+abbrev pub new_wired : Wired
+new_wired = record { sent = []; failed = 0 }
+
+-- a packet that it took
+abbrev pub sent_of : Taken → Sent
+sent_of t = record { store = t.store; stored = t.stored }

@@ -20,39 +20,56 @@ struct Sending {
     over: bool,
 }
 
-// Begins a retrieval of all packets.
-fn begin<N: Opening, R: Wait>(
-    rt: &R,
+// Where an order is carried out: the desk of a store, under its identifier, and the pass book.
+#[derive(Drop)]
+struct Site<'a, N: Opening, W: Passing, R: Wait> {
+    rt: &'a R,
     alloc: Global,
-    desk: &Desk<N>,
+    desk: &'a Desk<N>,
+    id: &'a StoreId,
+    book: &'a PassBook<W>,
+}
+
+// Begins a retrieval of all packets.
+fn begin<N: Opening, W: Passing, R: Wait>(
+    site: &Site<'_, N, W, R>,
     seat: &mut Seat<N>,
 ) -> Result<(), Stop>
     ensures ok { OnOk result (seat.new ≡ with_calls seat.old (begun seat.old.number ∷ [])) }
     ensures err { IfErr result (λ stop. Unbegun stop seat.old seat.new) }
 {
+    let Site {
+        rt,
+        alloc,
+        desk,
+        ..
+    } = *site;
     desk.begin(rt, alloc, seat, 1, u64::MAX)
         .map_err(Stop::AtBegin)
 }
 
 // Gives the next packet of the retrieval, draws a block for it and sends it. Where that fails the retrieval is aborted.
 fn send_next<N: Opening, W: Passing, L: Link, R: Wait>(
-    rt: &R,
-    alloc: Global,
-    desk: &Desk<N>,
+    site: &Site<'_, N, W, R>,
     seat: &mut Seat<N>,
-    id: &StoreId,
     link: &mut L,
-    book: &PassBook<W>,
     page: &mut PassSeat<W>,
 ) -> Result<Option<Stored>, Stop>
     requires room { L.failed link.old < 2 ^ 64 - 1 }
-    ensures ok { IfOk result (λ next. SentNext id.now next
+    ensures ok { IfOk result (λ next. SentNext site.now.id.now next
         (carrier seat.old (L.sent link.old) (L.failed link.old) page.old)
         (carrier seat.new (L.sent link.new) (L.failed link.new) page.new)) }
-    ensures err { IfErr result (λ stop. StoppedAfter id.now [] stop
+    ensures err { IfErr result (λ stop. StoppedAfter site.now.id.now [] stop
         (carrier seat.old (L.sent link.old) (L.failed link.old) page.old)
         (carrier seat.new (L.sent link.new) (L.failed link.new) page.new)) }
 {
+    let Site {
+        rt,
+        alloc,
+        desk,
+        id,
+        book,
+    } = *site;
     let stored = match desk.next(rt, alloc, seat) {
         Ok(Some(stored)) => stored,
         Ok(None) => return Ok(None),
@@ -69,27 +86,23 @@ fn send_next<N: Opening, W: Passing, L: Link, R: Wait>(
 
 // Sends the packets of a retrieval: this many, or as many as there are.
 fn send_all<N: Opening, W: Passing, L: Link, R: Wait>(
-    rt: &R,
-    alloc: Global,
-    desk: &Desk<N>,
+    site: &Site<'_, N, W, R>,
     seat: &mut Seat<N>,
-    id: &StoreId,
     link: &mut L,
-    book: &PassBook<W>,
     page: &mut PassSeat<W>,
     amount: u32,
 ) -> Result<Sending, Stop>
     requires room { L.failed link.old < 2 ^ 64 - 1 }
-    ensures ok { IfOk result (λ sending. SentAll id.now amount sending.last sending.over
+    ensures ok { IfOk result (λ sending. SentAll site.now.id.now amount sending.last sending.over
         (carrier seat.old (L.sent link.old) (L.failed link.old) page.old)
         (carrier seat.new (L.sent link.new) (L.failed link.new) page.new)) }
-    ensures err { IfErr result (λ stop. Stopped id.now amount stop
+    ensures err { IfErr result (λ stop. Stopped site.now.id.now amount stop
         (carrier seat.old (L.sent link.old) (L.failed link.old) page.old)
         (carrier seat.new (L.sent link.new) (L.failed link.new) page.new)) }
 {
     let mut last = None;
     for _ in 0..amount {
-        match send_next(rt, alloc, desk, seat, id, link, book, page)? {
+        match send_next(site, seat, link, page)? {
             Some(stored) => last = Some(stored.time),
             None => return Ok(Sending { last, over: true }),
         }
@@ -98,16 +111,20 @@ fn send_all<N: Opening, W: Passing, L: Link, R: Wait>(
 }
 
 // Ends the retrieval where it is on, and deletes what was sent.
-fn finish<N: Opening, R: Wait>(
-    rt: &R,
-    alloc: Global,
-    desk: &Desk<N>,
+fn finish<N: Opening, W: Passing, R: Wait>(
+    site: &Site<'_, N, W, R>,
     seat: &mut Seat<N>,
     sending: Sending,
 ) -> Result<(), Stop>
     ensures ok { OnOk result (Finished sending.over sending.last seat.old seat.new) }
     ensures err { IfErr result (λ stop. Unfinished sending.over sending.last stop seat.old seat.new) }
 {
+    let Site {
+        rt,
+        alloc,
+        desk,
+        ..
+    } = *site;
     if !sending.over {
         desk.abort(rt, alloc, seat).map_err(Stop::AtAbort)?;
     }
@@ -139,8 +156,15 @@ pub fn carry<N: Opening, W: Passing, L: Link, R: Wait>(
         (carrier seat.old (L.sent link.old) (L.failed link.old) page.old)
         (carrier seat.new (L.sent link.new) (L.failed link.new) page.new)) }
 {
-    begin(rt, alloc, desk, seat)?;
-    let sending = send_all(rt, alloc, desk, seat, id, link, book, page, amount)?;
-    finish(rt, alloc, desk, seat, sending)?;
+    let site = Site {
+        rt,
+        alloc,
+        desk,
+        id,
+        book,
+    };
+    begin(&site, seat)?;
+    let sending = send_all(&site, seat, link, page, amount)?;
+    finish(&site, seat, sending)?;
     Ok(())
 }

@@ -6,11 +6,13 @@ pub mod laws;
 mod link;
 mod order;
 mod stop;
+mod wire;
 
 pub use carrying::carry;
 pub use link::{Link, SendFailed};
 pub use order::{Order, OrderBroken};
 pub use stop::Stop;
+pub use wire::{Taken, Wire};
 
 #[cfg(test)]
 mod tests;

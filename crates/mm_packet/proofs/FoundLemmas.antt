@@ -36,7 +36,7 @@ identification_is : (primary : Primary) (kind : PacketType) → primary.identifi
     → type_bit kind * 2 ^ 12 + 2 ^ 11 + apid_of primary ≡ primary.identification
 identification_is primary kind small passed bit = grind (arith, nat_tests)
 
--- the data has room behind its secondary header
+-- the data has room after its secondary header
 room : (kind : PacketType) (body : List ℕ) → length (type_fields kind) + 3 + length body ≤ 2 ^ 16 → length body ≤ room_for_body kind
 room (Telecommand source) body small = omega arith
 room (Telemetry counter destination time) body small = omega arith

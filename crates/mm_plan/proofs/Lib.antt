@@ -1,5 +1,4 @@
 pub mod Steps
-pub mod Limits
 pub mod Options
 pub mod IdTexts
 pub mod NumberTexts

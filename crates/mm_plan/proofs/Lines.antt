@@ -293,35 +293,27 @@ read_end_some (w ∷ ws) x e = none_is_some x e
 keyword : (w : List ℕ) (ws : List (List ℕ)) (k : List ℕ) (x : Line) → bytes_eq w k ≡ true → Spells (k ∷ ws) x → Spells (w ∷ ws) x
 keyword w ws k x same h = (ap (λ v. v ∷ ws) (same_bytes w k same) ∙ h.0, h.1)
 
+-- the keyword is this one, or another is looked for
+by_keyword : (w : List ℕ) (ws : List (List ℕ)) (k : List ℕ) (read other : Option Line) (x : Line) → (read ≡ Some x → Spells (k ∷ ws) x) → (other ≡ Some x → Spells (w ∷ ws) x)
+    → cond (bytes_eq w k) read other ≡ Some x → Spells (w ∷ ws) x
+by_keyword w ws k read other x said rest e = elim (cond_either (bytes_eq w k) read other x e) [
+  | inl p ↦ keyword w ws k x p.0 (said p.1)
+  | inr e ↦ rest e
+]
+
 -- words that were read are those of the line
 read_words_some : (ws : List (List ℕ)) (x : Line) → read_words ws ≡ Some x → Spells ws x
 unfolding read_words
 read_words_some [] x e = none_is_some x e
 read_words_some (w ∷ ws) x e =
-    elim (cond_either (bytes_eq w (codes "mmplan")) (read_title ws) _ x e) [
-      | inl p ↦ keyword w ws (codes "mmplan") x p.0 (read_title_some ws x p.1)
-      | inr e ↦ elim (cond_either (bytes_eq w (codes "stores")) (read_stores ws) _ x e) [
-        | inl p ↦ keyword w ws (codes "stores") x p.0 (read_stores_some ws x p.1)
-        | inr e ↦ elim (cond_either (bytes_eq w (codes "dump")) (read_dump ws) _ x e) [
-          | inl p ↦ keyword w ws (codes "dump") x p.0 (read_dump_some ws x p.1)
-          | inr e ↦ elim (cond_either (bytes_eq w (codes "loss")) (read_loss ws) _ x e) [
-            | inl p ↦ keyword w ws (codes "loss") x p.0 (read_loss_some ws x p.1)
-            | inr e ↦ elim (cond_either (bytes_eq w (codes "stretch")) (read_stretch ws) _ x e) [
-              | inl p ↦ keyword w ws (codes "stretch") x p.0 (read_stretch_some ws x p.1)
-              | inr e ↦ elim (cond_either (bytes_eq w (codes "count")) (read_count ws) _ x e) [
-                | inl p ↦ keyword w ws (codes "count") x p.0 (read_count_some ws x p.1)
-                | inr e ↦ elim (cond_either (bytes_eq w (codes "bound")) (read_bound_line ws) _ x e) [
-                  | inl p ↦ keyword w ws (codes "bound") x p.0 (read_bound_line_some ws x p.1)
-                  | inr e ↦
-                      let p = cond_then (bytes_eq w (codes "end")) (read_end ws) x e in
-                      keyword w ws (codes "end") x p.0 (read_end_some ws x p.1)
-                ]
-              ]
-            ]
-          ]
-        ]
-      ]
-    ]
+    by_keyword w ws (codes "mmplan") (read_title ws) _ x (read_title_some ws x)
+    (by_keyword w ws (codes "stores") (read_stores ws) _ x (read_stores_some ws x)
+    (by_keyword w ws (codes "dump") (read_dump ws) _ x (read_dump_some ws x)
+    (by_keyword w ws (codes "loss") (read_loss ws) _ x (read_loss_some ws x)
+    (by_keyword w ws (codes "stretch") (read_stretch ws) _ x (read_stretch_some ws x)
+    (by_keyword w ws (codes "count") (read_count ws) _ x (read_count_some ws x)
+    (by_keyword w ws (codes "bound") (read_bound_line ws) _ x (read_bound_line_some ws x)
+    (λ e. let p = cond_then (bytes_eq w (codes "end")) (read_end ws) x e in keyword w ws (codes "end") x p.0 (read_end_some ws x p.1)))))))) e
 
 -- a list of which 18 elements or fewer are left is whole
 whole_take : {A : Type 0} (ws : List A) → length (take 19 ws) ≤ 18 → take 19 ws ≡ ws

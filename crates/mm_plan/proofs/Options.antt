@@ -22,12 +22,12 @@ pub cond_either : {A : Type 0} (b : Bool) (o p : Option A) (x : A) → cond b o 
 cond_either true o p x e = inl (refl, e)
 cond_either false o p x e = inr e
 
--- the way behind a test that passed
+-- the way after a test that passed
 pub cond_then : {A : Type 0} (b : Bool) (o : Option A) (x : A) → cond b o None ≡ Some x → (b ≡ true) × (o ≡ Some x)
 cond_then true o x e = (refl, e)
 cond_then false o x e = none_is_some x e
 
--- the way behind a test that failed
+-- the way after a test that failed
 pub cond_else : {A : Type 0} (b : Bool) (o : Option A) (x : A) → cond b None o ≡ Some x → (b ≡ false) × (o ≡ Some x)
 cond_else true o x e = none_is_some x e
 cond_else false o x e = (refl, e)

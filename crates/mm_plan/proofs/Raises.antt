@@ -13,7 +13,7 @@ use Rattle.mm_plan.specs.Fit.{in_step, FitsAt}
 use Rattle.mm_plan.specs.Filled.{IsWindowUsed, IsLimitUsed}
 use Rattle.mm_plan.specs.Filling.{IsRest, room_in}
 use Rattle.mm_plan.proofs.Options.{none_is_some}
-use Rattle.mm_plan.proofs.Limits.{limited_below}
+use Rattle.mm_sums.proofs.Elements.{within-get_or_Some}
 use Rattle.mm_sums.proofs.RangeSums.{sum_by_range-le, sum_by_filter_range-le, sum_by_range_changed, sum_by_filter_range_changed}
 
 -- in the step d blocks more leave one store, and as many as before the others
@@ -80,7 +80,7 @@ fits_with limit (Some r) a b e some = omega (arith, same_Some (a + r) b (sym e �
 pub rest_fits : (q : Dumping) (x : Amounts) (t idle : ℕ) (rests : List (Option ℕ)) → IsDumping q → IsRest q x t idle rests → FitsAt q x t
 rest_fits q x t idle rests dumping is = record {
   windowed = omega (arith, is.windowed);
-  limited = λ c b e. fits_with (limit q c) (get_or rests c None) _ b (is.limited c (omega (arith, limited_below q c b e, dumping.channels.all))) e;
+  limited = λ c b e. fits_with (limit q c) (get_or rests c None) _ b (is.limited c (omega (arith, within-get_or_Some q.limits c b e, dumping.channels.all))) e;
 }
 
 -- where as much was used as there was room for, nothing is idle, or nothing of the limit is left

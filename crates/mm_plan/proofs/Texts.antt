@@ -36,7 +36,7 @@ take_at zero ls l ms e = ap (take 1) e
 take_at (suc k) [] l ms e = absurd (cc)
 take_at (suc k) (x ∷ ls) l ms e = ap (λ ys. x ∷ ys) (take_at k ls l ms e)
 
--- the elements behind a place
+-- the elements after a place
 drop_at : {A : Type 0} (k : ℕ) (ls : List A) (l : A) (ms : List A) → drop k ls ≡ l ∷ ms → drop (suc k) ls ≡ ms
 drop_at zero ls l ms e = ap (drop 1) e
 drop_at (suc k) [] l ms e = absurd (cc)
@@ -123,7 +123,7 @@ bad_line text d rest line front after h split bad =
           none (subst Begins (sym (ap (take line) lines ∙ take-append-le line (map line_text (lines_of s)) ([] ∷ []) within)) (front_begins s is line));
     }
 
--- what stands behind a list
+-- what follows a list
 drop_front : {A : Type 0} (xs ys : List A) → drop (length xs) (xs ++ ys) ≡ ys
 drop_front [] ys = refl
 drop_front (x ∷ xs) ys = drop_front xs ys

@@ -42,7 +42,7 @@ number_to most text = number_in (numeral_of most text)
 unfoldable pub read_id : List ℕ → Option (List ℕ)
 read_id text = if is_id_text text then Some (field_of text) else None
 
--- digits behind no sign
+-- digits after no sign
 abbrev pub pos_of : ℕ → Option ℤ
 pos_of n = Some (pos n)
 
@@ -50,7 +50,7 @@ pos_of n = Some (pos n)
 abbrev minus : ℕ
 minus = 45
 
--- digits behind a minus; 0 has none
+-- digits after a minus; 0 has none
 abbrev pub negative_of : ℕ → Option ℤ
 negative_of n = if n == 0 then None else Some (negsuc (n - 1))
 
@@ -61,7 +61,7 @@ read_bound (c ∷ cs) =
     if c == minus then option_and_then negative_of (number_to 9223372036854775808 cs)
     else option_and_then pos_of (number_to 9223372036854775807 (c ∷ cs))
 
--- what each of the words reads as, behind what was read before
+-- what each of the words reads as, after what was read before
 abbrev pub read_each : {A : Type 0} → (List ℕ → Option A) → List A → List (List ℕ) → Option (List A)
 read_each read earlier [] = Some earlier
 read_each read earlier (w ∷ ws) = option_and_then (λ x. read_each read (earlier ++ x ∷ []) ws) (read w)
@@ -70,7 +70,7 @@ read_each read earlier (w ∷ ws) = option_and_then (λ x. read_each read (earli
 abbrev pub read_row : {A : Type 0} → (List ℕ → Option A) → List (List ℕ) → Option (List A)
 read_row read ws = if nat_le (length ws) MAX_STORES then read_each read [] ws else None
 
--- ---- lines: what stands behind the keyword
+-- ---- lines: what follows the keyword
 
 -- `mmplan`: the form
 unfoldable pub read_title : List (List ℕ) → Option Line

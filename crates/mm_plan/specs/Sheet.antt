@@ -69,7 +69,7 @@ lines_of s =
     ++ bound_line s.bound ∷ []
     ++ end_line ∷ []
 
--- the octets of a sheet: its lines, each with a line feed behind it
+-- the octets of a sheet: its lines, each with a line feed after it
 unfoldable pub sheet_text : SheetRows → List ℕ
 sheet_text s = join_with_byte line_feed (map line_text (lines_of s) ++ [] ∷ [])
 
@@ -109,3 +109,7 @@ pub record IsFirstBadLine (text : List ℕ) (k : ℕ) : Type 0 where
   pub before : Begins (take (k - 1) (text_lines text))
   pub here : k < length (text_lines text) → ¬ Begins (take k (text_lines text))
   pub no_sheet : (s : SheetRows) → IsSheet s → text ≢ sheet_text s
+
+-- sheets of one text are one sheet
+abbrev pub OneTextOneSheet : Type 0
+OneTextOneSheet = (s r : SheetRows) → IsSheet s → IsSheet r → sheet_text s ≡ sheet_text r → s ≡ r

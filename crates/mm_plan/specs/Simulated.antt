@@ -13,6 +13,11 @@ pub record VolumeTables : Type 0 where
   -- what all stores lose over all steps
   pub total : ℕ
 
+-- the tables with these numbers of stores and steps, these lists and this sum
+abbrev pub volume_tables : ℕ → ℕ → List ℕ → List ℕ → List ℕ → ℕ → VolumeTables
+volume_tables stores steps written left lost total =
+    record { stores = stores; steps = steps; written_blocks = written; left_blocks = left; lost_blocks = lost; total = total }
+
 abbrev pub written_in : VolumeTables → ℕ → ℕ → ℕ
 written_in v s t = cell v.stores v.written_blocks s t
 

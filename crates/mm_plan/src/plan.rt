@@ -48,7 +48,7 @@ impl Plan {
         self.stores == problem.stores() && self.steps == problem.steps()
     }
 
-    /// The plan of a problem by which nothing leaves.
+    /// The plan of a problem that dumps nothing.
     pub fn zero(alloc: Global, problem: &Problem) -> Result<Plan, NoMemory>
         ensures shape { IfOk result (HasShape problem.now) }
         ensures zero { IfOk result (λ plan. All (λ n. n ≡ 0) plan.amounts) }

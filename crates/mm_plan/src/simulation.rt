@@ -33,27 +33,13 @@ pub struct Simulated {
 }
 
 impl Model for Simulated {
-    ghost use Rattle.mm_plan.specs.Simulated.{VolumeTables, AreVolumeTables};
+    ghost use Rattle.mm_plan.specs.Simulated.{VolumeTables, AreVolumeTables, volume_tables};
 
     ghost Value = { VolumeTables };
 
-    ghost view = { λ a. record {
-      stores = a.stores;
-      steps = a.steps;
-      written_blocks = a.tables.written.items;
-      left_blocks = a.tables.left.items;
-      lost_blocks = a.tables.lost.items;
-      total = a.total;
-    } };
+    ghost view = { λ a. volume_tables a.stores a.steps a.tables.written.items a.tables.left.items a.tables.lost.items a.total };
 
-    ghost invariant = { λ a. AreVolumeTables (record {
-      stores = a.stores;
-      steps = a.steps;
-      written_blocks = a.tables.written.items;
-      left_blocks = a.tables.left.items;
-      lost_blocks = a.tables.lost.items;
-      total = a.total;
-    }) };
+    ghost invariant = { λ a. AreVolumeTables (volume_tables a.stores a.steps a.tables.written.items a.tables.left.items a.tables.lost.items a.total) };
 }
 
 impl Simulated {

@@ -7,7 +7,7 @@ use mm_base::StoreId;
 use mm_base::numbers::Numeral;
 use std::alloc::{AllocError, Global};
 
-// The words of a line are parted by one space; a line of more than 18 words stands in no sheet.
+// The words of a line are separated by one space; a line of more than 18 words stands in no sheet.
 pub(crate) fn line_words<'a>(alloc: Global, text: &'a [u8]) -> Result<Vec<&'a [u8]>, AllocError>
     ensures { IfOk result (λ v. map (λ w. w.now) v.items ≡ line_words text.now) }
 {

@@ -2,6 +2,7 @@
 use Rattle.std.proofs.Common.{◌≡◌, ℕ, zero, suc, ◌+◌, ◌-◌, ◌<◌, ◌≤◌, min, cond, eqb, All, length, refl, sym, ap, ◌∙◌, arith, add-one}
 use Rattle.std.specs.List.{sum_by, range_with_len}
 use Rattle.std.proofs.lemmas.Bool.{cond-false, ne_eqb}
+use Rattle.mm_sums.proofs.Elements.{within-get_or_Some}
 use Rattle.mm_sums.proofs.Grids.{grid}
 use Rattle.mm_sums.proofs.Groups.{sum_by-le_groups}
 use Rattle.mm_sums.proofs.RangeSums.{sum_by_range_more, sum_by_range-le, sum_by_range_same}
@@ -11,7 +12,6 @@ use Rattle.mm_problem.specs.Dumping.{Dumping, IsDumping, start, channel, window,
 use Rattle.mm_plan.specs.Volumes.{Amounts, left, written, lost, store_loss, loss}
 use Rattle.mm_plan.specs.Fit.{in_step, FitsLimit, Fits}
 use Rattle.mm_plan.proofs.Steps.{left_step, left_start}
-use Rattle.mm_plan.proofs.Limits.{limited_below}
 use Rattle.mm_flow.specs.Flow.{Flow, IsFlow}
 use Rattle.mm_planner.specs.declared.nodes.TheConstants.{SOURCE, SINK}
 use Rattle.mm_planner.specs.Network.{inflow, net}
@@ -123,7 +123,7 @@ module _ (q : Dumping) (is : IsDumping q) (f : Flow) (value : ℕ) (flow : IsFlo
   -- and the limits of the channels
   limited : (t c : ℕ) → 1 ≤ t → t ≤ length q.windows → FitsLimit q x t c
   limited t c first last most is_limit =
-      let below = limited_below q c most is_limit in
+      let below = within-get_or_Some q.limits c most is_limit in
       let leaves_channel = sum_by_range_same (λ s. cond (is_of q c s) (in_step x t s) 0) (λ s. cond (eqb (channel q s) c) (leave q f t s) 0) 0 (length q.rows) (λ s _ within. ap (λ n. cond (eqb (channel q s) c) n 0) (taken s t (omega arith) first last)) in
       omega (arith, sum_by-filter (in_step x t) (is_of q c) (stores q), leaves_channel, channel_conserved q is f value flow t c first last below, pass_on_within q f flow.within t c most first last below is_limit)
 

@@ -3,7 +3,7 @@ use Rattle.std.proofs.Common.{◌≡◌, ℕ, List, sym, ap, ◌∙◌, subst}
 use Rattle.std.specs.Prelude.{pos}
 use Rattle.mm_problem.specs.Dumping.{Dumping}
 use Rattle.mm_plan.specs.Table.{amount, HasShape}
-use Rattle.mm_plan.specs.Sheet.{SheetRows, IsSheet, IsShapedFor}
+use Rattle.mm_plan.specs.Sheet.{SheetRows, IsSheet, IsShapedFor, OneTextOneSheet}
 use Rattle.std.specs.List.Sorted.{IsSortedByKey}
 use Rattle.mm_plan.specs.Printing.{IsOrdered, IsPrinted, stretch_key, key_cmp}
 use Rattle.mm_plan.specs.Filled.{IsFilled}
@@ -12,17 +12,12 @@ use Rattle.mm_plan.specs.Least.{IsLeast}
 use Rattle.mm_cut.specs.Verdicts.{VerdictsExclude, IsVerdict}
 use Rattle.mm_cut.specs.declared.verdict.Verdict.TheVariants.{Least}
 use Rattle.mm_check.specs.Checking.{SaysProblem}
-use Rattle.mm_planner.specs.Planned.{ShowsLeast}
-use Rattle.mm_planner.specs.PlanTexts.{PlansLeast, PlansCheckLeast}
+use Rattle.mm_planner.specs.Planned.{SheetShows}
+use Rattle.mm_planner.specs.PlanTexts.{PlansLeast, PlansCheckLeast, ShowsInOrder}
 use Rattle.mm_planner.proofs.CutOrder.{cut_in_order, bound_in_order}
-use Rattle.mm_plan.proofs.SheetTexts.{one_sheet}
-
--- a sheet shows that its plan loses least
-abbrev SheetShows : Dumping → SheetRows → Type 0
-SheetShows q s = ShowsLeast q s.plan s.cut s.by_channels s.loss
 
 -- in the order in which it is printed, a sheet shows the same
-shows_in_order : (q : Dumping) (s r : SheetRows) → SheetShows q s → IsOrdered s r → SheetShows q r
+pub shows_in_order : ShowsInOrder
 shows_in_order q s r shows ordered =
     let same_plan = sym ordered.plan in
     let same_loss = sym ordered.loss in
@@ -69,9 +64,9 @@ least_verdict q s shows tight = (
   shows.least,
 )
 
--- from the law that verdicts exclude one another
-pub plans_check_least : VerdictsExclude → PlansCheckLeast
-plans_check_least exclude setup forecast text planned v checks =
+-- from the laws that verdicts exclude one another, and that a text is that of one sheet
+pub plans_check_least : VerdictsExclude → OneTextOneSheet → PlansCheckLeast
+plans_check_least exclude one_sheet setup forecast text planned v checks =
     let q = planned.problem in
     let s = planned.sheet in
     let same_problem = one_problem setup forecast checks.problem q checks.says_problem planned.says_problem in

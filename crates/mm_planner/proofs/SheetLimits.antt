@@ -17,8 +17,7 @@ use Rattle.mm_plan.specs.Table.{IsTable, HasShape}
 use Rattle.mm_plan.specs.Sheet.{SheetRows, IsSheet, IsShapedFor, IsWritten}
 use Rattle.mm_cut.specs.Stretches.{store_of, goes_past, IsStretch, AreStretches}
 use Rattle.mm_cut.specs.Counts.{IsCounted}
-use Rattle.mm_cut.specs.Cuts.{IsCut}
-use Rattle.mm_cut.proofs.Counting.{few_stretches, length-counted}
+use Rattle.mm_cut.specs.Cuts.{IsCut, CutsAreFew}
 
 -- a number below 2^63 fits
 fits_signed : (z : ℤ) (n : ℕ) → z ≡ pos n → n < 2 ^ 63 → FitsSigned w64 z
@@ -45,16 +44,17 @@ counted_below q ds t are is =
     grind (arith, nat_tests)
 
 -- a sheet with the problem's stores and steps, a cut of the problem, and a loss and a bound that a problem may have
-pub planned_is_sheet : (q : Dumping) (s : SheetRows) → IsDumping q → IsShapedFor q s → HasShape q s.plan → IsTable s.plan → All IsIdField s.stores → IsCut q s.cut s.by_channels → s.loss ≤ 2 * MAX_BLOCKS * MAX_STEPS * MAX_STORES → s.bound ≡ pos s.loss → IsSheet s
-planned_is_sheet q s is shaped shape table ids cut most tight =
+pub planned_is_sheet : CutsAreFew → (q : Dumping) (s : SheetRows) → IsDumping q → IsShapedFor q s → HasShape q s.plan → IsTable s.plan → All IsIdField s.stores → IsCut q s.cut s.by_channels → s.loss ≤ 2 * MAX_BLOCKS * MAX_STEPS * MAX_STORES → s.bound ≡ pos s.loss → IsSheet s
+planned_is_sheet cuts_are_few q s is shaped shape table ids cut most tight =
     let stores : length s.stores ≡ length q.rows = ap length shaped.stores ∙ length-map q.rows (λ r. r.id) in
     let few_steps = is.steps.at_most in
+    let few = cuts_are_few q s.cut s.by_channels is cut in
     let named : All IsIdField (map (λ r. r.id) q.rows) = subst (All IsIdField) shaped.stores ids in
     record {
       stores = omega (arith, stores, is.stores.at_most);
       steps = omega (arith, shaped.steps, few_steps);
-      cut = omega (arith, few_stretches q s.cut is cut.stretches);
-      counts = omega (arith, few_steps, length-counted q s.cut s.by_channels cut.stretches cut.counted);
+      cut = omega (arith, few.0);
+      counts = omega (arith, few_steps, few.1);
       plan = table;
       same_stores = shape.stores ∙ sym stores;
       each_store = ids;

@@ -6,13 +6,13 @@ use Rattle.mm_problem.specs.Dumping.{Dumping}
 use Rattle.mm_plan.specs.Table.{amount}
 use Rattle.mm_plan.specs.Volumes.{loss}
 use Rattle.mm_plan.specs.Sheet.{SheetRows}
-use Rattle.mm_plan.specs.Printing.{stretch_key, key_cmp}
+use Rattle.mm_plan.specs.Printing.{IsOrdered, stretch_key, key_cmp}
 use Rattle.mm_cut.specs.declared.verdict.Verdict.{Verdict}
 use Rattle.mm_cut.specs.declared.verdict.Verdict.TheVariants.{Least}
 use Rattle.mm_check.specs.declared.fault.Fault.{Fault}
 use Rattle.mm_check.specs.declared.fault.Fault.TheVariants.{NoMemory, Problem, Plan}
 use Rattle.mm_check.specs.Checking.{problem_in, SaysProblem, SaysSheet, Checks}
-use Rattle.mm_planner.specs.Planned.{ShowsLeast}
+use Rattle.mm_planner.specs.Planned.{ShowsLeast, SheetShows}
 
 -- the stretches stand in store order, then by first and by last step, and the counted steps rise
 pub record IsInOrder (s : SheetRows) : Type 0 where
@@ -42,3 +42,7 @@ abbrev pub PlansCheckLeast : Type 0
 PlansCheckLeast =
     (setup forecast text : List ℕ) (planned : PlansLeast setup forecast text) (v : Verdict) → Checks setup forecast text v
     → v ≡ Least (loss planned.problem (amount planned.sheet.plan))
+
+-- a sheet that shows that its plan loses least shows it in the order in which it is printed too
+abbrev pub ShowsInOrder : Type 0
+ShowsInOrder = (q : Dumping) (s r : SheetRows) → SheetShows q s → IsOrdered s r → SheetShows q r

@@ -4,6 +4,7 @@ use Rattle.mm_problem.specs.Dumping.{Dumping, IsDumping}
 use Rattle.mm_plan.specs.Table.{Table, amount, HasShape}
 use Rattle.mm_plan.specs.Volumes.{Amounts, loss}
 use Rattle.mm_plan.specs.Least.{IsLeast}
+use Rattle.mm_plan.specs.Sheet.{SheetRows}
 use Rattle.mm_plan.specs.Filled.{IsFilled}
 use Rattle.mm_plan.specs.declared.stretch.Stretch.{Stretch}
 use Rattle.mm_cut.specs.Cuts.{IsCut, bound}
@@ -24,6 +25,10 @@ pub record ShowsLeast (q : Dumping) (x : Table) (ds : List Stretch) (ts : List �
   pub cut : IsCut q ds ts
   pub loss : loss q (amount x) ≡ n
   pub bound : bound q ds ts ≡ pos n
+
+-- a sheet shows that its plan loses least
+abbrev pub SheetShows : Dumping → SheetRows → Type 0
+SheetShows q s = ShowsLeast q s.plan s.cut s.by_channels s.loss
 
 -- the plan loses least, the cut is well formed, and its bound is what the plan loses
 pub record IsPlanned (q : Dumping) (x : Amounts) (ds : List Stretch) (ts : List ℕ) : Type 0 where

@@ -173,8 +173,8 @@ fn add_limit_arcs(network: &mut Network, problem: &Problem, step: u32) -> Result
 
 // The pass lets through as many as its window.
 fn add_window_arc(network: &mut Network, problem: &Problem, step: u32) -> Result<(), NoMemory>
-    requires step { IsStep problem.now step }
     requires room { HasRoom problem.now network.old.graph MAX_STORES }
+    requires step { IsStep problem.now step }
     ensures added { OnOk result
         (AddsArcs network.old network.new (window_arc problem.now step ∷ [])) }
 {

@@ -14,7 +14,7 @@ mod tests;
 mod texts;
 mod way;
 
-pub use laws::{plans_check_least, solutions_plan};
+pub use laws::{plans_check_least, sheets_show_in_order, solutions_plan};
 pub use mm_base::NoMemory;
 pub use mm_check::{Fault, check_bytes};
 pub use planner::{Planned, plan, plan_by_flow};

@@ -8,18 +8,6 @@ pub(crate) const SOURCE: u32 = 0;
 /// The node that all blocks go to.
 pub(crate) const SINK: u32 = 1;
 
-/// How many node numbers a step has.
-pub(crate) const STEP_NODES: u32 = 41;
-
-/// Where the nodes for what stores hold begin among them, after those for what comes to stores.
-pub(crate) const OUT_NODES: u32 = 16;
-
-/// Where the channels' nodes begin among them.
-pub(crate) const CHANNEL_NODES: u32 = 32;
-
-/// Which one is the pass.
-pub(crate) const PASS_NODE: u32 = 40;
-
 /// A node of a problem's network.
 #[derive(Clone, Copy)]
 pub(crate) enum Node {
@@ -36,6 +24,18 @@ pub(crate) enum Node {
     /// What leaves all stores in a step.
     Pass { step: u32 },
 }
+
+/// How many node numbers a step has.
+pub(crate) const STEP_NODES: u32 = 41;
+
+/// Where the nodes for what stores hold begin among them, after those for what comes to stores.
+pub(crate) const OUT_NODES: u32 = 16;
+
+/// Where the channels' nodes begin among them.
+pub(crate) const CHANNEL_NODES: u32 = 32;
+
+/// Which one is the pass.
+pub(crate) const PASS_NODE: u32 = 40;
 
 impl Node {
     // The step that the node is of; 0 for the two ends.

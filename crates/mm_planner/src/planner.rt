@@ -49,11 +49,11 @@ fn solved(alloc: Global, problem: &Problem) -> Result<Solved, NoMemory>
 
 /// What `plan` answers, found by the network of the problem alone. It takes longer.
 pub fn plan_by_flow(alloc: Global, problem: &Problem) -> Result<Planned, NoMemory>
-    ensures shows_least { IfOk result (λ planned. ShowsLeast problem.now
-        planned.plan planned.cut.items planned.by_channels.items planned.loss) }
     ensures is_table { IfOk result (λ planned. IsTable planned.plan) }
     ensures most { IfOk result
         (λ planned. planned.loss ≤ 2 * MAX_BLOCKS * MAX_STEPS * MAX_STORES) }
+    ensures shows_least { IfOk result (λ planned. ShowsLeast problem.now
+        planned.plan planned.cut.items planned.by_channels.items planned.loss) }
 {
     solutions_plan();
     let solved = solved(alloc, problem)?;

@@ -76,8 +76,8 @@ fn next_first(side: &[bool], store: usize, step: u32, first: u32) -> u32
 fn add_runs(
     stretches: &mut Vec<Stretch>,
     problem: &Problem,
-    side: &[bool],
     store: usize,
+    side: &[bool],
 ) -> Result<(), NoMemory>
     requires store { store < length problem.now.rows }
     requires most { store < MAX_STORES }
@@ -108,7 +108,7 @@ pub(crate) fn stretches(
 {
     let mut runs = Vec::new(alloc);
     for store in 0..problem.stores() {
-        add_runs(&mut runs, problem, side, store)?;
+        add_runs(&mut runs, problem, store, side)?;
     }
     Ok(runs)
 }

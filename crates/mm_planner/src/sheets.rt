@@ -7,6 +7,7 @@ ghost use Rattle.mm_planner.specs.Planned.{ShowsLeast};
 
 use crate::planner::{Planned, plan};
 use mm_base::NoMemory;
+use mm_cut::cuts_are_few;
 use mm_plan::Sheet;
 use mm_problem::{Problem, StoreId};
 use std::alloc::Global;
@@ -41,5 +42,6 @@ pub fn sheet(alloc: Global, problem: &Problem) -> Result<Sheet, NoMemory>
         loss,
     } = plan(alloc, problem)?;
     let bound = loss as i64;
+    cuts_are_few();
     Ok(Sheet::new(stores, plan, loss, cut, by_channels, bound))
 }

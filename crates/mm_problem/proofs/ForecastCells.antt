@@ -23,7 +23,7 @@ and_false false = refl
 
 -- the amounts from a cell on
 module _ (row column i : ℕ) (earlier : List ℕ) (fields : List (List ℕ)) where
-  -- behind the last cell there is no further amount
+  -- after the last cell there is no further amount
   pub no_cell_left : length fields ≤ i → arrivals_in row earlier column (drop i fields) ≡ Ok earlier
   unfolding arrivals_in
   no_cell_left past = rw (drop_all i fields past) refl
@@ -48,7 +48,7 @@ other_length [] (y ∷ ys) other = refl
 other_length (x ∷ xs) [] other = refl
 other_length (x ∷ xs) (y ∷ ys) other = rw (other_length xs ys (λ same. other (ap suc same))) (and_false (bytes_eq x y))
 
--- the first two cells, and those behind them
+-- the first two cells, and those after them
 pub header_cells : (fields : Fields) (n : ℕ) (a b : List ℕ) (more : Fields) → length fields ≡ n + 2
     → same_fields fields (a ∷ b ∷ more) ≡ (bytes_eq (cell_of fields 0) a && (bytes_eq (cell_of fields 1) b && same_fields (drop 2 fields) more))
 header_cells [] n a b more long = absurd (omega arith)
@@ -57,11 +57,11 @@ header_cells (x ∷ y ∷ rest) n a b more long = refl
 
 module _ (fields : Fields) where
   module _ {X : Type 0} (f : X → List ℕ) (stores : List X) (i j : ℕ) where
-    -- the cells at two places, and those behind them
+    -- the cells at two places, and those after them
     pub same_fields_more : (store : X) → i < length fields → j < length stores → store ≡ get_or stores j store
         → same_fields (drop i fields) (map f (drop j stores)) ≡ (bytes_eq (cell_of fields i) (f store) && same_fields (drop (i + 1) fields) (map f (drop (j + 1) stores)))
     same_fields_more store within here is = rw (drop_more fields i [] within, drop_more stores j store here, ← is) refl
 
-    -- behind the last cells nothing differs
+    -- after the last cells nothing differs
     pub same_fields_end : length fields ≤ i → length stores ≤ j → same_fields (drop i fields) (map f (drop j stores)) ≡ true
     same_fields_end past ended = rw (drop_all i fields past, drop_all j stores ended) refl

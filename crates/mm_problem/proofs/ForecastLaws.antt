@@ -49,7 +49,7 @@ step_from_said row (Number m) u h = ap Number ((Decides-eqb m row).0 (test_ok _ 
 
 -- ---- one step
 
--- these amounts were in the cells, and stand behind earlier ones
+-- these amounts were in the cells, and stand after earlier ones
 pub record AreAmounts (cells : Fields) (earlier all : List ℕ) : Type 0 where
   pub more : List ℕ
   pub behind : all ≡ earlier ++ more
@@ -68,7 +68,7 @@ arrivals_said row (cell ∷ cells) column earlier all h =
 below_said : (a b : ℕ) → nat_lt a b ≡ true → a < b
 below_said a b h = grind (arith, nat_tests)
 
--- the record says the step behind earlier ones
+-- the record says the step after earlier ones
 pub record IsNextStep (stores : ℕ) (earlier : Steps) (fields : Fields) (next : Steps) : Type 0 where
   pub as_long : length fields ≡ stores + 2
   pub few : length earlier.windows < MAX_STEPS

@@ -44,13 +44,13 @@ cells_printed (c ∷ cs) (n ∷ ns) h =
     let others = cells_printed cs ns h.1 in
     cc
 
--- a record that is long enough has two cells and those behind them
+-- a record that is long enough has two cells and those after them
 three_parts : (fields : Fields) (n : ℕ) → length fields ≡ n + 2 → fields ≡ cell_of fields 0 ∷ cell_of fields 1 ∷ drop 2 fields
 three_parts [] n long = absurd (omega arith)
 three_parts (a ∷ []) n long = absurd (omega arith)
 three_parts (a ∷ b ∷ rest) n long = refl
 
--- the records that were read, behind earlier steps
+-- the records that were read, after earlier steps
 pub record AreStepRows (stores : ℕ) (rows : List Fields) (earlier steps : Steps) : Type 0 where
   pub windows : List ℕ
   pub arrived : List ℕ
@@ -136,7 +136,7 @@ steps_read stores (w ∷ ws) amounts earlier few long windows arrived =
 -- ---- the records of a problem, by the accessors of its numbers
 
 module _ (q : Dumping) where
-  -- what comes to the stores in the step behind k steps
+  -- what comes to the stores in the step after k steps
   arrivals_at : (k : ℕ) → (k + 1) * length q.rows ≤ length q.arrived → map decimal (take (length q.rows) (drop (k * length q.rows) q.arrived)) ≡ map (λ s. decimal (arrivals q s (k + 1))) (stores q)
   arrivals_at k room =
       let n = length q.rows in

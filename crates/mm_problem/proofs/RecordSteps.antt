@@ -24,7 +24,7 @@ ends_either : (b : Bool) (p q : State × Action) → EndsBetween p → EndsBetwe
 ends_either true p q h k = h
 ends_either false p q h k = k
 
--- behind the end of a record
+-- after the end of a record
 between_after : (t : Terminator) (c : ℕ) → ends_at_end (after_end t c) ≡ false
 between_after term.CRLF c = elim (cases_Bool (c == 13)) [ inl cr ↦ rw cr refl | inr other ↦ rw other refl ]
 between_after (term.Any t) c = refl

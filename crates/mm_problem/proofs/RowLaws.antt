@@ -13,7 +13,7 @@ use Rattle.mm_problem.specs.Tables.{rows_in}
 use Rattle.mm_problem.proofs.ReadingSteps.{bind_ok}
 
 module _ {R : Type 0} (Says : Data → R → Type 0) (P : R → Type 0) (D : R → R → Type 0) where
-  -- what a row is, which a table says, behind earlier rows
+  -- what a row is, which a table says, after earlier rows
   pub record IsNext (earlier : List R) (d : Data) (row : R) : Type 0 where
     pub says : Says d row
     pub fits : P row

@@ -6,7 +6,7 @@ use Rattle.mm_problem.specs.declared.fault.Fault.{Fault}
 use Rattle.mm_problem.specs.Tables.{rows_in}
 
 module _ {R V : Type 0} (next : List R → Data → Result R Fault) (view : V → Data) (earlier : List R) (values : List V) (i : ℕ) where
-  -- behind the last table there is no further row
+  -- after the last table there is no further row
   pub all_rows : length values ≤ i → rows_in next earlier (map view (drop i values)) ≡ Ok earlier
   unfolding rows_in
   all_rows past = rw (drop_all i values past) refl

@@ -1,4 +1,4 @@
--- The lists behind a table and an array of `toml`.
+-- The lists of a table and of an array of `toml`.
 use Rattle.std.proofs.Common.{◌≡◌, ℕ, ◌&&◌, List, [], ◌∷◌, map, String, Global, string_bytes, refl, ap}
 use Rattle.std.proofs.lemmas.Str.{IsUtf8-from_is_utf8, is_utf8-from_IsUtf8}
 use Rattle.std.specs.Bool.{Decides}

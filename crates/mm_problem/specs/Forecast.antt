@@ -34,7 +34,7 @@ same_fields (a ∷ fields) (b ∷ more) = bytes_eq a b && same_fields fields mor
 abbrev pub cell_of : Fields → ℕ → List ℕ
 cell_of fields i = slice_index_or fields i []
 
--- these amounts, and behind them those of the cells of a row from this column on
+-- these amounts, and after them those of the cells of a row from this column on
 unfoldable pub arrivals_in : ℕ → List ℕ → ℕ → Fields → Result (List ℕ) Fault
 arrivals_in row earlier column [] = Ok earlier
 arrivals_in row earlier column (cell ∷ cells) = do

@@ -62,7 +62,7 @@ start_from row size ms (Some d) = number_at row name.Start 0 size ms
 abbrev pub start_at : ℕ → ℕ → Members → Result ℕ Fault
 start_at row size ms = start_from row size ms (value_at name.Start ms)
 
--- these earlier rows, and behind them those that the tables say
+-- these earlier rows, and after them those that the tables say
 unfoldable pub rows_in : {R : Type 0} → (List R → Data → Result R Fault) → List R → List Data → Result (List R) Fault
 rows_in next earlier [] = Ok earlier
 rows_in next earlier (d ∷ ds) = do
@@ -85,7 +85,7 @@ store_at row d = do
 abbrev pub has_store : List StoreRow → List ℕ → Bool
 has_store stores id = list_any (λ r. bytes_eq r.id id) stores
 
--- the store behind these earlier ones
+-- the store after these earlier ones
 unfoldable pub next_store : List StoreRow → Data → Result StoreRow Fault
 next_store earlier d = do
   row ← store_at (length earlier + 1) d
@@ -107,7 +107,7 @@ route_at row d = do
   store ← id_at row name.Store ms
   Ok (record { apid = apid; service = service; subtype = subtype; store = store })
 
--- the route behind these earlier ones
+-- the route after these earlier ones
 unfoldable pub next_route : List StoreRow → List RouteRow → Data → Result RouteRow Fault
 next_route stores earlier d = do
   row ← route_at (length earlier + 1) d
@@ -128,7 +128,7 @@ limit_at row d = do
   blocks ← number_at row name.Blocks 0 MAX_BLOCKS ms
   Ok (record { channel = channel; blocks = blocks })
 
--- the limit behind these earlier ones
+-- the limit after these earlier ones
 unfoldable pub next_limit : List LimitRow → Data → Result LimitRow Fault
 next_limit earlier d = do
   row ← limit_at (length earlier + 1) d

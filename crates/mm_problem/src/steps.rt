@@ -35,7 +35,7 @@ fn cell_of(row: &ByteRecord, i: usize) -> &[u8]
     }
 }
 
-// Adds the amounts of the cells behind the window.
+// Adds the amounts of the cells after the window.
 fn arrivals_of(number: u32, mut arrived: Vec<u32>, row: &ByteRecord) -> Result<Vec<u32>, Fault>
     requires few { length (fields_of row.now) ≤ MAX_STORES + 2 }
     requires window { 2 ≤ length (fields_of row.now) }
@@ -73,7 +73,7 @@ fn next_step(stores: usize, steps: StepTable, row: &ByteRecord) -> Result<StepTa
     Ok(StepTable { windows, arrived })
 }
 
-// Whether the cells behind the window name these stores.
+// Whether the cells after the window name these stores.
 fn names_stores(stores: &[StoreRow], row: &ByteRecord) -> bool
     requires { length (fields_of row.now) ≡ length stores.now + 2 }
     ensures { result ≡ same_fields (drop 2 (fields_of row.now)) (map (λ r. id_text r.id) stores.now) }

@@ -5,7 +5,7 @@ use std::process::Abort;
 mod forecasts;
 mod setups;
 
-// A store, and behind it a route.
+// A store, and after it a route.
 const STORE: &str = "[[store]]\nid = \"SCI\"\nsize = 4\ntype = \"bounded\"\nchannel = 0\n";
 
 const ROUTE: &str = "[[route]]\napid = 100\nservice = 3\nsubtype = 25\nstore = \"SCI\"\n";

@@ -8,7 +8,7 @@ use mm_plan::{NoMemory, Stretch};
 use mm_problem::Problem;
 use std::alloc::Global;
 
-// Whether a run of the store goes on behind the span: its blocks could be held there, and then be kept.
+// Whether a run of the store goes on after the span: its blocks could be held there, and then be kept.
 fn goes_on(nodes: NodeSet, store: usize) -> bool {
     nodes.has(Node::In(store)) && nodes.has(Node::Out(store))
 }

@@ -13,7 +13,7 @@ const MAX_SPANS: usize = 256;
 struct Outlook {
     // what left each store so far, or was lost
     gone: Amounts,
-    // the span of its next overflow, or that behind the last where it has none,
+    // the span of its next overflow, or that after the last where it has none,
     due: [usize; MAX_STORES],
     // and by how many blocks
     blocks: Amounts,

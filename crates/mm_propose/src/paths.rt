@@ -153,7 +153,7 @@ impl Choice {
         }
     }
 
-    // Looks at the arc from the span behind: blocks are not kept after all.
+    // Looks at the arc from the span after: blocks are not kept after all.
     fn not_kept(&mut self, after: Option<&Span>, span: &Span, at: usize, store: usize) {
         let Some(after) = after else {
             return;

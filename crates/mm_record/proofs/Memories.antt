@@ -1,8 +1,11 @@
 -- A step over the stores of a memory.
-use Rattle.std.proofs.Common.{◌≡◌, ◌⊎◌, inl, inr, ℕ, zero, suc, ◌+◌, ◌<◌, Bool, true, false, List, [], ◌∷◌, ◌++◌, length, get_or, take, map, All, Option, Some, None, IfNone, IfSome, refl, sym, subst, ap, ◌∙◌, arith}
+use Rattle.std.proofs.Common.{◌≡◌, ◌≢◌, ◌⊎◌, inl, inr, ℕ, zero, suc, ◌+◌, ◌<◌, Bool, true, false, List, [], ◌∷◌, ◌++◌, length, get_or, take, map, All, Option, Some, None, IfNone, IfSome, refl, sym, subst, ap, ◌∙◌, arith}
 use Rattle.std.specs.List.{AllPairs}
+use Rattle.std.specs.Prelude.{bytes_eq}
+use Rattle.std.proofs.lemmas.Bool.{false_from_ne_true}
 use Rattle.std.proofs.lemmas.List.{get_or-map, length-map, map-append, same_lists, take_more}
 use Rattle.std.proofs.lemmas.List.Elements.{All-append}
+use Rattle.std.proofs.lemmas.Slice.Eq.{bytes_eq-Decides}
 use Rattle.mm_base.specs.declared.rows.RouteRow.{RouteRow}
 use Rattle.mm_packet.specs.Packet.{SpacePacket}
 use Rattle.mm_desk.specs.declared.fault.Fault.{Fault}
@@ -13,7 +16,6 @@ use Rattle.mm_desk.specs.Machine.{State, IsState}
 use Rattle.mm_desk.specs.Offers.{Leaves}
 use Rattle.mm_desk.specs.Runs.{opening_at, blank}
 use Rattle.mm_memory.specs.Holdings.{AreHeld, HaveOtherIds, Holdings}
-use Rattle.mm_memory.proofs.PlaceLemmas.{is_other}
 use Rattle.mm_crew.specs.Closings.{labels_of, states_of}
 use Rattle.mm_crew.specs.Stations.{AreNamed}
 use Rattle.mm_report.specs.declared.cause.Cause.{Cause}
@@ -28,6 +30,10 @@ use Rattle.mm_record.specs.MemorySteps.{came, store_at, AreTold, IsRecorded, Was
 use Rattle.mm_record.specs.Recorded.{Errand, offers}
 use Rattle.mm_record.specs.Rows.{counters_of, AreRows}
 use Rattle.mm_record.specs.Steps.{given_in, step_errand, AllRecorded, AllWentByOffers, HadTurns, Records, Turn}
+
+-- two identifiers that are not the same differ in an octet
+is_other : (a b : List ℕ) → a ≢ b → bytes_eq a b ≡ false
+is_other a b other = false_from_ne_true (bytes_eq a b) (λ same. other ((bytes_eq-Decides a b).0 same))
 
 -- stores with identifiers of their own are named
 pub named_of : (stores : List Held) → AllPairs HaveOtherIds stores → AreNamed (map (λ h. h.id) stores)

@@ -19,12 +19,16 @@ use Rattle.mm_desk.specs.Shuffles.{AreBelow, IsShuffle, part}
 use Rattle.mm_crew.specs.declared.crew.Seating.{Seating}
 use Rattle.mm_crew.specs.declared.crew.Worker.{Worker}
 use Rattle.mm_crew.specs.Closings.{lists_at, states_of, AllWentBy, AreOpenings}
-use Rattle.mm_crew.specs.Crews.{list_at, AreSeatsOf, AreWhole, owns_of}
+use Rattle.mm_crew.specs.Crews.{list_at, AreSeatsOf, owns_of}
 use Rattle.mm_crew.specs.Stations.{Standing, ids_of}
 use Rattle.mm_record.specs.Offering.{asked}
 use Rattle.mm_record.specs.Recorded.{Errand, offers}
 use Rattle.mm_record.specs.Recorders.{AreFresh, AllFresh, Ran, AllRan, errand}
 use Rattle.mm_record.specs.Steps.{given_in, step_errand, AllRecorded, AllWentByOffers, Turn, HadTurn, HadTurns}
+
+-- no recorder broke off
+abbrev pub AreWhole : {N S : Type 0} → List (Worker N S Fault) → Type 0
+AreWhole recorders = All (λ r. is_some r.broken ≡ false) recorders
 
 -- an entry is taken where all of its seat's part is
 taken_head : (e : Entry) (es : List Entry) → AreTaken (part e.seat (e ∷ es)) → IsTaken e.event e.reply

@@ -1,4 +1,4 @@
-//! One step of recorders: each takes what its source gives, and offers it to stores behind locks, in a thread of its own.
+//! One step of recorders: each takes what its source gives, and offers it to stores under locks, in a thread of its own.
 #![tactic(auto)]
 
 mod cause;
@@ -6,6 +6,7 @@ mod memory_step;
 mod offering;
 mod readiness;
 mod recorder;
+mod round;
 mod source;
 mod step;
 

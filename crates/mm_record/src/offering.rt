@@ -4,9 +4,9 @@ ghost use Rattle.mm_desk.specs.declared.event.Event.TheVariants.{Offer};
 ghost use Rattle.mm_crew.specs.Stations.{ids_of, id_at, AreNamed};
 ghost use Rattle.mm_record.specs.Offering.{offers_named, offers_of, GoesBy, GoesPartly, Adds, AddsPartly};
 
+use crate::round::Round;
 use mm_base::StoreId;
-use mm_control::ControlTable;
-use mm_crew::{Station, place_of};
+use mm_crew::place_of;
 use mm_desk::{Desk, Fault, Opening, Seat};
 use mm_packet::BlockPacket;
 use std::alloc::Global;
@@ -33,73 +33,72 @@ fn offer_copy<N: Opening, R: Wait>(
 
 // Offers a copy of a packet to the store with an identifier, where it is one of these.
 fn offer_by_name<N: Opening, R: Wait>(
-    rt: &R,
-    alloc: Global,
-    stations: &[Station<N>],
+    round: &Round<'_, N, R>,
     seats: &mut [Seat<N>],
-    now: u64,
     packet: &BlockPacket,
     id: &StoreId,
 ) -> Result<(), Fault>
-    requires named { AreNamed (ids_of stations.now) }
-    requires seated { length seats.old ≡ length stations.now }
-    ensures ok { OnOk result (Adds (length stations.now)
-        (λ k. offers_named now packet.now (id_at (ids_of stations.now) k) (id.now ∷ [])) seats.old seats.new) }
-    ensures err { OnErr result (AddsPartly (length stations.now)
-        (λ k. offers_named now packet.now (id_at (ids_of stations.now) k) (id.now ∷ [])) seats.old seats.new) }
+    requires named { AreNamed (ids_of round.now.stations.now) }
+    requires seated { length seats.old ≡ length round.now.stations.now }
+    ensures ok { OnOk result (Adds (length round.now.stations.now)
+        (λ k. offers_named round.now.moment packet.now (id_at (ids_of round.now.stations.now) k) (id.now ∷ [])) seats.old seats.new) }
+    ensures err { OnErr result (AddsPartly (length round.now.stations.now)
+        (λ k. offers_named round.now.moment packet.now (id_at (ids_of round.now.stations.now) k) (id.now ∷ [])) seats.old seats.new) }
 {
-    let Some(place) = place_of(stations, id) else {
+    let Round {
+        rt,
+        alloc,
+        moment,
+        ..
+    } = *round;
+    let Some(place) = place_of(round.stations, id) else {
         return Ok(());
     };
-    let station = &stations[place];
+    let station = &round.stations[place];
     let seat = &mut seats[place];
-    offer_copy(rt, alloc, &station.desk, seat, now, packet)
+    offer_copy(rt, alloc, &station.desk, seat, moment, packet)
 }
 
 // Offers a copy of a packet to each of the stores named that is one of these, in their order.
 fn offer_named<N: Opening, R: Wait>(
-    rt: &R,
-    alloc: Global,
-    stations: &[Station<N>],
+    round: &Round<'_, N, R>,
     seats: &mut [Seat<N>],
-    now: u64,
     packet: &BlockPacket,
     named: &[StoreId],
 ) -> Result<(), Fault>
-    requires named { AreNamed (ids_of stations.now) }
-    requires seated { length seats.old ≡ length stations.now }
-    ensures ok { OnOk result (Adds (length stations.now)
-        (λ k. offers_named now packet.now (id_at (ids_of stations.now) k) named.now) seats.old seats.new) }
-    ensures err { OnErr result (AddsPartly (length stations.now)
-        (λ k. offers_named now packet.now (id_at (ids_of stations.now) k) named.now) seats.old seats.new) }
+    requires named { AreNamed (ids_of round.now.stations.now) }
+    requires seated { length seats.old ≡ length round.now.stations.now }
+    ensures ok { OnOk result (Adds (length round.now.stations.now)
+        (λ k. offers_named round.now.moment packet.now (id_at (ids_of round.now.stations.now) k) named.now) seats.old seats.new) }
+    ensures err { OnErr result (AddsPartly (length round.now.stations.now)
+        (λ k. offers_named round.now.moment packet.now (id_at (ids_of round.now.stations.now) k) named.now) seats.old seats.new) }
 {
     for id in named {
-        offer_by_name(rt, alloc, stations, seats, now, packet, id)?;
+        offer_by_name(round, seats, packet, id)?;
     }
     Ok(())
 }
 
 // Offers a copy of a packet to each store that its report type is routed to; a telecommand goes to no store.
 pub(crate) fn offer_packet<N: Opening, R: Wait>(
-    rt: &R,
-    alloc: Global,
-    stations: &[Station<N>],
-    control: &ControlTable,
+    round: &Round<'_, N, R>,
     seats: &mut [Seat<N>],
-    now: u64,
     packet: &BlockPacket,
 ) -> Result<(), Fault>
-    requires named { AreNamed (ids_of stations.now) }
-    requires seated { length seats.old ≡ length stations.now }
-    ensures ok { OnOk result (Adds (length stations.now)
-        (λ k. offers_of now control.now (id_at (ids_of stations.now) k) packet.now) seats.old seats.new) }
-    ensures err { OnErr result (AddsPartly (length stations.now)
-        (λ k. offers_of now control.now (id_at (ids_of stations.now) k) packet.now) seats.old seats.new) }
+    requires named { AreNamed (ids_of round.now.stations.now) }
+    requires seated { length seats.old ≡ length round.now.stations.now }
+    ensures ok { OnOk result (Adds (length round.now.stations.now)
+        (λ k. offers_of round.now.moment round.now.control.now (id_at (ids_of round.now.stations.now) k) packet.now) seats.old seats.new) }
+    ensures err { OnErr result (AddsPartly (length round.now.stations.now)
+        (λ k. offers_of round.now.moment round.now.control.now (id_at (ids_of round.now.stations.now) k) packet.now) seats.old seats.new) }
 {
     let content = packet.packet();
     if content.is_telecommand() {
         return Ok(());
     }
-    let named = control.stores_for(alloc, content.apid(), content.service(), content.subtype())?;
-    offer_named(rt, alloc, stations, seats, now, packet, &named)
+    let (apid, service) = (content.apid(), content.service());
+    let named = round
+        .control
+        .stores_for(round.alloc, apid, service, content.subtype())?;
+    offer_named(round, seats, packet, &named)
 }

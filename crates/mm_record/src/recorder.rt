@@ -5,11 +5,10 @@ ghost use Rattle.mm_crew.specs.Stations.{ids_of, AreNamed};
 ghost use Rattle.mm_record.specs.Recorders.{errand, AreFresh, Ran, AllFresh, AllRan};
 
 use crate::offering::offer_packet;
+use crate::round::Round;
 use crate::source::Source;
-use mm_control::ControlTable;
-use mm_crew::{Station, Worker};
+use mm_crew::Worker;
 use mm_desk::{Fault, Opening, Seat};
-use std::alloc::Global;
 use std::sync::Wait;
 use std::thread::{Threads, join};
 
@@ -18,51 +17,31 @@ pub(crate) type Recorder<N, S> = Worker<N, S, Fault>;
 
 // Records what a source gives in a step.
 fn record<N: Opening, S: Source, R: Wait>(
-    rt: &R,
-    alloc: Global,
-    stations: &[Station<N>],
-    control: &ControlTable,
-    step: u32,
-    now: u64,
+    round: &Round<'_, N, R>,
     source: &mut S,
     seats: &mut [Seat<N>],
 ) -> Result<(), Fault>
-    requires named { AreNamed (ids_of stations.now) }
-    requires fresh { AreFresh (errand step now control.now stations.now) seats.old }
-    ensures ran { Ran (errand step now control.now stations.now) (S.gives source.old) (S.gives source.new) (is_err result) seats.new }
+    requires named { AreNamed (ids_of round.now.stations.now) }
+    requires fresh { AreFresh (errand round.now.step round.now.moment round.now.control.now round.now.stations.now) seats.old }
+    ensures ran { Ran (errand round.now.step round.now.moment round.now.control.now round.now.stations.now) (S.gives source.old) (S.gives source.new) (is_err result) seats.new }
 {
-    while let Some(packet) = source.next(step) {
-        offer_packet(rt, alloc, stations, control, seats, now, &packet)?;
+    while let Some(packet) = source.next(round.step) {
+        offer_packet(round, seats, &packet)?;
     }
     Ok(())
 }
 
 // Lets a recorder run.
 fn run<N: Opening, S: Source + Drop, R: Wait>(
-    rt: &R,
-    alloc: Global,
-    stations: &[Station<N>],
-    control: &ControlTable,
-    step: u32,
-    now: u64,
+    round: &Round<'_, N, R>,
     recorder: Recorder<N, S>,
 ) -> Recorder<N, S>
-    requires named { AreNamed (ids_of stations.now) }
-    requires fresh { AreFresh (errand step now control.now stations.now) recorder.seats.items }
-    ensures ran { Ran (errand step now control.now stations.now) (S.gives recorder.own) (S.gives result.own) (is_some result.broken) result.seats.items }
+    requires named { AreNamed (ids_of round.now.stations.now) }
+    requires fresh { AreFresh (errand round.now.step round.now.moment round.now.control.now round.now.stations.now) recorder.seats.items }
+    ensures ran { Ran (errand round.now.step round.now.moment round.now.control.now round.now.stations.now) (S.gives recorder.own) (S.gives result.own) (is_some result.broken) result.seats.items }
 {
     let mut recorder = recorder;
-    recorder.broken = record(
-        rt,
-        alloc,
-        stations,
-        control,
-        step,
-        now,
-        &mut recorder.own,
-        &mut recorder.seats,
-    )
-    .err();
+    recorder.broken = record(round, &mut recorder.own, &mut recorder.seats).err();
     recorder
 }
 
@@ -71,18 +50,10 @@ pub(crate) fn record_all<
     N: Opening + Send + Sync,
     S: Source + Send + Drop,
     R: Threads + Wait + Sync,
->(
-    rt: &R,
-    alloc: Global,
-    stations: &[Station<N>],
-    control: &ControlTable,
-    step: u32,
-    now: u64,
-    recorders: Vec<Recorder<N, S>>,
-) -> Vec<Recorder<N, S>>
-    requires named { AreNamed (ids_of stations.now) }
-    requires fresh { AllFresh (errand step now control.now stations.now) recorders.items }
-    ensures ran { AllRan S.gives (errand step now control.now stations.now) recorders.items result.items }
+>(round: &Round<'_, N, R>, recorders: Vec<Recorder<N, S>>) -> Vec<Recorder<N, S>>
+    requires named { AreNamed (ids_of round.now.stations.now) }
+    requires fresh { AllFresh (errand round.now.step round.now.moment round.now.control.now round.now.stations.now) recorders.items }
+    ensures ran { AllRan S.gives (errand round.now.step round.now.moment round.now.control.now round.now.stations.now) recorders.items result.items }
     ensures len { vec_len result ≡ vec_len recorders }
     ensures capacity { vec_capacity result ≡ vec_capacity recorders }
 {
@@ -91,15 +62,15 @@ pub(crate) fn record_all<
         return recorders;
     };
     let (one, mut all) = join(
-        rt,
+        round.rt,
         move || -> Recorder<N, S>
-            requires { AreNamed (ids_of stations.now) × AreFresh (errand step now control.now stations.now) one.seats.items }
-            ensures { Ran (errand step now control.entry.now stations.entry.now) (S.gives one.own) (S.gives result.own) (is_some result.broken) result.seats.items }
-        { run(rt, alloc, stations, control, step, now, one) },
+            requires { AreNamed (ids_of round.now.stations.now) × AreFresh (errand round.now.step round.now.moment round.now.control.now round.now.stations.now) one.seats.items }
+            ensures { Ran (errand round.entry.now.step round.entry.now.moment round.entry.now.control.now round.entry.now.stations.now) (S.gives one.own) (S.gives result.own) (is_some result.broken) result.seats.items }
+        { run(round, one) },
         move || -> Vec<Recorder<N, S>>
-            requires { IsSync R.row × AreNamed (ids_of stations.now) × AllFresh (errand step now control.now stations.now) recorders.items }
-            ensures { AllRan S.gives (errand step now control.entry.now stations.entry.now) recorders.items result.items × (vec_len result ≡ vec_len recorders) × (vec_capacity result ≡ vec_capacity recorders) }
-        { record_all(rt, alloc, stations, control, step, now, recorders) },
+            requires { IsSync R.row × AreNamed (ids_of round.now.stations.now) × AllFresh (errand round.now.step round.now.moment round.now.control.now round.now.stations.now) recorders.items }
+            ensures { AllRan S.gives (errand round.entry.now.step round.entry.now.moment round.entry.now.control.now round.entry.now.stations.now) recorders.items result.items × (vec_len result ≡ vec_len recorders) × (vec_capacity result ≡ vec_capacity recorders) }
+        { record_all(round, recorders) },
     );
     all.push_reserved(one);
     all

@@ -8,6 +8,7 @@ ghost use Rattle.mm_crew.specs.Stations.{AreNamed};
 ghost use Rattle.mm_record.specs.Steps.{step_errand, IsWhy, Records};
 
 use crate::recorder::{Recorder, record_all};
+use crate::round::{Round, Task};
 use crate::source::Source;
 use mm_control::ControlTable;
 use mm_crew::{Rooms, close_all, new_rooms, open_all, pair_all, part_all};
@@ -51,24 +52,22 @@ fn why_broken<N: Opening, S: Drop>(recorders: &[Recorder<N, S>]) -> Option<Fault
 
 // Records a step in rooms made for it.
 fn record_in<N: Opening + Send + Sync, S: Source + Send + Drop, R: Threads + Wait + Sync>(
+    rooms: Rooms<N, S, Fault>,
     rt: &R,
     alloc: Global,
-    control: &ControlTable,
-    step: u32,
-    now: u64,
+    task: &Task<'_>,
     stores: Vec<Held>,
     sources: Vec<S>,
-    rooms: Rooms<N, S, Fault>,
 ) -> Recording<S>
     requires few { vec_len stores ≤ MAX_STORES }
     requires many { vec_len sources ≤ MAX_SEATS }
-    requires named { AreNamed (step_errand step now control.now stores.items).ids }
+    requires named { AreNamed (step_errand task.now.step task.now.moment task.now.control.now stores.items).ids }
     requires states { N.states ≡ states_of stores.items }
     requires seated { vec_len rooms.seatings ≡ vec_len sources }
     requires seats { AreSeatings (vec_len stores) rooms.seatings.items }
     requires recorders { (rooms.workers.items ≡ []) × (vec_len sources ≤ vec_capacity rooms.workers) }
     requires stations { (rooms.stations.items ≡ []) × (vec_len stores ≤ vec_capacity rooms.stations) }
-    ensures records { Records S.gives (step_errand step now control.now stores.items) stores.items sources.items result }
+    ensures records { Records S.gives (step_errand task.now.step task.now.moment task.now.control.now stores.items) stores.items sources.items result }
 {
     let Rooms {
         seatings,
@@ -78,7 +77,17 @@ fn record_in<N: Opening + Send + Sync, S: Source + Send + Drop, R: Threads + Wai
     let seats = sources.len() as u32;
     let (stations, stores) = open_all(alloc, stores, stations, seats);
     let (recorders, sources) = pair_all(sources, seatings, workers);
-    let recorders = record_all(rt, alloc, &stations, control, step, now, recorders);
+    let recorders = record_all(
+        &Round {
+            rt,
+            alloc,
+            stations: &stations,
+            control: task.control,
+            step: task.step,
+            moment: task.moment,
+        },
+        recorders,
+    );
     let (stores, agree) = close_all(stations, &recorders, stores);
     let broken = why_broken(&recorders);
     let sources = part_all(recorders, sources);
@@ -94,24 +103,20 @@ fn record_in<N: Opening + Send + Sync, S: Source + Send + Drop, R: Threads + Wai
 fn record_as<N: Opening + Send + Sync, S: Source + Send + Drop, R: Threads + Wait + Sync>(
     rt: &R,
     alloc: Global,
-    control: &ControlTable,
-    step: u32,
-    now: u64,
+    task: &Task<'_>,
     stores: Vec<Held>,
     sources: Vec<S>,
 ) -> Result<Recording<S>, NotBegun<S>>
     requires few { vec_len stores ≤ MAX_STORES }
     requires many { vec_len sources ≤ MAX_SEATS }
-    requires named { AreNamed (step_errand step now control.now stores.items).ids }
+    requires named { AreNamed (step_errand task.now.step task.now.moment task.now.control.now stores.items).ids }
     requires states { N.states ≡ states_of stores.items }
     ensures records { IfOk result
-        (λ left. Records S.gives (step_errand step now control.now stores.items) stores.items sources.items left) }
+        (λ left. Records S.gives (step_errand task.now.step task.now.moment task.now.control.now stores.items) stores.items sources.items left) }
     ensures err { IfErr result (λ back. (back.stores ≡ stores) × (back.sources ≡ sources)) }
 {
     match new_rooms(alloc, stores.len() as u32, sources.len() as u32) {
-        Ok(rooms) => Ok(record_in::<N, S, R>(
-            rt, alloc, control, step, now, stores, sources, rooms,
-        )),
+        Ok(rooms) => Ok(record_in::<N, S, R>(rooms, rt, alloc, task, stores, sources)),
         Err(_) => Err(NotBegun { stores, sources }),
     }
 }
@@ -135,5 +140,10 @@ pub fn record<S: Source + Send + Drop, R: Threads + Wait + Sync>(
         (λ left. Records S.gives (step_errand step now control.now stores.items) stores.items sources.items left) }
     ensures err { IfErr result (λ back. (back.stores ≡ stores) × (back.sources ≡ sources)) }
 {
-    record_as::<Brand, S, R>(rt, alloc, control, step, now, stores, sources)
+    let task = Task {
+        control,
+        step,
+        moment: now,
+    };
+    record_as::<Brand, S, R>(rt, alloc, &task, stores, sources)
 }

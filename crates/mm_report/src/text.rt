@@ -17,6 +17,13 @@ pub(crate) enum Listing {
     Differences,
 }
 
+// A cell of the table that a report is: a step and a store.
+#[derive(Clone, Copy)]
+struct Cell {
+    step: u32,
+    id: StoreId,
+}
+
 // ` WORD N`
 #[tactic(auto, using(std::proofs::Common::append_assoc))]
 fn push_number(text: &mut Vec<u8>, word: &[u8], number: u128) -> Result<(), AllocError>
@@ -31,15 +38,15 @@ fn push_number(text: &mut Vec<u8>, word: &[u8], number: u128) -> Result<(), Allo
 
 // `WORD T ID`
 #[tactic(auto, using(std::proofs::Common::append_assoc))]
-fn push_named(text: &mut Vec<u8>, word: &[u8], step: u32, id: StoreId) -> Result<(), AllocError>
-    ensures { OnOk result (text.new.items ≡ text.old.items ++ named_text word.now step id) }
+fn push_named(text: &mut Vec<u8>, word: &[u8], cell: Cell) -> Result<(), AllocError>
+    ensures { OnOk result (text.new.items ≡ text.old.items ++ named_text word.now cell.step cell.id) }
 {
     text.extend_from_slice(word)?;
     text.push(b' ')?;
     let mut buffer = Buffer::new();
-    text.extend_from_slice(buffer.format(step).as_bytes())?;
+    text.extend_from_slice(buffer.format(cell.step).as_bytes())?;
     text.push(b' ')?;
-    text.extend_from_slice(id.text())
+    text.extend_from_slice(cell.id.text())
 }
 
 // What arrived, was lost, was dumped and is held, up to the end of the line.
@@ -68,28 +75,18 @@ fn sums_of(tally: Tally) -> Totals
 }
 
 #[tactic(auto, using(std::proofs::Common::append_assoc))]
-fn push_step_line(
-    text: &mut Vec<u8>,
-    step: u32,
-    id: StoreId,
-    tally: Tally,
-) -> Result<(), AllocError>
-    ensures { OnOk result (text.new.items ≡ text.old.items ++ step_line step id tally) }
+fn push_step_line(text: &mut Vec<u8>, cell: Cell, tally: Tally) -> Result<(), AllocError>
+    ensures { OnOk result (text.new.items ≡ text.old.items ++ step_line cell.step cell.id tally) }
 {
-    push_named(text, b"step", step, id)?;
+    push_named(text, b"step", cell)?;
     push_numbers(text, sums_of(tally))
 }
 
 #[tactic(auto, using(std::proofs::Common::append_assoc))]
-fn push_differs_line(
-    text: &mut Vec<u8>,
-    step: u32,
-    id: StoreId,
-    tally: Tally,
-) -> Result<(), AllocError>
-    ensures { OnOk result (text.new.items ≡ text.old.items ++ differs_line step id tally) }
+fn push_differs_line(text: &mut Vec<u8>, cell: Cell, tally: Tally) -> Result<(), AllocError>
+    ensures { OnOk result (text.new.items ≡ text.old.items ++ differs_line cell.step cell.id tally) }
 {
-    push_named(text, b"differs step", step, id)?;
+    push_named(text, b"differs step", cell)?;
     push_number(text, b"forecast", u128::from(tally.forecast))?;
     push_number(text, b"came", u128::from(tally.arrived))?;
     text.push(b'\n')?;
@@ -97,19 +94,13 @@ fn push_differs_line(
 }
 
 // The line of a step and a store in this listing, if there is one.
-fn push_line(
-    text: &mut Vec<u8>,
-    listing: Listing,
-    step: u32,
-    id: StoreId,
-    tally: Tally,
-) -> Result<(), AllocError>
-    ensures { OnOk result (text.new.items ≡ text.old.items ++ line_of listing step id tally) }
+fn push_line(text: &mut Vec<u8>, listing: Listing, at: Cell, tally: Tally) -> Result<(), AllocError>
+    ensures { OnOk result (text.new.items ≡ text.old.items ++ line_of listing at.step at.id tally) }
 {
     match listing {
-        Listing::Numbers => push_step_line(text, step, id, tally),
+        Listing::Numbers => push_step_line(text, at, tally),
         Listing::Differences if tally.forecast == tally.arrived => Ok(()),
-        Listing::Differences => push_differs_line(text, step, id, tally),
+        Listing::Differences => push_differs_line(text, at, tally),
     }
 }
 
@@ -128,7 +119,7 @@ fn push_row(
         let [tally, more @ ..] = rest else {
             return Ok(());
         };
-        push_line(text, listing, step, *id, *tally)?;
+        push_line(text, listing, Cell { step, id: *id }, *tally)?;
         rest_ids = more_ids;
         rest = more;
     }

@@ -15,7 +15,7 @@ counted_again least width count octets enough len =
     let as_many : (length octets == count * width) ≡ true = eq-eqb (length octets) (count * width) len in
     rw (not_fewer, as_many) refl
 
--- the rows behind an identifier are as many as their count says, or are not
+-- the rows after an identifier are as many as their count says, or are not
 pub rows_counted : (octets rest : List ℕ) (count : ℕ) (after : List ℕ) → 8 ≤ length octets → rest ≡ drop 8 octets → number_at w16 rest ≡ Some (count, after) → is_counted kind.Control octets ≡ (length after == count * 4)
 rows_counted octets rest count after long rest-is found =
     let not_short : nat_lt (length octets) 8 ≡ false = grind (arith, nat_tests) in

@@ -1,5 +1,5 @@
 -- A packet spells one report, and that report is not refused.
-use Rattle.std.proofs.Common.{◌≡◌, ℕ, ◌*◌, ◌<◌, ◌≤◌, ◌^◌, true, List, ◌∷◌, ◌++◌, length, take, drop, Option, Some, None, Result, Ok, Err, refl, sym, ap, subst, ◌∙◌, arith, append_assoc, length-append, eq-eqb}
+use Rattle.std.proofs.Common.{◌≡◌, ℕ, ◌*◌, ◌<◌, ◌≤◌, ◌^◌, true, List, ◌∷◌, ◌++◌, length, take, drop, Some, None, Result, Err, refl, sym, ap, ◌∙◌, arith, append_assoc, length-append, eq-eqb}
 use Rattle.std.specs.Prelude.{MatchResult, IfOk, MatchOption, IsOkUnless}
 use Rattle.std.specs.List.{flat_map, AllByRecursion}
 use Rattle.std.specs.Int.{w16, to_be_bytes, from_be_bytes}
@@ -27,7 +27,7 @@ use Rattle.mm_st15.specs.Layout.{Layout, row_octets, FitsRow, row_layout, summar
 use Rattle.mm_st15.proofs.CountLemmas.{counted_again, rows_counted}
 use Rattle.mm_st15.proofs.LayoutLemmas.{behind_id, IsReadable, entries_from, entries_again, entries_in, entries_in_again, length_of_entries, row_readable, summary_readable, status_readable, configuration_readable}
 
--- the rows behind their count
+-- the rows after their count
 rows_in : List ℕ → List Row
 rows_in octets = entries_from row_readable.of 4 (from_be_bytes w16 (take 2 octets)) (drop 2 octets)
 
@@ -42,7 +42,7 @@ report_from kind.Summaries moment octets = report.Summaries moment (entries_in s
 report_from kind.Statuses moment octets = report.Statuses moment (entries_in status_readable.of 10 octets)
 report_from kind.Configurations moment octets = report.Configurations moment (entries_in configuration_readable.of 14 octets)
 
--- the rows are read again behind their count
+-- the rows are read again after their count
 rows_again : (rows : List Row) → length rows < 2 ^ 16 → AllByRecursion FitsRow rows → rows_in (to_be_bytes w16 (length rows) ++ flat_map row_octets rows) ≡ rows
 unfolding rows_in
 rows_again rows few fits = rw (from_be_bytes-to_be_bytes_2 (length rows) few) (entries_again row_layout row_readable rows fits)
@@ -107,11 +107,3 @@ one_report packet a b a_fits b_fits a_spells b_spells =
     let body : data_of a ≡ data_of b = sym a_spells.body ∙ b_spells.body in
     let from : report_from (kind_of a) (moment_of a) (data_of a) ≡ report_from (kind_of b) (moment_of b) (data_of b) = cc in
     sym (report_again a a_fits) ∙ from ∙ report_again b b_fits
-
--- a packet that spells a report is read as that report
-pub is_only : (packet : SpacePacket) (r : Report) (result : Result Report Fault) → IsReport r → SpellsReport packet r
-    → IfOk result (λ x. IsReport x × SpellsReport packet x) → MatchOption (report_fault packet) (IsOkUnless result NoMemory) (λ fault. result ≡ Err fault)
-    → MatchResult result (λ x. x ≡ r) (λ fault. fault ≡ NoMemory)
-is_only packet r (Ok x) fits spells found refused = one_report packet x r found.0 fits found.1 spells
-is_only packet r (Err fault) fits spells found refused =
-    subst (λ (f : Option Fault). MatchOption f (IsOkUnless {T = Report} (Err fault) NoMemory) (λ other. ◌≡◌ {A = Result Report Fault} (Err fault) (Err other))) (not_refused packet r fits spells) refused

@@ -1,5 +1,5 @@
 -- A packet spells one request, and that request is not refused.
-use Rattle.std.proofs.Common.{◌≡◌, ℕ, ◌<◌, ◌≤◌, Bool, true, false, List, [], ◌∷◌, length, Option, Some, None, Result, Ok, Err, refl, sym, ap, subst, ◌∙◌}
+use Rattle.std.proofs.Common.{◌≡◌, ℕ, ◌<◌, ◌≤◌, Bool, true, false, List, [], ◌∷◌, length, Some, None, Result, Err, refl, sym, ap, subst, ◌∙◌}
 use Rattle.std.specs.List.{flat_map}
 use Rattle.std.specs.Prelude.{if◌then◌else◌, MatchBool, MatchResult, IfOk, MatchOption, IsOkUnless, is_some}
 use Rattle.mm_packet.specs.Packet.{SpacePacket, IsTelecommand}
@@ -164,11 +164,3 @@ one_request packet a b a_fits b_fits a_spells b_spells =
     let body : data_of a ≡ data_of b = sym a_spells.body ∙ b_spells.body in
     let from : request_from (kind_of a) (data_of a) ≡ request_from (kind_of b) (data_of b) = cc in
     sym (request_again a a_fits) ∙ from ∙ request_again b b_fits
-
--- a packet that spells a request is read as that request
-pub is_only : (packet : SpacePacket) (r : Request) (result : Result Request Fault) → IsRequest r → SpellsRequest packet r
-    → IfOk result (λ x. IsRequest x × SpellsRequest packet x) → MatchOption (request_fault packet) (IsOkUnless result NoMemory) (λ fault. result ≡ Err fault)
-    → MatchResult result (λ x. x ≡ r) (λ fault. fault ≡ NoMemory)
-is_only packet r (Ok x) fits spells found refused = one_request packet x r found.0 fits found.1 spells
-is_only packet r (Err fault) fits spells found refused =
-    subst (λ (f : Option Fault). MatchOption f (IsOkUnless {T = Request} (Err fault) NoMemory) (λ other. ◌≡◌ {A = Result Request Fault} (Err fault) (Err other))) (not_refused packet r fits spells) refused

@@ -65,7 +65,7 @@ pub record SpellsReport (packet : SpacePacket) (report : Report) : Type 0 where
   pub subtype : packet.header.subtype ≡ code_of (kind_of report)
   pub body : packet.body ≡ data_of report
 
--- the octets behind the number of rows are so many rows
+-- the octets after the number of rows are so many rows
 abbrev pub are_rows : Option (ℕ × List ℕ) → Bool
 are_rows None = false
 are_rows (Some found) = length found.1 == found.0 * 4

@@ -24,16 +24,16 @@ impl<T> Entries<T> {
         Entries { items }
     }
 
-    pub fn as_slice(&self) -> &[T]
-        ensures items { result.now ≡ self.now }
-    {
-        &self.items
-    }
-
     pub fn into_vec(self) -> Vec<T>
         ensures items { result.items ≡ self }
     {
         let Entries { items } = self;
         items
+    }
+
+    pub fn as_slice(&self) -> &[T]
+        ensures items { result.now ≡ self.now }
+    {
+        &self.items
     }
 }

@@ -13,6 +13,7 @@ mod report_kind;
 mod request;
 mod request_kind;
 mod service;
+mod spelling;
 mod table;
 
 pub use entries::Entries;

@@ -111,21 +111,6 @@ impl Request {
     ghost use Rattle.mm_packet.specs.Packet.{SpacePacket};
     ghost use Rattle.mm_st15.specs.Request.{kind_of, count_of, data_of, HasCount, IsRequest, SpellsRequest, request_fault};
 
-    /// The request that a packet spells.
-    pub fn read(alloc: Global, packet: &Packet) -> Result<Request, Fault>
-        // The packet spells the request.
-        ensures found { IfOk result (λ request. IsRequest request
-            × SpellsRequest packet.now request) }
-        // A request that the packet spells is read, unless memory runs out.
-        ensures only { (request : Request) → IsRequest request → SpellsRequest packet.now request
-            → MatchResult result (λ read. read ≡ request) (λ fault. fault ≡ Fault.NoMemory) }
-        // Which refusal it is: the first test that fails.
-        ensures refused { MatchOption (request_fault packet.now) (IsOkUnless result Fault.NoMemory)
-            (λ fault. result ≡ Err fault) }
-    {
-        request_in(alloc, packet)
-    }
-
     /// The telecommand that spells the request.
     pub fn write(
         &self,
@@ -155,6 +140,21 @@ impl Request {
         };
         let body = Octets::new(self.data(alloc)?);
         Ok(Packet::tc(header, source, body))
+    }
+
+    /// The request that a packet spells.
+    pub fn read(alloc: Global, packet: &Packet) -> Result<Request, Fault>
+        // The packet spells the request.
+        ensures found { IfOk result (λ request. IsRequest request
+            × SpellsRequest packet.now request) }
+        // A request that the packet spells is read, unless memory runs out.
+        ensures only { (request : Request) → IsRequest request → SpellsRequest packet.now request
+            → MatchResult result (λ read. read ≡ request) (λ fault. fault ≡ Fault.NoMemory) }
+        // Which refusal it is: the first test that fails.
+        ensures refused { MatchOption (request_fault packet.now) (IsOkUnless result Fault.NoMemory)
+            (λ fault. result ≡ Err fault) }
+    {
+        request_in(alloc, packet)
     }
 
     /// The subtype.

@@ -258,7 +258,7 @@ impl PlainStore {
     }
 }
 
-// A thousand puts and deletions, by numbers that a linear congruence draws, and look-ups behind each.
+// A thousand puts and deletions, by numbers that a linear congruence draws, and look-ups after each.
 fn drawn(rt: &impl Abort, alloc: Global, kind: Kind) -> Vec<Step> {
     let mut plain = PlainStore {
         kind,

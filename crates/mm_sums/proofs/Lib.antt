@@ -1,3 +1,4 @@
+pub mod Elements
 pub mod Tests
 pub mod Pairs
 pub mod Ranges

@@ -1,5 +1,5 @@
 -- Sums over lists: of equal and of smaller terms, over what passes a test, and of sums.
-use Rattle.std.proofs.Common.{◌≡◌, ℕ, ◌+◌, ◌<◌, ◌≤◌, Bool, cond, List, [], ◌∷◌, length, get_or, All, refl, sym, ◌∙◌, inl, inr, arith}
+use Rattle.std.proofs.Common.{◌≡◌, ℕ, ◌+◌, ◌<◌, ◌≤◌, Bool, true, false, cond, not, ◌&&◌, List, [], ◌∷◌, length, get_or, All, refl, sym, ◌∙◌, inl, inr, arith}
 use Rattle.std.specs.Prelude.{AllPairs, filter, map}
 use Rattle.std.specs.List.{sum_by, flat_map}
 use Rattle.std.proofs.lemmas.Bool.{cases_lt, cases_Bool}
@@ -82,3 +82,19 @@ sum_by-le_one f m (x ∷ xs) most one =
           omega (arith, here, sum_more, rest)
       | inr none ↦ omega (arith, sum_more, others)
     ]
+
+-- a term that is one of two
+one_of_two : (p q : Bool) (m n : ℕ) → cond p (cond q m n) 0 ≡ cond (p && not q) n 0 + cond (p && q) m 0
+one_of_two true true m n = omega arith
+one_of_two true false m n = omega arith
+one_of_two false q m n = refl
+
+-- a sum over the elements that pass a test, whose terms are chosen by another, in two parts
+pub sum_by-filter_parts : {X : Type 0} (p q : X → Bool) (f g : X → ℕ) (xs : List X)
+    → sum_by (λ x. cond (q x) (f x) (g x)) (filter p xs) ≡ sum_by g (filter (λ x. p x && not (q x)) xs) + sum_by f (filter (λ x. p x && q x) xs)
+sum_by-filter_parts {X} p q f g xs =
+    let first : X → ℕ = λ x. cond (p x && not (q x)) (g x) 0 in
+    let second : X → ℕ = λ x. cond (p x && q x) (f x) 0 in
+    let each = sum_by-same (λ x. cond (p x) (cond (q x) (f x) (g x)) 0) (λ x. first x + second x) xs
+    (λ k d inside. let x : X = get_or xs k d in one_of_two (p x) (q x) (f x) (g x)) in
+    omega (arith, each, sum_by-add first second xs, sum_by-filter (λ x. cond (q x) (f x) (g x)) p xs, sum_by-filter g (λ x. p x && not (q x)) xs, sum_by-filter f (λ x. p x && q x) xs)

@@ -1,9 +1,9 @@
 //! The command `chart`: the chart of a dump plan.
 
-use crate::command::{FORECAST_HELP, SETUP_HELP, Task, file};
+use crate::command::{PlanFiles, judging_command};
 use crate::files::Files;
-use crate::run::{Fault, Status, read_file};
-use clap::{ArgMatches, Command};
+use crate::run::{Fault, PlanTexts, Status};
+use clap::Command;
 use mm_chart::chart_bytes;
 use std::alloc::{AllocError, Global};
 
@@ -24,34 +24,16 @@ Exit status: 0 for a picture, whatever its headline, 1 for a refusal.";
 
 /// The words of the command.
 pub fn chart_command<'a>(alloc: Global) -> Result<Command<'a>, AllocError> {
-    Command::new(alloc, "chart")
-        .about(ABOUT)
-        .after_help(HELP)
-        .arg(file(alloc, "SETUP", SETUP_HELP))?
-        .arg(file(alloc, "FORECAST", FORECAST_HELP))?
-        .arg(file(alloc, "PLAN", "The dump plan with its loss and its cut"))
-}
-
-/// What the words of the command ask for.
-pub fn chart_task<'a>(files: &ArgMatches<'a>) -> Option<Task<'a>> {
-    Some(Task::Chart {
-        setup: files.get_str("SETUP")?,
-        forecast: files.get_str("FORECAST")?,
-        plan: files.get_str("PLAN")?,
-    })
+    judging_command(alloc, "chart", ABOUT, HELP)
 }
 
 /// The chart of the plan in the files.
 pub fn chart<'a, F: Files>(
     alloc: Global,
     files: &mut F,
-    setup: &'a str,
-    forecast: &'a str,
-    plan: &'a str,
+    names: PlanFiles<'a>,
 ) -> Result<(Status, Vec<u8>), Fault<'a>> {
-    let setup = read_file(alloc, files, setup)?;
-    let forecast = read_file(alloc, files, forecast)?;
-    let plan = read_file(alloc, files, plan)?;
-    let text = chart_bytes(alloc, &setup, &forecast, &plan)?;
+    let texts = PlanTexts::read(alloc, files, names)?;
+    let text = chart_bytes(alloc, &texts.setup, &texts.forecast, &texts.plan)?;
     Ok((Status::Done, text))
 }

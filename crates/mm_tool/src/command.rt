@@ -1,41 +1,33 @@
 //! The command line.
 
-use crate::chart::{chart_command, chart_task};
-use crate::flight::{FlyFiles, RunFiles, fly_command, fly_task, run_command, run_task};
+use crate::chart::chart_command;
+use crate::flight::{FlightFiles, flight_task, fly_command, run_command};
 use clap::error::ErrorKind;
 use clap::{Arg, ArgMatches, Command, Error};
 use std::alloc::{AllocError, Global};
 use std::convert::AsStr;
 
+/// The files of a problem and of a plan for it.
+#[derive(Clone, Copy, Debug, PartialEq, Eq)]
+pub struct PlanFiles<'a> {
+    pub setup: &'a str,
+    pub forecast: &'a str,
+    pub plan: &'a str,
+}
+
 /// What the program is asked to do.
 #[derive(Clone, Copy, Debug, PartialEq, Eq)]
 pub enum Task<'a> {
     /// Plan the dumps so that least is lost.
-    Plan {
-        setup: &'a str,
-        forecast: &'a str,
-    },
+    Plan { setup: &'a str, forecast: &'a str },
     /// Say whether the plan loses least.
-    Check {
-        setup: &'a str,
-        forecast: &'a str,
-        plan: &'a str,
-    },
+    Check(PlanFiles<'a>),
     /// Draw the plan.
-    Chart {
-        setup: &'a str,
-        forecast: &'a str,
-        plan: &'a str,
-    },
-    /// Carry the plan out.
-    Run(RunFiles<'a>),
-    /// Plan the dumps, and carry the plan out.
-    Fly(FlyFiles<'a>),
+    Chart(PlanFiles<'a>),
+    /// Carry out the plan, which is made first where there is no file of it.
+    Fly(FlightFiles<'a>),
     /// Answer the requests of the storage service, one after another, in a memory of the setup.
-    Ask {
-        setup: &'a str,
-        requests: &'a str,
-    },
+    Ask { setup: &'a str, requests: &'a str },
 }
 
 const ABOUT: &str =
@@ -131,10 +123,16 @@ fn plan_command<'a>(alloc: Global) -> Result<Command<'a>, AllocError> {
         .arg(file(alloc, "FORECAST", FORECAST_HELP))
 }
 
-fn check_command<'a>(alloc: Global) -> Result<Command<'a>, AllocError> {
-    Command::new(alloc, "check")
-        .about(CHECK_ABOUT)
-        .after_help(CHECK_HELP)
+/// The words of a command on a problem and a plan for it.
+pub(crate) fn judging_command<'a>(
+    alloc: Global,
+    name: &'a str,
+    about: &'a str,
+    help: &'a str,
+) -> Result<Command<'a>, AllocError> {
+    Command::new(alloc, name)
+        .about(about)
+        .after_help(help)
         .arg(file(alloc, "SETUP", SETUP_HELP))?
         .arg(file(alloc, "FORECAST", FORECAST_HELP))?
         .arg(file(alloc, "PLAN", "The dump plan with its loss and its cut"))
@@ -157,7 +155,7 @@ fn tool_command<'a>(alloc: Global) -> Result<Command<'a>, AllocError> {
         .subcommand_required(true)
         .arg_required_else_help(true)
         .subcommand(plan_command(alloc)?)?
-        .subcommand(check_command(alloc)?)?
+        .subcommand(judging_command(alloc, "check", CHECK_ABOUT, CHECK_HELP)?)?
         .subcommand(chart_command(alloc)?)?
         .subcommand(run_command(alloc)?)?
         .subcommand(fly_command(alloc)?)?
@@ -171,8 +169,8 @@ fn plan_task<'a>(files: &ArgMatches<'a>) -> Option<Task<'a>> {
     })
 }
 
-fn check_task<'a>(files: &ArgMatches<'a>) -> Option<Task<'a>> {
-    Some(Task::Check {
+fn plan_files<'a>(files: &ArgMatches<'a>) -> Option<PlanFiles<'a>> {
+    Some(PlanFiles {
         setup: files.get_str("SETUP")?,
         forecast: files.get_str("FORECAST")?,
         plan: files.get_str("PLAN")?,
@@ -192,10 +190,9 @@ pub fn parse<'a, S: AsStr>(alloc: Global, words: &'a [S]) -> Result<Task<'a>, Er
     let matches = command.try_get_matches_from_mut(words)?;
     let task = match matches.subcommand() {
         Some(("plan", files)) => plan_task(files),
-        Some(("check", files)) => check_task(files),
-        Some(("chart", files)) => chart_task(files),
-        Some(("run", files)) => run_task(files),
-        Some(("fly", files)) => fly_task(files),
+        Some(("check", files)) => plan_files(files).map(Task::Check),
+        Some(("chart", files)) => plan_files(files).map(Task::Chart),
+        Some(("run" | "fly", files)) => flight_task(files),
         Some(("ask", files)) => ask_task(files),
         _ => None,
     };

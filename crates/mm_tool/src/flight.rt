@@ -4,7 +4,7 @@ use crate::command::{FORECAST_HELP, SETUP_HELP, Task, file};
 use crate::files::Files;
 use crate::run::{Fault, Status, read_file};
 use clap::{ArgMatches, Command};
-use mm_flight::{FlyTexts, Outcome, Printed, RunTexts, fly_bytes, run_bytes};
+use mm_flight::{FlightTexts, Outcome, Printed, fly_bytes, run_bytes};
 use std::alloc::{AllocError, Global};
 use std::io::{self, Write};
 use std::sync::Wait;
@@ -54,30 +54,32 @@ comes is not what the forecast says, 1 otherwise.";
 
 /// The files of a run.
 #[derive(Clone, Copy, Debug, PartialEq, Eq)]
-pub struct RunFiles<'a> {
+pub struct FlightFiles<'a> {
     setup: &'a str,
     forecast: &'a str,
-    plan: &'a str,
+    /// None where the plan is made.
+    plan: Option<&'a str>,
     sources: &'a str,
     links: &'a str,
 }
 
-/// The files of a run whose plan is made.
-#[derive(Clone, Copy, Debug, PartialEq, Eq)]
-pub struct FlyFiles<'a> {
-    setup: &'a str,
-    forecast: &'a str,
-    sources: &'a str,
-    links: &'a str,
+// The first words of a command that carries a plan out.
+fn flight_command<'a>(
+    alloc: Global,
+    name: &'a str,
+    about: &'a str,
+    help: &'a str,
+) -> Result<Command<'a>, AllocError> {
+    Command::new(alloc, name)
+        .about(about)
+        .after_help(help)
+        .arg(file(alloc, "SETUP", SETUP_HELP))?
+        .arg(file(alloc, "FORECAST", FORECAST_HELP))
 }
 
 /// The words of the command `run`.
 pub fn run_command<'a>(alloc: Global) -> Result<Command<'a>, AllocError> {
-    Command::new(alloc, "run")
-        .about(RUN_ABOUT)
-        .after_help(RUN_HELP)
-        .arg(file(alloc, "SETUP", SETUP_HELP))?
-        .arg(file(alloc, "FORECAST", FORECAST_HELP))?
+    flight_command(alloc, "run", RUN_ABOUT, RUN_HELP)?
         .arg(file(alloc, "PLAN", PLAN_HELP))?
         .arg(file(alloc, "SOURCES", SOURCES_HELP))?
         .arg(file(alloc, "LINKS", LINKS_HELP))
@@ -85,78 +87,47 @@ pub fn run_command<'a>(alloc: Global) -> Result<Command<'a>, AllocError> {
 
 /// The words of the command `fly`.
 pub fn fly_command<'a>(alloc: Global) -> Result<Command<'a>, AllocError> {
-    Command::new(alloc, "fly")
-        .about(FLY_ABOUT)
-        .after_help(FLY_HELP)
-        .arg(file(alloc, "SETUP", SETUP_HELP))?
-        .arg(file(alloc, "FORECAST", FORECAST_HELP))?
+    flight_command(alloc, "fly", FLY_ABOUT, FLY_HELP)?
         .arg(file(alloc, "SOURCES", SOURCES_HELP))?
         .arg(file(alloc, "LINKS", LINKS_HELP))
 }
 
-/// What the words of the command `run` ask for.
-pub fn run_task<'a>(files: &ArgMatches<'a>) -> Option<Task<'a>> {
-    Some(Task::Run(RunFiles {
+/// What the words of the command `run` ask for, and those of `fly`, which have no plan.
+pub fn flight_task<'a>(files: &ArgMatches<'a>) -> Option<Task<'a>> {
+    Some(Task::Fly(FlightFiles {
         setup: files.get_str("SETUP")?,
         forecast: files.get_str("FORECAST")?,
-        plan: files.get_str("PLAN")?,
+        plan: files.get_str("PLAN"),
         sources: files.get_str("SOURCES")?,
         links: files.get_str("LINKS")?,
     }))
 }
 
-/// What the words of the command `fly` ask for.
-pub fn fly_task<'a>(files: &ArgMatches<'a>) -> Option<Task<'a>> {
-    Some(Task::Fly(FlyFiles {
-        setup: files.get_str("SETUP")?,
-        forecast: files.get_str("FORECAST")?,
-        sources: files.get_str("SOURCES")?,
-        links: files.get_str("LINKS")?,
-    }))
-}
-
-/// What the run of the plan in the files prints.
-pub fn run_plan<'a, R: Threads + Wait + Sync, F: Files>(
-    rt: &R,
-    alloc: Global,
-    files: &mut F,
-    names: RunFiles<'a>,
-) -> Result<Printed, Fault<'a>> {
-    let setup = read_file(alloc, files, names.setup)?;
-    let forecast = read_file(alloc, files, names.forecast)?;
-    let plan = read_file(alloc, files, names.plan)?;
-    let sources = read_file(alloc, files, names.sources)?;
-    let links = read_file(alloc, files, names.links)?;
-    let texts = RunTexts {
-        setup: &setup,
-        forecast: &forecast,
-        plan: &plan,
-        sources: &sources,
-        links: &links,
-    };
-    let printed = run_bytes(rt, alloc, texts)?;
-    Ok(printed)
-}
-
-/// What the plan for the files and its run print.
+/// What the run of the plan in the files prints, or of the plan that is made for them.
 pub fn fly<'a, R: Threads + Wait + Sync, F: Files>(
     rt: &R,
     alloc: Global,
     files: &mut F,
-    names: FlyFiles<'a>,
+    names: FlightFiles<'a>,
 ) -> Result<Printed, Fault<'a>> {
     let setup = read_file(alloc, files, names.setup)?;
     let forecast = read_file(alloc, files, names.forecast)?;
+    let plan = match names.plan {
+        Some(plan) => Some(read_file(alloc, files, plan)?),
+        None => None,
+    };
     let sources = read_file(alloc, files, names.sources)?;
     let links = read_file(alloc, files, names.links)?;
-    let texts = FlyTexts {
+    let texts = FlightTexts {
         setup: &setup,
         forecast: &forecast,
         sources: &sources,
         links: &links,
     };
-    let printed = fly_bytes(rt, alloc, texts)?;
-    Ok(printed)
+    match plan {
+        Some(plan) => Ok(run_bytes(rt, alloc, texts, &plan)?),
+        None => Ok(fly_bytes(rt, alloc, texts)?),
+    }
 }
 
 /// Prints what a run prints.

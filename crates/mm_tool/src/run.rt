@@ -2,9 +2,9 @@
 ghost use Rattle.std.specs.Prelude.{◌≤◌};
 
 use crate::chart::chart;
-use crate::command::{Task, parse};
+use crate::command::{PlanFiles, Task, parse};
 use crate::files::{Files, ReadFault};
-use crate::flight::{fly, print_run, run_plan};
+use crate::flight::{fly, print_run};
 use crate::script::{ScriptFiles, first_line};
 use clap::error::ErrorKind;
 use mm_ask::{Outcome, ask_bytes};
@@ -87,18 +87,36 @@ fn status_of(verdict: Verdict) -> Status {
     }
 }
 
+/// The octets of the files of a problem and of a plan for it.
+#[derive(Drop)]
+pub(crate) struct PlanTexts {
+    pub(crate) setup: Vec<u8>,
+    pub(crate) forecast: Vec<u8>,
+    pub(crate) plan: Vec<u8>,
+}
+
+impl PlanTexts {
+    pub(crate) fn read<'a, F: Files>(
+        alloc: Global,
+        files: &mut F,
+        names: PlanFiles<'a>,
+    ) -> Result<PlanTexts, Fault<'a>> {
+        Ok(PlanTexts {
+            setup: read_file(alloc, files, names.setup)?,
+            forecast: read_file(alloc, files, names.forecast)?,
+            plan: read_file(alloc, files, names.plan)?,
+        })
+    }
+}
+
 /// The line of the verdict on the plan in the files.
 fn check<'a, F: Files>(
     alloc: Global,
     files: &mut F,
-    setup: &'a str,
-    forecast: &'a str,
-    plan: &'a str,
+    names: PlanFiles<'a>,
 ) -> Result<(Status, Vec<u8>), Fault<'a>> {
-    let setup = read_file(alloc, files, setup)?;
-    let forecast = read_file(alloc, files, forecast)?;
-    let plan = read_file(alloc, files, plan)?;
-    let (verdict, line) = check_bytes(alloc, &setup, &forecast, &plan)?;
+    let texts = PlanTexts::read(alloc, files, names)?;
+    let (verdict, line) = check_bytes(alloc, &texts.setup, &texts.forecast, &texts.plan)?;
     Ok((status_of(verdict), line))
 }
 
@@ -159,17 +177,8 @@ fn carry_out<R: Threads + Wait + Sync, F: Files, W: Write>(
 ) -> io::Result<Status> {
     let done = match task {
         Task::Plan { setup, forecast } => plan(alloc, files, setup, forecast),
-        Task::Check {
-            setup,
-            forecast,
-            plan,
-        } => check(alloc, files, setup, forecast, plan),
-        Task::Chart {
-            setup,
-            forecast,
-            plan,
-        } => chart(alloc, files, setup, forecast, plan),
-        Task::Run(names) => return print_ended(out, run_plan(rt, alloc, files, names)),
+        Task::Check(names) => check(alloc, files, names),
+        Task::Chart(names) => chart(alloc, files, names),
         Task::Fly(names) => return print_ended(out, fly(rt, alloc, files, names)),
         Task::Ask { setup, requests } => ask(alloc, files, setup, requests),
     };
@@ -213,7 +222,7 @@ pub fn run_tool<R: Threads + Wait + Sync, S: AsStr, F: Files, W: Write, E: Write
     }
 }
 
-/// Runs the program on a script: a first line with the words, parted by single spaces, and then the files.
+/// Runs the program on a script: a first line with the words, separated by single spaces, and then the files.
 pub fn run_script<R: Threads + Wait + Sync, W: Write, E: Write>(
     rt: &R,
     alloc: Global,
@@ -244,7 +253,7 @@ pub fn run_script<R: Threads + Wait + Sync, W: Write, E: Write>(
     )
 }
 
-// The words of a line, parted by single spaces; an empty line has none.
+// The words of a line, separated by single spaces; an empty line has none.
 fn words_of(alloc: Global, line: &str) -> Result<Vec<&str>, AllocError> {
     if line.is_empty() {
         Ok(Vec::new(alloc))

@@ -8,7 +8,7 @@ use std::alloc::Global;
 /// What the line that begins a file starts with; the rest of the line is the file's name.
 const HEADING: &[u8] = b"=== ";
 
-/// The first line of a text without its LF, and what stands behind it.
+/// The first line of a text without its LF, and what follows it.
 pub fn first_line(text: &[u8]) -> (&[u8], &[u8])
     ensures shorter { 1 ≤ length text.now → length result.1.now < length text.now }
 {
@@ -34,7 +34,7 @@ pub struct ScriptFiles<'a> {
 }
 
 impl<'a> ScriptFiles<'a> {
-    /// The files of a script's text behind its first line.
+    /// The files of a script's text after its first line.
     pub fn new(text: &'a [u8]) -> ScriptFiles<'a> {
         ScriptFiles { text }
     }

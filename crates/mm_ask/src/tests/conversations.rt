@@ -129,7 +129,7 @@ fn a_refused_setup(rt: HostRuntime) {
     match ask_bytes(rt.alloc(), b"[[store", ENABLE.as_bytes()) {
         Ok(_) => panic!(rt; "the setup is no TOML"),
         Err(fault) => {
-            assert_eq!(rt; fault, Fault::Setup(mm_problem::Fault::SetupText));
+            assert_eq!(rt; fault, Fault::SetupText);
             let shown = format!(in rt.alloc(); "{fault}").expect(&rt, "its text");
             assert_eq!(rt; shown.as_str(), "27 SetupText");
         }

@@ -119,7 +119,7 @@ fn counters_by_kind(rt: HostRuntime) {
     numbered(&rt, &mut counters, ReportKind::Control, 2, 1);
 }
 
-// Behind the greatest number comes 0: after 65,536 reports of a subtype, which are four times
+// After the greatest number comes 0: after 65,536 reports of a subtype, which are four times
 // 16,384.
 #[test]
 fn counters_begin_again(rt: HostRuntime) {

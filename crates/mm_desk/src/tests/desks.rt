@@ -122,11 +122,6 @@ fn close_in_order<N: Opening, R: Wait + Abort>(rt: &R, alloc: Global, state: Sto
     }
 }
 
-#[test]
-fn two_seats_one_desk(rt: HostRuntime) {
-    close_in_order::<Brand, HostRuntime>(&rt, rt.alloc(), bounded(&rt, rt.alloc()));
-}
-
 fn close_exchanged<N: Opening, R: Wait + Abort>(rt: &R, alloc: Global, state: StoreState)
     requires state { state ≡ opening_at N.states 0 }
 {
@@ -137,6 +132,11 @@ fn close_exchanged<N: Opening, R: Wait + Abort>(rt: &R, alloc: Global, state: St
         "the seats were handed back in another order"
     );
     assert_eq!(rt; closed.log.len(), 5);
+}
+
+#[test]
+fn two_seats_one_desk(rt: HostRuntime) {
+    close_in_order::<Brand, HostRuntime>(&rt, rt.alloc(), bounded(&rt, rt.alloc()));
 }
 
 #[test]

@@ -10,13 +10,10 @@ const TURNS: u32 = 1_000_000;
 
 // Whether a count comes up to a number before the turns are used up.
 fn comes_to(count: &AtomicU64, number: u64) -> bool {
-    for _ in 0..TURNS {
-        if count.load(Ordering::SeqCst) >= number {
-            return true;
-        }
+    (0..TURNS).any(|_| {
         thread::yield_now();
-    }
-    false
+        count.load(Ordering::SeqCst) >= number
+    })
 }
 
 // A link whose send, where it is the first of all that begin, goes on only once the other link has finished so many sends.
@@ -30,17 +27,14 @@ struct Watch {
 }
 
 impl Link for Watch {
-    ghost use Rattle.std.specs.Prelude.{map};
-
-    ghost sent = { λ w. map (λ i. record { store = i.store; stored = i.stored }) w.wire.items.items };
+    ghost sent = { λ w. w.wire.sent };
 
     ghost failed = { λ w. w.wire.failed };
 
     fn send(&mut self, store: &StoreId, time: u64, packet: &BlockPacket) -> Result<(), SendFailed> {
         let first = self.begun.swap(1, Ordering::SeqCst) == 0;
         if first && !comes_to(&self.others, self.awaited) {
-            self.wire.failed += 1;
-            return Err(SendFailed);
+            return Err(self.wire.refuse());
         }
         self.wire.send(store, time, packet)?;
         self.mine.fetch_add(1, Ordering::SeqCst);
@@ -48,7 +42,7 @@ impl Link for Watch {
     }
 
     fn failures(&self) -> u64 {
-        self.wire.failed
+        self.wire.failures()
     }
 }
 
@@ -89,7 +83,7 @@ fn orders_from_one_queue(rt: HostRuntime) {
     have(&rt, &left.stores, &[(0, 1), (0, 1), (0, 1), (0, 1)]);
     let mut sent = [0, 0];
     for (sent, link) in sent.iter_mut().zip(&left.links) {
-        *sent = link.wire.items.len();
+        *sent = link.wire.taken().len();
     }
     assert!(rt;
         sent == [1, 3] || sent == [3, 1],
@@ -105,23 +99,20 @@ struct Gate {
 }
 
 impl Link for Gate {
-    ghost use Rattle.std.specs.Prelude.{map};
-
-    ghost sent = { λ g. map (λ i. record { store = i.store; stored = i.stored }) g.wire.items.items };
+    ghost sent = { λ g. g.wire.sent };
 
     ghost failed = { λ g. g.wire.failed };
 
     fn send(&mut self, store: &StoreId, time: u64, packet: &BlockPacket) -> Result<(), SendFailed> {
         self.raised.fetch_add(1, Ordering::SeqCst);
         if !comes_to(&self.raised, 2) {
-            self.wire.failed += 1;
-            return Err(SendFailed);
+            return Err(self.wire.refuse());
         }
         self.wire.send(store, time, packet)
     }
 
     fn failures(&self) -> u64 {
-        self.wire.failed
+        self.wire.failures()
     }
 }
 
@@ -142,7 +133,7 @@ fn two_links_meet_at_a_gate(rt: HostRuntime) {
     assert_eq!(rt; (left.agree, left.broken, left.spent), (true, None, 2));
     have(&rt, &left.stores, &[(0, 1), (0, 1)]);
     for link in &left.links {
-        assert_eq!(rt; link.wire.items.len(), 1);
+        assert_eq!(rt; link.wire.taken().len(), 1);
     }
 }
 
@@ -156,7 +147,7 @@ fn two_links_fail(rt: HostRuntime) {
     assert_eq!(rt; (left.agree, left.broken, left.spent), (true, broken, 2));
     have(&rt, &left.stores, &[(2, 0), (2, 0)]);
     for link in &left.links {
-        link.has(&rt, &[]);
+        took(&rt, link, &[]);
         assert_eq!(rt; link.failures(), 1);
     }
 }

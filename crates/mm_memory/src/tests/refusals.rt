@@ -37,7 +37,7 @@ const BAD_KIND: &[u8] = b"\x00\x00\x00\x04\x02\x00";
 
 const TOO_LARGE: &[u8] = b"\x00\x0F\x42\x41\x01\x00";
 
-// A subtype, an identifier, the fields behind it, and the answer.
+// A subtype, an identifier, the fields after it, and the answer.
 type Case = (u8, [u8; 8], &'static [u8], Answer);
 
 // Asks for each by itself, at the moment 1, and compares the answers.

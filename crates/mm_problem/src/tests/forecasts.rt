@@ -22,13 +22,13 @@ fn refused(rt: &impl Abort, alloc: Global, text: &[u8], fault: &str) {
     assert_eq!(rt; answer.as_str(), fault);
 }
 
-// These records behind a good header are answered with this fault, or `read`.
+// These records after a good header are answered with this fault, or `read`.
 fn refused_rows(rt: &impl Abort, alloc: Global, rows: &str, fault: &str) {
     let text = joined(rt, alloc, &["step,window,SCI\n", rows]);
     refused(rt, alloc, text.as_bytes(), fault)
 }
 
-// Each of these records behind a good header is answered with its fault.
+// Each of these records after a good header is answered with its fault.
 fn refused_each(rt: &impl Abort, alloc: Global, cases: &[(&str, &str)]) {
     for (rows, fault) in cases {
         refused_rows(rt, alloc, rows, fault);
@@ -113,7 +113,7 @@ fn records_refused(rt: HostRuntime) {
     );
 }
 
-// What stands before a cell, its digit, what stands behind it, and the fault.
+// What stands before a cell, its digit, what follows it, and the fault.
 static LONG_CELLS: [[&str; 4]; 4] = [
     ["1,2,", "9", "", "33 Limit name arrivals"],
     ["1,2,", "0", "", "31 Cell row 1 column 3"],

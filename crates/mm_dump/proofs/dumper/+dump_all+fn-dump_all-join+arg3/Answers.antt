@@ -9,9 +9,9 @@ returns-in_default-clause-worked g t c = none_worked _ _ _ _ _ _ _ (search rules
 
 pub join-one-requires-after_bounds : goal.join-one-requires-after_bounds
 join-one-requires-after_bounds g t c κs within =
-    let both = All-pop (IsReady g.L.Link.sent g.L.Link.failed c.args.queue.now (length c.args.stations.now) (length c.args.orders.now)) c.args.workers.items c.pop.new.self.items (Some c.in-Some.one) c.in-Some.ensures.items c.requires.ready in
-    let one : IsReady g.L.Link.sent g.L.Link.failed c.args.queue.now (length c.args.stations.now) (length c.args.orders.now) c.in-Some.one = both.1 in
-    let rest : All (IsReady g.L.Link.sent g.L.Link.failed c.args.queue.now (length c.args.stations.now) (length c.args.orders.now)) c.pop.new.self.items = both.0 in
+    let both = All-pop (IsReady g.L.Link.sent g.L.Link.failed c.args.floor.now.queue.now (length c.args.floor.now.stations.now) (length c.args.floor.now.orders.now)) c.args.workers.items c.pop.new.self.items (Some c.in-Some.one) c.in-Some.ensures.items c.requires.ready in
+    let one : IsReady g.L.Link.sent g.L.Link.failed c.args.floor.now.queue.now (length c.args.floor.now.stations.now) (length c.args.floor.now.orders.now) c.in-Some.one = both.1 in
+    let rest : All (IsReady g.L.Link.sent g.L.Link.failed c.args.floor.now.queue.now (length c.args.floor.now.stations.now) (length c.args.floor.now.orders.now)) c.pop.new.self.items = both.0 in
     search rules
 
 pub returns-clause-worked : goal.returns-clause-worked

@@ -12,10 +12,10 @@ named stations place s id within at same =
 
 pub returns-in-Ok : goal.returns-in-Ok
 returns-in-Ok g c =
-    let id = named c.args.stations.now c.args.order.place c.index-stations-place.result _ c.requires.within c.index-stations-place.is (ap (λ (s : Standing). s.id) c.stations.view_is) in
+    let id = named c.args.floor.now.stations.now c.args.order.place c.index-stations-place.result _ c.requires.within c.index-stations-place.is (ap (λ (s : Standing). s.id) c.stations.view_is) in
     record { goes = goes_whole _ _ _ c.args.order.place _ _ _ _ _ _ _ c.args.order _ _ refl (omega (arith, c.requires.within, c.requires.seated)) refl id c.in-Ok.ensures.ok }
 
 pub returns-in-Err : goal.returns-in-Err
 returns-in-Err g c =
-    let id = named c.args.stations.now c.args.order.place c.index-stations-place.result _ c.requires.within c.index-stations-place.is (ap (λ (s : Standing). s.id) c.stations.view_is) in
+    let id = named c.args.floor.now.stations.now c.args.order.place c.index-stations-place.result _ c.requires.within c.index-stations-place.is (ap (λ (s : Standing). s.id) c.stations.view_is) in
     record { goes = goes_broken _ _ _ c.args.order.place _ _ _ _ _ _ _ c.args.order c.in-Err.why _ _ refl (omega (arith, c.requires.within, c.requires.seated)) refl id c.in-Err.ensures.err }

@@ -15,8 +15,8 @@ loop-init g c =
       can_next = tt;
       is_finite = tt;
       pass = c.requires.pass;
-      hand = c.requires.first ∙ ap (hand 1 (length c.args.orders.now)) (sym none);
-      worked = worked_start (ids_of c.args.stations.now) c.args.orders.now (view c.args.dumper.now.pass).taken
+      hand = c.requires.first ∙ ap (hand 1 (length c.args.floor.now.orders.now)) (sym none);
+      worked = worked_start (ids_of c.args.floor.now.stations.now) c.args.floor.now.orders.now (view c.args.dumper.now.pass).taken
           (gear c.args.seats.now (g.L.Link.sent c.args.dumper.now.link) (g.L.Link.failed c.args.dumper.now.link) c.args.dumper.now.page) none;
     }
 
@@ -31,18 +31,18 @@ carry_at-why-requires-clause-room g c =
 pub returns-then-is_some-clause-worked : goal.returns-then-is_some-clause-worked
 returns-then-is_some-clause-worked g c =
     let taken = ap (λ (h : Hand). h.taken) c.in-Some-pop_as.ensures.rule.1 in
-    let inside : c.in-Some-pop_as.number < length c.args.orders.now = omega (arith, c.in-Some-pop_as.ensures.rule.0, ap (λ (h : Hand). h.pushed) c.loop.invariant.hand) in
-    worked_more (ids_of c.args.stations.now) c.args.orders.now (view c.loop.dumper.pass).taken (view c.pop_as.new.pass).taken c.in-Some-pop_as.number _ c.carry_at-why.result _ _ _ _ taken inside refl refl c.loop.invariant.worked c.carry_at-why.ensures.goes
+    let inside : c.in-Some-pop_as.number < length c.args.floor.now.orders.now = omega (arith, c.in-Some-pop_as.ensures.rule.0, ap (λ (h : Hand). h.pushed) c.loop.invariant.hand) in
+    worked_more (ids_of c.args.floor.now.stations.now) c.args.floor.now.orders.now (view c.loop.dumper.pass).taken (view c.pop_as.new.pass).taken c.in-Some-pop_as.number _ c.carry_at-why.result _ _ _ _ taken inside refl refl c.loop.invariant.worked c.carry_at-why.ensures.goes
 
 pub loop-preserved : goal.loop-preserved
 loop-preserved g c =
     let taken = ap (λ (h : Hand). h.taken) c.in-Some-pop_as.ensures.rule.1 in
-    let inside : c.in-Some-pop_as.number < length c.args.orders.now = omega (arith, c.in-Some-pop_as.ensures.rule.0, ap (λ (h : Hand). h.pushed) c.loop.invariant.hand) in
+    let inside : c.in-Some-pop_as.number < length c.args.floor.now.orders.now = omega (arith, c.in-Some-pop_as.ensures.rule.0, ap (λ (h : Hand). h.pushed) c.loop.invariant.hand) in
     let none : c.carry_at-why.result ≡ None = search rules in
     record {
       can_next = tt;
       is_finite = tt;
       pass = search rules;
       hand = search rules;
-      worked = worked_more (ids_of c.args.stations.now) c.args.orders.now (view c.loop.dumper.pass).taken (view c.pop_as.new.pass).taken c.in-Some-pop_as.number _ c.carry_at-why.result _ _ _ _ taken inside none refl c.loop.invariant.worked c.carry_at-why.ensures.goes;
+      worked = worked_more (ids_of c.args.floor.now.stations.now) c.args.floor.now.orders.now (view c.loop.dumper.pass).taken (view c.pop_as.new.pass).taken c.in-Some-pop_as.number _ c.carry_at-why.result _ _ _ _ taken inside none refl c.loop.invariant.worked c.carry_at-why.ensures.goes;
     }

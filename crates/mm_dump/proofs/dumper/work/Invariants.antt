@@ -9,9 +9,9 @@ abbrev pub invariant-loop : goal.invariant-loop
 invariant-loop g l = record {
   can_next : (goal.iterator-loop g).can_next l.iterator';
   is_finite : (goal.iterator-loop g).is_finite l.iterator';
-  pass : IsPassOf l.queue l.dumper.pass;
-  hand : view l.dumper.pass ≡ hand 1 (length l.orders) (view l.dumper.pass).taken;
-  worked : Worked (ids_of l.stations) l.orders (view l.dumper.pass).taken None
+  pass : IsPassOf l.floor.queue.now l.dumper.pass;
+  hand : view l.dumper.pass ≡ hand 1 (length l.floor.orders.now) (view l.dumper.pass).taken;
+  worked : Worked (ids_of l.floor.stations.now) l.floor.orders.now (view l.dumper.pass).taken None
       (gear l.initial.seats (g.L.Link.sent l.initial.dumper.link) (g.L.Link.failed l.initial.dumper.link) l.initial.dumper.page)
       (gear l.seats (g.L.Link.sent l.dumper.link) (g.L.Link.failed l.dumper.link) l.dumper.page);
 }

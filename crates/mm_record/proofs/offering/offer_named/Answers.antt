@@ -5,6 +5,6 @@ use Rattle.mm_record.proofs.offering.offer_named.Goals as goal
 
 pub returns-in_err-offer_by_name-clause-err : goal.returns-in_err-offer_by_name-clause-err
 returns-in_err-offer_by_name-clause-err g c =
-    let partly = adds_name_partly c.args.now c.args.packet.now (ids_of c.args.stations.now) c.args.named.now c.loop-id.id-index _ (length c.args.stations.now) c.args.seats.now c.loop-id.seats c.offer_by_name.new.seats
+    let partly = adds_name_partly c.args.round.now.moment c.args.packet.now (ids_of c.args.round.now.stations.now) c.args.named.now c.loop-id.id-index _ (length c.args.round.now.stations.now) c.args.seats.now c.loop-id.seats c.offer_by_name.new.seats
     (search rules) (search rules) c.loop-id.invariant c.in_err-offer_by_name.ensures.err in
     search rules

@@ -5,4 +5,4 @@ use Rattle.mm_record.proofs.offering.offer_named.Given as goal
 
 abbrev pub invariant-loop-id : goal.invariant-loop-id
 invariant-loop-id g l =
-    Adds (length l.stations) (λ k. offers_named l.now l.packet (id_at (ids_of l.stations) k) (take l.id-index l.named)) l.initial.seats l.seats
+    Adds (length l.round.stations.now) (λ k. offers_named l.round.moment l.packet (id_at (ids_of l.round.stations.now) k) (take l.id-index l.named)) l.initial.seats l.seats

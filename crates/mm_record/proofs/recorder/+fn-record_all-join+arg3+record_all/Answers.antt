@@ -8,7 +8,7 @@ returns-in_default-clause-ran g t c = none_ran _ _ _ _ (search rules) (search ru
 
 pub join-one-requires-after_bounds : goal.join-one-requires-after_bounds
 join-one-requires-after_bounds g t c κs within =
-    let e = errand c.args.step c.args.now c.args.control.now c.args.stations.now in
+    let e = errand c.args.round.now.step c.args.round.now.moment c.args.round.now.control.now c.args.round.now.stations.now in
     let all : AllFresh e (c.pop.new.self.items ++ c.in-Some.one ∷ []) = rw (← c.in-Some.ensures.items) c.requires.fresh in
     let one : AreFresh e c.in-Some.one.seats.items = last_fresh _ _ _ all in
     let rest : AllFresh e c.pop.new.self.items = front_fresh _ _ _ all in

@@ -17,18 +17,18 @@ loop-packet-smaller g c = omega (arith, ap length c.in-Some.ensures.gives)
 
 pub loop-packet-preserved : goal.loop-packet-preserved
 loop-packet-preserved g c =
-    in_hand_more (errand c.args.step c.args.now c.args.control.now c.args.stations.now) _ (g.S.Source.gives c.loop-packet.source) _ _ _ (length c.args.stations.now) c.in-Some.packet
-    (many c.args.stations.now) c.loop-packet.invariant c.in-Some.ensures.gives c.in-Some.ensures.others c.in_ok-offer_packet.ensures.ok
+    in_hand_more (errand c.args.round.now.step c.args.round.now.moment c.args.round.now.control.now c.args.round.now.stations.now) _ (g.S.Source.gives c.loop-packet.source) _ _ _ (length c.args.round.now.stations.now) c.in-Some.packet
+    (many c.args.round.now.stations.now) c.loop-packet.invariant c.in-Some.ensures.gives c.in-Some.ensures.others c.in_ok-offer_packet.ensures.ok
 
 pub returns-in_err-offer_packet : goal.returns-in_err-offer_packet
 returns-in_err-offer_packet g c =
-    let e = errand c.args.step c.args.now c.args.control.now c.args.stations.now in
-    let partly = ran_partly e (g.S.Source.gives c.args.source.now) (g.S.Source.gives c.loop-packet.source) (g.S.Source.gives c.next.new.self) c.loop-packet.seats c.offer_packet.new.seats (length c.args.stations.now) c.in-Some.packet
-    (many c.args.stations.now) c.loop-packet.invariant c.in-Some.ensures.gives c.in-Some.ensures.others c.in_err-offer_packet.ensures.err in
+    let e = errand c.args.round.now.step c.args.round.now.moment c.args.round.now.control.now c.args.round.now.stations.now in
+    let partly = ran_partly e (g.S.Source.gives c.args.source.now) (g.S.Source.gives c.loop-packet.source) (g.S.Source.gives c.next.new.self) c.loop-packet.seats c.offer_packet.new.seats (length c.args.round.now.stations.now) c.in-Some.packet
+    (many c.args.round.now.stations.now) c.loop-packet.invariant c.in-Some.ensures.gives c.in-Some.ensures.others c.in_err-offer_packet.ensures.err in
     let failed : is_err c.from_residual.result ≡ true = search rules in
     record { ran = rw failed partly }
 
 pub returns : goal.returns
 returns g c =
-    let none : g.S.Source.gives c.loop-packet.source c.args.step ≡ [] = search rules in
+    let none : g.S.Source.gives c.loop-packet.source c.args.round.now.step ≡ [] = search rules in
     record { ran = ran_whole _ _ (g.S.Source.gives c.loop-packet.source) (g.S.Source.gives c.next.new.self) _ c.loop-packet.invariant none (search rules) c.in_default.ensures.others }

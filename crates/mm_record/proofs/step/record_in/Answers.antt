@@ -10,7 +10,7 @@ use Rattle.mm_record.proofs.step.record_in.Goals as goal
 
 pub record_all-recorders-requires-clause-fresh : goal.record_all-recorders-requires-clause-fresh
 record_all-recorders-requires-clause-fresh g c κs within =
-    let e = errand c.args.step c.args.now c.args.control.now c.deref.result.now in
+    let e = errand c.args.task.now.step c.args.task.now.moment c.args.task.now.control.now c.deref.result.now in
     let ids : ids_of c.deref.result.now ≡ map (λ h. h.id) c.args.stores.items = ap ids_of c.deref.ensures.value ∙ c.open_all-stations.ensures.ids in
     let len : vec_len c.args.stores ≡ length c.args.stores.items = search rules in
     let many : vec_len c.args.stores ≡ length e.ids = len ∙ sym (ap length ids ∙ length-map c.args.stores.items (λ h. h.id)) in
@@ -19,7 +19,7 @@ record_all-recorders-requires-clause-fresh g c κs within =
 
 pub returns : goal.returns
 returns g c =
-    let e = errand c.args.step c.args.now c.args.control.now c.deref.result.now in
+    let e = errand c.args.task.now.step c.args.task.now.moment c.args.task.now.control.now c.deref.result.now in
     let rs = c.pair_all-recorders.result.0.items in
     let qs = c.record_all-recorders.result.items in
     let gives = g.S.Source.gives in
@@ -29,8 +29,8 @@ returns g c =
     let left = c.part_all-sources.result.items in
     let ran = c.record_all-recorders.ensures.ran in
     let ids : ids_of c.deref.result.now ≡ map (λ h. h.id) stores = ap ids_of c.deref.ensures.value ∙ c.open_all-stations.ensures.ids in
-    let errands : e ≡ step_errand c.args.step c.args.now c.args.control.now stores =
-    ap (λ xs. record { step = c.args.step; now = c.args.now; routes = c.args.control.now; ids = xs }) ids in
+    let errands : e ≡ step_errand c.args.task.now.step c.args.task.now.moment c.args.task.now.control.now stores =
+    ap (λ xs. record { step = c.args.task.now.step; now = c.args.task.now.moment; routes = c.args.task.now.control.now; ids = xs }) ids in
     let before_len : vec_len c.args.stores ≡ length stores = search rules in
     let after_len : vec_len c.close_all-stores.result.0 ≡ length after = search rules in
     let many : length after ≡ length stores = sym after_len ∙ (c.close_all-stores.ensures.len ∙ c.open_all-stations.ensures.len) ∙ before_len in
@@ -53,9 +53,9 @@ returns g c =
             (turns_went gives e rs qs ran g.N.Opening.states (states_of after) (went agree));
         others = λ t other. ap (given_in gives t) kept ∙ others_same gives e rs qs t ran other ∙ ap (given_in gives t) given;
         recorded = λ agree. if_none _ _ c.why_broken-broken.result why.none
-            (λ whole. step_recorded gives c.args.step c.args.now c.args.control.now stores after c.deref.result.now rs qs sources g.N.Opening.states
+            (λ whole. step_recorded gives c.args.task.now.step c.args.task.now.moment c.args.task.now.control.now stores after c.deref.result.now rs qs sources g.N.Opening.states
             ids given c.requires.states many ran (went agree) (whole_of qs whole));
         nothing_left = if_none _ _ c.why_broken-broken.result why.none
-            (λ whole. subst (λ ss. All (λ s. gives s c.args.step ≡ []) ss) (sym kept) (none_left gives e rs qs ran (whole_of qs whole)));
+            (λ whole. subst (λ ss. All (λ s. gives s c.args.task.now.step ≡ []) ss) (sym kept) (none_left gives e rs qs ran (whole_of qs whole)));
       };
     }
