@@ -2,7 +2,7 @@ use super::*;
 use mm_base::{Kind, Refused, RouteRow, StoreId};
 use mm_packet::{Header, Octets, Packet, TELECOMMAND_BODY};
 use mm_problem::Setup;
-use mm_st15::Request;
+use mm_st15::{Report, Request, Summary};
 use mm_store::PacketStore;
 use std::alloc::Global;
 use std::process::Abort;
@@ -93,11 +93,8 @@ type Row = (u8, &'static [u8], Answer);
 fn asks(rt: &impl Abort, alloc: Global, memory: &mut Memory, rows: &[Row]) {
     for (subtype, data, want) in rows {
         let answers = asked(rt, alloc, memory, 1, *subtype, data);
-        assert_eq!(rt;
-            answers.each.as_slice(),
-            [*want].as_slice(),
-            "{subtype} {data:?}"
-        );
+        let each = answers.each.as_slice();
+        assert!(rt; each == [*want].as_slice(), "{subtype} {data:?}");
     }
 }
 
@@ -108,22 +105,55 @@ fn shape(memory: &Memory, id: &StoreId) -> Option<(Kind, u32, u32, bool)> {
     Some((store.kind(), store.size(), store.len(), state.storage()))
 }
 
+// The answers to the instructions of a request.
+fn each_is(rt: &impl Abort, answers: &Answers, want: &[Answer]) {
+    assert!(rt; answers.each.as_slice() == want);
+}
+
+// The first report is on the contents of these stores, at the moment 9.
+fn summarises(rt: &impl Abort, answers: &Answers, want: &[Summary]) {
+    match answers.reports.get(0) {
+        Some(Report::Summaries { moment, entries }) => {
+            assert!(rt; *moment == 9 && entries.as_slice() == want);
+        }
+        _ => assert!(rt; false, "a summary"),
+    }
+}
+
+// The store at this place, with its virtual channel.
+fn stands(rt: &impl Abort, memory: &Memory, place: u32, id: &StoreId, channel: u8) {
+    assert!(rt; memory.entry(place) == Some((*id, channel)), "at {place}");
+}
+
+// The kind, the size and the number of packets of a store that is there, and whether its storage is on.
+fn has_shape(rt: &impl Abort, memory: &Memory, id: &StoreId, want: (Kind, u32, u32, bool)) {
+    assert!(rt; shape(memory, id) == Some(want));
+}
+
+// The stores that the report type of a subtype goes into, of APID 100 and service 3.
+fn leads_to(rt: &impl Abort, alloc: Global, memory: &Memory, subtype: u8, want: &[StoreId]) {
+    let stores = memory.control().stores_for(alloc, 100, 3, subtype);
+    assert!(rt;
+        stores.expect(rt, "memory").as_slice() == want,
+        "for {subtype}"
+    );
+}
+
 #[test]
 fn stores_stand_in_setup_order(rt: HostRuntime) {
     let memory = memory_of(&rt, rt.alloc(), TWO_STORES);
     let (sci, hk) = (id(&rt, b"SCI"), id(&rt, b"HK"));
-    assert_eq!(rt; memory.entry(0), Some((sci, 0)));
-    assert_eq!(rt; memory.entry(1), Some((hk, 3)));
-    assert_eq!(rt; memory.entry(2), None);
-    assert_eq!(rt; shape(&memory, &sci), Some((Kind::Bounded, 4, 0, true)));
-    assert_eq!(rt; shape(&memory, &hk), Some((Kind::Circular, 2, 0, true)));
-    assert_eq!(rt; shape(&memory, &id(&rt, b"XY")), None);
+    stands(&rt, &memory, 0, &sci, 0);
+    stands(&rt, &memory, 1, &hk, 3);
+    has_shape(&rt, &memory, &sci, (Kind::Bounded, 4, 0, true));
+    has_shape(&rt, &memory, &hk, (Kind::Circular, 2, 0, true));
+    let other = id(&rt, b"XY");
+    assert!(rt; memory.entry(2).is_none() && shape(&memory, &other).is_none());
 }
 
 #[test]
 fn routes_of_setup(rt: HostRuntime) {
-    let alloc = rt.alloc();
-    let memory = memory_of(&rt, alloc, TWO_STORES);
+    let memory = memory_of(&rt, rt.alloc(), TWO_STORES);
     let sci = id(&rt, b"SCI");
     let row = RouteRow {
         apid: 100,
@@ -132,12 +162,9 @@ fn routes_of_setup(rt: HostRuntime) {
         store: sci,
     };
     laws::table_has_the_setup_s_routes();
-    let control = memory.control();
-    assert_eq!(rt; control.list(), [row].as_slice());
-    let stores = control.stores_for(alloc, 100, 3, 25).expect(&rt, "memory");
-    assert_eq!(rt; stores.as_slice(), [sci].as_slice());
-    let stores = control.stores_for(alloc, 100, 3, 26).expect(&rt, "memory");
-    assert!(rt; stores.is_empty());
+    assert!(rt; memory.control().list() == [row].as_slice());
+    leads_to(&rt, rt.alloc(), &memory, 25, &[sci]);
+    leads_to(&rt, rt.alloc(), &memory, 26, &[]);
 }
 
 #[test]
@@ -145,12 +172,12 @@ fn lifted_stores_are_put_back(rt: HostRuntime) {
     let mut memory = memory_of(&rt, rt.alloc(), TWO_STORES);
     let sci = id(&rt, b"SCI");
     let stores = memory.lift();
-    assert_eq!(rt; (stores.len(), memory.entry(0)), (2, None));
-    assert_eq!(rt; memory.control().list().len(), 1);
+    assert!(rt; stores.len() == 2 && memory.entry(0).is_none());
+    assert!(rt; memory.control().list().len() == 1);
     laws::identifiers_decide_what_is_restored();
     memory.restore(stores);
-    assert_eq!(rt; memory.entry(0), Some((sci, 0)));
-    assert_eq!(rt; shape(&memory, &sci), Some((Kind::Bounded, 4, 0, true)));
+    stands(&rt, &memory, 0, &sci, 0);
+    has_shape(&rt, &memory, &sci, (Kind::Bounded, 4, 0, true));
 }
 
 #[test]
@@ -161,36 +188,50 @@ fn a_lent_state_is_the_store_s_state(rt: HostRuntime) {
         Some(state) => state.disable(),
         None => {}
     }
-    assert_eq!(rt; shape(&memory, &hk), Some((Kind::Circular, 2, 0, false)));
-    assert_eq!(rt; shape(&memory, &sci), Some((Kind::Bounded, 4, 0, true)));
-    assert!(rt; memory.state_mut(&id(&rt, b"XY")).is_none());
+    has_shape(&rt, &memory, &hk, (Kind::Circular, 2, 0, false));
+    has_shape(&rt, &memory, &sci, (Kind::Bounded, 4, 0, true));
+    let other = id(&rt, b"XY");
+    assert!(rt; memory.state_mut(&other).is_none());
+}
+
+// Refusals with their numbers, their names, and as they are printed.
+const NAMED: [(Fault, u8, &str, &str); 9] = [
+    (Fault::NoMemory, 0, "NoMemory", "0 NoMemory"),
+    (Fault::BadId, 15, "BadId", "15 BadId"),
+    (Fault::BadEnum, 16, "BadEnum", "16 BadEnum"),
+    (Fault::NoSuchStore, 23, "NoSuchStore", "23 NoSuchStore"),
+    (Fault::Exists, 24, "Exists", "24 Exists"),
+    (
+        Fault::TooManyStores,
+        25,
+        "TooManyStores",
+        "25 TooManyStores",
+    ),
+    (Fault::BadSize, 48, "BadSize", "48 BadSize"),
+    (Fault::State(mm_desk::Fault::Busy), 18, "Busy", "18 Busy"),
+    (
+        Fault::Control(mm_control::Fault::TableFull),
+        11,
+        "TableFull",
+        "11 TableFull",
+    ),
+];
+
+// A refusal has this number and this name.
+fn is_named(rt: &impl Abort, fault: &Fault, number: u8, name: &str) {
+    assert!(rt; fault.number() == number && fault.name() == name, "{name}");
+}
+
+// A refusal is printed so.
+fn is_printed(rt: &impl Abort, alloc: Global, fault: &Fault, text: &str) {
+    let printed = fault.to_string(alloc).expect(rt, "memory");
+    assert!(rt; printed.as_str() == text, "{text}");
 }
 
 #[test]
 fn refusals_have_numbers_and_names(rt: HostRuntime) {
-    for (fault, number, name, text) in [
-        (Fault::NoMemory, 0, "NoMemory", "0 NoMemory"),
-        (Fault::BadId, 15, "BadId", "15 BadId"),
-        (Fault::BadEnum, 16, "BadEnum", "16 BadEnum"),
-        (Fault::NoSuchStore, 23, "NoSuchStore", "23 NoSuchStore"),
-        (Fault::Exists, 24, "Exists", "24 Exists"),
-        (
-            Fault::TooManyStores,
-            25,
-            "TooManyStores",
-            "25 TooManyStores",
-        ),
-        (Fault::BadSize, 48, "BadSize", "48 BadSize"),
-        (Fault::State(mm_desk::Fault::Busy), 18, "Busy", "18 Busy"),
-        (
-            Fault::Control(mm_control::Fault::TableFull),
-            11,
-            "TableFull",
-            "11 TableFull",
-        ),
-    ] {
-        assert_eq!(rt; (fault.number(), fault.name()), (number, name));
-        let printed = fault.to_string(rt.alloc()).expect(&rt, "memory");
-        assert_eq!(rt; printed.as_str(), text);
+    for (fault, number, name, text) in &NAMED {
+        is_named(&rt, fault, *number, name);
+        is_printed(&rt, rt.alloc(), fault, text);
     }
 }

@@ -1,7 +1,6 @@
 use super::*;
 use mm_desk::{Offered, Returned};
 use mm_packet::BlockPacket;
-use mm_st15::{Report, Summary};
 
 // Telemetry with this sequence count, by which the tests know it again.
 fn packet(rt: &impl Abort, alloc: Global, count: u16) -> BlockPacket {
@@ -52,14 +51,19 @@ fn next_of(memory: &mut Memory, id: &StoreId) -> Told {
     }
 }
 
+// Offers a packet to a store at a moment, and compares the answer.
+fn offers(rt: &impl Abort, alloc: Global, memory: &mut Memory, id: &StoreId, now: u64, want: Told) {
+    assert!(rt; offered(rt, alloc, memory, id, now) == want, "at {now}");
+}
+
 // A memory whose stores SCI (bounded, of four blocks) and HK (circular, of two) hold packets at the
 // times 7 and 8.
 fn two_packets_each(rt: &impl Abort, alloc: Global) -> Memory {
     let mut memory = memory_of(rt, alloc, TWO_STORES);
     for text in [b"SCI".as_slice(), b"HK".as_slice()] {
         let id = id(rt, text);
-        assert_eq!(rt; offered(rt, alloc, &mut memory, &id, 7), Told::Kept(7));
-        assert_eq!(rt; offered(rt, alloc, &mut memory, &id, 7), Told::Kept(8));
+        offers(rt, alloc, &mut memory, &id, 7, Told::Kept(7));
+        offers(rt, alloc, &mut memory, &id, 7, Told::Kept(8));
     }
     memory
 }
@@ -82,8 +86,8 @@ fn a_store_that_holds_more_is_not_resized(rt: HostRuntime) {
     let mut memory = two_packets_each(&rt, alloc);
     asks(&rt, alloc, &mut memory, &HELD);
     let sci = id(&rt, b"SCI");
-    assert_eq!(rt; shape(&memory, &sci), Some((Kind::Bounded, 2, 2, true)));
-    assert_eq!(rt; offered(&rt, alloc, &mut memory, &sci, 9), Told::Lost);
+    has_shape(&rt, &memory, &sci, (Kind::Bounded, 2, 2, true));
+    offers(&rt, alloc, &mut memory, &sci, 9, Told::Lost);
 }
 
 const TO_BOUNDED: [Row; 6] = rows![
@@ -109,14 +113,11 @@ fn change_kind_and_resize(rt: HostRuntime) {
     let mut memory = two_packets_each(&rt, alloc);
     let (sci, hk) = (id(&rt, b"SCI"), id(&rt, b"HK"));
     asks(&rt, alloc, &mut memory, &TO_BOUNDED);
-    assert_eq!(rt; shape(&memory, &hk), Some((Kind::Bounded, 2, 2, true)));
-    assert_eq!(rt; offered(&rt, alloc, &mut memory, &hk, 9), Told::Lost);
+    has_shape(&rt, &memory, &hk, (Kind::Bounded, 2, 2, true));
+    offers(&rt, alloc, &mut memory, &hk, 9, Told::Lost);
     asks(&rt, alloc, &mut memory, &TO_CIRCULAR);
-    assert_eq!(rt; shape(&memory, &sci), Some((Kind::Circular, 2, 2, true)));
-    assert_eq!(rt;
-        offered(&rt, alloc, &mut memory, &sci, 9),
-        Told::KeptOver(9)
-    );
+    has_shape(&rt, &memory, &sci, (Kind::Circular, 2, 2, true));
+    offers(&rt, alloc, &mut memory, &sci, 9, Told::KeptOver(9));
 }
 
 const BEGIN_AT_8: [Row; 3] = rows![
@@ -136,14 +137,24 @@ fn retrieval_by_range(rt: HostRuntime) {
     let alloc = rt.alloc();
     let mut memory = two_packets_each(&rt, alloc);
     let sci = id(&rt, b"SCI");
-    assert_eq!(rt; offered(&rt, alloc, &mut memory, &sci, 9), Told::Kept(9));
+    offers(&rt, alloc, &mut memory, &sci, 9, Told::Kept(9));
     asks(&rt, alloc, &mut memory, &BEGIN_AT_8);
-    assert_eq!(rt; next_of(&mut memory, &sci), Told::Given(8));
-    assert_eq!(rt; next_of(&mut memory, &sci), Told::End);
+    assert!(rt; next_of(&mut memory, &sci) == Told::Given(8));
+    assert!(rt; next_of(&mut memory, &sci) == Told::End);
     asks(&rt, alloc, &mut memory, &AFTERWARDS);
-    assert_eq!(rt; shape(&memory, &sci), Some((Kind::Bounded, 4, 1, false)));
+    has_shape(&rt, &memory, &sci, (Kind::Bounded, 4, 1, false));
     let disabled = Told::Back(mm_desk::Fault::Disabled);
-    assert_eq!(rt; offered(&rt, alloc, &mut memory, &sci, 10), disabled);
+    offers(&rt, alloc, &mut memory, &sci, 10, disabled);
+}
+
+// The contents of a store that holds two packets, of the times 7 and 8.
+fn two_packets(id: [u8; 8]) -> Summary {
+    Summary {
+        id,
+        oldest: 7,
+        newest: 8,
+        held: 2,
+    }
 }
 
 #[test]
@@ -151,16 +162,6 @@ fn summaries_of_stores_with_packets(rt: HostRuntime) {
     let alloc = rt.alloc();
     let mut memory = two_packets_each(&rt, alloc);
     let answers = asked(&rt, alloc, &mut memory, 9, 12, b"\x02HK      SCI     ");
-    let both = [*b"HK      ", *b"SCI     "].map(|id| Summary {
-        id,
-        oldest: 7,
-        newest: 8,
-        held: 2,
-    });
-    match answers.reports.get(0) {
-        Some(Report::Summaries { moment, entries }) => {
-            assert_eq!(rt; (*moment, entries.as_slice()), (9, both.as_slice()));
-        }
-        _ => assert!(rt; false, "a summary"),
-    }
+    let both = [two_packets(*b"HK      "), two_packets(*b"SCI     ")];
+    summarises(&rt, &answers, &both);
 }

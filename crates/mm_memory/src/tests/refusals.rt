@@ -47,11 +47,8 @@ fn asks_each(rt: &impl Abort, alloc: Global, memory: &mut Memory, cases: &[Case]
         data.extend_from_slice(id).expect(rt, "memory");
         data.extend_from_slice(fields).expect(rt, "memory");
         let answers = asked(rt, alloc, memory, 1, *subtype, &data);
-        assert_eq!(rt;
-            answers.each.as_slice(),
-            [*want].as_slice(),
-            "{subtype} {data:?}"
-        );
+        let each = answers.each.as_slice();
+        assert!(rt; each == [*want].as_slice(), "{subtype} {data:?}");
     }
 }
 
@@ -139,9 +136,9 @@ fn the_first_refusal_where_there_are_sixteen_stores(rt: HostRuntime) {
         id[0] = *letter;
         asks_each(&rt, alloc, &mut memory, &[(20, id, FORM, DONE)]);
     }
-    assert_eq!(rt; memory.entry(15), Some((id(&rt, b"O"), 0)));
+    stands(&rt, &memory, 15, &id(&rt, b"O"), 0);
     asks_each(&rt, alloc, &mut memory, &SIXTEEN);
-    assert_eq!(rt; memory.entry(16), None);
+    assert!(rt; memory.entry(16).is_none());
 }
 
 // Where the table has no room.
@@ -162,8 +159,8 @@ fn the_first_refusal_of_a_full_table(rt: HostRuntime) {
         let mut data = *b"\x01SCI     \x01\x00\x03\x19";
         data[10] = apid;
         let answers = asked(&rt, alloc, &mut memory, 1, 3, &data);
-        assert_eq!(rt; answers.each.as_slice(), [DONE].as_slice(), "row {apid}");
+        each_is(&rt, &answers, &[DONE]);
     }
-    assert_eq!(rt; memory.control().list().len(), 256);
+    assert!(rt; memory.control().list().len() == 256);
     asks_each(&rt, alloc, &mut memory, &FULL_TABLE);
 }
