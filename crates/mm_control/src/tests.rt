@@ -1,5 +1,6 @@
 use super::*;
 use mm_base::{Refused, RouteRow, StoreId};
+use std::alloc::Global;
 use std::process::Abort;
 use std::test::Fail;
 
@@ -16,16 +17,33 @@ fn row(rt: &impl Abort, apid: u16, subtype: u8, text: &[u8]) -> RouteRow {
     }
 }
 
+// The table takes the row.
+fn adds(rt: &impl Abort, table: &mut ControlTable, row: RouteRow) {
+    assert!(rt; table.add(row) == Ok(()));
+}
+
+// Report types of this APID, service and subtype go into these stores.
+fn finds(
+    rt: &impl Abort,
+    alloc: Global,
+    table: &ControlTable,
+    of: (u16, u8, u8),
+    want: &[StoreId],
+) {
+    let (apid, service, subtype) = of;
+    let stores = table.stores_for(alloc, apid, service, subtype);
+    let stores = stores.expect(rt, "memory");
+    assert!(rt; stores.as_slice() == want, "for {apid} {service} {subtype}");
+}
+
 #[test]
 fn routes_of_setup(rt: HostRuntime) -> Result<(), Fail> {
     let mut table = ControlTable::new(rt.alloc())?;
-    assert_eq!(rt; table.add(row(&rt, 100, 25, b"SCI")), Ok(()));
-    let stores = table.stores_for(rt.alloc(), 100, 3, 25)?;
-    let only = [store(&rt, b"SCI")];
-    assert_eq!(rt; stores.as_slice(), only.as_slice());
-    assert_eq!(rt; table.stores_for(rt.alloc(), 100, 3, 26)?.len(), 0);
+    adds(&rt, &mut table, row(&rt, 100, 25, b"SCI"));
+    finds(&rt, rt.alloc(), &table, (100, 3, 25), &[store(&rt, b"SCI")]);
+    finds(&rt, rt.alloc(), &table, (100, 3, 26), &[]);
     let absent = row(&rt, 100, 26, b"SCI");
-    assert_eq!(rt; table.delete(absent), Err(Fault::NoSuchRoute));
+    assert!(rt; table.delete(absent) == Err(Fault::NoSuchRoute));
     Ok(())
 }
 
@@ -33,62 +51,60 @@ fn routes_of_setup(rt: HostRuntime) -> Result<(), Fail> {
 fn a_full_table_takes_the_rows_that_it_has(rt: HostRuntime) -> Result<(), Fail> {
     let mut table = ControlTable::new(rt.alloc())?;
     for apid in 0..256 {
-        assert_eq!(rt; table.add(row(&rt, apid, 25, b"SCI")), Ok(()));
+        adds(&rt, &mut table, row(&rt, apid, 25, b"SCI"));
     }
-    assert_eq!(rt; table.add(row(&rt, 256, 25, b"SCI")), Err(Fault::TableFull));
-    assert_eq!(rt; table.add(row(&rt, 255, 25, b"SCI")), Ok(()));
-    assert_eq!(rt; table.list().len(), 256);
-    assert_eq!(rt; table.delete(row(&rt, 7, 25, b"SCI")), Ok(()));
-    assert_eq!(rt; table.add(row(&rt, 256, 25, b"SCI")), Ok(()));
+    assert!(rt; table.add(row(&rt, 256, 25, b"SCI")) == Err(Fault::TableFull));
+    adds(&rt, &mut table, row(&rt, 255, 25, b"SCI"));
+    assert!(rt; table.list().len() == 256);
+    assert!(rt; table.delete(row(&rt, 7, 25, b"SCI")) == Ok(()));
+    adds(&rt, &mut table, row(&rt, 256, 25, b"SCI"));
     Ok(())
 }
 
 // The table has these rows, by APID, subtype and store, in this order.
 fn lists(rt: &impl Abort, table: &ControlTable, rows: &[(u16, u8, &str)]) {
-    assert_eq!(rt; table.list().len(), rows.len());
+    assert!(rt; table.list().len() == rows.len());
     for (place, (apid, subtype, text)) in rows.iter().enumerate() {
         let listed = table.list().get(place).copied();
         let want = row(rt, *apid, *subtype, text.as_bytes());
-        assert_eq!(rt; listed, Some(want), "at {place}");
+        assert!(rt; listed == Some(want), "at {place}");
     }
 }
+
+// Rows as they come, by APID, subtype and store.
+static ADDED: [(u16, u8, &str); 6] = [
+    (101, 0, "A"),
+    (100, 25, "B"),
+    (100, 25, "AB"),
+    (99, 255, "B"),
+    (100, 25, "A"),
+    (100, 25, "B"),
+];
+
+// The same as they stand.
+static ORDERED: [(u16, u8, &str); 5] = [
+    (99, 255, "B"),
+    (100, 25, "A"),
+    (100, 25, "AB"),
+    (100, 25, "B"),
+    (101, 0, "A"),
+];
+
+// Without the rows of the store A.
+static WITHOUT_A: [(u16, u8, &str); 3] = [(99, 255, "B"), (100, 25, "AB"), (100, 25, "B")];
 
 #[test]
 fn rows_stand_by_report_type_and_then_by_store(rt: HostRuntime) -> Result<(), Fail> {
     let mut table = ControlTable::new(rt.alloc())?;
-    for (apid, subtype, text) in [
-        (101, 0, "A"),
-        (100, 25, "B"),
-        (100, 25, "AB"),
-        (99, 255, "B"),
-        (100, 25, "A"),
-        (100, 25, "B"),
-    ] {
-        let new = row(&rt, apid, subtype, text.as_bytes());
-        assert_eq!(rt; table.add(new), Ok(()));
+    for (apid, subtype, text) in &ADDED {
+        adds(&rt, &mut table, row(&rt, *apid, *subtype, text.as_bytes()));
     }
-    let all = [
-        (99, 255, "B"),
-        (100, 25, "A"),
-        (100, 25, "AB"),
-        (100, 25, "B"),
-        (101, 0, "A"),
-    ];
-    lists(&rt, &table, &all);
-    let stores = table.stores_for(rt.alloc(), 100, 3, 25)?;
-    assert_eq!(rt; stores.len(), 3);
-    for (place, text) in ["A", "AB", "B"].iter().enumerate() {
-        let named = stores.get(place).copied();
-        assert_eq!(rt; named, Some(store(&rt, text.as_bytes())));
-    }
-    let a = store(&rt, b"A");
-    assert_eq!(rt; table.delete_store(&a), 2);
-    lists(
-        &rt,
-        &table,
-        &[(99, 255, "B"), (100, 25, "AB"), (100, 25, "B")],
-    );
-    assert_eq!(rt; table.delete_store(&a), 0);
+    lists(&rt, &table, &ORDERED);
+    let (a, ab, b) = (store(&rt, b"A"), store(&rt, b"AB"), store(&rt, b"B"));
+    finds(&rt, rt.alloc(), &table, (100, 3, 25), &[a, ab, b]);
+    assert!(rt; table.delete_store(&a) == 2);
+    lists(&rt, &table, &WITHOUT_A);
+    assert!(rt; table.delete_store(&a) == 0);
     Ok(())
 }
 
@@ -96,32 +112,33 @@ fn rows_stand_by_report_type_and_then_by_store(rt: HostRuntime) -> Result<(), Fa
 fn each_report_type_finds_its_stores_among_many(rt: HostRuntime) -> Result<(), Fail> {
     let mut table = ControlTable::new(rt.alloc())?;
     for apid in 0..60 {
-        for text in [b"B".as_slice(), b"A"] {
-            assert_eq!(rt; table.add(row(&rt, 2 * apid, 25, text)), Ok(()));
-        }
+        adds(&rt, &mut table, row(&rt, 2 * apid, 25, b"B"));
+        adds(&rt, &mut table, row(&rt, 2 * apid, 25, b"A"));
     }
     let both = [store(&rt, b"A"), store(&rt, b"B")];
     for apid in 0..60 {
-        let stores = table.stores_for(rt.alloc(), 2 * apid, 3, 25)?;
-        assert_eq!(rt; stores.as_slice(), both.as_slice(), "for {apid}");
-        assert_eq!(rt; table.stores_for(rt.alloc(), 2 * apid + 1, 3, 25)?.len(), 0);
-        assert_eq!(rt; table.stores_for(rt.alloc(), 2 * apid, 2, 25)?.len(), 0);
-        assert_eq!(rt; table.stores_for(rt.alloc(), 2 * apid, 4, 24)?.len(), 0);
+        finds(&rt, rt.alloc(), &table, (2 * apid, 3, 25), &both);
+        finds(&rt, rt.alloc(), &table, (2 * apid + 1, 3, 25), &[]);
+        finds(&rt, rt.alloc(), &table, (2 * apid, 2, 25), &[]);
+        finds(&rt, rt.alloc(), &table, (2 * apid, 4, 24), &[]);
     }
     laws::tables_are_sets();
     laws::stores_are_named_once();
     Ok(())
 }
 
+// Refusals with their numbers, their names, and as they are printed.
+static NAMED: [(Fault, u8, &str, &str); 2] = [
+    (Fault::NoSuchRoute, 10, "NoSuchRoute", "10 NoSuchRoute"),
+    (Fault::TableFull, 11, "TableFull", "11 TableFull"),
+];
+
 #[test]
 fn refusals_have_numbers_and_names(rt: HostRuntime) -> Result<(), Fail> {
-    for (fault, number, name, text) in [
-        (Fault::NoSuchRoute, 10, "NoSuchRoute", "10 NoSuchRoute"),
-        (Fault::TableFull, 11, "TableFull", "11 TableFull"),
-    ] {
-        assert_eq!(rt; (fault.number(), fault.name()), (number, name));
-        assert_eq!(rt; fault.to_string(rt.alloc())?.as_str(), text);
+    for (fault, number, name, text) in &NAMED {
+        assert!(rt; fault.number() == *number && fault.name() == *name);
+        assert!(rt; fault.to_string(rt.alloc())?.as_str() == *text);
     }
-    assert_eq!(rt; NoMemory.to_string(rt.alloc())?.as_str(), "0 NoMemory");
+    assert!(rt; NoMemory.to_string(rt.alloc())?.as_str() == "0 NoMemory");
     Ok(())
 }

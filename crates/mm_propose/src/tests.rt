@@ -8,6 +8,7 @@ use mm_cut::{Verdict, verify};
 use mm_plan::{Plan, fill, fits, loss_of};
 use mm_problem::{Problem, Setup};
 use std::alloc::Global;
+use std::process::Abort;
 use std::test::Fail;
 
 // A store in a setup: its identifier, size, start and channel.
@@ -44,77 +45,92 @@ fn verdict(alloc: Global, setup: &str, forecast: &str) -> Result<Verdict, Fail> 
     Ok(verify(&problem, &plan, cut, by_channels, loss, loss as i64))
 }
 
+// What is proposed for these steps of a forecast loses least, and this many blocks.
+fn loses_least(
+    rt: &impl Abort,
+    alloc: Global,
+    setup: &str,
+    forecast: [&str; 2],
+    loss: u64,
+) -> Result<(), Fail> {
+    let mut text = String::from_str(alloc, forecast[0])?;
+    text.push_str(forecast[1])?;
+    let verdict = verdict(alloc, setup, text.as_str())?;
+    assert!(rt; verdict == Verdict::Least(loss), "{text}{verdict:?}");
+    Ok(())
+}
+
+// name, size, start, limit, steps, loss
+static ONE_STORE: [(&str, u32, u32, u32, &str, u64); 9] = [
+    ("first_run", 4, 0, 9, "1,2,3\n2,2,3\n3,0,4\n", 2),
+    ("one_step", 4, 0, 9, "1,0,9\n", 5),
+    ("nothing_arrives", 1, 0, 9, "1,5,0\n2,5,0\n", 0),
+    ("two_stretches", 2, 0, 9, "1,0,5\n2,9,0\n3,0,5\n", 6),
+    ("opening_contents", 4, 2, 9, "1,2,3\n2,2,3\n3,0,4\n", 4),
+    ("channel_limit_cut", 3, 0, 1, "1,5,3\n2,0,3\n", 2),
+    ("windows_all_0", 3, 0, 9, "1,0,2\n2,0,2\n3,0,2\n4,0,2\n", 5),
+    ("limit_0", 3, 0, 0, "1,9,2\n2,9,2\n3,9,2\n4,9,2\n", 5),
+    ("full_at_the_start", 3, 3, 9, "1,1,2\n2,1,2\n3,1,2\n", 4),
+];
+
 #[test]
 fn proposals_for_one_store_lose_least(rt: HostRuntime) -> Result<(), Fail> {
-    let alloc = rt.alloc();
-    // name, size, start, limit, steps, loss
-    let cases = [
-        ("first_run", 4, 0, 9, "1,2,3\n2,2,3\n3,0,4\n", 2),
-        ("one_step", 4, 0, 9, "1,0,9\n", 5),
-        ("nothing_arrives", 1, 0, 9, "1,5,0\n2,5,0\n", 0),
-        ("two_stretches", 2, 0, 9, "1,0,5\n2,9,0\n3,0,5\n", 6),
-        ("opening_contents", 4, 2, 9, "1,2,3\n2,2,3\n3,0,4\n", 4),
-        ("channel_limit_cut", 3, 0, 1, "1,5,3\n2,0,3\n", 2),
-        ("windows_all_0", 3, 0, 9, "1,0,2\n2,0,2\n3,0,2\n4,0,2\n", 5),
-        ("limit_0", 3, 0, 0, "1,9,2\n2,9,2\n3,9,2\n4,9,2\n", 5),
-        ("full_at_the_start", 3, 3, 9, "1,1,2\n2,1,2\n3,1,2\n", 4),
-    ];
-    for (name, size, start, blocks, steps, loss) in cases {
-        let a = store(alloc, "A", size, start, 0)?;
-        let limit = limit(alloc, 0, blocks)?;
-        let setup = format!(in alloc; "{a}{limit}")?;
-        let forecast = format!(in alloc; "step,window,A\n{steps}")?;
-        let verdict = verdict(alloc, setup.as_str(), forecast.as_str())?;
-        assert_eq!(rt; verdict, Verdict::Least(loss), "{name}");
+    for (_name, size, start, blocks, steps, loss) in &ONE_STORE {
+        let mut setup = store(rt.alloc(), "A", *size, *start, 0)?;
+        setup.push_str(limit(rt.alloc(), 0, *blocks)?.as_str())?;
+        let forecast = ["step,window,A\n", *steps];
+        loses_least(&rt, rt.alloc(), setup.as_str(), forecast, *loss)?;
     }
     Ok(())
 }
 
+// The setup of two stores on channels of their own.
+fn two_stores(alloc: Global, sizes: &[u32; 2], starts: &[u32; 2]) -> Result<String, Fail> {
+    let mut setup = store(alloc, "A", sizes[0], starts[0], 0)?;
+    setup.push_str(store(alloc, "B", sizes[1], starts[1], 1)?.as_str())?;
+    Ok(setup)
+}
+
+// name, limit of the first store's channel, steps, loss
+static TWO_STORES: [(&str, u32, &str, u64); 4] = [
+    ("foresight_beats_even_split", 9, "1,2,3,3\n2,0,2,0\n", 0),
+    ("two_stretches_share_a_window", 9, "1,2,3,3\n2,0,2,2\n", 2),
+    ("channel_limit_shares", 1, "1,2,3,3\n2,0,2,2\n", 2),
+    ("foresight_behind_a_limit", 1, "1,2,3,3\n2,0,2,0\n", 1),
+];
+
 #[test]
 fn proposals_for_two_stores_lose_least(rt: HostRuntime) -> Result<(), Fail> {
-    let alloc = rt.alloc();
-    // name, limit of the first store's channel, steps, loss
-    let cases = [
-        ("foresight_beats_even_split", 9, "1,2,3,3\n2,0,2,0\n", 0),
-        ("two_stretches_share_a_window", 9, "1,2,3,3\n2,0,2,2\n", 2),
-        ("channel_limit_shares", 1, "1,2,3,3\n2,0,2,2\n", 2),
-        ("foresight_behind_a_limit", 1, "1,2,3,3\n2,0,2,0\n", 1),
-    ];
-    for (name, blocks, steps, loss) in cases {
-        let a = store(alloc, "A", 3, 0, 0)?;
-        let b = store(alloc, "B", 3, 0, 1)?;
-        let limit = limit(alloc, 0, blocks)?;
-        let setup = format!(in alloc; "{a}{b}{limit}")?;
-        let forecast = format!(in alloc; "step,window,A,B\n{steps}")?;
-        let verdict = verdict(alloc, setup.as_str(), forecast.as_str())?;
-        assert_eq!(rt; verdict, Verdict::Least(loss), "{name}");
+    for (_name, blocks, steps, loss) in &TWO_STORES {
+        let mut setup = two_stores(rt.alloc(), &[3, 3], &[0, 0])?;
+        setup.push_str(limit(rt.alloc(), 0, *blocks)?.as_str())?;
+        let forecast = ["step,window,A,B\n", *steps];
+        loses_least(&rt, rt.alloc(), setup.as_str(), forecast, *loss)?;
     }
     Ok(())
 }
+
+// sizes and starts of two stores, limits of their channels, steps, loss
+static GREEDY: [([u32; 2], [u32; 2], [u32; 2], &str, u64); 2] = [
+    (
+        [2, 1],
+        [2, 1],
+        [1, 1],
+        "1,1,1,2\n2,2,0,0\n3,1,0,2\n4,2,2,2\n5,1,0,0\n",
+        5,
+    ),
+    ([2, 2], [1, 1], [2, 1], "1,1,0,0\n2,2,1,1\n3,0,1,2\n", 0),
+];
 
 // Where the store that overflows first is served first, a block more is lost than must be.
 #[test]
 fn lost_blocks_are_moved_where_greed_fails(rt: HostRuntime) -> Result<(), Fail> {
-    let alloc = rt.alloc();
-    // sizes and starts of two stores, limits of their channels, steps, loss
-    let cases = [
-        (
-            [2, 1],
-            [2, 1],
-            [1, 1],
-            "1,1,1,2\n2,2,0,0\n3,1,0,2\n4,2,2,2\n5,1,0,0\n",
-            5,
-        ),
-        ([2, 2], [1, 1], [2, 1], "1,1,0,0\n2,2,1,1\n3,0,1,2\n", 0),
-    ];
-    for (sizes, starts, limits, steps, loss) in cases {
-        let a = store(alloc, "A", sizes[0], starts[0], 0)?;
-        let b = store(alloc, "B", sizes[1], starts[1], 1)?;
-        let (first, second) = (limit(alloc, 0, limits[0])?, limit(alloc, 1, limits[1])?);
-        let setup = format!(in alloc; "{a}{b}{first}{second}")?;
-        let forecast = format!(in alloc; "step,window,A,B\n{steps}")?;
-        let verdict = verdict(alloc, setup.as_str(), forecast.as_str())?;
-        assert_eq!(rt; verdict, Verdict::Least(loss), "{steps}");
+    for (sizes, starts, limits, steps, loss) in &GREEDY {
+        let mut setup = two_stores(rt.alloc(), sizes, starts)?;
+        setup.push_str(limit(rt.alloc(), 0, limits[0])?.as_str())?;
+        setup.push_str(limit(rt.alloc(), 1, limits[1])?.as_str())?;
+        let forecast = ["step,window,A,B\n", *steps];
+        loses_least(&rt, rt.alloc(), setup.as_str(), forecast, *loss)?;
     }
     Ok(())
 }
@@ -129,16 +145,15 @@ fn the_largest_problem_has_a_proposal(rt: HostRuntime) -> Result<(), Fail> {
     for place in 0..16u32 {
         let id = format!(in alloc; "S{place}")?;
         setup.push_str(store(alloc, id.as_str(), 1, 0, place % 8)?.as_str())?;
-        forecast.push_str(format!(in alloc; ",{id}")?.as_str())?;
+        forecast.push_str(",")?;
+        forecast.push_str(id.as_str())?;
     }
     forecast.push_str("\n")?;
     for step in 1..257u32 {
         let line = format!(in alloc; "{step},15,1,1,1,1,1,1,1,1,1,1,1,1,1,1,1,1\n")?;
         forecast.push_str(line.as_str())?;
     }
-    let verdict = verdict(alloc, setup.as_str(), forecast.as_str())?;
-    assert_eq!(rt; verdict, Verdict::Least(255));
-    Ok(())
+    loses_least(&rt, alloc, setup.as_str(), ["", forecast.as_str()], 255)
 }
 
 // Numbers that look random, by SplitMix64 (Steele, Lea and Flood, 2014).
