@@ -59,70 +59,62 @@ fn said(
     )
 }
 
+// It says this.
+fn says(
+    rt: &impl Abort,
+    alloc: Global,
+    texts: [&str; 3],
+    numbers: (u64, usize, usize),
+    want: Result<(), Cause>,
+) {
+    let [setup, memory, plan] = texts;
+    let said = said(rt, alloc, setup, memory, plan, numbers);
+    assert!(rt; said == want);
+}
+
+const LATE: u64 = 0x8000_0000_0000_0001;
+
+// A problem's setup, that of the memory and a plan; the moment before the first step, sources and links; and what is said.
+static CAUSES: [([&str; 3], (u64, usize, usize), Result<(), Cause>); 8] = [
+    ([ONE, ONE, PLAN], (LATEST_START, 8, 4), Ok(())),
+    ([ONE, OTHER, TWO_STEPS], (LATE, 0, 0), Err(Cause::PlanShape)),
+    (
+        [ONE, ON_FIVE, TOO_MUCH],
+        (LATE, 0, 0),
+        Err(Cause::ClockTooLate),
+    ),
+    (
+        [ONE, ONE, TOO_MUCH],
+        (0, 0, 0),
+        Err(Cause::PlanDoesNotFit { step: 1 }),
+    ),
+    ([ONE, ONE, PLAN], (0, 0, 1), Err(Cause::Counts)),
+    ([ONE, ONE, PLAN], (0, 9, 1), Err(Cause::Counts)),
+    ([ONE, ONE, PLAN], (0, 1, 0), Err(Cause::Counts)),
+    ([ONE, ONE, PLAN], (0, 1, 5), Err(Cause::Counts)),
+];
+
 #[test]
 fn the_first_test_that_fails_is_told(rt: HostRuntime) {
-    let alloc = rt.alloc();
-    let sci = StoreId::of_text(b"SCI").expect(&rt, "an identifier");
-    let hk = StoreId::of_text(b"HK").expect(&rt, "an identifier");
-    let late = LATEST_START + 1;
-    for (setup, memory, plan, numbers, want) in [
-        (ONE, ONE, PLAN, (LATEST_START, 8, 4), Ok(())),
-        (ONE, OTHER, TWO_STEPS, (late, 0, 0), Err(Cause::PlanShape)),
-        (
-            ONE,
-            OTHER,
-            TOO_MUCH,
-            (late, 0, 0),
-            Err(Cause::NotReady { store: sci }),
-        ),
-        (
-            ONE,
-            BOTH,
-            TOO_MUCH,
-            (late, 0, 0),
-            Err(Cause::NotReady { store: hk }),
-        ),
-        (
-            STARTED,
-            LARGER,
-            TOO_MUCH,
-            (late, 0, 0),
-            Err(Cause::SizeDiffers { store: sci }),
-        ),
-        (
-            STARTED,
-            ON_FIVE,
-            TOO_MUCH,
-            (late, 0, 0),
-            Err(Cause::OpeningDiffers { store: sci }),
-        ),
-        (
-            LIMITED,
-            ON_FIVE,
-            TOO_MUCH,
-            (late, 0, 0),
-            Err(Cause::ChannelDiffers { store: sci }),
-        ),
-        (
-            ONE,
-            ON_FIVE,
-            TOO_MUCH,
-            (late, 0, 0),
-            Err(Cause::ClockTooLate),
-        ),
-        (
-            ONE,
-            ONE,
-            TOO_MUCH,
-            (0, 0, 0),
-            Err(Cause::PlanDoesNotFit { step: 1 }),
-        ),
-        (ONE, ONE, PLAN, (0, 0, 1), Err(Cause::Counts)),
-        (ONE, ONE, PLAN, (0, 9, 1), Err(Cause::Counts)),
-        (ONE, ONE, PLAN, (0, 1, 0), Err(Cause::Counts)),
-        (ONE, ONE, PLAN, (0, 1, 5), Err(Cause::Counts)),
-    ] {
-        let said = said(&rt, alloc, setup, memory, plan, numbers);
-        assert_eq!(&rt; said, want);
+    for (texts, numbers, want) in &CAUSES {
+        says(&rt, rt.alloc(), *texts, *numbers, *want);
     }
+}
+
+#[test]
+fn the_store_for_which_a_test_fails_is_told(rt: HostRuntime) {
+    let alloc = rt.alloc();
+    let store = StoreId::of_text(b"SCI").expect(&rt, "an identifier");
+    let other = StoreId::of_text(b"HK").expect(&rt, "an identifier");
+    let late = (LATE, 0, 0);
+    let missing = Cause::NotReady { store };
+    says(&rt, alloc, [ONE, OTHER, TOO_MUCH], late, Err(missing));
+    let strange = Cause::NotReady { store: other };
+    says(&rt, alloc, [ONE, BOTH, TOO_MUCH], late, Err(strange));
+    let size = Cause::SizeDiffers { store };
+    says(&rt, alloc, [STARTED, LARGER, TOO_MUCH], late, Err(size));
+    let opening = Cause::OpeningDiffers { store };
+    says(&rt, alloc, [STARTED, ON_FIVE, TOO_MUCH], late, Err(opening));
+    let channel = Cause::ChannelDiffers { store };
+    says(&rt, alloc, [LIMITED, ON_FIVE, TOO_MUCH], late, Err(channel));
 }

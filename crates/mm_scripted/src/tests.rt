@@ -21,58 +21,90 @@ fn text_of(alloc: Global, written: &str) -> Result<Vec<u8>, NoMemory> {
     Ok(text)
 }
 
-fn is_packet(packet: &Option<BlockPacket>, count: u16) -> bool {
+// The sequence count of a packet.
+fn count_of(packet: &Option<BlockPacket>) -> Option<u16> {
     match packet {
-        Some(packet) => packet.packet().count() == count,
-        None => false,
+        Some(packet) => Some(packet.packet().count()),
+        None => None,
     }
 }
+
+// So many packets are left of a source in a step.
+fn leaves(rt: &impl Abort, sources: &[ScriptedSource], source: usize, step: u32, many: u32) {
+    assert!(rt; source < sources.len(), "a source");
+    assert!(rt; sources[source].left(step) == many);
+}
+
+// The next packet of a source in a step has this sequence count; or there is none.
+fn gives(
+    rt: &impl Abort,
+    sources: &mut [ScriptedSource],
+    source: usize,
+    step: u32,
+    count: Option<u16>,
+) {
+    assert!(rt; source < sources.len(), "a source");
+    let next = sources[source].next(step);
+    assert!(rt; count_of(&next) == count);
+}
+
+// What is left of two sources in a step.
+static LEFT: [(u32, u32, u32); 6] = [
+    (0, 0, 0),
+    (1, 2, 1),
+    (2, 0, 0),
+    (3, 1, 0),
+    (256, 0, 0),
+    (257, 0, 0),
+];
 
 #[test]
 fn sources_give_their_packets_in_the_order_of_the_lines(rt: HostRuntime) -> Result<(), Fail> {
     let text = text_of(rt.alloc(), "1 1 P0Q\n2 1 P1Q\n1 3 P2Q\n1 1 P3Q")?;
     let read = Deliveries::read(rt.alloc(), &text)?;
-    assert_eq!(rt; read.opening.len(), 0);
-    assert_eq!(rt; read.sources.len(), 2);
+    assert!(rt; read.opening.is_empty() && read.sources.len() == 2);
     let mut sources = read.sources;
-    for (step, first, second) in [
-        (0u32, 0u32, 0u32),
-        (1, 2, 1),
-        (2, 0, 0),
-        (3, 1, 0),
-        (256, 0, 0),
-        (257, 0, 0),
-    ] {
-        assert_eq!(rt; sources[0].left(step), first);
-        assert_eq!(rt; sources[1].left(step), second);
+    for (step, first, second) in &LEFT {
+        leaves(&rt, sources.as_slice(), 0, *step, *first);
+        leaves(&rt, sources.as_slice(), 1, *step, *second);
     }
-    assert!(rt; is_packet(&sources[0].next(1), 0));
-    assert!(rt; is_packet(&sources[0].next(1), 3));
-    assert!(rt; sources[0].next(1).is_none());
-    assert!(rt; is_packet(&sources[1].next(1), 1));
-    assert!(rt; is_packet(&sources[0].next(3), 2));
-    assert_eq!(rt; sources[0].left(3), 0);
+    gives(&rt, sources.as_mut_slice(), 0, 1, Some(0));
+    gives(&rt, sources.as_mut_slice(), 0, 1, Some(3));
+    gives(&rt, sources.as_mut_slice(), 0, 1, None);
+    gives(&rt, sources.as_mut_slice(), 1, 1, Some(1));
+    gives(&rt, sources.as_mut_slice(), 0, 3, Some(2));
+    leaves(&rt, sources.as_slice(), 0, 3, 0);
     Ok(())
+}
+
+// These packets have these sequence counts.
+fn are_counts(rt: &impl Abort, packets: &[BlockPacket], counts: &[u16]) {
+    let mut rest = counts;
+    for packet in packets {
+        let [count, more @ ..] = rest else {
+            panic!(rt; "no more packets");
+        };
+        assert!(rt; packet.packet().count() == *count);
+        rest = more;
+    }
+    assert!(rt; rest.is_empty(), "all packets");
 }
 
 #[test]
 fn packets_of_step_0_stand_in_the_order_of_the_lines(rt: HostRuntime) -> Result<(), Fail> {
     let text = text_of(rt.alloc(), "3 0 P0Q\n1 1 P1Q\n1 0 P2Q\n")?;
     let read = Deliveries::read(rt.alloc(), &text)?;
-    assert_eq!(rt; read.sources.len(), 3);
-    assert_eq!(rt; read.opening.len(), 2);
-    assert_eq!(rt; read.opening[0].packet().count(), 0);
-    assert_eq!(rt; read.opening[1].packet().count(), 2);
-    assert_eq!(rt; read.sources[0].left(0), 0);
-    assert_eq!(rt; read.sources[0].left(1), 1);
+    assert!(rt; read.sources.len() == 3);
+    are_counts(&rt, read.opening.as_slice(), &[0, 2]);
+    leaves(&rt, read.sources.as_slice(), 0, 0, 0);
+    leaves(&rt, read.sources.as_slice(), 0, 1, 1);
     Ok(())
 }
 
 #[test]
 fn an_empty_text_has_no_source(rt: HostRuntime) -> Result<(), Fail> {
     let read = Deliveries::read(rt.alloc(), b"")?;
-    assert_eq!(rt; read.sources.len(), 0);
-    assert_eq!(rt; read.opening.len(), 0);
+    assert!(rt; read.sources.is_empty() && read.opening.is_empty());
     Ok(())
 }
 
@@ -81,14 +113,14 @@ fn an_empty_text_has_no_source(rt: HostRuntime) -> Result<(), Fail> {
 fn digits_of_either_case_and_telecommands_are_read(rt: HostRuntime) -> Result<(), Fail> {
     let text = b"8 256 0864c000000e200319000000000000000000000000\n1 1 1864C0000004200F160000\n";
     let read = Deliveries::read(rt.alloc(), text)?;
-    assert_eq!(rt; read.sources.len(), 8);
-    assert_eq!(rt; read.sources[7].left(256), 1);
-    assert_eq!(rt; read.sources[0].left(1), 1);
+    assert!(rt; read.sources.len() == 8);
+    leaves(&rt, read.sources.as_slice(), 7, 256, 1);
+    leaves(&rt, read.sources.as_slice(), 0, 1, 1);
     Ok(())
 }
 
 // Texts, and the first line of each that is refused.
-const BAD_SOURCES: [(&str, u64); 22] = [
+static BAD_SOURCES: [(&str, u64); 22] = [
     ("1 3 08", 1),
     // no empty line
     ("\n", 1),
@@ -119,14 +151,19 @@ const BAD_SOURCES: [(&str, u64); 22] = [
     ("1 1 P0Q\n1 2 P1Q\n1 3 1FFFC0000004200F010000\n1 3 08", 3),
 ];
 
+// A text of sources is refused at this line.
+fn is_refused(rt: &impl Abort, alloc: Global, text: &[u8], line: u64) {
+    match Deliveries::read(alloc, text) {
+        Ok(_) => panic!(rt; "read"),
+        Err(fault) => assert!(rt; fault == Fault::SourcesText { line }),
+    }
+}
+
 #[test]
 fn the_first_bad_line_of_sources_is_told(rt: HostRuntime) -> Result<(), Fail> {
-    for (written, line) in BAD_SOURCES {
+    for (written, line) in &BAD_SOURCES {
         let text = text_of(rt.alloc(), written)?;
-        match Deliveries::read(rt.alloc(), &text) {
-            Ok(_) => panic!(rt; "read: {written}"),
-            Err(fault) => assert_eq!(rt; fault, Fault::SourcesText { line }, "{written}"),
-        }
+        is_refused(&rt, rt.alloc(), &text, *line);
     }
     Ok(())
 }
@@ -147,13 +184,10 @@ fn packet_text(alloc: Global, data: u16) -> Result<Vec<u8>, NoMemory> {
 fn a_packet_longer_than_a_block_is_refused(rt: HostRuntime) -> Result<(), Fail> {
     let longest = packet_text(rt.alloc(), 1003)?;
     let read = Deliveries::read(rt.alloc(), &longest)?;
-    assert_eq!(rt; read.sources.len(), 1);
-    assert_eq!(rt; read.sources[0].left(1), 1);
+    assert!(rt; read.sources.len() == 1);
+    leaves(&rt, read.sources.as_slice(), 0, 1, 1);
     let longer = packet_text(rt.alloc(), 1004)?;
-    match Deliveries::read(rt.alloc(), &longer) {
-        Ok(_) => panic!(rt; "read"),
-        Err(fault) => assert_eq!(rt; fault, Fault::SourcesText { line: 1 }),
-    }
+    is_refused(&rt, rt.alloc(), &longer, 1);
     Ok(())
 }
 
@@ -170,68 +204,114 @@ fn repeated(alloc: Global, line: &[u8], times: u32) -> Result<Vec<u8>, NoMemory>
 fn the_65536th_line_of_a_source_and_step_is_refused(rt: HostRuntime) -> Result<(), Fail> {
     let most = repeated(rt.alloc(), b"1 0 1864C0000004200F160000\n", 65_535)?;
     let read = Deliveries::read(rt.alloc(), &most)?;
-    assert_eq!(rt; read.opening.len(), 65_535);
-    for line in [
-        b"1 0 1864C0000004200F160000\n".as_slice(),
-        b"2 7 1864C0000004200F160000\n".as_slice(),
-    ] {
-        let text = repeated(rt.alloc(), line, 65_536)?;
-        match Deliveries::read(rt.alloc(), &text) {
-            Ok(_) => panic!(rt; "read"),
-            Err(fault) => assert_eq!(rt; fault, Fault::SourcesText { line: 65_536 }),
-        }
-    }
+    assert!(rt; read.opening.len() == 65_535);
+    let opening = repeated(rt.alloc(), b"1 0 1864C0000004200F160000\n", 65_536)?;
+    is_refused(&rt, rt.alloc(), &opening, 65_536);
+    let later = repeated(rt.alloc(), b"2 7 1864C0000004200F160000\n", 65_536)?;
+    is_refused(&rt, rt.alloc(), &later, 65_536);
     Ok(())
 }
 
-// Whether the link takes the packet.
-fn takes(rt: &impl Abort, link: &mut ScriptedLink, time: u64, packet: &BlockPacket) -> bool {
+// A link takes the packet at this time, or its send fails.
+fn takes(
+    rt: &impl Abort,
+    links: &mut [ScriptedLink],
+    link: usize,
+    time: u64,
+    packet: &BlockPacket,
+    taken: bool,
+) {
     let store = StoreId::of_text(b"SCI").expect(rt, "an identifier");
-    assert!(rt; link.failures() < 10);
-    link.send(&store, time, packet).is_ok()
+    assert!(rt; link < links.len(), "a link");
+    assert!(rt; links[link].failures() < 10);
+    let sent = links[link].send(&store, time, packet);
+    assert!(rt; sent.is_ok() == taken);
+}
+
+// So many sends of a link have failed.
+fn has_failed(rt: &impl Abort, links: &[ScriptedLink], link: usize, failures: u64) {
+    assert!(rt; link < links.len(), "a link");
+    assert!(rt; links[link].failures() == failures);
+}
+
+// What was sent has these times.
+fn are_times(rt: &impl Abort, sent: &[SentPacket], times: &[u64]) {
+    let mut rest = times;
+    for item in sent {
+        let [time, more @ ..] = rest else {
+            panic!(rt; "no more packets");
+        };
+        assert!(rt; item.stored.time == *time);
+        rest = more;
+    }
+    assert!(rt; rest.is_empty(), "all packets");
+}
+
+// The last that was sent is this packet of the store SCI.
+fn is_last(rt: &impl Abort, sent: &[SentPacket], packet: &BlockPacket) {
+    let Some(last) = sent.last() else {
+        panic!(rt; "a packet");
+    };
+    assert!(rt; last.stored.packet.is(packet));
+    assert!(rt; last.store.text() == b"SCI".as_slice());
+}
+
+// The first link has sent packets at these times, the last of them this one.
+fn has_sent(rt: &impl Abort, links: &[ScriptedLink], times: &[u64], packet: &BlockPacket) {
+    let [link, ..] = links else {
+        panic!(rt; "a link");
+    };
+    are_times(rt, link.sent(), times);
+    is_last(rt, link.sent(), packet);
+}
+
+// The packet of the line `1 1 P0Q`.
+fn packet_of_a_line(rt: &impl Abort, alloc: Global) -> Result<BlockPacket, Fail> {
+    let text = text_of(alloc, "1 1 P0Q\n")?;
+    let mut read = Deliveries::read(alloc, &text)?;
+    assert!(rt; read.sources.len() == 1);
+    let Some(packet) = read.sources[0].next(1) else {
+        panic!(rt; "a packet");
+    };
+    Ok(packet)
 }
 
 #[test]
 fn links_fail_at_the_sends_of_their_lines(rt: HostRuntime) -> Result<(), Fail> {
-    let text = text_of(rt.alloc(), "1 1 P0Q\n")?;
-    let mut read = Deliveries::read(rt.alloc(), &text)?;
-    assert_eq!(rt; read.sources.len(), 1);
-    let Some(packet) = read.sources[0].next(1) else {
-        panic!(rt; "a packet");
-    };
+    let packet = packet_of_a_line(&rt, rt.alloc())?;
     let mut links = read_links(rt.alloc(), b"links 2\nfail 2 1\nfail 1 2\nfail 1 3")?;
-    assert_eq!(rt; links.len(), 2);
-    for (time, taken) in [(5, true), (6, false), (7, false), (8, true)] {
-        assert_eq!(rt; takes(&rt, &mut links[0], time, &packet), taken);
-    }
-    assert_eq!(rt; links[0].failures(), 2);
-    assert_eq!(rt; links[0].sent().len(), 2);
-    assert_eq!(rt; links[0].sent()[0].stored.time, 5);
-    assert_eq!(rt; links[0].sent()[1].stored.time, 8);
-    assert!(rt; links[0].sent()[1].stored.packet.is(&packet));
-    assert!(rt; links[0].sent()[1].store.text() == b"SCI".as_slice());
-    assert!(rt; !takes(&rt, &mut links[1], 1, &packet));
-    assert!(rt; takes(&rt, &mut links[1], 1, &packet));
-    assert_eq!(rt; links[1].failures(), 1);
+    assert!(rt; links.len() == 2);
+    takes(&rt, links.as_mut_slice(), 0, 5, &packet, true);
+    takes(&rt, links.as_mut_slice(), 0, 6, &packet, false);
+    takes(&rt, links.as_mut_slice(), 0, 7, &packet, false);
+    takes(&rt, links.as_mut_slice(), 0, 8, &packet, true);
+    takes(&rt, links.as_mut_slice(), 1, 1, &packet, false);
+    takes(&rt, links.as_mut_slice(), 1, 1, &packet, true);
+    has_failed(&rt, links.as_slice(), 0, 2);
+    has_failed(&rt, links.as_slice(), 1, 1);
+    has_sent(&rt, links.as_slice(), &[5, 8], &packet);
     Ok(())
 }
 
+// Texts, and how many links each says.
+static LINKS: [(&str, usize); 4] = [
+    ("links 0", 0),
+    ("links 5\n", 5),
+    ("links 99\nfail 99 1\n", 99),
+    ("links 1\nfail 1 4294967295\nfail 1 4294967295", 1),
+];
+
 #[test]
 fn links_of_texts(rt: HostRuntime) -> Result<(), Fail> {
-    for (text, count) in [
-        ("links 0", 0usize),
-        ("links 5\n", 5),
-        ("links 99\nfail 99 1\n", 99),
-        ("links 1\nfail 1 4294967295\nfail 1 4294967295", 1),
-    ] {
+    for (text, count) in &LINKS {
         let links = read_links(rt.alloc(), text.as_bytes())?;
-        assert_eq!(rt; links.len(), count, "{text}");
+        assert!(rt; links.len() == *count, "{text}");
     }
     Ok(())
 }
 
 // Texts, and the first line of each that is refused.
-const BAD_LINKS: [(&str, u64); 15] = [
+static BAD_LINKS: [(&str, u64); 15] = [
     ("", 1),
     ("\n", 1),
     ("links", 1),
@@ -250,25 +330,26 @@ const BAD_LINKS: [(&str, u64); 15] = [
 ];
 
 #[test]
-fn the_first_bad_line_of_links_is_told(rt: HostRuntime) -> Result<(), Fail> {
-    for (text, line) in BAD_LINKS {
+fn the_first_bad_line_of_links_is_told(rt: HostRuntime) {
+    for (text, line) in &BAD_LINKS {
         match read_links(rt.alloc(), text.as_bytes()) {
             Ok(_) => panic!(rt; "read: {text}"),
-            Err(fault) => assert_eq!(rt; fault, Fault::LinksText { line }, "{text}"),
+            Err(fault) => assert!(rt; fault == Fault::LinksText { line: *line }, "{text}"),
         }
     }
-    Ok(())
 }
+
+static SHOWN: [(Fault, &str); 3] = [
+    (Fault::NoMemory, "0 NoMemory"),
+    (Fault::SourcesText { line: 3 }, "51 SourcesText line 3"),
+    (Fault::LinksText { line: 1 }, "52 LinksText line 1"),
+];
 
 #[test]
 fn faults_are_shown_with_number_name_and_line(rt: HostRuntime) -> Result<(), Fail> {
-    for (fault, want) in [
-        (Fault::NoMemory, "0 NoMemory"),
-        (Fault::SourcesText { line: 3 }, "51 SourcesText line 3"),
-        (Fault::LinksText { line: 1 }, "52 LinksText line 1"),
-    ] {
+    for (fault, want) in &SHOWN {
         let shown = fault.to_string(rt.alloc())?;
-        assert_eq!(rt; shown.as_str(), want);
+        assert!(rt; shown.as_str() == *want);
     }
     Ok(())
 }
