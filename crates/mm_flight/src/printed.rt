@@ -3,7 +3,7 @@ ghost use Rattle.std.specs.Prelude.{◌≡◌, [], IfOk};
 ghost use Rattle.mm_report.specs.declared.cause.Cause.{Cause};
 
 use crate::ending::{push_end, push_lacking, step_of};
-use mm_base::NoMemory;
+use mm_base::{NoMemory, Refusal, Refused};
 use mm_report::{Cause, Report};
 use std::alloc::Global;
 
@@ -12,7 +12,7 @@ use std::alloc::Global;
 pub enum Outcome {
     CarriedOut,
     /// The run did not begin, or was halted, or there is no memory for the report.
-    Stopped,
+    Stopped(Refusal),
 }
 
 /// What a run prints: three texts, one after the other.
@@ -80,7 +80,7 @@ impl Printed {
                     sheet,
                     report: lacking,
                     end,
-                    outcome: Outcome::Stopped,
+                    outcome: Outcome::Stopped(Refusal::NoMemory),
                 })
             }
         }
@@ -113,7 +113,7 @@ impl Printed {
             sheet,
             report: told,
             end,
-            outcome: Outcome::Stopped,
+            outcome: Outcome::Stopped(cause.refusal()),
         })
     }
 }

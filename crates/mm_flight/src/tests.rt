@@ -1,6 +1,6 @@
 //! Runs of texts that are worked by hand.
 use super::*;
-use mm_base::NoMemory;
+use mm_base::{NoMemory, Refusal};
 use std::alloc::Global;
 use std::process::Abort;
 use std::sync::Wait;
@@ -70,7 +70,7 @@ fn a_plan_is_printed_before_its_run(rt: HostRuntime) -> Result<(), Fail> {
     let sources = sources_of(rt.alloc(), &[(1, 3), (2, 3), (3, 4)])?;
     let texts = texts(&sources, b"links 1\nfail 1 3");
     let printed = fly_bytes(&rt, rt.alloc(), texts)?;
-    assert_eq!(rt; printed.outcome, Outcome::Stopped);
+    assert_eq!(rt; printed.outcome, Outcome::Stopped(Refusal::LinkFailed));
     assert!(rt; printed.sheet.as_slice() == PLAN.as_bytes());
     assert!(rt;
         printed.report.as_slice()

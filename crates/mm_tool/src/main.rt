@@ -1,17 +1,8 @@
-//! The program of the mass memory: it plans dumps, judges plans and carries them out, and answers requests of the storage
-//! service.
+//! The program of the mass memory: it gives the commands their words, and the files and writers of the system.
 #![tactic(auto)]
 
-mod chart;
-mod command;
-mod files;
-mod flight;
-mod run;
-mod script;
-#[cfg(test)]
-mod tests;
-
-use files::{Device, SystemFiles, read_to_end};
+use mm_commands::files::{Device, SystemFiles, read_to_end};
+use mm_commands::{refuse_input, run_script, run_tool};
 use std::io;
 use std::process::ExitCode;
 
@@ -22,18 +13,12 @@ fn main(rt: HostRuntime) -> io::Result<ExitCode> {
     let (mut out, mut err) = (rt.stdout(), rt.stderr());
     let status = if words.is_empty() {
         match read_to_end(alloc, &mut Device(rt.reader())) {
-            Ok(script) => run::run_script(&rt, alloc, &script, &mut out, &mut err),
-            Err(fault) => run::refuse_input(&mut out, fault),
+            Ok(script) => run_script(&rt, alloc, &script, &mut out, &mut err),
+            Err(fault) => refuse_input(fault, &mut out, &mut err),
         }
     } else {
-        run::run_tool(
-            &rt,
-            alloc,
-            words.as_slice(),
-            &mut SystemFiles::new(&rt),
-            &mut out,
-            &mut err,
-        )
+        let mut files = SystemFiles::new(&rt);
+        run_tool(&rt, alloc, &words, &mut files, &mut out, &mut err)
     };
     Ok(ExitCode::from(status))
 }

@@ -1,8 +1,9 @@
 //! The command `chart`: the chart of a dump plan.
 
 use crate::command::{PlanFiles, judging_command};
+use crate::fault::Fault;
 use crate::files::Files;
-use crate::run::{Fault, PlanTexts, Status};
+use crate::run::{PlanTexts, Status};
 use clap::Command;
 use mm_chart::chart_bytes;
 use std::alloc::{AllocError, Global};

@@ -1,8 +1,8 @@
 //! Files and writers that fail.
 
-use super::{FIRST_PLAN, SCI, THREE_STEPS};
-use crate::files::{Files, ReadFault};
-use crate::run::run_tool;
+use crate::samples::{FIRST_PLAN, SCI, THREE_STEPS};
+use mm_commands::files::{Files, ReadFault};
+use mm_commands::run_tool;
 use std::alloc::Global;
 use std::io::{self, ErrorKind, Write};
 use std::process::Abort;
@@ -97,7 +97,7 @@ fn reads_fail<R: Abort + AllocGlobal + Threads + Wait + Sync>(rt: &R, words: &[&
         let status = run_tool(rt, alloc, words, &mut files, &mut out, &mut err);
         let want = format!(in alloc; "refused 50 NotRead name {name}\n").expect(rt, "memory");
         let is_told = out.as_slice() == want.as_bytes();
-        assert!(rt; is_told && err.is_empty() && status == 1, "for {name}");
+        assert!(rt; is_told && !err.is_empty() && status == 1, "for {name}");
     }
 }
 
@@ -123,7 +123,7 @@ fn refused_writes<R: Abort + AllocGlobal + Threads + Wait + Sync>(
         let (mut out, mut err) = (FailingWriter::after(writes), Vec::new(alloc));
         let got = run_tool(rt, alloc, words, &mut files, &mut out, &mut err);
         let want = if out.has_refused { 1 } else { status };
-        assert!(rt; got == want && err.is_empty(), "after {writes} writes");
+        assert!(rt; got == want, "after {writes} writes");
         if !out.has_refused {
             return writes;
         }

@@ -1,6 +1,6 @@
 //! What `ask` prints.
 
-use super::{SCI, prints, refuses};
+use crate::samples::{SCI, prints, refuses};
 
 // Requests for the store SCI, what is printed for them, and the status.
 struct Asked {

@@ -1,6 +1,6 @@
 //! What `check` says of given plans.
 
-use super::{
+use crate::samples::{
     A_WITH_LIMIT_1, APART, FIRST_PLAN, SCI, SCI_OF_SIZE_2, SCI_STARTS_WITH_2, THREE_STEPS,
     TWO_STEPS_OF_A, checks, prints,
 };

@@ -1,9 +1,9 @@
 //! Bad command lines, calls for help, and what a script may hold.
 
-use super::failing::FailingWriter;
-use super::{FIRST_PLAN, SCI, THREE_STEPS, prints};
-use crate::files::ReadFault;
-use crate::run::{refuse_input, run_script};
+use crate::failing::FailingWriter;
+use crate::samples::{FIRST_PLAN, SCI, THREE_STEPS, prints};
+use mm_commands::files::ReadFault;
+use mm_commands::{refuse_input, run_script};
 
 static LINES: [&str; 19] = [
     "",
@@ -61,8 +61,8 @@ fn files_of_a_script(rt: HostRuntime) {
 
 #[test]
 fn input_that_is_not_read(rt: HostRuntime) {
-    let mut out = Vec::new(rt.alloc());
-    let status = refuse_input(&mut out, ReadFault::NotRead);
+    let (mut out, mut err) = (Vec::new(rt.alloc()), Vec::new(rt.alloc()));
+    let status = refuse_input(ReadFault::NotRead, &mut out, &mut err);
     let is_told = out.as_slice() == b"refused 50 NotRead name -\n".as_slice();
-    assert!(rt; status == 1 && is_told);
+    assert!(rt; status == 1 && is_told && !err.is_empty());
 }

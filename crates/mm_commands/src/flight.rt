@@ -1,12 +1,13 @@
 //! The commands `run` and `fly`: a dump plan is carried out over the sources and the links of two texts.
 
+use crate::advice::Role;
 use crate::command::{FORECAST_HELP, SETUP_HELP, Task, file};
+use crate::fault::Fault;
 use crate::files::Files;
-use crate::run::{Fault, Status, read_file};
+use crate::run::read_file;
 use clap::{ArgMatches, Command};
-use mm_flight::{FlightTexts, Outcome, Printed, fly_bytes, run_bytes};
+use mm_flight::{FlightTexts, Printed, fly_bytes, run_bytes};
 use std::alloc::{AllocError, Global};
-use std::io::{self, Write};
 use std::sync::Wait;
 use std::thread::Threads;
 
@@ -55,12 +56,25 @@ comes is not what the forecast says, 1 otherwise.";
 /// The files of a run.
 #[derive(Clone, Copy, Debug, PartialEq, Eq)]
 pub struct FlightFiles<'a> {
-    setup: &'a str,
-    forecast: &'a str,
+    pub setup: &'a str,
+    pub forecast: &'a str,
     /// None where the plan is made.
-    plan: Option<&'a str>,
-    sources: &'a str,
-    links: &'a str,
+    pub plan: Option<&'a str>,
+    pub sources: &'a str,
+    pub links: &'a str,
+}
+
+impl<'a> FlightFiles<'a> {
+    /// The name of this file; none for a plan that is made.
+    pub fn file(self, role: Role) -> Option<&'a str> {
+        match role {
+            Role::Setup => Some(self.setup),
+            Role::Forecast => Some(self.forecast),
+            Role::Plan => self.plan,
+            Role::Sources => Some(self.sources),
+            Role::Links => Some(self.links),
+        }
+    }
 }
 
 // The first words of a command that carries a plan out.
@@ -127,16 +141,5 @@ pub fn fly<'a, R: Threads + Wait + Sync, F: Files>(
     match plan {
         Some(plan) => Ok(run_bytes(rt, alloc, texts, &plan)?),
         None => Ok(fly_bytes(rt, alloc, texts)?),
-    }
-}
-
-/// Prints what a run prints.
-pub fn print_run<W: Write>(out: &mut W, printed: &Printed) -> io::Result<Status> {
-    out.write_all(&printed.sheet)?;
-    out.write_all(&printed.report)?;
-    out.write_all(&printed.end)?;
-    match printed.outcome {
-        Outcome::CarriedOut => Ok(Status::Done),
-        Outcome::Stopped => Ok(Status::Refused),
     }
 }

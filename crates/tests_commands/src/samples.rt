@@ -1,14 +1,6 @@
-//! The worked examples, each through the whole program, and the program's answers to files and writers that fail.
+//! The examples that several modules share, and what runs the program on them.
 
-mod asking;
-mod charting;
-mod checking;
-mod failing;
-mod flying;
-mod planning;
-mod words;
-
-use crate::run::run_script;
+use mm_commands::run_script;
 use std::process::Abort;
 use std::sync::Wait;
 use std::thread::Threads;
@@ -45,7 +37,16 @@ bound 2
 end
 ";
 
-// What the program prints for a script, and its status; it says nothing on standard error.
+// Whether a line says that a task is refused, or that a run did not begin or was halted.
+fn is_refused(printed: &str) -> bool {
+    printed.starts_with("refused ")
+        || printed.starts_with("halted ")
+        || printed.contains("\nrefused ")
+        || printed.contains("\nhalted ")
+}
+
+// What the program prints for a script, and its status; it says something on standard error where something is refused, and
+// nothing otherwise.
 pub(crate) fn run<R: Abort + AllocGlobal + Threads + Wait + Sync>(
     rt: &R,
     script: &str,
@@ -53,8 +54,9 @@ pub(crate) fn run<R: Abort + AllocGlobal + Threads + Wait + Sync>(
     let alloc = rt.alloc();
     let (mut out, mut err) = (Vec::new(alloc), Vec::new(alloc));
     let status = run_script(rt, alloc, script.as_bytes(), &mut out, &mut err);
-    assert!(rt; err.is_empty(), "for {script}");
-    (String::from_utf8(out).expect(rt, "UTF-8"), status)
+    let out = String::from_utf8(out).expect(rt, "UTF-8");
+    assert!(rt; err.is_empty() != is_refused(out.as_str()), "for {script}");
+    (out, status)
 }
 
 // The program prints this for a script, and ends with this status.

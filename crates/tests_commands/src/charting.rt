@@ -1,6 +1,6 @@
 //! What `chart` prints of given plans.
 
-use super::{FIRST_PLAN, SCI, THREE_STEPS, prints, refuses, run};
+use crate::samples::{FIRST_PLAN, SCI, THREE_STEPS, prints, refuses, run};
 
 // The plan of first_run with a loss that is not its loss.
 const FORGED: &str = "mmplan 1\nstores SCI\ndump 1 2\ndump 2 2\ndump 3 0\nloss 1\nbound 1\nend\n";

@@ -1,14 +1,15 @@
 //! The program, over any files and any writers.
 ghost use Rattle.std.specs.Prelude.{◌≤◌};
 
+use crate::advice::Advice;
 use crate::chart::chart;
 use crate::command::{PlanFiles, Task, parse};
+use crate::fault::Fault;
 use crate::files::{Files, ReadFault};
-use crate::flight::{fly, print_run};
+use crate::flight::{FlightFiles, fly};
 use crate::script::{ScriptFiles, first_line};
 use clap::error::ErrorKind;
 use mm_ask::{Outcome, ask_bytes};
-use mm_base::Refusal;
 use mm_check::check_bytes;
 use mm_cut::Verdict;
 use mm_flight::Printed;
@@ -18,7 +19,6 @@ use std::convert::AsStr;
 use std::io::{self, Write};
 use std::sync::Wait;
 use std::thread::Threads;
-use thiserror::Error;
 
 /// How a run of the program ended.
 #[derive(Clone, Copy, Debug, PartialEq, Eq)]
@@ -38,21 +38,6 @@ impl Status {
             Status::BadCommandLine => 2,
         }
     }
-}
-
-/// Why a task is refused. It is shown as its number, its name and its fields.
-#[derive(Debug, Drop, Error)]
-pub(crate) enum Fault<'a> {
-    #[error("{}", Refusal::NoMemory)]
-    NoMemory,
-    #[error("{} name {name}", Refusal::NotRead)]
-    NotRead { name: &'a str },
-    #[error(transparent)]
-    Texts(#[from] mm_check::Fault),
-    #[error(transparent)]
-    Run(#[from] mm_flight::Fault),
-    #[error(transparent)]
-    Setup(#[from] mm_ask::Fault),
 }
 
 pub(crate) fn read_file<'a, F: Files>(
@@ -140,49 +125,75 @@ fn ask<'a, F: Files>(
     Ok((status_of_answers(outcome), lines))
 }
 
-// Says why a task is refused.
-fn refuse<W: Write>(out: &mut W, refusal: Fault<'_>) -> io::Result<Status> {
-    writeln!(out, "refused {refusal}")?;
+// Says why a task is refused, and what that means.
+fn refuse<W: Write, E: Write>(
+    task: Option<Task<'_>>,
+    fault: &Fault<'_>,
+    out: &mut W,
+    err: &mut E,
+) -> io::Result<Status> {
+    writeln!(out, "refused {fault}")?;
+    writeln!(err, "{}", Advice::of_fault(task, fault))?;
     Ok(Status::Refused)
 }
 
-// Prints the text of a task.
-fn print_text<W: Write>(
+// Prints what a run prints, and what it means where it did not begin or was halted.
+fn print_run<W: Write, E: Write>(
+    task: Task<'_>,
+    printed: &Printed,
     out: &mut W,
-    done: Result<(Status, Vec<u8>), Fault<'_>>,
+    err: &mut E,
 ) -> io::Result<Status> {
-    match done {
-        Ok((status, text)) => {
-            out.write_all(&text)?;
-            Ok(status)
+    out.write_all(&printed.sheet)?;
+    out.write_all(&printed.report)?;
+    out.write_all(&printed.end)?;
+    match printed.outcome {
+        mm_flight::Outcome::CarriedOut => Ok(Status::Done),
+        mm_flight::Outcome::Stopped(refusal) => {
+            writeln!(err, "{}", Advice::of_run(task, refusal))?;
+            Ok(Status::Refused)
         }
-        Err(refusal) => refuse(out, refusal),
     }
 }
 
-// Prints what a run prints.
-fn print_ended<W: Write>(out: &mut W, ended: Result<Printed, Fault<'_>>) -> io::Result<Status> {
-    match ended {
-        Ok(printed) => print_run(out, &printed),
-        Err(refusal) => refuse(out, refusal),
+// Carries a plan out, and prints what that prints.
+fn carry_out<R: Threads + Wait + Sync, F: Files, W: Write, E: Write>(
+    rt: &R,
+    alloc: Global,
+    names: FlightFiles<'_>,
+    files: &mut F,
+    out: &mut W,
+    err: &mut E,
+) -> io::Result<Status> {
+    let task = Task::Fly(names);
+    match fly(rt, alloc, files, names) {
+        Ok(printed) => print_run(task, &printed, out, err),
+        Err(fault) => refuse(Some(task), &fault, out, err),
     }
 }
 
-fn carry_out<R: Threads + Wait + Sync, F: Files, W: Write>(
+fn do_task<R: Threads + Wait + Sync, F: Files, W: Write, E: Write>(
     rt: &R,
     alloc: Global,
     task: Task<'_>,
     files: &mut F,
     out: &mut W,
+    err: &mut E,
 ) -> io::Result<Status> {
     let done = match task {
         Task::Plan { setup, forecast } => plan(alloc, files, setup, forecast),
         Task::Check(names) => check(alloc, files, names),
         Task::Chart(names) => chart(alloc, files, names),
-        Task::Fly(names) => return print_ended(out, fly(rt, alloc, files, names)),
+        Task::Fly(names) => return carry_out(rt, alloc, names, files, out, err),
         Task::Ask { setup, requests } => ask(alloc, files, setup, requests),
     };
-    print_text(out, done)
+    match done {
+        Ok((status, text)) => {
+            out.write_all(&text)?;
+            Ok(status)
+        }
+        Err(fault) => refuse(Some(task), &fault, out, err),
+    }
 }
 
 fn run<R: Threads + Wait + Sync, S: AsStr, F: Files, W: Write, E: Write>(
@@ -194,8 +205,10 @@ fn run<R: Threads + Wait + Sync, S: AsStr, F: Files, W: Write, E: Write>(
     err: &mut E,
 ) -> io::Result<Status> {
     match parse(alloc, words) {
-        Ok(task) => carry_out(rt, alloc, task, files, out),
-        Err(error) if error.kind() == ErrorKind::OutOfMemory => refuse(out, Fault::NoMemory),
+        Ok(task) => do_task(rt, alloc, task, files, out, err),
+        Err(error) if error.kind() == ErrorKind::OutOfMemory => {
+            refuse(None, &Fault::NoMemory, out, err)
+        }
         Err(error) => {
             write!(err, "{error}")?;
             Ok(Status::BadCommandLine)
@@ -203,8 +216,8 @@ fn run<R: Threads + Wait + Sync, S: AsStr, F: Files, W: Write, E: Write>(
     }
 }
 
-/// Runs the program on its words, without its own name. What it finds goes to `out`, the texts of a bad command line
-/// and of help to `err`. The exit status is 0 where the task is done, 1 where something is refused, a verdict is not
+/// Runs the program on its words, without its own name. What it finds goes to `out`. The texts of a bad command line
+/// and of help go to `err`, and so does the line that says what a refusal means. The exit status is 0 where the task is done, 1 where something is refused, a verdict is not
 /// `Least` or a write failed, and 2 for a bad command line or a call for help.
 pub fn run_tool<R: Threads + Wait + Sync, S: AsStr, F: Files, W: Write, E: Write>(
     rt: &R,
@@ -241,7 +254,7 @@ pub fn run_script<R: Threads + Wait + Sync, W: Write, E: Write>(
     };
     let words: Vec<&str> = match words_of(alloc, line) {
         Ok(words) => words,
-        Err(_) => return refuse_input(out, ReadFault::NoMemory),
+        Err(_) => return refuse_input(ReadFault::NoMemory, out, err),
     };
     run_tool(
         rt,
@@ -263,13 +276,13 @@ fn words_of(alloc: Global, line: &str) -> Result<Vec<&str>, AllocError> {
 }
 
 /// Says that the program's own input was not read, and gives the exit status.
-pub fn refuse_input<W: Write>(out: &mut W, fault: ReadFault) -> u8
+pub fn refuse_input<W: Write, E: Write>(fault: ReadFault, out: &mut W, err: &mut E) -> u8
     ensures status { result ≤ 2 }
 {
-    let refusal = match fault {
+    let fault = match fault {
         ReadFault::NoMemory => Fault::NoMemory,
         ReadFault::NotRead => Fault::NotRead { name: "-" },
     };
-    let _ = writeln!(out, "refused {refusal}");
+    let _ = refuse(None, &fault, out, err);
     Status::Refused.code()
 }

@@ -1,5 +1,6 @@
 //! The command line.
 
+use crate::advice::Role;
 use crate::chart::chart_command;
 use crate::flight::{FlightFiles, flight_task, fly_command, run_command};
 use clap::error::ErrorKind;
@@ -15,6 +16,17 @@ pub struct PlanFiles<'a> {
     pub plan: &'a str,
 }
 
+impl<'a> PlanFiles<'a> {
+    fn file(self, role: Role) -> Option<&'a str> {
+        match role {
+            Role::Setup => Some(self.setup),
+            Role::Forecast => Some(self.forecast),
+            Role::Plan => Some(self.plan),
+            Role::Sources | Role::Links => None,
+        }
+    }
+}
+
 /// What the program is asked to do.
 #[derive(Clone, Copy, Debug, PartialEq, Eq)]
 pub enum Task<'a> {
@@ -28,6 +40,19 @@ pub enum Task<'a> {
     Fly(FlightFiles<'a>),
     /// Answer the requests of the storage service, one after another, in a memory of the setup.
     Ask { setup: &'a str, requests: &'a str },
+}
+
+impl<'a> Task<'a> {
+    /// The name of this file of the task, where the task has such a file.
+    pub fn file(self, role: Role) -> Option<&'a str> {
+        match (self, role) {
+            (Task::Plan { setup, .. } | Task::Ask { setup, .. }, Role::Setup) => Some(setup),
+            (Task::Plan { forecast, .. }, Role::Forecast) => Some(forecast),
+            (Task::Check(names) | Task::Chart(names), _) => names.file(role),
+            (Task::Fly(names), _) => names.file(role),
+            _ => None,
+        }
+    }
 }
 
 const ABOUT: &str =

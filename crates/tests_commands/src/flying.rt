@@ -1,6 +1,6 @@
 //! What `run` and `fly` print of the worked examples.
 
-use super::{FIRST_PLAN, SCI, THREE_STEPS, prints};
+use crate::samples::{FIRST_PLAN, SCI, THREE_STEPS, prints};
 use std::process::Abort;
 use std::sync::Wait;
 use std::thread::Threads;

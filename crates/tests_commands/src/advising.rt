@@ -1,0 +1,95 @@
+//! What the program says of a refusal on standard error, in the words of docs/FORMATS.md.
+
+use mm_commands::run_script;
+
+// A script whose task is refused, and the line on standard error.
+static ADVICE: [(&str, &str); 13] = [
+    (
+        "plan S F\n=== S\n",
+        "F: expected a file that is there, can be read and has at most 2^30 bytes; check its name and who may read it; - is standard input\n",
+    ),
+    (
+        "plan S F\n=== S\n[[store\n=== F\n",
+        "S: expected a TOML document in UTF-8; look for a bracket or a quote that is missing\n",
+    ),
+    (
+        "plan S F\n=== S\nstores = 1\n=== F\n",
+        "S, at the top, unknown: expected the keys that docs/FORMATS.md lists for this table, each with an allowed value, and no store, route or limit twice; look for a key that is missing, misspelt or has a value of another kind\n",
+    ),
+    (
+        "plan S F\n=== S\n[[store]]\nid = \"A\"\nsize = \"4\"\ntype = \"bounded\"\nchannel = 0\n=== F\n",
+        "S, row 1, size: expected the keys that docs/FORMATS.md lists for this table, each with an allowed value, and no store, route or limit twice; look for a key that is missing, misspelt or has a value of another kind\n",
+    ),
+    (
+        "ask S R\n=== S\n[[store]\n=== R\n",
+        "S: expected a TOML document in UTF-8; look for a bracket or a quote that is missing\n",
+    ),
+    (
+        "plan S F\n=== S\n[[store]]\nid = \"A\"\nsize = 1\ntype = \"bounded\"\nchannel = 0\n=== F\nstep,window,B\n",
+        "F: expected a header of step, window and the setup's stores in their order; copy the identifiers from the setup\n",
+    ),
+    (
+        "plan S F\n=== S\n[[store]]\nid = \"A\"\nsize = 1\ntype = \"bounded\"\nchannel = 0\n=== F\nstep,window,A\n1,2,03\n",
+        "F, row 1, column 3: expected a whole number of at most 1,000,000, without sign or leading zeros; write plain digits, without spaces\n",
+    ),
+    (
+        "plan S F\n=== S\n[[store]]\nid = \"A\"\nsize = 1\ntype = \"bounded\"\nchannel = 0\n=== F\nstep,window,A\n2,2,3\n",
+        "F, row 1: expected the number of the next step, where the first is 1; number the records 1, 2, 3 and so on\n",
+    ),
+    (
+        "check S F P\n=== S\n[[store]]\nid = \"A\"\nsize = 1\ntype = \"bounded\"\nchannel = 0\n=== F\nstep,window,A\n1,0,0\n=== P\nmmplan 3\n",
+        "P, line 1: expected the line that a plan text has there, with a line feed at its end; compare it with the table 'Plan text' of docs/FORMATS.md, or plan again\n",
+    ),
+    (
+        "fly S F X L\n=== S\n[[store]]\nid = \"A\"\nsize = 1\ntype = \"bounded\"\nchannel = 0\n=== F\nstep,window,A\n1,0,0\n=== X\n9 1 00\n=== L\nlinks 1\n",
+        "X, line 1: expected a source from 1 to 8, a step from 0 to 256 and a packet of at most 1,024 octets in hexadecimal digits, separated by one space; compare the line with 'Sources as text' in docs/FORMATS.md\n",
+    ),
+    (
+        "fly S F X L\n=== S\n[[store]]\nid = \"A\"\nsize = 1\ntype = \"bounded\"\nchannel = 0\n=== F\nstep,window,A\n1,0,0\n=== X\n=== L\nlink 1\n",
+        "L, line 1: expected links N in the first line, and fail LINK SEND in each further line; compare the line with 'Links as text' in docs/FORMATS.md\n",
+    ),
+    (
+        "fly S F X L\n=== S\n[[store]]\nid = \"A\"\nsize = 1\ntype = \"bounded\"\nchannel = 0\n=== F\nstep,window,A\n1,0,0\n=== X\n=== L\nlinks 1\n",
+        "expected 1 to 8 sources and 1 to 4 links; count them; a source needs a line in the file of sources\n",
+    ),
+    (
+        "run S F P X L\n=== S\n[[store]]\nid = \"A\"\nsize = 1\ntype = \"bounded\"\nchannel = 0\n=== F\nstep,window,A\n1,0,1\n=== P\nmmplan 1\nstores A\ndump 1 1\nloss 0\nbound 0\nend\n=== X\n1 1 0864C000000E200319000000000000000000000000\n=== L\nlinks 1\n",
+        "P: expected amounts that fit the window and the channels' limits in each step; see with check which step does not fit, and plan again\n",
+    ),
+];
+
+// Where a number is out of its range, the words name what is counted.
+static COUNTED: [(&str, &str); 2] = [
+    (
+        "plan S F\n=== S\n[[store]]\nid = \"A\"\nsize = 0\ntype = \"bounded\"\nchannel = 0\n=== F\n",
+        "S, size: expected a number in its range",
+    ),
+    (
+        "plan S F\n=== S\n[[store]]\nid = \"A\"\nsize = 1\ntype = \"bounded\"\nchannel = 0\n=== F\nstep,window,A\n1,1000001,0\n",
+        "F, window: expected a number in its range",
+    ),
+];
+
+#[test]
+fn refusals_are_explained(rt: HostRuntime) {
+    let alloc = rt.alloc();
+    for (script, advice) in &ADVICE {
+        let (mut out, mut err) = (Vec::new(alloc), Vec::new(alloc));
+        let status = run_script(&rt, alloc, script.as_bytes(), &mut out, &mut err);
+        let is_told = err.as_slice() == advice.as_bytes();
+        assert!(rt; status == 1 && is_told, "for {script}");
+    }
+}
+
+#[test]
+fn numbers_out_of_range_are_named(rt: HostRuntime) {
+    let alloc = rt.alloc();
+    for (script, begins) in &COUNTED {
+        let (mut out, mut err) = (Vec::new(alloc), Vec::new(alloc));
+        let status = run_script(&rt, alloc, script.as_bytes(), &mut out, &mut err);
+        assert!(rt;
+            status == 1 && err.starts_with(begins.as_bytes()),
+            "for {script}"
+        );
+    }
+}
