@@ -2,10 +2,11 @@
 
 use crate::command::{PlanFiles, judging_command};
 use crate::fault::Fault;
-use crate::files::Files;
-use crate::run::{PlanTexts, Status};
+use crate::run::PlanTexts;
 use clap::Command;
 use mm_chart::chart_bytes;
+use mm_system::Status;
+use mm_system::files::Files;
 use std::alloc::{AllocError, Global};
 
 const ABOUT: &str = "Draws a dump plan: what is lost, when, and why no plan loses fewer";

@@ -9,7 +9,7 @@ use std::alloc::{AllocError, Global};
 use std::convert::AsStr;
 
 /// The files of a problem and of a plan for it.
-#[derive(Clone, Copy, Debug, PartialEq, Eq)]
+#[derive(Clone, Copy)]
 pub struct PlanFiles<'a> {
     pub setup: &'a str,
     pub forecast: &'a str,
@@ -28,7 +28,7 @@ impl<'a> PlanFiles<'a> {
 }
 
 /// What the program is asked to do.
-#[derive(Clone, Copy, Debug, PartialEq, Eq)]
+#[derive(Clone, Copy)]
 pub enum Task<'a> {
     /// Plan the dumps so that least is lost.
     Plan { setup: &'a str, forecast: &'a str },

@@ -3,10 +3,10 @@
 use crate::advice::Role;
 use crate::command::{FORECAST_HELP, SETUP_HELP, Task, file};
 use crate::fault::Fault;
-use crate::files::Files;
 use crate::run::read_file;
 use clap::{ArgMatches, Command};
 use mm_flight::{FlightTexts, Printed, fly_bytes, run_bytes};
+use mm_system::files::Files;
 use std::alloc::{AllocError, Global};
 use std::sync::Wait;
 use std::thread::Threads;
@@ -54,7 +54,7 @@ The formats are described in docs/FORMATS.md. Exit status: 0 where the plan is c
 comes is not what the forecast says, 1 otherwise.";
 
 /// The files of a run.
-#[derive(Clone, Copy, Debug, PartialEq, Eq)]
+#[derive(Clone, Copy)]
 pub struct FlightFiles<'a> {
     pub setup: &'a str,
     pub forecast: &'a str,

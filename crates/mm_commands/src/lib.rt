@@ -6,9 +6,7 @@ mod advice;
 mod chart;
 mod command;
 mod fault;
-pub mod files;
 mod flight;
 mod run;
-mod script;
 
 pub use run::{refuse_input, run_script, run_tool};

@@ -5,40 +5,21 @@ use crate::advice::Advice;
 use crate::chart::chart;
 use crate::command::{PlanFiles, Task, parse};
 use crate::fault::Fault;
-use crate::files::{Files, ReadFault};
 use crate::flight::{FlightFiles, fly};
-use crate::script::{ScriptFiles, first_line};
 use clap::error::ErrorKind;
 use mm_ask::{Outcome, ask_bytes};
 use mm_check::check_bytes;
 use mm_cut::Verdict;
 use mm_flight::Printed;
 use mm_planner::plan_bytes;
+use mm_system::Status;
+use mm_system::files::{Files, ReadFault};
+use mm_system::script::{ScriptFiles, first_line};
 use std::alloc::{AllocError, Global};
 use std::convert::AsStr;
 use std::io::{self, Write};
 use std::sync::Wait;
 use std::thread::Threads;
-
-/// How a run of the program ended.
-#[derive(Clone, Copy, Debug, PartialEq, Eq)]
-pub(crate) enum Status {
-    Done,
-    Refused,
-    BadCommandLine,
-}
-
-impl Status {
-    fn code(self) -> u8
-        ensures { result ≤ 2 }
-    {
-        match self {
-            Status::Done => 0,
-            Status::Refused => 1,
-            Status::BadCommandLine => 2,
-        }
-    }
-}
 
 pub(crate) fn read_file<'a, F: Files>(
     alloc: Global,

@@ -1,8 +1,8 @@
 //! The program of the mass memory: it gives the commands their words, and the files and writers of the system.
 #![tactic(auto)]
 
-use mm_commands::files::{Device, SystemFiles, read_to_end};
 use mm_commands::{refuse_input, run_script, run_tool};
+use mm_system::files::{Device, SystemFiles, read_to_end};
 use std::io;
 use std::process::ExitCode;
 

@@ -1,8 +1,8 @@
 //! Files and writers that fail.
 
 use crate::samples::{FIRST_PLAN, SCI, THREE_STEPS};
-use mm_commands::files::{Files, ReadFault};
 use mm_commands::run_tool;
+use mm_system::files::{Files, ReadFault};
 use std::alloc::Global;
 use std::io::{self, ErrorKind, Write};
 use std::process::Abort;

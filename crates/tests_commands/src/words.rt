@@ -2,8 +2,8 @@
 
 use crate::failing::FailingWriter;
 use crate::samples::{FIRST_PLAN, SCI, THREE_STEPS, prints};
-use mm_commands::files::ReadFault;
 use mm_commands::{refuse_input, run_script};
+use mm_system::files::ReadFault;
 
 static LINES: [&str; 19] = [
     "",

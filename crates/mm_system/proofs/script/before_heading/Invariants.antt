@@ -1,5 +1,5 @@
 use Rattle.std.proofs.Common.{◌≤◌, length}
-use Rattle.mm_commands.proofs.script.before_heading.Given as goal
+use Rattle.mm_system.proofs.script.before_heading.Given as goal
 
 abbrev pub invariant-loop-rest : goal.invariant-loop-rest
 invariant-loop-rest l = length l.rest ≤ length l.text

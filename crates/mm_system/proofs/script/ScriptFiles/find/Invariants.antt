@@ -1,5 +1,5 @@
 use Rattle.std.proofs.Common.{length}
-use Rattle.mm_commands.proofs.script.ScriptFiles.find.Given as goal
+use Rattle.mm_system.proofs.script.ScriptFiles.find.Given as goal
 
 abbrev pub decreases-loop-rest : goal.decreases-loop-rest
 decreases-loop-rest l = length l.rest

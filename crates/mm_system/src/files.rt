@@ -2,8 +2,8 @@
 ghost use Rattle.std.specs.Prelude.{◌≡◌, ◌≤◌, ◌<◌, ℕ, List, Option, Some, Bool, true, false, length, IsOk, IfOk, IfErr, IfSome, IsTrue};
 ghost use Rattle.std.specs.Io.{ReadsAtMost};
 ghost use Rattle.std.specs.Io.KnownBytes.{ReadConsumes};
-ghost use Rattle.mm_commands.specs.declared.files.ReadFault.TheVariants.{NoMemory};
-ghost use Rattle.mm_commands.specs.declared.files.TheConstants.{MAX_READS};
+ghost use Rattle.mm_system.specs.declared.files.ReadFault.TheVariants.{NoMemory};
+ghost use Rattle.mm_system.specs.declared.files.TheConstants.{MAX_READS};
 
 use mm_base::Refusal;
 use std::alloc::Global;

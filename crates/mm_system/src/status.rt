@@ -1,0 +1,25 @@
+//! How a run of the program ended.
+ghost use Rattle.std.specs.Prelude.{◌≤◌};
+
+/// How a run of the program ended.
+#[derive(Clone, Copy)]
+pub enum Status {
+    Done,
+    /// Something is refused, a verdict is not `Least`, a run was halted, or a write failed.
+    Refused,
+    /// The command line is no good, or help was asked for.
+    BadCommandLine,
+}
+
+impl Status {
+    /// The exit status.
+    pub fn code(self) -> u8
+        ensures most { result ≤ 2 }
+    {
+        match self {
+            Status::Done => 0,
+            Status::Refused => 1,
+            Status::BadCommandLine => 2,
+        }
+    }
+}
