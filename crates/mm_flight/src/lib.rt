@@ -14,6 +14,3 @@ pub use fly::fly_bytes;
 pub use printed::{Outcome, Printed};
 pub use run::run_bytes;
 pub use texts::FlightTexts;
-
-#[cfg(test)]
-mod tests;

@@ -12,6 +12,8 @@ mod checking;
 #[cfg(test)]
 mod failing;
 #[cfg(test)]
+mod flights;
+#[cfg(test)]
 mod flying;
 #[cfg(test)]
 mod planning;

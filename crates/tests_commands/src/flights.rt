@@ -1,6 +1,6 @@
 //! Runs of texts that are worked by hand.
-use super::*;
 use mm_base::{NoMemory, Refusal};
+use mm_flight::{FlightTexts, Outcome, Printed, fly_bytes, run_bytes};
 use std::alloc::Global;
 use std::process::Abort;
 use std::sync::Wait;
@@ -38,64 +38,52 @@ fn texts<'a>(sources: &'a [u8], links: &'a [u8]) -> FlightTexts<'a> {
     }
 }
 
-// What is printed, in one text.
-fn text_of(rt: &impl Abort, printed: Printed) -> String {
-    let mut text = printed.sheet;
-    text.extend_from_slice(&printed.report).expect(rt, "memory");
-    text.extend_from_slice(&printed.end).expect(rt, "memory");
-    String::from_utf8(text).expect(rt, "UTF-8")
+// The plan text, the report and the last line that are printed are these.
+fn prints(rt: &impl Abort, printed: &Printed, sheet: &str, report: &str, end: &str) {
+    let is_planned = printed.sheet.as_slice() == sheet.as_bytes();
+    let is_reported = printed.report.as_slice() == report.as_bytes();
+    let is_ended = printed.end.as_slice() == end.as_bytes();
+    assert!(rt;
+        is_planned && is_reported && is_ended,
+        "for {sheet}{report}{end}"
+    );
 }
+
+const OTHER_ARRIVALS: &str = "\
+    step 1 SCI arrived 3 lost 0 dumped 2 held 1\n\
+    step 2 SCI arrived 3 lost 0 dumped 2 held 2\n\
+    step 3 SCI arrived 5 lost 3 dumped 0 held 4\n\
+    differs step 3 SCI forecast 4 came 5\n\
+    total arrived 11 lost 3 dumped 4 held 4\n";
 
 #[test]
 fn run_with_other_arrivals(rt: HostRuntime) -> Result<(), Fail> {
     let sources = sources_of(rt.alloc(), &[(1, 3), (2, 3), (3, 5)])?;
     let texts = texts(&sources, b"links 1\n");
     let printed = run_bytes(&rt, rt.alloc(), texts, PLAN.as_bytes())?;
-    assert_eq!(rt; printed.outcome, Outcome::CarriedOut);
-    let text = text_of(&rt, printed);
-    assert_eq!(rt;
-        text.as_str(),
-        "\
-        step 1 SCI arrived 3 lost 0 dumped 2 held 1\n\
-        step 2 SCI arrived 3 lost 0 dumped 2 held 2\n\
-        step 3 SCI arrived 5 lost 3 dumped 0 held 4\n\
-        differs step 3 SCI forecast 4 came 5\n\
-        total arrived 11 lost 3 dumped 4 held 4\n"
-    );
+    assert!(rt; printed.outcome == Outcome::CarriedOut);
+    prints(&rt, &printed, "", OTHER_ARRIVALS, "");
     Ok(())
 }
+
+const ONE_STEP: &str = "\
+    step 1 SCI arrived 3 lost 0 dumped 2 held 1\n\
+    total arrived 3 lost 0 dumped 2 held 1\n";
 
 #[test]
 fn a_plan_is_printed_before_its_run(rt: HostRuntime) -> Result<(), Fail> {
     let sources = sources_of(rt.alloc(), &[(1, 3), (2, 3), (3, 4)])?;
     let texts = texts(&sources, b"links 1\nfail 1 3");
     let printed = fly_bytes(&rt, rt.alloc(), texts)?;
-    assert_eq!(rt; printed.outcome, Outcome::Stopped(Refusal::LinkFailed));
-    assert!(rt; printed.sheet.as_slice() == PLAN.as_bytes());
-    assert!(rt;
-        printed.report.as_slice()
-            == b"\
-        step 1 SCI arrived 3 lost 0 dumped 2 held 1\n\
-        total arrived 3 lost 0 dumped 2 held 1\n"
-                .as_slice()
+    assert!(rt; printed.outcome == Outcome::Stopped(Refusal::LinkFailed));
+    prints(
+        &rt,
+        &printed,
+        PLAN,
+        ONE_STEP,
+        "halted step 2 46 LinkFailed\n",
     );
-    assert!(rt; printed.end.as_slice() == b"halted step 2 46 LinkFailed\n".as_slice());
     Ok(())
-}
-
-// What is printed of these texts, where a row of the tables below differs from the first run.
-fn refused<R: Threads + Wait + Sync + Abort>(
-    rt: &R,
-    alloc: Global,
-    plan: &str,
-    sources: &str,
-    links: &str,
-) -> String {
-    let texts = texts(sources.as_bytes(), links.as_bytes());
-    match run_bytes(rt, alloc, texts, plan.as_bytes()) {
-        Ok(printed) => text_of(rt, printed),
-        Err(fault) => fault.to_string(alloc).expect(rt, "memory"),
-    }
 }
 
 // A plan for another store, and one that passes the window of step 1.
@@ -104,7 +92,7 @@ const FOR_HK: &str = "mmplan 1\nstores HK\ndump 1 0\ndump 2 0\ndump 3 0\nloss 0\
 const TOO_MUCH: &str = "mmplan 1\nstores SCI\ndump 1 3\ndump 2 0\ndump 3 0\nloss 0\nbound 0\nend\n";
 
 // The plan, the sources, the links, and what is told.
-const REFUSED: [(&str, &str, &str, &str); 9] = [
+static REFUSED: [(&str, &str, &str, &str); 9] = [
     // Faults of the texts, the first of several.
     ("mmplan 3", "1 3 08", "links 100", "34 PlanText line 1"),
     (FOR_HK, "1 3 08", "links 100", "35 Shape"),
@@ -133,10 +121,27 @@ const REFUSED: [(&str, &str, &str, &str); 9] = [
     ),
 ];
 
+// A run of these texts is refused so: by a fault of a text, or by the one line that is printed of a run that did not begin.
+fn refuses<R: Abort + AllocGlobal + Threads + Wait + Sync>(
+    rt: &R,
+    plan: &str,
+    sources: &str,
+    links: &str,
+    want: &str,
+) {
+    let texts = texts(sources.as_bytes(), links.as_bytes());
+    match run_bytes(rt, rt.alloc(), texts, plan.as_bytes()) {
+        Ok(printed) => prints(rt, &printed, "", "", want),
+        Err(fault) => {
+            let told = fault.to_string(rt.alloc()).expect(rt, "memory");
+            assert!(rt; told.as_str() == want, "for {want}: {told}");
+        }
+    }
+}
+
 #[test]
 fn the_first_refusal_is_told(rt: HostRuntime) {
-    for (plan, sources, links, want) in REFUSED {
-        let text = refused(&rt, rt.alloc(), plan, sources, links);
-        assert_eq!(rt; text.as_str(), want);
+    for (plan, sources, links, want) in &REFUSED {
+        refuses(&rt, plan, sources, links, want);
     }
 }
