@@ -26,7 +26,7 @@ pub(crate) const APART: &str = "step,window,SCI\n1,0,5\n2,9,0\n3,0,5\n";
 pub(crate) const FIRST_RUN: &[u8] =
     b"mmplan 1\nstores SCI\ndump 1 2\ndump 2 2\ndump 3 0\nloss 2\nstretch SCI 1 3\nbound 2\nend\n";
 
-// A plan of a store of size 3 on a channel with a limit of 1, with two blocks that come in each of two steps.
+// The best plan of a store of size 3 on a channel with a limit of 1, at which three blocks come in each of two steps.
 pub(crate) const CHANNEL_LIMIT_CUT: &[u8] =
     b"mmplan 2\nstores A\ndump 1 1\ndump 2 0\nloss 2\nstretch A 1 2\ncount 1 channels\nbound 2\nend\n";
 

@@ -59,7 +59,7 @@ fn least_loss(rt: &impl Abort, alloc: Global, setup: &str, forecast: &str) -> u6
     least
 }
 
-// The least loss of stores and a limit, with these steps after a header.
+// Stores and a limit, with these steps after a header, lose this at the least.
 fn loses(rt: &impl Abort, alloc: Global, setup: (&str, &str), forecast: (&str, &str), loss: u64) {
     let setup = joined(rt, alloc, &[setup.0, setup.1]);
     let text = joined(rt, alloc, &[forecast.0, forecast.1]);

@@ -1,5 +1,5 @@
 //! Texts of forecasts, each with what it says or the fault that it must give.
-use crate::samples::{SCI, id, joined, numbered, problem_of};
+use crate::samples::{SCI, id, joined, problem_of};
 use mm_problem::{Problem, Setup};
 use std::alloc::Global;
 use std::process::Abort;
@@ -111,13 +111,28 @@ static LONG_CELLS: [[&str; 4]; 4] = [
     ["", "1", ",2,3", "32 StepNumber row 1"],
 ];
 
+// These texts with a digit a thousand times between them.
+fn thousand(rt: &impl Abort, alloc: Global, before: &str, digit: &str, after: &str) -> String {
+    let digits = digit.repeat(alloc, 1000).expect(rt, "memory");
+    joined(rt, alloc, &[before, digits.as_str(), after])
+}
+
 #[test]
 fn cells_of_a_thousand_digits(rt: HostRuntime) {
     for [before, digit, after, fault] in &LONG_CELLS {
-        let digits = digit.repeat(rt.alloc(), 1000).expect(&rt, "memory");
-        let row = joined(&rt, rt.alloc(), &[before, digits.as_str()]);
-        rows_answered(&rt, rt.alloc(), row.as_str(), after, fault);
+        let row = thousand(&rt, rt.alloc(), before, digit, after);
+        rows_answered(&rt, rt.alloc(), row.as_str(), "", fault);
     }
+}
+
+// The records of the first steps.
+fn numbered(rt: &impl Abort, alloc: Global, steps: u32) -> String {
+    let mut text = String::new(alloc);
+    for step in 0..steps {
+        let line = format!(in alloc; "{},2,3\n", step + 1).expect(rt, "memory");
+        text.push_str(line.as_str()).expect(rt, "memory");
+    }
+    text
 }
 
 // What follows 256 good records, and the answer.
@@ -130,7 +145,7 @@ static AFTER_256_STEPS: [(&str, &str); 4] = [
 
 #[test]
 fn at_most_256_steps(rt: HostRuntime) {
-    let full = numbered(&rt, rt.alloc(), "", 256, ",2,3");
+    let full = numbered(&rt, rt.alloc(), 256);
     for (after, answer) in &AFTER_256_STEPS {
         rows_answered(&rt, rt.alloc(), full.as_str(), after, answer);
     }

@@ -15,23 +15,6 @@ pub(crate) fn joined(rt: &impl Abort, alloc: Global, parts: &[&str]) -> String {
     parts.join(alloc, "").expect(rt, "memory")
 }
 
-// A line for each number from 1 up to this one, with these texts before and after the number.
-pub(crate) fn numbered(
-    rt: &impl Abort,
-    alloc: Global,
-    before: &str,
-    most: u32,
-    after: &str,
-) -> String {
-    let mut text = String::new(alloc);
-    for place in 0..most {
-        let number = place.saturating_add(1);
-        let line = format!(in alloc; "{before}{number}{after}\n").expect(rt, "memory");
-        text.push_str(line.as_str()).expect(rt, "memory");
-    }
-    text
-}
-
 // The problem that two texts say.
 pub(crate) fn problem_of(rt: &impl Abort, alloc: Global, setup: &str, forecast: &str) -> Problem {
     let setup = Setup::read(alloc, setup.as_bytes()).expect(rt, "a setup");
