@@ -5,8 +5,6 @@ mod check;
 mod fault;
 mod lines;
 mod reading;
-#[cfg(test)]
-mod tests;
 
 pub use check::{check_bytes, read_sheet};
 pub use fault::Fault;

@@ -5,8 +5,6 @@ mod bounds;
 mod counts;
 mod laws;
 mod stretches;
-#[cfg(test)]
-mod tests;
 mod verdict;
 
 pub use bounds::{Parts, bound, counts_limits, counts_window, parts_of};

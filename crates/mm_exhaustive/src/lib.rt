@@ -3,14 +3,8 @@
 
 mod best;
 mod copying;
-#[cfg(test)]
-mod cut_tests;
 mod cuts;
 pub mod laws;
-#[cfg(test)]
-mod path_tests;
-#[cfg(test)]
-mod tests;
 mod trying;
 
 pub use cuts::{MAX_TRIED, least_cut};

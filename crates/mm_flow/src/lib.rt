@@ -14,8 +14,6 @@ mod search;
 mod solved;
 mod solver;
 mod tables;
-#[cfg(test)]
-mod tests;
 
 pub use arc::Arc;
 pub use fault::Fault;

@@ -13,8 +13,6 @@ mod print;
 mod sheet;
 mod simulation;
 mod stretch;
-#[cfg(test)]
-mod tests;
 mod words;
 
 pub use fault::Fault;

@@ -220,6 +220,3 @@ impl Sheet {
         self.bound
     }
 }
-
-#[cfg(test)]
-mod tests;

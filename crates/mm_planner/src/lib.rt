@@ -9,8 +9,6 @@ mod planner;
 mod runs;
 mod sheets;
 mod taken;
-#[cfg(test)]
-mod tests;
 mod texts;
 mod way;
 

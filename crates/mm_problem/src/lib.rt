@@ -12,8 +12,6 @@ mod records;
 mod setup;
 mod steps;
 mod tables;
-#[cfg(test)]
-mod tests;
 
 pub use fault::{Fault, Name};
 pub use mm_base::{

@@ -13,7 +13,5 @@ mod search;
 mod sets;
 mod spans;
 mod stores;
-#[cfg(test)]
-mod tests;
 
 pub use proposal::{Proposal, propose};

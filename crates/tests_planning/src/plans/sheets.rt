@@ -1,24 +1,8 @@
 //! Plan texts: how they are read, printed and refused.
-
-use super::*;
+use crate::samples::{CHANNEL_LIMIT_CUT, FIRST_RUN, joined, numbered};
+use mm_plan::{Fault, Sheet};
+use std::alloc::Global;
 use std::process::Abort;
-
-const FIRST_RUN: &[u8] =
-    b"mmplan 1\nstores SCI\ndump 1 2\ndump 2 2\ndump 3 0\nloss 2\nstretch SCI 1 3\nbound 2\nend\n";
-
-const CHANNEL_LIMIT_CUT: &[u8] =
-    b"mmplan 2\nstores A\ndump 1 1\ndump 2 0\nloss 2\nstretch A 1 2\ncount 1 channels\nbound 2\nend\n";
-
-fn sheet_of<R: Abort>(rt: &R, alloc: Global, text: &[u8]) -> Sheet {
-    Sheet::parse(alloc, text).expect(rt, "a sheet")
-}
-
-// The text is a sheet's, and the sheet is printed as this one.
-fn read_and_printed<R: Abort>(rt: &R, alloc: Global, text: &[u8], printed: &[u8]) {
-    let sheet = sheet_of(rt, alloc, text);
-    let again = sheet.print(alloc).expect(rt, "memory");
-    assert_eq!(rt; again.as_slice(), printed);
-}
 
 // The line of the refusal; 0 where the text is a sheet's.
 fn line_of(alloc: Global, text: &[u8]) -> u32 {
@@ -29,24 +13,39 @@ fn line_of(alloc: Global, text: &[u8]) -> u32 {
     }
 }
 
-#[test]
-fn first_run_is_read(rt: HostRuntime) {
-    let sheet = sheet_of(&rt, rt.alloc(), FIRST_RUN);
-    let stores = sheet.stores();
-    assert!(rt; stores.len() == 1);
+// The text is refused with this line; 0 where it is a sheet's.
+fn is_refused(rt: &impl Abort, alloc: Global, text: &[u8], line: u32) {
+    assert!(rt; line_of(alloc, text) == line, "line {line}");
+}
+
+// The sheet has one store and one stretch.
+fn has_one_of_each(rt: &impl Abort, sheet: &Sheet) {
+    let (stores, cut) = (sheet.stores(), sheet.cut());
+    assert!(rt; stores.len() == 1 && cut.len() == 1);
     assert!(rt; stores[0].text() == b"SCI".as_slice());
-    assert!(rt; (sheet.loss(), sheet.bound()) == (2, 2));
-    assert!(rt; sheet.by_channels().is_empty());
-    let cut = sheet.cut();
-    assert!(rt; cut.len() == 1);
     assert!(rt; (cut[0].first, cut[0].last) == (1, 3));
 }
 
 #[test]
+fn first_run_is_read(rt: HostRuntime) {
+    let sheet = Sheet::parse(rt.alloc(), FIRST_RUN).expect(&rt, "a sheet");
+    has_one_of_each(&rt, &sheet);
+    assert!(rt; (sheet.loss(), sheet.bound()) == (2, 2));
+    assert!(rt; sheet.by_channels().is_empty());
+}
+
+#[test]
 fn channel_limit_cut_is_read(rt: HostRuntime) {
-    let sheet = sheet_of(&rt, rt.alloc(), CHANNEL_LIMIT_CUT);
+    let sheet = Sheet::parse(rt.alloc(), CHANNEL_LIMIT_CUT).expect(&rt, "a sheet");
     assert!(rt; sheet.by_channels() == [1].as_slice());
     assert!(rt; sheet.loss() == 2);
+}
+
+// The text is a sheet's, and the sheet is printed as this one.
+fn read_and_printed(rt: &impl Abort, alloc: Global, text: &[u8], printed: &[u8]) {
+    let sheet = Sheet::parse(alloc, text).expect(rt, "a sheet");
+    let again = sheet.print(alloc).expect(rt, "memory");
+    assert!(rt; again.as_slice() == printed);
 }
 
 #[test]
@@ -104,7 +103,7 @@ static READ: [(&[u8], &str); 8] = [
 #[test]
 fn sheet_texts_are_read(rt: HostRuntime) {
     for (text, name) in &READ {
-        assert_eq!(rt; line_of(rt.alloc(), text), 0, "{name}");
+        assert!(rt; line_of(rt.alloc(), text) == 0, "{name}");
     }
 }
 
@@ -233,7 +232,7 @@ static REFUSED: [(&[u8], u32); 52] = [
 #[test]
 fn sheet_text_refused(rt: HostRuntime) {
     for (text, line) in &REFUSED {
-        assert_eq!(rt; line_of(rt.alloc(), text), *line, "line {line}");
+        is_refused(&rt, rt.alloc(), text, *line);
     }
 }
 
@@ -249,11 +248,11 @@ fn line_feeds(text: &[u8]) -> u32 {
 }
 
 // Each proper prefix is refused with the line on which it ends.
-fn prefixes_refused<R: Abort>(rt: &R, alloc: Global, text: &[u8]) {
+fn prefixes_refused(rt: &impl Abort, alloc: Global, text: &[u8]) {
     for len in 0..text.len() {
         let prefix = &text[..len];
         let last = line_feeds(prefix).saturating_add(1);
-        assert_eq!(rt; line_of(alloc, prefix), last, "{len} octets");
+        is_refused(rt, alloc, prefix, last);
     }
 }
 
@@ -263,55 +262,56 @@ fn each_proper_prefix_is_refused(rt: HostRuntime) {
     prefixes_refused(&rt, rt.alloc(), CHANNEL_LIMIT_CUT);
 }
 
-// The line of the refusal of a text up to here, then this line as often, and then an end.
-fn line_of_repeated<R: Abort>(
-    rt: &R,
+// The text of three parts is refused with this line; 0 where it is a sheet's.
+fn three_parts_refused(
+    rt: &impl Abort,
     alloc: Global,
-    head: &[u8],
-    line: &[u8],
-    count: usize,
-    end: &[u8],
-) -> u32 {
-    let mut text = head.to_vec(alloc).expect(rt, "memory");
-    let lines = line.repeat(alloc, count).expect(rt, "memory");
-    text.extend_from_slice(&lines).expect(rt, "memory");
-    text.extend_from_slice(end).expect(rt, "memory");
-    line_of(alloc, &text)
+    head: &str,
+    lines: &str,
+    end: &str,
+    wanted: u32,
+) {
+    let text = joined(rt, alloc, &[head, lines, end]);
+    is_refused(rt, alloc, text.as_bytes(), wanted);
 }
 
-// A text of 256 steps, up to the last of them.
-fn most_steps<R: Abort>(rt: &R, alloc: Global) -> Vec<u8> {
-    let mut text = Vec::from_slice(alloc, b"mmplan 1\nstores A\n").expect(rt, "memory");
-    for step in 1..257u32 {
-        let line = format!(in alloc; "dump {step} 0\n").expect(rt, "memory");
-        text.extend_from_slice(line.as_bytes()).expect(rt, "memory");
-    }
-    text
-}
+const FIRST_FORM: &str = "mmplan 1\nstores A\ndump 1 0\nloss 0\n";
 
-const FIRST_FORM: &[u8] = b"mmplan 1\nstores A\ndump 1 0\nloss 0\n";
+const SECOND_FORM: &str = "mmplan 2\nstores A\ndump 1 0\nloss 0\n";
 
-const SECOND_FORM: &[u8] = b"mmplan 2\nstores A\ndump 1 0\nloss 0\n";
-
-const END: &[u8] = b"bound 0\nend\n";
+const END: &str = "bound 0\nend\n";
 
 // A text up to some lines, the line that is repeated and how often, what follows, and the line of the refusal.
-static REPEATED: [(&[u8], &[u8], usize, &[u8], u32); 4] = [
-    (FIRST_FORM, b"stretch A 1 1\n", 4096, END, 0),
-    (FIRST_FORM, b"stretch A 1 1\n", 4097, b"", 4101),
-    (SECOND_FORM, b"count 1 channels\n", 256, END, 0),
-    (SECOND_FORM, b"count 1 channels\n", 257, b"", 261),
+static REPEATED: [(&str, &str, usize, &str, u32); 4] = [
+    (FIRST_FORM, "stretch A 1 1\n", 4096, END, 0),
+    (FIRST_FORM, "stretch A 1 1\n", 4097, "", 4101),
+    (SECOND_FORM, "count 1 channels\n", 256, END, 0),
+    (SECOND_FORM, "count 1 channels\n", 257, "", 261),
 ];
 
 #[test]
 fn only_so_many_lines_are_taken(rt: HostRuntime) {
-    let alloc = rt.alloc();
-    let steps = most_steps(&rt, alloc);
-    assert!(rt; line_of_repeated(&rt, alloc, &steps, b"loss 0\n", 1, END) == 0);
-    assert!(rt; line_of_repeated(&rt, alloc, &steps, b"dump 257 0\n", 1, b"") == 259);
     for (head, line, count, end, wanted) in &REPEATED {
-        let refused = line_of_repeated(&rt, alloc, head, line, *count, end);
-        assert_eq!(rt; refused, *wanted, "{count} lines");
+        let lines = line.repeat(rt.alloc(), *count).expect(&rt, "memory");
+        three_parts_refused(&rt, rt.alloc(), head, lines.as_str(), end, *wanted);
+    }
+}
+
+// What follows the lines of 256 steps, and the line of the refusal.
+static AFTER_256_STEPS: [(&str, u32); 2] = [("loss 0\nbound 0\nend\n", 0), ("dump 257 0\n", 259)];
+
+#[test]
+fn only_256_steps_are_taken(rt: HostRuntime) {
+    let steps = numbered(&rt, rt.alloc(), "dump ", 256, " 0");
+    for (end, wanted) in &AFTER_256_STEPS {
+        three_parts_refused(
+            &rt,
+            rt.alloc(),
+            "mmplan 1\nstores A\n",
+            steps.as_str(),
+            end,
+            *wanted,
+        );
     }
 }
 
@@ -325,6 +325,6 @@ static FAULTS: [(Fault, &str); 3] = [
 fn refusals_are_printed_with_number_name_and_line(rt: HostRuntime) {
     for (fault, text) in &FAULTS {
         let shown = fault.to_string(rt.alloc()).expect(&rt, "memory");
-        assert_eq!(rt; shown.as_str(), *text);
+        assert!(rt; shown.as_str() == *text, "{text}");
     }
 }

@@ -1,22 +1,16 @@
 //! Texts of setups, each with what it says or the fault that it must give.
-use super::{ROUTE, STORE, id, joined, repeated};
-use crate::{Kind, LimitRow, Problem, RouteRow, Setup, StoreRow};
+use crate::samples::{SCI, id, joined, problem_of};
+use mm_problem::{Kind, LimitRow, RouteRow, Setup, StoreRow};
 use std::alloc::Global;
 use std::process::Abort;
+
+const ROUTE: &str = "[[route]]\napid = 100\nservice = 3\nsubtype = 25\nstore = \"SCI\"\n";
 
 // The text is refused with this fault.
 fn refused(rt: &impl Abort, alloc: Global, text: &[u8], fault: &str) {
     let refusal = Setup::read(alloc, text).expect_err(rt, "no setup");
     let shown = refusal.to_string(alloc).expect(rt, "memory");
-    assert_eq!(rt; shown.as_str(), fault);
-}
-
-// Each of these lines is refused with its fault after this text.
-fn refused_after(rt: &impl Abort, alloc: Global, head: &str, cases: &[(&str, &str)]) {
-    for (lines, fault) in cases {
-        let text = joined(rt, alloc, &[head, lines]);
-        refused(rt, alloc, text.as_bytes(), fault);
-    }
+    assert!(rt; shown.as_str() == fault, "{fault}");
 }
 
 // Texts of three parts, each joined, are refused with their faults.
@@ -27,23 +21,31 @@ fn refused_parts(rt: &impl Abort, alloc: Global, cases: &[([&str; 3], &str)]) {
     }
 }
 
+// Each of these lines is refused with its fault after this text.
+fn refused_after(rt: &impl Abort, alloc: Global, head: &str, cases: &[(&str, &str)]) {
+    for (lines, fault) in cases {
+        let text = joined(rt, alloc, &[head, *lines]);
+        refused(rt, alloc, text.as_bytes(), fault);
+    }
+}
+
 static SETUP_TEXTS_REFUSED: [([&str; 3], &str); 6] = [
     (["[[store", "", ""], "27 SetupText"),
     (["", "", ""], "28 SetupField row 0 name store"),
     (["store = []", "", ""], "33 Limit name stores"),
     (
-        [STORE, "colour = 1\n", ROUTE],
+        [SCI, "colour = 1\n", ROUTE],
         "28 SetupField row 1 name unknown",
     ),
     (
         [
-            STORE,
+            SCI,
             "[[route]]\napid = 100\nservice = 3\nsubtype = 25\nstore = \"HK\"\n",
             "",
         ],
         "28 SetupField row 1 name store",
     ),
-    ([STORE, STORE, ROUTE], "28 SetupField row 2 name repeated"),
+    ([SCI, SCI, ROUTE], "28 SetupField row 2 name repeated"),
 ];
 
 #[test]
@@ -86,14 +88,9 @@ fn documents_refused(rt: HostRuntime) {
     for (text, fault) in &DOCUMENTS_REFUSED {
         refused(&rt, alloc, text.as_bytes(), fault);
     }
-    let mut routes = repeated(
-        &rt,
-        alloc,
-        "store = [1]\nlimit = [1, 2, 3, 4, 5, 6, 7, 8, 9]\nroute = [",
-        "1, ",
-        257,
-    );
-    routes.push_str("]").expect(&rt, "memory");
+    let ones = "1, ".repeat(alloc, 257).expect(&rt, "memory");
+    let head = "store = [1]\nlimit = [1, 2, 3, 4, 5, 6, 7, 8, 9]\nroute = [";
+    let routes = joined(&rt, alloc, &[head, ones.as_str(), "]"]);
     refused(&rt, alloc, routes.as_bytes(), "33 Limit name routes");
 }
 
@@ -270,16 +267,13 @@ static ROUTES_REFUSED: [(&str, &str); 9] = [
 ];
 
 static ROUTE_TEXTS_REFUSED: [([&str; 3], &str); 2] = [
-    ([STORE, ROUTE, ROUTE], "28 SetupField row 2 name repeated"),
-    (
-        ["route = [1]\n", STORE, ""],
-        "28 SetupField row 1 name route",
-    ),
+    ([SCI, ROUTE, ROUTE], "28 SetupField row 2 name repeated"),
+    (["route = [1]\n", SCI, ""], "28 SetupField row 1 name route"),
 ];
 
 #[test]
 fn routes_refused(rt: HostRuntime) {
-    refused_after(&rt, rt.alloc(), STORE, &ROUTES_REFUSED);
+    refused_after(&rt, rt.alloc(), SCI, &ROUTES_REFUSED);
     refused_parts(&rt, rt.alloc(), &ROUTE_TEXTS_REFUSED)
 }
 
@@ -314,14 +308,11 @@ static LIMITS_REFUSED: [(&str, &str); 8] = [
 
 #[test]
 fn limits_refused(rt: HostRuntime) {
-    refused_after(&rt, rt.alloc(), STORE, &LIMITS_REFUSED);
+    refused_after(&rt, rt.alloc(), SCI, &LIMITS_REFUSED);
     refused_parts(
         &rt,
         rt.alloc(),
-        &[(
-            ["limit = [1]\n", STORE, ""],
-            "28 SetupField row 1 name limit",
-        )],
+        &[(["limit = [1]\n", SCI, ""], "28 SetupField row 1 name limit")],
     )
 }
 
@@ -351,7 +342,7 @@ fn two_stores(rt: &impl Abort) -> [StoreRow; 2] {
 
 #[test]
 fn a_setup_is_read(rt: HostRuntime) {
-    let text = joined(&rt, rt.alloc(), &[STORE, SECOND, ROUTE, LIMIT]);
+    let text = joined(&rt, rt.alloc(), &[SCI, SECOND, ROUTE, LIMIT]);
     let setup = Setup::read(rt.alloc(), text.as_bytes()).expect(&rt, "a setup");
     assert!(rt; setup.stores() == two_stores(&rt).as_slice());
     let route = RouteRow {
@@ -371,20 +362,25 @@ fn a_setup_is_read(rt: HostRuntime) {
 // Spreadsheets and editors may write a byte order mark at the beginning of a file.
 #[test]
 fn a_byte_order_mark_is_passed_over(rt: HostRuntime) {
-    let alloc = rt.alloc();
-    let text = joined(&rt, alloc, &["\u{feff}", STORE]);
-    let setup = Setup::read(alloc, text.as_bytes()).expect(&rt, "a setup");
-    assert!(rt; setup.stores().len() == 1);
-    let forecast = joined(&rt, alloc, &["\u{feff}", "step,window,SCI\n1,2,3\n"]);
-    let problem = Problem::read(alloc, &setup, forecast.as_bytes()).expect(&rt, "a problem");
+    let setup = joined(&rt, rt.alloc(), &["\u{feff}", SCI]);
+    let forecast = "\u{feff}step,window,SCI\n1,2,3\n";
+    let problem = problem_of(&rt, rt.alloc(), setup.as_str(), forecast);
+    assert!(rt; problem.stores() == 1);
     assert!(rt; problem.arrivals(0, 1) == 3);
+}
+
+// How many stores, routes and limits a setup has.
+fn counts(setup: &Setup) -> (usize, usize, usize) {
+    (
+        setup.stores().len(),
+        setup.routes().len(),
+        setup.limits().len(),
+    )
 }
 
 #[test]
 fn empty_arrays_are_as_none(rt: HostRuntime) {
-    let text = joined(&rt, rt.alloc(), &["route = []\nlimit = []\n", STORE]);
+    let text = joined(&rt, rt.alloc(), &["route = []\nlimit = []\n", SCI]);
     let setup = Setup::read(rt.alloc(), text.as_bytes()).expect(&rt, "a setup");
-    assert_eq!(rt; setup.stores().len(), 1);
-    assert!(rt; setup.routes().is_empty());
-    assert!(rt; setup.limits().is_empty());
+    assert!(rt; counts(&setup) == (1, 0, 0));
 }

@@ -1,18 +1,14 @@
 //! Networks with values from a textbook or counted by hand.
 
-use crate::fault::Fault;
-use crate::laws::{
+use crate::samples::next_number;
+use mm_base::Refused;
+use mm_flow::laws::{
     constants_are, net_flow_is_the_value, solution_is_best, value_is_within_each_cut,
 };
-use crate::limits::{MAX_ARCS, MAX_CAPACITY, MAX_NODES};
-use crate::network::Network;
-use crate::paths::solve_paths;
-use crate::solved::Solved;
-use crate::solver::solve;
-use mm_base::Refused;
+use mm_flow::paths::solve_paths;
+use mm_flow::{Fault, MAX_ARCS, MAX_CAPACITY, MAX_NODES, Network, Solved, solve};
 use std::alloc::Global;
 use std::process::Abort;
-use std::test::Fail;
 
 // A network, and the value of its maximum flow from node 0 to the last node; `None` where unlimited arcs lead there.
 struct Case {
@@ -207,7 +203,12 @@ static CASES: [Case; 18] = [
 ];
 
 // The network of so many nodes with these arcs.
-fn built(rt: &impl Abort, alloc: Global, nodes: u32, arcs: &[(u32, u32, Option<u64>)]) -> Network {
+pub(crate) fn built(
+    rt: &impl Abort,
+    alloc: Global,
+    nodes: u32,
+    arcs: &[(u32, u32, Option<u64>)],
+) -> Network {
     let mut network = Network::new(alloc);
     for _ in 0..nodes {
         node(rt, &mut network);
@@ -225,12 +226,12 @@ fn node(rt: &impl Abort, network: &mut Network) -> u32 {
 }
 
 // Adds an arc.
-fn arc(rt: &impl Abort, network: &mut Network, from: u32, to: u32, capacity: Option<u64>) {
+fn arc(rt: &impl Abort, network: &mut Network, from: u32, to: u32, capacity: Option<u64>) -> u32 {
     assert!(rt; network.arc_count() < MAX_ARCS as usize);
     assert!(rt; (from as usize) < network.node_count());
     assert!(rt; (to as usize) < network.node_count());
     assert!(rt; capacity.unwrap_or(0) <= MAX_CAPACITY);
-    network.add_arc(from, to, capacity).expect(rt, "an arc");
+    network.add_arc(from, to, capacity).expect(rt, "an arc")
 }
 
 // Compares both solvers with the value that is wanted between two nodes.
@@ -241,7 +242,7 @@ fn check(rt: &impl Abort, alloc: Global, case: &Case, source: u32, sink: u32) {
 }
 
 // The value that both solvers answer.
-fn same_value(
+pub(crate) fn same_value(
     rt: &impl Abort,
     alloc: Global,
     network: &Network,
@@ -373,12 +374,6 @@ fn networks_of_stores(rt: HostRuntime) {
     }
 }
 
-// The next of the linear congruential numbers, of 24 bits (Numerical Recipes, section 7.1).
-fn next_number(state: &mut u32) -> u32 {
-    *state = state.wrapping_mul(1_664_525).wrapping_add(1_013_904_223);
-    *state >> 8
-}
-
 // A network of so many nodes, with arcs between them at random, of which one in 64 is unlimited.
 fn made(rt: &impl Abort, alloc: Global, nodes: u32, arcs: u32, state: &mut u32) -> Network {
     let mut network = built(rt, alloc, nodes, &[]);
@@ -426,12 +421,12 @@ static NAMED: [(Fault, u8, &str, &str); 3] = [
 ];
 
 #[test]
-fn faults_have_numbers_and_names(rt: HostRuntime) -> Result<(), Fail> {
-    for (fault, number, name, shown) in &NAMED {
+fn faults_have_numbers_and_names(rt: HostRuntime) {
+    for (fault, number, name, text) in &NAMED {
         assert!(rt; fault.number() == *number && fault.name() == *name);
-        assert!(rt; fault.to_string(rt.alloc())?.as_str() == *shown);
+        let shown = fault.to_string(rt.alloc()).expect(&rt, "memory");
+        assert!(rt; shown.as_str() == *text, "{text}");
     }
-    Ok(())
 }
 
 #[test]
@@ -468,23 +463,19 @@ fn network_of_four_nodes(rt: HostRuntime) {
     assert!(rt; value_of(&rt, by_paths) == Some(5));
 }
 
-// A solver answered with this refusal.
-fn is_refused(rt: &impl Abort, answer: Result<Solved, Fault>, want: Fault) {
-    match answer {
-        Ok(_) => assert!(rt; false, "a refusal"),
-        Err(fault) => assert!(rt; fault == want),
-    }
+// No flow from node 0 to this one: it is refused so.
+fn is_refused(rt: &impl Abort, alloc: Global, network: &Network, sink: u32, wanted: Fault) {
+    assert!(rt; (sink as usize) < network.node_count());
+    let refusal = solve(alloc, network, 0, sink).expect_err(rt, "a refusal");
+    assert!(rt; refusal == wanted);
 }
 
 #[test]
 fn refusals_of_four_nodes(rt: HostRuntime) {
     let mut network = built(&rt, rt.alloc(), 4, &FOUR_NODES);
-    assert!(rt; network.node_count() == 4);
-    is_refused(&rt, solve(rt.alloc(), &network, 0, 0), Fault::SameEnds);
-    assert!(rt; network.arc_count() < MAX_ARCS as usize);
-    let unlimited = network.add_arc(0, 3, None).expect(&rt, "an arc");
-    assert!(rt; unlimited == 5);
-    is_refused(&rt, solve(rt.alloc(), &network, 0, 3), Fault::Unbounded);
+    is_refused(&rt, rt.alloc(), &network, 0, Fault::SameEnds);
+    assert!(rt; arc(&rt, &mut network, 0, 3, None) == 5);
+    is_refused(&rt, rt.alloc(), &network, 3, Fault::Unbounded);
 }
 
 // A network has room for this many further nodes and arcs.
@@ -493,13 +484,12 @@ fn has_room(rt: &impl Abort, network: &Network, nodes: u32, arcs: u32) {
 }
 
 #[test]
-fn network_room(rt: HostRuntime) -> Result<(), Fail> {
-    let mut network = Network::with_room(rt.alloc(), 2, 1)?;
+fn network_room(rt: HostRuntime) {
+    let mut network = Network::with_room(rt.alloc(), 2, 1).expect(&rt, "memory");
     has_room(&rt, &network, 2, 1);
-    assert!(rt; network.add_node()? == 0);
-    assert!(rt; network.add_node()? == 1);
-    assert!(rt; network.add_arc(0, 1, Some(4))? == 0);
+    assert!(rt; node(&rt, &mut network) == 0);
+    assert!(rt; node(&rt, &mut network) == 1);
+    assert!(rt; arc(&rt, &mut network, 0, 1, Some(4)) == 0);
     has_room(&rt, &network, 0, 0);
     has_room(&rt, &Network::new(rt.alloc()), 0, 0);
-    Ok(())
 }

@@ -1,27 +1,5 @@
-use crate::{Fault, Name, StoreId};
-use std::alloc::Global;
-use std::process::Abort;
-
-mod forecasts;
-mod setups;
-
-// A store, and after it a route.
-const STORE: &str = "[[store]]\nid = \"SCI\"\nsize = 4\ntype = \"bounded\"\nchannel = 0\n";
-
-const ROUTE: &str = "[[route]]\napid = 100\nservice = 3\nsubtype = 25\nstore = \"SCI\"\n";
-
-fn joined(rt: &impl Abort, alloc: Global, parts: &[&str]) -> String {
-    parts.join(alloc, "").expect(rt, "memory")
-}
-
-fn repeated(rt: &impl Abort, alloc: Global, before: &str, part: &str, times: usize) -> String {
-    let parts = part.repeat(alloc, times).expect(rt, "memory");
-    joined(rt, alloc, &[before, parts.as_str()])
-}
-
-fn id(rt: &impl Abort, text: &str) -> StoreId {
-    StoreId::of_text(text.as_bytes()).expect(rt, "an identifier")
-}
+//! The printed form of faults.
+use mm_problem::{Fault, Name};
 
 static FAULTS: [(Fault, &str); 9] = [
     (Fault::NoMemory, "0 NoMemory"),
@@ -56,6 +34,6 @@ static FAULTS: [(Fault, &str); 9] = [
 fn faults_are_printed_with_their_fields(rt: HostRuntime) {
     for (fault, text) in &FAULTS {
         let shown = fault.to_string(rt.alloc()).expect(&rt, "memory");
-        assert_eq!(rt; shown.as_str(), *text);
+        assert!(rt; shown.as_str() == *text, "{text}");
     }
 }

@@ -1,6 +1,6 @@
 //! Texts of forecasts, each with what it says or the fault that it must give.
-use super::{STORE, id, joined, repeated};
-use crate::{Problem, Setup};
+use crate::samples::{SCI, id, joined, problem_of};
+use mm_problem::{Problem, Setup};
 use std::alloc::Global;
 use std::process::Abort;
 
@@ -9,40 +9,30 @@ const SECOND: &str =
 
 // The answer to a forecast for one store: its fault, or `read`.
 fn answer_to(rt: &impl Abort, alloc: Global, text: &[u8]) -> String {
-    let setup = Setup::read(alloc, STORE.as_bytes()).expect(rt, "a setup");
+    let setup = Setup::read(alloc, SCI.as_bytes()).expect(rt, "a setup");
     match Problem::read(alloc, &setup, text) {
         Ok(_) => String::from_str(alloc, "read").expect(rt, "memory"),
         Err(fault) => fault.to_string(alloc).expect(rt, "memory"),
     }
 }
 
-// The text is answered with this fault.
-fn refused(rt: &impl Abort, alloc: Global, text: &[u8], fault: &str) {
+// The text is answered with this fault, or `read`.
+fn answered(rt: &impl Abort, alloc: Global, text: &[u8], wanted: &str) {
     let answer = answer_to(rt, alloc, text);
-    assert_eq!(rt; answer.as_str(), fault);
+    assert!(rt; answer.as_str() == wanted, "{wanted}");
 }
 
-// These records after a good header are answered with this fault, or `read`.
-fn refused_rows(rt: &impl Abort, alloc: Global, rows: &str, fault: &str) {
-    let text = joined(rt, alloc, &["step,window,SCI\n", rows]);
-    refused(rt, alloc, text.as_bytes(), fault)
+// These records after a good header, in two parts, are answered with this fault, or `read`.
+fn rows_answered(rt: &impl Abort, alloc: Global, rows: &str, after: &str, wanted: &str) {
+    let text = joined(rt, alloc, &["step,window,SCI\n", rows, after]);
+    answered(rt, alloc, text.as_bytes(), wanted)
 }
 
 // Each of these records after a good header is answered with its fault.
 fn refused_each(rt: &impl Abort, alloc: Global, cases: &[(&str, &str)]) {
     for (rows, fault) in cases {
-        refused_rows(rt, alloc, rows, fault);
+        rows_answered(rt, alloc, rows, "", fault);
     }
-}
-
-// The records of the first steps.
-fn numbered(rt: &impl Abort, alloc: Global, steps: u32) -> String {
-    let mut text = String::new(alloc);
-    for step in 0..steps {
-        let line = format!(in alloc; "{},2,3\n", step + 1).expect(rt, "memory");
-        text.push_str(line.as_str()).expect(rt, "memory");
-    }
-    text
 }
 
 static CELLS_REFUSED: [(&str, &str); 7] = [
@@ -57,7 +47,7 @@ static CELLS_REFUSED: [(&str, &str); 7] = [
 
 #[test]
 fn forecast_cells(rt: HostRuntime) {
-    refused(&rt, rt.alloc(), b"step,window,HK\n1,2,3", "30 Header");
+    answered(&rt, rt.alloc(), b"step,window,HK\n1,2,3", "30 Header");
     refused_each(&rt, rt.alloc(), &CELLS_REFUSED)
 }
 
@@ -75,7 +65,7 @@ static HEADERS_REFUSED: [&str; 8] = [
 #[test]
 fn headers_refused(rt: HostRuntime) {
     for text in &HEADERS_REFUSED {
-        refused(&rt, rt.alloc(), text.as_bytes(), "30 Header");
+        answered(&rt, rt.alloc(), text.as_bytes(), "30 Header");
     }
 }
 
@@ -105,7 +95,7 @@ static RECORDS_REFUSED: [(&str, &str); 20] = [
 #[test]
 fn records_refused(rt: HostRuntime) {
     refused_each(&rt, rt.alloc(), &RECORDS_REFUSED);
-    refused(
+    answered(
         &rt,
         rt.alloc(),
         b"step,window,SCI\n1,2,\xff\n",
@@ -121,17 +111,32 @@ static LONG_CELLS: [[&str; 4]; 4] = [
     ["", "1", ",2,3", "32 StepNumber row 1"],
 ];
 
+// These texts with a digit a thousand times between them.
+fn thousand(rt: &impl Abort, alloc: Global, before: &str, digit: &str, after: &str) -> String {
+    let digits = digit.repeat(alloc, 1000).expect(rt, "memory");
+    joined(rt, alloc, &[before, digits.as_str(), after])
+}
+
 #[test]
 fn cells_of_a_thousand_digits(rt: HostRuntime) {
     for [before, digit, after, fault] in &LONG_CELLS {
-        let mut row = repeated(&rt, rt.alloc(), before, digit, 1000);
-        row.push_str(after).expect(&rt, "memory");
-        refused_rows(&rt, rt.alloc(), row.as_str(), fault);
+        let row = thousand(&rt, rt.alloc(), before, digit, after);
+        rows_answered(&rt, rt.alloc(), row.as_str(), "", fault);
     }
 }
 
+// The records of the first steps.
+fn numbered(rt: &impl Abort, alloc: Global, steps: u32) -> String {
+    let mut text = String::new(alloc);
+    for step in 0..steps {
+        let line = format!(in alloc; "{},2,3\n", step + 1).expect(rt, "memory");
+        text.push_str(line.as_str()).expect(rt, "memory");
+    }
+    text
+}
+
 // What follows 256 good records, and the answer.
-static BEHIND_256_STEPS: [(&str, &str); 4] = [
+static AFTER_256_STEPS: [(&str, &str); 4] = [
     ("", "read"),
     ("257,2,3\n", "33 Limit name steps"),
     ("x,x,x\n", "33 Limit name steps"),
@@ -141,22 +146,19 @@ static BEHIND_256_STEPS: [(&str, &str); 4] = [
 #[test]
 fn at_most_256_steps(rt: HostRuntime) {
     let full = numbered(&rt, rt.alloc(), 256);
-    for (after, answer) in &BEHIND_256_STEPS {
-        let mut rows = String::from_str(rt.alloc(), full.as_str()).expect(&rt, "memory");
-        rows.push_str(after).expect(&rt, "memory");
-        refused_rows(&rt, rt.alloc(), rows.as_str(), answer);
+    for (after, answer) in &AFTER_256_STEPS {
+        rows_answered(&rt, rt.alloc(), full.as_str(), after, answer);
     }
 }
 
 // With line ends of both kinds, quotes, and an empty line.
-const TWO_STEPS: &[u8] = b"step,\"window\",SCI,HK\r\n1,2,\"1\"0,1000000\r\n\n\"2\",0,5,6";
+const TWO_STEPS: &str = "step,\"window\",SCI,HK\r\n1,2,\"1\"0,1000000\r\n\n\"2\",0,5,6";
 
 // A problem of two stores, two steps and one limit.
 fn problem_of_two(rt: &impl Abort, alloc: Global) -> Problem {
     let limits = "[[limit]]\nchannel = 3\nblocks = 9\n";
-    let text = joined(rt, alloc, &[STORE, SECOND, limits]);
-    let setup = Setup::read(alloc, text.as_bytes()).expect(rt, "a setup");
-    Problem::read(alloc, &setup, TWO_STEPS).expect(rt, "a forecast")
+    let setup = joined(rt, alloc, &[SCI, SECOND, limits]);
+    problem_of(rt, alloc, setup.as_str(), TWO_STEPS)
 }
 
 // Its stores and limits are those of the setup.
