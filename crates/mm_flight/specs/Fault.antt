@@ -17,15 +17,15 @@ use Rattle.mm_flight.specs.declared.fault.Fault.TheVariants.{NoMemory, Problem, 
 abbrev pub refusal_of : Fault → Refusal
 refusal_of = elim [ NoMemory ↦ refusal.NoMemory | Problem fault ↦ problem_refusal fault | Plan fault ↦ plan_refusal fault | Ends fault ↦ ends_refusal fault ]
 
--- a fault of the setup or the forecast
-abbrev pub of_problem : ProblemFault → Fault
-of_problem problem.NoMemory = NoMemory
-of_problem fault = Problem fault
-
 -- a fault of the plan text
 abbrev pub of_plan : PlanFault → Fault
 of_plan plan.NoMemory = NoMemory
 of_plan fault = Plan fault
+
+-- a fault of the setup or the forecast
+abbrev pub of_problem : ProblemFault → Fault
+of_problem problem.NoMemory = NoMemory
+of_problem fault = Problem fault
 
 -- a fault of the sources or the links
 abbrev pub of_ends : EndsFault → Fault

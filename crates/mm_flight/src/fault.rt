@@ -1,59 +1,45 @@
 //! Why the texts of a run are refused.
 ghost use Rattle.std.specs.Prelude.{◌≡◌};
+ghost use Rattle.mm_flight.specs.Fault.{of_problem, of_plan, of_ends};
 
-use mm_base::{NoMemory, Refusal, Refused, refusals};
+use mm_base::{NoMemory, Refusal, Refused, passed_on, refusals};
 use thiserror::Error;
 
 /// Why the texts of a run are refused: a fault of the setup, the forecast or the plan text, or one of the sources or the
 /// links. It is shown as the fault of the crate that found it. Want of memory is `NoMemory` alone, whoever lacked it.
 #[derive(Clone, Copy, Debug, PartialEq, Eq, Error)]
 pub enum Fault {
-    #[error("{}", self.refusal())]
-    NoMemory,
     #[error(transparent)]
     Problem(mm_problem::Fault),
     #[error(transparent)]
     Plan(mm_plan::Fault),
     #[error(transparent)]
     Ends(mm_scripted::Fault),
+    #[error("{}", self.refusal())]
+    NoMemory,
 }
 
 impl From<mm_problem::Fault> for Fault {
-    ghost use Rattle.mm_flight.specs.Fault.{of_problem};
-
     ghost from_gives = { λ fault e. e ≡ of_problem fault };
 
     fn from(fault: mm_problem::Fault) -> Fault {
-        match fault {
-            mm_problem::Fault::NoMemory => Fault::NoMemory,
-            _ => Fault::Problem(fault),
-        }
+        passed_on!(fault; mm_problem as Problem)
     }
 }
 
 impl From<mm_plan::Fault> for Fault {
-    ghost use Rattle.mm_flight.specs.Fault.{of_plan};
-
     ghost from_gives = { λ fault e. e ≡ of_plan fault };
 
     fn from(fault: mm_plan::Fault) -> Fault {
-        match fault {
-            mm_plan::Fault::NoMemory => Fault::NoMemory,
-            _ => Fault::Plan(fault),
-        }
+        passed_on!(fault; mm_plan as Plan)
     }
 }
 
 impl From<mm_scripted::Fault> for Fault {
-    ghost use Rattle.mm_flight.specs.Fault.{of_ends};
-
     ghost from_gives = { λ fault e. e ≡ of_ends fault };
 
     fn from(fault: mm_scripted::Fault) -> Fault {
-        match fault {
-            mm_scripted::Fault::NoMemory => Fault::NoMemory,
-            _ => Fault::Ends(fault),
-        }
+        passed_on!(fault; mm_scripted as Ends)
     }
 }
 
