@@ -74,9 +74,9 @@ Exit status: 0 where the task is done and, for check, the plan is least, for ask
 where something is refused, a run is halted, the verdict is another, or a write failed; 2 where the command
 line is no good, or help was asked for.";
 
-pub(crate) const SETUP_HELP: &str = "The packet stores, routes and limits of channels, in TOML";
+const SETUP_HELP: &str = "The packet stores, routes and limits of channels, in TOML";
 
-pub(crate) const FORECAST_HELP: &str = "The windows and arrivals of each step, in CSV";
+const FORECAST_HELP: &str = "The windows and arrivals of each step, in CSV";
 
 const PLAN_ABOUT: &str = "Plans the dumps so that the fewest blocks are lost";
 
@@ -140,10 +140,16 @@ pub(crate) fn file<'a>(alloc: Global, name: &'a str, help: &'a str) -> Arg<'a> {
     Arg::new(alloc, name).required(true).help(help)
 }
 
-fn plan_command<'a>(alloc: Global) -> Result<Command<'a>, AllocError> {
-    Command::new(alloc, "plan")
-        .about(PLAN_ABOUT)
-        .after_help(PLAN_HELP)
+/// The first words of a command on a problem.
+pub(crate) fn problem_command<'a>(
+    alloc: Global,
+    name: &'a str,
+    about: &'a str,
+    help: &'a str,
+) -> Result<Command<'a>, AllocError> {
+    Command::new(alloc, name)
+        .about(about)
+        .after_help(help)
         .arg(file(alloc, "SETUP", SETUP_HELP))?
         .arg(file(alloc, "FORECAST", FORECAST_HELP))
 }
@@ -155,12 +161,8 @@ pub(crate) fn judging_command<'a>(
     about: &'a str,
     help: &'a str,
 ) -> Result<Command<'a>, AllocError> {
-    Command::new(alloc, name)
-        .about(about)
-        .after_help(help)
-        .arg(file(alloc, "SETUP", SETUP_HELP))?
-        .arg(file(alloc, "FORECAST", FORECAST_HELP))?
-        .arg(file(alloc, "PLAN", "The dump plan with its loss and its cut"))
+    let plan = file(alloc, "PLAN", "The dump plan with its loss and its cut");
+    problem_command(alloc, name, about, help)?.arg(plan)
 }
 
 fn ask_command<'a>(alloc: Global) -> Result<Command<'a>, AllocError> {
@@ -179,7 +181,7 @@ fn tool_command<'a>(alloc: Global) -> Result<Command<'a>, AllocError> {
         .no_binary_name(true)
         .subcommand_required(true)
         .arg_required_else_help(true)
-        .subcommand(plan_command(alloc)?)?
+        .subcommand(problem_command(alloc, "plan", PLAN_ABOUT, PLAN_HELP)?)?
         .subcommand(judging_command(alloc, "check", CHECK_ABOUT, CHECK_HELP)?)?
         .subcommand(chart_command(alloc)?)?
         .subcommand(run_command(alloc)?)?

@@ -1,7 +1,7 @@
 //! The commands `run` and `fly`: a dump plan is carried out over the sources and the links of two texts.
 
 use crate::advice::Role;
-use crate::command::{FORECAST_HELP, SETUP_HELP, Task, file};
+use crate::command::{Task, file, problem_command};
 use crate::fault::Fault;
 use crate::run::read_file;
 use clap::{ArgMatches, Command};
@@ -77,23 +77,9 @@ impl<'a> FlightFiles<'a> {
     }
 }
 
-// The first words of a command that carries a plan out.
-fn flight_command<'a>(
-    alloc: Global,
-    name: &'a str,
-    about: &'a str,
-    help: &'a str,
-) -> Result<Command<'a>, AllocError> {
-    Command::new(alloc, name)
-        .about(about)
-        .after_help(help)
-        .arg(file(alloc, "SETUP", SETUP_HELP))?
-        .arg(file(alloc, "FORECAST", FORECAST_HELP))
-}
-
 /// The words of the command `run`.
 pub fn run_command<'a>(alloc: Global) -> Result<Command<'a>, AllocError> {
-    flight_command(alloc, "run", RUN_ABOUT, RUN_HELP)?
+    problem_command(alloc, "run", RUN_ABOUT, RUN_HELP)?
         .arg(file(alloc, "PLAN", PLAN_HELP))?
         .arg(file(alloc, "SOURCES", SOURCES_HELP))?
         .arg(file(alloc, "LINKS", LINKS_HELP))
@@ -101,7 +87,7 @@ pub fn run_command<'a>(alloc: Global) -> Result<Command<'a>, AllocError> {
 
 /// The words of the command `fly`.
 pub fn fly_command<'a>(alloc: Global) -> Result<Command<'a>, AllocError> {
-    flight_command(alloc, "fly", FLY_ABOUT, FLY_HELP)?
+    problem_command(alloc, "fly", FLY_ABOUT, FLY_HELP)?
         .arg(file(alloc, "SOURCES", SOURCES_HELP))?
         .arg(file(alloc, "LINKS", LINKS_HELP))
 }
