@@ -19,7 +19,7 @@ const HELP: &str = "What would help";
 
 // One store of size 4 gets 3, 3 and 4 blocks, and sends 2 and 2: 3 and 4 stand in it, then 6 come to stand, of which 2
 // are lost. In a scale of 32 for 4 blocks that is 24, 32 and 32; 8, 16 and 32 are left.
-static SHOWN: [&str; 15] = [
+const SHOWN: [&str; 15] = [
     "<text class='h' x='16' y='30'>2 of 10 blocks are lost, and no plan loses fewer</text>",
     "<path class='c' d='M180 148V108H276H372V148V148'/>",
     "<path class='p' d='M180 144V112H276H372V144V144'/>",
@@ -37,14 +37,8 @@ static SHOWN: [&str; 15] = [
     "<text class='w' x='16' y='448'>Larger stores: SCI</text>",
 ];
 
-#[test]
-fn a_chart_shows_what_stands_leaves_and_is_lost(rt: HostRuntime) {
-    let chart = chart_of(&rt, rt.alloc(), SETUP, FORECAST, PLAN);
-    has_lines(&rt, chart.as_str(), &SHOWN);
-}
-
 // 3 and 3 come to a store of 3 whose channel lets 1 leave in a step: 2 are lost.
-static BY_CHANNELS: [&str; 7] = [
+const BY_CHANNELS: [&str; 7] = [
     "<path class='c' d='M180 178V152H276V178V178'/>",
     "<path class='v' d='M180 174V156H276V174V174'/>",
     "<text class='s' x='172' y='169'>channel 0: 1 a step</text>",
@@ -54,10 +48,37 @@ static BY_CHANNELS: [&str; 7] = [
     "<text class='w' x='16' y='418'>No wider window.</text>",
 ];
 
+const THREE_SIZES: &str =
+    "[[store]]\nid = \"A\"\nsize = 3\ntype = \"bounded\"\nchannel = 0\n[[store]]\nid = \"B\"\nsize = 1000000\ntype = \"bounded\"\nchannel = 0\n[[store]]\nid = \"C\"\nsize = 4\ntype = \"bounded\"\nchannel = 1\n[[limit]]\nchannel = 1\nblocks = 2\n";
+
+const ONE_COMES: &str = "step,window,A,B,C\n1,3,1,1,3\n2,0,0,0,0\n3,0,0,0,4\n";
+
+// More leave C in step 1 than its channel lets through.
+const OVER_THE_LIMIT: &str =
+    "mmplan 1\nstores A B C\ndump 1 0 0 3\ndump 2 0 0 0\ndump 3 0 0 0\nloss 0\nbound 0\nend\n";
+
+// Amounts in a height of 32 and one in a height of 18: 3 of a limit of 2 are 18; 1 of 3 is 11, since 32 / 3 is rounded up;
+// 1 of 1,000,000 is 1; 3 of 4 are 24, none is nothing, and 4 of 4 are 32.
+const SCALED: [&str; 4] = [
+    "<path class='v' d='M180 174V156H276V174V174'/>",
+    "<path class='g' d='M180 222V211H276H372H468V222'/>",
+    "<path class='g' d='M180 270V269H276H372H468V270'/>",
+    "<path class='g' d='M180 318V294H276V318M372 318V286H468V318'/>",
+];
+
+// Texts of a setup, a forecast and a plan, and lines of their chart.
+static CHARTS: [(&str, &str, &str, &[&str]); 3] = [
+    (SETUP, FORECAST, PLAN, &SHOWN),
+    (LIMITED, TWO_STEPS, COUNTED, &BY_CHANNELS),
+    (THREE_SIZES, ONE_COMES, OVER_THE_LIMIT, &SCALED),
+];
+
 #[test]
-fn a_step_counted_by_channels_is_shown_so(rt: HostRuntime) {
-    let chart = chart_of(&rt, rt.alloc(), LIMITED, TWO_STEPS, COUNTED);
-    has_lines(&rt, chart.as_str(), &BY_CHANNELS);
+fn charts_have_these_lines(rt: HostRuntime) {
+    for (setup, forecast, plan, lines) in &CHARTS {
+        let chart = chart_of(&rt, rt.alloc(), setup, forecast, plan);
+        has_lines(&rt, chart.as_str(), lines);
+    }
 }
 
 // Texts in the place of others in the plan, and the headline then.

@@ -6,6 +6,7 @@ use crate::samples::{FORECAST, PLAN, SETUP, chart_of};
 use mm_chart::{Picture, Series, draw};
 use mm_check::{read_problem, read_sheet};
 use mm_cut::{Parts, Verdict};
+use mm_problem::Problem;
 use std::alloc::Global;
 use std::process::Abort;
 
@@ -44,14 +45,20 @@ const PARTS: Parts = Parts {
     limits: 0,
 };
 
-// The picture of the plan.
-fn picture_of(rt: &impl Abort, alloc: Global) -> Picture {
-    let problem = read_problem(alloc, SETUP.as_bytes(), FORECAST.as_bytes()).expect(
-        rt,
-        "a problem",
-    );
+// The problem of the texts.
+fn problem_of(rt: &impl Abort, alloc: Global) -> Problem {
+    let problem = read_problem(alloc, SETUP.as_bytes(), FORECAST.as_bytes());
+    problem.expect(rt, "a problem")
+}
+
+// The picture of the plan for this problem.
+fn picture_for(rt: &impl Abort, alloc: Global, problem: Problem) -> Picture {
     let sheet = read_sheet(alloc, &problem, PLAN.as_bytes()).expect(rt, "a plan");
     Picture::new(alloc, problem, sheet).expect(rt, "memory")
+}
+
+fn picture_of(rt: &impl Abort, alloc: Global) -> Picture {
+    picture_for(rt, alloc, problem_of(rt, alloc))
 }
 
 #[test]
@@ -64,11 +71,21 @@ fn a_picture_has_the_numbers_of_its_plan(rt: HostRuntime) {
 }
 
 #[test]
-fn a_picture_has_the_verdict_of_its_plan_and_is_drawn(rt: HostRuntime) {
+fn a_picture_has_the_verdict_of_its_plan(rt: HostRuntime) {
     let picture = picture_of(&rt, rt.alloc());
     assert!(rt; picture.verdict() == Verdict::Least(2));
     assert!(rt; picture.parts() == PARTS);
-    let drawn = draw(rt.alloc(), &picture).expect(&rt, "memory");
-    let chart = chart_of(&rt, rt.alloc(), SETUP, FORECAST, PLAN);
+}
+
+// The picture is drawn as this chart.
+fn is_drawn(rt: &impl Abort, alloc: Global, picture: &Picture, chart: &str) {
+    let drawn = draw(alloc, picture).expect(rt, "memory");
     assert!(rt; drawn.as_slice() == chart.as_bytes());
+}
+
+#[test]
+fn a_picture_is_drawn_as_its_texts_are(rt: HostRuntime) {
+    let picture = picture_of(&rt, rt.alloc());
+    let chart = chart_of(&rt, rt.alloc(), SETUP, FORECAST, PLAN);
+    is_drawn(&rt, rt.alloc(), &picture, chart.as_str());
 }

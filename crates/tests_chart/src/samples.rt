@@ -42,7 +42,12 @@ pub fn push_number(
 }
 
 /// Writes so the numbers from 1 to the last.
-pub fn push_each(text: &mut String, before: &str, last: u8, after: &str) -> Result<(), AllocError> {
+pub fn push_each(
+    text: &mut String,
+    before: &str,
+    last: u16,
+    after: &str,
+) -> Result<(), AllocError> {
     for number in 0..last {
         push_number(text, before, u32::from(number) + 1, after)?;
     }
