@@ -13,8 +13,6 @@ pub mod numbers;
 mod refusal;
 mod refused;
 mod rows;
-#[cfg(test)]
-mod tests;
 
 pub use fault::Fault;
 pub use id::StoreId;

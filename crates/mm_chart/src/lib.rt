@@ -9,8 +9,6 @@ mod picture;
 mod rows;
 mod series;
 mod shades;
-#[cfg(test)]
-mod tests;
 mod words;
 
 pub use document::{chart_bytes, draw};

@@ -8,6 +8,3 @@ mod table;
 pub use fault::Fault;
 pub use mm_base::NoMemory;
 pub use table::ControlTable;
-
-#[cfg(test)]
-mod tests;

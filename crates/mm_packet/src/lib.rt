@@ -21,6 +21,3 @@ pub use mm_base::NoMemory;
 pub use number::{octet_at, u16_at, u32_at, u64_at};
 pub use octets::Octets;
 pub use packet::Packet;
-
-#[cfg(test)]
-mod tests;

@@ -26,6 +26,3 @@ pub use report_kind::ReportKind;
 pub use request::Request;
 pub use request_kind::RequestKind;
 pub use service::SERVICE;
-
-#[cfg(test)]
-mod tests;

@@ -20,6 +20,3 @@ pub use put::Put;
 pub use ring::RingStore;
 pub use store::PacketStore;
 pub use stored::Stored;
-
-#[cfg(test)]
-mod tests;

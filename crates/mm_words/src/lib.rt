@@ -1,8 +1,6 @@
 //! The words of each refusal for people: what was expected, and what to do.
 #![tactic(auto)]
 
-#[cfg(test)]
-mod tests;
 mod words;
 
 pub use words::Words;

@@ -1,11 +1,13 @@
+//! Packet stores of each type, by calls with the answers to them.
 ghost use Rattle.std.specs.Prelude.{◌≤◌};
+ghost use Rattle.mm_base.specs.declared.limits.TheConstants.{MAX_BLOCKS};
 
-use super::*;
-use mm_base::{Kind, MAX_BLOCKS, Refused};
+use crate::samples::{has_name, is_shown};
+use mm_base::Kind;
 use mm_packet::{BlockPacket, Header, Octets, Packet};
+use mm_store::{AnyStore, BlockStore, Fault, PacketStore, Put, RingStore, Stored, laws};
 use std::alloc::Global;
 use std::process::Abort;
-use std::test::Fail;
 
 // The last storage time there is.
 const LAST: u64 = u64::MAX;
@@ -74,22 +76,49 @@ fn state<S: PacketStore>(store: &S) -> Told {
     )
 }
 
-// Makes the calls, each of which must be answered as its step says.
-fn run<R: Abort, S: PacketStore>(rt: &R, alloc: Global, store: &mut S, steps: &[Step]) {
-    for (place, step) in steps.iter().enumerate() {
-        let told = match step.0 {
-            PutAt(now, count) => answer_of(&store.put(now, packet(rt, alloc, count))),
-            FirstIn(from, to, after) => first_in(store, from, to, after),
-            DeleteUpTo(limit) => Deleted(store.delete_up_to(limit) as usize),
-            AskState => state(store),
-        };
-        assert_eq!(rt; told, step.1, "at the call {place}");
+// The answer to a call.
+fn answer_to<S: PacketStore>(rt: &impl Abort, alloc: Global, store: &mut S, call: Call) -> Told {
+    match call {
+        PutAt(now, count) => answer_of(&store.put(now, packet(rt, alloc, count))),
+        FirstIn(from, to, after) => first_in(store, from, to, after),
+        DeleteUpTo(limit) => Deleted(store.delete_up_to(limit) as usize),
+        AskState => state(store),
     }
 }
 
+// Makes the calls, each of which must be answered as its step says.
+fn run<S: PacketStore>(rt: &impl Abort, alloc: Global, store: &mut S, steps: &[Step]) {
+    for (place, (call, wanted)) in steps.iter().enumerate() {
+        let told = answer_to(rt, alloc, store, *call);
+        assert!(rt; told == *wanted, "at the call {place}: {told:?}");
+    }
+}
+
+// Makes these calls, and then the others.
+fn run_both<S: PacketStore>(
+    rt: &impl Abort,
+    alloc: Global,
+    store: &mut S,
+    steps: &[Step],
+    others: &[Step],
+) {
+    run(rt, alloc, store, steps);
+    run(rt, alloc, store, others);
+}
+
+// Makes the calls on a new store of this kind.
+fn on_any(rt: &impl Abort, alloc: Global, kind: Kind, size: u32, steps: &[Step], others: &[Step])
+    requires lowest { 1 ≤ size }
+    requires highest { size ≤ MAX_BLOCKS }
+{
+    let mut store = AnyStore::new(alloc, kind, size).expect(rt, "memory");
+    assert!(rt; store.kind() == kind);
+    run_both(rt, alloc, &mut store, steps, others);
+}
+
 // Makes the calls on a new store of each type: the first ones on all, and then those of its kind.
-fn on_each_type<R: Abort>(
-    rt: &R,
+fn on_each_type(
+    rt: &impl Abort,
     alloc: Global,
     size: u32,
     all: &[Step],
@@ -100,17 +129,11 @@ fn on_each_type<R: Abort>(
     requires highest { size ≤ MAX_BLOCKS }
 {
     let mut ring = RingStore::new(alloc, size).expect(rt, "memory");
-    run(rt, alloc, &mut ring, all);
-    run(rt, alloc, &mut ring, circular);
+    run_both(rt, alloc, &mut ring, all, circular);
     let mut blocks = BlockStore::new(alloc, size).expect(rt, "memory");
-    run(rt, alloc, &mut blocks, all);
-    run(rt, alloc, &mut blocks, bounded);
-    for (kind, others) in [(Kind::Circular, circular), (Kind::Bounded, bounded)] {
-        let mut store = AnyStore::new(alloc, kind, size).expect(rt, "memory");
-        assert!(rt; store.kind() == kind);
-        run(rt, alloc, &mut store, all);
-        run(rt, alloc, &mut store, others);
-    }
+    run_both(rt, alloc, &mut blocks, all, bounded);
+    on_any(rt, alloc, Kind::Circular, size, all, circular);
+    on_any(rt, alloc, Kind::Bounded, size, all, bounded);
 }
 
 static TIMES_RISE: [Step; 10] = [
@@ -258,6 +281,23 @@ impl PlainStore {
     }
 }
 
+// Adds the call that this number draws, and look-ups after it.
+fn draw(rt: &impl Abort, plain: &mut PlainStore, steps: &mut Vec<Step>, drawn: u64, count: u16) {
+    let shift = (drawn >> 40) % 9;
+    let now = plain.last.saturating_add(shift);
+    let limit = now.saturating_sub(12);
+    let step = if drawn >> 61 == 0 {
+        (DeleteUpTo(limit), plain.delete_up_to(limit))
+    } else {
+        (PutAt(now, count), plain.put(rt, now, count))
+    };
+    steps.push(step).expect(rt, "memory");
+    let (from, after) = (now.saturating_sub(15), now.saturating_sub(3 * shift));
+    let step = (FirstIn(from, now, after), plain.first_in(from, now, after));
+    steps.push(step).expect(rt, "memory");
+    plain.list(rt, steps);
+}
+
 // A thousand puts and deletions, by numbers that a linear congruence draws, and look-ups after each.
 fn drawn(rt: &impl Abort, alloc: Global, kind: Kind) -> Vec<Step> {
     let mut plain = PlainStore {
@@ -272,19 +312,7 @@ fn drawn(rt: &impl Abort, alloc: Global, kind: Kind) -> Vec<Step> {
         drawn = drawn
             .wrapping_mul(6364136223846793005)
             .wrapping_add(1442695040888963407);
-        let shift = (drawn >> 40) % 9;
-        let now = plain.last.saturating_add(shift);
-        let limit = now.saturating_sub(12);
-        let step = if drawn >> 61 == 0 {
-            (DeleteUpTo(limit), plain.delete_up_to(limit))
-        } else {
-            (PutAt(now, count), plain.put(rt, now, count))
-        };
-        steps.push(step).expect(rt, "memory");
-        let (from, after) = (now.saturating_sub(15), now.saturating_sub(3 * shift));
-        let step = (FirstIn(from, now, after), plain.first_in(from, now, after));
-        steps.push(step).expect(rt, "memory");
-        plain.list(rt, &mut steps);
+        draw(rt, &mut plain, &mut steps, drawn, count);
     }
     steps
 }
@@ -305,36 +333,60 @@ static TWO_HELD: [Step; 3] = [
     (FirstIn(0, LAST, 7), First(8, 2)),
 ];
 
+static FULL_RING: [Step; 1] = [(PutAt(9, 3), KeptOver(9, 1))];
+
+static FULL_TABLE: [Step; 1] = [(PutAt(9, 3), Lost(3))];
+
 static ROOM_OF_A_RING: [Step; 2] = [(AskState, State(3, 2, 8, 9, 9)), (PutAt(20, 4), Kept(20))];
 
 static ROOM_OF_A_TABLE: [Step; 2] = [(AskState, State(3, 2, 7, 8, 8)), (PutAt(20, 4), Kept(20))];
 
-// A store of two packets, at 7 and 8, that changes its kind and its size.
-fn changes(rt: &impl Abort, alloc: Global, kind: Kind, other: Kind, full: Told, room: &[Step]) {
+// A store that holds two packets, at 7 and 8.
+fn two_held(rt: &impl Abort, alloc: Global, kind: Kind) -> AnyStore {
     let mut store = AnyStore::new(alloc, kind, 2).expect(rt, "memory");
     run(rt, alloc, &mut store, &TWO_PUTS);
-    store.change_kind(other).expect(rt, "memory");
-    assert!(rt; store.kind() == other);
-    run(rt, alloc, &mut store, &TWO_HELD);
+    store
+}
+
+// The store becomes one of this kind, and holds the same.
+fn changes_kind(rt: &impl Abort, alloc: Global, store: &mut AnyStore, kind: Kind) {
+    store.change_kind(kind).expect(rt, "memory");
+    assert!(rt; store.kind() == kind);
+    run(rt, alloc, store, &TWO_HELD);
+}
+
+// The store is not made smaller than what it holds, and holds the same.
+fn keeps_its_size(rt: &impl Abort, alloc: Global, store: &mut AnyStore) {
     assert!(rt; store.resize(1) == Err(Fault::HoldsMore));
-    run(rt, alloc, &mut store, &TWO_HELD);
-    run(rt, alloc, &mut store, &[(PutAt(9, 3), full)]);
+    run(rt, alloc, store, &TWO_HELD);
+}
+
+// A store of two packets that changes its kind and its size: what it answers when it is full, and then when it has room.
+fn changes(
+    rt: &impl Abort,
+    alloc: Global,
+    kinds: (Kind, Kind),
+    when_full: &[Step],
+    with_room: &[Step],
+) {
+    let mut store = two_held(rt, alloc, kinds.0);
+    changes_kind(rt, alloc, &mut store, kinds.1);
+    keeps_its_size(rt, alloc, &mut store);
+    run(rt, alloc, &mut store, when_full);
     store.resize(3).expect(rt, "memory");
-    run(rt, alloc, &mut store, room);
+    run(rt, alloc, &mut store, with_room);
 }
 
 #[test]
-fn change_kind_and_resize(rt: HostRuntime) {
-    let (alloc, circular, bounded) = (rt.alloc(), Kind::Circular, Kind::Bounded);
-    changes(&rt, alloc, circular, bounded, Lost(3), &ROOM_OF_A_TABLE);
-    changes(
-        &rt,
-        alloc,
-        bounded,
-        circular,
-        KeptOver(9, 1),
-        &ROOM_OF_A_RING,
-    );
+fn a_circular_store_becomes_a_bounded_one_and_larger(rt: HostRuntime) {
+    let kinds = (Kind::Circular, Kind::Bounded);
+    changes(&rt, rt.alloc(), kinds, &FULL_TABLE, &ROOM_OF_A_TABLE);
+}
+
+#[test]
+fn a_bounded_store_becomes_a_circular_one_and_larger(rt: HostRuntime) {
+    let kinds = (Kind::Bounded, Kind::Circular);
+    changes(&rt, rt.alloc(), kinds, &FULL_RING, &ROOM_OF_A_RING);
 }
 
 static ONE_PUT: [Step; 1] = [(PutAt(1, 1), Kept(1))];
@@ -347,16 +399,19 @@ static OLDEST_GIVEN_UP: [Step; 2] = [
 static NEWEST_LOST: [Step; 2] = [(AskState, State(1, 1, 1, 1, 1)), (PutAt(2, 2), Lost(2))];
 
 #[test]
-fn each_type_is_resized(rt: HostRuntime) {
-    let alloc = rt.alloc();
-    let mut ring = RingStore::new(alloc, 2).expect(&rt, "memory");
-    run(&rt, alloc, &mut ring, &ONE_PUT);
+fn a_ring_is_resized(rt: HostRuntime) {
+    let mut ring = RingStore::new(rt.alloc(), 2).expect(&rt, "memory");
+    run(&rt, rt.alloc(), &mut ring, &ONE_PUT);
     ring.resize(1).expect(&rt, "memory");
-    run(&rt, alloc, &mut ring, &OLDEST_GIVEN_UP);
-    let mut blocks = BlockStore::new(alloc, 2).expect(&rt, "memory");
-    run(&rt, alloc, &mut blocks, &ONE_PUT);
+    run(&rt, rt.alloc(), &mut ring, &OLDEST_GIVEN_UP);
+}
+
+#[test]
+fn a_table_of_blocks_is_resized(rt: HostRuntime) {
+    let mut blocks = BlockStore::new(rt.alloc(), 2).expect(&rt, "memory");
+    run(&rt, rt.alloc(), &mut blocks, &ONE_PUT);
     blocks.resize(1).expect(&rt, "memory");
-    run(&rt, alloc, &mut blocks, &NEWEST_LOST);
+    run(&rt, rt.alloc(), &mut blocks, &NEWEST_LOST);
 }
 
 // A packet with this sequence count, as a store holds it.
@@ -374,15 +429,14 @@ fn stored_packets_are_equal_with_their_times(rt: HostRuntime) {
 }
 
 #[test]
-fn refusals_have_numbers_and_names(rt: HostRuntime) -> Result<(), Fail> {
-    let fault = Fault::HoldsMore;
-    assert_eq!(rt; (fault.number(), fault.name()), (9, "HoldsMore"));
-    assert_eq!(rt;
-        (Fault::NoMemory.number(), Fault::NoMemory.name()),
-        (0, "NoMemory")
-    );
-    assert_eq!(rt; fault.to_string(rt.alloc())?.as_str(), "9 HoldsMore");
+fn refusals_have_numbers_and_names(rt: HostRuntime) {
+    has_name(&rt, Fault::HoldsMore, 9, "HoldsMore");
+    has_name(&rt, Fault::NoMemory, 0, "NoMemory");
+    is_shown(&rt, rt.alloc(), &Fault::HoldsMore, "9 HoldsMore");
+}
+
+#[test]
+fn laws_are_called() {
     laws::stores_lose_alike();
     laws::stores_stay_stores();
-    Ok(())
 }

@@ -1,5 +1,6 @@
-use crate::Words;
+//! The words of each refusal.
 use mm_base::Refusal;
+use mm_words::Words;
 use std::process::Abort;
 
 // Each refusal, in the order of their numbers.
@@ -106,6 +107,6 @@ fn words_are_shown_in_one_line(rt: HostRuntime) {
         let shown = Words::of(*refusal)
             .to_string(rt.alloc())
             .expect(&rt, "memory");
-        assert_eq!(rt; shown.as_str(), *text);
+        assert!(rt; shown.as_str() == *text, "{refusal}");
     }
 }

@@ -1,5 +1,6 @@
-use crate::numbers::{Numeral, push_number};
-use crate::{Fault, Kind, NoMemory, Refusal, StoreId, lines};
+//! Identifiers, kinds, refusals, numbers and lines.
+use mm_base::numbers::{Numeral, push_number};
+use mm_base::{Fault, Kind, NoMemory, Refusal, StoreId, lines};
 use std::process::Abort;
 
 fn id(rt: &impl Abort, text: &str) -> StoreId {
@@ -21,17 +22,25 @@ fn field_refused(rt: &impl Abort, field: [u8; 8]) {
 }
 
 #[test]
-fn identifiers_and_kinds(rt: HostRuntime) {
+fn identifiers_are_read(rt: HostRuntime) {
     let sci = id(&rt, "SCI");
     assert!(rt; sci.field() == *b"SCI     ");
     assert!(rt; sci.text() == b"SCI".as_slice());
     assert!(rt; StoreId::of_field(*b"SCI     ").expect(&rt, "an identifier") == sci);
+}
+
+#[test]
+fn identifiers_are_refused(rt: HostRuntime) {
     for text in &BAD_TEXTS {
         text_refused(&rt, text);
     }
     for field in &BAD_FIELDS {
         field_refused(&rt, *field);
     }
+}
+
+#[test]
+fn kinds_are_read_by_their_codes(rt: HostRuntime) {
     assert!(rt; Kind::of_code(1).expect(&rt, "a kind") == Kind::Bounded);
     assert!(rt; Kind::of_code(2).expect_err(&rt, "no kind") == Fault::BadEnum);
 }
@@ -48,13 +57,15 @@ static REFUSALS: [(Refusal, &str); 6] = [
 #[test]
 fn refusals_are_printed_with_number_and_name(rt: HostRuntime) {
     for (refusal, text) in &REFUSALS {
-        assert_eq!(rt;
-            refusal.to_string(rt.alloc()).expect(&rt, "memory").as_str(),
-            *text
-        );
+        let shown = refusal.to_string(rt.alloc()).expect(&rt, "memory");
+        assert!(rt; shown.as_str() == *text, "{text}");
     }
+}
+
+#[test]
+fn refusals_of_several_types_stand_in_one_text(rt: HostRuntime) {
     let shown = format!(in rt.alloc(); "{} {}", NoMemory, Fault::BadEnum).expect(&rt, "memory");
-    assert_eq!(rt; shown.as_str(), "0 NoMemory 16 BadEnum");
+    assert!(rt; shown.as_str() == "0 NoMemory 16 BadEnum");
 }
 
 static NUMERALS: [(&str, Numeral); 7] = [
@@ -68,10 +79,14 @@ static NUMERALS: [(&str, Numeral); 7] = [
 ];
 
 #[test]
-fn numbers_are_read_and_written(rt: HostRuntime) {
+fn numbers_are_read(rt: HostRuntime) {
     for (text, numeral) in &NUMERALS {
         assert!(rt; Numeral::read(text.as_bytes(), 256) == *numeral, "{text}");
     }
+}
+
+#[test]
+fn numbers_are_written(rt: HostRuntime) {
     let mut text = Vec::from_slice(rt.alloc(), b"size ").expect(&rt, "memory");
     push_number(&mut text, 1000000).expect(&rt, "memory");
     assert!(rt; text.as_slice() == b"size 1000000".as_slice());

@@ -1,0 +1,7 @@
+//! Tests of mm_base and mm_words.
+#![tactic(auto)]
+
+#[cfg(test)]
+mod bases;
+#[cfg(test)]
+mod words;
