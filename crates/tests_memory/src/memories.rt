@@ -98,6 +98,13 @@ fn asks(rt: &impl Abort, alloc: Global, memory: &mut Memory, rows: &[Row]) {
     }
 }
 
+// The memory of a setup after these requests.
+fn memory_after(rt: &impl Abort, alloc: Global, setup: &str, rows: &[Row]) -> Memory {
+    let mut memory = memory_of(rt, alloc, setup);
+    asks(rt, alloc, &mut memory, rows);
+    memory
+}
+
 // The kind, the size and the number of packets of a store, and whether its storage is on.
 fn shape(memory: &Memory, id: &StoreId) -> Option<(Kind, u32, u32, bool)> {
     let state = memory.state(id)?;
@@ -108,6 +115,16 @@ fn shape(memory: &Memory, id: &StoreId) -> Option<(Kind, u32, u32, bool)> {
 // The answers to the instructions of a request.
 fn each_is(rt: &impl Abort, answers: &Answers, want: &[Answer]) {
     assert!(rt; answers.each.as_slice() == want);
+}
+
+// The contents of a store: the times of its oldest and its newest packet, and how many it holds.
+fn summary(id: [u8; 8], oldest: u64, newest: u64, held: u32) -> Summary {
+    Summary {
+        id,
+        oldest,
+        newest,
+        held,
+    }
 }
 
 // The first report is on the contents of these stores, at the moment 9.

@@ -2,6 +2,8 @@
 use super::{all_done, some_refused};
 use crate::samples::ONE_STORE;
 use mm_ask::{Fault, LineFault, ask_bytes};
+use std::alloc::AllocGlobal;
+use std::process::Abort;
 
 const REFUSED_WHOLE: &str = "\
     1864C00000042011010000\n\
@@ -52,6 +54,13 @@ fn bad_digits_are_told_before_the_first_growth(rt: HostRuntime) {
     }
 }
 
+// Each line by itself is answered so.
+fn each_refused<R: Abort + AllocGlobal>(rt: &R, lines: &[(&str, &str)]) {
+    for (line, want) in lines {
+        some_refused(rt, line, want);
+    }
+}
+
 // Each line fails the test that is named and a later one too.
 static FIRST_TEST_THAT_FAILS: [(&str, &str); 7] = [
     // A character that is no digit, and no packet.
@@ -77,9 +86,7 @@ static FIRST_TEST_THAT_FAILS: [(&str, &str); 7] = [
 
 #[test]
 fn the_first_test_that_fails_is_named(rt: HostRuntime) {
-    for (line, want) in &FIRST_TEST_THAT_FAILS {
-        some_refused(&rt, line, want);
-    }
+    each_refused(&rt, &FIRST_TEST_THAT_FAILS);
 }
 
 // The refusals of packets that no line above has.
@@ -93,9 +100,7 @@ static BAD_PACKETS: [(&str, &str); 5] = [
 
 #[test]
 fn packets_that_are_refused(rt: HostRuntime) {
-    for (line, want) in &BAD_PACKETS {
-        some_refused(&rt, line, want);
-    }
+    each_refused(&rt, &BAD_PACKETS);
 }
 
 static SHOWN: [(LineFault, &str); 4] = [

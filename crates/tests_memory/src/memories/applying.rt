@@ -1,7 +1,7 @@
 //! Requests that change stores, the storage control and retrievals.
 use super::{
     BAD_ID, BAD_SIZE, BUSY, DONE, EXISTS, IDLE, NO_SUCH_ROUTE, NO_SUCH_STORE, Row, STORAGE_ON,
-    asked, asks, each_is, has_shape, id, memory_of, stands,
+    asked, asks, each_is, has_shape, id, memory_after, memory_of, stands,
 };
 use crate::samples::{ONE_STORE, TWO_STORES};
 use mm_base::Kind;
@@ -70,8 +70,7 @@ static CHANNEL_CHANGE: [Row; 3] = rows![
 #[test]
 fn channel_of_a_store_changed(rt: HostRuntime) {
     let alloc = rt.alloc();
-    let mut memory = memory_of(&rt, alloc, ONE_STORE);
-    asks(&rt, alloc, &mut memory, &CHANNEL_CHANGE);
+    let mut memory = memory_after(&rt, alloc, ONE_STORE, &CHANNEL_CHANGE);
     let answers = asked(&rt, alloc, &mut memory, 4, 22, b"");
     assert!(rt; configuration(&answers) == Some((4, sci_on(5))));
 }
@@ -139,9 +138,7 @@ static CREATED_LAST: [Row; 6] = rows![
 
 #[test]
 fn a_created_store_stands_last(rt: HostRuntime) {
-    let alloc = rt.alloc();
-    let mut memory = memory_of(&rt, alloc, TWO_STORES);
-    asks(&rt, alloc, &mut memory, &CREATED_LAST);
+    let memory = memory_after(&rt, rt.alloc(), TWO_STORES, &CREATED_LAST);
     let (sci, hk) = (id(&rt, b"SCI"), id(&rt, b"HK"));
     stands(&rt, &memory, 0, &hk, 3);
     stands(&rt, &memory, 1, &sci, 7);

@@ -1,14 +1,13 @@
 //! Requests on stores that hold packets.
 use super::{
     BAD_RANGE, BAD_SIZE, BUSY, DONE, HOLDS_MORE, IDLE, Row, STORAGE_ON, asked, asks, has_shape, id,
-    memory_of, summarises,
+    memory_of, summarises, summary,
 };
 use crate::samples::TWO_STORES;
 use mm_base::{Kind, StoreId};
 use mm_desk::{Offered, Returned};
 use mm_memory::Memory;
 use mm_packet::{BlockPacket, Header, Octets, Packet};
-use mm_st15::Summary;
 use std::alloc::Global;
 use std::process::Abort;
 
@@ -157,21 +156,14 @@ fn retrieval_by_range(rt: HostRuntime) {
     offers(&rt, alloc, &mut memory, &sci, 10, disabled);
 }
 
-// The contents of a store that holds two packets, of the times 7 and 8.
-fn two_packets(id: [u8; 8]) -> Summary {
-    Summary {
-        id,
-        oldest: 7,
-        newest: 8,
-        held: 2,
-    }
-}
-
 #[test]
 fn summaries_of_stores_with_packets(rt: HostRuntime) {
     let alloc = rt.alloc();
     let mut memory = two_packets_each(&rt, alloc);
     let answers = asked(&rt, alloc, &mut memory, 9, 12, b"\x02HK      SCI     ");
-    let both = [two_packets(*b"HK      "), two_packets(*b"SCI     ")];
-    summarises(&rt, &answers, &both);
+    let (hk, sci) = (
+        summary(*b"HK      ", 7, 8, 2),
+        summary(*b"SCI     ", 7, 8, 2),
+    );
+    summarises(&rt, &answers, &[hk, sci]);
 }

@@ -1,21 +1,16 @@
 //! The reports that answer requests.
-use super::{BAD_ID, DONE, NO_SUCH_STORE, Row, asked, asks, each_is, memory_of, summarises};
+use super::{
+    BAD_ID, DONE, NO_SUCH_STORE, Row, asked, each_is, memory_after, memory_of, summarises, summary,
+};
 use crate::samples::TWO_STORES;
 use mm_memory::{Answer, Answers};
-use mm_st15::{Report, Row as ReportType, Status, Summary};
+use mm_st15::{Report, Row as ReportType, Status};
 use std::process::Abort;
 
 // Three identifiers, of which the second is a store's.
 const THREE: &[u8] = b"\x03sci     SCI     NONE    ";
 
 const THREE_ANSWERS: [Answer; 3] = [BAD_ID, DONE, NO_SUCH_STORE];
-
-const EMPTY: Summary = Summary {
-    id: *b"SCI     ",
-    oldest: 0,
-    newest: 0,
-    held: 0,
-};
 
 #[test]
 fn summaries_of_the_stores_that_are_there(rt: HostRuntime) {
@@ -24,7 +19,7 @@ fn summaries_of_the_stores_that_are_there(rt: HostRuntime) {
     let answers = asked(&rt, alloc, &mut memory, 9, 12, THREE);
     each_is(&rt, &answers, &THREE_ANSWERS);
     assert!(rt; answers.reports.len() == 1);
-    summarises(&rt, &answers, &[EMPTY]);
+    summarises(&rt, &answers, &[summary(*b"SCI     ", 0, 0, 0)]);
 }
 
 #[test]
@@ -92,8 +87,7 @@ fn reports_statuses(rt: &impl Abort, answers: &Answers, want: &[Status]) {
 #[test]
 fn status_report(rt: HostRuntime) {
     let alloc = rt.alloc();
-    let mut memory = memory_of(&rt, alloc, TWO_STORES);
-    asks(&rt, alloc, &mut memory, &STATUSES);
+    let mut memory = memory_after(&rt, alloc, TWO_STORES, &STATUSES);
     let answers = asked(&rt, alloc, &mut memory, 9, 18, b"");
     assert!(rt; answers.each.is_empty() && answers.reports.len() == 1);
     let want = [
