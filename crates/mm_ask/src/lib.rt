@@ -17,6 +17,3 @@ pub use counters::{Counters, Numbers, SEQUENCE_COUNTS};
 pub use fault::LineFault;
 pub use line::{Asked, request_of};
 pub use mm_problem::Fault;
-
-#[cfg(test)]
-mod tests;

@@ -19,6 +19,3 @@ pub use fault::Fault;
 pub use memory::Memory;
 pub use mm_base::NoMemory;
 pub use mm_desk::Held;
-
-#[cfg(test)]
-mod tests;

@@ -1,4 +1,11 @@
-use super::*;
+//! Requests that change stores, the storage control and retrievals.
+use super::{
+    BAD_ID, BAD_SIZE, BUSY, DONE, EXISTS, IDLE, NO_SUCH_ROUTE, NO_SUCH_STORE, Row, STORAGE_ON,
+    asked, asks, each_is, has_shape, id, memory_after, memory_of, stands,
+};
+use crate::samples::{ONE_STORE, TWO_STORES};
+use mm_base::Kind;
+use mm_memory::Answers;
 use mm_st15::{Configuration, Report};
 
 #[test]
@@ -7,11 +14,11 @@ fn create_two_stores(rt: HostRuntime) {
     let mut memory = memory_of(&rt, alloc, ONE_STORE);
     let both = b"\x02SCI     \x00\x00\x00\x04\x01\x00HK      \x00\x00\x00\x02\x00\x01";
     let answers = asked(&rt, alloc, &mut memory, 1, 20, both);
-    assert_eq!(rt; answers.each.as_slice(), [EXISTS, DONE].as_slice());
+    each_is(&rt, &answers, &[EXISTS, DONE]);
     assert!(rt; answers.reports.is_empty());
     let hk = id(&rt, b"HK");
-    assert_eq!(rt; memory.entry(1), Some((hk, 1)));
-    assert_eq!(rt; shape(&memory, &hk), Some((Kind::Circular, 2, 0, false)));
+    stands(&rt, &memory, 1, &hk, 1);
+    has_shape(&rt, &memory, &hk, (Kind::Circular, 2, 0, false));
 }
 
 #[test]
@@ -19,10 +26,10 @@ fn malformed_identifier_beside_a_good_one(rt: HostRuntime) {
     let alloc = rt.alloc();
     let mut memory = memory_of(&rt, alloc, ONE_STORE);
     let answers = asked(&rt, alloc, &mut memory, 1, 2, b"\x02sci     SCI     ");
-    assert_eq!(rt; answers.each.as_slice(), [BAD_ID, DONE].as_slice());
+    each_is(&rt, &answers, &[BAD_ID, DONE]);
     assert!(rt; answers.reports.is_empty());
     let sci = id(&rt, b"SCI");
-    assert_eq!(rt; shape(&memory, &sci), Some((Kind::Bounded, 4, 0, false)));
+    has_shape(&rt, &memory, &sci, (Kind::Bounded, 4, 0, false));
 }
 
 // The moment of the first report and its entry, where it is on the configuration of one store.
@@ -50,11 +57,11 @@ fn configuration_report(rt: HostRuntime) {
     let alloc = rt.alloc();
     let mut memory = memory_of(&rt, alloc, ONE_STORE);
     let answers = asked(&rt, alloc, &mut memory, 1, 22, b"");
-    assert_eq!(rt; (answers.each.len(), answers.reports.len()), (0, 1));
-    assert_eq!(rt; configuration(&answers), Some((1, sci_on(0))));
+    assert!(rt; answers.each.is_empty() && answers.reports.len() == 1);
+    assert!(rt; configuration(&answers) == Some((1, sci_on(0))));
 }
 
-const CHANNEL_CHANGE: [Row; 3] = rows![
+static CHANNEL_CHANGE: [Row; 3] = rows![
     28 b"\x01SCI     \x05" => STORAGE_ON,
     2 b"\x01SCI     " => DONE,
     28 b"\x01SCI     \x05" => DONE,
@@ -63,13 +70,12 @@ const CHANNEL_CHANGE: [Row; 3] = rows![
 #[test]
 fn channel_of_a_store_changed(rt: HostRuntime) {
     let alloc = rt.alloc();
-    let mut memory = memory_of(&rt, alloc, ONE_STORE);
-    asks(&rt, alloc, &mut memory, &CHANNEL_CHANGE);
+    let mut memory = memory_after(&rt, alloc, ONE_STORE, &CHANNEL_CHANGE);
     let answers = asked(&rt, alloc, &mut memory, 4, 22, b"");
-    assert_eq!(rt; configuration(&answers), Some((4, sci_on(5))));
+    assert!(rt; configuration(&answers) == Some((4, sci_on(5))));
 }
 
-const DELETION: [Row; 5] = rows![
+static DELETION: [Row; 5] = rows![
     21 b"\x01SCI     " => STORAGE_ON,
     2 b"\x01SCI     " => DONE,
     21 b"\x01SCI     " => DONE,
@@ -81,14 +87,13 @@ const DELETION: [Row; 5] = rows![
 fn delete_store_with_routes(rt: HostRuntime) {
     let alloc = rt.alloc();
     let mut memory = memory_of(&rt, alloc, TWO_STORES);
-    assert_eq!(rt; memory.control().list().len(), 1);
+    assert!(rt; memory.control().list().len() == 1);
     asks(&rt, alloc, &mut memory, &DELETION);
-    assert!(rt; memory.control().list().is_empty());
-    assert_eq!(rt; memory.entry(0), Some((id(&rt, b"HK"), 3)));
-    assert_eq!(rt; memory.entry(1), None);
+    stands(&rt, &memory, 0, &id(&rt, b"HK"), 3);
+    assert!(rt; memory.control().list().is_empty() && memory.entry(1).is_none());
 }
 
-const RETRIEVAL: [Row; 5] = rows![
+static RETRIEVAL: [Row; 5] = rows![
     9 b"\x01SCI     \0\0\0\0\0\0\0\x01\0\0\0\0\0\0\0\xFF" => DONE,
     11 b"\x01SCI     \0\0\0\0\0\0\0\xFF" => BUSY,
     17 b"\x01SCI     " => DONE,
@@ -104,7 +109,7 @@ fn retrieval_makes_busy(rt: HostRuntime) {
 }
 
 // Report types by their number, and how many rows there are after each request.
-const ROUTES: [(Row, usize); 5] = [
+static ROUTES: [(Row, usize); 5] = [
     ((4, b"\x01SCI     \x00\x64\x03\x1A", NO_SUCH_ROUTE), 1),
     ((3, b"\x01SCI     \x00\x64\x03\x19", DONE), 1),
     ((3, b"\x01SCI     \x00\x64\x03\x1A", DONE), 2),
@@ -118,11 +123,11 @@ fn routes_added_and_deleted(rt: HostRuntime) {
     let mut memory = memory_of(&rt, alloc, ONE_STORE);
     for (row, rows) in &ROUTES {
         asks(&rt, alloc, &mut memory, &[*row]);
-        assert_eq!(rt; memory.control().list().len(), *rows);
+        assert!(rt; memory.control().list().len() == *rows, "{rows}");
     }
 }
 
-const CREATED_LAST: [Row; 6] = rows![
+static CREATED_LAST: [Row; 6] = rows![
     2 b"\x01SCI     " => DONE,
     21 b"\x01SCI     " => DONE,
     20 b"\x01SCI     \x00\x00\x00\x02\x00\x07" => DONE,
@@ -133,11 +138,9 @@ const CREATED_LAST: [Row; 6] = rows![
 
 #[test]
 fn a_created_store_stands_last(rt: HostRuntime) {
-    let alloc = rt.alloc();
-    let mut memory = memory_of(&rt, alloc, TWO_STORES);
-    asks(&rt, alloc, &mut memory, &CREATED_LAST);
+    let memory = memory_after(&rt, rt.alloc(), TWO_STORES, &CREATED_LAST);
     let (sci, hk) = (id(&rt, b"SCI"), id(&rt, b"HK"));
-    assert_eq!(rt; memory.entry(0), Some((hk, 3)));
-    assert_eq!(rt; memory.entry(1), Some((sci, 7)));
-    assert_eq!(rt; shape(&memory, &sci), Some((Kind::Bounded, 3, 0, false)));
+    stands(&rt, &memory, 0, &hk, 3);
+    stands(&rt, &memory, 1, &sci, 7);
+    has_shape(&rt, &memory, &sci, (Kind::Bounded, 3, 0, false));
 }

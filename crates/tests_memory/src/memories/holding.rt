@@ -1,7 +1,15 @@
-use super::*;
+//! Requests on stores that hold packets.
+use super::{
+    BAD_RANGE, BAD_SIZE, BUSY, DONE, HOLDS_MORE, IDLE, Row, STORAGE_ON, asked, asks, has_shape, id,
+    memory_of, summarises, summary,
+};
+use crate::samples::TWO_STORES;
+use mm_base::{Kind, StoreId};
 use mm_desk::{Offered, Returned};
-use mm_packet::BlockPacket;
-use mm_st15::{Report, Summary};
+use mm_memory::Memory;
+use mm_packet::{BlockPacket, Header, Octets, Packet};
+use std::alloc::Global;
+use std::process::Abort;
 
 // Telemetry with this sequence count, by which the tests know it again.
 fn packet(rt: &impl Abort, alloc: Global, count: u16) -> BlockPacket {
@@ -52,19 +60,24 @@ fn next_of(memory: &mut Memory, id: &StoreId) -> Told {
     }
 }
 
+// Offers a packet to a store at a moment, and compares the answer.
+fn offers(rt: &impl Abort, alloc: Global, memory: &mut Memory, id: &StoreId, now: u64, want: Told) {
+    assert!(rt; offered(rt, alloc, memory, id, now) == want, "at {now}");
+}
+
 // A memory whose stores SCI (bounded, of four blocks) and HK (circular, of two) hold packets at the
 // times 7 and 8.
 fn two_packets_each(rt: &impl Abort, alloc: Global) -> Memory {
     let mut memory = memory_of(rt, alloc, TWO_STORES);
     for text in [b"SCI".as_slice(), b"HK".as_slice()] {
         let id = id(rt, text);
-        assert_eq!(rt; offered(rt, alloc, &mut memory, &id, 7), Told::Kept(7));
-        assert_eq!(rt; offered(rt, alloc, &mut memory, &id, 7), Told::Kept(8));
+        offers(rt, alloc, &mut memory, &id, 7, Told::Kept(7));
+        offers(rt, alloc, &mut memory, &id, 7, Told::Kept(8));
     }
     memory
 }
 
-const HELD: [Row; 9] = rows![
+static HELD: [Row; 9] = rows![
     25 b"\x01SCI     \0\0\0\0" => BAD_SIZE,
     25 b"\x01SCI     \0\0\0\x01" => STORAGE_ON,
     9 b"\x01SCI     \0\0\0\0\0\0\0\x01\0\0\0\0\0\0\0\xFF" => DONE,
@@ -82,11 +95,11 @@ fn a_store_that_holds_more_is_not_resized(rt: HostRuntime) {
     let mut memory = two_packets_each(&rt, alloc);
     asks(&rt, alloc, &mut memory, &HELD);
     let sci = id(&rt, b"SCI");
-    assert_eq!(rt; shape(&memory, &sci), Some((Kind::Bounded, 2, 2, true)));
-    assert_eq!(rt; offered(&rt, alloc, &mut memory, &sci, 9), Told::Lost);
+    has_shape(&rt, &memory, &sci, (Kind::Bounded, 2, 2, true));
+    offers(&rt, alloc, &mut memory, &sci, 9, Told::Lost);
 }
 
-const TO_BOUNDED: [Row; 6] = rows![
+static TO_BOUNDED: [Row; 6] = rows![
     27 b"\x01HK      " => STORAGE_ON,
     2 b"\x01HK      " => DONE,
     27 b"\x01HK      " => DONE,
@@ -95,7 +108,7 @@ const TO_BOUNDED: [Row; 6] = rows![
     1 b"\x01HK      " => DONE,
 ];
 
-const TO_CIRCULAR: [Row; 5] = rows![
+static TO_CIRCULAR: [Row; 5] = rows![
     26 b"\x01SCI     " => STORAGE_ON,
     2 b"\x01SCI     " => DONE,
     26 b"\x01SCI     " => DONE,
@@ -109,23 +122,20 @@ fn change_kind_and_resize(rt: HostRuntime) {
     let mut memory = two_packets_each(&rt, alloc);
     let (sci, hk) = (id(&rt, b"SCI"), id(&rt, b"HK"));
     asks(&rt, alloc, &mut memory, &TO_BOUNDED);
-    assert_eq!(rt; shape(&memory, &hk), Some((Kind::Bounded, 2, 2, true)));
-    assert_eq!(rt; offered(&rt, alloc, &mut memory, &hk, 9), Told::Lost);
+    has_shape(&rt, &memory, &hk, (Kind::Bounded, 2, 2, true));
+    offers(&rt, alloc, &mut memory, &hk, 9, Told::Lost);
     asks(&rt, alloc, &mut memory, &TO_CIRCULAR);
-    assert_eq!(rt; shape(&memory, &sci), Some((Kind::Circular, 2, 2, true)));
-    assert_eq!(rt;
-        offered(&rt, alloc, &mut memory, &sci, 9),
-        Told::KeptOver(9)
-    );
+    has_shape(&rt, &memory, &sci, (Kind::Circular, 2, 2, true));
+    offers(&rt, alloc, &mut memory, &sci, 9, Told::KeptOver(9));
 }
 
-const BEGIN_AT_8: [Row; 3] = rows![
+static BEGIN_AT_8: [Row; 3] = rows![
     9 b"\x01SCI     \0\0\0\0\0\0\0\x09\0\0\0\0\0\0\0\x08" => BAD_RANGE,
     9 b"\x01SCI     \0\0\0\0\0\0\0\x08\0\0\0\0\0\0\0\x08" => DONE,
     9 b"\x01SCI     \0\0\0\0\0\0\0\x08\0\0\0\0\0\0\0\x08" => BUSY,
 ];
 
-const AFTERWARDS: [Row; 3] = rows![
+static AFTERWARDS: [Row; 3] = rows![
     17 b"\x01SCI     " => IDLE,
     11 b"\x01SCI     \0\0\0\0\0\0\0\x08" => DONE,
     2 b"\x01SCI     " => DONE,
@@ -136,14 +146,14 @@ fn retrieval_by_range(rt: HostRuntime) {
     let alloc = rt.alloc();
     let mut memory = two_packets_each(&rt, alloc);
     let sci = id(&rt, b"SCI");
-    assert_eq!(rt; offered(&rt, alloc, &mut memory, &sci, 9), Told::Kept(9));
+    offers(&rt, alloc, &mut memory, &sci, 9, Told::Kept(9));
     asks(&rt, alloc, &mut memory, &BEGIN_AT_8);
-    assert_eq!(rt; next_of(&mut memory, &sci), Told::Given(8));
-    assert_eq!(rt; next_of(&mut memory, &sci), Told::End);
+    assert!(rt; next_of(&mut memory, &sci) == Told::Given(8));
+    assert!(rt; next_of(&mut memory, &sci) == Told::End);
     asks(&rt, alloc, &mut memory, &AFTERWARDS);
-    assert_eq!(rt; shape(&memory, &sci), Some((Kind::Bounded, 4, 1, false)));
+    has_shape(&rt, &memory, &sci, (Kind::Bounded, 4, 1, false));
     let disabled = Told::Back(mm_desk::Fault::Disabled);
-    assert_eq!(rt; offered(&rt, alloc, &mut memory, &sci, 10), disabled);
+    offers(&rt, alloc, &mut memory, &sci, 10, disabled);
 }
 
 #[test]
@@ -151,16 +161,9 @@ fn summaries_of_stores_with_packets(rt: HostRuntime) {
     let alloc = rt.alloc();
     let mut memory = two_packets_each(&rt, alloc);
     let answers = asked(&rt, alloc, &mut memory, 9, 12, b"\x02HK      SCI     ");
-    let both = [*b"HK      ", *b"SCI     "].map(|id| Summary {
-        id,
-        oldest: 7,
-        newest: 8,
-        held: 2,
-    });
-    match answers.reports.get(0) {
-        Some(Report::Summaries { moment, entries }) => {
-            assert_eq!(rt; (*moment, entries.as_slice()), (9, both.as_slice()));
-        }
-        _ => assert!(rt; false, "a summary"),
-    }
+    let (hk, sci) = (
+        summary(*b"HK      ", 7, 8, 2),
+        summary(*b"SCI     ", 7, 8, 2),
+    );
+    summarises(&rt, &answers, &[hk, sci]);
 }

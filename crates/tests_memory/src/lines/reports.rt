@@ -1,6 +1,6 @@
 //! Reports, to the octet, and their numbers.
 use super::{CONFIGURATIONS, all_done, some_refused};
-use crate::{Counters, Numbers, SEQUENCE_COUNTS, laws, request_of};
+use mm_ask::{Counters, Numbers, SEQUENCE_COUNTS, laws, request_of};
 use mm_st15::ReportKind;
 use std::process::Abort;
 
@@ -101,14 +101,14 @@ fn a_report_for_each_accepted_instruction(rt: HostRuntime) {
 }
 
 // The numbers of the next report of a kind are these.
-fn numbered<R: Abort>(
-    rt: &R,
+fn numbered(
+    rt: &impl Abort,
     counters: &mut Counters,
     kind: ReportKind,
     sequence: u16,
     counter: u16,
 ) {
-    assert_eq!(rt; counters.next(kind), Numbers { sequence, counter });
+    assert!(rt; counters.next(kind) == Numbers { sequence, counter });
 }
 
 #[test]
@@ -134,7 +134,7 @@ fn counters_begin_again(rt: HostRuntime) {
 #[test]
 fn a_line_s_request(rt: HostRuntime) {
     let asked = request_of(rt.alloc(), CONFIGURATIONS.as_bytes()).expect(&rt, "a request");
-    assert_eq!(rt; (asked.request.subtype(), asked.packet.apid()), (22, 100));
+    assert!(rt; asked.request.subtype() == 22 && asked.packet.apid() == 100);
 }
 
 #[test]
@@ -142,5 +142,5 @@ fn laws_are_called(rt: HostRuntime) {
     laws::numbers_count_reports();
     laws::conversations_count_their_reports();
     laws::constants_are();
-    assert_eq!(rt; SEQUENCE_COUNTS, 16_384);
+    assert!(rt; SEQUENCE_COUNTS == 16_384);
 }

@@ -1,6 +1,9 @@
 //! Requests that are refused whole.
-use super::{SCI, some_refused};
-use crate::{Fault, LineFault, Outcome, ask_bytes};
+use super::{all_done, some_refused};
+use crate::samples::ONE_STORE;
+use mm_ask::{Fault, LineFault, ask_bytes};
+use std::alloc::AllocGlobal;
+use std::process::Abort;
 
 const REFUSED_WHOLE: &str = "\
     1864C00000042011010000\n\
@@ -29,33 +32,37 @@ fn requests_that_are_refused_whole(rt: HostRuntime) {
 }
 
 // Creates two stores.
-const CREATE: [u8; 80] =
-    *b"1864C0000021200F140000025343492020202020000000040100484B202020202020000000020001";
+const CREATE: &str =
+    "1864C0000021200F140000025343492020202020000000040100484B202020202020000000020001";
 
 #[test]
 fn each_proper_prefix_of_a_packet_is_short(rt: HostRuntime) {
     for octets in 1..40usize {
-        let line = &CREATE[..2 * octets];
-        let (outcome, text) = ask_bytes(rt.alloc(), SCI.as_bytes(), line).expect(&rt, "an answer");
-        assert_eq!(rt; text.as_slice(), b"1 refused 1 Short\n".as_slice());
-        assert_eq!(rt; outcome, Outcome::SomeRefused);
+        let line = CREATE.get(..2 * octets).expect(&rt, "digits");
+        some_refused(&rt, line, "1 refused 1 Short\n");
     }
 }
+
+const TWICE_HEX_LINE: &[u8] = b"1 refused 49 HexLine\n2 refused 49 HexLine\n";
 
 // Whichever growth is refused, bad digits are told as such, or nothing is.
 #[test]
 fn bad_digits_are_told_before_the_first_growth(rt: HostRuntime) {
-    match ask_bytes(rt.alloc(), SCI.as_bytes(), b"0z\n186") {
-        Ok((_, text)) => assert_eq!(rt;
-            text.as_slice(),
-            b"1 refused 49 HexLine\n2 refused 49 HexLine\n".as_slice()
-        ),
-        Err(fault) => assert_eq!(rt; fault, Fault::NoMemory),
+    match ask_bytes(rt.alloc(), ONE_STORE.as_bytes(), b"0z\n186") {
+        Ok((_, text)) => assert!(rt; text.as_slice() == TWICE_HEX_LINE),
+        Err(fault) => assert!(rt; fault == Fault::NoMemory),
+    }
+}
+
+// Each line by itself is answered so.
+fn each_refused<R: Abort + AllocGlobal>(rt: &R, lines: &[(&str, &str)]) {
+    for (line, want) in lines {
+        some_refused(rt, line, want);
     }
 }
 
 // Each line fails the test that is named and a later one too.
-const FIRST_TEST_THAT_FAILS: [(&str, &str); 7] = [
+static FIRST_TEST_THAT_FAILS: [(&str, &str); 7] = [
     // A character that is no digit, and no packet.
     ("00z", "1 refused 49 HexLine\n"),
     ("3864C0000004200F0100zz", "1 refused 49 HexLine\n"),
@@ -79,13 +86,11 @@ const FIRST_TEST_THAT_FAILS: [(&str, &str); 7] = [
 
 #[test]
 fn the_first_test_that_fails_is_named(rt: HostRuntime) {
-    for (line, want) in FIRST_TEST_THAT_FAILS {
-        some_refused(&rt, line, want);
-    }
+    each_refused(&rt, &FIRST_TEST_THAT_FAILS);
 }
 
 // The refusals of packets that no line above has.
-const BAD_PACKETS: [(&str, &str); 5] = [
+static BAD_PACKETS: [(&str, &str); 5] = [
     ("1FFFC0000004200F010000", "1 refused 6 Idle\n"),
     ("3864C0000004200F010000", "1 refused 2 Version\n"),
     ("186400000004200F010000", "1 refused 5 Segmented\n"),
@@ -95,28 +100,29 @@ const BAD_PACKETS: [(&str, &str); 5] = [
 
 #[test]
 fn packets_that_are_refused(rt: HostRuntime) {
-    for (line, want) in BAD_PACKETS {
-        some_refused(&rt, line, want);
-    }
+    each_refused(&rt, &BAD_PACKETS);
 }
+
+static SHOWN: [(LineFault, &str); 4] = [
+    (LineFault::NoMemory, "0 NoMemory"),
+    (LineFault::HexLine, "49 HexLine"),
+    (LineFault::Packet(mm_packet::Fault::Short), "1 Short"),
+    (LineFault::Request(mm_st15::Fault::NotSt15), "12 NotSt15"),
+];
 
 #[test]
 fn the_refusal_of_a_line_is_shown_as_it_is_printed(rt: HostRuntime) {
-    for (fault, want) in [
-        (LineFault::NoMemory, "0 NoMemory"),
-        (LineFault::HexLine, "49 HexLine"),
-        (LineFault::Packet(mm_packet::Fault::Short), "1 Short"),
-        (LineFault::Request(mm_st15::Fault::NotSt15), "12 NotSt15"),
-    ] {
+    for (fault, want) in &SHOWN {
         let shown = fault.to_string(rt.alloc()).expect(&rt, "its text");
-        assert_eq!(rt; shown.as_str(), want);
+        assert!(rt; shown.as_str() == *want, "{want}");
     }
 }
 
 #[test]
 fn digits_of_either_case(rt: HostRuntime) {
-    let line = b"1864c000000d200f010000015343492020202020".as_slice();
-    let (outcome, text) = ask_bytes(rt.alloc(), SCI.as_bytes(), line).expect(&rt, "an answer");
-    assert_eq!(rt; text.as_slice(), b"1.1 done\n".as_slice());
-    assert_eq!(rt; outcome, Outcome::AllDone);
+    all_done(
+        &rt,
+        "1864c000000d200f010000015343492020202020",
+        "1.1 done\n",
+    );
 }

@@ -1,4 +1,12 @@
-use super::*;
+//! Which of two refusals comes first.
+use super::{
+    BAD_ENUM, BAD_ID, BAD_SIZE, BUSY, DONE, EXISTS, NO_SUCH_ROUTE, NO_SUCH_STORE, STORAGE_ON,
+    TABLE_FULL, TOO_MANY_STORES, asked, each_is, id, memory_of, stands,
+};
+use crate::samples::ONE_STORE;
+use mm_memory::{Answer, Memory};
+use std::alloc::Global;
+use std::process::Abort;
 
 const SCI: [u8; 8] = *b"SCI     ";
 
@@ -47,15 +55,12 @@ fn asks_each(rt: &impl Abort, alloc: Global, memory: &mut Memory, cases: &[Case]
         data.extend_from_slice(id).expect(rt, "memory");
         data.extend_from_slice(fields).expect(rt, "memory");
         let answers = asked(rt, alloc, memory, 1, *subtype, &data);
-        assert_eq!(rt;
-            answers.each.as_slice(),
-            [*want].as_slice(),
-            "{subtype} {data:?}"
-        );
+        let each = answers.each.as_slice();
+        assert!(rt; each == [*want].as_slice(), "{subtype} {data:?}");
     }
 }
 
-const STORES: [Case; 5] = [
+static STORES: [Case; 5] = [
     (20, READ, FORM, DONE),
     (9, READ, RANGE, DONE),
     (20, BOTH, FORM, DONE),
@@ -64,7 +69,7 @@ const STORES: [Case; 5] = [
 ];
 
 // A malformed identifier comes before all else.
-const MALFORMED: [Case; 9] = [
+static MALFORMED: [Case; 9] = [
     (20, BAD, BAD_KIND, BAD_ID),
     (20, BAD, BAD_CHANNEL_AND_SIZE, BAD_ID),
     (20, BAD, TOO_LARGE, BAD_ID),
@@ -77,7 +82,7 @@ const MALFORMED: [Case; 9] = [
 ];
 
 // A type, a channel or an APID comes before a size, and each of them before what there is.
-const NOT_ALLOWED: [Case; 14] = [
+static NOT_ALLOWED: [Case; 14] = [
     (20, NONE, BAD_KIND_AND_SIZE, BAD_ENUM),
     (20, NONE, BAD_CHANNEL_AND_SIZE, BAD_ENUM),
     (20, SCI, BAD_KIND, BAD_ENUM),
@@ -96,7 +101,7 @@ const NOT_ALLOWED: [Case; 14] = [
 
 // A store that is not there comes before what it would answer. Storage on comes before a retrieval,
 // and a retrieval before its range.
-const OF_STORES: [Case; 11] = [
+static OF_STORES: [Case; 11] = [
     (9, NONE, LATE, NO_SUCH_STORE),
     (4, NONE, OTHER_TYPE, NO_SUCH_STORE),
     (21, BOTH, b"", STORAGE_ON),
@@ -121,7 +126,7 @@ fn the_first_refusal_is_answered(rt: HostRuntime) {
 }
 
 // Where there are sixteen stores.
-const SIXTEEN: [Case; 6] = [
+static SIXTEEN: [Case; 6] = [
     (20, NONE, FORM, TOO_MANY_STORES),
     (20, SCI, FORM, EXISTS),
     (20, NONE, TOO_LARGE, BAD_SIZE),
@@ -139,13 +144,13 @@ fn the_first_refusal_where_there_are_sixteen_stores(rt: HostRuntime) {
         id[0] = *letter;
         asks_each(&rt, alloc, &mut memory, &[(20, id, FORM, DONE)]);
     }
-    assert_eq!(rt; memory.entry(15), Some((id(&rt, b"O"), 0)));
+    stands(&rt, &memory, 15, &id(&rt, b"O"), 0);
     asks_each(&rt, alloc, &mut memory, &SIXTEEN);
-    assert_eq!(rt; memory.entry(16), None);
+    assert!(rt; memory.entry(16).is_none());
 }
 
 // Where the table has no room.
-const FULL_TABLE: [Case; 6] = [
+static FULL_TABLE: [Case; 6] = [
     (3, SCI, OTHER_TYPE, TABLE_FULL),
     (3, SCI, TYPE, DONE),
     (3, NONE, OTHER_TYPE, NO_SUCH_STORE),
@@ -162,8 +167,8 @@ fn the_first_refusal_of_a_full_table(rt: HostRuntime) {
         let mut data = *b"\x01SCI     \x01\x00\x03\x19";
         data[10] = apid;
         let answers = asked(&rt, alloc, &mut memory, 1, 3, &data);
-        assert_eq!(rt; answers.each.as_slice(), [DONE].as_slice(), "row {apid}");
+        each_is(&rt, &answers, &[DONE]);
     }
-    assert_eq!(rt; memory.control().list().len(), 256);
+    assert!(rt; memory.control().list().len() == 256);
     asks_each(&rt, alloc, &mut memory, &FULL_TABLE);
 }

@@ -1,6 +1,9 @@
 //! Instructions and their answers.
-use super::{CONFIGURATIONS, DISABLE, ENABLE, SCI, all_done, answers, some_refused};
-use crate::{Fault, Outcome, ask_bytes};
+use super::{CONFIGURATIONS, DISABLE, ENABLE, all_done, some_refused};
+use crate::samples::ONE_STORE;
+use mm_ask::{Fault, Outcome, ask_bytes};
+use std::alloc::AllocGlobal;
+use std::process::Abort;
 
 const DELETE_STORE: &str = "1864C000000D200F150000015343492020202020";
 
@@ -123,36 +126,53 @@ fn empty_lines_are_passed_over_and_counted(rt: HostRuntime) {
     all_done(&rt, lines.as_str(), "3.1 done\n5.1 done\n");
 }
 
+// A setup is refused so, whatever is asked.
+fn refuses_setup<R: Abort + AllocGlobal>(rt: &R, setup: &[u8], want: Fault, printed: &str) {
+    match ask_bytes(rt.alloc(), setup, ENABLE.as_bytes()) {
+        Ok(_) => assert!(rt; false, "the setup is taken"),
+        Err(fault) => {
+            let text = fault.to_string(rt.alloc()).expect(rt, "its text");
+            assert!(rt; fault == want && text.as_str() == printed, "{text}");
+        }
+    }
+}
+
 // Where the setup is refused, nothing is asked.
 #[test]
 fn a_refused_setup(rt: HostRuntime) {
-    match ask_bytes(rt.alloc(), b"[[store", ENABLE.as_bytes()) {
-        Ok(_) => panic!(rt; "the setup is no TOML"),
-        Err(fault) => {
-            assert_eq!(rt; fault, Fault::SetupText);
-            let shown = format!(in rt.alloc(); "{fault}").expect(&rt, "its text");
-            assert_eq!(rt; shown.as_str(), "27 SetupText");
-        }
-    }
+    refuses_setup(&rt, b"[[store", Fault::SetupText, "27 SetupText");
+}
+
+// A request that is carried out, and one that is answered by a report.
+const TWO_LINES: &[u8] = b"1864C000000D200F010000015343492020202020\n1864C0000004200F160000";
+
+const REPORT_ON_THE_SECOND: &[u8] =
+    b"2 report 0864C000001D200F17000000000000000000000002015343492020202020000000040100\n";
+
+// Whether the first line is said to find no memory; otherwise it is done.
+fn first_finds_none(rt: &impl Abort, text: &[u8]) -> bool {
+    let refused = text.starts_with(b"1 refused 0 NoMemory\n");
+    assert!(rt; refused || text.starts_with(b"1.1 done\n"));
+    refused
+}
+
+// Whether the second line is said to find no memory; otherwise its report is printed.
+fn second_finds_none(rt: &impl Abort, text: &[u8]) -> bool {
+    let refused = text.ends_with(b"2 refused 0 NoMemory\n");
+    assert!(rt; refused || text.ends_with(REPORT_ON_THE_SECOND));
+    refused
 }
 
 // Run with a growth refused, the conversation ends as want of memory, or says so in the place of a
 // line's answers.
 #[test]
 fn a_growth_may_be_refused(rt: HostRuntime) {
-    let requests = b"1864C000000D200F010000015343492020202020\n1864C0000004200F160000";
-    match ask_bytes(rt.alloc(), SCI.as_bytes(), requests) {
+    match ask_bytes(rt.alloc(), ONE_STORE.as_bytes(), TWO_LINES) {
         Ok((outcome, text)) => {
-            let lines = text.as_slice();
-            let report =
-                b"2 report 0864C000001D200F17000000000000000000000002015343492020202020000000040100\n".as_slice();
-            let first_refused = lines.starts_with(b"1 refused 0 NoMemory\n");
-            let second_refused = lines.ends_with(b"2 refused 0 NoMemory\n");
-            assert!(rt; first_refused || lines.starts_with(b"1.1 done\n"));
-            assert!(rt; second_refused || lines.ends_with(report));
-            let refused = first_refused || second_refused;
-            assert_eq!(rt; outcome == Outcome::SomeRefused, refused);
+            let first = first_finds_none(&rt, &text);
+            let second = second_finds_none(&rt, &text);
+            assert!(rt; (outcome == Outcome::SomeRefused) == (first || second));
         }
-        Err(fault) => assert_eq!(rt; fault, Fault::NoMemory),
+        Err(fault) => assert!(rt; fault == Fault::NoMemory),
     }
 }
