@@ -1,5 +1,5 @@
 use Rattle.std.proofs.Common.{◌≢◌, ◌<◌, ◌≤◌, All, AllPairs, vec_len}
-use Rattle.mm_dump.proofs.tests.new_orders.Given as goal
+use Rattle.tests_desks.proofs.dumps.new_orders.Given as goal
 
 abbrev pub invariant-loop-place : goal.invariant-loop-place
 invariant-loop-place g l = record {

@@ -1,6 +1,11 @@
 //! Several links at once: one queue of orders, a gate that opens once both links stand at it, and links that both fail.
 
-use super::*;
+use super::{Case, dumped, ended, have, stores_with, tried};
+use mm_base::StoreId;
+use mm_order::{Link, OrderBroken, SendFailed, Wire};
+use mm_packet::BlockPacket;
+use std::alloc::Global;
+use std::process::Abort;
 use std::sync::Arc;
 use std::sync::atomic::{AtomicU64, Ordering};
 use std::thread;
@@ -79,7 +84,7 @@ fn orders_from_one_queue(rt: HostRuntime) {
     let stores = stores_with(&rt, alloc, &[1, 1, 1, 1]);
     let links = watches(&rt, alloc, 3);
     let left = dumped(&rt, alloc, 4, &[1, 1, 1, 1], stores, links);
-    assert_eq!(rt; (left.agree, left.broken, left.spent), (true, None, 4));
+    ended(&rt, &left, None, 4);
     have(&rt, &left.stores, &[(0, 1), (0, 1), (0, 1), (0, 1)]);
     let mut sent = [0, 0];
     for (sent, link) in sent.iter_mut().zip(&left.links) {
@@ -130,24 +135,26 @@ fn two_links_meet_at_a_gate(rt: HostRuntime) {
         links.push(gate).expect(&rt, "memory");
     }
     let left = dumped(&rt, alloc, 2, &[1, 1], stores, links);
-    assert_eq!(rt; (left.agree, left.broken, left.spent), (true, None, 2));
+    ended(&rt, &left, None, 2);
     have(&rt, &left.stores, &[(0, 1), (0, 1)]);
     for link in &left.links {
-        assert_eq!(rt; link.wire.taken().len(), 1);
+        assert!(rt; link.wire.taken().len() == 1, "one packet");
     }
 }
 
+const BOTH_FAIL: Case = Case {
+    held: &[2, 2],
+    until: &[Some(0), Some(0)],
+    window: 4,
+    wanted: &[2, 2],
+    broken: Some(OrderBroken::LinkFailed),
+    spent: 2,
+    counts: &[(2, 0), (2, 0)],
+    sent: &[],
+    failures: 1,
+};
+
 #[test]
 fn two_links_fail(rt: HostRuntime) {
-    let alloc = rt.alloc();
-    let stores = stores_with(&rt, alloc, &[2, 2]);
-    let links = wires(&rt, alloc, &[Some(0), Some(0)]);
-    let left = dumped(&rt, alloc, 4, &[2, 2], stores, links);
-    let broken = Some(OrderBroken::LinkFailed);
-    assert_eq!(rt; (left.agree, left.broken, left.spent), (true, broken, 2));
-    have(&rt, &left.stores, &[(2, 0), (2, 0)]);
-    for link in &left.links {
-        took(&rt, link, &[]);
-        assert_eq!(rt; link.failures(), 1);
-    }
+    tried(&rt, rt.alloc(), &BOTH_FAIL);
 }

@@ -1,0 +1,44 @@
+//! Identifiers, packets and stores that the tests share.
+
+use mm_base::{Kind, StoreId};
+use mm_desk::{Held, StoreState};
+use mm_packet::{BlockPacket, Header, Octets, Packet};
+use mm_store::AnyStore;
+use std::alloc::Global;
+use std::process::Abort;
+
+pub fn store_id(rt: &impl Abort, text: &[u8]) -> StoreId {
+    StoreId::of_text(text).expect(rt, "an identifier")
+}
+
+/// Telemetry with this sequence count, by which the tests know it again.
+pub fn packet(rt: &impl Abort, alloc: Global, count: u16) -> BlockPacket {
+    let header = Header::new(100, count % 1000, 3, 25);
+    let packet = Packet::tm(header, 0, 0, 0, Octets::new(Vec::new(alloc)));
+    BlockPacket::of(packet).expect(rt, "a short packet")
+}
+
+/// An empty store of this kind, of four blocks, with its storage off.
+pub fn new_state(rt: &impl Abort, alloc: Global, kind: Kind) -> StoreState {
+    StoreState::of(AnyStore::new(alloc, kind, 4).expect(rt, "memory"))
+}
+
+/// A bounded store of four blocks, with its storage on and the packets 1, 2, .. up to a number at the times 7, 8, ..
+pub fn store_with(rt: &impl Abort, alloc: Global, held: u16) -> StoreState {
+    let mut state = new_state(rt, alloc, Kind::Bounded);
+    state.enable();
+    for count in 0..held {
+        let packet = packet(rt, alloc, count.saturating_add(1));
+        assert!(rt; state.offer(7, packet).is_ok(), "a packet is stored");
+    }
+    state
+}
+
+/// A store under this name, on the virtual channel 3.
+pub fn new_held(rt: &impl Abort, text: &[u8], state: StoreState) -> Held {
+    Held {
+        id: store_id(rt, text),
+        channel: 3,
+        state,
+    }
+}
