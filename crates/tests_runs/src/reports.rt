@@ -1,12 +1,10 @@
-use super::*;
-use mm_base::StoreId;
-use std::alloc::{AllocGlobal, Global};
+//! The texts of reports of a few steps, and their totals.
+
+use crate::samples::store_id;
+use mm_report::{NoMemory, Report, Tally};
+use std::alloc::Global;
 use std::process::Abort;
 use std::test::Fail;
-
-fn store(rt: &impl Abort, text: &str) -> StoreId {
-    StoreId::of_text(text.as_bytes()).expect(rt, "an identifier")
-}
 
 // Forecast, arrived, lost, dumped, held.
 fn tally(numbers: [u64; 5]) -> Tally {
@@ -20,6 +18,7 @@ fn tally(numbers: [u64; 5]) -> Tally {
     }
 }
 
+// The report of these steps, each with a row of numbers for each store.
 fn report_of(
     rt: &impl Abort,
     alloc: Global,
@@ -28,25 +27,40 @@ fn report_of(
 ) -> Result<Report, NoMemory> {
     let mut stores = Vec::new(alloc);
     for id in ids {
-        stores.push(store(rt, id))?;
+        stores.push(store_id(rt, id.as_bytes()))?;
     }
-    assert!(rt; stores.len() <= 16 && steps.len() <= 256);
+    assert!(rt;
+        stores.len() <= 16 && steps.len() <= 256,
+        "few stores and steps"
+    );
     let mut report = Report::new(alloc, stores, steps.len() as u32)?;
     for step in steps {
         let mut row = Vec::new(alloc);
         for numbers in *step {
             row.push(tally(*numbers))?;
         }
-        assert!(rt; row.len() == report.ids().len() && !report.is_full());
+        let fits = row.len() == report.ids().len() && !report.is_full();
+        assert!(rt; fits, "a row that fits");
         report.add(row.as_slice());
     }
     Ok(report)
 }
 
+// The text of a report is this.
 fn has_text(rt: &impl Abort, report: &Report, alloc: Global, want: &str) -> Result<(), NoMemory> {
     let text = report.text(alloc)?;
     assert!(rt; text.as_slice() == want.as_bytes(), "{want}");
     Ok(())
+}
+
+// A report of three steps of the store SCI, of which the second is this one.
+fn has_second_row(rt: &impl Abort, report: &Report, row: &[Tally]) {
+    assert!(rt;
+        report.ids() == [store_id(rt, b"SCI")].as_slice(),
+        "the store"
+    );
+    assert!(rt; report.steps() == 3, "three steps");
+    assert!(rt; report.row(2) == row, "the second row");
 }
 
 #[test]
@@ -63,9 +77,7 @@ fn run_with_other_arrivals(rt: HostRuntime) -> Result<(), Fail> {
         differs step 3 SCI forecast 4 came 5\n\
         total arrived 11 lost 3 dumped 4 held 4\n",
     )?;
-    assert_eq!(rt; report.steps(), 3);
-    assert!(rt; report.ids() == [store(&rt, "SCI")].as_slice());
-    assert!(rt; report.row(2) == [tally([3, 3, 0, 2, 2])].as_slice());
+    has_second_row(&rt, &report, &[tally([3, 3, 0, 2, 2])]);
     Ok(())
 }
 
@@ -116,7 +128,10 @@ fn sums_beyond_64_bits(rt: HostRuntime) -> Result<(), Fail> {
     let most = u64::MAX;
     let steps: [&[[u64; 5]]; 2] = [&[[most, most, 0, 0, 0]], &[[most, most, 0, 0, most]]];
     let report = report_of(&rt, rt.alloc(), &["A"], &steps)?;
-    assert_eq!(rt; report.totals().arrived, 36893488147419103230);
+    assert!(rt;
+        report.totals().arrived == 36893488147419103230,
+        "the total"
+    );
     has_text(
         &rt,
         &report,
