@@ -2,7 +2,7 @@
 ghost use Rattle.std.specs.Prelude.{◌≢◌, ◌+◌, ◌-◌, ◌<◌, ◌≤◌, ◌^◌, length, All, AllPairs, IsTrue, vec_len};
 ghost use Rattle.mm_base.specs.declared.limits.TheConstants.{MAX_STORES};
 
-use crate::samples::{new_held, store_id, store_with};
+use crate::samples::{is_named, new_held, store_with};
 use mm_desk::Held;
 use mm_dump::{Dumping, dump};
 use mm_order::{Link, Order, OrderBroken, Taken, Wire};
@@ -16,7 +16,7 @@ mod links;
 
 // A packet that a link took has this store and this sequence count.
 fn is_taken(rt: &impl Abort, item: &Taken, name: &[u8; 3], count: u16) {
-    assert!(rt; item.store == store_id(rt, name), "the store");
+    is_named(rt, &item.store, name);
     assert!(rt; item.stored.packet.packet().count() == count, "the packet");
 }
 
@@ -111,10 +111,14 @@ fn dumped<L: Link + Send + Drop, R: Threads + Wait + Sync + Abort>(
     }
 }
 
-// A store stands under its name and channel, and has lost nothing.
+// A store stands under its name and channel.
 fn stands(rt: &impl Abort, store: &Held, name: &[u8; 3]) {
-    assert!(rt; store.id == store_id(rt, name), "the identifier");
+    is_named(rt, &store.id, name);
     assert!(rt; store.channel == 3, "the channel");
+}
+
+// A store has lost nothing, and no retrieval is on.
+fn is_whole(rt: &impl Abort, store: &Held) {
     assert!(rt; store.state.lost() == 0, "none is lost");
     assert!(rt; store.state.retrieval().is_none(), "no retrieval is on");
 }
@@ -128,8 +132,11 @@ fn has(rt: &impl Abort, store: &Held, held: u32, deleted: u64) {
 // How many packets stores hold, and how many were deleted; nothing else is changed.
 fn have(rt: &impl Abort, stores: &[Held], counts: &[(u32, u64)]) {
     assert!(rt; stores.len() == counts.len(), "as many stores");
-    for ((store, name), (held, deleted)) in stores.iter().zip(NAMES).zip(counts) {
-        stands(rt, store, name);
+    for (store, name) in stores.iter().zip(&NAMES) {
+        stands(rt, store, *name);
+        is_whole(rt, store);
+    }
+    for (store, (held, deleted)) in stores.iter().zip(counts) {
         has(rt, store, *held, *deleted);
     }
 }

@@ -2,6 +2,16 @@
 #![tactic(auto)]
 
 #[cfg(test)]
+mod crews;
+#[cfg(test)]
+mod desks;
+#[cfg(test)]
 mod dumps;
 #[cfg(test)]
+mod orders;
+#[cfg(test)]
 mod samples;
+#[cfg(test)]
+mod states;
+#[cfg(test)]
+mod told;

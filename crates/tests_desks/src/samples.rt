@@ -1,14 +1,20 @@
 //! Identifiers, packets and stores that the tests share.
 
-use mm_base::{Kind, StoreId};
+use mm_base::{Kind, Refused, StoreId};
 use mm_desk::{Held, StoreState};
 use mm_packet::{BlockPacket, Header, Octets, Packet};
-use mm_store::AnyStore;
+use mm_store::{AnyStore, PacketStore};
 use std::alloc::Global;
+use std::fmt::Display;
 use std::process::Abort;
 
 pub fn store_id(rt: &impl Abort, text: &[u8]) -> StoreId {
     StoreId::of_text(text).expect(rt, "an identifier")
+}
+
+/// An identifier is that of this text.
+pub fn is_named(rt: &impl Abort, id: &StoreId, text: &[u8]) {
+    assert!(rt; id.text() == text, "the identifier");
 }
 
 /// Telemetry with this sequence count, by which the tests know it again.
@@ -41,4 +47,23 @@ pub fn new_held(rt: &impl Abort, text: &[u8], state: StoreState) -> Held {
         channel: 3,
         state,
     }
+}
+
+/// How many packets were offered to a store, lost and deleted, and how many it holds.
+pub fn counts(state: &StoreState) -> [u64; 4] {
+    let held = u64::from(state.store().len());
+    [state.offered(), state.lost(), state.deleted(), held]
+}
+
+/// A refusal has this number, and is shown as this text.
+pub fn is_told<T: Refused + Display + Copy>(
+    rt: &impl Abort,
+    alloc: Global,
+    refusal: T,
+    number: u8,
+    text: &str,
+) {
+    assert!(rt; refusal.number() == number, "{text}");
+    let shown = refusal.to_string(alloc).expect(rt, "memory");
+    assert!(rt; shown.as_str() == text, "{text}");
 }

@@ -1,5 +1,5 @@
 use Rattle.std.proofs.Common.{[], ◌∷◌}
-use Rattle.mm_order.proofs.tests.tried.Given as goal
+use Rattle.tests_desks.proofs.orders.tried.Given as goal
 
 abbrev pub ghosts-carried-N-Opening : goal.ghosts-carried-N-Opening
 ghosts-carried-N-Opening g a = record { states = a.state ∷ [] }

@@ -1,4 +1,4 @@
-use Rattle.mm_desk.proofs.tests.desks.two_seats_one_pass_book.Given as goal
+use Rattle.tests_desks.proofs.desks.two_seats_one_pass_book.Given as goal
 
 abbrev pub ghosts-draw_three-W-Passing : goal.ghosts-draw_three-W-Passing
 ghosts-draw_three-W-Passing g a = record { window = 3 }

@@ -2,40 +2,21 @@
 ghost use Rattle.std.specs.Prelude.{◌≡◌};
 ghost use Rattle.mm_desk.specs.Runs.{opening_at};
 
-use super::*;
-use mm_base::{Kind, Refused, StoreId};
+use crate::samples::{is_named, is_told, store_id, store_with};
+use Call::{Aborted, Deleted, End, Given};
 use mm_desk::{
     Desk, Entry, Event, Fault, Opening, PassBook, PassSeat, Passing, Reply, Seat, StoreState,
 };
-use mm_packet::{BlockPacket, Header, Octets, Packet};
-use mm_store::{AnyStore, PacketStore, Stored};
+use mm_order::{Link, OrderBroken, SendFailed, Taken, Wire, carry};
+use mm_store::PacketStore;
 use std::alloc::Global;
 use std::marker::Brand;
 use std::process::Abort;
 use std::sync::Wait;
 use std::sync::ledger::Blank;
-use std::test::Fail;
-
-// Telemetry with this sequence count, by which the tests know it again.
-fn packet(rt: &impl Abort, alloc: Global, count: u16) -> BlockPacket {
-    let header = Header::new(100, count % 1000, 3, 25);
-    let packet = Packet::tm(header, 0, 0, 0, Octets::new(Vec::new(alloc)));
-    BlockPacket::of(packet).expect(rt, "a short packet")
-}
-
-// A store of four blocks with the packets 1, 2, .. at the times 7, 8, ..
-fn store_with(rt: &impl Abort, alloc: Global, held: u16) -> StoreState {
-    let mut state = StoreState::of(AnyStore::new(alloc, Kind::Bounded, 4).expect(rt, "memory"));
-    state.enable();
-    for count in 0..held {
-        let count = count % 1000;
-        assert!(rt; state.offer(7, packet(rt, alloc, count + 1)).is_ok());
-    }
-    state
-}
 
 // One entry of a seat's list, with packets by their storage times.
-#[derive(Clone, Copy, Debug, PartialEq, Eq)]
+#[derive(Clone, Copy, PartialEq, Eq)]
 enum Call {
     Begun(u64, u64),
     Given(u64),
@@ -46,6 +27,7 @@ enum Call {
     Other,
 }
 
+// What an entry says.
 fn call_of(entry: &Entry) -> Call {
     match (&entry.event, &entry.reply) {
         (Event::Begin(from, to), Reply::Done(Ok(()))) => Call::Begun(*from, *to),
@@ -61,7 +43,7 @@ fn call_of(entry: &Entry) -> Call {
 const BEGUN: Call = Call::Begun(1, u64::MAX);
 
 // Orders of one amount through one seat, one after another, and what they make of a store, a link and a window.
-#[derive(Clone, Copy, Debug)]
+#[derive(Clone, Copy)]
 struct Case {
     held: u16,
     window: u64,
@@ -90,13 +72,7 @@ const WHOLE: Case = Case {
     failures: 0,
     drawn: 2,
     deleted: 2,
-    calls: &[
-        BEGUN,
-        Call::Given(7),
-        Call::Given(8),
-        Call::Aborted,
-        Call::Deleted(8, 2),
-    ],
+    calls: &[BEGUN, Given(7), Given(8), Aborted, Deleted(8, 2)],
 };
 
 const ALL_HELD: Case = Case {
@@ -104,27 +80,13 @@ const ALL_HELD: Case = Case {
     sent: &[1, 2, 3],
     drawn: 3,
     deleted: 3,
-    calls: &[
-        BEGUN,
-        Call::Given(7),
-        Call::Given(8),
-        Call::Given(9),
-        Call::Aborted,
-        Call::Deleted(9, 3),
-    ],
+    calls: &[BEGUN, Given(7), Given(8), Given(9), Aborted, Deleted(9, 3)],
     ..WHOLE
 };
 
 const MORE_THAN_HELD: Case = Case {
     amount: 5,
-    calls: &[
-        BEGUN,
-        Call::Given(7),
-        Call::Given(8),
-        Call::Given(9),
-        Call::End,
-        Call::Deleted(9, 3),
-    ],
+    calls: &[BEGUN, Given(7), Given(8), Given(9), End, Deleted(9, 3)],
     ..ALL_HELD
 };
 
@@ -133,7 +95,7 @@ const EMPTY: Case = Case {
     sent: &[],
     drawn: 0,
     deleted: 0,
-    calls: &[BEGUN, Call::End],
+    calls: &[BEGUN, End],
     ..WHOLE
 };
 
@@ -144,7 +106,7 @@ const FIRST_SEND_FAILS: Case = Case {
     failures: 1,
     drawn: 1,
     deleted: 0,
-    calls: &[BEGUN, Call::Given(7), Call::Aborted],
+    calls: &[BEGUN, Given(7), Aborted],
     ..WHOLE
 };
 
@@ -152,7 +114,7 @@ const SECOND_SEND_FAILS: Case = Case {
     until: Some(1),
     sent: &[1],
     drawn: 2,
-    calls: &[BEGUN, Call::Given(7), Call::Given(8), Call::Aborted],
+    calls: &[BEGUN, Given(7), Given(8), Aborted],
     ..FIRST_SEND_FAILS
 };
 
@@ -174,14 +136,14 @@ const SENT_AGAIN: Case = Case {
     drawn: 4,
     calls: &[
         BEGUN,
-        Call::Given(7),
-        Call::Given(8),
-        Call::Aborted,
+        Given(7),
+        Given(8),
+        Aborted,
         BEGUN,
-        Call::Given(7),
-        Call::Given(8),
-        Call::Aborted,
-        Call::Deleted(8, 2),
+        Given(7),
+        Given(8),
+        Aborted,
+        Deleted(8, 2),
     ],
     ..WHOLE
 };
@@ -197,25 +159,71 @@ const NOT_BEGUN: Case = Case {
     ..WHOLE
 };
 
+// A packet of the store that was sent has this sequence count, and the time 6 above it.
+fn is_sent(rt: &impl Abort, item: &Taken, count: u16) {
+    is_named(rt, &item.store, b"SCI");
+    assert!(rt; item.stored.packet.packet().count() == count, "the packet");
+    assert!(rt; item.stored.time == u64::from(count) + 6, "its time");
+}
+
 // The link has these packets of the store, in order, at the times 7, 8, ..
-fn has_sent(rt: &impl Abort, wire: &Wire, id: &StoreId, sent: &[u16]) {
-    assert_eq!(rt; wire.taken().len(), sent.len());
+fn has_sent(rt: &impl Abort, wire: &Wire, sent: &[u16]) {
+    assert!(rt; wire.taken().len() == sent.len(), "as many packets");
     for (item, count) in wire.taken().iter().zip(sent) {
-        assert_eq!(rt; item.store, *id);
-        assert_eq!(rt; item.stored.packet.packet().count(), *count);
-        assert_eq!(rt; item.stored.time, u64::from(*count) + 6);
+        is_sent(rt, item, *count);
     }
 }
 
 // The seat's list has these calls.
 fn has_called<N: Opening>(rt: &impl Abort, seat: &Seat<N>, calls: &[Call]) {
-    assert_eq!(rt; seat.list().len(), calls.len());
+    assert!(rt; seat.list().len() == calls.len(), "as many calls");
     for (entry, call) in seat.list().iter().zip(calls) {
-        assert_eq!(rt; call_of(entry), *call);
+        assert!(rt; call_of(entry) == *call, "the call");
     }
 }
 
-// Carries out the orders of a case, and compares.
+// Carries out the orders of a case, and compares the answers.
+fn answered<N: Opening, W: Passing, R: Wait + Abort>(
+    rt: &R,
+    alloc: Global,
+    desk: &Desk<N>,
+    seat: &mut Seat<N>,
+    wire: &mut Wire,
+    book: &PassBook<W>,
+    page: &mut PassSeat<W>,
+    case: &Case,
+) {
+    let id = store_id(rt, b"SCI");
+    for answer in case.answers {
+        assert!(rt; wire.failures() < 9, "a link that may fail");
+        let order = carry(rt, alloc, desk, seat, &id, wire, book, page, case.amount);
+        assert!(rt; order == *answer, "the answer");
+    }
+}
+
+// How many packets orders of a case leave in the store.
+fn leaves(rt: &impl Abort, state: &StoreState, case: &Case) {
+    assert!(rt; state.deleted() == case.deleted, "how many are deleted");
+    let held = u64::from(state.store().len()) + case.deleted % 1000;
+    assert!(rt; held == u64::from(case.held), "how many are held");
+}
+
+// Orders of a case change nothing else of the store.
+fn leaves_the_rest(rt: &impl Abort, state: &StoreState, case: &Case) {
+    assert!(rt; state.offered() == u64::from(case.held), "what came");
+    assert!(rt; state.lost() == 0, "none is lost");
+    let busy = state.retrieval().is_some();
+    assert!(rt; busy == case.busy, "no retrieval but the other's");
+}
+
+// Another seat of the desk begins a retrieval.
+fn make_busy<N: Opening, R: Wait + Abort>(rt: &R, alloc: Global, desk: &Desk<N>) {
+    let mut other = Seat::new(alloc, 0, 1);
+    let begun = desk.begin(rt, alloc, &mut other, 8, 9);
+    assert!(rt; begun.is_ok(), "the other's retrieval");
+}
+
+// Carries out the orders of a case, and compares what they leave.
 fn carried<N: Opening, W: Passing, R: Wait + Abort>(
     rt: &R,
     alloc: Global,
@@ -231,34 +239,20 @@ fn carried<N: Opening, W: Passing, R: Wait + Abort>(
 {
     let desk = Desk::<N>::new(alloc, state, 0, 2);
     let mut seat = Seat::new(alloc, 0, 0);
-    let mut other = Seat::new(alloc, 0, 1);
     if case.busy {
-        assert_eq!(rt; desk.begin(rt, alloc, &mut other, 8, 9), Ok(()));
+        make_busy(rt, alloc, &desk);
     }
     let (book, mut pages) = PassBook::<W>::open(alloc, blank, case.window, 1).expect(rt, "memory");
-    let id = StoreId::of_text(b"SCI").expect(rt, "an identifier");
     let mut wire = Wire::new(alloc, case.until);
     let page = &mut pages[0];
-    for answer in case.answers {
-        assert!(rt; wire.failures() < 9, "a link that may fail");
-        let link = &mut wire;
-        let amount = case.amount;
-        let order = carry(rt, alloc, &desk, &mut seat, &id, link, &book, page, amount);
-        assert_eq!(rt; order, *answer);
-    }
-    has_sent(rt, &wire, &id, case.sent);
+    answered(rt, alloc, &desk, &mut seat, &mut wire, &book, page, case);
+    has_sent(rt, &wire, case.sent);
     has_called(rt, &seat, case.calls);
-    assert_eq!(rt; wire.failures(), case.failures);
-    assert_eq!(rt; book.close(pages), case.drawn);
+    assert!(rt; wire.failures() == case.failures, "how many sends failed");
+    assert!(rt; book.close(pages) == case.drawn, "how much was drawn");
     let state = desk.into_parts().state;
-    assert_eq!(rt; state.deleted(), case.deleted);
-    assert_eq!(rt; state.offered(), u64::from(case.held));
-    assert_eq!(rt;
-        u64::from(state.store().len()) + case.deleted % 1000,
-        u64::from(case.held)
-    );
-    assert_eq!(rt; state.lost(), 0);
-    assert_eq!(rt; state.retrieval().is_some(), case.busy);
+    leaves(rt, &state, case);
+    leaves_the_rest(rt, &state, case);
 }
 
 // Tries a case over a store of its own.
@@ -267,18 +261,20 @@ fn tried<R: Wait + Abort>(rt: &R, alloc: Global, case: &Case) {
     carried::<Brand, Brand, R>(rt, alloc, state, Blank::new(1), case);
 }
 
+static CASES: [Case; 7] = [
+    WHOLE,
+    ALL_HELD,
+    MORE_THAN_HELD,
+    EMPTY,
+    FIRST_SEND_FAILS,
+    SECOND_SEND_FAILS,
+    SMALL_WINDOW,
+];
+
 #[test]
 fn orders_are_whole_or_delete_nothing(rt: HostRuntime) {
-    for case in [
-        WHOLE,
-        ALL_HELD,
-        MORE_THAN_HELD,
-        EMPTY,
-        FIRST_SEND_FAILS,
-        SECOND_SEND_FAILS,
-        SMALL_WINDOW,
-    ] {
-        tried(&rt, rt.alloc(), &case);
+    for case in &CASES {
+        tried(&rt, rt.alloc(), case);
     }
 }
 
@@ -293,19 +289,11 @@ fn a_refused_begin_changes_nothing(rt: HostRuntime) {
 }
 
 #[test]
-fn causes_have_numbers_and_names(rt: HostRuntime) -> Result<(), Fail> {
-    let causes = [
-        OrderBroken::NoMemory,
-        OrderBroken::LinkFailed,
-        OrderBroken::Refused,
-    ];
-    assert_eq!(rt; causes.map(|cause| cause.number()), [45, 46, 47]);
-    for (cause, text) in causes
-        .iter()
-        .zip(["45 NoMemory", "46 LinkFailed", "47 LogMismatch"])
-    {
-        assert_eq!(rt; cause.to_string(rt.alloc())?.as_str(), text);
-    }
-    assert_eq!(rt; SendFailed.to_string(rt.alloc())?.as_str(), "46 LinkFailed");
-    Ok(())
+fn causes_have_numbers_and_names(rt: HostRuntime) {
+    let alloc = rt.alloc();
+    is_told(&rt, alloc, OrderBroken::NoMemory, 45, "45 NoMemory");
+    is_told(&rt, alloc, OrderBroken::LinkFailed, 46, "46 LinkFailed");
+    is_told(&rt, alloc, OrderBroken::Refused, 47, "47 LogMismatch");
+    let shown = SendFailed.to_string(alloc).expect(&rt, "memory");
+    assert!(rt; shown.as_str() == "46 LinkFailed", "a failed send");
 }

@@ -1,22 +1,15 @@
-mod desks;
+//! The state of a store: what is asked of it in turn, over both kinds, and what it answers.
 
-use super::*;
+use crate::samples::{counts, is_told, new_state, packet};
+use crate::told::{Told, told_of, told_of_delete, told_of_offer};
 use mm_base::{Kind, Refused};
-use mm_packet::{BlockPacket, Header, Octets, Packet};
-use mm_store::{AnyStore, PacketStore};
+use mm_desk::{Fault, StoreState};
+use mm_store::PacketStore;
 use std::alloc::Global;
 use std::process::Abort;
-use std::test::Fail;
-
-// Telemetry with this sequence count, by which the tests know it again.
-fn packet(rt: &impl Abort, alloc: Global, count: u16) -> BlockPacket {
-    let header = Header::new(100, count % 1000, 3, 25);
-    let packet = Packet::tm(header, 0, 0, 0, Octets::new(Vec::new(alloc)));
-    BlockPacket::of(packet).expect(rt, "a short packet")
-}
 
 // What is asked of a store, with packets by their sequence counts.
-#[derive(Clone, Copy, Debug)]
+#[derive(Clone, Copy)]
 enum Ask {
     Enable,
     Disable,
@@ -30,29 +23,7 @@ enum Ask {
     ChangeKind(Kind),
 }
 
-// What it answers, with packets by their sequence counts.
-#[derive(Clone, Copy, Debug, PartialEq, Eq)]
-enum Told {
-    Kept(u64),
-    KeptOver(u64, u16),
-    Lost(u16),
-    Back(Fault, u16),
-    Given(u64, u16),
-    End,
-    Deleted(u32),
-    Done,
-    Refused(Fault),
-}
-
-fn told_of_offer(answer: Result<Offered, Returned>) -> Told {
-    match answer {
-        Ok(Offered::Kept(time)) => Told::Kept(time),
-        Ok(Offered::KeptOver(time, oldest)) => Told::KeptOver(time, oldest.packet().count()),
-        Ok(Offered::Lost(packet)) => Told::Lost(packet.packet().count()),
-        Err(back) => Told::Back(back.fault, back.packet.packet().count()),
-    }
-}
-
+// What the next packet of a retrieval is told as.
 fn told_of_next(state: &mut StoreState) -> Told {
     match state.next() {
         Ok(Some((time, packet))) => Told::Given(time, packet.packet().count()),
@@ -61,20 +32,7 @@ fn told_of_next(state: &mut StoreState) -> Told {
     }
 }
 
-fn told_of_delete(answer: Result<u32, Fault>) -> Told {
-    match answer {
-        Ok(count) => Told::Deleted(count),
-        Err(fault) => Told::Refused(fault),
-    }
-}
-
-fn told_of(answer: Result<(), Fault>) -> Told {
-    match answer {
-        Ok(()) => Told::Done,
-        Err(fault) => Told::Refused(fault),
-    }
-}
-
+// Asks a store.
 fn answer(rt: &impl Abort, alloc: Global, state: &mut StoreState, ask: Ask) -> Told {
     match ask {
         Ask::Offer(now, count) => told_of_offer(state.offer(now, packet(rt, alloc, count))),
@@ -98,35 +56,26 @@ fn answer(rt: &impl Abort, alloc: Global, state: &mut StoreState, ask: Ask) -> T
 
 // Asks in turn, and compares the answers.
 fn asks(rt: &impl Abort, alloc: Global, state: &mut StoreState, table: &[(Ask, Told)]) {
-    for (asked, want) in table {
-        assert_eq!(rt; answer(rt, alloc, state, *asked), *want, "{asked:?}");
+    for (row, (asked, want)) in table.iter().enumerate() {
+        let told = answer(rt, alloc, state, *asked);
+        assert!(rt; told == *want, "row {row}");
     }
 }
 
-// An empty store of this kind, of four blocks, with its storage off.
-fn new_state(rt: &impl Abort, alloc: Global, kind: Kind) -> StoreState {
-    StoreState::of(AnyStore::new(alloc, kind, 4).expect(rt, "memory"))
-}
-
 // How many packets were offered, lost and deleted, and how many are held.
-fn counts(state: &StoreState) -> (u64, u64, u64, u32) {
-    (
-        state.offered(),
-        state.lost(),
-        state.deleted(),
-        state.store().len(),
-    )
+fn has(rt: &impl Abort, state: &StoreState, want: [u64; 4]) {
+    assert!(rt; counts(state) == want, "the counters");
 }
 
 // The packets 1, 2 and 3 come to stand at the times 7, 8 and 9.
-const THREE: [(Ask, Told); 4] = [
+static THREE: [(Ask, Told); 4] = [
     (Ask::Enable, Told::Done),
     (Ask::Offer(7, 1), Told::Kept(7)),
     (Ask::Offer(7, 2), Told::Kept(8)),
     (Ask::Offer(9, 3), Told::Kept(9)),
 ];
 
-const CLOCK: [(Ask, Told); 6] = [
+static CLOCK: [(Ask, Told); 6] = [
     (Ask::Enable, Told::Done),
     (Ask::Offer(7, 1), Told::Kept(7)),
     (Ask::Offer(7, 2), Told::Kept(8)),
@@ -135,20 +84,24 @@ const CLOCK: [(Ask, Told); 6] = [
     (Ask::Offer(u64::MAX, 4), Told::Back(Fault::ClockEnd, 4)),
 ];
 
-const START: [(Ask, Told); 2] = [(Ask::Enable, Told::Done), (Ask::Offer(0, 1), Told::Kept(1))];
+static START: [(Ask, Told); 2] = [(Ask::Enable, Told::Done), (Ask::Offer(0, 1), Told::Kept(1))];
+
+// The times of a store of this kind rise.
+fn rises(rt: &impl Abort, alloc: Global, kind: Kind) {
+    let mut state = new_state(rt, alloc, kind);
+    asks(rt, alloc, &mut state, &CLOCK);
+    has(rt, &state, [3, 0, 1, 2]);
+    let mut state = new_state(rt, alloc, kind);
+    asks(rt, alloc, &mut state, &START);
+}
 
 #[test]
 fn times_rise(rt: HostRuntime) {
-    for kind in [Kind::Circular, Kind::Bounded] {
-        let mut state = new_state(&rt, rt.alloc(), kind);
-        asks(&rt, rt.alloc(), &mut state, &CLOCK);
-        assert_eq!(rt; counts(&state), (3, 0, 1, 2));
-        let mut state = new_state(&rt, rt.alloc(), kind);
-        asks(&rt, rt.alloc(), &mut state, &START);
-    }
+    rises(&rt, rt.alloc(), Kind::Circular);
+    rises(&rt, rt.alloc(), Kind::Bounded);
 }
 
-const FULL: [(Ask, Told); 8] = [
+static FULL: [(Ask, Told); 8] = [
     (Ask::Resize(2), Told::Done),
     (Ask::Enable, Told::Done),
     (Ask::Offer(7, 1), Told::Kept(7)),
@@ -162,7 +115,7 @@ const FULL: [(Ask, Told); 8] = [
     (Ask::Resize(1), Told::Refused(Fault::HoldsMore)),
 ];
 
-const BOUNDED: [(Ask, Told); 5] = [
+static BOUNDED: [(Ask, Told); 5] = [
     (Ask::ChangeKind(Kind::Bounded), Told::Done),
     (Ask::Enable, Told::Done),
     (Ask::Offer(9, 3), Told::Lost(3)),
@@ -170,7 +123,7 @@ const BOUNDED: [(Ask, Told); 5] = [
     (Ask::Resize(3), Told::Done),
 ];
 
-const CIRCULAR: [(Ask, Told); 5] = [
+static CIRCULAR: [(Ask, Told); 5] = [
     (Ask::ChangeKind(Kind::Circular), Told::Done),
     (Ask::Enable, Told::Done),
     (Ask::Offer(9, 3), Told::KeptOver(9, 1)),
@@ -178,27 +131,33 @@ const CIRCULAR: [(Ask, Told); 5] = [
     (Ask::Resize(3), Told::Done),
 ];
 
+// A store is of this kind, of three blocks, and lost one packet of three.
+fn has_changed(rt: &impl Abort, state: &StoreState, kind: Kind) {
+    assert!(rt; state.store().kind() == kind, "the kind");
+    assert!(rt; state.store().size() == 3, "the size");
+    has(rt, state, [3, 1, 0, 2]);
+}
+
 #[test]
 fn change_kind_and_resize(rt: HostRuntime) {
     let mut state = new_state(&rt, rt.alloc(), Kind::Circular);
     asks(&rt, rt.alloc(), &mut state, &FULL);
     asks(&rt, rt.alloc(), &mut state, &BOUNDED);
-    assert_eq!(rt; counts(&state), (3, 1, 0, 2));
-    assert_eq!(rt;
-        (state.store().kind(), state.store().size()),
-        (Kind::Bounded, 3)
-    );
+    has_changed(&rt, &state, Kind::Bounded);
     let mut state = new_state(&rt, rt.alloc(), Kind::Bounded);
     asks(&rt, rt.alloc(), &mut state, &FULL);
     asks(&rt, rt.alloc(), &mut state, &CIRCULAR);
-    assert_eq!(rt; counts(&state), (3, 1, 0, 2));
-    assert_eq!(rt;
-        (state.store().kind(), state.store().size()),
-        (Kind::Circular, 3)
-    );
+    has_changed(&rt, &state, Kind::Circular);
 }
 
-const BUSY: [(Ask, Told); 8] = [
+// A store of this kind with the packets 1, 2 and 3.
+fn with_three(rt: &impl Abort, alloc: Global, kind: Kind) -> StoreState {
+    let mut state = new_state(rt, alloc, kind);
+    asks(rt, alloc, &mut state, &THREE);
+    state
+}
+
+static BUSY: [(Ask, Told); 8] = [
     (Ask::Begin(1, 255), Told::Done),
     (Ask::Delete(255), Told::Refused(Fault::Busy)),
     (Ask::Disable, Told::Done),
@@ -209,17 +168,20 @@ const BUSY: [(Ask, Told); 8] = [
     (Ask::Delete(255), Told::Deleted(3)),
 ];
 
-#[test]
-fn retrieval_makes_busy(rt: HostRuntime) {
-    for kind in [Kind::Circular, Kind::Bounded] {
-        let mut state = new_state(&rt, rt.alloc(), kind);
-        asks(&rt, rt.alloc(), &mut state, &THREE);
-        asks(&rt, rt.alloc(), &mut state, &BUSY);
-        assert_eq!(rt; counts(&state), (3, 0, 3, 0));
-    }
+// A retrieval makes a store of this kind busy.
+fn is_made_busy(rt: &impl Abort, alloc: Global, kind: Kind) {
+    let mut state = with_three(rt, alloc, kind);
+    asks(rt, alloc, &mut state, &BUSY);
+    has(rt, &state, [3, 0, 3, 0]);
 }
 
-const RANGE: [(Ask, Told); 10] = [
+#[test]
+fn retrieval_makes_busy(rt: HostRuntime) {
+    is_made_busy(&rt, rt.alloc(), Kind::Circular);
+    is_made_busy(&rt, rt.alloc(), Kind::Bounded);
+}
+
+static RANGE: [(Ask, Told); 10] = [
     (Ask::Begin(9, 8), Told::Refused(Fault::BadRange)),
     (Ask::Begin(8, 8), Told::Done),
     (Ask::Begin(8, 8), Told::Refused(Fault::Busy)),
@@ -232,19 +194,23 @@ const RANGE: [(Ask, Told); 10] = [
     (Ask::Offer(10, 5), Told::Back(Fault::Disabled, 5)),
 ];
 
+// A retrieval by range from a store of this kind.
+fn gives_a_range(rt: &impl Abort, alloc: Global, kind: Kind) {
+    let mut state = with_three(rt, alloc, kind);
+    asks(rt, alloc, &mut state, &RANGE);
+    has(rt, &state, [3, 0, 2, 1]);
+    assert!(rt; !state.storage(), "its storage is off");
+    assert!(rt; state.retrieval().is_none(), "no retrieval is on");
+}
+
 #[test]
 fn retrieval_by_range(rt: HostRuntime) {
-    for kind in [Kind::Circular, Kind::Bounded] {
-        let mut state = new_state(&rt, rt.alloc(), kind);
-        asks(&rt, rt.alloc(), &mut state, &THREE);
-        asks(&rt, rt.alloc(), &mut state, &RANGE);
-        assert_eq!(rt; counts(&state), (3, 0, 2, 1));
-        assert_eq!(rt; (state.storage(), state.retrieval()), (false, None));
-    }
+    gives_a_range(&rt, rt.alloc(), Kind::Circular);
+    gives_a_range(&rt, rt.alloc(), Kind::Bounded);
 }
 
 // The fourth packet fills the store, and the two after it overwrite those at 7 and 8.
-const OVERWRITTEN: [(Ask, Told); 10] = [
+static OVERWRITTEN: [(Ask, Told); 10] = [
     (Ask::Begin(1, u64::MAX), Told::Done),
     (Ask::Next, Told::Given(7, 1)),
     (Ask::Offer(20, 4), Told::Kept(20)),
@@ -259,27 +225,27 @@ const OVERWRITTEN: [(Ask, Told); 10] = [
 
 #[test]
 fn a_retrieval_gives_each_packet_once(rt: HostRuntime) {
-    let mut state = new_state(&rt, rt.alloc(), Kind::Circular);
-    asks(&rt, rt.alloc(), &mut state, &THREE);
+    let mut state = with_three(&rt, rt.alloc(), Kind::Circular);
     asks(&rt, rt.alloc(), &mut state, &OVERWRITTEN);
-    assert_eq!(rt; counts(&state), (6, 2, 0, 4));
+    has(&rt, &state, [6, 2, 0, 4]);
 }
 
+// Refusals with their numbers and names.
+static FAULTS: [(Fault, u8, &str); 8] = [
+    (Fault::NoMemory, 0, "0 NoMemory"),
+    (Fault::HoldsMore, 9, "9 HoldsMore"),
+    (Fault::Disabled, 17, "17 Disabled"),
+    (Fault::Busy, 18, "18 Busy"),
+    (Fault::Idle, 19, "19 Idle"),
+    (Fault::BadRange, 20, "20 BadRange"),
+    (Fault::ClockEnd, 21, "21 ClockEnd"),
+    (Fault::StorageOn, 26, "26 StorageOn"),
+];
+
 #[test]
-fn refusals_have_numbers_and_names(rt: HostRuntime) -> Result<(), Fail> {
-    for (fault, number, text) in [
-        (Fault::NoMemory, 0, "0 NoMemory"),
-        (Fault::HoldsMore, 9, "9 HoldsMore"),
-        (Fault::Disabled, 17, "17 Disabled"),
-        (Fault::Busy, 18, "18 Busy"),
-        (Fault::Idle, 19, "19 Idle"),
-        (Fault::BadRange, 20, "20 BadRange"),
-        (Fault::ClockEnd, 21, "21 ClockEnd"),
-        (Fault::StorageOn, 26, "26 StorageOn"),
-    ] {
-        assert_eq!(rt; fault.number(), number);
+fn refusals_have_numbers_and_names(rt: HostRuntime) {
+    for (fault, number, text) in &FAULTS {
+        is_told(&rt, rt.alloc(), *fault, *number, text);
         assert!(rt; text.ends_with(fault.name()), "{text}");
-        assert_eq!(rt; fault.to_string(rt.alloc())?.as_str(), text);
     }
-    Ok(())
 }
