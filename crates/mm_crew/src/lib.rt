@@ -10,6 +10,3 @@ pub use closing::{agrees_at, close_all};
 pub use crew::{Seating, Worker, new_seatings, pair_all, part_all};
 pub use opening::{Rooms, new_rooms, open_all};
 pub use station::{Station, place_of};
-
-#[cfg(test)]
-mod tests;

@@ -27,6 +27,3 @@ pub use pass_book::{PassBook, PassSeat, Passing, WindowFull};
 pub use reply::{Offered, Reply, Returned};
 pub use seat::Seat;
 pub use state::{Retrieval, StoreState};
-
-#[cfg(test)]
-mod tests;

@@ -10,4 +10,3 @@ pub mod Readiness
 pub mod Gathering
 pub mod Settling
 pub mod Settled
-pub mod Rising

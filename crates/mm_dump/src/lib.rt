@@ -8,6 +8,3 @@ mod step;
 mod worst;
 
 pub use step::{Dumping, NotDumped, dump};
-
-#[cfg(test)]
-mod tests;

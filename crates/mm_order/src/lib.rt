@@ -13,6 +13,3 @@ pub use link::{Link, SendFailed};
 pub use order::{Order, OrderBroken};
 pub use stop::Stop;
 pub use wire::{Taken, Wire};
-
-#[cfg(test)]
-mod tests;

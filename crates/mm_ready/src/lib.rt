@@ -7,6 +7,3 @@ mod outset;
 pub use mm_report::{Cause, LATEST_START, MAX_SOURCES};
 pub use need::Need;
 pub use outset::{MAX_LINKS, ready};
-
-#[cfg(test)]
-mod tests;

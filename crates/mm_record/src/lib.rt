@@ -16,6 +16,3 @@ pub use mm_report::{Cause, LATEST_START, MAX_SOURCES};
 pub use readiness::{cause_before, is_late, is_ready};
 pub use source::Source;
 pub use step::{NotBegun, Recording, record};
-
-#[cfg(test)]
-mod tests;

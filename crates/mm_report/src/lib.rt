@@ -10,6 +10,3 @@ pub use cause::{Cause, LATEST_START, MAX_SOURCES};
 pub use mm_base::NoMemory;
 pub use report::Report;
 pub use tally::{Tally, Totals};
-
-#[cfg(test)]
-mod tests;

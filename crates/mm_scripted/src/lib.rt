@@ -18,6 +18,3 @@ pub use links::{Failing, MAX_SEND, MAX_WRITTEN, read_links};
 pub use mm_base::NoMemory;
 pub use source::{MAX_PACKETS, ScriptedSource};
 pub use sources::Deliveries;
-
-#[cfg(test)]
-mod tests;
