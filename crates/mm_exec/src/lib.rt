@@ -16,6 +16,3 @@ pub use flight::{Flight, Flown, Halted, NotFlown};
 pub use flying::fly;
 pub use mm_ready::Cause;
 pub use run::carry_out;
-
-#[cfg(test)]
-mod tests;

@@ -1,9 +1,19 @@
 //! Several sources and links at once: gates that open once all stand at them, one queue of orders, and a hundred runs.
 
-use super::*;
-use std::sync::Arc;
+use crate::scripts::{Script, new_script, scripts};
+use crate::trials::{Task, Trial, has_text, setup};
+use crate::wires::{Wire, wires};
+use mm_base::StoreId;
+use mm_exec::Flight;
+use mm_order::{Link, SendFailed};
+use mm_packet::BlockPacket;
+use mm_record::Source;
+use std::alloc::Global;
+use std::process::Abort;
 use std::sync::atomic::{AtomicU64, Ordering};
+use std::sync::{Arc, Wait};
 use std::thread;
+use std::thread::Threads;
 
 // The turns for which one looks for the others.
 const TURNS: u32 = 1_000_000;
@@ -138,101 +148,151 @@ fn gated_sources(rt: &impl Abort, alloc: Global, apids: &[u16], each: u32) -> Ve
     list
 }
 
-// A bounded store with an APID of its own.
-fn routed(id: &str, apid: u16, size: u32) -> Row<'_> {
-    Row {
-        apid,
-        ..bounded(id, size)
+// A task of one step for stores with an APID each: sources of one packet, so many for each store, and links, each of which is to send
+// as many packets.
+struct Meeting {
+    task: Task,
+    apids: &'static [u16],
+    each: u32,
+    links: u32,
+}
+
+static MEETINGS: [Meeting; 2] = [
+    Meeting {
+        task: Task {
+            setup: setup! {
+                store "A", apid 1, size 1, type "bounded", channel 0;
+                store "B", apid 2, size 1, type "bounded", channel 0;
+            },
+            forecast: "step,window,A,B\n1,2,1,1\n",
+            plan: "mmplan 1\nstores A B\ndump 1 1 1\nloss 0\nbound 0\nend\n",
+        },
+        apids: &[1, 2],
+        each: 1,
+        links: 2,
+    },
+    Meeting {
+        task: Task {
+            setup: setup! {
+                store "A", apid 1, size 2, type "bounded", channel 0;
+                store "B", apid 2, size 2, type "bounded", channel 0;
+                store "C", apid 3, size 2, type "bounded", channel 0;
+                store "D", apid 4, size 2, type "bounded", channel 0;
+            },
+            forecast: "step,window,A,B,C,D\n1,8,2,2,2,2\n",
+            plan: "mmplan 1\nstores A B C D\ndump 1 2 2 2 2\nloss 0\nbound 0\nend\n",
+        },
+        apids: &[1, 2, 3, 4],
+        each: 2,
+        links: 4,
+    },
+];
+
+fn have_met(rt: &impl Abort, sources: &[GatedSource]) {
+    for source in sources {
+        assert!(rt; !source.missed, "each source met the others");
+        assert!(rt; source.left(1) == 0, "nothing is left");
     }
 }
 
-// Four stores, each with an APID of its own.
-fn four_rows(size: u32) -> [Row<'static>; 4] {
-    [
-        routed("A", 1, size),
-        routed("B", 2, size),
-        routed("C", 3, size),
-        routed("D", 4, size),
-    ]
+fn have_sent(rt: &impl Abort, links: &[GatedLink], each: u32) {
+    for link in links {
+        link.wire.has_sent(rt, each as usize, 0);
+    }
+}
+
+// Carries out the plan over gated links, which goes well.
+fn flown<S: Source + Send + Drop, R: Threads + Wait + Sync + Abort>(
+    rt: &R,
+    trial: &mut Trial,
+    sources: Vec<S>,
+    links: Vec<GatedLink>,
+) -> Flight<S, GatedLink> {
+    let Ok(flight) = trial.run(rt, sources, links, 0) else {
+        panic!(rt; "the plan is carried out");
+    };
+    flight
 }
 
 // All sources meet, all links meet, and nothing is lost.
-fn all_meet<R: Threads + Wait + Sync + Abort>(
-    rt: &R,
-    trial: &mut Trial,
-    sources: Vec<GatedSource>,
-    links: u32,
-    each: u32,
-) {
-    let lines = gated_links(rt, trial.alloc, links, Awaits::Begun(u64::from(links)));
-    let flight = trial.flown(rt, sources, lines);
-    for source in &flight.sources {
-        assert!(rt; !source.missed, "each source met the others");
-        assert_eq!(rt; source.left(1), 0);
-    }
-    for link in &flight.links {
-        assert_eq!(rt;
-            (link.wire.items.len(), link.failures()),
-            (each as usize, 0)
-        );
-    }
-    assert_eq!(rt; flight.report.totals().lost, 0);
+fn all_meet<R: Threads + Wait + Sync + Abort>(rt: &R, alloc: Global, meeting: &Meeting) {
+    let Meeting {
+        task,
+        apids,
+        each,
+        links,
+    } = meeting;
+    let mut trial = Trial::new(rt, alloc, task);
+    let sources = gated_sources(rt, alloc, apids, *each);
+    let links = gated_links(rt, alloc, *links, Awaits::Begun(u64::from(*links)));
+    let flight = flown(rt, &mut trial, sources, links);
+    have_met(rt, &flight.sources);
+    have_sent(rt, &flight.links, *each);
+    assert!(rt; flight.report.totals().lost == 0, "nothing is lost");
 }
 
 #[test]
 fn gates_meet(rt: HostRuntime) {
-    let alloc = rt.alloc();
-    let [first, second, ..] = four_rows(1);
-    let setup = setup_text(&rt, alloc, &[first, second]);
-    let mut trial = Trial::new(
-        &rt,
-        alloc,
-        setup.as_str(),
-        "step,window,A,B\n1,2,1,1\n",
-        "mmplan 1\nstores A B\ndump 1 1 1\nloss 0\nbound 0\nend\n",
-    );
-    let sources = gated_sources(&rt, alloc, &[1, 2], 1);
-    all_meet(&rt, &mut trial, sources, 2, 1);
-    let setup = setup_text(&rt, alloc, &four_rows(2));
-    let mut trial = Trial::new(
-        &rt,
-        alloc,
-        setup.as_str(),
-        "step,window,A,B,C,D\n1,8,2,2,2,2\n",
-        "mmplan 1\nstores A B C D\ndump 1 2 2 2 2\nloss 0\nbound 0\nend\n",
-    );
-    let sources = gated_sources(&rt, alloc, &[1, 2, 3, 4], 2);
-    all_meet(&rt, &mut trial, sources, 4, 2);
+    for meeting in &MEETINGS {
+        all_meet(&rt, rt.alloc(), meeting);
+    }
+}
+
+static FOUR_ORDERS: Task = Task {
+    setup: setup! {
+        store "A", apid 1, size 1, type "bounded", channel 0;
+        store "B", apid 2, size 1, type "bounded", channel 0;
+        store "C", apid 3, size 1, type "bounded", channel 0;
+        store "D", apid 4, size 1, type "bounded", channel 0;
+    },
+    forecast: "step,window,A,B,C,D\n1,4,1,1,1,1\n",
+    plan: "mmplan 1\nstores A B C D\ndump 1 1 1 1 1\nloss 0\nbound 0\nend\n",
+};
+
+// A source of one packet for each of the APIDs 1 to 4.
+fn four_sources(rt: &impl Abort, alloc: Global) -> Vec<Script> {
+    let mut sources = Vec::new(alloc);
+    for apid in 1..5 {
+        sources
+            .push(new_script(rt, alloc, apid, [1, 0, 0]))
+            .expect(rt, "memory");
+    }
+    sources
+}
+
+// The most packets that one of these links took, of which none failed.
+fn most_sent(rt: &impl Abort, links: &[GatedLink]) -> usize {
+    let mut most = 0;
+    for link in links {
+        assert!(rt; link.failures() == 0, "no send failed");
+        most = most.max(link.wire.items.len());
+    }
+    most
 }
 
 // The first send of all waits for three others, so one link carries out one order and the other three.
 #[test]
 fn orders_from_one_queue(rt: HostRuntime) {
     let alloc = rt.alloc();
-    let setup = setup_text(&rt, alloc, &four_rows(1));
-    let mut trial = Trial::new(
-        &rt,
-        alloc,
-        setup.as_str(),
-        "step,window,A,B,C,D\n1,4,1,1,1,1\n",
-        "mmplan 1\nstores A B C D\ndump 1 1 1 1 1\nloss 0\nbound 0\nend\n",
-    );
-    let mut sources = Vec::new(alloc);
-    for apid in 1..5 {
-        sources
-            .push(new_script(&rt, alloc, apid, [1, 0, 0]))
-            .expect(&rt, "memory");
-    }
+    let mut trial = Trial::new(&rt, alloc, &FOUR_ORDERS);
+    let sources = four_sources(&rt, alloc);
     let links = gated_links(&rt, alloc, 2, Awaits::Ended(3));
-    let flight = trial.flown(&rt, sources, links);
-    assert_eq!(rt; flight.report.totals().dumped, 4);
-    let mut most = 0;
-    for link in &flight.links {
-        assert_eq!(rt; link.failures(), 0);
-        most = most.max(link.wire.items.len());
-    }
-    assert_eq!(rt; most, 3);
+    let flight = flown(&rt, &mut trial, sources, links);
+    assert!(rt; flight.report.totals().dumped == 4, "all are dumped");
+    let most = most_sent(&rt, &flight.links);
+    assert!(rt; most == 3, "three orders of one link");
 }
+
+static EIGHT_EACH: Task = Task {
+    setup: setup! {
+        store "A", apid 100, size 1, type "bounded", channel 0;
+        store "B", apid 100, size 2, type "circular", channel 0;
+        store "C", apid 100, size 3, type "bounded", channel 0;
+        store "D", apid 100, size 4, type "circular", channel 0;
+    },
+    forecast: "step,window,A,B,C,D\n1,4,8,8,8,8\n2,3,0,0,0,0\n3,0,8,8,8,9\n",
+    plan: "mmplan 1\nstores A B C D\ndump 1 1 1 1 1\ndump 2 0 1 1 1\ndump 3 0 0 0 0\nloss 48\nbound 0\nend\n",
+};
 
 const EIGHT_SOURCES: &str = "step 1 A arrived 8 lost 7 dumped 1 held 0\n\
     step 1 B arrived 8 lost 6 dumped 1 held 1\n\
@@ -254,21 +314,8 @@ const EIGHT_SOURCES: &str = "step 1 A arrived 8 lost 7 dumped 1 held 0\n\
 #[test]
 fn a_hundred_runs_report_the_same(rt: HostRuntime) {
     let alloc = rt.alloc();
-    let rows = [
-        bounded("A", 1),
-        circular("B", 2),
-        bounded("C", 3),
-        circular("D", 4),
-    ];
-    let setup = setup_text(&rt, alloc, &rows);
     for _ in 0..100 {
-        let mut trial = Trial::new(
-            &rt,
-            alloc,
-            setup.as_str(),
-            "step,window,A,B,C,D\n1,4,8,8,8,8\n2,3,0,0,0,0\n3,0,8,8,8,9\n",
-            "mmplan 1\nstores A B C D\ndump 1 1 1 1 1\ndump 2 0 1 1 1\ndump 3 0 0 0 0\nloss 48\nbound 0\nend\n",
-        );
+        let mut trial = Trial::new(&rt, alloc, &EIGHT_EACH);
         let sources = scripts(&rt, alloc, 8, [1, 0, 1]);
         let links = wires(&rt, alloc, &[None, None, None, None]);
         let flight = trial.flown(&rt, sources, links);

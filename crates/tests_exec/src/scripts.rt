@@ -1,0 +1,107 @@
+//! Sources that give what they were told to give.
+ghost use Rattle.std.specs.Prelude.{◌≡◌, ◌<◌, ◌≤◌, ◌^◌, ◌++◌, [], IfNone, vec_len};
+ghost use Rattle.std.specs.Option.{option_to_list};
+
+use mm_packet::{BlockPacket, Header, Octets, Packet};
+use mm_record::Source;
+use std::alloc::Global;
+use std::process::Abort;
+
+// Gives packets in the steps 1, 2 and 3, and none in others.
+#[derive(Drop)]
+pub(crate) struct Script {
+    one: Vec<BlockPacket>,
+    two: Vec<BlockPacket>,
+    three: Vec<BlockPacket>,
+    ghost short_one: { vec_len one < 2 ^ 32 },
+    ghost short_two: { vec_len two < 2 ^ 32 },
+    ghost short_three: { vec_len three < 2 ^ 32 },
+}
+
+// Takes the first of these packets.
+fn take_first(packets: &mut Vec<BlockPacket>) -> Option<BlockPacket>
+    ensures first { packets.old.items ≡ option_to_list result ++ packets.new.items }
+    ensures none { IfNone result (packets.old.items ≡ []) }
+    ensures len { vec_len packets.new ≤ vec_len packets.old }
+{
+    if packets.len() > 0 {
+        Some(packets.remove(0))
+    } else {
+        None
+    }
+}
+
+impl Source for Script {
+    ghost use Rattle.std.specs.Prelude.{◌==◌, if◌then◌else◌, []};
+
+    ghost gives = { λ s t. if t == 1 then s.one.items else if t == 2 then s.two.items else if t == 3 then s.three.items else [] };
+
+    fn left(&self, step: u32) -> u32 {
+        match step {
+            1 => self.one.len() as u32,
+            2 => self.two.len() as u32,
+            3 => self.three.len() as u32,
+            _ => 0,
+        }
+    }
+
+    fn next(&mut self, step: u32) -> Option<BlockPacket> {
+        match step {
+            1 => take_first(&mut self.one),
+            2 => take_first(&mut self.two),
+            3 => take_first(&mut self.three),
+            _ => None,
+        }
+    }
+}
+
+// Telemetry with this sequence count, by which the tests know it again.
+pub(crate) fn packet(rt: &impl Abort, alloc: Global, apid: u16, count: u16) -> BlockPacket {
+    let header = Header::new(apid % 2000, count % 1000, 3, 25);
+    let packet = Packet::tm(header, 0, 0, 0, Octets::new(Vec::new(alloc)));
+    BlockPacket::of(packet).expect(rt, "a short packet")
+}
+
+// This many packets, with the sequence counts after another one.
+fn packets(rt: &impl Abort, alloc: Global, apid: u16, after: u16, many: u16) -> Vec<BlockPacket> {
+    let mut packets = Vec::new(alloc);
+    for count in 0..many {
+        let count = after.saturating_add(count).saturating_add(1);
+        packets
+            .push(packet(rt, alloc, apid, count))
+            .expect(rt, "memory");
+    }
+    assert!(rt; packets.len() < 65536, "few packets");
+    packets
+}
+
+// A source that gives this many packets of an APID in each of three steps, with sequence counts from 1 on.
+pub(crate) fn new_script(rt: &impl Abort, alloc: Global, apid: u16, many: [u16; 3]) -> Script {
+    let [first, second, third] = many;
+    let one = packets(rt, alloc, apid, 0, first);
+    let two = packets(rt, alloc, apid, first, second);
+    let three = packets(rt, alloc, apid, first.saturating_add(second), third);
+    assert!(rt;
+        one.len() < 65536 && two.len() < 65536 && three.len() < 65536,
+        "few packets"
+    );
+    Script { one, two, three }
+}
+
+// This many sources of APID 100 that give the same.
+pub(crate) fn scripts(rt: &impl Abort, alloc: Global, sources: u32, many: [u16; 3]) -> Vec<Script> {
+    let mut list = Vec::new(alloc);
+    for _ in 0..sources {
+        list.push(new_script(rt, alloc, 100, many))
+            .expect(rt, "memory");
+    }
+    list
+}
+
+// The source still gives this many packets in the steps 1, 2 and 3.
+pub(crate) fn has_left(rt: &impl Abort, source: &impl Source, want: [u32; 3]) {
+    for (step, many) in want.iter().enumerate() {
+        let left = source.left(step as u32 + 1);
+        assert!(rt; left == *many, "{left} packets left");
+    }
+}
