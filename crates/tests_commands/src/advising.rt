@@ -2,8 +2,8 @@
 
 use mm_commands::run_script;
 
-// A script whose task is refused, and the line on standard error.
-static ADVICE: [(&str, &str); 13] = [
+// A script whose task is refused, and the line on standard error, or how it begins where a long list of ranges follows.
+static ADVICE: [(&str, &str); 15] = [
     (
         "plan S F\n=== S\n",
         "F: expected a file that is there, can be read and has at most 2^30 bytes; check its name and who may read it; - is standard input\n",
@@ -56,10 +56,6 @@ static ADVICE: [(&str, &str); 13] = [
         "run S F P X L\n=== S\n[[store]]\nid = \"A\"\nsize = 1\ntype = \"bounded\"\nchannel = 0\n=== F\nstep,window,A\n1,0,1\n=== P\nmmplan 1\nstores A\ndump 1 1\nloss 0\nbound 0\nend\n=== X\n1 1 0864C000000E200319000000000000000000000000\n=== L\nlinks 1\n",
         "P: expected amounts that fit the window and the channels' limits in each step; see with check which step does not fit, and plan again\n",
     ),
-];
-
-// Where a number is out of its range, the words name what is counted.
-static COUNTED: [(&str, &str); 2] = [
     (
         "plan S F\n=== S\n[[store]]\nid = \"A\"\nsize = 0\ntype = \"bounded\"\nchannel = 0\n=== F\n",
         "S, size: expected a number in its range",
@@ -76,20 +72,7 @@ fn refusals_are_explained(rt: HostRuntime) {
     for (script, advice) in &ADVICE {
         let (mut out, mut err) = (Vec::new(alloc), Vec::new(alloc));
         let status = run_script(&rt, alloc, script.as_bytes(), &mut out, &mut err);
-        let is_told = err.as_slice() == advice.as_bytes();
+        let is_told = err.starts_with(advice.as_bytes());
         assert!(rt; status == 1 && is_told, "for {script}");
-    }
-}
-
-#[test]
-fn numbers_out_of_range_are_named(rt: HostRuntime) {
-    let alloc = rt.alloc();
-    for (script, begins) in &COUNTED {
-        let (mut out, mut err) = (Vec::new(alloc), Vec::new(alloc));
-        let status = run_script(&rt, alloc, script.as_bytes(), &mut out, &mut err);
-        assert!(rt;
-            status == 1 && err.starts_with(begins.as_bytes()),
-            "for {script}"
-        );
     }
 }
