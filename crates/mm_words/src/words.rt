@@ -180,7 +180,7 @@ fn advice(refusal: Refusal) -> &'static str
         Refusal::SizeDiffers => "resize it with subtype 25, or correct the setup",
         Refusal::OpeningDiffers => "give it those packets at step 0, or correct start in the setup",
         Refusal::ClockTooLate => "begin earlier, or with new stores",
-        Refusal::PlanDoesNotFit => "see with check which step does not fit, and plan again",
+        Refusal::PlanDoesNotFit => "dump less in that step, or plan again",
         Refusal::Counts => "count them; a source needs a line in the file of sources",
         Refusal::NoMemoryInStep => {
             "free some memory, and plan the rest; the report of the steps before is right"
@@ -193,8 +193,10 @@ fn advice(refusal: Refusal) -> &'static str
         Refusal::HexLine => {
             "write one telecommand a line, and compare its packet data length with its octets"
         }
-        Refusal::NotRead => "check its name and who may read it; - is standard input",
-        Refusal::SourcesText => "compare the line with 'Sources as text' in docs/FORMATS.md",
+        Refusal::NotRead =>
+            "check its name and who may read it; the name - stands for the script on standard input",
+        Refusal::SourcesText =>
+            "compare the line with 'Sources as text' in docs/FORMATS.md, and the packet data length with the octets; it ends with LF alone",
         Refusal::LinksText => "compare the line with 'Links as text' in docs/FORMATS.md",
         Refusal::ChannelDiffers => "change the channel with subtype 28, or correct the setup",
     }

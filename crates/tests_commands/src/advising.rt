@@ -6,7 +6,7 @@ use mm_commands::run_script;
 static ADVICE: [(&str, &str); 15] = [
     (
         "plan S F\n=== S\n",
-        "F: expected a file that is there, can be read and has at most 2^30 bytes; check its name and who may read it; - is standard input\n",
+        "F: expected a file that is there, can be read and has at most 2^30 bytes; check its name and who may read it; the name - stands for the script on standard input\n",
     ),
     (
         "plan S F\n=== S\n[[store\n=== F\n",
@@ -42,7 +42,7 @@ static ADVICE: [(&str, &str); 15] = [
     ),
     (
         "fly S F X L\n=== S\n[[store]]\nid = \"A\"\nsize = 1\ntype = \"bounded\"\nchannel = 0\n=== F\nstep,window,A\n1,0,0\n=== X\n9 1 00\n=== L\nlinks 1\n",
-        "X, line 1: expected a source from 1 to 8, a step from 0 to 256 and a packet of at most 1,024 octets in hexadecimal digits, separated by one space; compare the line with 'Sources as text' in docs/FORMATS.md\n",
+        "X, line 1: expected a source from 1 to 8, a step from 0 to 256 and a packet of at most 1,024 octets in hexadecimal digits, separated by one space; compare the line with 'Sources as text' in docs/FORMATS.md, and the packet data length with the octets; it ends with LF alone\n",
     ),
     (
         "fly S F X L\n=== S\n[[store]]\nid = \"A\"\nsize = 1\ntype = \"bounded\"\nchannel = 0\n=== F\nstep,window,A\n1,0,0\n=== X\n=== L\nlink 1\n",
@@ -54,7 +54,7 @@ static ADVICE: [(&str, &str); 15] = [
     ),
     (
         "run S F P X L\n=== S\n[[store]]\nid = \"A\"\nsize = 1\ntype = \"bounded\"\nchannel = 0\n=== F\nstep,window,A\n1,0,1\n=== P\nmmplan 1\nstores A\ndump 1 1\nloss 0\nbound 0\nend\n=== X\n1 1 0864C000000E200319000000000000000000000000\n=== L\nlinks 1\n",
-        "P: expected amounts that fit the window and the channels' limits in each step; see with check which step does not fit, and plan again\n",
+        "P: expected amounts that fit the window and the channels' limits in each step; dump less in that step, or plan again\n",
     ),
     (
         "plan S F\n=== S\n[[store]]\nid = \"A\"\nsize = 0\ntype = \"bounded\"\nchannel = 0\n=== F\n",
