@@ -2,12 +2,4 @@
 #![tactic(auto)]
 
 #[cfg(test)]
-mod charts;
-#[cfg(test)]
-mod numbers;
-#[cfg(test)]
-mod pictures;
-#[cfg(test)]
-mod samples;
-#[cfg(test)]
-mod sizes;
+mod tests;

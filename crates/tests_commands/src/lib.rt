@@ -2,22 +2,4 @@
 #![tactic(auto)]
 
 #[cfg(test)]
-mod advising;
-#[cfg(test)]
-mod asking;
-#[cfg(test)]
-mod charting;
-#[cfg(test)]
-mod checking;
-#[cfg(test)]
-mod failing;
-#[cfg(test)]
-mod flights;
-#[cfg(test)]
-mod flying;
-#[cfg(test)]
-mod planning;
-#[cfg(test)]
-mod samples;
-#[cfg(test)]
-mod words;
+mod tests;

@@ -2,8 +2,4 @@
 #![tactic(auto)]
 
 #[cfg(test)]
-mod lines;
-#[cfg(test)]
-mod memories;
-#[cfg(test)]
-mod samples;
+mod tests;

@@ -2,14 +2,4 @@
 #![tactic(auto)]
 
 #[cfg(test)]
-mod controls;
-#[cfg(test)]
-mod packets;
-#[cfg(test)]
-mod reports;
-#[cfg(test)]
-mod requests;
-#[cfg(test)]
-mod samples;
-#[cfg(test)]
-mod stores;
+mod tests;

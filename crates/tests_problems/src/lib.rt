@@ -2,10 +2,4 @@
 #![tactic(auto)]
 
 #[cfg(test)]
-mod faults;
-#[cfg(test)]
-mod forecasts;
-#[cfg(test)]
-mod samples;
-#[cfg(test)]
-mod setups;
+mod tests;

@@ -1,0 +1,4 @@
+//! Tests of mm_base and mm_words.
+
+mod bases;
+mod words;

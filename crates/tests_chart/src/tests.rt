@@ -1,0 +1,7 @@
+//! Tests of mm_chart.
+
+mod charts;
+mod numbers;
+mod pictures;
+mod samples;
+mod sizes;

@@ -1,0 +1,12 @@
+//! The worked examples, each through the whole program, and the program's answers to files and writers that fail.
+
+mod advising;
+mod asking;
+mod charting;
+mod checking;
+mod failing;
+mod flights;
+mod flying;
+mod planning;
+mod samples;
+mod words;

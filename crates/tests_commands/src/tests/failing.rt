@@ -1,0 +1,143 @@
+//! Files and writers that fail.
+
+use crate::tests::samples::{FIRST_PLAN, SCI, THREE_STEPS};
+use mm_commands::run_tool;
+use mm_system::files::{Files, ReadFault};
+use std::alloc::Global;
+use std::io::{self, ErrorKind, Write};
+use std::process::Abort;
+use std::sync::Wait;
+use std::thread::Threads;
+
+// A request to enable the store SCI.
+const ENABLE_SCI: &str = "1864C000000D200F010000015343492020202020\n";
+
+// A packet for each step.
+const THREE_PACKETS: &str = "\
+    1 1 0864C000000E200319000000000000000000000000\n\
+    1 2 0864C000000E200319000000000000000000000000\n\
+    1 3 0864C000000E200319000000000000000000000000\n";
+
+// The files of first_run, a request, and links of which the first send fails. The read after so many fails.
+#[derive(Drop)]
+struct FailingFiles {
+    left: usize,
+}
+
+impl Files for FailingFiles {
+    fn read(&mut self, alloc: Global, name: &str) -> Result<Vec<u8>, ReadFault> {
+        if self.left == 0 {
+            return Err(ReadFault::NotRead);
+        }
+        self.left -= 1;
+        let text = match name {
+            "S" => SCI,
+            "F" => THREE_STEPS,
+            "R" => ENABLE_SCI,
+            "X" => THREE_PACKETS,
+            "L" => "links 1\n",
+            "BROKEN" => "links 1\nfail 1 1\n",
+            _ => FIRST_PLAN,
+        };
+        Vec::from_slice(alloc, text.as_bytes()).map_err(|_| ReadFault::NoMemory)
+    }
+}
+
+// A writer that refuses the write after so many.
+#[derive(Drop)]
+pub(crate) struct FailingWriter {
+    left: u32,
+    has_refused: bool,
+}
+
+impl FailingWriter {
+    pub(crate) fn after(writes: u32) -> FailingWriter {
+        FailingWriter {
+            left: writes,
+            has_refused: false,
+        }
+    }
+}
+
+impl Write for FailingWriter {
+    fn write(&mut self, buf: &[u8]) -> io::Result<usize> {
+        if self.left == 0 {
+            self.has_refused = true;
+            return Err(io::Error::from(ErrorKind::BrokenPipe));
+        }
+        self.left -= 1;
+        Ok(buf.len())
+    }
+
+    fn flush(&mut self) -> io::Result<()> {
+        Ok(())
+    }
+}
+
+// Commands with their files in the order in which they are read, the fewest writes of what is printed, and the status,
+// where nothing fails. A run is printed as the plan text where it was made, the report, and the last line where it was halted.
+static COMMANDS: [(&[&str], u32, u8); 9] = [
+    (&["plan", "S", "F"], 1, 0),
+    (&["check", "S", "F", "P"], 1, 0),
+    (&["chart", "S", "F", "P"], 1, 0),
+    (&["run", "S", "F", "P", "X", "L"], 1, 0),
+    (&["run", "S", "F", "P", "X", "BROKEN"], 2, 1),
+    (&["fly", "S", "F", "X", "L"], 2, 0),
+    (&["fly", "S", "F", "X", "BROKEN"], 3, 1),
+    (&["ask", "S", "R"], 1, 0),
+    (&["plan", "S", "-"], 1, 1),
+];
+
+// Each file of a command in turn is not read, and its name is told.
+fn reads_fail<R: Abort + AllocGlobal + Threads + Wait + Sync>(rt: &R, words: &[&str]) {
+    let alloc = rt.alloc();
+    for (left, name) in words.iter().skip(1).enumerate() {
+        let (mut out, mut err) = (Vec::new(alloc), Vec::new(alloc));
+        let mut files = FailingFiles { left };
+        let status = run_tool(rt, alloc, words, &mut files, &mut out, &mut err);
+        let want = format!(in alloc; "refused 50 NotRead name {name}\n").expect(rt, "memory");
+        let is_told = out.as_slice() == want.as_bytes();
+        assert!(rt; is_told && !err.is_empty() && status == 1, "for {name}");
+    }
+}
+
+#[test]
+fn each_file_that_is_not_read(rt: HostRuntime) {
+    for (words, _writes, _status) in &COMMANDS {
+        reads_fail(&rt, words);
+    }
+}
+
+// No command writes as often for the first run.
+const MANY_WRITES: u32 = 100;
+
+// How many writes of a command's output can be refused, each in turn; its status is 1 each time, and this one then.
+fn refused_writes<R: Abort + AllocGlobal + Threads + Wait + Sync>(
+    rt: &R,
+    words: &[&str],
+    status: u8,
+) -> u32 {
+    let alloc = rt.alloc();
+    for writes in 0..MANY_WRITES {
+        let mut files = FailingFiles { left: words.len() };
+        let (mut out, mut err) = (FailingWriter::after(writes), Vec::new(alloc));
+        let got = run_tool(rt, alloc, words, &mut files, &mut out, &mut err);
+        let want = if out.has_refused { 1 } else { status };
+        assert!(rt; got == want, "after {writes} writes");
+        if !out.has_refused {
+            return writes;
+        }
+    }
+    MANY_WRITES
+}
+
+#[test]
+fn each_write_that_fails(rt: HostRuntime) {
+    for (words, fewest, status) in &COMMANDS {
+        let writes = refused_writes(&rt, words, *status);
+        assert!(rt;
+            *fewest <= writes && writes < MANY_WRITES,
+            "{writes} writes, not {fewest}"
+        );
+    }
+}

@@ -1,0 +1,301 @@
+//! What `plan` prints.
+
+use crate::tests::samples::{
+    A_WITH_LIMIT_1, APART, SCI, SCI_OF_SIZE_2, SCI_STARTS_WITH_2, THREE_STEPS, TWO_STEPS_OF_A,
+    checks, prints, refuses, run,
+};
+use std::process::Abort;
+use std::sync::Wait;
+use std::thread::Threads;
+
+const A_OF_SIZE_1: &str = "[[store]]\nid = \"A\"\nsize = 1\ntype = \"bounded\"\nchannel = 0\n";
+
+const A_AND_B: &str = "\
+    [[store]]\nid = \"A\"\nsize = 3\ntype = \"bounded\"\nchannel = 0\n\n\
+    [[store]]\nid = \"B\"\nsize = 3\ntype = \"bounded\"\nchannel = 0\n";
+
+const A_WITH_LIMIT_1_AND_B: &str = "\
+    [[store]]\nid = \"A\"\nsize = 3\ntype = \"bounded\"\nchannel = 0\n\n\
+    [[store]]\nid = \"B\"\nsize = 3\ntype = \"bounded\"\nchannel = 1\n\n\
+    [[limit]]\nchannel = 0\nblocks = 1\n";
+
+const SHARED_WINDOW: &str = "step,window,A,B\n1,2,3,3\n2,0,2,2\n";
+
+// What `plan` is to print: the text begins and ends like this, and nothing stands between where it is fixed whole.
+// What is printed is then given to `check`, which answers with the verdict.
+struct Planned {
+    example: &'static str,
+    setup: &'static str,
+    forecast: &'static str,
+    begins: &'static str,
+    ends: &'static str,
+    is_whole: bool,
+    verdict: &'static str,
+}
+
+static PLANNED: [Planned; 9] = [
+    Planned {
+        example: "first_run",
+        setup: SCI,
+        forecast: THREE_STEPS,
+        begins: "mmplan 1\nstores SCI\ndump 1 2\ndump 2 2\ndump 3 0\nloss 2\n",
+        ends: "stretch SCI 1 3\nbound 2\nend\n",
+        is_whole: true,
+        verdict: "least 2\n",
+    },
+    Planned {
+        example: "nothing_arrives",
+        setup: A_OF_SIZE_1,
+        forecast: "step,window,A\n1,5,0\n2,5,0\n",
+        begins: "mmplan 1\nstores A\ndump 1 0\ndump 2 0\nloss 0\n",
+        ends: "bound 0\nend\n",
+        is_whole: true,
+        verdict: "least 0\n",
+    },
+    Planned {
+        example: "more_than_the_store_holds",
+        setup: SCI,
+        forecast: "step,window,SCI\n1,9,9\n",
+        begins: "mmplan 1\nstores SCI\ndump 1 4\nloss 5\n",
+        ends: "stretch SCI 1 1\nbound 5\nend\n",
+        is_whole: true,
+        verdict: "least 5\n",
+    },
+    Planned {
+        example: "foresight_beats_even_split",
+        setup: A_AND_B,
+        forecast: "step,window,A,B\n1,2,3,3\n2,0,2,0\n",
+        begins: "mmplan 1\nstores A B\ndump 1 2 0\ndump 2 0 0\nloss 0\n",
+        ends: "bound 0\nend\n",
+        is_whole: false,
+        verdict: "least 0\n",
+    },
+    Planned {
+        example: "two_stretches_share_a_window",
+        setup: A_AND_B,
+        forecast: SHARED_WINDOW,
+        begins: "mmplan 1\nstores A B\ndump 1 ",
+        ends: "\ndump 2 0 0\nloss 2\nstretch A 1 2\nstretch B 1 2\nbound 2\nend\n",
+        is_whole: false,
+        verdict: "least 2\n",
+    },
+    Planned {
+        example: "two_stretches_of_one_store",
+        setup: SCI_OF_SIZE_2,
+        forecast: APART,
+        begins: "mmplan 1\nstores SCI\ndump 1 0\ndump 2 2\ndump 3 0\nloss 6\nstretch SCI 1 ",
+        ends: "\nbound 6\nend\n",
+        is_whole: false,
+        verdict: "least 6\n",
+    },
+    Planned {
+        example: "opening_contents_plan",
+        setup: SCI_STARTS_WITH_2,
+        forecast: THREE_STEPS,
+        begins: "mmplan 1\nstores SCI\ndump 1 2\ndump 2 2\ndump 3 0\nloss 4\n",
+        ends: "stretch SCI 1 3\nbound 4\nend\n",
+        is_whole: true,
+        verdict: "least 4\n",
+    },
+    Planned {
+        example: "channel_limit_cut",
+        setup: A_WITH_LIMIT_1,
+        forecast: TWO_STEPS_OF_A,
+        begins: "mmplan 2\nstores A\ndump 1 1\ndump 2 0\nloss 2\n",
+        ends: "stretch A 1 2\ncount 1 channels\nbound 2\nend\n",
+        is_whole: true,
+        verdict: "least 2\n",
+    },
+    Planned {
+        example: "channel_limit_shares",
+        setup: A_WITH_LIMIT_1_AND_B,
+        forecast: SHARED_WINDOW,
+        begins: "mmplan 1\nstores A B\ndump 1 ",
+        ends: "\ndump 2 0 0\nloss 2\nstretch A 1 2\nstretch B 1 2\nbound 2\nend\n",
+        is_whole: false,
+        verdict: "least 2\n",
+    },
+];
+
+// Whether a plan text is as it is to be.
+fn is_planned(plan: &str, row: &Planned) -> bool {
+    let fixed = row.begins.len().saturating_add(row.ends.len());
+    plan.starts_with(row.begins)
+        && plan.ends_with(row.ends)
+        && plan.len() >= fixed
+        && (plan.len() == fixed || !row.is_whole)
+}
+
+fn plans<R: Abort + AllocGlobal + Threads + Wait + Sync>(rt: &R, row: &Planned) {
+    let script = format!(in rt.alloc();
+        "plan S F\n=== S\n{}=== F\n{}",
+        row.setup, row.forecast
+    ).expect(rt, "memory");
+    let (plan, status) = run(rt, script.as_str());
+    let example = row.example;
+    assert_eq!(rt; status, 0, "for {example}");
+    assert!(rt; is_planned(plan.as_str(), row), "for {example}: {plan}");
+    checks(
+        rt,
+        example,
+        row.setup,
+        row.forecast,
+        plan.as_str(),
+        row.verdict,
+    )
+}
+
+#[test]
+fn plans_of_the_examples(rt: HostRuntime) {
+    for row in &PLANNED {
+        plans(&rt, row);
+    }
+}
+
+static REFUSED: [(&str, &str); 5] = [
+    (
+        "plan S F\n=== S\n[[store\n=== F\n",
+        "refused 27 SetupText\n",
+    ),
+    (
+        "plan S F\n=== S\n[[store]]\nid = \"SCI\"\nsize = 4\ntype = \"bounded\"\nchannel = 0\nstart = 5\n=== F\n",
+        "refused 33 Limit name start\n",
+    ),
+    (
+        "plan S F\n=== S\n[[store]]\nid = \"SCI\"\nsize = 4\ntype = \"bounded\"\nchannel = 0\n=== F\nstep,window,HK\n",
+        "refused 30 Header\n",
+    ),
+    ("plan S F\n=== F\n", "refused 50 NotRead name S\n"),
+    ("plan S F\n=== S\n", "refused 50 NotRead name F\n"),
+];
+
+#[test]
+fn plans_refused(rt: HostRuntime) {
+    refuses(&rt, &REFUSED);
+}
+
+// The store of first_run, and the head of the one that follows it.
+const TWICE: &str = "[[store]]\nid = \"SCI\"\nsize = 4\ntype = \"bounded\"\nchannel = 0\n[[store]]";
+
+// The setup of first_run with one text in the place of another, and what is said then.
+static SETUPS_REFUSED: [(&str, &str, &str); 8] = [
+    ("[[store]]", "[[store", "refused 27 SetupText\n"),
+    (SCI, "", "refused 28 SetupField row 0 name store\n"),
+    (SCI, "store = []\n", "refused 33 Limit name stores\n"),
+    (
+        "channel = 0\n",
+        "channel = 0\ncolour = 1\n",
+        "refused 28 SetupField row 1 name unknown\n",
+    ),
+    (
+        "size = 4",
+        "size = \"4\"",
+        "refused 28 SetupField row 1 name size\n",
+    ),
+    ("size = 4", "size = 0", "refused 33 Limit name size\n"),
+    (
+        "store = \"SCI\"",
+        "store = \"HK\"",
+        "refused 28 SetupField row 1 name store\n",
+    ),
+    (
+        "[[store]]",
+        TWICE,
+        "refused 28 SetupField row 2 name repeated\n",
+    ),
+];
+
+#[test]
+fn setup_texts_refused(rt: HostRuntime) {
+    for (old, new, want) in &SETUPS_REFUSED {
+        let setup = SCI.replace(rt.alloc(), old, new).expect(&rt, "memory");
+        let script = format!(in rt.alloc(); "plan S F\n=== S\n{setup}=== F\n{THREE_STEPS}").expect(
+            &rt, "memory",
+        );
+        prints(&rt, script.as_str(), want, 1);
+    }
+}
+
+// Forecasts for the setup of first_run, and what is said of each.
+static FORECASTS_REFUSED: [(&str, &str); 8] = [
+    (
+        "step,window,SCI\n1,2,01\n",
+        "refused 31 Cell row 1 column 3\n",
+    ),
+    (
+        "step,window,SCI\n1,2,-1\n",
+        "refused 31 Cell row 1 column 3\n",
+    ),
+    (
+        "step,window,SCI\n1,2,\n",
+        "refused 31 Cell row 1 column 3\n",
+    ),
+    (
+        "step,window,SCI\n1,2,1000001\n",
+        "refused 33 Limit name arrivals\n",
+    ),
+    ("step,window,SCI\n2,2,3\n", "refused 32 StepNumber row 1\n"),
+    ("step,window,SCI\n1,2\n", "refused 29 ForecastText\n"),
+    ("step,window,HK\n1,2,3\n", "refused 30 Header\n"),
+    ("step,window,SCI\n", "refused 33 Limit name steps\n"),
+];
+
+#[test]
+fn forecast_cells(rt: HostRuntime) {
+    for (forecast, want) in &FORECASTS_REFUSED {
+        let script = format!(in rt.alloc(); "plan S F\n=== S\n{SCI}=== F\n{forecast}").expect(
+            &rt, "memory",
+        );
+        prints(&rt, script.as_str(), want, 1);
+    }
+}
+
+// The numbers from the first up to before the end, each between two texts.
+fn numbered<R: Abort + AllocGlobal + Threads + Wait + Sync>(
+    rt: &R,
+    first: u32,
+    end: u32,
+    before: &str,
+    after: &str,
+) -> String {
+    let mut text = String::new(rt.alloc());
+    for number in first..end {
+        write!(text, "{before}{number}{after}").expect(rt, "memory");
+    }
+    text
+}
+
+// The text of the most stores over the most steps, without any window, when as much arrives as may.
+fn fullest_forecast<R: Abort + AllocGlobal + Threads + Wait + Sync>(rt: &R) -> String {
+    let columns = numbered(rt, 0, 16, ",S", "");
+    let full =
+        ",0,1000000,1000000,1000000,1000000,1000000,1000000,1000000,1000000,1000000,1000000,1000000,1000000,1000000,1000000,1000000,1000000\n";
+    let rows = numbered(rt, 1, 257, "", full);
+    format!(in rt.alloc(); "step,window{columns}\n{rows}").expect(rt, "memory")
+}
+
+// Its plan, which dumps nothing.
+fn fullest_plan<R: Abort + AllocGlobal + Threads + Wait + Sync>(rt: &R) -> String {
+    let ids = numbered(rt, 0, 16, " S", "");
+    let dumps = numbered(rt, 1, 257, "dump ", " 0 0 0 0 0 0 0 0 0 0 0 0 0 0 0 0\n");
+    let cut = numbered(rt, 0, 16, "stretch S", " 1 256\n");
+    format!(in rt.alloc();
+        "mmplan 1\nstores{ids}\n{dumps}loss 4095999984\n{cut}bound 4095999984\nend\n"
+    ).expect(rt, "memory")
+}
+
+#[test]
+fn largest_loss(rt: HostRuntime) {
+    let setup = numbered(
+        &rt,
+        0,
+        16,
+        "[[store]]\nid = \"S",
+        "\"\nsize = 1\ntype = \"bounded\"\nchannel = 0\n",
+    );
+    let forecast = fullest_forecast(&rt);
+    let script = format!(in rt.alloc(); "plan S F\n=== S\n{setup}=== F\n{forecast}").expect(
+        &rt, "memory",
+    );
+    prints(&rt, script.as_str(), fullest_plan(&rt).as_str(), 0);
+}

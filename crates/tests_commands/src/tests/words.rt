@@ -1,0 +1,68 @@
+//! Bad command lines, calls for help, and what a script may hold.
+
+use crate::tests::failing::FailingWriter;
+use crate::tests::samples::{FIRST_PLAN, SCI, THREE_STEPS, prints};
+use mm_commands::{refuse_input, run_script};
+use mm_system::files::ReadFault;
+
+static LINES: [&str; 19] = [
+    "",
+    "\n",
+    "plan S\n",
+    "dump S F\n",
+    "plan  S F\n",
+    "plan S F P\n",
+    "plan --help\n",
+    "check S F\n",
+    "check --help\n",
+    "check S F P Q\n",
+    "chart S F\n",
+    "chart --help\n",
+    "run S F P X\n",
+    "run --help\n",
+    "fly S F X\n",
+    "fly --help\n",
+    "ask S\n",
+    "ask --help\n",
+    "--help\n",
+];
+
+#[test]
+fn command_lines(rt: HostRuntime) {
+    let alloc = rt.alloc();
+    for line in &LINES {
+        let (mut out, mut err) = (Vec::new(alloc), Vec::new(alloc));
+        let status = run_script(&rt, alloc, line.as_bytes(), &mut out, &mut err);
+        let is_told = out.is_empty() && !err.is_empty();
+        assert!(rt; status == 2 && is_told, "for {line}");
+    }
+}
+
+#[test]
+fn a_first_line_that_is_not_utf8(rt: HostRuntime) {
+    let alloc = rt.alloc();
+    let (mut out, mut err) = (Vec::new(alloc), Vec::new(alloc));
+    let status = run_script(&rt, alloc, b"plan \xff F\n", &mut out, &mut err);
+    assert!(rt; status == 2 && out.is_empty() && !err.is_empty());
+    let mut refusing = FailingWriter::after(0);
+    let status = run_script(&rt, alloc, b"plan \xff F\n", &mut out, &mut refusing);
+    assert!(rt; status == 1 && out.is_empty());
+}
+
+// What stands before the first file is passed over, and of two files of one name the first is read.
+#[test]
+fn files_of_a_script(rt: HostRuntime) {
+    let script = format!(in rt.alloc();
+        "check S F P\na note\n=== S\n{SCI}=== F\n{THREE_STEPS}=== P\n{FIRST_PLAN}=== S\n[[store\n"
+    ).expect(&rt, "memory");
+    prints(&rt, script.as_str(), "least 2\n", 0);
+    prints(&rt, "plan - F\n=== S\n", "refused 50 NotRead name -\n", 1);
+}
+
+#[test]
+fn input_that_is_not_read(rt: HostRuntime) {
+    let (mut out, mut err) = (Vec::new(rt.alloc()), Vec::new(rt.alloc()));
+    let status = refuse_input(ReadFault::NotRead, &mut out, &mut err);
+    let is_told = out.as_slice() == b"refused 50 NotRead name -\n".as_slice();
+    assert!(rt; status == 1 && is_told && !err.is_empty());
+}

@@ -1,0 +1,10 @@
+//! Tests of mm_exec.
+
+mod crowds;
+mod flights;
+mod halts;
+mod refusals;
+mod rows;
+mod scripts;
+mod trials;
+mod wires;

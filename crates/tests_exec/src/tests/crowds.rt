@@ -1,0 +1,324 @@
+//! Several sources and links at once: gates that open once all stand at them, one queue of orders, and a hundred runs.
+
+use crate::tests::scripts::{Script, new_script, scripts};
+use crate::tests::trials::{Task, Trial, has_text, setup};
+use crate::tests::wires::{Wire, wires};
+use mm_base::StoreId;
+use mm_exec::Flight;
+use mm_order::{Link, SendFailed};
+use mm_packet::BlockPacket;
+use mm_record::Source;
+use std::alloc::Global;
+use std::process::Abort;
+use std::sync::atomic::{AtomicU64, Ordering};
+use std::sync::{Arc, Wait};
+use std::thread;
+use std::thread::Threads;
+
+// The turns for which one looks for the others.
+const TURNS: u32 = 1_000_000;
+
+// Whether a count comes up to a number before the turns are used up.
+fn comes_to(count: &AtomicU64, number: u64) -> bool {
+    for _ in 0..TURNS {
+        if count.load(Ordering::SeqCst) >= number {
+            return true;
+        }
+        thread::yield_now();
+    }
+    false
+}
+
+fn counter(rt: &impl Abort, alloc: Global) -> Arc<AtomicU64, Global> {
+    Arc::new(alloc, AtomicU64::new(0)).expect(rt, "memory")
+}
+
+fn shared(rt: &impl Abort, count: &Arc<AtomicU64, Global>) -> Arc<AtomicU64, Global> {
+    Arc::try_clone(count).expect(rt, "memory")
+}
+
+// A source that gives its packet once all sources were asked for theirs, and notes where they were not.
+#[derive(Drop)]
+struct GatedSource {
+    script: Script,
+    asked: Arc<AtomicU64, Global>,
+    all: u64,
+    missed: bool,
+}
+
+impl Source for GatedSource {
+    ghost use Rattle.std.specs.Prelude.{◌==◌, if◌then◌else◌, []};
+
+    ghost gives = { λ g t. if t == 1 then g.script.one.items else if t == 2 then g.script.two.items else if t == 3 then g.script.three.items else [] };
+
+    fn left(&self, step: u32) -> u32 {
+        self.script.left(step)
+    }
+
+    fn next(&mut self, step: u32) -> Option<BlockPacket> {
+        self.asked.fetch_add(1, Ordering::SeqCst);
+        self.missed = self.missed || !comes_to(&self.asked, self.all);
+        self.script.next(step)
+    }
+}
+
+// What a send waits for.
+#[derive(Clone, Copy)]
+enum Awaits {
+    // Each waits until so many have begun.
+    Begun(u64),
+    // The first one waits until so many others have ended.
+    Ended(u64),
+}
+
+// A link whose sends wait for those of other links, and fail where these do not come.
+#[derive(Drop)]
+struct GatedLink {
+    wire: Wire,
+    begun: Arc<AtomicU64, Global>,
+    ended: Arc<AtomicU64, Global>,
+    awaits: Awaits,
+}
+
+impl GatedLink {
+    // Begins a send, and says whether what it awaits came.
+    fn begins(&self) -> bool {
+        let before = self.begun.fetch_add(1, Ordering::SeqCst);
+        match self.awaits {
+            Awaits::Begun(number) => comes_to(&self.begun, number),
+            Awaits::Ended(number) => before > 0 || comes_to(&self.ended, number),
+        }
+    }
+}
+
+impl Link for GatedLink {
+    ghost use Rattle.std.specs.Prelude.{map};
+
+    ghost sent = { λ g. map (λ i. record { store = i.store; stored = i.stored }) g.wire.items.items };
+
+    ghost failed = { λ g. g.wire.failed };
+
+    fn send(&mut self, store: &StoreId, time: u64, packet: &BlockPacket) -> Result<(), SendFailed> {
+        if !self.begins() {
+            self.wire.failed += 1;
+            return Err(SendFailed);
+        }
+        self.wire.send(store, time, packet)?;
+        self.ended.fetch_add(1, Ordering::SeqCst);
+        Ok(())
+    }
+
+    fn failures(&self) -> u64 {
+        self.wire.failed
+    }
+}
+
+fn gated_links(rt: &impl Abort, alloc: Global, many: u32, awaits: Awaits) -> Vec<GatedLink> {
+    let begun = counter(rt, alloc);
+    let ended = counter(rt, alloc);
+    let mut list = Vec::new(alloc);
+    for _ in 0..many {
+        let link = GatedLink {
+            wire: Wire::new(alloc, None),
+            begun: shared(rt, &begun),
+            ended: shared(rt, &ended),
+            awaits,
+        };
+        list.push(link).expect(rt, "memory");
+    }
+    list
+}
+
+// Sources of one packet each, this many for each of these APIDs.
+fn gated_sources(rt: &impl Abort, alloc: Global, apids: &[u16], each: u32) -> Vec<GatedSource> {
+    let asked = counter(rt, alloc);
+    let all = (apids.len() as u64).saturating_mul(u64::from(each));
+    let mut list = Vec::new(alloc);
+    for apid in apids {
+        for _ in 0..each {
+            let source = GatedSource {
+                script: new_script(rt, alloc, *apid, [1, 0, 0]),
+                asked: shared(rt, &asked),
+                all,
+                missed: false,
+            };
+            list.push(source).expect(rt, "memory");
+        }
+    }
+    list
+}
+
+// A task of one step for stores with an APID each: sources of one packet, so many for each store, and links, each of which is to send
+// as many packets.
+struct Meeting {
+    task: Task,
+    apids: &'static [u16],
+    each: u32,
+    links: u32,
+}
+
+static MEETINGS: [Meeting; 2] = [
+    Meeting {
+        task: Task {
+            setup: setup! {
+                store "A", apid 1, size 1, type "bounded", channel 0;
+                store "B", apid 2, size 1, type "bounded", channel 0;
+            },
+            forecast: "step,window,A,B\n1,2,1,1\n",
+            plan: "mmplan 1\nstores A B\ndump 1 1 1\nloss 0\nbound 0\nend\n",
+        },
+        apids: &[1, 2],
+        each: 1,
+        links: 2,
+    },
+    Meeting {
+        task: Task {
+            setup: setup! {
+                store "A", apid 1, size 2, type "bounded", channel 0;
+                store "B", apid 2, size 2, type "bounded", channel 0;
+                store "C", apid 3, size 2, type "bounded", channel 0;
+                store "D", apid 4, size 2, type "bounded", channel 0;
+            },
+            forecast: "step,window,A,B,C,D\n1,8,2,2,2,2\n",
+            plan: "mmplan 1\nstores A B C D\ndump 1 2 2 2 2\nloss 0\nbound 0\nend\n",
+        },
+        apids: &[1, 2, 3, 4],
+        each: 2,
+        links: 4,
+    },
+];
+
+fn have_met(rt: &impl Abort, sources: &[GatedSource]) {
+    for source in sources {
+        assert!(rt; !source.missed, "each source met the others");
+        assert!(rt; source.left(1) == 0, "nothing is left");
+    }
+}
+
+fn have_sent(rt: &impl Abort, links: &[GatedLink], each: u32) {
+    for link in links {
+        link.wire.has_sent(rt, each as usize, 0);
+    }
+}
+
+// Carries out the plan over gated links, which goes well.
+fn flown<S: Source + Send + Drop, R: Threads + Wait + Sync + Abort>(
+    rt: &R,
+    trial: &mut Trial,
+    sources: Vec<S>,
+    links: Vec<GatedLink>,
+) -> Flight<S, GatedLink> {
+    let Ok(flight) = trial.run(rt, sources, links, 0) else {
+        panic!(rt; "the plan is carried out");
+    };
+    flight
+}
+
+// All sources meet, all links meet, and nothing is lost.
+fn all_meet<R: Threads + Wait + Sync + Abort>(rt: &R, alloc: Global, meeting: &Meeting) {
+    let Meeting {
+        task,
+        apids,
+        each,
+        links,
+    } = meeting;
+    let mut trial = Trial::new(rt, alloc, task);
+    let sources = gated_sources(rt, alloc, apids, *each);
+    let links = gated_links(rt, alloc, *links, Awaits::Begun(u64::from(*links)));
+    let flight = flown(rt, &mut trial, sources, links);
+    have_met(rt, &flight.sources);
+    have_sent(rt, &flight.links, *each);
+    assert!(rt; flight.report.totals().lost == 0, "nothing is lost");
+}
+
+#[test]
+fn gates_meet(rt: HostRuntime) {
+    for meeting in &MEETINGS {
+        all_meet(&rt, rt.alloc(), meeting);
+    }
+}
+
+static FOUR_ORDERS: Task = Task {
+    setup: setup! {
+        store "A", apid 1, size 1, type "bounded", channel 0;
+        store "B", apid 2, size 1, type "bounded", channel 0;
+        store "C", apid 3, size 1, type "bounded", channel 0;
+        store "D", apid 4, size 1, type "bounded", channel 0;
+    },
+    forecast: "step,window,A,B,C,D\n1,4,1,1,1,1\n",
+    plan: "mmplan 1\nstores A B C D\ndump 1 1 1 1 1\nloss 0\nbound 0\nend\n",
+};
+
+// A source of one packet for each of the APIDs 1 to 4.
+fn four_sources(rt: &impl Abort, alloc: Global) -> Vec<Script> {
+    let mut sources = Vec::new(alloc);
+    for apid in 1..5 {
+        sources
+            .push(new_script(rt, alloc, apid, [1, 0, 0]))
+            .expect(rt, "memory");
+    }
+    sources
+}
+
+// The most packets that one of these links took, of which none failed.
+fn most_sent(rt: &impl Abort, links: &[GatedLink]) -> usize {
+    let mut most = 0;
+    for link in links {
+        assert!(rt; link.failures() == 0, "no send failed");
+        most = most.max(link.wire.items.len());
+    }
+    most
+}
+
+// The first send of all waits for three others, so one link carries out one order and the other three.
+#[test]
+fn orders_from_one_queue(rt: HostRuntime) {
+    let alloc = rt.alloc();
+    let mut trial = Trial::new(&rt, alloc, &FOUR_ORDERS);
+    let sources = four_sources(&rt, alloc);
+    let links = gated_links(&rt, alloc, 2, Awaits::Ended(3));
+    let flight = flown(&rt, &mut trial, sources, links);
+    assert!(rt; flight.report.totals().dumped == 4, "all are dumped");
+    let most = most_sent(&rt, &flight.links);
+    assert!(rt; most == 3, "three orders of one link");
+}
+
+static EIGHT_EACH: Task = Task {
+    setup: setup! {
+        store "A", apid 100, size 1, type "bounded", channel 0;
+        store "B", apid 100, size 2, type "circular", channel 0;
+        store "C", apid 100, size 3, type "bounded", channel 0;
+        store "D", apid 100, size 4, type "circular", channel 0;
+    },
+    forecast: "step,window,A,B,C,D\n1,4,8,8,8,8\n2,3,0,0,0,0\n3,0,8,8,8,9\n",
+    plan: "mmplan 1\nstores A B C D\ndump 1 1 1 1 1\ndump 2 0 1 1 1\ndump 3 0 0 0 0\nloss 48\nbound 0\nend\n",
+};
+
+const EIGHT_SOURCES: &str = "step 1 A arrived 8 lost 7 dumped 1 held 0\n\
+    step 1 B arrived 8 lost 6 dumped 1 held 1\n\
+    step 1 C arrived 8 lost 5 dumped 1 held 2\n\
+    step 1 D arrived 8 lost 4 dumped 1 held 3\n\
+    step 2 A arrived 0 lost 0 dumped 0 held 0\n\
+    step 2 B arrived 0 lost 0 dumped 1 held 0\n\
+    step 2 C arrived 0 lost 0 dumped 1 held 1\n\
+    step 2 D arrived 0 lost 0 dumped 1 held 2\n\
+    step 3 A arrived 8 lost 7 dumped 0 held 1\n\
+    step 3 B arrived 8 lost 6 dumped 0 held 2\n\
+    step 3 C arrived 8 lost 6 dumped 0 held 3\n\
+    step 3 D arrived 8 lost 6 dumped 0 held 4\n\
+    differs step 3 D forecast 9 came 8\n\
+    total arrived 64 lost 47 dumped 7 held 10\n";
+
+// Eight sources of one packet each in the steps 1 and 3, each for four stores of 1, 2, 3 and 4 blocks, and four links: the
+// report is the same whatever the threads did.
+#[test]
+fn a_hundred_runs_report_the_same(rt: HostRuntime) {
+    let alloc = rt.alloc();
+    for _ in 0..100 {
+        let mut trial = Trial::new(&rt, alloc, &EIGHT_EACH);
+        let sources = scripts(&rt, alloc, 8, [1, 0, 1]);
+        let links = wires(&rt, alloc, &[None, None, None, None]);
+        let flight = trial.flown(&rt, sources, links);
+        has_text(&rt, alloc, &flight.report, EIGHT_SOURCES);
+    }
+}

@@ -1,0 +1,123 @@
+//! Runs that begin with their plan.
+
+use crate::tests::halts::{Broken, FIRST_SEND_FAILS, has_broken};
+use crate::tests::rows::{Run, has_ended};
+use crate::tests::scripts::{Script, has_left, scripts};
+use crate::tests::trials::{FIRST_RUN, Left, NO_STEP, TWO_PASSES, Trial, has_cause};
+use crate::tests::wires::{Wire, may_fail, wires};
+use mm_exec::{Cause, Flight, Flown, Halted, NotFlown, fly};
+use std::process::Abort;
+use std::sync::Wait;
+use std::thread::Threads;
+
+// Plans and flies the first run, with what was forecast, over links that fail after so many sends.
+fn fly_first<R: Threads + Wait + Sync + Abort>(
+    rt: &R,
+    trial: &mut Trial,
+    good: &[Option<u64>],
+) -> Result<Flown<Script, Wire>, NotFlown<Script, Wire>> {
+    let alloc = trial.alloc;
+    let sources = scripts(rt, alloc, 1, [3, 3, 4]);
+    let links = wires(rt, alloc, good);
+    assert!(rt; may_fail(&links), "links that may fail");
+    fly(
+        rt,
+        alloc,
+        &mut trial.memory,
+        &trial.problem,
+        sources,
+        links,
+        0,
+    )
+}
+
+// The text of the plan is that of examples/first_run.
+fn has_sheet(rt: &impl Abort, sheet: &[u8]) {
+    assert!(rt; sheet == TWO_PASSES.as_bytes(), "the plan");
+}
+
+// Plans and begins to fly the first run, which is halted or refused; its plan is told all the same.
+fn not_flown<R: Threads + Wait + Sync + Abort>(
+    rt: &R,
+    trial: &mut Trial,
+    good: &[Option<u64>],
+) -> Halted<Script, Wire> {
+    let Err(NotFlown { sheet, halted }) = fly_first(rt, trial, good) else {
+        panic!(rt; "the run is not carried out");
+    };
+    has_sheet(rt, &sheet);
+    halted
+}
+
+static AS_FORECAST: Run = Run {
+    task: FIRST_RUN,
+    many: [3, 3, 4],
+    report: "step 1 SCI arrived 3 lost 0 dumped 2 held 1\n\
+        step 2 SCI arrived 3 lost 0 dumped 2 held 2\n\
+        step 3 SCI arrived 4 lost 2 dumped 0 held 4\n\
+        total arrived 10 lost 2 dumped 4 held 4\n",
+    stores: &[Left {
+        store: "SCI",
+        counts: [10, 2, 4],
+        held: &[(5, 5), (6, 6), (7, 7), (8, 8)],
+        sent: &[1, 2, 3, 4],
+    }],
+};
+
+// What was forecast comes, and what was printed is lost.
+#[test]
+fn fly_first_run(rt: HostRuntime) {
+    let mut trial = Trial::new(&rt, rt.alloc(), &AS_FORECAST.task);
+    let Ok(flown) = fly_first(&rt, &mut trial, &[None]) else {
+        panic!(&rt; "the plan is carried out");
+    };
+    let Flown {
+        sheet,
+        report,
+        sources,
+        links,
+    } = flown;
+    has_sheet(&rt, &sheet);
+    let flight = Flight {
+        report,
+        sources,
+        links,
+    };
+    has_ended(&rt, &trial, &flight, &AS_FORECAST);
+}
+
+static HALTED: Broken = Broken {
+    many: [3, 3, 4],
+    rest: [0, 3, 4],
+    ..FIRST_SEND_FAILS
+};
+
+// The run is halted, and its plan is told.
+#[test]
+fn a_halted_flight_has_its_sheet(rt: HostRuntime) {
+    let run = &HALTED;
+    let mut trial = Trial::new(&rt, rt.alloc(), &run.task);
+    let halted = not_flown(&rt, &mut trial, run.good);
+    let cause = Cause::LinkFailed { step: run.step };
+    has_cause(&rt, halted.cause, cause);
+    has_broken(&rt, &trial, &halted, run);
+}
+
+static UNTOUCHED: [Left; 1] = [Left {
+    store: "SCI",
+    counts: [0, 0, 0],
+    held: &[],
+    sent: &[],
+}];
+
+// A run that does not begin has its plan all the same.
+#[test]
+fn a_refused_flight_has_its_sheet(rt: HostRuntime) {
+    let mut trial = Trial::new(&rt, rt.alloc(), &FIRST_RUN);
+    let halted = not_flown(&rt, &mut trial, &[]);
+    has_cause(&rt, halted.cause, Cause::Counts);
+    for source in &halted.sources {
+        has_left(&rt, source, [3, 3, 4]);
+    }
+    trial.leaves(&rt, &UNTOUCHED);
+}

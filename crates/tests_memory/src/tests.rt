@@ -1,0 +1,5 @@
+//! Tests of mm_memory and mm_ask.
+
+mod lines;
+mod memories;
+mod samples;

@@ -1,0 +1,180 @@
+//! The table of the storage control.
+ghost use Rattle.std.specs.Prelude.{◌≤◌};
+
+use crate::tests::samples::{has_name, is_shown};
+use mm_base::{NoMemory, RouteRow, StoreId};
+use mm_control::{ControlTable, Fault, laws};
+use std::alloc::Global;
+use std::process::Abort;
+
+fn store(rt: &impl Abort, text: &[u8]) -> StoreId {
+    StoreId::of_text(text).expect(rt, "an identifier")
+}
+
+fn row(rt: &impl Abort, apid: u16, subtype: u8, text: &[u8]) -> RouteRow {
+    RouteRow {
+        apid,
+        service: 3,
+        subtype,
+        store: store(rt, text),
+    }
+}
+
+// The table takes the row.
+fn adds(rt: &impl Abort, table: &mut ControlTable, row: RouteRow) {
+    assert!(rt; table.add(row) == Ok(()));
+}
+
+// Report types of this APID, service and subtype go into these stores.
+fn finds(
+    rt: &impl Abort,
+    alloc: Global,
+    table: &ControlTable,
+    of: (u16, u8, u8),
+    want: &[StoreId],
+) {
+    let (apid, service, subtype) = of;
+    let stores = table.stores_for(alloc, apid, service, subtype);
+    let stores = stores.expect(rt, "memory");
+    assert!(rt; stores.as_slice() == want, "for {apid} {service} {subtype}");
+}
+
+fn empty(rt: &impl Abort, alloc: Global) -> ControlTable {
+    ControlTable::new(alloc).expect(rt, "memory")
+}
+
+#[test]
+fn routes_of_setup(rt: HostRuntime) {
+    let mut table = empty(&rt, rt.alloc());
+    adds(&rt, &mut table, row(&rt, 100, 25, b"SCI"));
+    finds(&rt, rt.alloc(), &table, (100, 3, 25), &[store(&rt, b"SCI")]);
+    finds(&rt, rt.alloc(), &table, (100, 3, 26), &[]);
+    let absent = row(&rt, 100, 26, b"SCI");
+    assert!(rt; table.delete(absent) == Err(Fault::NoSuchRoute));
+}
+
+// A table with a row for each of the APIDs below 256.
+fn full(rt: &impl Abort, alloc: Global) -> ControlTable {
+    let mut table = empty(rt, alloc);
+    for apid in 0..256 {
+        adds(rt, &mut table, row(rt, apid, 25, b"SCI"));
+    }
+    table
+}
+
+#[test]
+fn a_full_table_takes_the_rows_that_it_has(rt: HostRuntime) {
+    let mut table = full(&rt, rt.alloc());
+    assert!(rt; table.add(row(&rt, 256, 25, b"SCI")) == Err(Fault::TableFull));
+    adds(&rt, &mut table, row(&rt, 255, 25, b"SCI"));
+    assert!(rt; table.list().len() == 256);
+}
+
+#[test]
+fn a_full_table_has_room_after_a_deletion(rt: HostRuntime) {
+    let mut table = full(&rt, rt.alloc());
+    assert!(rt; table.delete(row(&rt, 7, 25, b"SCI")) == Ok(()));
+    adds(&rt, &mut table, row(&rt, 256, 25, b"SCI"));
+}
+
+// The table has these rows, by APID, subtype and store, in this order.
+fn lists(rt: &impl Abort, table: &ControlTable, rows: &[(u16, u8, &str)]) {
+    assert!(rt; table.list().len() == rows.len());
+    for (place, (apid, subtype, text)) in rows.iter().enumerate() {
+        let listed = table.list().get(place).copied();
+        let want = row(rt, *apid, *subtype, text.as_bytes());
+        assert!(rt; listed == Some(want), "at {place}");
+    }
+}
+
+// Rows as they come, by APID, subtype and store.
+static ADDED: [(u16, u8, &str); 6] = [
+    (101, 0, "A"),
+    (100, 25, "B"),
+    (100, 25, "AB"),
+    (99, 255, "B"),
+    (100, 25, "A"),
+    (100, 25, "B"),
+];
+
+// The same as they stand.
+static ORDERED: [(u16, u8, &str); 5] = [
+    (99, 255, "B"),
+    (100, 25, "A"),
+    (100, 25, "AB"),
+    (100, 25, "B"),
+    (101, 0, "A"),
+];
+
+// Without the rows of the store A.
+static WITHOUT_A: [(u16, u8, &str); 3] = [(99, 255, "B"), (100, 25, "AB"), (100, 25, "B")];
+
+// A table with the rows as they come.
+fn filled(rt: &impl Abort, alloc: Global) -> ControlTable {
+    let mut table = empty(rt, alloc);
+    for (apid, subtype, text) in &ADDED {
+        adds(rt, &mut table, row(rt, *apid, *subtype, text.as_bytes()));
+    }
+    table
+}
+
+#[test]
+fn rows_stand_by_report_type_and_then_by_store(rt: HostRuntime) {
+    let table = filled(&rt, rt.alloc());
+    lists(&rt, &table, &ORDERED);
+    let stores = [store(&rt, b"A"), store(&rt, b"AB"), store(&rt, b"B")];
+    finds(&rt, rt.alloc(), &table, (100, 3, 25), &stores);
+}
+
+#[test]
+fn the_rows_of_a_store_are_deleted(rt: HostRuntime) {
+    let mut table = filled(&rt, rt.alloc());
+    let a = store(&rt, b"A");
+    assert!(rt; table.delete_store(&a) == 2);
+    lists(&rt, &table, &WITHOUT_A);
+    assert!(rt; table.delete_store(&a) == 0);
+}
+
+// Report types of this APID go into both stores, and none of those beside it.
+fn finds_both(rt: &impl Abort, alloc: Global, table: &ControlTable, apid: u16, both: &[StoreId])
+    requires { apid ≤ 1000 }
+{
+    finds(rt, alloc, table, (apid, 3, 25), both);
+    finds(rt, alloc, table, (apid + 1, 3, 25), &[]);
+    finds(rt, alloc, table, (apid, 2, 25), &[]);
+    finds(rt, alloc, table, (apid, 4, 24), &[]);
+}
+
+#[test]
+fn each_report_type_finds_its_stores_among_many(rt: HostRuntime) {
+    let mut table = empty(&rt, rt.alloc());
+    for apid in 0..60 {
+        adds(&rt, &mut table, row(&rt, 2 * apid, 25, b"B"));
+        adds(&rt, &mut table, row(&rt, 2 * apid, 25, b"A"));
+    }
+    let both = [store(&rt, b"A"), store(&rt, b"B")];
+    for apid in 0..60 {
+        finds_both(&rt, rt.alloc(), &table, 2 * apid, &both);
+    }
+}
+
+// Refusals with their numbers, their names, and as they are printed.
+static NAMED: [(Fault, u8, &str, &str); 2] = [
+    (Fault::NoSuchRoute, 10, "NoSuchRoute", "10 NoSuchRoute"),
+    (Fault::TableFull, 11, "TableFull", "11 TableFull"),
+];
+
+#[test]
+fn refusals_have_numbers_and_names(rt: HostRuntime) {
+    for (fault, number, name, text) in &NAMED {
+        has_name(&rt, *fault, *number, name);
+        is_shown(&rt, rt.alloc(), fault, text);
+    }
+    is_shown(&rt, rt.alloc(), &NoMemory, "0 NoMemory");
+}
+
+#[test]
+fn laws_are_called() {
+    laws::tables_are_sets();
+    laws::stores_are_named_once();
+}

@@ -1,0 +1,351 @@
+//! Packets as they are read, written and refused.
+ghost use Rattle.std.specs.Prelude.{◌≡◌, ◌<◌, ◌≤◌, ◌^◌, length};
+ghost use Rattle.mm_packet.specs.declared.header.TheConstants.{IDLE_APID, SEQUENCE_COUNTS};
+
+use crate::tests::samples::{CREATE_STORES, ENABLE, has_name, is_shown, packet_of, written};
+use mm_base::NoMemory;
+use mm_packet::{
+    BlockPacket, Fault, Header, Octets, Packet, PacketType, TELECOMMAND_BODY, TELEMETRY_BODY, laws,
+    octet_at, u16_at, u32_at, u64_at,
+};
+use std::alloc::Global;
+use std::process::Abort;
+
+const ENABLE_HEADER: Header = Header {
+    apid: 100,
+    count: 0,
+    low: 0,
+    service: 15,
+    subtype: 1,
+};
+
+// Telemetry of APID 1,234, count 5,678, service 3, subtype 25, with three octets of data.
+const REPORT: [u8; 24] =
+    *b"\x0C\xD2\xD6\x2E\0\x11\x2A\x03\x19\x12\x34\x56\x78\x01\x02\x03\x04\x05\x06\x07\x08\xAA\xBB\xCC";
+
+const REPORT_HEADER: Header = Header {
+    apid: 1234,
+    count: 5678,
+    low: 10,
+    service: 3,
+    subtype: 25,
+};
+
+const HIGHEST: Header = Header {
+    apid: 2046,
+    count: 16383,
+    low: 15,
+    service: 255,
+    subtype: 255,
+};
+
+// The headers of a packet, by its readers.
+fn headers_of(packet: &Packet) -> (Header, PacketType) {
+    let header = Header {
+        apid: packet.apid(),
+        count: packet.count(),
+        low: packet.low(),
+        service: packet.service(),
+        subtype: packet.subtype(),
+    };
+    let kind = if packet.is_telecommand() {
+        PacketType::Telecommand {
+            source: packet.source(),
+        }
+    } else {
+        PacketType::Telemetry {
+            counter: packet.counter(),
+            destination: packet.destination(),
+            time: packet.time(),
+        }
+    };
+    (header, kind)
+}
+
+// So many octets.
+fn octets_of(rt: &impl Abort, alloc: Global, len: usize) -> Octets
+    ensures { length result ≡ len }
+{
+    Octets::new(vec![in alloc; 7; len].expect(rt, "memory"))
+}
+
+// The packet has these headers and this data.
+fn holds(rt: &impl Abort, packet: &Packet, headers: (Header, PacketType), body: &[u8]) {
+    assert!(rt; headers_of(packet) == headers);
+    assert!(rt; packet.body() == body);
+}
+
+// The packet is written as these octets.
+fn writes(rt: &impl Abort, alloc: Global, packet: &Packet, octets: &[u8]) {
+    assert!(rt; written(rt, alloc, packet).as_slice() == octets);
+}
+
+// The octets are read as one packet with these headers and this data, and that packet is written as the octets.
+fn read_and_written(
+    rt: &impl Abort,
+    alloc: Global,
+    octets: &[u8],
+    headers: (Header, PacketType),
+    body: &[u8],
+) {
+    let (packet, rest) = Packet::parse(alloc, octets).expect(rt, "a packet");
+    assert!(rt; rest.is_empty());
+    holds(rt, &packet, headers, body);
+    writes(rt, alloc, &packet, octets);
+}
+
+#[test]
+fn a_telecommand_is_read_and_written(rt: HostRuntime) {
+    let headers = (ENABLE_HEADER, PacketType::Telecommand { source: 0 });
+    read_and_written(&rt, rt.alloc(), &ENABLE, headers, &ENABLE[11..]);
+}
+
+#[test]
+fn telemetry_is_read_and_written(rt: HostRuntime) {
+    let kind = PacketType::Telemetry {
+        counter: 0x1234,
+        destination: 0x5678,
+        time: 0x0102_0304_0506_0708,
+    };
+    read_and_written(
+        &rt,
+        rt.alloc(),
+        &REPORT,
+        (REPORT_HEADER, kind),
+        &[0xAA, 0xBB, 0xCC],
+    );
+}
+
+// A copy of these octets, as data.
+fn data_of(rt: &impl Abort, alloc: Global, octets: &[u8]) -> Octets
+    ensures { length result ≡ length octets.now }
+{
+    Octets::new(octets.to_vec(alloc).expect(rt, "memory"))
+}
+
+#[test]
+fn a_made_telecommand_is_written(rt: HostRuntime) {
+    let body = data_of(&rt, rt.alloc(), &ENABLE[11..]);
+    let packet = Packet::tc(ENABLE_HEADER, 0, body);
+    writes(&rt, rt.alloc(), &packet, &ENABLE);
+}
+
+#[test]
+fn made_telemetry_is_written(rt: HostRuntime) {
+    let body = data_of(&rt, rt.alloc(), &[0xAA, 0xBB, 0xCC]);
+    let time = 0x0102_0304_0506_0708;
+    let packet = Packet::tm(REPORT_HEADER, 0x1234, 0x5678, time, body);
+    writes(&rt, rt.alloc(), &packet, &REPORT);
+}
+
+// The first packet of these octets has this service and this data, and this is the rest.
+fn begins_with(
+    rt: &impl Abort,
+    alloc: Global,
+    octets: &[u8],
+    service: u8,
+    body: &[u8],
+    rest: &[u8],
+) {
+    let (packet, after) = Packet::parse(alloc, octets).expect(rt, "a packet");
+    assert!(rt; packet.service() == service);
+    assert!(rt; packet.body() == body);
+    assert!(rt; after == rest);
+}
+
+#[test]
+fn what_follows_a_packet_is_the_rest(rt: HostRuntime) {
+    let mut octets = ENABLE.to_vec(rt.alloc()).expect(&rt, "memory");
+    octets.extend_from_slice(&REPORT).expect(&rt, "memory");
+    begins_with(&rt, rt.alloc(), &octets, 15, &ENABLE[11..], &REPORT);
+    begins_with(&rt, rt.alloc(), &REPORT, 3, &[0xAA, 0xBB, 0xCC], &[]);
+}
+
+// The octets are refused with this fault.
+fn refused(rt: &impl Abort, alloc: Global, octets: &[u8], fault: Fault) {
+    let refusal = Packet::parse(alloc, octets).expect_err(rt, "no packet");
+    assert!(rt; refusal == fault, "{refusal} and not {fault}");
+}
+
+// The octets of a packet of 11 octets that differ: the identification, the sequence flags, the data length and the PUS
+// version.
+static REFUSED: [([u8; 5], Fault); 9] = [
+    ([0x1F, 0xFF, 0xC0, 4, 0x20], Fault::Idle),
+    ([0x38, 0x64, 0xC0, 4, 0x20], Fault::Version),
+    ([0x00, 0x64, 0xC0, 4, 0x20], Fault::NoSecondaryHeader),
+    ([0x18, 0x64, 0x00, 4, 0x20], Fault::Segmented),
+    ([0x18, 0x64, 0xC0, 4, 0x10], Fault::PusVersion),
+    // The data field ends before its secondary header does, whatever follows it.
+    ([0x18, 0x64, 0xC0, 3, 0x20], Fault::HeaderCut),
+    ([0x08, 0x64, 0xC0, 4, 0x20], Fault::HeaderCut),
+    // The version is tested before the APID, and the APID before the flags.
+    ([0x37, 0xFF, 0x00, 4, 0x20], Fault::Version),
+    ([0x07, 0xFF, 0x00, 4, 0x20], Fault::Idle),
+];
+
+// A packet of 11 octets with these.
+fn octets_with([first, second, flags, length, version]: [u8; 5]) -> [u8; 11] {
+    [first, second, flags, 0, 0, length, version, 0x0F, 1, 0, 0]
+}
+
+static REFUSED_CUT: [(&[u8], Fault); 2] = [
+    (&[0x08, 0x64, 0xC0, 0], Fault::Short),
+    (b"\x18\x64\xC0\0\0\x03\x20\x0F\x01\0", Fault::HeaderCut),
+];
+
+#[test]
+fn packets_refused(rt: HostRuntime) {
+    for (octets, fault) in &REFUSED {
+        refused(&rt, rt.alloc(), &octets_with(*octets), *fault);
+    }
+    for (octets, fault) in &REFUSED_CUT {
+        refused(&rt, rt.alloc(), octets, *fault);
+    }
+}
+
+#[test]
+fn each_proper_prefix_is_short(rt: HostRuntime) {
+    for len in 0..CREATE_STORES.len() {
+        refused(&rt, rt.alloc(), &CREATE_STORES[..len], Fault::Short);
+    }
+    assert!(rt; Packet::parse(rt.alloc(), &CREATE_STORES).is_ok());
+}
+
+const LOWEST: Header = Header {
+    apid: 0,
+    count: 0,
+    low: 0,
+    service: 0,
+    subtype: 0,
+};
+
+// Telemetry with this header and counter, and with that many octets of data.
+fn telemetry(rt: &impl Abort, alloc: Global, header: Header, counter: u16, len: usize) -> Packet
+    requires apid { header.apid < IDLE_APID }
+    requires count { header.count < SEQUENCE_COUNTS }
+    requires low { header.low < 2 ^ 4 }
+    requires len { len ≤ TELEMETRY_BODY }
+{
+    Packet::tm(header, counter, 2, 3, octets_of(rt, alloc, len))
+}
+
+#[test]
+fn a_packet_of_1024_octets_goes_into_a_block(rt: HostRuntime) {
+    let packet = telemetry(&rt, rt.alloc(), HIGHEST, 1, 1003);
+    let block = BlockPacket::of(packet).expect(&rt, "a short packet");
+    let octets = written(&rt, rt.alloc(), block.packet());
+    assert!(rt; octets.len() == 1024);
+    let copy = block.copy(rt.alloc()).expect(&rt, "memory");
+    writes(&rt, rt.alloc(), copy.packet(), &octets);
+}
+
+#[test]
+fn a_packet_of_1025_octets_is_handed_back(rt: HostRuntime) {
+    let packet = telemetry(&rt, rt.alloc(), HIGHEST, 1, 1004);
+    let back = BlockPacket::of(packet).expect_err(&rt, "it is too long");
+    assert!(rt; back.packet.body().len() == 1004);
+    let shown = back.to_string(rt.alloc()).expect(&rt, "memory");
+    assert!(rt; shown.as_str() == "8 TooLong");
+}
+
+// The packet is equal to another made alike, and to none that differs in one field.
+fn is_only_itself(rt: &impl Abort, alloc: Global, packet: &Packet) {
+    assert!(rt; packet.is(&telemetry(rt, alloc, HIGHEST, 1, 4)));
+    assert!(rt; !packet.is(&telemetry(rt, alloc, LOWEST, 1, 4)));
+    assert!(rt; !packet.is(&telemetry(rt, alloc, HIGHEST, 2, 4)));
+    assert!(rt; !packet.is(&telemetry(rt, alloc, HIGHEST, 1, 5)));
+}
+
+#[test]
+fn packets_are_equal_where_each_field_is(rt: HostRuntime) {
+    let packet = telemetry(&rt, rt.alloc(), HIGHEST, 1, 4);
+    is_only_itself(&rt, rt.alloc(), &packet);
+    assert!(rt; Header::new(100, 0, 15, 1) == ENABLE_HEADER);
+}
+
+#[test]
+fn blocks_are_equal_where_their_packets_are(rt: HostRuntime) {
+    let alloc = rt.alloc();
+    let packet = telemetry(&rt, alloc, HIGHEST, 1, 4);
+    let block = BlockPacket::of(packet).expect(&rt, "a short packet");
+    assert!(rt; block.is(&block.copy(alloc).expect(&rt, "memory")));
+    let longer = telemetry(&rt, alloc, HIGHEST, 1, 5);
+    let other = BlockPacket::of(longer).expect(&rt, "a short packet");
+    assert!(rt; !block.is(&other));
+}
+
+#[test]
+fn the_longest_telecommand_is_written_and_read(rt: HostRuntime) {
+    let data = octets_of(&rt, rt.alloc(), TELECOMMAND_BODY);
+    let octets = written(&rt, rt.alloc(), &Packet::tc(LOWEST, 65535, data));
+    assert!(rt; octets.len() == 65542);
+    let packet = packet_of(&rt, rt.alloc(), &octets);
+    assert!(rt; packet.body().len() == TELECOMMAND_BODY);
+}
+
+#[test]
+fn the_longest_telemetry_is_written(rt: HostRuntime) {
+    let data = octets_of(&rt, rt.alloc(), TELEMETRY_BODY);
+    let octets = written(&rt, rt.alloc(), &Packet::tm(LOWEST, 0, 0, 0, data));
+    assert!(rt; octets.len() == 65542);
+}
+
+#[test]
+fn octets_give_their_vec_back(rt: HostRuntime) {
+    let octets = Octets::new([1, 2, 3].to_vec(rt.alloc()).expect(&rt, "memory"));
+    assert!(rt; octets.as_slice() == [1, 2, 3].as_slice());
+    assert!(rt; octets.into_vec().as_slice() == [1, 2, 3].as_slice());
+}
+
+const NINE: [u8; 9] = [1, 2, 3, 4, 5, 6, 7, 8, 9];
+
+#[test]
+fn octets_and_numbers_of_two_are_read_from_the_front(rt: HostRuntime) {
+    assert!(rt; octet_at(&NINE).map(|x| x.0) == Some(1));
+    assert!(rt; u16_at(&NINE).map(|x| x.0) == Some(0x0102));
+}
+
+#[test]
+fn numbers_of_four_and_eight_are_read_from_the_front(rt: HostRuntime) {
+    assert!(rt; u32_at(&NINE).map(|x| x.0) == Some(0x0102_0304));
+    assert!(rt; u64_at(&NINE).map(|x| x.0) == Some(0x0102_0304_0506_0708));
+}
+
+#[test]
+fn what_follows_a_number_is_the_rest(rt: HostRuntime) {
+    assert!(rt; u64_at(&NINE).map(|x| x.1.len()) == Some(1));
+    assert!(rt; u64_at(&NINE[..7]).is_none());
+}
+
+static REFUSALS: [(Fault, u8, &str, &str); 9] = [
+    (Fault::NoMemory, 0, "NoMemory", "0 NoMemory"),
+    (Fault::Short, 1, "Short", "1 Short"),
+    (Fault::Version, 2, "Version", "2 Version"),
+    (
+        Fault::NoSecondaryHeader,
+        3,
+        "NoSecondaryHeader",
+        "3 NoSecondaryHeader",
+    ),
+    (Fault::PusVersion, 4, "PusVersion", "4 PusVersion"),
+    (Fault::Segmented, 5, "Segmented", "5 Segmented"),
+    (Fault::Idle, 6, "Idle", "6 Idle"),
+    (Fault::HeaderCut, 7, "HeaderCut", "7 HeaderCut"),
+    (Fault::TooLong, 8, "TooLong", "8 TooLong"),
+];
+
+#[test]
+fn refusals_are_shown_by_number_and_name(rt: HostRuntime) {
+    for (fault, number, name, shown) in &REFUSALS {
+        has_name(&rt, *fault, *number, name);
+        is_shown(&rt, rt.alloc(), fault, shown);
+    }
+    is_shown(&rt, rt.alloc(), &NoMemory, "0 NoMemory");
+}
+
+#[test]
+fn laws_are_called() {
+    laws::one_packet_one_spelling();
+    laws::written_is_read();
+    laws::constants_are();
+}

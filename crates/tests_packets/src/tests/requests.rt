@@ -1,0 +1,325 @@
+//! Requests of the storage service as they are read, written and refused.
+ghost use Rattle.mm_st15.specs.Request.{HasCount, kind_of, count_of};
+
+use crate::tests::samples::{
+    CONFIGURATIONS, CREATE_STORES, ENABLE, HK, SCI, STORES, has_name, is_shown, packet_of, written,
+};
+use mm_base::NoMemory;
+use mm_packet::Packet;
+use mm_st15::{
+    Channel, Entries, Fault, ReportType, Request, RequestKind, Size, Target, TimeLimit, TimeRange,
+    laws,
+};
+use std::alloc::Global;
+use std::process::Abort;
+
+// Requests of APID 100, count 0, source 0, spelled by hand.
+const DISABLE_STORAGE: [u8; 28] = *b"\x18\x64\xC0\0\0\x15\x20\x0F\x02\0\0\x02SCI     HK      ";
+
+const ADD_REPORT_TYPES: [u8; 24] =
+    *b"\x18\x64\xC0\0\0\x11\x20\x0F\x03\0\0\x01SCI     \0\x64\x03\x19";
+
+const DELETE_REPORT_TYPES: [u8; 24] =
+    *b"\x18\x64\xC0\0\0\x11\x20\x0F\x04\0\0\x01HK      \x07\xFE\xFF\0";
+
+const REPORT_CONTROL: [u8; 20] = *b"\x18\x64\xC0\0\0\x0D\x20\x0F\x05\0\0\x01SCI     ";
+
+const START_RETRIEVAL: [u8; 36] =
+    *b"\x18\x64\xC0\0\0\x1D\x20\x0F\x09\0\0\x01SCI     \0\0\0\0\0\0\0\x01\0\0\0\0\0\0\0\xFF";
+
+const DELETE_CONTENT: [u8; 28] =
+    *b"\x18\x64\xC0\0\0\x15\x20\x0F\x0B\0\0\x01SCI     \0\0\0\0\0\0\0\xFF";
+
+const SUMMARISE_CONTENT: [u8; 28] = *b"\x18\x64\xC0\0\0\x15\x20\x0F\x0C\0\0\x02SCI     HK      ";
+
+const ABORT_RETRIEVAL: [u8; 20] = *b"\x18\x64\xC0\0\0\x0D\x20\x0F\x11\0\0\x01SCI     ";
+
+const REPORT_STATUS: [u8; 11] = *b"\x18\x64\xC0\0\0\x04\x20\x0F\x12\0\0";
+
+const DELETE_STORES: [u8; 20] = *b"\x18\x64\xC0\0\0\x0D\x20\x0F\x15\0\0\x01HK      ";
+
+const REPORT_CONFIGURATION: [u8; 11] = *b"\x18\x64\xC0\0\0\x04\x20\x0F\x16\0\0";
+
+const RESIZE_STORES: [u8; 24] = *b"\x18\x64\xC0\0\0\x11\x20\x0F\x19\0\0\x01SCI     \0\x0F\x42\x40";
+
+const CHANGE_TO_CIRCULAR: [u8; 20] = *b"\x18\x64\xC0\0\0\x0D\x20\x0F\x1A\0\0\x01SCI     ";
+
+const CHANGE_TO_BOUNDED: [u8; 20] = *b"\x18\x64\xC0\0\0\x0D\x20\x0F\x1B\0\0\x01SCI     ";
+
+const CHANGE_CHANNEL: [u8; 21] = *b"\x18\x64\xC0\0\0\x0E\x20\x0F\x1C\0\0\x01SCI     \x05";
+
+// The request is written as these octets under APID 100.
+fn is_written(rt: &impl Abort, alloc: Global, request: &Request, octets: &[u8])
+    requires { HasCount (kind_of request.now) (count_of request.now) }
+{
+    let packet = request.write(alloc, 100, 0, 0, 0).expect(rt, "memory");
+    assert!(rt; written(rt, alloc, &packet).as_slice() == octets);
+}
+
+// The request that these octets spell, which is written as them again under APID 100.
+fn request_again(rt: &impl Abort, alloc: Global, octets: &[u8]) -> Request {
+    let packet = packet_of(rt, alloc, octets);
+    let request = Request::read(alloc, &packet).expect(rt, "a request");
+    assert!(rt; request.subtype() == packet.subtype());
+    is_written(rt, alloc, &request, octets);
+    request
+}
+
+static REQUESTS: [(u8, &[u8]); 17] = [
+    (1, &ENABLE),
+    (2, &DISABLE_STORAGE),
+    (3, &ADD_REPORT_TYPES),
+    (4, &DELETE_REPORT_TYPES),
+    (5, &REPORT_CONTROL),
+    (9, &START_RETRIEVAL),
+    (11, &DELETE_CONTENT),
+    (12, &SUMMARISE_CONTENT),
+    (17, &ABORT_RETRIEVAL),
+    (18, &REPORT_STATUS),
+    (20, &CREATE_STORES),
+    (21, &DELETE_STORES),
+    (22, &REPORT_CONFIGURATION),
+    (25, &RESIZE_STORES),
+    (26, &CHANGE_TO_CIRCULAR),
+    (27, &CHANGE_TO_BOUNDED),
+    (28, &CHANGE_CHANNEL),
+];
+
+#[test]
+fn every_request_is_read_and_written(rt: HostRuntime) {
+    for (subtype, octets) in &REQUESTS {
+        let request = request_again(&rt, rt.alloc(), octets);
+        assert!(rt; request.subtype() == *subtype, "{request:?}");
+    }
+}
+
+// The instructions of a request, for each of these layouts.
+enum Instructions {
+    DisableStorage(&'static [Target]),
+    DeleteReportTypes(&'static [ReportType]),
+    StartRetrieval(&'static [TimeRange]),
+    DeleteContent(&'static [TimeLimit]),
+    ResizeStores(&'static [Size]),
+    ChangeChannel(&'static [Channel]),
+}
+
+// The request is this one.
+fn asks(request: &Request, wanted: &Instructions) -> bool {
+    match (request, wanted) {
+        (Request::DisableStorage(list), Instructions::DisableStorage(wanted)) => {
+            list.as_slice() == *wanted
+        }
+        (Request::DeleteReportTypes(list), Instructions::DeleteReportTypes(wanted)) => {
+            list.as_slice() == *wanted
+        }
+        (Request::StartRetrieval(list), Instructions::StartRetrieval(wanted)) => {
+            list.as_slice() == *wanted
+        }
+        (Request::DeleteContent(list), Instructions::DeleteContent(wanted)) => {
+            list.as_slice() == *wanted
+        }
+        (Request::ResizeStores(list), Instructions::ResizeStores(wanted)) => {
+            list.as_slice() == *wanted
+        }
+        (Request::ChangeChannel(list), Instructions::ChangeChannel(wanted)) => {
+            list.as_slice() == *wanted
+        }
+        _ => false,
+    }
+}
+
+static INSTRUCTIONS: [(&[u8], Instructions); 6] = [
+    (
+        &DISABLE_STORAGE,
+        Instructions::DisableStorage(&[Target { id: SCI }, Target { id: HK }]),
+    ),
+    (
+        &DELETE_REPORT_TYPES,
+        Instructions::DeleteReportTypes(&[ReportType {
+            id: HK,
+            apid: 2046,
+            service: 255,
+            subtype: 0,
+        }]),
+    ),
+    (
+        &START_RETRIEVAL,
+        Instructions::StartRetrieval(&[TimeRange {
+            id: SCI,
+            from: 1,
+            to: 255,
+        }]),
+    ),
+    (
+        &DELETE_CONTENT,
+        Instructions::DeleteContent(&[TimeLimit {
+            id: SCI,
+            limit: 255,
+        }]),
+    ),
+    (
+        &RESIZE_STORES,
+        Instructions::ResizeStores(&[Size {
+            id: SCI,
+            size: 1_000_000,
+        }]),
+    ),
+    (
+        &CHANGE_CHANNEL,
+        Instructions::ChangeChannel(&[Channel {
+            id: SCI,
+            channel: 5,
+        }]),
+    ),
+];
+
+#[test]
+fn instructions_have_their_fields(rt: HostRuntime) {
+    for (octets, wanted) in &INSTRUCTIONS {
+        let request = request_again(&rt, rt.alloc(), octets);
+        assert!(rt; asks(&request, wanted), "{request:?}");
+    }
+}
+
+// The request creates the two stores.
+fn creates_stores(rt: &impl Abort, request: Request) {
+    match request {
+        Request::CreateStores(list) => {
+            assert!(rt; list.as_slice() == STORES.as_slice());
+            assert!(rt; list.into_vec().len() == 2);
+        }
+        other => panic!(rt; "{other:?}"),
+    }
+}
+
+#[test]
+fn create_two_stores(rt: HostRuntime) {
+    creates_stores(&rt, request_again(&rt, rt.alloc(), &CREATE_STORES));
+}
+
+#[test]
+fn a_made_request_is_written(rt: HostRuntime) {
+    let list = STORES.to_vec(rt.alloc()).expect(&rt, "memory");
+    let request = Request::CreateStores(Entries::new(list));
+    assert!(rt; request.kind() == RequestKind::CreateStores);
+    is_written(&rt, rt.alloc(), &request, &CREATE_STORES);
+}
+
+const ALL_TIMES: TimeRange = TimeRange {
+    id: SCI,
+    from: 0,
+    to: u64::MAX,
+};
+
+// A request of 255 instructions, written.
+fn most_instructions(rt: &impl Abort, alloc: Global) -> Packet {
+    let list = vec![in alloc; ALL_TIMES; 255].expect(rt, "memory");
+    let request = Request::StartRetrieval(Entries::new(list));
+    request.write(alloc, 100, 0, 0, 0).expect(rt, "memory")
+}
+
+// The request is that of 255 instructions.
+fn is_of_most_instructions(rt: &impl Abort, request: &Request) {
+    match request {
+        Request::StartRetrieval(list) => {
+            assert!(rt; list.as_slice().len() == 255);
+            assert!(rt; list.as_slice()[254] == ALL_TIMES);
+        }
+        other => panic!(rt; "{other:?}"),
+    }
+}
+
+#[test]
+fn the_most_instructions_are_written_and_read(rt: HostRuntime) {
+    let packet = most_instructions(&rt, rt.alloc());
+    assert!(rt; packet.body().len() == 6121);
+    assert!(rt; packet.body()[0] == 255);
+    let request = Request::read(rt.alloc(), &packet).expect(&rt, "a request");
+    is_of_most_instructions(&rt, &request);
+}
+
+// The octets are refused as a request with this fault.
+fn request_refused(rt: &impl Abort, alloc: Global, octets: &[u8], fault: Fault) {
+    let packet = packet_of(rt, alloc, octets);
+    let refusal = Request::read(alloc, &packet).expect_err(rt, "no request");
+    assert!(rt; refusal == fault, "{refusal} of {octets:?}");
+}
+
+static REFUSED_REQUESTS: [(&[u8], Fault); 10] = [
+    (b"\x18\x64\xC0\0\0\x04\x20\x11\x01\0\0", Fault::NotSt15),
+    (
+        b"\x18\x64\xC0\0\0\x04\x20\x0F\x0E\0\0",
+        Fault::UnknownSubtype,
+    ),
+    (
+        b"\x18\x64\xC0\0\0\x04\x20\x0F\x01\0\0",
+        Fault::CountMismatch,
+    ),
+    (
+        b"\x18\x64\xC0\0\0\x05\x20\x0F\x12\0\0\0",
+        Fault::CountMismatch,
+    ),
+    (
+        b"\x18\x64\xC0\0\0\x05\x20\x0F\x01\0\0\0",
+        Fault::CountMismatch,
+    ),
+    (
+        b"\x18\x64\xC0\0\0\x0D\x20\x0F\x01\0\0\x02SCI     ",
+        Fault::CountMismatch,
+    ),
+    (
+        b"\x18\x64\xC0\0\0\x15\x20\x0F\x01\0\0\x01SCI     HK      ",
+        Fault::CountMismatch,
+    ),
+    (
+        b"\x18\x64\xC0\0\0\x0E\x20\x0F\x01\0\0\x01SCI     \x20",
+        Fault::CountMismatch,
+    ),
+    (
+        b"\x18\x64\xC0\0\0\x0C\x20\x0F\x01\0\0\x01SCI    ",
+        Fault::CountMismatch,
+    ),
+    (&CONFIGURATIONS, Fault::NotSt15),
+];
+
+#[test]
+fn request_lines_refused(rt: HostRuntime) {
+    for (octets, fault) in &REFUSED_REQUESTS {
+        request_refused(&rt, rt.alloc(), octets, *fault);
+    }
+}
+
+static NAMES: [(Fault, u8, &str, &str); 4] = [
+    (Fault::NoMemory, 0, "NoMemory", "0 NoMemory"),
+    (Fault::NotSt15, 12, "NotSt15", "12 NotSt15"),
+    (
+        Fault::UnknownSubtype,
+        13,
+        "UnknownSubtype",
+        "13 UnknownSubtype",
+    ),
+    (
+        Fault::CountMismatch,
+        14,
+        "CountMismatch",
+        "14 CountMismatch",
+    ),
+];
+
+#[test]
+fn refusals_are_shown_by_number_and_name(rt: HostRuntime) {
+    for (fault, number, name, shown) in &NAMES {
+        has_name(&rt, *fault, *number, name);
+        is_shown(&rt, rt.alloc(), fault, shown);
+    }
+    is_shown(&rt, rt.alloc(), &NoMemory, "0 NoMemory");
+}
+
+#[test]
+fn laws_are_called() {
+    laws::one_packet_one_request();
+    laws::request_is_not_refused();
+    laws::one_packet_one_report();
+    laws::report_is_not_refused();
+    laws::constants_are();
+}

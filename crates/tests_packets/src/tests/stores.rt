@@ -1,0 +1,442 @@
+//! Packet stores of each type, by calls with the answers to them.
+ghost use Rattle.std.specs.Prelude.{◌≤◌};
+ghost use Rattle.mm_base.specs.declared.limits.TheConstants.{MAX_BLOCKS};
+
+use crate::tests::samples::{has_name, is_shown};
+use mm_base::Kind;
+use mm_packet::{BlockPacket, Header, Octets, Packet};
+use mm_store::{AnyStore, BlockStore, Fault, PacketStore, Put, RingStore, Stored, laws};
+use std::alloc::Global;
+use std::process::Abort;
+
+// The last storage time there is.
+const LAST: u64 = u64::MAX;
+
+// A call on a store. A packet is known by its sequence count.
+#[derive(Clone, Copy)]
+enum Call {
+    // At this time, the packet of this count.
+    PutAt(u64, u16),
+    // From this time, to this time, after this time.
+    FirstIn(u64, u64, u64),
+    DeleteUpTo(u64),
+    AskState,
+}
+
+// What a store answers.
+#[derive(Clone, Copy, Debug, PartialEq)]
+enum Told {
+    Kept(u64),
+    KeptOver(u64, u16),
+    Lost(u16),
+    ClockEnd(u16),
+    First(u64, u16),
+    Nothing,
+    Deleted(usize),
+    // The size, how many packets are held, the oldest and the newest time, and the last time given.
+    State(u32, u32, u64, u64, u64),
+}
+
+use Call::{AskState, DeleteUpTo, FirstIn, PutAt};
+use Told::{ClockEnd, Deleted, First, Kept, KeptOver, Lost, Nothing, State};
+
+// A call with the answer to it.
+type Step = (Call, Told);
+
+// Telemetry with this sequence count.
+fn packet(rt: &impl Abort, alloc: Global, count: u16) -> BlockPacket {
+    let header = Header::new(100, count % 1000, 3, 25);
+    let packet = Packet::tm(header, 0, 0, 0, Octets::new(Vec::new(alloc)));
+    BlockPacket::of(packet).expect(rt, "a short packet")
+}
+
+fn answer_of(answer: &Put) -> Told {
+    match answer {
+        Put::Kept(time) => Kept(*time),
+        Put::KeptOver(time, oldest) => KeptOver(*time, oldest.packet().count()),
+        Put::Lost(packet) => Lost(packet.packet().count()),
+        Put::ClockEnd(packet) => ClockEnd(packet.packet().count()),
+    }
+}
+
+fn first_in<S: PacketStore>(store: &S, from: u64, to: u64, after: u64) -> Told {
+    match store.first_in(from, to, after) {
+        Some((time, packet)) => First(time, packet.packet().count()),
+        None => Nothing,
+    }
+}
+
+fn state<S: PacketStore>(store: &S) -> Told {
+    State(
+        store.size(),
+        store.len(),
+        store.oldest(),
+        store.newest(),
+        store.last_time(),
+    )
+}
+
+// The answer to a call.
+fn answer_to<S: PacketStore>(rt: &impl Abort, alloc: Global, store: &mut S, call: Call) -> Told {
+    match call {
+        PutAt(now, count) => answer_of(&store.put(now, packet(rt, alloc, count))),
+        FirstIn(from, to, after) => first_in(store, from, to, after),
+        DeleteUpTo(limit) => Deleted(store.delete_up_to(limit) as usize),
+        AskState => state(store),
+    }
+}
+
+// Makes the calls, each of which must be answered as its step says.
+fn run<S: PacketStore>(rt: &impl Abort, alloc: Global, store: &mut S, steps: &[Step]) {
+    for (place, (call, wanted)) in steps.iter().enumerate() {
+        let told = answer_to(rt, alloc, store, *call);
+        assert!(rt; told == *wanted, "at the call {place}: {told:?}");
+    }
+}
+
+// Makes these calls, and then the others.
+fn run_both<S: PacketStore>(
+    rt: &impl Abort,
+    alloc: Global,
+    store: &mut S,
+    steps: &[Step],
+    others: &[Step],
+) {
+    run(rt, alloc, store, steps);
+    run(rt, alloc, store, others);
+}
+
+// Makes the calls on a new store of this kind.
+fn on_any(rt: &impl Abort, alloc: Global, kind: Kind, size: u32, steps: &[Step], others: &[Step])
+    requires lowest { 1 ≤ size }
+    requires highest { size ≤ MAX_BLOCKS }
+{
+    let mut store = AnyStore::new(alloc, kind, size).expect(rt, "memory");
+    assert!(rt; store.kind() == kind);
+    run_both(rt, alloc, &mut store, steps, others);
+}
+
+// Makes the calls on a new store of each type: the first ones on all, and then those of its kind.
+fn on_each_type(
+    rt: &impl Abort,
+    alloc: Global,
+    size: u32,
+    all: &[Step],
+    circular: &[Step],
+    bounded: &[Step],
+)
+    requires lowest { 1 ≤ size }
+    requires highest { size ≤ MAX_BLOCKS }
+{
+    let mut ring = RingStore::new(alloc, size).expect(rt, "memory");
+    run_both(rt, alloc, &mut ring, all, circular);
+    let mut blocks = BlockStore::new(alloc, size).expect(rt, "memory");
+    run_both(rt, alloc, &mut blocks, all, bounded);
+    on_any(rt, alloc, Kind::Circular, size, all, circular);
+    on_any(rt, alloc, Kind::Bounded, size, all, bounded);
+}
+
+static TIMES_RISE: [Step; 10] = [
+    (AskState, State(4, 0, 0, 0, 0)),
+    (PutAt(7, 1), Kept(7)),
+    (PutAt(7, 2), Kept(8)),
+    (AskState, State(4, 2, 7, 8, 8)),
+    (DeleteUpTo(7), Deleted(1)),
+    (PutAt(LAST, 3), Kept(LAST)),
+    (PutAt(LAST, 4), ClockEnd(4)),
+    (FirstIn(0, LAST, 0), First(8, 2)),
+    (FirstIn(0, LAST, 8), First(LAST, 3)),
+    (FirstIn(0, LAST, LAST), Nothing),
+];
+
+#[test]
+fn times_rise(rt: HostRuntime) {
+    on_each_type(&rt, rt.alloc(), 4, &TIMES_RISE, &[], &[]);
+}
+
+static BLOCKS_REUSED: [Step; 10] = [
+    (PutAt(1, 1), Kept(1)),
+    (PutAt(2, 2), Kept(2)),
+    (PutAt(3, 3), Kept(3)),
+    (DeleteUpTo(2), Deleted(2)),
+    (PutAt(4, 4), Kept(4)),
+    (PutAt(5, 5), Kept(5)),
+    (FirstIn(1, 9, 0), First(3, 3)),
+    (FirstIn(1, 9, 3), First(4, 4)),
+    (FirstIn(1, 9, 4), First(5, 5)),
+    (FirstIn(1, 9, 5), Nothing),
+];
+
+static A_FULL_RING: [Step; 3] = [
+    (PutAt(6, 6), KeptOver(6, 3)),
+    (DeleteUpTo(9), Deleted(3)),
+    (AskState, State(3, 0, 0, 0, 6)),
+];
+
+static A_FULL_TABLE: [Step; 3] = [
+    (PutAt(6, 6), Lost(6)),
+    (DeleteUpTo(9), Deleted(3)),
+    (AskState, State(3, 0, 0, 0, 5)),
+];
+
+#[test]
+fn blocks_reused(rt: HostRuntime) {
+    on_each_type(
+        &rt,
+        rt.alloc(),
+        3,
+        &BLOCKS_REUSED,
+        &A_FULL_RING,
+        &A_FULL_TABLE,
+    );
+}
+
+// A packet that a full bounded store refuses gets no time. The clock ends for a full store and for an empty one.
+static ONE_BLOCK_CIRCULAR: [Step; 9] = [
+    (PutAt(0, 1), Kept(1)),
+    (PutAt(0, 2), KeptOver(2, 1)),
+    (AskState, State(1, 1, 2, 2, 2)),
+    (DeleteUpTo(2), Deleted(1)),
+    (PutAt(LAST, 3), Kept(LAST)),
+    (AskState, State(1, 1, LAST, LAST, LAST)),
+    (PutAt(0, 4), ClockEnd(4)),
+    (DeleteUpTo(LAST), Deleted(1)),
+    (PutAt(0, 5), ClockEnd(5)),
+];
+
+static ONE_BLOCK_BOUNDED: [Step; 8] = [
+    (PutAt(0, 1), Kept(1)),
+    (PutAt(0, 2), Lost(2)),
+    (AskState, State(1, 1, 1, 1, 1)),
+    (DeleteUpTo(1), Deleted(1)),
+    (PutAt(LAST, 3), Kept(LAST)),
+    (PutAt(0, 4), ClockEnd(4)),
+    (DeleteUpTo(LAST), Deleted(1)),
+    (PutAt(0, 5), ClockEnd(5)),
+];
+
+#[test]
+fn a_store_of_one_block_and_the_end_of_the_clock(rt: HostRuntime) {
+    on_each_type(
+        &rt,
+        rt.alloc(),
+        1,
+        &[],
+        &ONE_BLOCK_CIRCULAR,
+        &ONE_BLOCK_BOUNDED,
+    );
+}
+
+// A store as a plain list, by the rules alone.
+#[derive(Drop)]
+struct PlainStore {
+    kind: Kind,
+    size: usize,
+    last: u64,
+    held: Vec<(u64, u16)>,
+}
+
+impl PlainStore {
+    fn put(&mut self, rt: &impl Abort, now: u64, count: u16) -> Told {
+        let time = now.max(self.last.saturating_add(1));
+        let full = self.held.len() >= self.size;
+        if full && self.kind == Kind::Bounded {
+            return Lost(count);
+        }
+        self.last = time;
+        let mut answer = Kept(time);
+        if full && !self.held.is_empty() {
+            answer = KeptOver(time, self.held.remove(0).1);
+        }
+        self.held.push((time, count)).expect(rt, "memory");
+        answer
+    }
+
+    fn delete_up_to(&mut self, limit: u64) -> Told {
+        let before = self.held.len();
+        self.held.retain(|held| held.0 > limit);
+        Deleted(before.saturating_sub(self.held.len()))
+    }
+
+    fn first_in(&self, from: u64, to: u64, after: u64) -> Told {
+        for held in &self.held {
+            if from <= held.0 && held.0 <= to && after < held.0 {
+                return First(held.0, held.1);
+            }
+        }
+        Nothing
+    }
+
+    // Adds the look-ups by which all that is held is read.
+    fn list(&self, rt: &impl Abort, steps: &mut Vec<Step>) {
+        let mut after = 0;
+        for held in &self.held {
+            let step = (FirstIn(0, LAST, after), First(held.0, held.1));
+            steps.push(step).expect(rt, "memory");
+            after = held.0;
+        }
+        steps
+            .push((FirstIn(0, LAST, after), Nothing))
+            .expect(rt, "memory");
+    }
+}
+
+// Adds the call that this number draws, and look-ups after it.
+fn draw(rt: &impl Abort, plain: &mut PlainStore, steps: &mut Vec<Step>, drawn: u64, count: u16) {
+    let shift = (drawn >> 40) % 9;
+    let now = plain.last.saturating_add(shift);
+    let limit = now.saturating_sub(12);
+    let step = if drawn >> 61 == 0 {
+        (DeleteUpTo(limit), plain.delete_up_to(limit))
+    } else {
+        (PutAt(now, count), plain.put(rt, now, count))
+    };
+    steps.push(step).expect(rt, "memory");
+    let (from, after) = (now.saturating_sub(15), now.saturating_sub(3 * shift));
+    let step = (FirstIn(from, now, after), plain.first_in(from, now, after));
+    steps.push(step).expect(rt, "memory");
+    plain.list(rt, steps);
+}
+
+// A thousand puts and deletions, by numbers that a linear congruence draws, and look-ups after each.
+fn drawn(rt: &impl Abort, alloc: Global, kind: Kind) -> Vec<Step> {
+    let mut plain = PlainStore {
+        kind,
+        size: 7,
+        last: 0,
+        held: Vec::new(alloc),
+    };
+    let mut steps = Vec::new(alloc);
+    let mut drawn: u64 = 12345;
+    for count in 0..1000u16 {
+        drawn = drawn
+            .wrapping_mul(6364136223846793005)
+            .wrapping_add(1442695040888963407);
+        draw(rt, &mut plain, &mut steps, drawn, count);
+    }
+    steps
+}
+
+#[test]
+fn a_thousand_puts_and_deletes_are_those_of_a_plain_list(rt: HostRuntime) {
+    let alloc = rt.alloc();
+    let circular = drawn(&rt, alloc, Kind::Circular);
+    let bounded = drawn(&rt, alloc, Kind::Bounded);
+    on_each_type(&rt, alloc, 7, &[], &circular, &bounded);
+}
+
+static TWO_PUTS: [Step; 2] = [(PutAt(7, 1), Kept(7)), (PutAt(8, 2), Kept(8))];
+
+static TWO_HELD: [Step; 3] = [
+    (AskState, State(2, 2, 7, 8, 8)),
+    (FirstIn(0, LAST, 0), First(7, 1)),
+    (FirstIn(0, LAST, 7), First(8, 2)),
+];
+
+static FULL_RING: [Step; 1] = [(PutAt(9, 3), KeptOver(9, 1))];
+
+static FULL_TABLE: [Step; 1] = [(PutAt(9, 3), Lost(3))];
+
+static ROOM_OF_A_RING: [Step; 2] = [(AskState, State(3, 2, 8, 9, 9)), (PutAt(20, 4), Kept(20))];
+
+static ROOM_OF_A_TABLE: [Step; 2] = [(AskState, State(3, 2, 7, 8, 8)), (PutAt(20, 4), Kept(20))];
+
+// A store that holds two packets, at 7 and 8.
+fn two_held(rt: &impl Abort, alloc: Global, kind: Kind) -> AnyStore {
+    let mut store = AnyStore::new(alloc, kind, 2).expect(rt, "memory");
+    run(rt, alloc, &mut store, &TWO_PUTS);
+    store
+}
+
+// The store becomes one of this kind, and holds the same.
+fn changes_kind(rt: &impl Abort, alloc: Global, store: &mut AnyStore, kind: Kind) {
+    store.change_kind(kind).expect(rt, "memory");
+    assert!(rt; store.kind() == kind);
+    run(rt, alloc, store, &TWO_HELD);
+}
+
+// The store is not made smaller than what it holds, and holds the same.
+fn keeps_its_size(rt: &impl Abort, alloc: Global, store: &mut AnyStore) {
+    assert!(rt; store.resize(1) == Err(Fault::HoldsMore));
+    run(rt, alloc, store, &TWO_HELD);
+}
+
+// A store of two packets that changes its kind and its size: what it answers when it is full, and then when it has room.
+fn changes(
+    rt: &impl Abort,
+    alloc: Global,
+    kinds: (Kind, Kind),
+    when_full: &[Step],
+    with_room: &[Step],
+) {
+    let mut store = two_held(rt, alloc, kinds.0);
+    changes_kind(rt, alloc, &mut store, kinds.1);
+    keeps_its_size(rt, alloc, &mut store);
+    run(rt, alloc, &mut store, when_full);
+    store.resize(3).expect(rt, "memory");
+    run(rt, alloc, &mut store, with_room);
+}
+
+#[test]
+fn a_circular_store_becomes_a_bounded_one_and_larger(rt: HostRuntime) {
+    let kinds = (Kind::Circular, Kind::Bounded);
+    changes(&rt, rt.alloc(), kinds, &FULL_TABLE, &ROOM_OF_A_TABLE);
+}
+
+#[test]
+fn a_bounded_store_becomes_a_circular_one_and_larger(rt: HostRuntime) {
+    let kinds = (Kind::Bounded, Kind::Circular);
+    changes(&rt, rt.alloc(), kinds, &FULL_RING, &ROOM_OF_A_RING);
+}
+
+static ONE_PUT: [Step; 1] = [(PutAt(1, 1), Kept(1))];
+
+static OLDEST_GIVEN_UP: [Step; 2] = [
+    (AskState, State(1, 1, 1, 1, 1)),
+    (PutAt(2, 2), KeptOver(2, 1)),
+];
+
+static NEWEST_LOST: [Step; 2] = [(AskState, State(1, 1, 1, 1, 1)), (PutAt(2, 2), Lost(2))];
+
+#[test]
+fn a_ring_is_resized(rt: HostRuntime) {
+    let mut ring = RingStore::new(rt.alloc(), 2).expect(&rt, "memory");
+    run(&rt, rt.alloc(), &mut ring, &ONE_PUT);
+    ring.resize(1).expect(&rt, "memory");
+    run(&rt, rt.alloc(), &mut ring, &OLDEST_GIVEN_UP);
+}
+
+#[test]
+fn a_table_of_blocks_is_resized(rt: HostRuntime) {
+    let mut blocks = BlockStore::new(rt.alloc(), 2).expect(&rt, "memory");
+    run(&rt, rt.alloc(), &mut blocks, &ONE_PUT);
+    blocks.resize(1).expect(&rt, "memory");
+    run(&rt, rt.alloc(), &mut blocks, &NEWEST_LOST);
+}
+
+// A packet with this sequence count, as a store holds it.
+fn stored(rt: &impl Abort, alloc: Global, time: u64, count: u16) -> Stored {
+    let packet = packet(rt, alloc, count);
+    Stored { time, packet }
+}
+
+#[test]
+fn stored_packets_are_equal_with_their_times(rt: HostRuntime) {
+    let one = stored(&rt, rt.alloc(), 7, 1);
+    assert!(rt; one.is(&stored(&rt, rt.alloc(), 7, 1)));
+    assert!(rt; !one.is(&stored(&rt, rt.alloc(), 8, 1)));
+    assert!(rt; !one.is(&stored(&rt, rt.alloc(), 7, 2)));
+}
+
+#[test]
+fn refusals_have_numbers_and_names(rt: HostRuntime) {
+    has_name(&rt, Fault::HoldsMore, 9, "HoldsMore");
+    has_name(&rt, Fault::NoMemory, 0, "NoMemory");
+    is_shown(&rt, rt.alloc(), &Fault::HoldsMore, "9 HoldsMore");
+}
+
+#[test]
+fn laws_are_called() {
+    laws::stores_lose_alike();
+    laws::stores_stay_stores();
+}

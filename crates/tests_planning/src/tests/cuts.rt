@@ -1,0 +1,206 @@
+//! The worked examples: what each plan loses, whether it fits, and what its cut shows.
+use crate::tests::samples::{
+    A_AND_B, APART, CHANNEL_LIMIT_CUT, FIRST_RUN, SCI, SCI_OF_SIZE_2, THREE_STEPS, problem_of,
+};
+use mm_cut::{Verdict, bound, first_bad, first_bad_count, verify};
+use mm_plan::{Sheet, fits, loss_of};
+use mm_problem::Problem;
+use std::process::Abort;
+
+const TWO_STEPS_OF_A: &str = "step,window,A\n1,5,3\n2,0,3\n";
+
+const SCI_STARTS_WITH_2: &str =
+    "[[store]]\nid = \"SCI\"\nsize = 4\ntype = \"bounded\"\nchannel = 0\nstart = 2\n";
+
+const A: &str = "[[store]]\nid = \"A\"\nsize = 3\ntype = \"bounded\"\nchannel = 0\n";
+
+const A_LIMITED: &str =
+    "[[store]]\nid = \"A\"\nsize = 3\ntype = \"bounded\"\nchannel = 0\n[[limit]]\nchannel = 0\nblocks = 1\n";
+
+const A_AND_B_LIMITED: &str =
+    "[[store]]\nid = \"A\"\nsize = 3\ntype = \"bounded\"\nchannel = 0\n\n[[store]]\nid = \"B\"\nsize = 3\ntype = \"bounded\"\nchannel = 0\n\n[[limit]]\nchannel = 0\nblocks = 1\n";
+
+// A plan with its cut, and what is found of them by hand.
+struct Row {
+    name: &'static str,
+    setup: &'static str,
+    forecast: &'static str,
+    sheet: &'static [u8],
+    misfit: Option<u32>,
+    loss: u64,
+    bound: Option<i64>,
+    verdict: Verdict,
+}
+
+static ROWS: [Row; 13] = [
+    Row {
+        name: "first_run",
+        setup: SCI,
+        forecast: THREE_STEPS,
+        sheet: FIRST_RUN,
+        misfit: None,
+        loss: 2,
+        bound: Some(2),
+        verdict: Verdict::Least(2),
+    },
+    Row {
+        name: "plan_that_loses_more",
+        setup: SCI,
+        forecast: THREE_STEPS,
+        sheet: b"mmplan 1\nstores SCI\ndump 1 2\ndump 2 1\ndump 3 0\nloss 3\nstretch SCI 1 3\nbound 2\nend\n",
+        misfit: None,
+        loss: 3,
+        bound: Some(2),
+        verdict: Verdict::NotShown { loss: 3, bound: 2 },
+    },
+    Row {
+        name: "plan_that_does_not_fit",
+        setup: SCI,
+        forecast: THREE_STEPS,
+        sheet: b"mmplan 1\nstores SCI\ndump 1 3\ndump 2 1\ndump 3 0\nloss 2\nstretch SCI 1 3\nbound 2\nend\n",
+        misfit: Some(1),
+        loss: 2,
+        bound: Some(2),
+        verdict: Verdict::DoesNotFit(1),
+    },
+    Row {
+        name: "two_stretches_of_one_store",
+        setup: SCI_OF_SIZE_2,
+        forecast: APART,
+        sheet: b"mmplan 1\nstores SCI\ndump 1 0\ndump 2 2\ndump 3 0\nloss 6\nstretch SCI 1 1\nstretch SCI 3 3\nbound 6\nend\n",
+        misfit: None,
+        loss: 6,
+        bound: Some(6),
+        verdict: Verdict::Least(6),
+    },
+    Row {
+        name: "the same in one stretch, whose inner windows take more than it gains",
+        setup: SCI_OF_SIZE_2,
+        forecast: APART,
+        sheet: b"mmplan 1\nstores SCI\ndump 1 0\ndump 2 2\ndump 3 0\nloss 6\nstretch SCI 1 3\nbound -1\nend\n",
+        misfit: None,
+        loss: 6,
+        bound: Some(-1),
+        verdict: Verdict::NotShown { loss: 6, bound: -1 },
+    },
+    Row {
+        name: "amount_above_content",
+        setup: SCI_OF_SIZE_2,
+        forecast: APART,
+        sheet: b"mmplan 1\nstores SCI\ndump 1 0\ndump 2 9\ndump 3 0\nloss 6\nstretch SCI 1 1\nstretch SCI 3 3\nbound 6\nend\n",
+        misfit: None,
+        loss: 6,
+        bound: Some(6),
+        verdict: Verdict::Least(6),
+    },
+    Row {
+        name: "opening_contents_plan, with the loss of first_run",
+        setup: SCI_STARTS_WITH_2,
+        forecast: THREE_STEPS,
+        sheet: FIRST_RUN,
+        misfit: None,
+        loss: 4,
+        bound: Some(4),
+        verdict: Verdict::LossIs(4),
+    },
+    Row {
+        name: "channel_limit_cut",
+        setup: A_LIMITED,
+        forecast: TWO_STEPS_OF_A,
+        sheet: CHANNEL_LIMIT_CUT,
+        misfit: None,
+        loss: 2,
+        bound: Some(2),
+        verdict: Verdict::Least(2),
+    },
+    Row {
+        name: "more than the channel's limit, though not more than the window",
+        setup: A_LIMITED,
+        forecast: TWO_STEPS_OF_A,
+        sheet: b"mmplan 1\nstores A\ndump 1 2\ndump 2 0\nloss 1\nstretch A 1 2\nbound -2\nend\n",
+        misfit: Some(1),
+        loss: 1,
+        bound: Some(-2),
+        verdict: Verdict::DoesNotFit(1),
+    },
+    Row {
+        name: "foresight_beats_even_split, with the even split",
+        setup: A_AND_B,
+        forecast: "step,window,A,B\n1,2,3,3\n2,0,2,0\n",
+        sheet: b"mmplan 1\nstores A B\ndump 1 1 1\ndump 2 0 0\nloss 1\nbound 0\nend\n",
+        misfit: None,
+        loss: 1,
+        bound: Some(0),
+        verdict: Verdict::NotShown { loss: 1, bound: 0 },
+    },
+    Row {
+        name: "two_stretches_share_a_window",
+        setup: A_AND_B,
+        forecast: "step,window,A,B\n1,2,3,3\n2,0,2,2\n",
+        sheet: b"mmplan 1\nstores A B\ndump 1 1 1\ndump 2 0 0\nloss 2\nstretch A 1 2\nstretch B 1 2\nbound 2\nend\n",
+        misfit: None,
+        loss: 2,
+        bound: Some(2),
+        verdict: Verdict::Least(2),
+    },
+    Row {
+        name: "two stores of one channel, whose limit counts once",
+        setup: A_AND_B_LIMITED,
+        forecast: "step,window,A,B\n1,5,3,3\n2,0,2,2\n",
+        sheet: b"mmplan 2\nstores A B\ndump 1 1 0\ndump 2 0 0\nloss 3\nstretch A 1 2\nstretch B 1 2\ncount 1 channels\nbound 3\nend\n",
+        misfit: None,
+        loss: 3,
+        bound: Some(3),
+        verdict: Verdict::Least(3),
+    },
+    Row {
+        name: "a count of a step at which the channel has no limit",
+        setup: A,
+        forecast: TWO_STEPS_OF_A,
+        sheet: CHANNEL_LIMIT_CUT,
+        misfit: None,
+        loss: 2,
+        bound: None,
+        verdict: Verdict::BadCount(1),
+    },
+];
+
+// The cut's bound, where it is a cut of the problem.
+fn bound_of(problem: &Problem, sheet: &Sheet) -> Option<i64> {
+    let (cut, by_channels) = (sheet.cut(), sheet.by_channels());
+    if first_bad(problem, cut).is_some() {
+        return None;
+    }
+    if first_bad_count(problem, cut, by_channels).is_some() {
+        return None;
+    }
+    Some(bound(problem, cut, by_channels))
+}
+
+// The plan fits or not, and loses what it is to lose.
+fn is_planned(rt: &impl Abort, problem: &Problem, sheet: &Sheet, row: &Row) {
+    let plan = sheet.plan();
+    assert!(rt; plan.has_shape(problem));
+    assert!(rt; fits(problem, plan).err() == row.misfit, "{}", row.name);
+    assert!(rt; loss_of(problem, plan) == row.loss, "{}", row.name);
+}
+
+// The sheet's cut, its printed loss and its printed bound have the verdict.
+fn is_judged(rt: &impl Abort, problem: &Problem, sheet: &Sheet, row: &Row) {
+    let (plan, cut, counts) = (sheet.plan(), sheet.cut(), sheet.by_channels());
+    assert!(rt; plan.has_shape(problem));
+    let verdict = verify(problem, plan, cut, counts, sheet.loss(), sheet.bound());
+    assert!(rt; verdict == row.verdict, "{}", row.name);
+}
+
+#[test]
+fn plans_and_cuts_of_the_worked_examples(rt: HostRuntime) {
+    for row in &ROWS {
+        let problem = problem_of(&rt, rt.alloc(), row.setup, row.forecast);
+        let sheet = Sheet::parse(rt.alloc(), row.sheet).expect(&rt, "a sheet");
+        assert!(rt; sheet.shape(&problem).is_ok(), "{}", row.name);
+        is_planned(&rt, &problem, &sheet, row);
+        assert!(rt; bound_of(&problem, &sheet) == row.bound, "{}", row.name);
+        is_judged(&rt, &problem, &sheet, row);
+    }
+}

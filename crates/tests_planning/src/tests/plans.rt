@@ -1,0 +1,140 @@
+//! Plans of small problems: what they do to the stores, and how they are filled.
+use crate::tests::samples::{
+    A_AND_B, APART, FIRST_RUN, SCI, SCI_OF_SIZE_2, THREE_STEPS, problem_of,
+};
+use mm_plan::{Plan, Sheet, fill, fits, loss_of, simulate};
+use mm_problem::Problem;
+use std::alloc::Global;
+use std::process::Abort;
+
+mod sheets;
+
+const SCI_LIMITED_TO_3: &str =
+    "[[store]]\nid = \"SCI\"\nsize = 5\ntype = \"bounded\"\nchannel = 0\n\n[[limit]]\nchannel = 0\nblocks = 3\n";
+
+const A_AND_B_IDLE: &str = "step,window,A,B\n1,2,0,0\n2,2,0,0\n3,2,0,0\n";
+
+// What a plan writes, leaves and loses at a problem's one store, step by step, and its loss.
+fn volumes(
+    rt: &impl Abort,
+    alloc: Global,
+    problem: &Problem,
+    plan: &Plan,
+) -> (Vec<(u32, u32, u32)>, u64) {
+    assert!(rt; plan.has_shape(problem));
+    assert!(rt; problem.stores() == 1);
+    let simulated = simulate(alloc, problem, plan).expect(rt, "memory");
+    let mut volumes = Vec::new(alloc);
+    for step in 1..problem.steps() + 1 {
+        let (written, left) = (simulated.written(0, step), simulated.left(0, step));
+        volumes
+            .push((written, left, simulated.lost(0, step)))
+            .expect(rt, "memory");
+    }
+    (volumes, simulated.total())
+}
+
+#[test]
+fn volumes_by_hand(rt: HostRuntime) {
+    let problem = problem_of(&rt, rt.alloc(), SCI, THREE_STEPS);
+    let sheet = Sheet::parse(rt.alloc(), FIRST_RUN).expect(&rt, "a sheet");
+    let (volumes, total) = volumes(&rt, rt.alloc(), &problem, sheet.plan());
+    assert!(rt; volumes.as_slice() == [(3, 1, 0), (4, 2, 0), (4, 4, 2)].as_slice());
+    assert!(rt; total == 2);
+}
+
+// The plan has the problem's shape and these amounts, step by step and in each the stores in order.
+fn has_amounts(rt: &impl Abort, problem: &Problem, plan: &Plan, wanted: &[u32], name: &str) {
+    assert!(rt; plan.has_shape(problem));
+    let mut wanted = wanted.iter();
+    for step in 1..problem.steps() + 1 {
+        for store in 0..problem.stores() {
+            let amount = plan.amount(store, step);
+            assert!(rt; wanted.next() == Some(&amount), "{name}");
+        }
+    }
+    assert!(rt; wanted.next() == None);
+}
+
+#[test]
+fn nothing_leaves_by_the_plan_of_zeros(rt: HostRuntime) {
+    let problem = problem_of(&rt, rt.alloc(), SCI, THREE_STEPS);
+    let plan = Plan::zero(rt.alloc(), &problem).expect(&rt, "memory");
+    has_amounts(&rt, &problem, &plan, &[0, 0, 0], "zeros");
+    assert!(rt; loss_of(&problem, &plan) == 6);
+    let other = problem_of(&rt, rt.alloc(), A_AND_B, A_AND_B_IDLE);
+    assert!(rt; !plan.has_shape(&other));
+}
+
+#[test]
+fn one_amount_is_set(rt: HostRuntime) {
+    let problem = problem_of(&rt, rt.alloc(), A_AND_B, A_AND_B_IDLE);
+    assert!(rt; problem.stores() == 2 && problem.steps() == 3);
+    let mut plan = Plan::zero(rt.alloc(), &problem).expect(&rt, "memory");
+    plan.set(1, 2, 7);
+    has_amounts(&rt, &problem, &plan, &[0, 0, 0, 7, 0, 0], "one is set");
+}
+
+// A plan, and the amounts that it has once it is filled.
+struct Filling {
+    name: &'static str,
+    setup: &'static str,
+    forecast: &'static str,
+    plan: &'static [u8],
+    filled: &'static [u32],
+}
+
+static FILLINGS: [Filling; 5] = [
+    Filling {
+        name: "an idle window is used",
+        setup: SCI,
+        forecast: THREE_STEPS,
+        plan: b"mmplan 1\nstores SCI\ndump 1 2\ndump 2 1\ndump 3 0\nloss 3\nbound 2\nend\n",
+        filled: &[2, 2, 0],
+    },
+    Filling {
+        name: "a filled plan stays as it is",
+        setup: SCI,
+        forecast: THREE_STEPS,
+        plan: FIRST_RUN,
+        filled: &[2, 2, 0],
+    },
+    Filling {
+        name: "no more leaves than is written",
+        setup: SCI_OF_SIZE_2,
+        forecast: APART,
+        plan: b"mmplan 1\nstores SCI\ndump 1 0\ndump 2 9\ndump 3 0\nloss 6\nbound 6\nend\n",
+        filled: &[0, 2, 0],
+    },
+    Filling {
+        name: "the channel's limit stops it, and then the window",
+        setup: SCI_LIMITED_TO_3,
+        forecast: "step,window,SCI\n1,9,4\n2,1,2\n",
+        plan: b"mmplan 1\nstores SCI\ndump 1 0\ndump 2 0\nloss 0\nbound 0\nend\n",
+        filled: &[3, 1],
+    },
+    Filling {
+        name: "each store gets its part",
+        setup: A_AND_B,
+        forecast: "step,window,A,B\n1,5,1,1\n",
+        plan: b"mmplan 1\nstores A B\ndump 1 0 0\nloss 0\nbound 0\nend\n",
+        filled: &[1, 1],
+    },
+];
+
+// The plan fits, and it is filled to these amounts.
+fn is_filled(rt: &impl Abort, alloc: Global, problem: &Problem, plan: &Plan, case: &Filling) {
+    assert!(rt; plan.has_shape(problem));
+    assert!(rt; fits(problem, plan).is_ok());
+    let plan = fill(alloc, problem, plan).expect(rt, "memory");
+    has_amounts(rt, problem, &plan, case.filled, case.name);
+}
+
+#[test]
+fn windows_are_used_as_far_as_limits_allow(rt: HostRuntime) {
+    for case in &FILLINGS {
+        let problem = problem_of(&rt, rt.alloc(), case.setup, case.forecast);
+        let sheet = Sheet::parse(rt.alloc(), case.plan).expect(&rt, "a sheet");
+        is_filled(&rt, rt.alloc(), &problem, sheet.plan(), case);
+    }
+}

@@ -1,0 +1,330 @@
+//! Plan texts: how they are read, printed and refused.
+use crate::tests::samples::{CHANNEL_LIMIT_CUT, FIRST_RUN, joined, numbered};
+use mm_plan::{Fault, Sheet};
+use std::alloc::Global;
+use std::process::Abort;
+
+// The line of the refusal; 0 where the text is a sheet's.
+fn line_of(alloc: Global, text: &[u8]) -> u32 {
+    match Sheet::parse(alloc, text) {
+        Ok(_) => 0,
+        Err(Fault::PlanText { line }) => line,
+        Err(_) => u32::MAX,
+    }
+}
+
+// The text is refused with this line; 0 where it is a sheet's.
+fn is_refused(rt: &impl Abort, alloc: Global, text: &[u8], line: u32) {
+    assert!(rt; line_of(alloc, text) == line, "line {line}");
+}
+
+// The sheet has one store and one stretch.
+fn has_one_of_each(rt: &impl Abort, sheet: &Sheet) {
+    let (stores, cut) = (sheet.stores(), sheet.cut());
+    assert!(rt; stores.len() == 1 && cut.len() == 1);
+    assert!(rt; stores[0].text() == b"SCI".as_slice());
+    assert!(rt; (cut[0].first, cut[0].last) == (1, 3));
+}
+
+#[test]
+fn first_run_is_read(rt: HostRuntime) {
+    let sheet = Sheet::parse(rt.alloc(), FIRST_RUN).expect(&rt, "a sheet");
+    has_one_of_each(&rt, &sheet);
+    assert!(rt; (sheet.loss(), sheet.bound()) == (2, 2));
+    assert!(rt; sheet.by_channels().is_empty());
+}
+
+#[test]
+fn channel_limit_cut_is_read(rt: HostRuntime) {
+    let sheet = Sheet::parse(rt.alloc(), CHANNEL_LIMIT_CUT).expect(&rt, "a sheet");
+    assert!(rt; sheet.by_channels() == [1].as_slice());
+    assert!(rt; sheet.loss() == 2);
+}
+
+// The text is a sheet's, and the sheet is printed as this one.
+fn read_and_printed(rt: &impl Abort, alloc: Global, text: &[u8], printed: &[u8]) {
+    let sheet = Sheet::parse(alloc, text).expect(rt, "a sheet");
+    let again = sheet.print(alloc).expect(rt, "memory");
+    assert!(rt; again.as_slice() == printed);
+}
+
+#[test]
+fn printed_sheets_are_read_again(rt: HostRuntime) {
+    read_and_printed(&rt, rt.alloc(), FIRST_RUN, FIRST_RUN);
+    read_and_printed(&rt, rt.alloc(), CHANNEL_LIMIT_CUT, CHANNEL_LIMIT_CUT);
+}
+
+const IN_ANY_ORDER: &[u8] =
+    b"mmplan 2\nstores B A\ndump 1 0 0\nloss 0\nstretch A 1 1\nstretch B 3 4\nstretch B 1 9\nstretch B 1 2\ncount 7 channels\ncount 2 channels\nbound -5\nend\n";
+
+const IN_ORDER: &[u8] =
+    b"mmplan 2\nstores B A\ndump 1 0 0\nloss 0\nstretch B 1 2\nstretch B 1 9\nstretch B 3 4\nstretch A 1 1\ncount 2 channels\ncount 7 channels\nbound -5\nend\n";
+
+#[test]
+fn stretches_and_counts_are_printed_in_order(rt: HostRuntime) {
+    read_and_printed(&rt, rt.alloc(), IN_ANY_ORDER, IN_ORDER);
+}
+
+static READ: [(&[u8], &str); 8] = [
+    (
+        b"mmplan 1\nstores A A\ndump 1 0 1000000\nloss 0\nbound 0\nend\n",
+        "a store twice",
+    ),
+    (
+        b"mmplan 1\nstores A\ndump 1 0\nloss 18446744073709551615\nbound 0\nend\n",
+        "the greatest loss",
+    ),
+    (
+        b"mmplan 1\nstores A\ndump 1 0\nloss 0\nbound 9223372036854775807\nend\n",
+        "the greatest bound",
+    ),
+    (
+        b"mmplan 1\nstores A\ndump 1 0\nloss 0\nbound -9223372036854775808\nend\n",
+        "the least bound",
+    ),
+    (
+        b"mmplan 1\nstores A\ndump 1 0\nloss 0\nstretch B 4294967295 0\nbound 0\nend\n",
+        "a stretch of any steps",
+    ),
+    (
+        b"mmplan 1\nstores A\ndump 1 0\nloss 0\nstretch A 2 2\nstretch A 1 2\nbound 0\nend\n",
+        "stretches in any order",
+    ),
+    (
+        b"mmplan 2\nstores A\ndump 1 0\nloss 0\ncount 9 channels\ncount 0 channels\nbound 0\nend\n",
+        "counts of any steps",
+    ),
+    (
+        b"mmplan 1\nstores A-B_C019 Z\ndump 1 0 0\nloss 0\nbound 0\nend\n",
+        "each kind of character",
+    ),
+];
+
+#[test]
+fn sheet_texts_are_read(rt: HostRuntime) {
+    for (text, name) in &READ {
+        assert!(rt; line_of(rt.alloc(), text) == 0, "{name}");
+    }
+}
+
+// Each text with the line of its refusal.
+static REFUSED: [(&[u8], u32); 52] = [
+    (b"", 1),
+    (b"\n", 1),
+    (
+        b"mmplan 1\nstores SCI\ndump 1 2\ndump 2 2\ndump 3 0\nloss 2\nstretch SCI 1 3\nbound 2\n",
+        9,
+    ),
+    (
+        b"mmplan 1\nstores SCI\ndump 1 02\ndump 2 2\ndump 3 0\nloss 2\nstretch SCI 1 3\nbound 2\nend\n",
+        3,
+    ),
+    (b"mmplan 1\nstores A\ndump 1 0\nloss 0\nbound 0\nend", 6),
+    (b"mmplan 1\nstores A\ndump 1 0\nloss 0\nbound 0\nend\n\n", 7),
+    (
+        b"mmplan 1\nstores A\ndump 1 0\nloss 0\nbound 0\nend\nend\n",
+        7,
+    ),
+    (b"mmplan 1\nstores A\ndump 1 0\nloss 0\nbound 0\nend\nx", 7),
+    (b"mmplan 1\nstores A\ndump 1 0\nloss 0\nbound 0\nend \n", 6),
+    (
+        b"mmplan 1\r\nstores A\r\ndump 1 0\r\nloss 0\r\nbound 0\r\nend\r\n",
+        1,
+    ),
+    (b"mmplan 1\nstores A\r\ndump 1 0\nloss 0\nbound 0\nend\n", 2),
+    (
+        b"\xEF\xBB\xBFmmplan 1\nstores A\ndump 1 0\nloss 0\nbound 0\nend\n",
+        1,
+    ),
+    (b"mmplan 3\nstores A\ndump 1 0\nloss 0\nbound 0\nend\n", 1),
+    (b"mmplan\nstores A\ndump 1 0\nloss 0\nbound 0\nend\n", 1),
+    (b"mmplan 01\nstores A\ndump 1 0\nloss 0\nbound 0\nend\n", 1),
+    (b" mmplan 1\nstores A\ndump 1 0\nloss 0\nbound 0\nend\n", 1),
+    (b"mmplan 1 \nstores A\ndump 1 0\nloss 0\nbound 0\nend\n", 1),
+    (b"mmplan  1\nstores A\ndump 1 0\nloss 0\nbound 0\nend\n", 1),
+    (b"mmplan 1\nstores\ndump 1 0\nloss 0\nbound 0\nend\n", 2),
+    (b"mmplan 1\nstores \ndump 1 0\nloss 0\nbound 0\nend\n", 2),
+    (b"mmplan 1\nstores a\ndump 1 0\nloss 0\nbound 0\nend\n", 2),
+    (
+        b"mmplan 1\nstores ABCDEFGHI\ndump 1 0\nloss 0\nbound 0\nend\n",
+        2,
+    ),
+    (
+        b"mmplan 1\nstores \xFF\ndump 1 0\nloss 0\nbound 0\nend\n",
+        2,
+    ),
+    (
+        b"mmplan 1\nstores A B C D E F G H I J K L M N O P Q\nend\n",
+        2,
+    ),
+    (b"mmplan 1\ndump 1 0\nloss 0\nbound 0\nend\n", 2),
+    (
+        b"mmplan 1\nstores A\nstores A\ndump 1 0\nloss 0\nbound 0\nend\n",
+        3,
+    ),
+    (b"mmplan 1\nstores A\nloss 0\nbound 0\nend\n", 3),
+    (b"mmplan 1\nstores A\ndump 1\nloss 0\nbound 0\nend\n", 3),
+    (b"mmplan 1\nstores A\ndump 1 0 0\nloss 0\nbound 0\nend\n", 3),
+    (b"mmplan 1\nstores A\ndump 0 0\nloss 0\nbound 0\nend\n", 3),
+    (b"mmplan 1\nstores A\ndump 2 0\nloss 0\nbound 0\nend\n", 3),
+    (
+        b"mmplan 1\nstores A\ndump 1 0\ndump 1 0\nloss 0\nbound 0\nend\n",
+        4,
+    ),
+    (
+        b"mmplan 1\nstores A\ndump 1 1000001\nloss 0\nbound 0\nend\n",
+        3,
+    ),
+    (b"mmplan 1\nstores A\ndump 1 +0\nloss 0\nbound 0\nend\n", 3),
+    (b"mmplan 1\nstores A\ndump  1 0\nloss 0\nbound 0\nend\n", 3),
+    (
+        b"mmplan 1\nstores A\ndump 1 0\nloss 18446744073709551616\nbound 0\nend\n",
+        4,
+    ),
+    (b"mmplan 1\nstores A\ndump 1 0\nloss -1\nbound 0\nend\n", 4),
+    (b"mmplan 1\nstores A\ndump 1 0\nloss 0 \nbound 0\nend\n", 4),
+    (b"mmplan 1\nstores A\ndump 1 0\nbound 0\nend\n", 4),
+    (
+        b"mmplan 1\nstores A\ndump 1 0\nloss 0\ndump 2 0\nbound 0\nend\n",
+        5,
+    ),
+    (
+        b"mmplan 1\nstores A\ndump 1 0\nloss 0\nstretch A 1 4294967296\nbound 0\nend\n",
+        5,
+    ),
+    (
+        b"mmplan 1\nstores A\ndump 1 0\nloss 0\nstretch A 1\nbound 0\nend\n",
+        5,
+    ),
+    (
+        b"mmplan 1\nstores A\ndump 1 0\nloss 0\nstretch a 1 1\nbound 0\nend\n",
+        5,
+    ),
+    (
+        b"mmplan 1\nstores A\ndump 1 0\nloss 0\ncount 1 channels\nbound 0\nend\n",
+        5,
+    ),
+    (b"mmplan 2\nstores A\ndump 1 0\nloss 0\nbound 0\nend\n", 5),
+    (
+        b"mmplan 2\nstores A\ndump 1 0\nloss 0\ncount 4294967296 channels\nbound 0\nend\n",
+        5,
+    ),
+    (
+        b"mmplan 2\nstores A\ndump 1 0\nloss 0\ncount 1 channel\nbound 0\nend\n",
+        5,
+    ),
+    (
+        b"mmplan 2\nstores A\ndump 1 0\nloss 0\ncount 1 channels\nstretch A 1 1\nbound 0\nend\n",
+        6,
+    ),
+    (b"mmplan 1\nstores A\ndump 1 0\nloss 0\nbound -0\nend\n", 5),
+    (
+        b"mmplan 1\nstores A\ndump 1 0\nloss 0\nbound 9223372036854775808\nend\n",
+        5,
+    ),
+    (
+        b"mmplan 1\nstores A\ndump 1 0\nloss 0\nbound -9223372036854775809\nend\n",
+        5,
+    ),
+    (b"mmplan 1\nstores A\ndump 1 x\nloss y\nbound z\nend\n", 3),
+];
+
+#[test]
+fn sheet_text_refused(rt: HostRuntime) {
+    for (text, line) in &REFUSED {
+        is_refused(&rt, rt.alloc(), text, *line);
+    }
+}
+
+// How many line feeds there are.
+fn line_feeds(text: &[u8]) -> u32 {
+    let mut count: u32 = 0;
+    for octet in text {
+        if *octet == b'\n' {
+            count = count.saturating_add(1);
+        }
+    }
+    count
+}
+
+// Each proper prefix is refused with the line on which it ends.
+fn prefixes_refused(rt: &impl Abort, alloc: Global, text: &[u8]) {
+    for len in 0..text.len() {
+        let prefix = &text[..len];
+        let last = line_feeds(prefix).saturating_add(1);
+        is_refused(rt, alloc, prefix, last);
+    }
+}
+
+#[test]
+fn each_proper_prefix_is_refused(rt: HostRuntime) {
+    prefixes_refused(&rt, rt.alloc(), FIRST_RUN);
+    prefixes_refused(&rt, rt.alloc(), CHANNEL_LIMIT_CUT);
+}
+
+// The text of three parts is refused with this line; 0 where it is a sheet's.
+fn three_parts_refused(
+    rt: &impl Abort,
+    alloc: Global,
+    head: &str,
+    lines: &str,
+    end: &str,
+    wanted: u32,
+) {
+    let text = joined(rt, alloc, &[head, lines, end]);
+    is_refused(rt, alloc, text.as_bytes(), wanted);
+}
+
+const FIRST_FORM: &str = "mmplan 1\nstores A\ndump 1 0\nloss 0\n";
+
+const SECOND_FORM: &str = "mmplan 2\nstores A\ndump 1 0\nloss 0\n";
+
+const END: &str = "bound 0\nend\n";
+
+// A text up to some lines, the line that is repeated and how often, what follows, and the line of the refusal.
+static REPEATED: [(&str, &str, usize, &str, u32); 4] = [
+    (FIRST_FORM, "stretch A 1 1\n", 4096, END, 0),
+    (FIRST_FORM, "stretch A 1 1\n", 4097, "", 4101),
+    (SECOND_FORM, "count 1 channels\n", 256, END, 0),
+    (SECOND_FORM, "count 1 channels\n", 257, "", 261),
+];
+
+#[test]
+fn only_so_many_lines_are_taken(rt: HostRuntime) {
+    for (head, line, count, end, wanted) in &REPEATED {
+        let lines = line.repeat(rt.alloc(), *count).expect(&rt, "memory");
+        three_parts_refused(&rt, rt.alloc(), head, lines.as_str(), end, *wanted);
+    }
+}
+
+// What follows the lines of 256 steps, and the line of the refusal.
+static AFTER_256_STEPS: [(&str, u32); 2] = [("loss 0\nbound 0\nend\n", 0), ("dump 257 0\n", 259)];
+
+#[test]
+fn only_256_steps_are_taken(rt: HostRuntime) {
+    let steps = numbered(&rt, rt.alloc(), "dump ", 256, " 0");
+    for (end, wanted) in &AFTER_256_STEPS {
+        three_parts_refused(
+            &rt,
+            rt.alloc(),
+            "mmplan 1\nstores A\n",
+            steps.as_str(),
+            end,
+            *wanted,
+        );
+    }
+}
+
+static FAULTS: [(Fault, &str); 3] = [
+    (Fault::PlanText { line: 9 }, "34 PlanText line 9"),
+    (Fault::Shape, "35 Shape"),
+    (Fault::NoMemory, "0 NoMemory"),
+];
+
+#[test]
+fn refusals_are_printed_with_number_name_and_line(rt: HostRuntime) {
+    for (fault, text) in &FAULTS {
+        let shown = fault.to_string(rt.alloc()).expect(&rt, "memory");
+        assert!(rt; shown.as_str() == *text, "{text}");
+    }
+}

@@ -1,0 +1,90 @@
+//! The least cut beside both solvers, on tiny networks.
+ghost use Rattle.std.specs.Prelude.{◌<◌};
+
+use crate::tests::flows::{built, same_value};
+use crate::tests::samples::next_below;
+use mm_exhaustive::laws::constants_are;
+use mm_exhaustive::{MAX_TRIED, least_cut};
+use std::alloc::Global;
+use std::process::Abort;
+
+// An arc: from where, to where, and its capacity.
+type ArcRow = (u32, u32, Option<u64>);
+
+// The least capacity of a cut between node 0 and node 1, which is the value that both solvers answer.
+fn least_capacity(rt: &impl Abort, alloc: Global, nodes: u32, arcs: &[ArcRow]) -> Option<u64> {
+    let network = built(rt, alloc, nodes, arcs);
+    assert!(rt; network.node_count() > 1);
+    assert!(rt; network.node_count() <= MAX_TRIED);
+    let least = least_cut(&network, 0, 1);
+    assert!(rt; same_value(rt, alloc, &network, 0, 1) == least);
+    least
+}
+
+// Networks of so many nodes with these arcs, and the least capacity of a cut.
+static COUNTED: [(u32, &[ArcRow], Option<u64>); 5] = [
+    // No arc leads out of the source.
+    (2, &[], Some(0)),
+    // An unlimited arc leaves each side without node 2, so the cut is 4 out of node 2 and 1 out of the source.
+    (
+        3,
+        &[(0, 2, None), (2, 1, Some(4)), (0, 1, Some(1))],
+        Some(5),
+    ),
+    // Arcs into the side do not count: 3 out of the source, and not the 9 back into it.
+    (
+        3,
+        &[(0, 2, Some(3)), (2, 0, Some(9)), (2, 1, Some(8))],
+        Some(3),
+    ),
+    // Node 2 alone with the source: 2 + 4 + 1, less than the 9 out of the source and the 11 into the sink.
+    (
+        4,
+        &[
+            (0, 2, Some(7)),
+            (0, 3, Some(2)),
+            (2, 3, Some(4)),
+            (2, 1, Some(1)),
+            (3, 1, Some(10)),
+        ],
+        Some(7),
+    ),
+    // Unlimited arcs lead to the sink.
+    (3, &[(0, 2, None), (2, 1, None), (0, 1, Some(1))], None),
+];
+
+#[test]
+fn cuts_counted_by_hand(rt: HostRuntime) {
+    constants_are();
+    for (nodes, arcs, least) in &COUNTED {
+        let found = least_capacity(&rt, rt.alloc(), *nodes, arcs);
+        assert!(rt; found == *least, "{nodes} nodes");
+    }
+}
+
+// Three arcs for each node at random, of which one in 20 is unlimited.
+fn made_arcs(rt: &impl Abort, alloc: Global, nodes: u32, state: &mut u32) -> Vec<ArcRow>
+    requires { 0 < nodes }
+{
+    let mut arcs: Vec<ArcRow> = Vec::new(alloc);
+    for _ in 0..nodes.saturating_mul(3) {
+        let (from, to) = (next_below(state, nodes), next_below(state, nodes));
+        let most = next_below(state, 20);
+        let arc = (from, to, (most > 0).then_some(u64::from(most)));
+        arcs.push(arc).expect(rt, "memory");
+    }
+    arcs
+}
+
+#[test]
+fn solvers_find_the_least_of_all_cuts(rt: HostRuntime) {
+    let mut state = 7;
+    let mut some = 0_u32;
+    for number in 0..120u32 {
+        let nodes = 2 + number % 7;
+        let arcs = made_arcs(&rt, rt.alloc(), nodes, &mut state);
+        let least = least_capacity(&rt, rt.alloc(), nodes, &arcs);
+        some = some.saturating_add(u32::from(least > Some(0)));
+    }
+    assert!(rt; some > 60);
+}
