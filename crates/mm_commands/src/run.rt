@@ -198,8 +198,9 @@ fn run<R: Threads + Wait + Sync, S: AsStr, F: Files, W: Write, E: Write>(
 }
 
 /// Runs the program on its words, without its own name. What it finds goes to `out`. The texts of a bad command line
-/// and of help go to `err`, and so does the line that says what a refusal means. The exit status is 0 where the task is done, 1 where something is refused, a verdict is not
-/// `Least` or a write failed, and 2 for a bad command line or a call for help.
+/// and of help go to `err`, and so does the line that says what a refusal means. The exit status is 0 where the task is
+/// done, 1 where something is refused, a verdict is not `Least` or a write failed, and 2 for a bad command line or a call
+/// for help.
 pub fn run_tool<R: Threads + Wait + Sync, S: AsStr, F: Files, W: Write, E: Write>(
     rt: &R,
     alloc: Global,
