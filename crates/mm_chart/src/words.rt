@@ -66,8 +66,8 @@ pub const STAND: &[u8] = b" of them stand in the stores: the sizes of the stores
 /// What follows what the windows let leave.
 pub const BY_WINDOWS: &[u8] = b" leave by the windows.";
 
-/// What is said where no window counts.
-pub const NO_WINDOWS: &[u8] = b"No window counts.";
+/// What is said where no window that is open counts.
+pub const NO_WINDOWS: &[u8] = b"No open window counts.";
 
 /// What follows what the limits let leave.
 pub const BY_LIMITS: &[u8] = b" leave by the limits of the channels.";

@@ -42,7 +42,7 @@ const BY_CHANNELS: [&str; 7] = [
     "<path class='c' d='M180 178V152H276V178V178'/>",
     "<path class='v' d='M180 174V156H276V174V174'/>",
     "<text class='s' x='172' y='169'>channel 0: 1 a step</text>",
-    "<text class='w' x='16' y='318'>No window counts.</text>",
+    "<text class='w' x='16' y='318'>No open window counts.</text>",
     "<text class='w' x='16' y='338'>In step 1, at most 1 leave by the limits of the channels.</text>",
     "<text class='w' x='16' y='358'>6 &#8722; 3 &#8722; 0 &#8722; 1 = 2: at least that many blocks are lost, whatever is dumped.</text>",
     "<text class='w' x='16' y='418'>No wider window.</text>",
