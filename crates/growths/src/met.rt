@@ -1,7 +1,7 @@
 //! What the calls of a part met.
 
 /// What the calls of a part answered, where one growth may be refused.
-#[derive(Clone, Copy, Debug, PartialEq, Eq)]
+#[derive(Clone, Copy)]
 pub(crate) enum Met {
     /// Memory lacked for what the calls are made on.
     Unready,

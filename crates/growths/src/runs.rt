@@ -148,7 +148,7 @@ fn halted_for_want_of_memory(
     let spent = u128::from(end.spent);
     met.provided(left.is_kept(packets, sources), "a packet lost or invented")
         .provided(
-            told(alloc, &end.report, want) == Met::Whole,
+            matches!(told(alloc, &end.report, want), Met::Whole),
             "another report",
         )
         .provided(

@@ -3,7 +3,7 @@ ghost use Rattle.std.specs.Prelude.{◌≡◌, ◌≤◌, [], map, IfOk, vec_len
 ghost use Rattle.mm_base.specs.declared.limits.TheConstants.{MAX_STORES};
 ghost use Rattle.mm_crew.specs.Closings.{labels_of, AreOpenings};
 ghost use Rattle.mm_crew.specs.Crews.{AreSeatings};
-ghost use Rattle.mm_crew.specs.Stations.{ids_of};
+ghost use Rattle.mm_crew.specs.Stations.{HaveSeats, ids_of};
 
 use crate::crew::{Seating, Worker, new_seatings};
 use crate::station::Station;
@@ -55,6 +55,7 @@ pub fn open_all<N: Opening>(
     requires room { vec_len stores ≤ vec_capacity stations }
     ensures ids { ids_of result.0.items ≡ map (λ h. h.id) stores.items }
     ensures labels { map (λ s. (s.id, s.channel)) result.0.items ≡ labels_of stores.items }
+    ensures desks { HaveSeats seats result.0.items }
     ensures len { vec_len result.0 ≡ vec_len stores }
     ensures capacity { vec_capacity result.0 ≡ vec_capacity stations }
     ensures emptied { result.1.items ≡ [] }

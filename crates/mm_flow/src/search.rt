@@ -13,7 +13,7 @@ use std::alloc::{AllocError, Global};
 
 /// How a node was reached: its level, one more than the entries on the path to it and 0 where there is none, the last
 /// entry of the path, and the least residual capacity on it.
-#[derive(Clone, Copy, Debug)]
+#[derive(Clone, Copy)]
 pub(crate) struct Mark {
     pub(crate) level: u32,
     pub(crate) via: usize,

@@ -9,14 +9,14 @@ use mm_st15::Row;
 use std::marker::Model;
 
 // One instruction: the store that it names, and what is asked of it.
-#[derive(Clone, Copy, Debug, PartialEq, Eq)]
+#[derive(Clone, Copy)]
 pub(crate) struct Instruction {
     pub(crate) id: StoreId,
     pub(crate) action: Action,
 }
 
 // What an instruction asks.
-#[derive(Clone, Copy, Debug, PartialEq, Eq)]
+#[derive(Clone, Copy)]
 pub(crate) enum Action {
     // Create the store.
     Create(Form),
@@ -31,14 +31,14 @@ pub(crate) enum Action {
 }
 
 // Whether a report type is added to the storage control, or deleted.
-#[derive(Clone, Copy, Debug, PartialEq, Eq)]
+#[derive(Clone, Copy)]
 pub(crate) enum RouteChange {
     Add,
     Delete,
 }
 
 // A store to be created.
-#[derive(Clone, Copy, Debug, PartialEq, Eq)]
+#[derive(Clone, Copy)]
 pub(crate) struct Form {
     pub(crate) size: Blocks,
     pub(crate) kind: Kind,
@@ -46,7 +46,7 @@ pub(crate) struct Form {
 }
 
 // A change of one store.
-#[derive(Clone, Copy, Debug, PartialEq, Eq)]
+#[derive(Clone, Copy)]
 pub(crate) enum Change {
     // Switch storage on, or off.
     Enable,
@@ -63,7 +63,7 @@ pub(crate) enum Change {
 }
 
 // The size of a store in blocks, which is in its range. Contracts see it as a number.
-#[derive(Clone, Copy, Debug, PartialEq, Eq)]
+#[derive(Clone, Copy)]
 pub(crate) struct Blocks(u32);
 
 impl Model for Blocks {

@@ -10,7 +10,7 @@ use std::alloc::{AllocError, Global};
 use std::marker::Model;
 
 // Which line comes next.
-#[derive(Clone, Copy, Debug, PartialEq, Eq)]
+#[derive(Clone, Copy)]
 pub(crate) enum Stage {
     ToTitle,
     ToStores,
@@ -146,6 +146,6 @@ impl Draft {
     pub(crate) fn is_done(&self) -> bool
         ensures { IsTrue result ↔ (self.now.stage ≡ Done) }
     {
-        self.stage == Stage::Done
+        matches!(self.stage, Stage::Done)
     }
 }

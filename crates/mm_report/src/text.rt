@@ -11,7 +11,7 @@ use mm_base::StoreId;
 use std::alloc::AllocError;
 
 // What the lines of steps and stores tell: the numbers, or where the forecast was not met.
-#[derive(Clone, Copy, Debug, PartialEq, Eq)]
+#[derive(Clone, Copy)]
 pub(crate) enum Listing {
     Numbers,
     Differences,
