@@ -1,9 +1,11 @@
 -- Lists of calls that go on, seat by seat.
-use Rattle.std.proofs.Common.{◌≡◌, ◌≢◌, ◌⊎◌, inl, inr, ℕ, zero, suc, ◌+◌, ◌<◌, ◌≤◌, ◌==◌, true, false, eqb, List, [], ◌∷◌, ◌++◌, length, get_or, map, filter, take, drop, bytes_eq, Ok, Err, refl, sym, subst, ap, ◌∙◌, append_assoc, length-set, get_or-set_same, get_or-set_other, arith}
+use Rattle.std.proofs.Common.{◌≡◌, ◌≢◌, ◌⊎◌, inl, inr, ℕ, zero, suc, ◌+◌, ◌-◌, ◌<◌, ◌≤◌, ◌==◌, Bool, true, false, cond, eqb, List, [], ◌∷◌, ◌++◌, length, get_or, map, filter, take, drop, bytes_eq, Result, Ok, Err, OnOk, OnErr, refl, sym, subst, ap, ◌∙◌, append_assoc, length-set, get_or-set_same, get_or-set_other, arith}
 use Rattle.std.proofs.Math.ListN.{set}
+use Rattle.std.specs.Prelude.{if◌then◌else◌}
 use Rattle.std.proofs.lemmas.Bool.Decides.{eqb_tells}
-use Rattle.std.proofs.lemmas.List.{append-nil, map-append, take_more, take_all, take-append-drop}
+use Rattle.std.proofs.lemmas.List.{append-nil, get_or_default, map-append, take_more, take_all, take-append-drop}
 use Rattle.std.proofs.lemmas.List.Elements.{filter-append, All-append}
+use Rattle.std.proofs.lemmas.Result.{on_ok_weaker, on_err_weaker}
 use Rattle.mm_packet.specs.Packet.{SpacePacket}
 use Rattle.mm_desk.specs.declared.entry.Entry.{Entry}
 use Rattle.mm_desk.specs.declared.event.Event.{Event}
@@ -20,7 +22,7 @@ use Rattle.mm_desk.specs.Runs.{entry}
 use Rattle.mm_desk.specs.Seats.{Place, Tells, new_seat, with_call}
 use Rattle.mm_crew.specs.Crews.{list_at}
 use Rattle.mm_crew.specs.Stations.{id_at}
-use Rattle.mm_record.specs.Offering.{offers_named, GoesBy, GoesPartly, Adds, AddsPartly}
+use Rattle.mm_record.specs.Offering.{offer_at, offers_named, GoesBy, GoesPartly, Adds, AddsPartly}
 
 -- a list that stays goes on by nothing
 pub goes_nowhere : (xs : List Entry) → GoesBy [] xs xs
@@ -104,47 +106,65 @@ offer_refused old new now p back tells same = by_fault back.fault refl
     by_fault ClockEnd e = told (tells.told (λ lacks. let lack : back.fault ≡ NoMemory = ap fault_of lacks in cc))
     by_fault StorageOn e = told (tells.told (λ lacks. let lack : back.fault ≡ NoMemory = ap fault_of lacks in cc))
 
--- the seat at the place of the one store with an identifier changes, and no other
-module _ (G : List Event → List Entry → List Entry → Type 0) (nothing : (xs : List Entry) → G [] xs xs) (now : ℕ) (p : SpacePacket) (ids : List (List ℕ)) (id : List ℕ) (seats : List Place) (place count : ℕ) (seat : Place) where
+-- the seat at a place changes, and no other
+module _ (G : List Event → List Entry → List Entry → Type 0) (nothing : (xs : List Entry) → G [] xs xs) (now : ℕ) (p : SpacePacket) (seats : List Place) (place count : ℕ) (d seat : Place) where
   carried : (m n : List Event) (a b c d : List Entry) → m ≡ n → a ≡ b → c ≡ d → G m a c → G n b d
   carried m n a b c d e f h goes = subst (λ x. G x b d) e (subst (λ x. G m x d) f (subst (λ x. G m a x) h goes))
 
-  each_at : length seats ≡ count → place < count → ((j : ℕ) → j < count → bytes_eq (id_at ids j) id ≡ (j == place))
-      → G (Offer now p ∷ []) (list_at seats place) seat.list
-      → (k : ℕ) → k < count → G (offers_named now p (id_at ids k) (id ∷ [])) (list_at seats k) (list_at (set seats place seat) k)
-  each_at seated within is goes k inside = by_place (eqb_tells k place)
+  each_at : length seats ≡ count → place < count → G (Offer now p ∷ []) (get_or seats place d).list seat.list
+      → (k : ℕ) → k < count → G (offer_at now p place k) (list_at seats k) (list_at (set seats place seat) k)
+  each_at seated within goes k inside = by_place (eqb_tells k place)
     where
       by_place : ((eqb k place ≡ true) × (k ≡ place)) ⊎ ((eqb k place ≡ false) × (k ≢ place))
-          → G (offers_named now p (id_at ids k) (id ∷ [])) (list_at seats k) (list_at (set seats place seat) k)
+          → G (offer_at now p place k) (list_at seats k) (list_at (set seats place seat) k)
       by_place (inl here) =
-          let mine : bytes_eq (id_at ids k) id ≡ true = is k inside ∙ here.0 in
-          let one : offers_named now p (id_at ids k) (id ∷ []) ≡ Offer now p ∷ [] = rw mine refl in
-          let before : list_at seats k ≡ list_at seats place = ap (list_at seats) here.1 in
+          let one : offer_at now p place k ≡ Offer now p ∷ [] = rw here.0 refl in
+          let before : list_at seats k ≡ (get_or seats place d).list = ap (list_at seats) here.1 ∙ ap (λ (s : Place). s.list) (get_or_default seats place (new_seat 0 0) d (omega arith)) in
           let at : list_at (set seats place seat) place ≡ seat.list = ap (λ (s : Place). s.list) (get_or-set_same seats place seat (new_seat 0 0) (omega arith)) in
           let after : list_at (set seats place seat) k ≡ seat.list = ap (list_at (set seats place seat)) here.1 ∙ at in
           carried _ _ _ _ _ _ (sym one) (sym before) (sym after) goes
       by_place (inr other) =
-          let not_mine : bytes_eq (id_at ids k) id ≡ false = is k inside ∙ other.0 in
-          let none : offers_named now p (id_at ids k) (id ∷ []) ≡ [] = rw not_mine refl in
+          let none : offer_at now p place k ≡ [] = rw other.0 refl in
           let after : list_at (set seats place seat) k ≡ list_at seats k = ap (λ (s : Place). s.list) (get_or-set_other seats place k seat (new_seat 0 0) other.1) in
           carried _ _ _ _ _ _ (sym none) refl (sym after) (nothing (list_at seats k))
 
-pub adds_at : (now : ℕ) (p : SpacePacket) (ids : List (List ℕ)) (id : List ℕ) (seats : List Place) (place count : ℕ) (seat : Place)
-    → length seats ≡ count → place < count → ((j : ℕ) → j < count → bytes_eq (id_at ids j) id ≡ (j == place))
-    → GoesBy (Offer now p ∷ []) (list_at seats place) seat.list
-    → Adds count (λ k. offers_named now p (id_at ids k) (id ∷ [])) seats (set seats place seat)
-adds_at now p ids id seats place count seat seated within is goes = record {
+pub adds_at : (now : ℕ) (p : SpacePacket) (seats : List Place) (place count : ℕ) (d seat : Place) → length seats ≡ count → place < count
+    → GoesBy (Offer now p ∷ []) (get_or seats place d).list seat.list → Adds count (offer_at now p place) seats (set seats place seat)
+adds_at now p seats place count d seat seated within goes = record {
   seated = length-set seats place seat;
-  lists = each_at GoesBy goes_nowhere now p ids id seats place count seat seated within is goes;
+  lists = each_at GoesBy goes_nowhere now p seats place count d seat seated within goes;
 }
 
-pub adds_partly_at : (now : ℕ) (p : SpacePacket) (ids : List (List ℕ)) (id : List ℕ) (seats : List Place) (place count : ℕ) (seat : Place)
-    → length seats ≡ count → place < count → ((j : ℕ) → j < count → bytes_eq (id_at ids j) id ≡ (j == place))
-    → GoesPartly (Offer now p ∷ []) (list_at seats place) seat.list
-    → AddsPartly count (λ k. offers_named now p (id_at ids k) (id ∷ [])) seats (set seats place seat)
-adds_partly_at now p ids id seats place count seat seated within is goes = record {
+pub adds_partly_at : (now : ℕ) (p : SpacePacket) (seats : List Place) (place count : ℕ) (d seat : Place) → length seats ≡ count → place < count
+    → GoesPartly (Offer now p ∷ []) (get_or seats place d).list seat.list → AddsPartly count (offer_at now p place) seats (set seats place seat)
+adds_partly_at now p seats place count d seat seated within goes = record {
   seated = length-set seats place seat;
-  lists = each_at GoesPartly (partly_nowhere []) now p ids id seats place count seat seated within is goes;
+  lists = each_at GoesPartly (partly_nowhere []) now p seats place count d seat seated within goes;
+}
+
+-- the store at this place is the one with an identifier
+found_at : (now : ℕ) (p : SpacePacket) (own id : List ℕ) (k place : ℕ) → bytes_eq own id ≡ (k == place)
+    → offer_at now p place k ≡ offers_named now p own (id ∷ [])
+found_at now p own id k place is = rw is (by_test (k == place))
+  where
+    by_test : (b : Bool) → (if b then Offer now p ∷ [] else []) ≡ map (λ _. Offer now p) (cond b (id ∷ []) [])
+    by_test true = refl
+    by_test false = refl
+
+pub adds_found : (now : ℕ) (p : SpacePacket) (ids : List (List ℕ)) (id : List ℕ) (place count : ℕ) (a b : List Place)
+    → ((j : ℕ) → j < count → bytes_eq (id_at ids j) id ≡ (j == place))
+    → Adds count (offer_at now p place) a b → Adds count (λ k. offers_named now p (id_at ids k) (id ∷ [])) a b
+adds_found now p ids id place count a b is one = record {
+  seated = one.seated;
+  lists = λ k within. rw (found_at now p (id_at ids k) id k place (is k within)) at (one.lists k within);
+}
+
+pub adds_partly_found : (now : ℕ) (p : SpacePacket) (ids : List (List ℕ)) (id : List ℕ) (place count : ℕ) (a b : List Place)
+    → ((j : ℕ) → j < count → bytes_eq (id_at ids j) id ≡ (j == place))
+    → AddsPartly count (offer_at now p place) a b → AddsPartly count (λ k. offers_named now p (id_at ids k) (id ∷ [])) a b
+adds_partly_found now p ids id place count a b is one = record {
+  seated = one.seated;
+  lists = λ k within. rw (found_at now p (id_at ids k) id k place (is k within)) at (one.lists k within);
 }
 
 -- no store has the identifier, so nothing is offered
@@ -220,3 +240,22 @@ pub adds_names : (now : ℕ) (p : SpacePacket) (ids named : List (List ℕ)) (i 
     → Adds count (λ k. offers_named now p (id_at ids k) named) a b
 adds_names now p ids named i count a b past one =
     subst (λ (xs : List (List ℕ)). Adds count (λ k. offers_named now p (id_at ids k) xs) a b) (take_all i named past) one
+
+-- the last name after the others
+module _ {T E : Type 0} (r : Result T E) (now : ℕ) (p : SpacePacket) (ids named : List (List ℕ)) (last : List ℕ) (count : ℕ) (a b c : List Place)
+    (some : 1 ≤ length named) (at : get_or named (length named - 1) last ≡ last)
+    (others : Adds count (λ k. offers_named now p (id_at ids k) (take (length named - 1) named)) a b) where
+  pub adds_last : OnOk r (Adds count (λ k. offers_named now p (id_at ids k) (last ∷ [])) b c) → OnOk r (Adds count (λ k. offers_named now p (id_at ids k) named) a c)
+  adds_last = on_ok_weaker r (λ one. adds_names now p ids named (length named - 1 + 1) count a c (omega arith)
+      (adds_name now p ids named (length named - 1) last count a b c (omega arith) at others one))
+
+  pub adds_partly_last : OnErr r (AddsPartly count (λ k. offers_named now p (id_at ids k) (last ∷ [])) b c) → OnErr r (AddsPartly count (λ k. offers_named now p (id_at ids k) named) a c)
+  adds_partly_last = on_err_weaker r (λ one. adds_name_partly now p ids named (length named - 1) last count a b c (omega arith) at others one)
+
+-- where it ends before the last names
+pub adds_names_partly : (now : ℕ) (p : SpacePacket) (ids named : List (List ℕ)) (i : ℕ) (count : ℕ) (a b : List Place)
+    → AddsPartly count (λ k. offers_named now p (id_at ids k) (take i named)) a b
+    → AddsPartly count (λ k. offers_named now p (id_at ids k) named) a b
+adds_names_partly now p ids named i count a b one =
+    adds_partly_before count _ (λ k. offers_named now p (id_at ids k) (drop i named)) _ a b one
+    (λ k. ap (offers_named now p (id_at ids k)) (sym (take-append-drop i named)) ∙ offers_more now p (id_at ids k) (take i named) (drop i named))

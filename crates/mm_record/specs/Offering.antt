@@ -1,5 +1,5 @@
 -- How lists of calls go on while packets are offered. No public clause cites this module.
-use Rattle.std.specs.Prelude.{◌≡◌, ℕ, ◌<◌, if◌then◌else◌, List, [], ◌∷◌, ◌++◌, length, map, filter, bytes_eq}
+use Rattle.std.specs.Prelude.{◌≡◌, ℕ, ◌<◌, ◌==◌, if◌then◌else◌, List, [], ◌∷◌, ◌++◌, length, map, filter, bytes_eq}
 use Rattle.mm_base.specs.declared.rows.RouteRow.{RouteRow}
 use Rattle.mm_packet.specs.Packet.{SpacePacket}
 use Rattle.mm_desk.specs.declared.entry.Entry.{Entry}
@@ -14,6 +14,10 @@ use Rattle.mm_record.specs.Recorded.{is_routed}
 -- what was asked through the seat at a place
 abbrev pub asked : List Place → ℕ → List Event
 asked seats k = asked_in (list_at seats k)
+
+-- the offers of a packet to the stores, by their places: one to the store at this place, and none to the others
+abbrev pub offer_at : ℕ → SpacePacket → ℕ → ℕ → List Event
+offer_at now p place k = if k == place then Offer now p ∷ [] else []
 
 -- the offers of a packet to the store with an identifier: one for each time that it is named
 abbrev pub offers_named : ℕ → SpacePacket → List ℕ → List (List ℕ) → List Event

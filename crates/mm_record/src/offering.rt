@@ -1,38 +1,43 @@
-//! One packet: a copy of it is offered to each store that its report type is routed to.
-ghost use Rattle.std.specs.Prelude.{◌≡◌, [], ◌∷◌, length, OnOk, OnErr};
-ghost use Rattle.mm_desk.specs.declared.event.Event.TheVariants.{Offer};
+//! One packet: it is offered to each store that its report type is routed to, to the last one itself and to the others a copy.
+ghost use Rattle.std.specs.Prelude.{◌≡◌, ◌<◌, [], ◌∷◌, length, OnOk, OnErr};
 ghost use Rattle.mm_crew.specs.Stations.{ids_of, id_at, AreNamed};
-ghost use Rattle.mm_record.specs.Offering.{offers_named, offers_of, GoesBy, GoesPartly, Adds, AddsPartly};
+ghost use Rattle.mm_record.specs.Offering.{offer_at, offers_named, offers_of, Adds, AddsPartly};
 
 use crate::round::Round;
 use mm_base::StoreId;
 use mm_crew::place_of;
-use mm_desk::{Desk, Fault, Opening, Seat};
+use mm_desk::{Fault, Opening, Seat};
 use mm_packet::BlockPacket;
-use std::alloc::Global;
 use std::sync::Wait;
 
-// Offers a copy of a packet through a seat.
-fn offer_copy<N: Opening, R: Wait>(
-    rt: &R,
-    alloc: Global,
-    desk: &Desk<N>,
-    seat: &mut Seat<N>,
-    now: u64,
-    packet: &BlockPacket,
+// Offers a packet to the store at a place.
+fn offer_at<N: Opening, R: Wait>(
+    round: &Round<'_, N, R>,
+    seats: &mut [Seat<N>],
+    packet: BlockPacket,
+    place: usize,
 ) -> Result<(), Fault>
-    ensures ok { OnOk result (GoesBy (Offer now packet.now ∷ []) seat.old.list seat.new.list) }
-    ensures err { OnErr result (GoesPartly (Offer now packet.now ∷ []) seat.old.list seat.new.list) }
+    requires within { place < length round.now.stations.now }
+    requires seated { length seats.old ≡ length round.now.stations.now }
+    ensures ok { OnOk result (Adds (length round.now.stations.now) (offer_at round.now.moment packet place) seats.old seats.new) }
+    ensures err { OnErr result (AddsPartly (length round.now.stations.now) (offer_at round.now.moment packet place) seats.old seats.new) }
 {
-    let copy = packet.copy(alloc)?;
-    match desk.offer(rt, alloc, seat, now, copy) {
+    let Round {
+        rt,
+        alloc,
+        moment,
+        ..
+    } = *round;
+    let station = &round.stations[place];
+    let seat = &mut seats[place];
+    match station.desk.offer(rt, alloc, seat, moment, packet) {
         Ok(_) => Ok(()),
         Err(back) => Err(back.fault),
     }
 }
 
 // Offers a copy of a packet to the store with an identifier, where it is one of these.
-fn offer_by_name<N: Opening, R: Wait>(
+fn offer_copy<N: Opening, R: Wait>(
     round: &Round<'_, N, R>,
     seats: &mut [Seat<N>],
     packet: &BlockPacket,
@@ -45,22 +50,35 @@ fn offer_by_name<N: Opening, R: Wait>(
     ensures err { OnErr result (AddsPartly (length round.now.stations.now)
         (λ k. offers_named round.now.moment packet.now (id_at (ids_of round.now.stations.now) k) (id.now ∷ [])) seats.old seats.new) }
 {
-    let Round {
-        rt,
-        alloc,
-        moment,
-        ..
-    } = *round;
     let Some(place) = place_of(round.stations, id) else {
         return Ok(());
     };
-    let station = &round.stations[place];
-    let seat = &mut seats[place];
-    offer_copy(rt, alloc, &station.desk, seat, moment, packet)
+    let copy = packet.copy(round.alloc)?;
+    offer_at(round, seats, copy, place)
+}
+
+// Offers a packet itself to the store with an identifier, where it is one of these.
+fn offer_itself<N: Opening, R: Wait>(
+    round: &Round<'_, N, R>,
+    seats: &mut [Seat<N>],
+    packet: BlockPacket,
+    id: &StoreId,
+) -> Result<(), Fault>
+    requires named { AreNamed (ids_of round.now.stations.now) }
+    requires seated { length seats.old ≡ length round.now.stations.now }
+    ensures ok { OnOk result (Adds (length round.now.stations.now)
+        (λ k. offers_named round.now.moment packet (id_at (ids_of round.now.stations.now) k) (id.now ∷ [])) seats.old seats.new) }
+    ensures err { OnErr result (AddsPartly (length round.now.stations.now)
+        (λ k. offers_named round.now.moment packet (id_at (ids_of round.now.stations.now) k) (id.now ∷ [])) seats.old seats.new) }
+{
+    match place_of(round.stations, id) {
+        Some(place) => offer_at(round, seats, packet, place),
+        None => Ok(()),
+    }
 }
 
 // Offers a copy of a packet to each of the stores named that is one of these, in their order.
-fn offer_named<N: Opening, R: Wait>(
+fn offer_copies<N: Opening, R: Wait>(
     round: &Round<'_, N, R>,
     seats: &mut [Seat<N>],
     packet: &BlockPacket,
@@ -74,23 +92,44 @@ fn offer_named<N: Opening, R: Wait>(
         (λ k. offers_named round.now.moment packet.now (id_at (ids_of round.now.stations.now) k) named.now) seats.old seats.new) }
 {
     for id in named {
-        offer_by_name(round, seats, packet, id)?;
+        offer_copy(round, seats, packet, id)?;
     }
     Ok(())
 }
 
-// Offers a copy of a packet to each store that its report type is routed to; a telecommand goes to no store.
-pub(crate) fn offer_packet<N: Opening, R: Wait>(
+// Offers a packet to each of the stores named that is one of these, in their order: the last takes the packet itself.
+fn offer_named<N: Opening, R: Wait>(
     round: &Round<'_, N, R>,
     seats: &mut [Seat<N>],
-    packet: &BlockPacket,
+    packet: BlockPacket,
+    named: &[StoreId],
 ) -> Result<(), Fault>
     requires named { AreNamed (ids_of round.now.stations.now) }
     requires seated { length seats.old ≡ length round.now.stations.now }
     ensures ok { OnOk result (Adds (length round.now.stations.now)
-        (λ k. offers_of round.now.moment round.now.control.now (id_at (ids_of round.now.stations.now) k) packet.now) seats.old seats.new) }
+        (λ k. offers_named round.now.moment packet (id_at (ids_of round.now.stations.now) k) named.now) seats.old seats.new) }
     ensures err { OnErr result (AddsPartly (length round.now.stations.now)
-        (λ k. offers_of round.now.moment round.now.control.now (id_at (ids_of round.now.stations.now) k) packet.now) seats.old seats.new) }
+        (λ k. offers_named round.now.moment packet (id_at (ids_of round.now.stations.now) k) named.now) seats.old seats.new) }
+{
+    let [others @ .., last] = named else {
+        return Ok(());
+    };
+    offer_copies(round, seats, &packet, others)?;
+    offer_itself(round, seats, packet, last)
+}
+
+// Offers a packet to each store that its report type is routed to; a telecommand goes to no store.
+pub(crate) fn offer_packet<N: Opening, R: Wait>(
+    round: &Round<'_, N, R>,
+    seats: &mut [Seat<N>],
+    packet: BlockPacket,
+) -> Result<(), Fault>
+    requires named { AreNamed (ids_of round.now.stations.now) }
+    requires seated { length seats.old ≡ length round.now.stations.now }
+    ensures ok { OnOk result (Adds (length round.now.stations.now)
+        (λ k. offers_of round.now.moment round.now.control.now (id_at (ids_of round.now.stations.now) k) packet) seats.old seats.new) }
+    ensures err { OnErr result (AddsPartly (length round.now.stations.now)
+        (λ k. offers_of round.now.moment round.now.control.now (id_at (ids_of round.now.stations.now) k) packet) seats.old seats.new) }
 {
     let content = packet.packet();
     if content.is_telecommand() {

@@ -26,7 +26,7 @@ fn record<N: Opening, S: Source, R: Wait>(
     ensures ran { Ran (errand round.now.step round.now.moment round.now.control.now round.now.stations.now) (S.gives source.old) (S.gives source.new) (is_err result) seats.new }
 {
     while let Some(packet) = source.next(round.step) {
-        offer_packet(round, seats, &packet)?;
+        offer_packet(round, seats, packet)?;
     }
     Ok(())
 }

@@ -1,7 +1,7 @@
 use Rattle.std.proofs.Common.{length, take}
 use Rattle.mm_record.specs.Offering.{offers_named, Adds}
 use Rattle.mm_crew.specs.Stations.{ids_of, id_at}
-use Rattle.mm_record.proofs.offering.offer_named.Given as goal
+use Rattle.mm_record.proofs.offering.offer_copies.Given as goal
 
 abbrev pub invariant-loop-id : goal.invariant-loop-id
 invariant-loop-id g l =
