@@ -6,3 +6,5 @@ pub mod Counting
 pub mod Lone
 pub mod Keeping
 pub mod Ordering
+pub mod Answering
+pub mod Foreseeing

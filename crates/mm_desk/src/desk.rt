@@ -63,8 +63,8 @@ pub struct Closed<N: Opening> {
 // The answer of a call whose reply is of this case; the event comes back where there was no memory.
 macro_rules! answered {
     ($called:expr; $case:ident) => {
-        match $called {
-            Ok(Reply::$case(answer)) => answer,
+        match &$called {
+            Ok(Reply::$case(answer)) => *answer,
             Err(_) => Err(Fault::NoMemory),
             _ => unreachable!(),
         }
@@ -223,7 +223,11 @@ impl<N: Opening> Desk<N> {
     ) -> Result<Option<Stored>, Fault>
         ensures tells { Tells seat.old Event.Next (Reply.Given result) seat.new }
     {
-        answered!(self.call(rt, alloc, Event::Next, seat); Given)
+        match self.call(rt, alloc, Event::Next, seat) {
+            Ok(Reply::Given(answer)) => answer,
+            Err(_) => Err(Fault::NoMemory),
+            _ => unreachable!(),
+        }
     }
 
     /// Ends the retrieval.

@@ -49,14 +49,14 @@ impl Event {
     pub fn copy(&self, alloc: Global) -> Result<Event, NoMemory>
         ensures same { IfOk result (λ copy. copy ≡ self.now) }
     {
-        Ok(match self {
-            Event::Offer(now, packet) => Event::Offer(*now, packet.copy(alloc)?),
-            Event::Begin(from, to) => Event::Begin(*from, *to),
-            Event::Next => Event::Next,
-            Event::Abort => Event::Abort,
-            Event::Delete(limit) => Event::Delete(*limit),
-            Event::Enable => Event::Enable,
-            Event::Disable => Event::Disable,
-        })
+        match self {
+            Event::Offer(now, packet) => Ok(Event::Offer(*now, packet.copy(alloc)?)),
+            Event::Begin(from, to) => Ok(Event::Begin(*from, *to)),
+            Event::Next => Ok(Event::Next),
+            Event::Abort => Ok(Event::Abort),
+            Event::Delete(limit) => Ok(Event::Delete(*limit)),
+            Event::Enable => Ok(Event::Enable),
+            Event::Disable => Ok(Event::Disable),
+        }
     }
 }

@@ -1,6 +1,6 @@
 //! One reply told three times: to the caller, to the log and to the seat's list.
 ghost use Rattle.std.specs.Prelude.{◌≡◌, ◌<◌, ◌≤◌, ◌-◌, ◌^◌, true, length, IfOk, IfErr, OnErr};
-ghost use Rattle.mm_desk.specs.Machine.{offer, next, step};
+ghost use Rattle.mm_desk.specs.Machine.{offer, step};
 
 use crate::event::Event;
 use crate::fault::Fault;
@@ -21,13 +21,21 @@ pub(crate) struct Told {
 
 // One answer as three replies of this case.
 macro_rules! told {
-    ($case:ident, $answer:ident) => {
+    ($case:ident, $answer:expr) => {
         Told {
             answer: Reply::$case($answer),
             logged: Reply::$case($answer),
             listed: Reply::$case($answer),
         }
     };
+}
+
+// A copy of a packet that was found, with its time, as a reply.
+fn given(alloc: Global, time: u64, packet: &BlockPacket) -> Result<Reply, NoMemory>
+    ensures given { IfOk result (λ reply. reply ≡ Reply.Given (Ok (Some (record { time = time; packet = packet.now })))) }
+{
+    let packet = packet.copy(alloc)?;
+    Ok(Reply::Given(Ok(Some(Stored { time, packet }))))
 }
 
 impl Told {
@@ -43,6 +51,18 @@ impl Told {
         ensures copies { (result.logged ≡ result.answer) × (result.listed ≡ result.answer) }
     {
         told!(Deleted, answer)
+    }
+
+    // A packet that was found, with its time.
+    fn given(alloc: Global, time: u64, packet: &BlockPacket) -> Result<Told, NoMemory>
+        ensures answer { IfOk result (λ told. told.answer ≡ Reply.Given (Ok (Some (record { time = time; packet = packet.now })))) }
+        ensures copies { IfOk result (λ told. (told.logged ≡ told.answer) × (told.listed ≡ told.answer)) }
+    {
+        Ok(Told {
+            answer: given(alloc, time, packet)?,
+            logged: given(alloc, time, packet)?,
+            listed: given(alloc, time, packet)?,
+        })
     }
 }
 
@@ -97,25 +117,6 @@ impl StoreState {
         }
     }
 
-    // What a next would be answered.
-    fn foresee_next(&self, alloc: Global) -> Result<Result<Option<Stored>, Fault>, NoMemory>
-        ensures foreseen { IfOk result (λ r. r ≡ (next self.now).0) }
-    {
-        let Some(retrieval) = self.retrieval else {
-            return Ok(Err(Fault::Idle));
-        };
-        match self
-            .store
-            .first_in(retrieval.from, retrieval.to, retrieval.after)
-        {
-            Some((time, packet)) => {
-                let packet = packet.copy(alloc)?;
-                Ok(Ok(Some(Stored { time, packet })))
-            }
-            None => Ok(Ok(None)),
-        }
-    }
-
     fn tell_offer(&mut self, alloc: Global, now: u64, packet: BlockPacket) -> Result<Told, Event>
         ensures answer { IfOk result (λ told. step self.old (Event.Offer now packet) ≡ (told.answer, self.new)) }
         ensures copies { IfOk result (λ told. (told.logged ≡ told.answer) × (told.listed ≡ told.answer)) }
@@ -142,21 +143,25 @@ impl StoreState {
         ensures back { IfErr result (λ back. back ≡ Event.Next) }
         ensures err { OnErr result (self.new ≡ self.old) }
     {
-        let Ok(answer) = self.foresee_next(alloc) else {
-            return Err(Event::Next);
+        let Some(retrieval) = &mut self.retrieval else {
+            return Ok(told!(Given, Err(Fault::Idle)));
         };
-        let Ok(logged) = self.foresee_next(alloc) else {
-            return Err(Event::Next);
-        };
-        let Ok(listed) = self.foresee_next(alloc) else {
-            return Err(Event::Next);
-        };
-        let _lent = self.next();
-        Ok(Told {
-            answer: Reply::Given(answer),
-            logged: Reply::Given(logged),
-            listed: Reply::Given(listed),
-        })
+        match self
+            .store
+            .first_in(retrieval.from, retrieval.to, retrieval.after)
+        {
+            Some((time, packet)) => {
+                let Ok(told) = Told::given(alloc, time, packet) else {
+                    return Err(Event::Next);
+                };
+                retrieval.after = time;
+                Ok(told)
+            }
+            None => {
+                self.retrieval = None;
+                Ok(told!(Given, Ok(None)))
+            }
+        }
     }
 
     // Makes the event's call, and tells its reply three times. Where there is no memory the event comes back.
