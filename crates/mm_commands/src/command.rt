@@ -45,12 +45,18 @@ pub enum Task<'a> {
 impl<'a> Task<'a> {
     /// The name of this file of the task, where the task has such a file.
     pub fn file(self, role: Role) -> Option<&'a str> {
-        match (self, role) {
-            (Task::Plan { setup, .. } | Task::Ask { setup, .. }, Role::Setup) => Some(setup),
-            (Task::Plan { forecast, .. }, Role::Forecast) => Some(forecast),
-            (Task::Check(names) | Task::Chart(names), _) => names.file(role),
-            (Task::Fly(names), _) => names.file(role),
-            _ => None,
+        match self {
+            Task::Plan { setup, forecast } => match role {
+                Role::Setup => Some(setup),
+                Role::Forecast => Some(forecast),
+                _ => None,
+            },
+            Task::Check(names) | Task::Chart(names) => names.file(role),
+            Task::Fly(names) => names.file(role),
+            Task::Ask { setup, .. } => match role {
+                Role::Setup => Some(setup),
+                _ => None,
+            },
         }
     }
 }
