@@ -146,8 +146,8 @@ pub(crate) fn file<'a>(alloc: Global, name: &'a str, help: &'a str) -> Arg<'a> {
     Arg::new(alloc, name).required(true).help(help)
 }
 
-/// The first words of a command on a problem.
-pub(crate) fn problem_command<'a>(
+// The first words of every command: its name and help, and the setup.
+fn setup_command<'a>(
     alloc: Global,
     name: &'a str,
     about: &'a str,
@@ -156,8 +156,18 @@ pub(crate) fn problem_command<'a>(
     Command::new(alloc, name)
         .about(about)
         .after_help(help)
-        .arg(file(alloc, "SETUP", SETUP_HELP))?
-        .arg(file(alloc, "FORECAST", FORECAST_HELP))
+        .arg(file(alloc, "SETUP", SETUP_HELP))
+}
+
+/// The first words of a command on a problem.
+pub(crate) fn problem_command<'a>(
+    alloc: Global,
+    name: &'a str,
+    about: &'a str,
+    help: &'a str,
+) -> Result<Command<'a>, AllocError> {
+    let forecast = file(alloc, "FORECAST", FORECAST_HELP);
+    setup_command(alloc, name, about, help)?.arg(forecast)
 }
 
 /// The words of a command on a problem and a plan for it.
@@ -172,11 +182,8 @@ pub(crate) fn judging_command<'a>(
 }
 
 fn ask_command<'a>(alloc: Global) -> Result<Command<'a>, AllocError> {
-    Command::new(alloc, "ask")
-        .about(ASK_ABOUT)
-        .after_help(ASK_HELP)
-        .arg(file(alloc, "SETUP", SETUP_HELP))?
-        .arg(file(alloc, "REQUESTS", REQUESTS_HELP))
+    let requests = file(alloc, "REQUESTS", REQUESTS_HELP);
+    setup_command(alloc, "ask", ASK_ABOUT, ASK_HELP)?.arg(requests)
 }
 
 fn tool_command<'a>(alloc: Global) -> Result<Command<'a>, AllocError> {
