@@ -45,12 +45,18 @@ pub enum Task<'a> {
 impl<'a> Task<'a> {
     /// The name of this file of the task, where the task has such a file.
     pub fn file(self, role: Role) -> Option<&'a str> {
-        match (self, role) {
-            (Task::Plan { setup, .. } | Task::Ask { setup, .. }, Role::Setup) => Some(setup),
-            (Task::Plan { forecast, .. }, Role::Forecast) => Some(forecast),
-            (Task::Check(names) | Task::Chart(names), _) => names.file(role),
-            (Task::Fly(names), _) => names.file(role),
-            _ => None,
+        match self {
+            Task::Plan { setup, forecast } => match role {
+                Role::Setup => Some(setup),
+                Role::Forecast => Some(forecast),
+                _ => None,
+            },
+            Task::Check(names) | Task::Chart(names) => names.file(role),
+            Task::Fly(names) => names.file(role),
+            Task::Ask { setup, .. } => match role {
+                Role::Setup => Some(setup),
+                _ => None,
+            },
         }
     }
 }
@@ -140,8 +146,8 @@ pub(crate) fn file<'a>(alloc: Global, name: &'a str, help: &'a str) -> Arg<'a> {
     Arg::new(alloc, name).required(true).help(help)
 }
 
-/// The first words of a command on a problem.
-pub(crate) fn problem_command<'a>(
+// The first words of every command: its name and help, and the setup.
+fn setup_command<'a>(
     alloc: Global,
     name: &'a str,
     about: &'a str,
@@ -150,8 +156,18 @@ pub(crate) fn problem_command<'a>(
     Command::new(alloc, name)
         .about(about)
         .after_help(help)
-        .arg(file(alloc, "SETUP", SETUP_HELP))?
-        .arg(file(alloc, "FORECAST", FORECAST_HELP))
+        .arg(file(alloc, "SETUP", SETUP_HELP))
+}
+
+/// The first words of a command on a problem.
+pub(crate) fn problem_command<'a>(
+    alloc: Global,
+    name: &'a str,
+    about: &'a str,
+    help: &'a str,
+) -> Result<Command<'a>, AllocError> {
+    let forecast = file(alloc, "FORECAST", FORECAST_HELP);
+    setup_command(alloc, name, about, help)?.arg(forecast)
 }
 
 /// The words of a command on a problem and a plan for it.
@@ -166,11 +182,8 @@ pub(crate) fn judging_command<'a>(
 }
 
 fn ask_command<'a>(alloc: Global) -> Result<Command<'a>, AllocError> {
-    Command::new(alloc, "ask")
-        .about(ASK_ABOUT)
-        .after_help(ASK_HELP)
-        .arg(file(alloc, "SETUP", SETUP_HELP))?
-        .arg(file(alloc, "REQUESTS", REQUESTS_HELP))
+    let requests = file(alloc, "REQUESTS", REQUESTS_HELP);
+    setup_command(alloc, "ask", ASK_ABOUT, ASK_HELP)?.arg(requests)
 }
 
 fn tool_command<'a>(alloc: Global) -> Result<Command<'a>, AllocError> {

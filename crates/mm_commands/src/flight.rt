@@ -77,19 +77,22 @@ impl<'a> FlightFiles<'a> {
     }
 }
 
-/// The words of the command `run`.
-pub fn run_command<'a>(alloc: Global) -> Result<Command<'a>, AllocError> {
-    problem_command(alloc, "run", RUN_ABOUT, RUN_HELP)?
-        .arg(file(alloc, "PLAN", PLAN_HELP))?
+// The command with the words of a run's ends after those that it has.
+fn with_ends<'a>(alloc: Global, command: Command<'a>) -> Result<Command<'a>, AllocError> {
+    command
         .arg(file(alloc, "SOURCES", SOURCES_HELP))?
         .arg(file(alloc, "LINKS", LINKS_HELP))
 }
 
+/// The words of the command `run`.
+pub fn run_command<'a>(alloc: Global) -> Result<Command<'a>, AllocError> {
+    let command = problem_command(alloc, "run", RUN_ABOUT, RUN_HELP)?;
+    with_ends(alloc, command.arg(file(alloc, "PLAN", PLAN_HELP))?)
+}
+
 /// The words of the command `fly`.
 pub fn fly_command<'a>(alloc: Global) -> Result<Command<'a>, AllocError> {
-    problem_command(alloc, "fly", FLY_ABOUT, FLY_HELP)?
-        .arg(file(alloc, "SOURCES", SOURCES_HELP))?
-        .arg(file(alloc, "LINKS", LINKS_HELP))
+    with_ends(alloc, problem_command(alloc, "fly", FLY_ABOUT, FLY_HELP)?)
 }
 
 /// What the words of the command `run` ask for, and those of `fly`, which have no plan.

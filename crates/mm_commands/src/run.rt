@@ -211,10 +211,7 @@ pub fn run_tool<R: Threads + Wait + Sync, S: AsStr, F: Files, W: Write, E: Write
 ) -> u8
     ensures status { result ≤ 2 }
 {
-    match run(rt, alloc, words, files, out, err) {
-        Ok(status) => status.code(),
-        Err(_) => Status::Refused.code(),
-    }
+    Status::code_of(run(rt, alloc, words, files, out, err))
 }
 
 /// Runs the program on a script: a first line with the words, separated by single spaces, and then the files.

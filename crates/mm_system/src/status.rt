@@ -1,6 +1,8 @@
 //! How a run of the program ended.
 ghost use Rattle.std.specs.Prelude.{◌≤◌};
 
+use std::io;
+
 /// How a run of the program ended.
 #[derive(Clone, Copy)]
 pub enum Status {
@@ -20,6 +22,16 @@ impl Status {
             Status::Done => 0,
             Status::Refused => 1,
             Status::BadCommandLine => 2,
+        }
+    }
+
+    /// The exit status of a run, where a write that failed counts as a refusal.
+    pub fn code_of(run: io::Result<Status>) -> u8
+        ensures most { result ≤ 2 }
+    {
+        match run {
+            Ok(status) => status.code(),
+            Err(_) => Status::Refused.code(),
         }
     }
 }
