@@ -4,30 +4,46 @@ use mm_ask::{Outcome, ask_bytes};
 use std::alloc::AllocGlobal;
 use std::process::Abort;
 
+// Conversations: a name and the requests, and then the outcome and the text that answers them.
+macro_rules! talks {
+    ($($name:literal, $requests:expr => $outcome:ident, $prints:expr;)*) => {
+        [$(Talk { name: $name, requests: $requests, outcome: Outcome::$outcome, prints: $prints }),*]
+    };
+}
+
 mod conversations;
 mod refusals;
 mod reports;
 
-// Requests on the store.
 const ENABLE: &str = "1864C000000D200F010000015343492020202020";
-
-const DISABLE: &str = "1864C000000D200F020000015343492020202020";
 
 const CONFIGURATIONS: &str = "1864C0000004200F160000";
 
-// The requests are answered by this text, with this outcome.
-fn answers<R: Abort + AllocGlobal>(rt: &R, requests: &str, want: &str, outcome: Outcome) {
+struct Talk {
+    name: &'static str,
+    requests: &'static str,
+    outcome: Outcome,
+    prints: &'static str,
+}
+
+// The requests on a store are answered by this text, with this outcome.
+fn answers<R: Abort + AllocGlobal>(
+    rt: &R,
+    name: &str,
+    requests: &str,
+    outcome: Outcome,
+    want: &str,
+) {
     let answer = ask_bytes(rt.alloc(), ONE_STORE.as_bytes(), requests.as_bytes());
-    let (came, text) = answer.expect(rt, "an answer");
-    let text = String::from_utf8(text).expect(rt, "text");
-    assert!(rt; text.as_str() == want, "for {requests}: {text}");
-    assert!(rt; came == outcome, "for {requests}");
+    let (came, text) = answer.expect(rt, name);
+    let text = String::from_utf8(text).expect(rt, name);
+    let is_told = came == outcome && text.as_str() == want;
+    assert!(rt; is_told, "{name}: {text}");
 }
 
-fn all_done<R: Abort + AllocGlobal>(rt: &R, requests: &str, want: &str) {
-    answers(rt, requests, want, Outcome::AllDone);
-}
-
-fn some_refused<R: Abort + AllocGlobal>(rt: &R, requests: &str, want: &str) {
-    answers(rt, requests, want, Outcome::SomeRefused);
+// Each conversation by itself is answered so.
+fn each_answers<R: Abort + AllocGlobal>(rt: &R, talks: &[Talk]) {
+    for talk in talks {
+        answers(rt, talk.name, talk.requests, talk.outcome, talk.prints);
+    }
 }

@@ -1,18 +1,19 @@
 //! Memories, and the requests that are applied to them.
 use crate::tests::samples::TWO_STORES;
 use mm_base::{Kind, Refused, RouteRow, StoreId};
+use mm_desk::{Offered, Returned};
 use mm_memory::{Answer, Answers, Fault, Memory, laws};
-use mm_packet::{Header, Octets, Packet, TELECOMMAND_BODY};
+use mm_packet::{BlockPacket, Header, Octets, Packet, TELECOMMAND_BODY};
 use mm_problem::Setup;
-use mm_st15::{Report, Request, Summary};
+use mm_st15::Request;
 use mm_store::PacketStore;
 use std::alloc::Global;
 use std::process::Abort;
 
-// Rows: the subtype and the data of a request with one instruction, and the answer to it.
-macro_rules! rows {
-    ($($subtype:literal $data:literal => $answer:expr),* $(,)?) => {
-        [$(($subtype, $data, $answer)),*]
+// Plays: a name, a setup, and what is done and seen in turn.
+macro_rules! plays {
+    ($($name:literal, $setup:ident { $($step:ident $args:tt)* })*) => {
+        [$(Play { name: $name, setup: $setup, steps: &[$(Step::$step $args),*] }),*]
     };
 }
 
@@ -86,23 +87,19 @@ fn asked(
     memory.apply(alloc, now, &request).expect(rt, "memory")
 }
 
-// A subtype, the data of a request with one instruction, and the answer to it.
-type Row = (u8, &'static [u8], Answer);
-
-// Asks in turn, at the moment 1, and compares the answers.
-fn asks(rt: &impl Abort, alloc: Global, memory: &mut Memory, rows: &[Row]) {
-    for (subtype, data, want) in rows {
-        let answers = asked(rt, alloc, memory, 1, *subtype, data);
-        let each = answers.each.as_slice();
-        assert!(rt; each == [*want].as_slice(), "{subtype} {data:?}");
-    }
-}
-
-// The memory of a setup after these requests.
-fn memory_after(rt: &impl Abort, alloc: Global, setup: &str, rows: &[Row]) -> Memory {
-    let mut memory = memory_of(rt, alloc, setup);
-    asks(rt, alloc, &mut memory, rows);
-    memory
+// What is asked at the moment 1, and compared with the answers of this play.
+fn asks(
+    rt: &impl Abort,
+    alloc: Global,
+    memory: &mut Memory,
+    name: &str,
+    request: (u8, &[u8]),
+    want: &[Answer],
+) {
+    let (subtype, data) = request;
+    let answers = asked(rt, alloc, memory, 1, subtype, data);
+    let is_answered = answers.each.as_slice() == want && answers.reports.is_empty();
+    assert!(rt; is_answered, "{name}: {subtype} {data:?}");
 }
 
 // The kind, the size and the number of packets of a store, and whether its storage is on.
@@ -112,39 +109,130 @@ fn shape(memory: &Memory, id: &StoreId) -> Option<(Kind, u32, u32, bool)> {
     Some((store.kind(), store.size(), store.len(), state.storage()))
 }
 
-// The answers to the instructions of a request.
-fn each_is(rt: &impl Abort, answers: &Answers, want: &[Answer]) {
-    assert!(rt; answers.each.as_slice() == want);
+// Telemetry with a sequence count of 1.
+fn packet(rt: &impl Abort, alloc: Global) -> BlockPacket {
+    let header = Header::new(100, 1, 3, 25);
+    let packet = Packet::tm(header, 0, 0, 0, Octets::new(Vec::new(alloc)));
+    BlockPacket::of(packet).expect(rt, "a short packet")
 }
 
-// The contents of a store: the times of its oldest and its newest packet, and how many it holds.
-fn summary(id: [u8; 8], oldest: u64, newest: u64, held: u32) -> Summary {
-    Summary {
-        id,
-        oldest,
-        newest,
-        held,
+// What a store answers, in a word, and the time of a packet that is kept or given.
+type Told = (&'static str, u64);
+
+fn told_of(answer: Result<Offered, Returned>) -> Told {
+    match answer {
+        Ok(Offered::Kept(time)) => ("kept", time),
+        Ok(Offered::KeptOver(time, _)) => ("kept over", time),
+        Ok(Offered::Lost(_)) => ("lost", 0),
+        Err(back) => (back.fault.name(), 0),
     }
 }
 
-// The first report is on the contents of these stores, at the moment 9.
-fn summarises(rt: &impl Abort, answers: &Answers, want: &[Summary]) {
-    match answers.reports.get(0) {
-        Some(Report::Summaries { moment, entries }) => {
-            assert!(rt; *moment == 9 && entries.as_slice() == want);
-        }
-        _ => assert!(rt; false, "a summary"),
+// Offers a packet to a store at a moment.
+fn offered(rt: &impl Abort, alloc: Global, memory: &mut Memory, id: &StoreId, now: u64) -> Told {
+    let packet = packet(rt, alloc);
+    match memory.state_mut(id) {
+        Some(state) => told_of(state.offer(now, packet)),
+        None => ("no store", 0),
     }
+}
+
+// Asks a store's retrieval for the next packet.
+fn next_of(memory: &mut Memory, id: &StoreId) -> Told {
+    let Some(state) = memory.state_mut(id) else {
+        return ("no store", 0);
+    };
+    match state.next() {
+        Ok(Some((time, _))) => ("given", time),
+        Ok(None) => ("end", 0),
+        Err(fault) => (fault.name(), 0),
+    }
+}
+
+// A store's answer in this play.
+fn is_told(rt: &impl Abort, name: &str, told: Told, want: Told) {
+    let (word, time) = told;
+    assert!(rt; word == want.0 && time == want.1, "{name}: {word} {time}");
 }
 
 // The store at this place, with its virtual channel.
-fn stands(rt: &impl Abort, memory: &Memory, place: u32, id: &StoreId, channel: u8) {
-    assert!(rt; memory.entry(place) == Some((*id, channel)), "at {place}");
+fn stands(rt: &impl Abort, name: &str, memory: &Memory, place: u32, id: &StoreId, channel: u8) {
+    let is_there = memory.entry(place) == Some((*id, channel));
+    assert!(rt; is_there, "{name}: at {place}");
+}
+
+// How many stores there are, and how many routes.
+fn has_counts(rt: &impl Abort, name: &str, memory: &Memory, stores: usize, routes: usize) {
+    let (held, listed) = (memory.stores().len(), memory.control().list().len());
+    assert!(rt;
+        held == stores && listed == routes,
+        "{name}: {held} {listed}"
+    );
 }
 
 // The kind, the size and the number of packets of a store that is there, and whether its storage is on.
-fn has_shape(rt: &impl Abort, memory: &Memory, id: &StoreId, want: (Kind, u32, u32, bool)) {
-    assert!(rt; shape(memory, id) == Some(want));
+fn has_shape(
+    rt: &impl Abort,
+    name: &str,
+    memory: &Memory,
+    id: &StoreId,
+    want: (Kind, u32, u32, bool),
+) {
+    assert!(rt; shape(memory, id) == Some(want), "{name}");
+}
+
+// What is done with a memory, and what is seen of it.
+enum Step {
+    // A request of this subtype with these data, which has no report, and the answers to its instructions.
+    Ask(u8, &'static [u8], &'static [Answer]),
+    // A packet is offered to a store at a moment.
+    Offer(&'static [u8], u64, Told),
+    // The retrieval of a store is asked for its next packet.
+    Next(&'static [u8], Told),
+    // The kind, the size and the number of packets of a store, and whether its storage is on.
+    Has(&'static [u8], (Kind, u32, u32, bool)),
+    // The store at a place, with its virtual channel.
+    Stands(u32, &'static [u8], u8),
+    // How many stores there are, and how many routes.
+    Counts(usize, usize),
+}
+
+// Steps in turn, over the memory of a setup.
+struct Play {
+    name: &'static str,
+    setup: &'static str,
+    steps: &'static [Step],
+}
+
+// A step of this play.
+fn takes(rt: &impl Abort, alloc: Global, memory: &mut Memory, name: &str, step: &Step) {
+    match step {
+        Step::Ask(subtype, data, want) => asks(rt, alloc, memory, name, (*subtype, data), want),
+        Step::Offer(store, now, want) => {
+            let told = offered(rt, alloc, memory, &id(rt, store), *now);
+            is_told(rt, name, told, *want);
+        }
+        Step::Next(store, want) => is_told(rt, name, next_of(memory, &id(rt, store)), *want),
+        Step::Has(store, want) => has_shape(rt, name, memory, &id(rt, store), *want),
+        Step::Stands(place, store, channel) => {
+            stands(rt, name, memory, *place, &id(rt, store), *channel);
+        }
+        Step::Counts(stores, routes) => has_counts(rt, name, memory, *stores, *routes),
+    }
+}
+
+// The steps of a play, one after another.
+fn takes_all(rt: &impl Abort, alloc: Global, memory: &mut Memory, play: &Play) {
+    for step in play.steps {
+        takes(rt, alloc, memory, play.name, step);
+    }
+}
+
+// The memory of a play's setup, after its steps.
+fn played(rt: &impl Abort, alloc: Global, play: &Play) -> Memory {
+    let mut memory = memory_of(rt, alloc, play.setup);
+    takes_all(rt, alloc, &mut memory, play);
+    memory
 }
 
 // The stores that the report type of a subtype goes into, of APID 100 and service 3.
@@ -156,16 +244,29 @@ fn leads_to(rt: &impl Abort, alloc: Global, memory: &Memory, subtype: u8, want: 
     );
 }
 
+// Nothing stands at a place, and no store has an identifier.
+fn lacks(rt: &impl Abort, memory: &Memory, place: u32, id: &StoreId) {
+    assert!(rt;
+        memory.entry(place).is_none() && shape(memory, id).is_none(),
+        "{place}"
+    );
+}
+
+static SETUP_ORDER: [Play; 1] = plays! {
+    "stores stand in setup order", TWO_STORES {
+        Stands(0, b"SCI", 0) Stands(1, b"HK", 3)
+        Has(b"SCI", (Kind::Bounded, 4, 0, true)) Has(b"HK", (Kind::Circular, 2, 0, true))
+    }
+};
+
 #[test]
 fn stores_stand_in_setup_order(rt: HostRuntime) {
-    let memory = memory_of(&rt, rt.alloc(), TWO_STORES);
-    let (sci, hk) = (id(&rt, b"SCI"), id(&rt, b"HK"));
-    stands(&rt, &memory, 0, &sci, 0);
-    stands(&rt, &memory, 1, &hk, 3);
-    has_shape(&rt, &memory, &sci, (Kind::Bounded, 4, 0, true));
-    has_shape(&rt, &memory, &hk, (Kind::Circular, 2, 0, true));
-    let other = id(&rt, b"XY");
-    assert!(rt; memory.entry(2).is_none() && shape(&memory, &other).is_none());
+    for play in &SETUP_ORDER {
+        let mut memory = played(&rt, rt.alloc(), play);
+        let other = id(&rt, b"XY");
+        lacks(&rt, &memory, 2, &other);
+        assert!(rt; memory.state_mut(&other).is_none());
+    }
 }
 
 #[test]
@@ -190,25 +291,20 @@ fn lifted_stores_are_put_back(rt: HostRuntime) {
     let sci = id(&rt, b"SCI");
     let stores = memory.lift();
     assert!(rt; stores.len() == 2 && memory.entry(0).is_none());
-    assert!(rt; memory.control().list().len() == 1);
+    has_counts(&rt, "lifted", &memory, 0, 1);
     laws::identifiers_decide_what_is_restored();
     memory.restore(stores);
-    stands(&rt, &memory, 0, &sci, 0);
-    has_shape(&rt, &memory, &sci, (Kind::Bounded, 4, 0, true));
+    stands(&rt, "restored", &memory, 0, &sci, 0);
+    has_shape(&rt, "restored", &memory, &sci, (Kind::Bounded, 4, 0, true));
 }
 
 #[test]
 fn a_lent_state_is_the_store_s_state(rt: HostRuntime) {
     let mut memory = memory_of(&rt, rt.alloc(), TWO_STORES);
     let (sci, hk) = (id(&rt, b"SCI"), id(&rt, b"HK"));
-    match memory.state_mut(&hk) {
-        Some(state) => state.disable(),
-        None => {}
-    }
-    has_shape(&rt, &memory, &hk, (Kind::Circular, 2, 0, false));
-    has_shape(&rt, &memory, &sci, (Kind::Bounded, 4, 0, true));
-    let other = id(&rt, b"XY");
-    assert!(rt; memory.state_mut(&other).is_none());
+    memory.state_mut(&hk).expect(&rt, "a store").disable();
+    has_shape(&rt, "lent", &memory, &hk, (Kind::Circular, 2, 0, false));
+    has_shape(&rt, "not lent", &memory, &sci, (Kind::Bounded, 4, 0, true));
 }
 
 // Refusals with their numbers, their names, and as they are printed.

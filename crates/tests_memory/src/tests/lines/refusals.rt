@@ -1,34 +1,46 @@
 //! Requests that are refused whole.
-use super::{all_done, some_refused};
+use super::{Talk, answers, each_answers};
 use crate::tests::samples::ONE_STORE;
-use mm_ask::{Fault, LineFault, ask_bytes};
-use std::alloc::AllocGlobal;
+use mm_ask::{Fault, LineFault, Outcome, ask_bytes};
 use std::process::Abort;
 
-const REFUSED_WHOLE: &str = "\
-    1864C00000042011010000\n\
-    1864C0000004200F0E0000\n\
-    1864C0000004200F010000\n\
-    1864C0000005200F12000000\n\
-    1864C0000005200F01000000\n\
-    186\n\
-    1864C0000004200F16000000\n\
-    1864C0000013200F14000001484B202020202020000000020200\n";
+static TALKS: [Talk; 14] = talks! {
+    "requests that are refused whole",
+    "1864C00000042011010000\n1864C0000004200F0E0000\n\
+    1864C0000004200F010000\n1864C0000005200F12000000\n1864C0000005200F01000000\n\
+    186\n1864C0000004200F16000000\n\
+    1864C0000013200F14000001484B202020202020000000020200\n"
+    => SomeRefused,
+    "1 refused 12 NotSt15\n2 refused 13 UnknownSubtype\n\
+    3 refused 14 CountMismatch\n4 refused 14 CountMismatch\n5 refused 14 CountMismatch\n\
+    6 refused 49 HexLine\n7 refused 49 HexLine\n\
+    8.1 refused 16 BadEnum\n";
+    // Each of these lines fails the test that is named and a later one too.
+    "a character that is no digit, and no packet", "00z" => SomeRefused, "1 refused 49 HexLine\n";
+    "a packet that is refused, and no digits after it",
+    "3864C0000004200F0100zz" => SomeRefused, "1 refused 49 HexLine\n";
+    "an octet is missing, and no request has the subtype",
+    "1864C0000004200F0E00" => SomeRefused, "1 refused 1 Short\n";
+    "a packet that is refused, with an octet after it",
+    "0064C0000004200F01000000" => SomeRefused, "1 refused 3 NoSecondaryHeader\n";
+    "an octet after a packet of another service",
+    "1864C0000004201101000000" => SomeRefused, "1 refused 49 HexLine\n";
+    "another service with a subtype that no request has",
+    "1864C000000420110E0000" => SomeRefused, "1 refused 12 NotSt15\n";
+    "a carriage return is no digit",
+    "1864C000000D200F010000015343492020202020\r\n" => SomeRefused, "1 refused 49 HexLine\n";
+    // The refusals of packets that no line above has.
+    "an idle packet", "1FFFC0000004200F010000" => SomeRefused, "1 refused 6 Idle\n";
+    "another version", "3864C0000004200F010000" => SomeRefused, "1 refused 2 Version\n";
+    "a segment", "186400000004200F010000" => SomeRefused, "1 refused 5 Segmented\n";
+    "another version of the service", "1864C0000004100F010000" => SomeRefused, "1 refused 4 PusVersion\n";
+    "a header that is cut", "1864C0000003200F0100" => SomeRefused, "1 refused 7 HeaderCut\n";
+    "digits of either case", "1864c000000d200f010000015343492020202020" => AllDone, "1.1 done\n";
+};
 
 #[test]
 fn requests_that_are_refused_whole(rt: HostRuntime) {
-    some_refused(
-        &rt,
-        REFUSED_WHOLE,
-        "1 refused 12 NotSt15\n\
-        2 refused 13 UnknownSubtype\n\
-        3 refused 14 CountMismatch\n\
-        4 refused 14 CountMismatch\n\
-        5 refused 14 CountMismatch\n\
-        6 refused 49 HexLine\n\
-        7 refused 49 HexLine\n\
-        8.1 refused 16 BadEnum\n",
-    );
+    each_answers(&rt, &TALKS);
 }
 
 // Creates two stores.
@@ -39,7 +51,7 @@ const CREATE: &str =
 fn each_proper_prefix_of_a_packet_is_short(rt: HostRuntime) {
     for octets in 1..40usize {
         let line = CREATE.get(..2 * octets).expect(&rt, "digits");
-        some_refused(&rt, line, "1 refused 1 Short\n");
+        answers(&rt, line, line, Outcome::SomeRefused, "1 refused 1 Short\n");
     }
 }
 
@@ -52,55 +64,6 @@ fn bad_digits_are_told_before_the_first_growth(rt: HostRuntime) {
         Ok((_, text)) => assert!(rt; text.as_slice() == TWICE_HEX_LINE),
         Err(fault) => assert!(rt; fault == Fault::NoMemory),
     }
-}
-
-// Each line by itself is answered so.
-fn each_refused<R: Abort + AllocGlobal>(rt: &R, lines: &[(&str, &str)]) {
-    for (line, want) in lines {
-        some_refused(rt, line, want);
-    }
-}
-
-// Each line fails the test that is named and a later one too.
-static FIRST_TEST_THAT_FAILS: [(&str, &str); 7] = [
-    // A character that is no digit, and no packet.
-    ("00z", "1 refused 49 HexLine\n"),
-    ("3864C0000004200F0100zz", "1 refused 49 HexLine\n"),
-    // An octet is missing and the packet has no request's subtype.
-    ("1864C0000004200F0E00", "1 refused 1 Short\n"),
-    // A packet that is refused, with an octet after it.
-    (
-        "0064C0000004200F01000000",
-        "1 refused 3 NoSecondaryHeader\n",
-    ),
-    // An octet after a packet of another service.
-    ("1864C0000004201101000000", "1 refused 49 HexLine\n"),
-    // Another service with a subtype that no request has.
-    ("1864C000000420110E0000", "1 refused 12 NotSt15\n"),
-    // A carriage return is no digit.
-    (
-        "1864C000000D200F010000015343492020202020\r\n",
-        "1 refused 49 HexLine\n",
-    ),
-];
-
-#[test]
-fn the_first_test_that_fails_is_named(rt: HostRuntime) {
-    each_refused(&rt, &FIRST_TEST_THAT_FAILS);
-}
-
-// The refusals of packets that no line above has.
-static BAD_PACKETS: [(&str, &str); 5] = [
-    ("1FFFC0000004200F010000", "1 refused 6 Idle\n"),
-    ("3864C0000004200F010000", "1 refused 2 Version\n"),
-    ("186400000004200F010000", "1 refused 5 Segmented\n"),
-    ("1864C0000004100F010000", "1 refused 4 PusVersion\n"),
-    ("1864C0000003200F0100", "1 refused 7 HeaderCut\n"),
-];
-
-#[test]
-fn packets_that_are_refused(rt: HostRuntime) {
-    each_refused(&rt, &BAD_PACKETS);
 }
 
 static SHOWN: [(LineFault, &str); 4] = [
@@ -116,13 +79,4 @@ fn the_refusal_of_a_line_is_shown_as_it_is_printed(rt: HostRuntime) {
         let shown = fault.to_string(rt.alloc()).expect(&rt, "its text");
         assert!(rt; shown.as_str() == *want, "{want}");
     }
-}
-
-#[test]
-fn digits_of_either_case(rt: HostRuntime) {
-    all_done(
-        &rt,
-        "1864c000000d200f010000015343492020202020",
-        "1.1 done\n",
-    );
 }

@@ -1,41 +1,8 @@
 //! Reports, to the octet, and their numbers.
-use super::{CONFIGURATIONS, all_done, some_refused};
-use mm_ask::{Counters, Numbers, SEQUENCE_COUNTS, laws, request_of};
+use super::{CONFIGURATIONS, Talk, each_answers};
+use mm_ask::{Counters, Numbers, Outcome, SEQUENCE_COUNTS, laws, request_of};
 use mm_st15::ReportKind;
 use std::process::Abort;
-
-#[test]
-fn the_configuration_of_each_store(rt: HostRuntime) {
-    all_done(
-        &rt,
-        CONFIGURATIONS,
-        "1 report 0864C000001D200F17000000000000000000000001015343492020202020000000040100\n",
-    );
-}
-
-// The report goes to the request's source, from its APID; acknowledgement flags and sequence count
-// are not repeated.
-#[test]
-fn a_report_goes_to_the_request_s_source(rt: HostRuntime) {
-    all_done(
-        &rt,
-        "187BC00500042F0F161234",
-        "1 report 087BC000001D200F17000012340000000000000001015343492020202020000000040100\n",
-    );
-}
-
-// The sequence count runs over all reports, the message type counter over those of a subtype.
-#[test]
-fn numbers_of_reports_rise(rt: HostRuntime) {
-    all_done(
-        &rt,
-        "1864C0000004200F160000\n1864C0000004200F160000\n1864C0000004200F120000\n1864C0000004200F160000\n",
-        "1 report 0864C000001D200F17000000000000000000000001015343492020202020000000040100\n\
-        2 report 0864C001001D200F17000100000000000000000002015343492020202020000000040100\n\
-        3 report 0864C0020019200F130000000000000000000000030153434920202020200100\n\
-        4 report 0864C003001D200F17000200000000000000000004015343492020202020000000040100\n",
-    );
-}
 
 const EVERY_REQUEST: &str = "\
 1864C000000D200F010000015343492020202020
@@ -81,23 +48,34 @@ const EVERY_ANSWER: &str = "\
 17 report 0864C003001D200F17000000000000000000000011015343492020202020000000050005
 ";
 
-// Request 5 is answered by report 6, 12 by 13, 18 by 19, and 22 by 23.
-#[test]
-fn every_request_once(rt: HostRuntime) {
-    all_done(&rt, EVERY_REQUEST, EVERY_ANSWER);
-}
+static TALKS: [Talk; 5] = talks! {
+    "the configuration of each store", CONFIGURATIONS => AllDone,
+    "1 report 0864C000001D200F17000000000000000000000001015343492020202020000000040100\n";
+    // The report is sent from the request's APID; acknowledgement flags and sequence count are not repeated.
+    "a report goes to the request's source", "187BC00500042F0F161234" => AllDone,
+    "1 report 087BC000001D200F17000012340000000000000001015343492020202020000000040100\n";
+    // The sequence count runs over all reports, the message type counter over those of a subtype.
+    "numbers of reports rise",
+    "1864C0000004200F160000\n1864C0000004200F160000\n1864C0000004200F120000\n1864C0000004200F160000\n"
+    => AllDone,
+    "1 report 0864C000001D200F17000000000000000000000001015343492020202020000000040100\n\
+    2 report 0864C001001D200F17000100000000000000000002015343492020202020000000040100\n\
+    3 report 0864C0020019200F130000000000000000000000030153434920202020200100\n\
+    4 report 0864C003001D200F17000200000000000000000004015343492020202020000000040100\n";
+    // Request 5 is answered by report 6, 12 by 13, 18 by 19, and 22 by 23.
+    "every request once", EVERY_REQUEST => AllDone, EVERY_ANSWER;
+    // Two reports on one request; the refused instruction between them has none.
+    "a report for each accepted instruction",
+    "1864C000001D200F050000035343492020202020484B2020202020205343492020202020\n"
+    => SomeRefused,
+    "1.1 done\n1.2 refused 23 NoSuchStore\n1.3 done\n\
+    1 report 0864C000001C200F060000000000000000000000015343492020202020000100640319\n\
+    1 report 0864C001001C200F060001000000000000000000015343492020202020000100640319\n";
+};
 
-// Two reports on one request; the refused instruction between them has none.
 #[test]
-fn a_report_for_each_accepted_instruction(rt: HostRuntime) {
-    some_refused(
-        &rt,
-        "1864C000001D200F05000003\
-        5343492020202020484B2020202020205343492020202020\n",
-        "1.1 done\n1.2 refused 23 NoSuchStore\n1.3 done\n\
-        1 report 0864C000001C200F060000000000000000000000015343492020202020000100640319\n\
-        1 report 0864C001001C200F060001000000000000000000015343492020202020000100640319\n",
-    );
+fn reports_are_printed(rt: HostRuntime) {
+    each_answers(&rt, &TALKS);
 }
 
 // The numbers of the next report of a kind are these.

@@ -1,12 +1,19 @@
 //! Which of two refusals comes first.
 use super::{
     BAD_ENUM, BAD_ID, BAD_SIZE, BUSY, DONE, EXISTS, NO_SUCH_ROUTE, NO_SUCH_STORE, STORAGE_ON,
-    TABLE_FULL, TOO_MANY_STORES, asked, each_is, id, memory_of, stands,
+    TABLE_FULL, TOO_MANY_STORES, asks, has_counts, id, memory_of, stands,
 };
 use crate::tests::samples::ONE_STORE;
 use mm_memory::{Answer, Memory};
 use std::alloc::Global;
 use std::process::Abort;
+
+// Cases by their answers: a subtype, an identifier, and the fields after it.
+macro_rules! cases {
+    ($($want:ident: $($subtype:literal $id:ident $fields:expr),*;)*) => {
+        [$($(Case { subtype: $subtype, id: $id, fields: $fields, want: $want }),*),*]
+    };
+}
 
 const SCI: [u8; 8] = *b"SCI     ";
 
@@ -45,119 +52,88 @@ const BAD_KIND: &[u8] = b"\x00\x00\x00\x04\x02\x00";
 
 const TOO_LARGE: &[u8] = b"\x00\x0F\x42\x41\x01\x00";
 
-// A subtype, an identifier, the fields after it, and the answer.
-type Case = (u8, [u8; 8], &'static [u8], Answer);
+struct Case {
+    subtype: u8,
+    id: [u8; 8],
+    fields: &'static [u8],
+    want: Answer,
+}
 
-// Asks for each by itself, at the moment 1, and compares the answers.
-fn asks_each(rt: &impl Abort, alloc: Global, memory: &mut Memory, cases: &[Case]) {
-    for (subtype, id, fields, want) in cases {
+// Asks for each by itself, and compares the answers.
+fn asks_each(rt: &impl Abort, alloc: Global, memory: &mut Memory, name: &str, cases: &[Case]) {
+    for case in cases {
         let mut data = [1].to_vec(alloc).expect(rt, "memory");
-        data.extend_from_slice(id).expect(rt, "memory");
-        data.extend_from_slice(fields).expect(rt, "memory");
-        let answers = asked(rt, alloc, memory, 1, *subtype, &data);
-        let each = answers.each.as_slice();
-        assert!(rt; each == [*want].as_slice(), "{subtype} {data:?}");
+        data.extend_from_slice(&case.id).expect(rt, "memory");
+        data.extend_from_slice(case.fields).expect(rt, "memory");
+        asks(rt, alloc, memory, name, (case.subtype, &data), &[case.want]);
     }
 }
 
-static STORES: [Case; 5] = [
-    (20, READ, FORM, DONE),
-    (9, READ, RANGE, DONE),
-    (20, BOTH, FORM, DONE),
-    (9, BOTH, RANGE, DONE),
-    (1, BOTH, b"", DONE),
-];
+// The stores READ and BOTH, and then what is refused. A malformed identifier comes before all else; a type, a channel or an APID
+// before a size, and each of them before what there is; a store that is not there before what it would answer. Storage on comes
+// before a retrieval, and a retrieval before its range.
+static CASES: [Case; 39] = cases! {
+    DONE: 20 READ FORM, 9 READ RANGE, 20 BOTH FORM, 9 BOTH RANGE, 1 BOTH b"";
 
-// A malformed identifier comes before all else.
-static MALFORMED: [Case; 9] = [
-    (20, BAD, BAD_KIND, BAD_ID),
-    (20, BAD, BAD_CHANNEL_AND_SIZE, BAD_ID),
-    (20, BAD, TOO_LARGE, BAD_ID),
-    (3, BAD, BAD_TYPE, BAD_ID),
-    (4, BAD, BAD_TYPE, BAD_ID),
-    (28, BAD, b"\x08", BAD_ID),
-    (25, BAD, b"\0\0\0\0", BAD_ID),
-    (9, BAD, LATE, BAD_ID),
-    (21, BAD, b"", BAD_ID),
-];
+    BAD_ID: 20 BAD BAD_KIND, 20 BAD BAD_CHANNEL_AND_SIZE, 20 BAD TOO_LARGE, 3 BAD BAD_TYPE, 4 BAD BAD_TYPE,
+        28 BAD b"\x08", 25 BAD b"\0\0\0\0", 9 BAD LATE, 21 BAD b"";
 
-// A type, a channel or an APID comes before a size, and each of them before what there is.
-static NOT_ALLOWED: [Case; 14] = [
-    (20, NONE, BAD_KIND_AND_SIZE, BAD_ENUM),
-    (20, NONE, BAD_CHANNEL_AND_SIZE, BAD_ENUM),
-    (20, SCI, BAD_KIND, BAD_ENUM),
-    (20, SCI, TOO_LARGE, BAD_SIZE),
-    (3, NONE, BAD_TYPE, BAD_ENUM),
-    (4, NONE, BAD_TYPE, BAD_ENUM),
-    (4, SCI, BAD_TYPE, BAD_ENUM),
-    (28, NONE, b"\x08", BAD_ENUM),
-    (28, SCI, b"\x08", BAD_ENUM),
-    (28, READ, b"\x08", BAD_ENUM),
-    (25, NONE, b"\x00\x0F\x42\x41", BAD_SIZE),
-    (25, SCI, b"\0\0\0\0", BAD_SIZE),
-    (25, READ, b"\0\0\0\0", BAD_SIZE),
-    (25, BOTH, b"\x00\x0F\x42\x41", BAD_SIZE),
-];
+    BAD_ENUM: 20 NONE BAD_KIND_AND_SIZE, 20 NONE BAD_CHANNEL_AND_SIZE, 20 SCI BAD_KIND;
+    BAD_SIZE: 20 SCI TOO_LARGE;
+    BAD_ENUM: 3 NONE BAD_TYPE, 4 NONE BAD_TYPE, 4 SCI BAD_TYPE, 28 NONE b"\x08", 28 SCI b"\x08", 28 READ b"\x08";
+    BAD_SIZE: 25 NONE b"\x00\x0F\x42\x41", 25 SCI b"\0\0\0\0", 25 READ b"\0\0\0\0", 25 BOTH b"\x00\x0F\x42\x41";
 
-// A store that is not there comes before what it would answer. Storage on comes before a retrieval,
-// and a retrieval before its range.
-static OF_STORES: [Case; 11] = [
-    (9, NONE, LATE, NO_SUCH_STORE),
-    (4, NONE, OTHER_TYPE, NO_SUCH_STORE),
-    (21, BOTH, b"", STORAGE_ON),
-    (25, BOTH, b"\0\0\0\x01", STORAGE_ON),
-    (26, BOTH, b"", STORAGE_ON),
-    (27, BOTH, b"", STORAGE_ON),
-    (28, BOTH, b"\x01", STORAGE_ON),
-    (21, READ, b"", BUSY),
-    (27, READ, b"", BUSY),
-    (28, READ, b"\x01", BUSY),
-    (9, READ, LATE, BUSY),
-];
+    NO_SUCH_STORE: 9 NONE LATE, 4 NONE OTHER_TYPE;
+    STORAGE_ON: 21 BOTH b"", 25 BOTH b"\0\0\0\x01", 26 BOTH b"", 27 BOTH b"", 28 BOTH b"\x01";
+    BUSY: 21 READ b"", 27 READ b"", 28 READ b"\x01", 9 READ LATE;
+};
 
 #[test]
 fn the_first_refusal_is_answered(rt: HostRuntime) {
-    let alloc = rt.alloc();
-    let mut memory = memory_of(&rt, alloc, ONE_STORE);
-    asks_each(&rt, alloc, &mut memory, &STORES);
-    asks_each(&rt, alloc, &mut memory, &MALFORMED);
-    asks_each(&rt, alloc, &mut memory, &NOT_ALLOWED);
-    asks_each(&rt, alloc, &mut memory, &OF_STORES);
+    let mut memory = memory_of(&rt, rt.alloc(), ONE_STORE);
+    asks_each(&rt, rt.alloc(), &mut memory, "two stores more", &CASES);
 }
 
 // Where there are sixteen stores.
-static SIXTEEN: [Case; 6] = [
-    (20, NONE, FORM, TOO_MANY_STORES),
-    (20, SCI, FORM, EXISTS),
-    (20, NONE, TOO_LARGE, BAD_SIZE),
-    (20, NONE, BAD_KIND, BAD_ENUM),
-    (20, BAD, FORM, BAD_ID),
-    (1, NONE, b"", NO_SUCH_STORE),
-];
+static SIXTEEN: [Case; 6] = cases! {
+    TOO_MANY_STORES: 20 NONE FORM;
+    EXISTS: 20 SCI FORM;
+    BAD_SIZE: 20 NONE TOO_LARGE;
+    BAD_ENUM: 20 NONE BAD_KIND;
+    BAD_ID: 20 BAD FORM;
+    NO_SUCH_STORE: 1 NONE b"";
+};
 
 #[test]
 fn the_first_refusal_where_there_are_sixteen_stores(rt: HostRuntime) {
     let alloc = rt.alloc();
     let mut memory = memory_of(&rt, alloc, ONE_STORE);
     for letter in b"ABCDEFGHIJKLMNO" {
-        let mut id = *b"        ";
-        id[0] = *letter;
-        asks_each(&rt, alloc, &mut memory, &[(20, id, FORM, DONE)]);
+        let mut data = *b"\x01        \x00\x00\x00\x04\x01\x00";
+        data[1] = *letter;
+        asks(
+            &rt,
+            alloc,
+            &mut memory,
+            "a store more",
+            (20, &data),
+            &[DONE],
+        );
     }
-    stands(&rt, &memory, 15, &id(&rt, b"O"), 0);
-    asks_each(&rt, alloc, &mut memory, &SIXTEEN);
-    assert!(rt; memory.entry(16).is_none());
+    stands(&rt, "the last", &memory, 15, &id(&rt, b"O"), 0);
+    asks_each(&rt, alloc, &mut memory, "sixteen stores", &SIXTEEN);
+    has_counts(&rt, "sixteen stores", &memory, 16, 1);
 }
 
 // Where the table has no room.
-static FULL_TABLE: [Case; 6] = [
-    (3, SCI, OTHER_TYPE, TABLE_FULL),
-    (3, SCI, TYPE, DONE),
-    (3, NONE, OTHER_TYPE, NO_SUCH_STORE),
-    (3, SCI, BAD_TYPE, BAD_ENUM),
-    (3, BAD, OTHER_TYPE, BAD_ID),
-    (4, SCI, OTHER_TYPE, NO_SUCH_ROUTE),
-];
+static FULL_TABLE: [Case; 6] = cases! {
+    TABLE_FULL: 3 SCI OTHER_TYPE;
+    DONE: 3 SCI TYPE;
+    NO_SUCH_STORE: 3 NONE OTHER_TYPE;
+    BAD_ENUM: 3 SCI BAD_TYPE;
+    BAD_ID: 3 BAD OTHER_TYPE;
+    NO_SUCH_ROUTE: 4 SCI OTHER_TYPE;
+};
 
 #[test]
 fn the_first_refusal_of_a_full_table(rt: HostRuntime) {
@@ -166,9 +142,8 @@ fn the_first_refusal_of_a_full_table(rt: HostRuntime) {
     for apid in 0..255u8 {
         let mut data = *b"\x01SCI     \x01\x00\x03\x19";
         data[10] = apid;
-        let answers = asked(&rt, alloc, &mut memory, 1, 3, &data);
-        each_is(&rt, &answers, &[DONE]);
+        asks(&rt, alloc, &mut memory, "a route more", (3, &data), &[DONE]);
     }
-    assert!(rt; memory.control().list().len() == 256);
-    asks_each(&rt, alloc, &mut memory, &FULL_TABLE);
+    has_counts(&rt, "a full table", &memory, 1, 256);
+    asks_each(&rt, alloc, &mut memory, "a full table", &FULL_TABLE);
 }

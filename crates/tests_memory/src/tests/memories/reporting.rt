@@ -1,10 +1,10 @@
 //! The reports that answer requests.
-use super::{
-    BAD_ID, DONE, NO_SUCH_STORE, Row, asked, each_is, memory_after, memory_of, summarises, summary,
-};
-use crate::tests::samples::TWO_STORES;
-use mm_memory::{Answer, Answers};
-use mm_st15::{Report, Row as ReportType, Status};
+use super::holding::TWO_PACKETS_EACH;
+use super::{BAD_ID, DONE, NO_SUCH_STORE, Play, STORAGE_ON, Step, asked, memory_of, played};
+use crate::tests::samples::{ONE_STORE, TWO_STORES};
+use mm_memory::{Answer, Memory};
+use mm_st15::{Configuration, Report, Row as ReportType, Status, Summary};
+use std::alloc::Global;
 use std::process::Abort;
 
 // Three identifiers, of which the second is a store's.
@@ -12,23 +12,38 @@ const THREE: &[u8] = b"\x03sci     SCI     NONE    ";
 
 const THREE_ANSWERS: [Answer; 3] = [BAD_ID, DONE, NO_SUCH_STORE];
 
-#[test]
-fn summaries_of_the_stores_that_are_there(rt: HostRuntime) {
-    let alloc = rt.alloc();
-    let mut memory = memory_of(&rt, alloc, TWO_STORES);
-    let answers = asked(&rt, alloc, &mut memory, 9, 12, THREE);
-    each_is(&rt, &answers, &THREE_ANSWERS);
-    assert!(rt; answers.reports.len() == 1);
-    summarises(&rt, &answers, &[summary(*b"SCI     ", 0, 0, 0)]);
+// The one report that a request has beside these answers: the moment, the subtype and the data.
+fn reported(
+    rt: &impl Abort,
+    alloc: Global,
+    memory: &mut Memory,
+    request: (u64, u8, &[u8]),
+    want: &[Answer],
+) -> Report {
+    let (now, subtype, data) = request;
+    let mut answers = asked(rt, alloc, memory, now, subtype, data);
+    let is_answered = answers.each.as_slice() == want && answers.reports.len() == 1;
+    assert!(rt; is_answered, "{subtype} {data:?}");
+    answers.reports.pop().expect(rt, "a report")
 }
 
-#[test]
-fn no_summary_where_each_instruction_is_refused(rt: HostRuntime) {
-    let alloc = rt.alloc();
-    let mut memory = memory_of(&rt, alloc, TWO_STORES);
-    let answers = asked(&rt, alloc, &mut memory, 9, 12, b"\x01NONE    ");
-    each_is(&rt, &answers, &[NO_SUCH_STORE]);
-    summarises(&rt, &answers, &[]);
+// The contents of a store: the times of its oldest and its newest packet, and how many it holds.
+fn summary(id: [u8; 8], oldest: u64, newest: u64, held: u32) -> Summary {
+    Summary {
+        id,
+        oldest,
+        newest,
+        held,
+    }
+}
+
+// The report is on the contents of these stores.
+fn summarises(rt: &impl Abort, report: &Report, want: &[Summary]) {
+    let is_told = match report {
+        Report::Summaries { moment, entries } => *moment == 9 && entries.as_slice() == want,
+        _ => false,
+    };
+    assert!(rt; is_told, "a summary");
 }
 
 const ROUTE: ReportType = ReportType {
@@ -37,34 +52,52 @@ const ROUTE: ReportType = ReportType {
     subtype: 25,
 };
 
-// The first report is on the storage control of the store SCI, with one route, at the moment 9.
-fn reports_one_route(rt: &impl Abort, answers: &Answers) {
-    match answers.reports.get(0) {
-        Some(Report::Control { moment, id, rows }) => {
-            assert!(rt; *moment == 9 && *id == *b"SCI     ");
-            assert!(rt; rows.as_slice() == [ROUTE].as_slice());
+// The report is on the storage control of the store SCI, with one route.
+fn reports_one_route(rt: &impl Abort, report: &Report) {
+    let is_told = match report {
+        Report::Control { moment, id, rows } => {
+            *moment == 9 && *id == *b"SCI     " && rows.as_slice() == [ROUTE].as_slice()
         }
-        _ => assert!(rt; false, "a report on the storage control"),
-    }
+        _ => false,
+    };
+    assert!(rt; is_told, "a report on the storage control");
+}
+
+// What is refused is left out; where each instruction is, the summary is empty.
+#[test]
+fn reports_on_the_stores_that_are_there(rt: HostRuntime) {
+    let alloc = rt.alloc();
+    let mut memory = memory_of(&rt, alloc, TWO_STORES);
+    let one = reported(&rt, alloc, &mut memory, (9, 12, THREE), &THREE_ANSWERS);
+    summarises(&rt, &one, &[summary(*b"SCI     ", 0, 0, 0)]);
+    let request = (9, 12, b"\x01NONE    ".as_slice());
+    let none = reported(&rt, alloc, &mut memory, request, &[NO_SUCH_STORE]);
+    summarises(&rt, &none, &[]);
+    let control = reported(&rt, alloc, &mut memory, (9, 5, THREE), &THREE_ANSWERS);
+    reports_one_route(&rt, &control);
 }
 
 #[test]
-fn control_of_the_stores_that_are_there(rt: HostRuntime) {
-    let alloc = rt.alloc();
-    let mut memory = memory_of(&rt, alloc, TWO_STORES);
-    let answers = asked(&rt, alloc, &mut memory, 9, 5, THREE);
-    each_is(&rt, &answers, &THREE_ANSWERS);
-    assert!(rt; answers.reports.len() == 1);
-    reports_one_route(&rt, &answers);
+fn summaries_of_stores_with_packets(rt: HostRuntime) {
+    let mut memory = played(&rt, rt.alloc(), &TWO_PACKETS_EACH);
+    let request = (9, 12, b"\x02HK      SCI     ".as_slice());
+    let report = reported(&rt, rt.alloc(), &mut memory, request, &[DONE, DONE]);
+    let (hk, sci) = (
+        summary(*b"HK      ", 7, 8, 2),
+        summary(*b"SCI     ", 7, 8, 2),
+    );
+    summarises(&rt, &report, &[hk, sci]);
 }
 
 // A store for each pair of statuses.
-static STATUSES: [Row; 4] = rows![
-    20 b"\x01READ    \x00\x00\x00\x04\x01\x00" => DONE,
-    9 b"\x01READ    \0\0\0\0\0\0\0\x01\0\0\0\0\0\0\0\xFF" => DONE,
-    2 b"\x01HK      " => DONE,
-    9 b"\x01SCI     \0\0\0\0\0\0\0\x01\0\0\0\0\0\0\0\xFF" => DONE,
-];
+static STATUSES: [Play; 1] = plays! {
+    "a store for each pair of statuses", TWO_STORES {
+        Ask(20, b"\x01READ    \x00\x00\x00\x04\x01\x00", &[DONE])
+        Ask(9, b"\x01READ    \0\0\0\0\0\0\0\x01\0\0\0\0\0\0\0\xFF", &[DONE])
+        Ask(2, b"\x01HK      ", &[DONE])
+        Ask(9, b"\x01SCI     \0\0\0\0\0\0\0\x01\0\0\0\0\0\0\0\xFF", &[DONE])
+    }
+};
 
 fn status(id: [u8; 8], storage: u8, retrieval: u8) -> Status {
     Status {
@@ -74,26 +107,64 @@ fn status(id: [u8; 8], storage: u8, retrieval: u8) -> Status {
     }
 }
 
-// The first report has these statuses, at the moment 9.
-fn reports_statuses(rt: &impl Abort, answers: &Answers, want: &[Status]) {
-    match answers.reports.get(0) {
-        Some(Report::Statuses { moment, entries }) => {
-            assert!(rt; *moment == 9 && entries.as_slice() == want);
-        }
-        _ => assert!(rt; false, "a status report"),
-    }
+// The report has these statuses.
+fn reports_statuses(rt: &impl Abort, report: &Report, want: &[Status]) {
+    let is_told = match report {
+        Report::Statuses { moment, entries } => *moment == 9 && entries.as_slice() == want,
+        _ => false,
+    };
+    assert!(rt; is_told, "a status report");
 }
 
 #[test]
 fn status_report(rt: HostRuntime) {
-    let alloc = rt.alloc();
-    let mut memory = memory_after(&rt, alloc, TWO_STORES, &STATUSES);
-    let answers = asked(&rt, alloc, &mut memory, 9, 18, b"");
-    assert!(rt; answers.each.is_empty() && answers.reports.len() == 1);
-    let want = [
-        status(*b"SCI     ", 1, 1),
-        status(*b"HK      ", 0, 0),
-        status(*b"READ    ", 0, 1),
-    ];
-    reports_statuses(&rt, &answers, &want);
+    for play in &STATUSES {
+        let mut memory = played(&rt, rt.alloc(), play);
+        let request = (9, 18, b"".as_slice());
+        let report = reported(&rt, rt.alloc(), &mut memory, request, &[]);
+        let want = [
+            status(*b"SCI     ", 1, 1),
+            status(*b"HK      ", 0, 0),
+            status(*b"READ    ", 0, 1),
+        ];
+        reports_statuses(&rt, &report, &want);
+    }
+}
+
+// The report of this moment is on the configuration of the store SCI, which is on this virtual channel.
+fn configures(rt: &impl Abort, report: &Report, now: u64, channel: u8) {
+    let want = Configuration {
+        id: *b"SCI     ",
+        size: 4,
+        kind: 1,
+        channel,
+    };
+    let is_told = match report {
+        Report::Configurations { moment, entries } => {
+            *moment == now && entries.as_slice() == [want].as_slice()
+        }
+        _ => false,
+    };
+    assert!(rt; is_told, "the channel {channel}");
+}
+
+static CHANGES: [Play; 2] = plays! {
+    "the channel of the setup", ONE_STORE { }
+    "another channel", ONE_STORE {
+        Ask(28, b"\x01SCI     \x05", &[STORAGE_ON]) Ask(2, b"\x01SCI     ", &[DONE])
+        Ask(28, b"\x01SCI     \x05", &[DONE])
+    }
+};
+
+// When the report is asked for, and the channel then.
+static CHANNELS: [(u64, u8); 2] = [(1, 0), (4, 5)];
+
+#[test]
+fn channel_of_a_store_changed(rt: HostRuntime) {
+    for (play, (moment, channel)) in CHANGES.iter().zip(&CHANNELS) {
+        let mut memory = played(&rt, rt.alloc(), play);
+        let request = (*moment, 22, b"".as_slice());
+        let report = reported(&rt, rt.alloc(), &mut memory, request, &[]);
+        configures(&rt, &report, *moment, *channel);
+    }
 }
