@@ -1,7 +1,7 @@
 //! Several sources and links at once: gates that open once all stand at them, one queue of orders, and a hundred runs.
 
 use crate::tests::scripts::{Script, new_script, scripts};
-use crate::tests::trials::{Task, Trial, has_text, setup};
+use crate::tests::trials::{Task, Trial, has_text, setup, task};
 use crate::tests::wires::{Wire, wires};
 use mm_base::StoreId;
 use mm_exec::Flight;
@@ -159,28 +159,21 @@ struct Meeting {
 
 static MEETINGS: [Meeting; 2] = [
     Meeting {
-        task: Task {
-            setup: setup! {
-                store "A", apid 1, size 1, type "bounded", channel 0;
-                store "B", apid 2, size 1, type "bounded", channel 0;
-            },
-            forecast: "step,window,A,B\n1,2,1,1\n",
-            plan: "mmplan 1\nstores A B\ndump 1 1 1\nloss 0\nbound 0\nend\n",
+        task: task! {
+            { store "A", apid 1, size 1, type "bounded", channel 0; store "B", apid 2, size 1, type "bounded", channel 0; }
+            "step,window,A,B\n1,2,1,1\n" "mmplan 1\nstores A B\ndump 1 1 1\nloss 0\nbound 0\nend\n"
         },
         apids: &[1, 2],
         each: 1,
         links: 2,
     },
     Meeting {
-        task: Task {
-            setup: setup! {
-                store "A", apid 1, size 2, type "bounded", channel 0;
-                store "B", apid 2, size 2, type "bounded", channel 0;
-                store "C", apid 3, size 2, type "bounded", channel 0;
-                store "D", apid 4, size 2, type "bounded", channel 0;
-            },
-            forecast: "step,window,A,B,C,D\n1,8,2,2,2,2\n",
-            plan: "mmplan 1\nstores A B C D\ndump 1 2 2 2 2\nloss 0\nbound 0\nend\n",
+        task: task! {
+            {
+                store "A", apid 1, size 2, type "bounded", channel 0; store "B", apid 2, size 2, type "bounded", channel 0;
+                store "C", apid 3, size 2, type "bounded", channel 0; store "D", apid 4, size 2, type "bounded", channel 0;
+            }
+            "step,window,A,B,C,D\n1,8,2,2,2,2\n" "mmplan 1\nstores A B C D\ndump 1 2 2 2 2\nloss 0\nbound 0\nend\n"
         },
         apids: &[1, 2, 3, 4],
         each: 2,
@@ -197,7 +190,7 @@ fn have_met(rt: &impl Abort, sources: &[GatedSource]) {
 
 fn have_sent(rt: &impl Abort, links: &[GatedLink], each: u32) {
     for link in links {
-        link.wire.has_sent(rt, each as usize, 0);
+        link.wire.has_sent(rt, "a meeting", each as usize, 0);
     }
 }
 
@@ -238,15 +231,12 @@ fn gates_meet(rt: HostRuntime) {
     }
 }
 
-static FOUR_ORDERS: Task = Task {
-    setup: setup! {
-        store "A", apid 1, size 1, type "bounded", channel 0;
-        store "B", apid 2, size 1, type "bounded", channel 0;
-        store "C", apid 3, size 1, type "bounded", channel 0;
-        store "D", apid 4, size 1, type "bounded", channel 0;
-    },
-    forecast: "step,window,A,B,C,D\n1,4,1,1,1,1\n",
-    plan: "mmplan 1\nstores A B C D\ndump 1 1 1 1 1\nloss 0\nbound 0\nend\n",
+static FOUR_ORDERS: Task = task! {
+    {
+        store "A", apid 1, size 1, type "bounded", channel 0; store "B", apid 2, size 1, type "bounded", channel 0;
+        store "C", apid 3, size 1, type "bounded", channel 0; store "D", apid 4, size 1, type "bounded", channel 0;
+    }
+    "step,window,A,B,C,D\n1,4,1,1,1,1\n" "mmplan 1\nstores A B C D\ndump 1 1 1 1 1\nloss 0\nbound 0\nend\n"
 };
 
 // A source of one packet for each of the APIDs 1 to 4.
@@ -283,15 +273,13 @@ fn orders_from_one_queue(rt: HostRuntime) {
     assert!(rt; most == 3, "three orders of one link");
 }
 
-static EIGHT_EACH: Task = Task {
-    setup: setup! {
-        store "A", apid 100, size 1, type "bounded", channel 0;
-        store "B", apid 100, size 2, type "circular", channel 0;
-        store "C", apid 100, size 3, type "bounded", channel 0;
-        store "D", apid 100, size 4, type "circular", channel 0;
-    },
-    forecast: "step,window,A,B,C,D\n1,4,8,8,8,8\n2,3,0,0,0,0\n3,0,8,8,8,9\n",
-    plan: "mmplan 1\nstores A B C D\ndump 1 1 1 1 1\ndump 2 0 1 1 1\ndump 3 0 0 0 0\nloss 48\nbound 0\nend\n",
+static EIGHT_EACH: Task = task! {
+    {
+        store "A", apid 100, size 1, type "bounded", channel 0; store "B", apid 100, size 2, type "circular", channel 0;
+        store "C", apid 100, size 3, type "bounded", channel 0; store "D", apid 100, size 4, type "circular", channel 0;
+    }
+    "step,window,A,B,C,D\n1,4,8,8,8,8\n2,3,0,0,0,0\n3,0,8,8,8,9\n"
+    "mmplan 1\nstores A B C D\ndump 1 1 1 1 1\ndump 2 0 1 1 1\ndump 3 0 0 0 0\nloss 48\nbound 0\nend\n"
 };
 
 const EIGHT_SOURCES: &str = "step 1 A arrived 8 lost 7 dumped 1 held 0\n\
@@ -318,7 +306,7 @@ fn a_hundred_runs_report_the_same(rt: HostRuntime) {
         let mut trial = Trial::new(&rt, alloc, &EIGHT_EACH);
         let sources = scripts(&rt, alloc, 8, [1, 0, 1]);
         let links = wires(&rt, alloc, &[None, None, None, None]);
-        let flight = trial.flown(&rt, sources, links);
-        has_text(&rt, alloc, &flight.report, EIGHT_SOURCES);
+        let flight = trial.flown(&rt, sources, links, 0);
+        has_text(&rt, alloc, "eight sources", &flight.report, EIGHT_SOURCES);
     }
 }

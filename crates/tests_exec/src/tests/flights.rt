@@ -1,9 +1,9 @@
 //! Runs that begin with their plan.
 
 use crate::tests::halts::{Broken, FIRST_SEND_FAILS, has_broken};
-use crate::tests::rows::{Run, has_ended};
+use crate::tests::rows::{Run, has_ended, run};
 use crate::tests::scripts::{Script, has_left, scripts};
-use crate::tests::trials::{FIRST_RUN, Left, NO_STEP, TWO_PASSES, Trial, has_cause};
+use crate::tests::trials::{FIRST_RUN, Left, TWO_PASSES, Trial, has_cause, left};
 use crate::tests::wires::{Wire, may_fail, wires};
 use mm_exec::{Cause, Flight, Flown, Halted, NotFlown, fly};
 use std::process::Abort;
@@ -49,19 +49,11 @@ fn not_flown<R: Threads + Wait + Sync + Abort>(
     halted
 }
 
-static AS_FORECAST: Run = Run {
-    task: FIRST_RUN,
-    many: [3, 3, 4],
-    report: "step 1 SCI arrived 3 lost 0 dumped 2 held 1\n\
-        step 2 SCI arrived 3 lost 0 dumped 2 held 2\n\
-        step 3 SCI arrived 4 lost 2 dumped 0 held 4\n\
-        total arrived 10 lost 2 dumped 4 held 4\n",
-    stores: &[Left {
-        store: "SCI",
-        counts: [10, 2, 4],
-        held: &[(5, 5), (6, 6), (7, 7), (8, 8)],
-        sent: &[1, 2, 3, 4],
-    }],
+static AS_FORECAST: Run = run! {
+    "as forecast", FIRST_RUN, [3, 3, 4] =>
+    "step 1 SCI arrived 3 lost 0 dumped 2 held 1\nstep 2 SCI arrived 3 lost 0 dumped 2 held 2\n\
+        step 3 SCI arrived 4 lost 2 dumped 0 held 4\ntotal arrived 10 lost 2 dumped 4 held 4\n";
+    left!("SCI", [10, 2, 4], [(5, 5), (6, 6), (7, 7), (8, 8)], [1, 2, 3, 4])
 };
 
 // What was forecast comes, and what was printed is lost.
@@ -95,29 +87,23 @@ static HALTED: Broken = Broken {
 // The run is halted, and its plan is told.
 #[test]
 fn a_halted_flight_has_its_sheet(rt: HostRuntime) {
-    let run = &HALTED;
-    let mut trial = Trial::new(&rt, rt.alloc(), &run.task);
-    let halted = not_flown(&rt, &mut trial, run.good);
-    let cause = Cause::LinkFailed { step: run.step };
-    has_cause(&rt, halted.cause, cause);
-    has_broken(&rt, &trial, &halted, run);
+    let mut trial = Trial::new(&rt, rt.alloc(), &HALTED.task);
+    let halted = not_flown(&rt, &mut trial, HALTED.good);
+    let cause = Cause::LinkFailed { step: 1 };
+    has_cause(&rt, HALTED.name, halted.cause, cause);
+    has_broken(&rt, &trial, &halted, &HALTED);
 }
 
-static UNTOUCHED: [Left; 1] = [Left {
-    store: "SCI",
-    counts: [0, 0, 0],
-    held: &[],
-    sent: &[],
-}];
+static UNTOUCHED: [Left; 1] = [left!("SCI", [0, 0, 0], [], [])];
 
 // A run that does not begin has its plan all the same.
 #[test]
 fn a_refused_flight_has_its_sheet(rt: HostRuntime) {
     let mut trial = Trial::new(&rt, rt.alloc(), &FIRST_RUN);
     let halted = not_flown(&rt, &mut trial, &[]);
-    has_cause(&rt, halted.cause, Cause::Counts);
+    has_cause(&rt, "no link", halted.cause, Cause::Counts);
     for source in &halted.sources {
         has_left(&rt, source, [3, 3, 4]);
     }
-    trial.leaves(&rt, &UNTOUCHED);
+    trial.leaves(&rt, "a refused flight", &UNTOUCHED);
 }

@@ -1,13 +1,15 @@
 //! Runs that are halted in a step, as a link fails.
 
-use crate::tests::rows::{MORE_IN_STEP_3, carried_out};
+use crate::tests::rows::{MORE_IN_STEP_3, carried_out, has_last_row};
 use crate::tests::scripts::{Script, has_left, scripts};
 use crate::tests::trials::{
-    FIRST_RUN, Left, NO_STEP, ONE_STORE, Task, Trial, each_took, has_text, setup,
+    Change, FIRST_RUN, Left, NO_STEP, ONE_STORE, Task, Trial, each_took, has_text, left, setup,
+    task,
 };
 use crate::tests::wires::{Wire, wires};
 use mm_exec::{Cause, Halted};
 use mm_report::{Report, Tally};
+use std::alloc::Global;
 use std::process::Abort;
 use std::sync::Wait;
 use std::thread::Threads;
@@ -15,6 +17,7 @@ use std::thread::Threads;
 // A run of one source over links that each fail once, after this many sends; in which step it is halted, what was drawn there, what
 // the source still gives in the steps 1, 2 and 3, what is reported, and what is left of the stores.
 pub(crate) struct Broken {
+    pub(crate) name: &'static str,
     pub(crate) task: Task,
     pub(crate) many: [u16; 3],
     pub(crate) good: &'static [Option<u64>],
@@ -32,14 +35,15 @@ pub(crate) fn has_broken(
     halted: &Halted<Script, Wire>,
     run: &Broken,
 ) {
-    assert!(rt; halted.spent == run.spent, "what was drawn");
-    has_text(rt, trial.alloc, &halted.report, run.report);
-    trial.leaves(rt, run.stores);
+    let name = run.name;
+    let is_whole = halted.spent == run.spent && halted.links.len() == run.good.len();
+    assert!(rt; is_whole, "{name}: what was drawn, and all links");
+    has_text(rt, trial.alloc, name, &halted.report, run.report);
+    trial.leaves(rt, name, run.stores);
     for source in &halted.sources {
         has_left(rt, source, run.rest);
     }
-    assert!(rt; halted.links.len() == run.good.len(), "all links");
-    each_took(rt, &halted.links, run.stores, 1);
+    each_took(rt, name, &halted.links, run.stores, 1);
 }
 
 // Begins to carry out a run, which is halted, and returns its report.
@@ -47,21 +51,20 @@ fn breaks<R: Threads + Wait + Sync + Abort>(rt: &R, trial: &mut Trial, run: &Bro
     let alloc = trial.alloc;
     let sources = scripts(rt, alloc, 1, run.many);
     let links = wires(rt, alloc, run.good);
-    let cause = Cause::LinkFailed { step: run.step };
-    let halted = trial.halted(rt, sources, links, 0, cause);
+    let want = (run.name, Cause::LinkFailed { step: run.step });
+    let halted = trial.halted(rt, sources, links, 0, want);
     has_broken(rt, trial, &halted, run);
     halted.report
 }
 
-// After three packets came, of which none is deleted.
-const THREE_HELD: Left = Left {
-    store: "SCI",
-    counts: [3, 0, 0],
-    held: &[(1, 1), (2, 2), (3, 3)],
-    sent: &[],
-};
+// A run over a memory of its setup.
+fn breaks_anew<R: Threads + Wait + Sync + Abort>(rt: &R, alloc: Global, run: &Broken) -> Report {
+    let mut trial = Trial::new(rt, alloc, &run.task);
+    breaks(rt, &mut trial, run)
+}
 
 static SECOND_FAILS: Broken = Broken {
+    name: "the second send fails",
     task: Task {
         setup: ONE_STORE,
         forecast: "step,window,SCI\n1,3,3\n",
@@ -73,18 +76,12 @@ static SECOND_FAILS: Broken = Broken {
     spent: 2,
     rest: [0, 0, 0],
     report: NO_STEP,
-    stores: &[Left {
-        sent: &[1],
-        ..THREE_HELD
-    }],
+    stores: &[left!("SCI", [3, 0, 0], [(1, 1), (2, 2), (3, 3)], [1])],
 };
 
-static ALL_DELETED: [Left; 1] = [Left {
-    store: "SCI",
-    counts: [3, 0, 3],
-    held: &[],
-    sent: &[],
-}];
+static DELETION: [Change; 1] = [Change::Delete(3, 3)];
+
+static ALL_DELETED: [Left; 1] = [left!("SCI", [3, 0, 3], [], [])];
 
 // In the one step three packets come, and all are to be dumped. The first packet is sent, the second is not; all three stay in
 // the store.
@@ -92,11 +89,12 @@ static ALL_DELETED: [Left; 1] = [Left {
 fn second_send_fails(rt: HostRuntime) {
     let mut trial = Trial::new(&rt, rt.alloc(), &SECOND_FAILS.task);
     breaks(&rt, &mut trial, &SECOND_FAILS);
-    trial.delete(&rt, 3, 3);
-    trial.leaves(&rt, &ALL_DELETED);
+    trial.change(&rt, &DELETION);
+    trial.leaves(&rt, "after a deletion", &ALL_DELETED);
 }
 
 pub(crate) const FIRST_SEND_FAILS: Broken = Broken {
+    name: "the first send fails",
     task: FIRST_RUN,
     many: [3, 3, 5],
     good: &[Some(0)],
@@ -104,51 +102,60 @@ pub(crate) const FIRST_SEND_FAILS: Broken = Broken {
     spent: 1,
     rest: [0, 3, 5],
     report: NO_STEP,
-    stores: &[THREE_HELD],
+    stores: &[left!("SCI", [3, 0, 0], [(1, 1), (2, 2), (3, 3)], [])],
 };
 
-static IN_STEP_1: [Broken; 2] = [
+static IN_STEP_1: [Broken; 3] = [
     FIRST_SEND_FAILS,
     Broken {
+        name: "the second send of the first run fails",
         good: &[Some(1)],
         spent: 2,
-        stores: &[Left {
-            sent: &[1],
-            ..THREE_HELD
-        }],
+        stores: &[left!("SCI", [3, 0, 0], [(1, 1), (2, 2), (3, 3)], [1])],
+        ..FIRST_SEND_FAILS
+    },
+    // Each of two links takes one of the two orders, and each fails at its first send.
+    Broken {
+        name: "two links fail",
+        task: task! {
+            { store "A", apid 100, size 2, type "bounded", channel 0; store "B", apid 100, size 2, type "bounded", channel 0; }
+            "step,window,A,B\n1,4,2,2\n" "mmplan 1\nstores A B\ndump 1 2 2\nloss 0\nbound 0\nend\n"
+        },
+        many: [2, 0, 0],
+        good: &[Some(0), Some(0)],
+        spent: 2,
+        rest: [0, 0, 0],
+        stores: &[
+            left!("A", [2, 0, 0], [(1, 1), (2, 2)], []),
+            left!("B", [2, 0, 0], [(1, 1), (2, 2)], []),
+        ],
         ..FIRST_SEND_FAILS
     },
 ];
 
-const STEP_1: &str =
-    "step 1 SCI arrived 3 lost 0 dumped 2 held 1\ntotal arrived 3 lost 0 dumped 2 held 1\n";
-
 // After six packets came, of which the first two are sent and deleted.
-const FOUR_HELD: Left = Left {
-    store: "SCI",
-    counts: [6, 0, 2],
-    held: &[(3, 3), (4, 4), (5, 5), (6, 6)],
-    sent: &[1, 2],
-};
-
 const THIRD_SEND_FAILS: Broken = Broken {
+    name: "the third send fails",
     good: &[Some(2)],
     step: 2,
     rest: [0, 0, 5],
-    report: STEP_1,
-    stores: &[FOUR_HELD],
+    report: "step 1 SCI arrived 3 lost 0 dumped 2 held 1\ntotal arrived 3 lost 0 dumped 2 held 1\n",
+    stores: &[left!("SCI", [6, 0, 2], [(3, 3), (4, 4), (5, 5), (6, 6)], [1, 2])],
     ..FIRST_SEND_FAILS
 };
 
 static IN_STEP_2: [Broken; 2] = [
     THIRD_SEND_FAILS,
     Broken {
+        name: "the fourth send fails",
         good: &[Some(3)],
         spent: 2,
-        stores: &[Left {
-            sent: &[1, 2, 3],
-            ..FOUR_HELD
-        }],
+        stores: &[left!(
+            "SCI",
+            [6, 0, 2],
+            [(3, 3), (4, 4), (5, 5), (6, 6)],
+            [1, 2, 3]
+        )],
         ..THIRD_SEND_FAILS
     },
 ];
@@ -161,64 +168,16 @@ static ROW_OF_STEP_1: Tally = Tally {
     held: 1,
 };
 
-// The report has one step, with this row.
-fn has_one_row(rt: &impl Abort, report: &Report, row: &Tally) {
-    assert!(rt; report.steps() == 1, "one whole step");
-    assert!(rt; report.row(1) == [*row].as_slice(), "the row");
-}
-
 // The first run with other arrivals: the plan sends two packets in step 1 and two in step 2, so no send is the fifth. Where one fails
 // in step 2, the row of step 1 is there.
 #[test]
 fn each_send_fails(rt: HostRuntime) {
-    let alloc = rt.alloc();
     for run in &IN_STEP_1 {
-        let mut trial = Trial::new(&rt, alloc, &run.task);
-        breaks(&rt, &mut trial, run);
+        breaks_anew(&rt, rt.alloc(), run);
     }
     for run in &IN_STEP_2 {
-        let mut trial = Trial::new(&rt, alloc, &run.task);
-        let report = breaks(&rt, &mut trial, run);
-        has_one_row(&rt, &report, &ROW_OF_STEP_1);
+        let report = breaks_anew(&rt, rt.alloc(), run);
+        has_last_row(&rt, &report, 1, &ROW_OF_STEP_1);
     }
-    carried_out(&rt, alloc, Some(4), &MORE_IN_STEP_3);
-}
-
-// After two packets came.
-const TWO_HELD: Left = Left {
-    store: "A",
-    counts: [2, 0, 0],
-    held: &[(1, 1), (2, 2)],
-    sent: &[],
-};
-
-static TWO_FAIL: Broken = Broken {
-    task: Task {
-        setup: setup! {
-            store "A", apid 100, size 2, type "bounded", channel 0;
-            store "B", apid 100, size 2, type "bounded", channel 0;
-        },
-        forecast: "step,window,A,B\n1,4,2,2\n",
-        plan: "mmplan 1\nstores A B\ndump 1 2 2\nloss 0\nbound 0\nend\n",
-    },
-    many: [2, 0, 0],
-    good: &[Some(0), Some(0)],
-    step: 1,
-    spent: 2,
-    rest: [0, 0, 0],
-    report: NO_STEP,
-    stores: &[
-        TWO_HELD,
-        Left {
-            store: "B",
-            ..TWO_HELD
-        },
-    ],
-};
-
-// Each of two links takes one of the two orders, and each fails at its first send.
-#[test]
-fn two_links_fail(rt: HostRuntime) {
-    let mut trial = Trial::new(&rt, rt.alloc(), &TWO_FAIL.task);
-    breaks(&rt, &mut trial, &TWO_FAIL);
+    carried_out(&rt, rt.alloc(), Some(4), &MORE_IN_STEP_3);
 }

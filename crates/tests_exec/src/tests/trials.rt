@@ -36,6 +36,15 @@ macro_rules! setup {
 
 pub(crate) use setup;
 
+// A task: the stores and limits of its setup, the text of its forecast, and that of its plan.
+macro_rules! task {
+    ({ $($setup:tt)* } $forecast:literal $plan:literal) => {
+        Task { setup: setup! { $($setup)* }, forecast: $forecast, plan: $plan }
+    };
+}
+
+pub(crate) use task;
+
 // What is carried out: the texts of a setup, of a forecast and of a plan.
 #[derive(Clone, Copy)]
 pub(crate) struct Task {
@@ -54,6 +63,9 @@ pub(crate) const ONE_STORE: &str = setup! {
     store "SCI", apid 100, size 4, type "bounded", channel 0;
 };
 
+// Its last storage time, or the first moment of a run, is later than it may be.
+pub(crate) const TOO_LATE: u64 = (1 << 63) + 1;
+
 pub(crate) const FIRST_RUN: Task = Task {
     setup: ONE_STORE,
     forecast: THREE_STEPS,
@@ -70,6 +82,43 @@ pub(crate) struct Left {
     pub(crate) counts: [u64; 3],
     pub(crate) held: &'static [(u64, u16)],
     pub(crate) sent: &'static [u16],
+}
+
+// What is left of a store, in the order of its fields.
+macro_rules! left {
+    ($store:literal, $counts:expr, $held:expr, $sent:expr) => {
+        Left { store: $store, counts: $counts, held: &$held, sent: &$sent }
+    };
+}
+
+pub(crate) use left;
+
+// What is done to the store of the first run before a run.
+pub(crate) enum Change {
+    // A packet of this sequence count is offered at a moment.
+    Offer(u64, u16),
+    // The packets up to a time are deleted, which are so many.
+    Delete(u64, u32),
+    Off,
+    On,
+    Retrieve,
+}
+
+// Does it to the state of the store.
+fn changes(rt: &impl Abort, alloc: Global, state: &mut StoreState, change: &Change) {
+    match change {
+        Change::Offer(now, count) => {
+            let packet = packet(rt, alloc, 100, *count);
+            assert!(rt; state.offer(*now, packet).is_ok(), "the packet is taken");
+        }
+        Change::Delete(limit, want) => {
+            let count = state.delete(*limit).expect(rt, "no retrieval");
+            assert!(rt; count == *want, "{count} deleted");
+        }
+        Change::Off => state.disable(),
+        Change::On => state.enable(),
+        Change::Retrieve => assert!(rt; state.begin(0, u64::MAX).is_ok(), "a retrieval"),
+    }
 }
 
 pub(crate) fn id(rt: &impl Abort, text: &str) -> StoreId {
@@ -90,41 +139,42 @@ pub(crate) fn sheet_of(rt: &impl Abort, alloc: Global, plan: &str) -> Sheet {
     Sheet::parse(alloc, plan.as_bytes()).expect(rt, "a plan text")
 }
 
-fn same(rt: &impl Abort, found: u64, want: u64) {
-    assert!(rt; found == want, "{found} in place of {want}");
+fn same(rt: &impl Abort, name: &str, found: u64, want: u64) {
+    assert!(rt; found == want, "{name}: {found} in place of {want}");
 }
 
 // The counters of offered, lost and deleted packets of a store, which is on, with no retrieval.
-fn has_counts(rt: &impl Abort, state: &StoreState, want: &[u64; 3]) {
+fn has_counts(rt: &impl Abort, name: &str, state: &StoreState, want: &[u64; 3]) {
     let [offered, lost, deleted] = *want;
-    same(rt, state.offered(), offered);
-    same(rt, state.lost(), lost);
-    same(rt, state.deleted(), deleted);
-    assert!(rt; state.storage(), "storage is on");
-    assert!(rt; state.retrieval().is_none(), "no retrieval");
+    same(rt, name, state.offered(), offered);
+    same(rt, name, state.lost(), lost);
+    same(rt, name, state.deleted(), deleted);
+    let is_ready = state.storage() && state.retrieval().is_none();
+    assert!(rt; is_ready, "{name}: storage and retrieval");
 }
 
 // The packets held in a store: times and sequence counts.
-fn has_packets(rt: &impl Abort, state: &StoreState, want: &[(u64, u16)]) {
-    same(rt, u64::from(state.store().len()), want.len() as u64);
+fn has_packets(rt: &impl Abort, name: &str, state: &StoreState, want: &[(u64, u16)]) {
+    same(rt, name, u64::from(state.store().len()), want.len() as u64);
     let mut after = 0;
     for (time, count) in want {
         let Some((found, packet)) = state.store().first_in(0, u64::MAX, after) else {
-            panic!(rt; "one more packet");
+            panic!(rt; "{name}: one more packet");
         };
-        same(rt, found, *time);
-        same(rt, u64::from(packet.packet().count()), u64::from(*count));
+        same(rt, name, found, *time);
+        let found_count = packet.packet().count();
+        same(rt, name, u64::from(found_count), u64::from(*count));
         after = found;
     }
 }
 
-pub(crate) fn has_text(rt: &impl Abort, alloc: Global, report: &Report, want: &str) {
+pub(crate) fn has_text(rt: &impl Abort, alloc: Global, name: &str, report: &Report, want: &str) {
     let text = report.text(alloc).expect(rt, "memory");
-    assert!(rt; text.as_slice() == want.as_bytes(), "{want}");
+    assert!(rt; text.as_slice() == want.as_bytes(), "{name}: {want}");
 }
 
-pub(crate) fn has_cause(rt: &impl Abort, found: Cause, want: Cause) {
-    assert!(rt; found == want, "this cause");
+pub(crate) fn has_cause(rt: &impl Abort, name: &str, found: Cause, want: Cause) {
+    assert!(rt; found == want, "{name}: the cause");
 }
 
 // A memory, and a problem and a plan to be carried out over it.
@@ -179,66 +229,69 @@ impl Trial {
         rt: &R,
         sources: Vec<Script>,
         links: Vec<Wire>,
+        base: u64,
     ) -> Flight<Script, Wire> {
-        let Ok(flight) = self.run(rt, sources, links, 0) else {
+        let Ok(flight) = self.run(rt, sources, links, base) else {
             panic!(rt; "the plan is carried out");
         };
         flight
     }
 
-    // Begins to carry out the plan, which is halted for this cause.
+    // Begins to carry out the plan, in the run of this name, which is halted for this cause.
     pub(crate) fn halted<R: Threads + Wait + Sync + Abort>(
         &mut self,
         rt: &R,
         sources: Vec<Script>,
         links: Vec<Wire>,
         base: u64,
-        cause: Cause,
+        want: (&str, Cause),
     ) -> Halted<Script, Wire> {
+        let (name, cause) = want;
         let Err(halted) = self.run(rt, sources, links, base) else {
-            panic!(rt; "the run is halted");
+            panic!(rt; "{name}: the run is halted");
         };
-        has_cause(rt, halted.cause, cause);
+        has_cause(rt, name, halted.cause, cause);
         halted
     }
 
-    // Offers a packet of this sequence count to the store of the first run.
-    pub(crate) fn offer(&mut self, rt: &impl Abort, now: u64, count: u16) {
-        let packet = packet(rt, self.alloc, 100, count);
-        let state = self.memory.state_mut(&id(rt, "SCI")).expect(rt, "a store");
-        assert!(rt; state.offer(now, packet).is_ok(), "the packet is taken");
-    }
-
-    // Deletes this many packets, those up to a time, from the store of the first run.
-    pub(crate) fn delete(&mut self, rt: &impl Abort, limit: u64, want: u32) {
-        let state = self.memory.state_mut(&id(rt, "SCI")).expect(rt, "a store");
-        let count = state.delete(limit).expect(rt, "no retrieval");
-        assert!(rt; count == want, "{count} deleted");
+    // Does these to the store of the first run.
+    pub(crate) fn change(&mut self, rt: &impl Abort, list: &[Change]) {
+        let store = id(rt, "SCI");
+        for change in list {
+            let state = self.memory.state_mut(&store).expect(rt, "a store");
+            changes(rt, self.alloc, state, change);
+        }
     }
 
     // What is left of a store.
-    fn has(&self, rt: &impl Abort, left: &Left) {
+    fn has(&self, rt: &impl Abort, name: &str, left: &Left) {
         let state = self.memory.state(&id(rt, left.store)).expect(rt, "a store");
-        has_counts(rt, state, &left.counts);
-        has_packets(rt, state, left.held);
+        has_counts(rt, name, state, &left.counts);
+        has_packets(rt, name, state, left.held);
     }
 
-    // What is left of these stores.
-    pub(crate) fn leaves(&self, rt: &impl Abort, stores: &[Left]) {
+    // What the run of this name leaves of these stores.
+    pub(crate) fn leaves(&self, rt: &impl Abort, name: &str, stores: &[Left]) {
         for left in stores {
-            self.has(rt, left);
+            self.has(rt, name, left);
         }
     }
 }
 
 // Each link took what was sent of these stores, in order, and nothing else, and failed this often.
-pub(crate) fn each_took(rt: &impl Abort, links: &[Wire], stores: &[Left], failures: u64) {
+pub(crate) fn each_took(
+    rt: &impl Abort,
+    name: &str,
+    links: &[Wire],
+    stores: &[Left],
+    failures: u64,
+) {
     for link in links {
         let mut many = 0;
         for left in stores {
-            link.took(rt, &id(rt, left.store), left.sent);
+            link.took(rt, name, &id(rt, left.store), left.sent);
             many = left.sent.len().saturating_add(many);
         }
-        link.has_sent(rt, many, failures);
+        link.has_sent(rt, name, many, failures);
     }
 }

@@ -42,27 +42,25 @@ impl Wire {
     }
 
     // The sequence counts of the packets of a store that it took.
-    pub(crate) fn took(&self, rt: &impl Abort, store: &StoreId, counts: &[u16]) {
+    pub(crate) fn took(&self, rt: &impl Abort, name: &str, store: &StoreId, counts: &[u16]) {
         let mut rest = counts;
         for item in &self.items {
             if item.store == *store {
                 let [count, more @ ..] = rest else {
-                    panic!(rt; "no more packets of this store");
+                    panic!(rt; "{name}: no more packets of this store");
                 };
-                assert!(rt;
-                    item.stored.packet.packet().count() == *count,
-                    "packet {count}"
-                );
+                let found = item.stored.packet.packet().count();
+                assert!(rt; found == *count, "{name}: packet {count}");
                 rest = more;
             }
         }
-        assert!(rt; rest.is_empty(), "all packets of this store");
+        assert!(rt; rest.is_empty(), "{name}: all packets of this store");
     }
 
     // It took this many packets, and this many sends failed.
-    pub(crate) fn has_sent(&self, rt: &impl Abort, many: usize, failures: u64) {
-        assert!(rt; self.items.len() == many, "{many} packets sent");
-        assert!(rt; self.failures() == failures, "{failures} failures");
+    pub(crate) fn has_sent(&self, rt: &impl Abort, name: &str, many: usize, failures: u64) {
+        let is_sent = self.items.len() == many && self.failed == failures;
+        assert!(rt; is_sent, "{name}: {many} packets sent, {failures} failures");
     }
 }
 
