@@ -1,6 +1,6 @@
 //! What `ask` prints.
 
-use crate::tests::samples::{SCI, prints, refuses};
+use crate::tests::samples::{SCI, prints_for, refuses};
 
 // Requests for the store SCI, what is printed for them, and the status.
 struct Asked {
@@ -97,11 +97,8 @@ static ASKED: [Asked; 8] = [
 #[test]
 fn answers_to_requests(rt: HostRuntime) {
     for row in &ASKED {
-        let script = format!(in rt.alloc(); "ask S R\n=== S\n{SCI}=== R\n{}", row.requests).expect(
-            &rt,
-            row.example,
-        );
-        prints(&rt, script.as_str(), row.prints, row.status);
+        let parts = ["ask S R\n=== S\n", SCI, "=== R\n", row.requests];
+        prints_for(&rt, row.example, &parts, row.prints, row.status);
     }
 }
 

@@ -1,9 +1,11 @@
 //! What `chart` prints of given plans.
 
-use crate::tests::samples::{FIRST_PLAN, SCI, THREE_STEPS, prints, refuses, run};
+use crate::tests::samples::{FIRST_PLAN, SCI, THREE_STEPS, joined, prints_for, refuses, run};
 
 // The plan of first_run with a loss that is not its loss.
 const FORGED: &str = "mmplan 1\nstores SCI\ndump 1 2\ndump 2 2\ndump 3 0\nloss 1\nbound 1\nend\n";
+
+const HEAD: &str = "chart S F P\n=== S\n";
 
 // Plans for first_run, the headline of each chart, and whether it says that no plan loses fewer.
 static CHARTS: [(&str, &str, bool); 2] = [
@@ -19,9 +21,8 @@ static CHARTS: [(&str, &str, bool); 2] = [
 #[test]
 fn a_chart_is_one_document(rt: HostRuntime) {
     for (plan, headline, is_least) in &CHARTS {
-        let script = format!(in rt.alloc();
-            "chart S F P\n=== S\n{SCI}=== F\n{THREE_STEPS}=== P\n{plan}"
-        ).expect(&rt, "memory");
+        let parts = [HEAD, SCI, "=== F\n", THREE_STEPS, "=== P\n", *plan];
+        let script = joined(&rt, headline, &parts);
         let (chart, status) = run(&rt, script.as_str());
         let is_whole = chart.starts_with("<svg xmlns='http://www.w3.org/2000/svg' version='1.1'")
             && chart.ends_with("</svg>\n");
@@ -45,8 +46,7 @@ static REFUSED: [(&str, &str); 2] = [
 #[test]
 fn a_refused_chart_is_one_line(rt: HostRuntime) {
     refuses(&rt, &REFUSED);
-    let script = format!(in rt.alloc();
-        "chart S F P\n=== S\n{SCI}=== F\n{THREE_STEPS}=== P\nmmplan 1\nstores HK\ndump 1 2\nloss 1\nbound 1\nend\n"
-    ).expect(&rt, "memory");
-    prints(&rt, script.as_str(), "refused 35 Shape\n", 1);
+    let plan = "=== P\nmmplan 1\nstores HK\ndump 1 2\nloss 1\nbound 1\nend\n";
+    let parts = [HEAD, SCI, "=== F\n", THREE_STEPS, plan];
+    prints_for(&rt, "another store", &parts, "refused 35 Shape\n", 1);
 }

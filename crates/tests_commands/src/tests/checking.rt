@@ -117,14 +117,8 @@ static CHECKED: [Checked; 13] = [
 #[test]
 fn verdicts_of_the_examples(rt: HostRuntime) {
     for row in &CHECKED {
-        checks(
-            &rt,
-            row.example,
-            row.setup,
-            row.forecast,
-            row.plan,
-            row.prints,
-        );
+        let files = [row.setup, row.forecast, row.plan];
+        checks(&rt, row.example, files, row.prints);
     }
 }
 
@@ -177,7 +171,7 @@ fn sheet_text_refused(rt: HostRuntime) {
         let plan = FIRST_PLAN
             .replace(rt.alloc(), old, new)
             .expect(&rt, example);
-        checks(&rt, example, SCI, THREE_STEPS, plan.as_str(), want);
+        checks(&rt, example, [SCI, THREE_STEPS, plan.as_str()], want);
     }
     prints(
         &rt,

@@ -50,10 +50,8 @@ fn prints(rt: &impl Abort, printed: &Printed, sheet: &str, report: &str, end: &s
 }
 
 const OTHER_ARRIVALS: &str = "\
-    step 1 SCI arrived 3 lost 0 dumped 2 held 1\n\
-    step 2 SCI arrived 3 lost 0 dumped 2 held 2\n\
-    step 3 SCI arrived 5 lost 3 dumped 0 held 4\n\
-    differs step 3 SCI forecast 4 came 5\n\
+    step 1 SCI arrived 3 lost 0 dumped 2 held 1\nstep 2 SCI arrived 3 lost 0 dumped 2 held 2\n\
+    step 3 SCI arrived 5 lost 3 dumped 0 held 4\ndiffers step 3 SCI forecast 4 came 5\n\
     total arrived 11 lost 3 dumped 4 held 4\n";
 
 #[test]

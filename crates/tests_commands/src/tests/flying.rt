@@ -1,6 +1,6 @@
 //! What `run` and `fly` print of the worked examples.
 
-use crate::tests::samples::{FIRST_PLAN, SCI, THREE_STEPS, prints};
+use crate::tests::samples::{FIRST_PLAN, SCI, THREE_STEPS, joined, prints, prints_for};
 use std::process::Abort;
 use std::sync::Wait;
 use std::thread::Threads;
@@ -56,10 +56,8 @@ const THREE_BLOCKS: &str = "mmplan 1\nstores SCI\ndump 1 3\nloss 0\nbound 0\nend
 
 // What is printed where five packets come in step 3.
 const FIVE_CAME: &str = "\
-    step 1 SCI arrived 3 lost 0 dumped 2 held 1\n\
-    step 2 SCI arrived 3 lost 0 dumped 2 held 2\n\
-    step 3 SCI arrived 5 lost 3 dumped 0 held 4\n\
-    differs step 3 SCI forecast 4 came 5\n\
+    step 1 SCI arrived 3 lost 0 dumped 2 held 1\nstep 2 SCI arrived 3 lost 0 dumped 2 held 2\n\
+    step 3 SCI arrived 5 lost 3 dumped 0 held 4\ndiffers step 3 SCI forecast 4 came 5\n\
     total arrived 11 lost 3 dumped 4 held 4\n";
 
 // What is printed where a send of step 1, or of step 2, fails.
@@ -114,9 +112,7 @@ static RUNS: [Run; 7] = [
         forecast: "step,window,C,B\n1,2,3,3\n",
         plan: "mmplan 1\nstores C B\ndump 1 1 1\nloss 2\nbound 0\nend\n",
         came: &[(1, 3)],
-        prints: "\
-            step 1 C arrived 3 lost 1 dumped 1 held 1\n\
-            step 1 B arrived 3 lost 1 dumped 1 held 1\n\
+        prints: "step 1 C arrived 3 lost 1 dumped 1 held 1\nstep 1 B arrived 3 lost 1 dumped 1 held 1\n\
             total arrived 6 lost 2 dumped 2 held 2\n",
         ..FIRST_RUN
     },
@@ -125,11 +121,8 @@ static RUNS: [Run; 7] = [
         setup: STARTS_WITH_2,
         plan: PLAN_FROM_2,
         came: &[(0, 2), (1, 3), (2, 3), (3, 4)],
-        prints: "\
-            step 1 SCI arrived 3 lost 1 dumped 2 held 2\n\
-            step 2 SCI arrived 3 lost 1 dumped 2 held 2\n\
-            step 3 SCI arrived 4 lost 2 dumped 0 held 4\n\
-            total arrived 10 lost 4 dumped 4 held 4\n",
+        prints: "step 1 SCI arrived 3 lost 1 dumped 2 held 2\nstep 2 SCI arrived 3 lost 1 dumped 2 held 2\n\
+            step 3 SCI arrived 4 lost 2 dumped 0 held 4\ntotal arrived 10 lost 4 dumped 4 held 4\n",
         ..FIRST_RUN
     },
     Run {
@@ -224,15 +217,35 @@ fn sources<R: Abort + AllocGlobal + Threads + Wait + Sync>(rt: &R, came: &[(u32,
     text
 }
 
+// A command over the files of a row, with a plan where it has one, prints this.
+fn carries_out<R: Abort + AllocGlobal + Threads + Wait + Sync>(
+    rt: &R,
+    row: &Run,
+    head: &str,
+    plan: [&str; 2],
+    want: &str,
+) {
+    let sources = sources(rt, row.came);
+    let parts = [
+        head,
+        row.setup,
+        "=== F\n",
+        row.forecast,
+        plan[0],
+        plan[1],
+        "=== X\n",
+        sources.as_str(),
+        row.more,
+        "=== L\n",
+        row.links,
+    ];
+    prints_for(rt, row.example, &parts, want, row.status);
+}
+
 // `run` with the files of a row prints what the row says.
 fn runs<R: Abort + AllocGlobal + Threads + Wait + Sync>(rt: &R, row: &Run) {
-    let sources = sources(rt, row.came);
-    let script = format!(in rt.alloc();
-        "run S F P X L\n=== S\n{}=== F\n{}=== P\n{}=== X\n{sources}{}=== L\n{}",
-        row.setup, row.forecast, row.plan, row.more, row.links
-    )
-    .expect(rt, row.example);
-    prints(rt, script.as_str(), row.prints, row.status)
+    let head = "run S F P X L\n=== S\n";
+    carries_out(rt, row, head, ["=== P\n", row.plan], row.prints);
 }
 
 #[test]
@@ -257,14 +270,9 @@ fn run_files_refused(rt: HostRuntime) {
 
 // `fly` for the files of a row but its plan, which it makes: it is printed before what the row says.
 fn flies<R: Abort + AllocGlobal + Threads + Wait + Sync>(rt: &R, row: &Run) {
-    let sources = sources(rt, row.came);
-    let script = format!(in rt.alloc();
-        "fly S F X L\n=== S\n{}=== F\n{}=== X\n{sources}{}=== L\n{}",
-        row.setup, row.forecast, row.more, row.links
-    )
-    .expect(rt, row.example);
-    let want = format!(in rt.alloc(); "{}{}", row.plan, row.prints).expect(rt, row.example);
-    prints(rt, script.as_str(), want.as_str(), row.status)
+    let want = joined(rt, row.example, &[row.plan, row.prints]);
+    let head = "fly S F X L\n=== S\n";
+    carries_out(rt, row, head, ["", ""], want.as_str());
 }
 
 const FIRST_FLIGHT: Run = Run {

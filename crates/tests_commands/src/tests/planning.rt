@@ -2,11 +2,13 @@
 
 use crate::tests::samples::{
     A_WITH_LIMIT_1, APART, SCI, SCI_OF_SIZE_2, SCI_STARTS_WITH_2, THREE_STEPS, TWO_STEPS_OF_A,
-    checks, prints, refuses, run,
+    checks, joined, prints_for, refuses, run,
 };
 use std::process::Abort;
 use std::sync::Wait;
 use std::thread::Threads;
+
+const HEAD: &str = "plan S F\n=== S\n";
 
 const A_OF_SIZE_1: &str = "[[store]]\nid = \"A\"\nsize = 1\ntype = \"bounded\"\nchannel = 0\n";
 
@@ -127,22 +129,13 @@ fn is_planned(plan: &str, row: &Planned) -> bool {
 }
 
 fn plans<R: Abort + AllocGlobal + Threads + Wait + Sync>(rt: &R, row: &Planned) {
-    let script = format!(in rt.alloc();
-        "plan S F\n=== S\n{}=== F\n{}",
-        row.setup, row.forecast
-    ).expect(rt, "memory");
-    let (plan, status) = run(rt, script.as_str());
     let example = row.example;
-    assert_eq!(rt; status, 0, "for {example}");
-    assert!(rt; is_planned(plan.as_str(), row), "for {example}: {plan}");
-    checks(
-        rt,
-        example,
-        row.setup,
-        row.forecast,
-        plan.as_str(),
-        row.verdict,
-    )
+    let script = joined(rt, example, &[HEAD, row.setup, "=== F\n", row.forecast]);
+    let (plan, status) = run(rt, script.as_str());
+    let is_right = status == 0 && is_planned(plan.as_str(), row);
+    assert!(rt; is_right, "for {example}: {plan}");
+    let files = [row.setup, row.forecast, plan.as_str()];
+    checks(rt, example, files, row.verdict);
 }
 
 #[test]
@@ -209,10 +202,8 @@ static SETUPS_REFUSED: [(&str, &str, &str); 8] = [
 fn setup_texts_refused(rt: HostRuntime) {
     for (old, new, want) in &SETUPS_REFUSED {
         let setup = SCI.replace(rt.alloc(), old, new).expect(&rt, "memory");
-        let script = format!(in rt.alloc(); "plan S F\n=== S\n{setup}=== F\n{THREE_STEPS}").expect(
-            &rt, "memory",
-        );
-        prints(&rt, script.as_str(), want, 1);
+        let parts = [HEAD, setup.as_str(), "=== F\n", THREE_STEPS];
+        prints_for(&rt, new, &parts, want, 1);
     }
 }
 
@@ -243,10 +234,7 @@ static FORECASTS_REFUSED: [(&str, &str); 8] = [
 #[test]
 fn forecast_cells(rt: HostRuntime) {
     for (forecast, want) in &FORECASTS_REFUSED {
-        let script = format!(in rt.alloc(); "plan S F\n=== S\n{SCI}=== F\n{forecast}").expect(
-            &rt, "memory",
-        );
-        prints(&rt, script.as_str(), want, 1);
+        prints_for(&rt, forecast, &[HEAD, SCI, "=== F\n", *forecast], want, 1);
     }
 }
 
@@ -271,7 +259,8 @@ fn fullest_forecast<R: Abort + AllocGlobal + Threads + Wait + Sync>(rt: &R) -> S
     let full =
         ",0,1000000,1000000,1000000,1000000,1000000,1000000,1000000,1000000,1000000,1000000,1000000,1000000,1000000,1000000,1000000,1000000\n";
     let rows = numbered(rt, 1, 257, "", full);
-    format!(in rt.alloc(); "step,window{columns}\n{rows}").expect(rt, "memory")
+    let parts = ["step,window", columns.as_str(), "\n", rows.as_str()];
+    joined(rt, "a forecast", &parts)
 }
 
 // Its plan, which dumps nothing.
@@ -279,9 +268,16 @@ fn fullest_plan<R: Abort + AllocGlobal + Threads + Wait + Sync>(rt: &R) -> Strin
     let ids = numbered(rt, 0, 16, " S", "");
     let dumps = numbered(rt, 1, 257, "dump ", " 0 0 0 0 0 0 0 0 0 0 0 0 0 0 0 0\n");
     let cut = numbered(rt, 0, 16, "stretch S", " 1 256\n");
-    format!(in rt.alloc();
-        "mmplan 1\nstores{ids}\n{dumps}loss 4095999984\n{cut}bound 4095999984\nend\n"
-    ).expect(rt, "memory")
+    let parts = [
+        "mmplan 1\nstores",
+        ids.as_str(),
+        "\n",
+        dumps.as_str(),
+        "loss 4095999984\n",
+        cut.as_str(),
+        "bound 4095999984\nend\n",
+    ];
+    joined(rt, "a plan", &parts)
 }
 
 #[test]
@@ -294,8 +290,6 @@ fn largest_loss(rt: HostRuntime) {
         "\"\nsize = 1\ntype = \"bounded\"\nchannel = 0\n",
     );
     let forecast = fullest_forecast(&rt);
-    let script = format!(in rt.alloc(); "plan S F\n=== S\n{setup}=== F\n{forecast}").expect(
-        &rt, "memory",
-    );
-    prints(&rt, script.as_str(), fullest_plan(&rt).as_str(), 0);
+    let parts = [HEAD, setup.as_str(), "=== F\n", forecast.as_str()];
+    prints_for(&rt, "largest loss", &parts, fullest_plan(&rt).as_str(), 0);
 }

@@ -45,18 +45,38 @@ fn is_refused(printed: &str) -> bool {
         || printed.contains("\nhalted ")
 }
 
+// What the program writes for a script: what it prints, what it says on standard error, and its status.
+pub(crate) struct Written {
+    pub(crate) out: Vec<u8>,
+    pub(crate) err: Vec<u8>,
+    pub(crate) status: u8,
+}
+
+pub(crate) fn written<R: Abort + AllocGlobal + Threads + Wait + Sync>(
+    rt: &R,
+    script: &[u8],
+) -> Written {
+    let alloc = rt.alloc();
+    let (mut out, mut err) = (Vec::new(alloc), Vec::new(alloc));
+    let status = run_script(rt, alloc, script, &mut out, &mut err);
+    Written { out, err, status }
+}
+
 // What the program prints for a script, and its status; it says something on standard error where something is refused, and
 // nothing otherwise.
 pub(crate) fn run<R: Abort + AllocGlobal + Threads + Wait + Sync>(
     rt: &R,
     script: &str,
 ) -> (String, u8) {
-    let alloc = rt.alloc();
-    let (mut out, mut err) = (Vec::new(alloc), Vec::new(alloc));
-    let status = run_script(rt, alloc, script.as_bytes(), &mut out, &mut err);
+    let Written { out, err, status } = written(rt, script.as_bytes());
     let out = String::from_utf8(out).expect(rt, "UTF-8");
     assert!(rt; err.is_empty() != is_refused(out.as_str()), "for {script}");
     (out, status)
+}
+
+// The parts of a text of this name, in a row.
+pub(crate) fn joined<R: Abort + AllocGlobal>(rt: &R, name: &str, parts: &[&str]) -> String {
+    parts.join(rt.alloc(), "").expect(rt, name)
 }
 
 // The program prints this for a script, and ends with this status.
@@ -67,8 +87,20 @@ pub(crate) fn prints<R: Abort + AllocGlobal + Threads + Wait + Sync>(
     status: u8,
 ) {
     let (out, got) = run(rt, script);
-    assert_eq!(rt; out.as_str(), want, "for {script}");
-    assert_eq!(rt; got, status, "for {script}");
+    let is_printed = out.as_str() == want && got == status;
+    assert!(rt; is_printed, "for {script}: {got} {out}");
+}
+
+// The program prints this for the script of these parts, and ends with this status.
+pub(crate) fn prints_for<R: Abort + AllocGlobal + Threads + Wait + Sync>(
+    rt: &R,
+    name: &str,
+    parts: &[&str],
+    want: &str,
+    status: u8,
+) {
+    let script = joined(rt, name, parts);
+    prints(rt, script.as_str(), want, status);
 }
 
 // The program prints its line for each of these scripts, and ends with status 1.
@@ -85,18 +117,12 @@ pub(crate) fn refuses<R: Abort + AllocGlobal + Threads + Wait + Sync>(
 pub(crate) fn checks<R: Abort + AllocGlobal + Threads + Wait + Sync>(
     rt: &R,
     example: &str,
-    setup: &str,
-    forecast: &str,
-    plan: &str,
+    files: [&str; 3],
     want: &str,
 ) {
-    let script = format!(in rt.alloc();
-        "check S F P\n=== S\n{setup}=== F\n{forecast}=== P\n{plan}"
-    ).expect(rt, example);
-    prints(
-        rt,
-        script.as_str(),
-        want,
-        u8::from(!want.starts_with("least")),
-    )
+    let [setup, forecast, plan] = files;
+    let status = u8::from(!want.starts_with("least"));
+    let head = "check S F P\n=== S\n";
+    let parts = [head, setup, "=== F\n", forecast, "=== P\n", plan];
+    prints_for(rt, example, &parts, want, status);
 }

@@ -1,9 +1,12 @@
 //! Bad command lines, calls for help, and what a script may hold.
 
 use crate::tests::failing::FailingWriter;
-use crate::tests::samples::{FIRST_PLAN, SCI, THREE_STEPS, prints};
+use crate::tests::samples::{FIRST_PLAN, SCI, THREE_STEPS, prints, prints_for, written};
 use mm_commands::{refuse_input, run_script};
 use mm_system::files::ReadFault;
+use std::process::Abort;
+use std::sync::Wait;
+use std::thread::Threads;
 
 static LINES: [&str; 19] = [
     "",
@@ -27,35 +30,42 @@ static LINES: [&str; 19] = [
     "--help\n",
 ];
 
+// The script begins with no command, which is said.
+fn is_no_command<R: Abort + AllocGlobal + Threads + Wait + Sync>(rt: &R, script: &[u8]) {
+    let said = written(rt, script);
+    let is_told = said.out.is_empty() && !said.err.is_empty();
+    assert!(rt; said.status == 2 && is_told, "for {script:?}");
+}
+
 #[test]
 fn command_lines(rt: HostRuntime) {
-    let alloc = rt.alloc();
     for line in &LINES {
-        let (mut out, mut err) = (Vec::new(alloc), Vec::new(alloc));
-        let status = run_script(&rt, alloc, line.as_bytes(), &mut out, &mut err);
-        let is_told = out.is_empty() && !err.is_empty();
-        assert!(rt; status == 2 && is_told, "for {line}");
+        is_no_command(&rt, line.as_bytes());
     }
 }
 
 #[test]
 fn a_first_line_that_is_not_utf8(rt: HostRuntime) {
-    let alloc = rt.alloc();
-    let (mut out, mut err) = (Vec::new(alloc), Vec::new(alloc));
-    let status = run_script(&rt, alloc, b"plan \xff F\n", &mut out, &mut err);
-    assert!(rt; status == 2 && out.is_empty() && !err.is_empty());
-    let mut refusing = FailingWriter::after(0);
-    let status = run_script(&rt, alloc, b"plan \xff F\n", &mut out, &mut refusing);
+    is_no_command(&rt, b"plan \xff F\n");
+    let (mut out, mut refusing) = (Vec::new(rt.alloc()), FailingWriter::after(0));
+    let status = run_script(&rt, rt.alloc(), b"plan \xff F\n", &mut out, &mut refusing);
     assert!(rt; status == 1 && out.is_empty());
 }
 
 // What stands before the first file is passed over, and of two files of one name the first is read.
 #[test]
 fn files_of_a_script(rt: HostRuntime) {
-    let script = format!(in rt.alloc();
-        "check S F P\na note\n=== S\n{SCI}=== F\n{THREE_STEPS}=== P\n{FIRST_PLAN}=== S\n[[store\n"
-    ).expect(&rt, "memory");
-    prints(&rt, script.as_str(), "least 2\n", 0);
+    let (note, again) = ("check S F P\na note\n=== S\n", "=== S\n[[store\n");
+    let parts = [
+        note,
+        SCI,
+        "=== F\n",
+        THREE_STEPS,
+        "=== P\n",
+        FIRST_PLAN,
+        again,
+    ];
+    prints_for(&rt, "a note", &parts, "least 2\n", 0);
     prints(&rt, "plan - F\n=== S\n", "refused 50 NotRead name -\n", 1);
 }
 
