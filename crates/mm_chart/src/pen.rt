@@ -15,7 +15,7 @@ use mm_base::numbers::push_number;
 use std::alloc::AllocError;
 
 /// How words look.
-#[derive(Clone, Copy, Debug, PartialEq, Eq)]
+#[derive(Clone, Copy)]
 pub enum Style {
     Headline,
     /// A headline where less is shown.

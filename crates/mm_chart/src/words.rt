@@ -3,8 +3,11 @@ ghost use Rattle.std.specs.Prelude.{◌≡◌, ◌+◌, ◌-◌, ◌*◌, ◌<�
 ghost use Rattle.mm_base.specs.declared.limits.TheConstants.{MAX_STORES, MAX_STEPS};
 ghost use Rattle.mm_problem.specs.Dumping.{stores, steps};
 ghost use Rattle.mm_cut.specs.declared.verdict.Verdict.TheVariants.{NotShown, Least};
+ghost use Rattle.mm_check.specs.Lines.{line_of};
+ghost use Rattle.mm_chart.specs.declared.layout.TheConstants.{MARGIN, HEADLINE_AT};
+ghost use Rattle.mm_chart.specs.declared.pen.Style.TheVariants as style;
 ghost use Rattle.mm_chart.specs.Series.{IsSeries};
-ghost use Rattle.mm_chart.specs.Svg.{said, grouped, signed_grouped, closed};
+ghost use Rattle.mm_chart.specs.Svg.{said, grouped, signed_grouped, closed, labelled};
 ghost use Rattle.mm_chart.specs.Words.{of_all, headline_of, headline, why_heading, words_of, is_marked, begins, ranges_of, range_first, range_last, range_part, marks, marked_where, step_word, in_steps, steps_line, at_most, sum_line, why, stretched, broken, stretched_at, stores_line, help, words, word_lines};
 
 use crate::layout::{HEADLINE_AT, LINE_PITCH, MARGIN, word_line};
@@ -137,6 +140,15 @@ fn push_not_shown(
     push_closed(text)
 }
 
+// The headline where the plan is not judged by its cut: what `check` says of it.
+fn push_alarm(alloc: Global, text: &mut Vec<u8>, verdict: Verdict) -> Result<(), NoMemory>
+    ensures { OnOk result (text.new.items ≡ text.old.items ++ labelled style.Alarm MARGIN HEADLINE_AT (line_of verdict)) }
+{
+    let line = verdict_line(alloc, verdict)?;
+    push_labelled(text, Style::Alarm, MARGIN, HEADLINE_AT, line.as_slice())?;
+    Ok(())
+}
+
 /// Writes the headline: what the verdict lets the chart say.
 #[tactic(auto, unfolding(crate::specs::Words::headline_of))]
 pub(crate) fn push_headline(
@@ -147,14 +159,10 @@ pub(crate) fn push_headline(
     ensures { OnOk result (text.new.items ≡ text.old.items ++ headline picture.now) }
 {
     match picture.verdict() {
-        Verdict::Least(loss) => push_least(text, picture, loss)?,
-        Verdict::NotShown { loss, bound } => push_not_shown(text, picture, loss, bound)?,
-        other => {
-            let line = verdict_line(alloc, other)?;
-            push_labelled(text, Style::Alarm, MARGIN, HEADLINE_AT, line.as_slice())?;
-        }
+        Verdict::Least(loss) => Ok(push_least(text, picture, loss)?),
+        Verdict::NotShown { loss, bound } => Ok(push_not_shown(text, picture, loss, bound)?),
+        other => push_alarm(alloc, text, other),
     }
-    Ok(())
 }
 
 // Whether a step has a number of the series.
