@@ -1,4 +1,6 @@
 //! Laws of the store machine, over the definitions alone.
+ghost use Rattle.std.specs.Prelude.{◌≡◌};
+ghost use Rattle.mm_desk.specs.declared.desk.TheConstants.{MAX_SEATS};
 ghost use Rattle.mm_desk.specs.Laws.{KeepBalance, KeepStates, ReplaysKeepStates, OffersLeave, ShufflesLoseAlike, OrdersDumpTheOldest, LoneSeatsAreLogs};
 
 use mm_store::laws::{stores_lose_alike, stores_stay_stores};
@@ -34,4 +36,9 @@ pub fn orders_dump_the_oldest()
 /// Where one seat alone made calls, its list is the log.
 pub fn lone_seats_are_logs()
     ensures law { LoneSeatsAreLogs }
+{}
+
+/// The most seats of a desk, and of a pass book.
+pub fn constants_are()
+    ensures seats { MAX_SEATS ≡ 16 }
 {}

@@ -1,6 +1,7 @@
 //! Whether a run may begin: what is tested before it, and why a run is refused or halted.
 #![tactic(auto)]
 
+pub mod laws;
 mod need;
 mod outset;
 

@@ -2,6 +2,7 @@
 #![tactic(auto)]
 
 mod cause;
+pub mod laws;
 mod report;
 mod tally;
 mod text;
