@@ -9,9 +9,9 @@ use Rattle.mm_desk.specs.Orders.{given, last_time}
 use Rattle.mm_desk.specs.Runs.{entry}
 use Rattle.mm_order.specs.declared.stop.Stop.{Stop}
 use Rattle.mm_order.specs.declared.stop.Stop.TheVariants.{AtBegin, AtNext, AtDraw, AtSend, AtAbort, AtDelete}
-use Rattle.mm_order.specs.Broken.{stopped, unsent_at, failed_at}
+use Rattle.mm_order.specs.Broken.{stopped, unsent_at, failed_at, Reaches}
 use Rattle.mm_order.specs.Carried.{Carrier, Went}
-use Rattle.mm_order.specs.Parts.{SentNext, StoppedAfter, Stopped, last_of}
+use Rattle.mm_order.specs.Parts.{IsAtPacket, SentNext, StoppedAfter, Stopped, last_of}
 use Rattle.mm_order.proofs.Going.{went_on, number_stays}
 
 -- this many packets were given and sent
@@ -44,6 +44,15 @@ unsent_few (AtSend done) = omega arith
 unsent_few (AtAbort fault) = omega arith
 unsent_few (AtDelete fault) = omega arith
 
+-- an order that stopped at a packet still wanted it
+still_wanted : (stop : Stop) (wanted : ℕ) (gave : List Stored) → IsAtPacket stop → length gave < wanted + unsent_at stop → Reaches stop wanted gave
+still_wanted (AtBegin fault) wanted gave at fewer = absurd at
+still_wanted (AtNext fault done) wanted gave at fewer = omega arith
+still_wanted (AtDraw done) wanted gave at fewer = tt
+still_wanted (AtSend done) wanted gave at fewer = tt
+still_wanted (AtAbort fault) wanted gave at fewer = absurd at
+still_wanted (AtDelete fault) wanted gave at fewer = absurd at
+
 module _ (id : List ℕ) (many : ℕ) (last : Option ℕ) (a b c : Carrier) (hand : InHand id many last a b) where
   -- what comes after, through the seat of this number
   then_goes : (calls : List Entry) (qs : List Stored) (fails : ℕ) → Went id calls qs fails b c
@@ -72,7 +81,7 @@ module _ (id : List ℕ) (many : ℕ) (last : Option ℕ) (a b c : Carrier) (han
     after_them = record {
       unsent = after.unsent;
       last = after.last;
-      begun = after.begun;
+      at_packet = after.at_packet;
       went = λ w gs.
           let n = a.seat.number in
           let P : ℕ → Type 0 = λ n. Went id (given n after.unsent ++ stopped stop n w gs) [] (failed_at stop) b c in
@@ -83,4 +92,7 @@ module _ (id : List ℕ) (many : ℕ) (last : Option ℕ) (a b c : Carrier) (han
           rw calls (subst Q (append-nil hand.gave) goes);
     };
     most = omega (arith, hand.count, after.last, unsent_few stop, length-append hand.gave after.unsent);
+    reached =
+        still_wanted stop wanted (hand.gave ++ after.unsent) after.at_packet
+        (omega (arith, hand.count, after.last, length-append hand.gave after.unsent));
   }

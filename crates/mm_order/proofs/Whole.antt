@@ -1,6 +1,6 @@
 -- An order put together from its begin, its packets and its end.
-use Rattle.std.proofs.Common.{◌≡◌, ℕ, ◌+◌, ◌≤◌, Bool, true, false, nat_lt, List, [], ◌∷◌, ◌++◌, length, Option, Some, Ok, Err, refl, sym, ap, subst, ◌∙◌, append_assoc, arith}
-use Rattle.std.proofs.lemmas.Bool.{cond_both}
+use Rattle.std.proofs.Common.{◌≡◌, ◌⊎◌, inl, inr, ℕ, ◌+◌, ◌<◌, ◌≤◌, Bool, true, false, nat_lt, List, [], ◌∷◌, ◌++◌, length, Option, Some, Ok, Err, refl, sym, ap, subst, ◌∙◌, append_assoc, arith}
+use Rattle.std.proofs.lemmas.Bool.{cond_both, lt-ltb, cases_lt}
 use Rattle.std.proofs.lemmas.List.{append-nil}
 use Rattle.mm_store.specs.declared.stored.Stored.{Stored}
 use Rattle.mm_desk.specs.declared.entry.Entry.{Entry}
@@ -14,9 +14,9 @@ use Rattle.mm_order.specs.declared.order.OrderBroken.TheVariants as broken
 use Rattle.mm_order.specs.declared.order.OrderBroken.TheVariants.{LinkFailed}
 use Rattle.mm_order.specs.declared.stop.Stop.{Stop}
 use Rattle.mm_order.specs.declared.stop.Stop.TheVariants.{AtBegin, AtNext, AtDraw, AtSend, AtAbort, AtDelete}
-use Rattle.mm_order.specs.Broken.{listed, stopped, unsent_at, failed_at, is_lack, cause_of_fault, cause_of, AreStopped}
+use Rattle.mm_order.specs.Broken.{listed, stopped, unsent_at, failed_at, is_lack, cause_of_fault, cause_of, Reaches, AreStopped}
 use Rattle.mm_order.specs.Carried.{Carrier, Went, with_calls, Carried, Broke}
-use Rattle.mm_order.specs.Parts.{HasBegun, Unbegun, SentAll, Stopped, Finished, Unfinished, last_of, end_where, abort_where, deletion}
+use Rattle.mm_order.specs.Parts.{IsAtPacket, Unbegun, SentAll, Stopped, Finished, Unfinished, last_of, end_where, abort_where, deletion}
 use Rattle.mm_order.proofs.Going.{went_on, number_stays}
 
 -- calls alone
@@ -44,25 +44,25 @@ link_failed (AtSend (Err fault)) e = absurd (not_the_link fault e)
 link_failed (AtAbort fault) e = absurd (not_the_link fault e)
 link_failed (AtDelete fault) e = absurd (not_the_link fault e)
 
--- the calls of an order that has begun and stopped
-are_stopped : (stop : Stop) (seat wanted : ℕ) (gave : List Stored) → HasBegun stop
+-- the calls of an order that has begun and stopped at a packet
+are_stopped : (stop : Stop) (seat wanted : ℕ) (gave : List Stored) → IsAtPacket stop
     → AreStopped stop seat wanted gave (begun seat ∷ given seat gave ++ stopped stop seat wanted gave)
-are_stopped (AtBegin fault) seat wanted gave begun = absurd begun
-are_stopped (AtNext fault done) seat wanted gave begun = refl
-are_stopped (AtDraw done) seat wanted gave begun = refl
-are_stopped (AtSend done) seat wanted gave begun = refl
-are_stopped (AtAbort fault) seat wanted gave begun = refl
-are_stopped (AtDelete fault) seat wanted gave begun = refl
+are_stopped (AtBegin fault) seat wanted gave at = absurd at
+are_stopped (AtNext fault done) seat wanted gave at = refl
+are_stopped (AtDraw done) seat wanted gave at = refl
+are_stopped (AtSend done) seat wanted gave at = refl
+are_stopped (AtAbort fault) seat wanted gave at = absurd at
+are_stopped (AtDelete fault) seat wanted gave at = absurd at
 
 -- an order that broke
 pub broke : (id : List ℕ) (wanted : ℕ) (stop : Stop) (a b : Carrier) (sent unsent : List Stored) (calls : List Entry)
-    → length (sent ++ unsent) ≤ wanted → AreStopped stop a.seat.number wanted (sent ++ unsent) calls
+    → length (sent ++ unsent) ≤ wanted → Reaches stop wanted (sent ++ unsent) → AreStopped stop a.seat.number wanted (sent ++ unsent) calls
     → length unsent ≡ unsent_at stop → Went id calls sent (failed_at stop) a b → Broke id wanted (cause_of stop) a b
-broke id wanted stop a b sent unsent calls most are last went = record {
+broke id wanted stop a b sent unsent calls most reached are last went = record {
   sent = sent;
   unsent = unsent;
   calls = calls;
-  order = record { most = most; stop = stop; are = are };
+  order = record { most = most; stop = stop; reached = reached; are = are };
   last = last;
   went = went;
   cause = refl;
@@ -74,7 +74,7 @@ broke id wanted stop a b sent unsent calls most are last went = record {
 pub unbegun : (id : List ℕ) (wanted : ℕ) (stop : Stop) (a : Carrier) (seat : Place)
     → Unbegun stop a.seat seat → Broke id wanted (cause_of stop) a (record a { seat = seat })
 unbegun id wanted (AtBegin fault) a seat leaves =
-    broke id wanted (AtBegin fault) a (record a { seat = seat }) [] [] _ (omega arith) (refl, refl) refl (seat_went id _ a seat leaves)
+    broke id wanted (AtBegin fault) a (record a { seat = seat }) [] [] _ (omega arith) tt (refl, refl) refl (seat_went id _ a seat leaves)
 unbegun id wanted (AtNext fault done) a seat un = absurd un
 unbegun id wanted (AtDraw done) a seat un = absurd un
 unbegun id wanted (AtSend done) a seat un = absurd un
@@ -99,6 +99,19 @@ deletes_as seat count (p ∷ gave) = refl
 limit_is : (limit : ℕ) (gave : List Stored) → Some limit ≡ last_of gave → limit ≡ last_time 0 gave
 limit_is limit [] e = cc
 limit_is limit (p ∷ gave) e = cc
+
+-- a last time is that of a packet
+some_given : (limit : ℕ) (gave : List Stored) → Some limit ≡ last_of gave → 1 ≤ length gave
+some_given limit [] e = cc
+some_given limit (p ∷ gave) e = omega arith
+
+-- where no fewer than wanted were given, and no more, all were
+all_given : (n wanted : ℕ) → n ≤ wanted → false ≡ nat_lt n wanted → n ≡ wanted
+all_given n wanted most fewer = or_more (cases_lt n wanted)
+  where
+    or_more : (n < wanted) ⊎ (wanted ≤ n) → n ≡ wanted
+    or_more (inl less) = absurd (cc (fewer ∙ lt-ltb n wanted less))
+    or_more (inr more) = omega arith
 
 -- the calls from the first packet on, where the retrieval ended
 calls_are : (seat wanted : ℕ) (gave : List Stored) (over : Bool) (rest : List Entry) → over ≡ nat_lt (length gave) wanted
@@ -126,7 +139,7 @@ module _ (id : List ℕ) (wanted : ℕ) (a : Carrier) (on : Place) (leaves : on 
       let gave = stops.sent ++ at.unsent in
       let P : ℕ → Type 0 = λ n. Went id (given n gave ++ stopped stop n wanted gave) stops.sent (failed_at stop) b c in
       let goes = went_on id _ _ [] stops.sent (failed_at stop) a b c first (subst P number (at.went wanted gave)) in
-      broke id wanted stop a c stops.sent at.unsent _ stops.most (are_stopped stop a.seat.number wanted gave at.begun) at.last goes
+      broke id wanted stop a c stops.sent at.unsent _ stops.most stops.reached (are_stopped stop a.seat.number wanted gave at.at_packet) at.last goes
 
   -- its packets were sent
   module _ (last : Option ℕ) (over : Bool) (c : Carrier) (sends : SentAll id wanted last over b c) (seat : Place) where
@@ -172,14 +185,16 @@ module _ (id : List ℕ) (wanted : ℕ) (a : Carrier) (on : Place) (leaves : on 
         let goes = then_goes (listed n Abort (reply.Done (Err fault))) (subst P same_number aborted) in
         let Q : List Entry → Type 0 = λ calls. Went id (begun n ∷ calls ++ listed n Abort (reply.Done (Err fault))) gave 0 a (record c { seat = seat }) in
         let none = no_end n gave over aborts in
-        broke id wanted (AtAbort fault) a (record c { seat = seat }) gave [] _ (rw (append-nil gave) sends.most) (rw (append-nil gave) refl) refl (subst Q none goes)
+        broke id wanted (AtAbort fault) a (record c { seat = seat }) gave [] _ (rw (append-nil gave) sends.most)
+        (rw (append-nil gave) (all_given (length gave) wanted sends.most (sym aborts ∙ sends.fewer))) (rw (append-nil gave) refl) refl (subst Q none goes)
     broke_at_end (AtDelete fault) (limit, is, deleted) =
         let P : ℕ → Type 0 = λ k. seat ≡ with_calls c.seat (abort_where k over ++ listed k (Delete limit) (reply.Deleted (Err fault))) in
         let goes = then_goes (abort_where n over ++ listed n (Delete limit) (reply.Deleted (Err fault))) (subst P same_number deleted) in
         let last : limit ≡ last_time 0 gave = limit_is limit gave (sym is ∙ sends.last_is) in
         let are = ap (λ (x : List Entry). begun n ∷ x) (calls_are n wanted gave over (listed n (Delete limit) (reply.Deleted (Err fault))) sends.fewer
         ∙ ap (λ (t : ℕ). given n gave ++ ended n wanted gave ∷ listed n (Delete t) (reply.Deleted (Err fault))) last) in
-        broke id wanted (AtDelete fault) a (record c { seat = seat }) gave [] _ (rw (append-nil gave) sends.most) (rw (append-nil gave) are) refl goes
+        broke id wanted (AtDelete fault) a (record c { seat = seat }) gave [] _ (rw (append-nil gave) sends.most)
+        (rw (append-nil gave) (some_given limit gave (sym is ∙ sends.last_is))) (rw (append-nil gave) are) refl goes
     broke_at_end (AtBegin fault) un = absurd un
     broke_at_end (AtNext fault done) un = absurd un
     broke_at_end (AtDraw done) un = absurd un

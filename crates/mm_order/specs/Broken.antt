@@ -1,5 +1,5 @@
 -- A dump order that broke: where it stopped, which calls it made, and why.
-use Rattle.std.specs.Prelude.{◌≡◌, ℕ, ◌≤◌, List, [], ◌∷◌, ◌++◌, length, Bool, true, false, if◌then◌else◌, Ok, Err}
+use Rattle.std.specs.Prelude.{◌≡◌, ℕ, ◌<◌, ◌≤◌, List, [], ◌∷◌, ◌++◌, length, Bool, true, false, if◌then◌else◌, Ok, Err}
 use Rattle.mm_base.specs.declared.refusal.Refusal.{Refusal}
 use Rattle.mm_base.specs.declared.refusal.Refusal.TheVariants as refusal
 use Rattle.mm_store.specs.declared.stored.Stored.{Stored}
@@ -81,10 +81,19 @@ AreStopped (AtBegin fault) seat wanted gave calls =
     (gave ≡ []) × (calls ≡ listed seat (Begin 1 clock_end) (reply.Done (Err fault)))
 AreStopped stop seat wanted gave calls = calls ≡ begun seat ∷ given seat gave ++ stopped stop seat wanted gave
 
+-- how many packets an order was given that stopped there: a next is only asked for where some are still wanted, the retrieval is
+-- only ended where none are, and only what was given is deleted
+abbrev pub Reaches : Stop → ℕ → List Stored → Type 0
+Reaches (AtNext fault done) wanted gave = length gave < wanted
+Reaches (AtAbort fault) wanted gave = length gave ≡ wanted
+Reaches (AtDelete fault) wanted gave = 1 ≤ length gave
+Reaches stop wanted gave = Unit {0}
+
 -- these calls are an order of at most this many packets, through this seat, which was given these and broke
 pub record IsBrokenOrder (seat wanted : ℕ) (gave : List Stored) (calls : List Entry) : Type 0 where
   pub most : length gave ≤ wanted
   pub stop : Stop
+  pub reached : Reaches stop wanted gave
   pub are : AreStopped stop seat wanted gave calls
 
 -- these calls are an order that was given these packets and was then aborted, with nothing deleted

@@ -11,7 +11,7 @@ use Rattle.mm_desk.specs.Runs.{entry}
 use Rattle.mm_desk.specs.Seats.{Place}
 use Rattle.mm_order.specs.declared.stop.Stop.{Stop}
 use Rattle.mm_order.specs.declared.stop.Stop.TheVariants.{AtBegin, AtAbort, AtDelete}
-use Rattle.mm_order.specs.Broken.{listed, stopped, unsent_at, failed_at}
+use Rattle.mm_order.specs.Broken.{listed, stopped, unsent_at, failed_at, Reaches}
 use Rattle.mm_order.specs.Carried.{Carrier, Went, with_calls}
 
 -- the retrieval could not be begun
@@ -24,16 +24,18 @@ abbrev pub SentNext : List ℕ → Option Stored → Carrier → Carrier → Typ
 SentNext id next before after =
     Went id (entry before.seat.number Next (reply.Given (Ok next)) ∷ []) (option_to_list next) 0 before after
 
--- the order has begun
-abbrev pub HasBegun : Stop → Type 0
-HasBegun (AtBegin fault) = ⊥
-HasBegun stop = Unit {0}
+-- the order stopped at a packet: as it was asked for, drawn or sent
+abbrev pub IsAtPacket : Stop → Type 0
+IsAtPacket (AtBegin fault) = ⊥
+IsAtPacket (AtAbort fault) = ⊥
+IsAtPacket (AtDelete fault) = ⊥
+IsAtPacket stop = Unit {0}
 
 -- after these packets were given and sent the order stopped, in the retrieval
 pub record StoppedAfter (id : List ℕ) (sent : List Stored) (stop : Stop) (before after : Carrier) : Type 0 where
   pub unsent : List Stored
   pub last : length unsent ≡ unsent_at stop
-  pub begun : HasBegun stop
+  pub at_packet : IsAtPacket stop
   pub went : (wanted : ℕ) (gave : List Stored) → Went id (given before.seat.number (sent ++ unsent)
       ++ stopped stop before.seat.number wanted gave) sent (failed_at stop) before after
 
@@ -63,6 +65,7 @@ pub record Stopped (id : List ℕ) (wanted : ℕ) (stop : Stop) (before after : 
   pub sent : List Stored
   pub after_them : StoppedAfter id sent stop before after
   pub most : length (sent ++ after_them.unsent) ≤ wanted
+  pub reached : Reaches stop wanted (sent ++ after_them.unsent)
 
 -- the entry of the deletion up to the packet given last, where one was given
 abbrev pub deletion : ℕ → Option ℕ → ℕ → List Entry

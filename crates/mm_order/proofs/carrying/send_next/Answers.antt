@@ -7,7 +7,7 @@ pub returns-in-Err-clause-err : goal.returns-in-Err-clause-err
 returns-in-Err-clause-err g c = record {
   unsent = [];
   last = refl;
-  begun = tt;
+  at_packet = tt;
   went = λ wanted gave. record {
     seat = next_abort_leaves c.args.seat.now c.next.new.seat c.abort.new.seat (Err c.in-Err.fault) c.abort.result c.in-Err.ensures.tells c.abort.ensures.tells;
     sent = sym (append-nil (g.L.Link.sent c.args.link.now));
@@ -22,7 +22,7 @@ returns-then-is_err-clause-err g c =
     record {
       unsent = c.in-Ok-Some.stored ∷ [];
       last = refl;
-      begun = tt;
+      at_packet = tt;
       went = λ wanted gave. record {
         seat = next_abort_leaves c.args.seat.now c.next.new.seat c.abort-then-is_err.new.seat (Ok (Some c.in-Ok-Some.stored)) c.abort-then-is_err.result
             (rw c.in-Ok-Some.field-0-is at c.in-Ok-Some.ensures.tells) c.abort-then-is_err.ensures.tells;
@@ -40,7 +40,7 @@ returns-then-is_err-2-clause-err g c =
     record {
       unsent = c.in-Ok-Some.stored ∷ [];
       last = refl;
-      begun = tt;
+      at_packet = tt;
       went = λ wanted gave. record {
         seat = next_abort_leaves c.args.seat.now c.next.new.seat c.abort-then-is_err-2.new.seat (Ok (Some c.in-Ok-Some.stored)) c.abort-then-is_err-2.result
             (rw c.in-Ok-Some.field-0-is at c.in-Ok-Some.ensures.tells) c.abort-then-is_err-2.ensures.tells;
