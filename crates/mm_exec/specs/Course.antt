@@ -1,5 +1,5 @@
 -- The steps of a run, one after another.
-use Rattle.std.specs.Prelude.{◌≡◌, ◌⊎◌, ℕ, ◌-◌, ◌≤◌, List, [], length, ◌+◌, ◌<◌}
+use Rattle.std.specs.Prelude.{◌≡◌, ◌≢◌, ◌⊎◌, ℕ, ◌-◌, ◌≤◌, List, [], length, ◌+◌, ◌<◌, All, AllPairs}
 use Rattle.mm_packet.specs.Packet.{SpacePacket}
 use Rattle.mm_problem.specs.Dumping.{window}
 use Rattle.mm_record.specs.Steps.{step_errand}
@@ -23,6 +23,12 @@ HasCarried gives sent failed m cargo carried =
     HasGone gives sent failed m cargo.sources.items cargo.links.items (length m.problem.windows)
     carried.cargo.stores.items carried.cargo.sources.items carried.cargo.links.items carried.report
 
+-- the orders of a step: they want of each store what the plan takes from it, no two are of one store, and each is of a packet or more
+pub record AreOrders (m : Mission) (step : ℕ) (orders : List Order) : Type 0 where
+  pub amounts : (s : ℕ) → s < length m.problem.rows → wanted orders (stand m s) ≡ m.amounts s step
+  pub apart : AllPairs (λ a b. a.place ≢ b.place) orders
+  pub some : All (λ o. 1 ≤ o.amount) orders
+
 -- the steps before one of them are carried out, and it was broken off
 pub record HasStopped {S L : Type 0} (gives : S → ℕ → List SpacePacket) (sent : L → List Sent) (failed : L → ℕ) (m : Mission) (cargo : Cargo S L)
     (stopped : Stopped S L) : Type 0 where
@@ -34,12 +40,12 @@ pub record HasStopped {S L : Type 0} (gives : S → ℕ → List SpacePacket) (s
   pub off : HasBrokenOff gives step (window m.problem step) before stopped.off
   -- the orders of the step, and how it was broken off
   pub orders : List Order
-  pub orders_are : (s : ℕ) → s < length m.problem.rows → wanted orders (stand m s) ≡ m.amounts s step
+  pub orders_are : AreOrders m step orders
   pub how : BrokeStep gives sent failed (step_errand step (m.base + step) m.memory.routes before.stores.items) orders before stopped.off
 
--- a cause before the first step: its test is the first that fails, or there was no memory
+-- a cause before the first step: its test is the first that fails, or all tests passed and there was no memory
 abbrev pub IsRefusal : Outset → Cause → Type 0
-IsRefusal o (NoMemory step) = step ≡ 0
+IsRefusal o (NoMemory step) = (step ≡ 0) × MayBegin o
 IsRefusal o cause = Stops o cause
 
 -- nothing was done
@@ -49,7 +55,7 @@ pub record IsNotBegun {S L : Type 0} (cargo : Cargo S L) (stopped : Stopped S L)
   pub spent_is : stopped.off.spent ≡ 0
 
 -- how a run ended that was not carried out: in a step, where all tests before it passed; or before the first, where the test of the cause is
--- the first to fail, or there was no memory
+-- the first to fail, or all passed and there was no memory
 abbrev pub IsEnded : {S L : Type 0} → (S → ℕ → List SpacePacket) → (L → List Sent) → (L → ℕ) → Mission → Table → Cargo S L → Stopped S L → Type 0
 IsEnded gives sent failed m plan cargo stopped =
     (HasStopped gives sent failed m cargo stopped

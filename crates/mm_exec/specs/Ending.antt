@@ -9,17 +9,16 @@ use Rattle.mm_crew.specs.Closings.{labels_of}
 use Rattle.mm_memory.specs.Holdings.{Holdings}
 use Rattle.mm_record.specs.Steps.{given_in, step_errand}
 use Rattle.mm_order.specs.declared.order.Order.{Order}
-use Rattle.mm_dump.specs.Dumped.{wanted}
 use Rattle.mm_order.specs.Sending.{Sent}
 use Rattle.mm_report.specs.Report.{totals_of}
 use Rattle.mm_ready.specs.Ready.{outset, MayBegin}
 use Rattle.mm_exec.specs.declared.flight.Flight.{Flight}
 use Rattle.mm_exec.specs.declared.flight.Halted.{Halted}
-use Rattle.mm_exec.specs.Mission.{Mission, as_came, stand}
+use Rattle.mm_exec.specs.Mission.{Mission, as_came}
 use Rattle.mm_exec.specs.Step.{IsCauseIn, KeepsRest, BrokeStep}
 use Rattle.mm_exec.specs.declared.step.BrokenOff.{BrokenOff}
 use Rattle.mm_exec.specs.declared.step.Cargo.{Cargo}
-use Rattle.mm_exec.specs.Course.{IsRefusal}
+use Rattle.mm_exec.specs.Course.{AreOrders, IsRefusal}
 use Rattle.mm_exec.specs.Going.{HasGone}
 
 -- the tests before a run passed, and the plan was carried out, and left this memory. The lost packets of the report are as many as the
@@ -61,11 +60,11 @@ pub record IsHaltedIn {S L : Type 0} (gives : S → ℕ → List SpacePacket) (s
   pub spent_within : halted.spent ≤ window m.problem step
   -- its orders, and how it was broken off: what the recorders and the dump workers did, and why
   pub orders : List Order
-  pub orders_are : (s : ℕ) → s < length m.problem.rows → wanted orders (stand m s) ≡ m.amounts s step
+  pub orders_are : AreOrders m step orders
   pub how : BrokeStep gives sent failed (step_errand step (m.base + step) m.memory.routes before.stores.items) orders before off
 
 -- how a run was halted: in a step, for a cause in that step; or before the first, with nothing done, where the test of the cause is the
--- first to fail, or there was no memory
+-- first to fail, or all passed and there was no memory
 abbrev pub IsHalted : {S L : Type 0} → (S → ℕ → List SpacePacket) → (L → List Sent) → (L → ℕ) → Mission → Table → List S → List L → Holdings → Halted S L → Type 0
 IsHalted gives sent failed m plan sources links memory halted =
     ((step : ℕ) × IsCauseIn step halted.cause × IsHaltedIn gives sent failed m plan sources links memory step halted)

@@ -9,7 +9,7 @@ use Rattle.mm_exec.specs.Mission.{mission}
 use Rattle.mm_exec.specs.Going.{HasGone}
 use Rattle.mm_dump.specs.Dumped.{wanted}
 use Rattle.mm_exec.specs.Numbers.{orders_of}
-use Rattle.mm_exec.proofs.Ordered.{wanted_is}
+use Rattle.mm_exec.proofs.Ordered.{wanted_is, amounts_some, places_apart}
 use Rattle.mm_exec.proofs.Starting.{begun_of, footing_by, gone_first, gone_at, places_there, in_hand, still_named, still_room}
 use Rattle.mm_exec.proofs.course.carry_steps.Goals as goal
 
@@ -125,7 +125,9 @@ returns-in-Err-clause-err g c =
     let memory : Holdings = record { stores = c.args.cargo.stores.items; routes = c.args.control.now } in
     let m = mission g.S.Source.gives c.args.problem.now c.args.plan.now c.args.base memory c.args.cargo.sources.items in
     let inside : c.loop-step.step < c.steps-step-end.result + 1 = c.loop-step-test.true in
-    let orders = orders_of (amount c.args.plan.now) (take c.stores.result c.places_of-all.result) c.loop-step.step (length c.args.problem.now.rows) in
+    let places = take c.stores.result c.places_of-all.result in
+    let n = length c.args.problem.now.rows in
+    let orders = orders_of (amount c.args.plan.now) places c.loop-step.step n in
     record {
       step = c.loop-step.step;
       first = c.loop-step.auto.step;
@@ -136,8 +138,11 @@ returns-in-Err-clause-err g c =
           c.loop-step.cargo.stores.items c.loop-step.cargo.sources.items c.loop-step.cargo.links.items r) (sym c.in-Err.ensures.unreported) c.loop-step.invariant.gone;
       off = c.in-Err.ensures.err;
       orders = orders;
-      orders_are = λ s store.
-          ap (wanted orders) (sym (footing.stand_at s store).is)
-          ∙ wanted_is (amount c.args.plan.now) (take c.stores.result c.places_of-all.result) c.loop-step.step (length c.args.problem.now.rows) s footing.apart store;
+      orders_are = record {
+        amounts = λ s store.
+            ap (wanted orders) (sym (footing.stand_at s store).is) ∙ wanted_is (amount c.args.plan.now) places c.loop-step.step n s footing.apart store;
+        apart = places_apart (amount c.args.plan.now) places c.loop-step.step n footing.apart;
+        some = amounts_some (amount c.args.plan.now) places c.loop-step.step n;
+      };
       how = c.in-Err.ensures.how;
     }
