@@ -20,7 +20,7 @@ use Rattle.mm_dump.specs.declared.dumper.Dumper.{Dumper}
 use Rattle.mm_dump.specs.declared.queue.Hand.{Hand}
 use Rattle.mm_dump.specs.Courses.{Course, worst_of, calls_at, sent_by, fails_of, drawn_by}
 use Rattle.mm_dump.specs.Crews.{AllWorked, links_of, pages_of, causes_of}
-use Rattle.mm_dump.specs.Dumped.{used_by}
+use Rattle.mm_dump.specs.Dumped.{AllKept, used_by}
 use Rattle.mm_dump.specs.Gear.{IsPart, taken_by}
 use Rattle.mm_dump.specs.Workers.{order_at, AreCourses}
 use Rattle.mm_dump.proofs.Readiness.{IsFresh, unmapped}
@@ -57,6 +57,18 @@ AllGrew sent failed ids [] [] [] = Unit {0}
 AllGrew sent failed ids (cs ∷ more) (old ∷ olds) (new ∷ news) =
     (sent new ≡ sent old ++ sent_by ids cs) × (failed new ≡ failed old + fails_of cs) × AllGrew sent failed ids more olds news
 AllGrew sent failed ids more olds news = ⊥
+
+-- and so it has sent what it had sent before
+pub all_kept : {L : Type 0} (sent : L → List Sent) (failed : L → ℕ) (ids : List (List ℕ)) (courses : List (List Course)) (olds news : List L)
+    → AllGrew sent failed ids courses olds news → AllKept sent failed olds news
+unfolding AllGrew
+all_kept sent failed ids [] [] [] grew = tt
+all_kept sent failed ids [] [] (new ∷ news) grew = absurd grew
+all_kept sent failed ids [] (old ∷ olds) news grew = absurd grew
+all_kept sent failed ids (cs ∷ more) [] news grew = absurd grew
+all_kept sent failed ids (cs ∷ more) (old ∷ olds) [] grew = absurd grew
+all_kept sent failed ids (cs ∷ more) (old ∷ olds) (new ∷ news) grew =
+    (record { more = sent_by ids cs; all = grew.0; failures = omega (arith, grew.1) }, all_kept sent failed ids more olds news grew.2)
 
 -- one worker's orders
 ordered_of : (orders : List Order) (courses : List Course) (taken : List ℕ) → map (λ (c : Course). c.order) courses ≡ map (order_at orders) taken

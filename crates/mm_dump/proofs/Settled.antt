@@ -1,7 +1,8 @@
 -- What a step's dump leaves, from what its workers did.
-use Rattle.std.proofs.Common.{◌≡◌, ◌≢◌, ℕ, ◌+◌, ◌≤◌, List, [], ◌++◌, length, get_or, map, All, AllPairs, refl, sym, ap, subst, ◌∙◌, arith}
+use Rattle.std.proofs.Common.{◌≡◌, ◌≢◌, ℕ, ◌+◌, ◌≤◌, Bool, true, false, List, [], ◌++◌, length, get_or, map, All, AllPairs, refl, sym, ap, subst, ◌∙◌, arith}
 use Rattle.std.specs.List.{flat_map, sum_by, range_with_len}
-use Rattle.std.specs.Prelude.{Option, Some, None, IfNone}
+use Rattle.std.specs.Prelude.{Any, Option, Some, None, IfNone, IsSome, IsTrue, IsFalse, is_some}
+use Rattle.std.proofs.lemmas.List.{get_or-map, length-map}
 use Rattle.crossbeam_queue.specs.declared.array_queue.Doing.{Doing}
 use Rattle.crossbeam_queue.specs.declared.array_queue.Slotted.{Slotted}
 use Rattle.mm_sums.proofs.Sums.{sum_by-same, sum_by-map, sum_by-flat_map}
@@ -25,7 +26,7 @@ use Rattle.mm_dump.proofs.Finding.{find, here, tally, flat}
 use Rattle.mm_dump.proofs.Gathering.{Gathered}
 use Rattle.mm_dump.proofs.Ordered.{names, named_once, times_by_number}
 use Rattle.mm_dump.proofs.Settling.{spots, Known, spots_tally, all_tried, all_took, same_causes, all_unbroken, amount_found, tried, dumped}
-use Rattle.mm_dump.proofs.Working.{whys}
+use Rattle.mm_dump.proofs.Working.{whys, some_none}
 
 -- what the pass with all parts took is what the passes of all workers took
 pub taken_is : {W L : Type 0} (first joined : Hand) (m n : ℕ) (dumpers owns : List (Dumper W L)) (items : List ℕ)
@@ -44,11 +45,24 @@ pub if_none : {A : Type 0} (P : Type 0) (o : Option A) → (o ≡ None → P) �
 if_none P None f = f refl
 if_none P (Some x) f = tt
 
--- what is left in the queue: nothing, where no order broke
-pub left_items : (why : Option OrderBroken) (v : Hand) → (why ≡ None → Tells v []) → (items : List ℕ) × Tells v items
-    → (items : List ℕ) × Tells v items × (why ≡ None → items ≡ [])
-left_items None v all left = ([], all refl, λ none. refl)
-left_items (Some broken) v all left = (left.0, left.1, λ none. absurd (cc none))
+-- some cause is none
+abbrev pub SomeNone : List (Option OrderBroken) → Type 0
+SomeNone whys = Any (λ (why : Option OrderBroken). why ≡ None) whys
+
+-- where each is one, none is none
+not_both : (whys : List (Option OrderBroken)) → All (λ (why : Option OrderBroken). IsSome why) whys → SomeNone whys → ⊥
+not_both whys all some = absurd (cc (sym (all some.0 some.1 some.2) ∙ ap (λ (why : Option OrderBroken). is_some why) (some.3 ∙ some.4)))
+
+-- some element of a mapped list
+some_mapped : {X Y : Type 0} (P : Y → Type 0) (f : X → Y) (xs : List X) → Any (λ (x : X). P (f x)) xs → Any P (map f xs)
+some_mapped P f xs some =
+    (some.0, f some.1, omega (arith, some.2, length-map xs f), get_or-map f xs some.0 some.1 (f some.1) some.2 ∙ ap f some.3, some.4)
+
+-- what is left in the queue: nothing, where some worker did not break off
+pub left_items : (all : Bool) (whys : List (Option OrderBroken)) (v : Hand) → (IsTrue all → All (λ (why : Option OrderBroken). IsSome why) whys) → (IsFalse all → Tells v [])
+    → (items : List ℕ) × Tells v items → (items : List ℕ) × Tells v items × (SomeNone whys → items ≡ [])
+left_items false whys v broke dealt left = ([], dealt refl, λ some. refl)
+left_items true whys v broke dealt left = (left.0, left.1, λ some. absurd (not_both whys (broke refl) some))
 
 module _ {N W L Q A : Type 0} (sent : L → List Sent) (failed : L → ℕ) (queue : Slotted (Option ℕ) (Doing ℕ Hand) Q A) (ids : List (List ℕ)) (orders : List Order)
     (desks : ℕ) (olds news : List (Worker N (Dumper W L) OrderBroken)) (g : Gathered sent failed queue ids orders desks olds news)
@@ -88,7 +102,15 @@ module _ {N W L Q A : Type 0} (sent : L → List Sent) (failed : L → ℕ) (que
   known i d within j e inside = ((g.are i d within).1.each j e inside, g.ordered i d within j e inside)
 
   module _ (before after : List State) (fits : length after ≡ desks) (went : AllWentBy news before after) (why : Option OrderBroken) (worst : worst_of (causes_of news) ≡ why)
-      (done : why ≡ None → items ≡ []) where
+      (some : 1 ≤ length news) (done : SomeNone (causes_of news) → items ≡ []) where
+    -- where no order broke, nothing is left
+    none_left : why ≡ None → items ≡ []
+    none_left whole = done (some_none (causes_of news) (omega (arith, some, length-map news (λ (w : Worker N (Dumper W L) OrderBroken). w.broken))) (worst ∙ whole))
+
+    -- why the last order of each link broke, where it did
+    causes_same : map (λ (ks : List ℕ). worst_of (map (λ (c : Course). c.why) (map (λ (p : ℕ). find p (flat g.courses)) ks))) (map spots g.courses) ≡ causes_of news
+    causes_same = same_causes sent failed ids (flat g.courses) tally_few [] g.courses refl ∙ g.causes
+
     -- any case
     pub settled : AllSettled sent failed ids orders why before after (links_of (owns_of olds)) (links_of (owns_of news))
     settled = record {
@@ -99,9 +121,12 @@ module _ {N W L Q A : Type 0} (sent : L → List Sent) (failed : L → ℕ) (que
           tried lone orders g.courses k _ _ _ at.log apart known (tally_few k) (g.lists k (omega (arith, within, fits))) at.run at.shuffle;
       amounts = λ k some. amount_found orders g.courses k apart known (tally_few k) (omega (arith, some, spots_tally k g.courses));
       once = λ k. omega (arith, spots_tally k g.courses, tally_most k);
-      all = λ whole k. spots_tally k g.courses ∙ tally_all (done whole) k;
+      all = λ whole k. spots_tally k g.courses ∙ tally_all (none_left whole) k;
+      others = λ one k.
+          let here = some_mapped (λ (why : Option OrderBroken). why ≡ None) (λ (ks : List ℕ). worst_of (map (λ (c : Course). c.why) (map (λ (p : ℕ). find p (flat g.courses)) ks))) (map spots g.courses) one in
+          spots_tally k g.courses ∙ tally_all (done (subst SomeNone causes_same here)) k;
       links = all_tried sent failed ids (flat g.courses) tally_few [] g.courses _ _ refl g.are g.links;
-      cause = ap worst_of (same_causes sent failed ids (flat g.courses) tally_few [] g.courses refl ∙ g.causes) ∙ worst;
+      cause = ap worst_of causes_same ∙ worst;
     }
 
     -- where no order broke
@@ -112,8 +137,8 @@ module _ {N W L Q A : Type 0} (sent : L → List Sent) (failed : L → ℕ) (que
       places = map spots g.courses;
       stores = λ k within.
           let at = went k within in
-          dumped lone orders g.courses k _ _ _ at.log apart known (tally_few k) (g.lists k (omega (arith, within, fits))) at.run at.shuffle (tally_all (done whole) k) amounts (all_unbroken g.courses none);
-      once = λ k. spots_tally k g.courses ∙ tally_all (done whole) k;
+          dumped lone orders g.courses k _ _ _ at.log apart known (tally_few k) (g.lists k (omega (arith, within, fits))) at.run at.shuffle (tally_all (none_left whole) k) amounts (all_unbroken g.courses none);
+      once = λ k. spots_tally k g.courses ∙ tally_all (none_left whole) k;
       links = all_took sent failed ids (flat g.courses) tally_few [] g.courses _ _ refl g.are none g.links;
     }
       where

@@ -1,7 +1,7 @@
 -- A worker at work: the orders that it took so far, and one more.
-use Rattle.std.proofs.Common.{◌≡◌, ℕ, ◌+◌, ◌<◌, ◌==◌, Bool, List, [], ◌∷◌, ◌++◌, length, map, filter, All, refl, sym, ap, subst, ◌∙◌, append_assoc, length-append, arith}
+use Rattle.std.proofs.Common.{◌≡◌, ℕ, ◌+◌, ◌<◌, ◌≤◌, ◌==◌, Bool, List, [], ◌∷◌, ◌++◌, length, map, filter, All, refl, sym, ap, subst, ◌∙◌, append_assoc, length-append, arith}
 use Rattle.std.specs.List.{flat_map}
-use Rattle.std.specs.Prelude.{Option, Some, None}
+use Rattle.std.specs.Prelude.{Any, Option, Some, None}
 use Rattle.std.proofs.lemmas.List.{append-nil, get_or_append_left, map-append}
 use Rattle.std.proofs.lemmas.List.Concat.{flat_map-append}
 use Rattle.std.proofs.lemmas.List.Elements.{All-nil, All-cons, All-head, All-tail, All-append, All-push, filter-append}
@@ -38,6 +38,11 @@ none_broke [] none = All-nil (λ (c : Course). c.why ≡ None)
 none_broke (c ∷ cs) none =
     let both = worse-none c.why (worst_of (whys cs)) none in
     All-cons (λ (c : Course). c.why ≡ None) c cs both.0 (none_broke cs both.1)
+
+-- where the worst of some causes is none, one of them is none
+pub some_none : (whys : List (Option OrderBroken)) → 1 ≤ length whys → worst_of whys ≡ None → Any (λ (why : Option OrderBroken). why ≡ None) whys
+some_none [] some none = absurd (omega (arith, some))
+some_none (why ∷ whys) some none = (0, why, omega arith, refl, (worse-none why (worst_of whys) none).0)
 
 -- the worst of causes where the last alone may be one
 worst_last : (cs : List Course) (c : Course) → All (λ (c : Course). c.why ≡ None) cs → worst_of (whys (cs ++ c ∷ [])) ≡ c.why

@@ -1,5 +1,6 @@
 -- What a step's dump leaves: its stores, and its links.
-use Rattle.std.specs.Prelude.{◌≡◌, ℕ, ◌+◌, ◌<◌, ◌≤◌, ◌==◌, List, [], ◌∷◌, ◌++◌, length, map, filter, flat_map, sum_by, count_by, Option, None}
+use Rattle.std.specs.Prelude.{◌≡◌, ℕ, ◌+◌, ◌<◌, ◌≤◌, ◌==◌, List, [], ◌∷◌, ◌++◌, length, map, filter, flat_map, sum_by, count_by, Any, Option, None}
+use Rattle.std.specs.List.{AllZip}
 use Rattle.mm_store.specs.declared.stored.Stored.{Stored}
 use Rattle.mm_desk.specs.declared.entry.Entry.{Entry}
 use Rattle.mm_desk.specs.Machine.{State}
@@ -68,7 +69,7 @@ AllTried sent failed ids course (places ∷ more) (old ∷ olds) (new ∷ news) 
 AllTried sent failed ids course more olds news = ⊥
 
 -- orders were carried out, each by one link, and this is the worst cause for which one broke; where none broke, all were carried
--- out
+-- out, and so they were where no order of some link broke
 pub record AllSettled {L : Type 0} (sent : L → List Sent) (failed : L → ℕ) (ids : List (List ℕ)) (orders : List Order)
     (why : Option OrderBroken) (before after : List State) (old new : List L) : Type 0 where
   pub course : ℕ → Course
@@ -77,8 +78,19 @@ pub record AllSettled {L : Type 0} (sent : L → List Sent) (failed : L → ℕ)
   pub amounts : (k : ℕ) → 0 < sum_by (times k) places → (course k).order.amount ≡ wanted orders k
   pub once : (k : ℕ) → sum_by (times k) places ≤ times k (places_of orders)
   pub all : why ≡ None → (k : ℕ) → sum_by (times k) places ≡ times k (places_of orders)
+  pub others : Any (λ ks. worst_of (map (λ c. c.why) (map course ks)) ≡ None) places → (k : ℕ) → sum_by (times k) places ≡ times k (places_of orders)
   pub links : AllTried sent failed ids course places old new
   pub cause : worst_of (map (λ ks. worst_of (map (λ c. c.why) (map course ks))) places) ≡ why
+
+-- a link has sent what it had sent before and then more, if anything, and no fewer of its sends have failed
+pub record HasKept {L : Type 0} (sent : L → List Sent) (failed : L → ℕ) (old new : L) : Type 0 where
+  pub more : List Sent
+  pub all : sent new ≡ sent old ++ more
+  pub failures : failed old ≤ failed new
+
+-- each link did, in order
+abbrev pub AllKept : {L : Type 0} → (L → List Sent) → (L → ℕ) → List L → List L → Type 0
+AllKept sent failed olds news = AllZip (HasKept sent failed) olds news
 
 -- how many packets links took, and how many of their sends failed
 abbrev pub used_by : {L : Type 0} → (L → List Sent) → (L → ℕ) → List L → ℕ

@@ -12,7 +12,7 @@ use Rattle.mm_crew.specs.Closings.{labels_of, states_of}
 use Rattle.mm_crew.specs.Crews.{AreSeatings}
 use Rattle.mm_dump.specs.declared.step.DumpRooms.{DumpRooms}
 use Rattle.mm_dump.specs.declared.step.Dumping.{Dumping}
-use Rattle.mm_dump.specs.Dumped.{AllDumped, AllSettled, used_by}
+use Rattle.mm_dump.specs.Dumped.{AllDumped, AllSettled, AllKept, used_by}
 use Rattle.mm_dump.specs.Taken.{hand}
 
 -- few stores, links and orders; each order wants blocks of a store of its own, and each link may fail once more
@@ -45,5 +45,6 @@ pub record Leaves {L : Type 0} (sent : L → List Sent) (failed : L → ℕ) (or
       (states_of left.stores.items) links left.links.items)
   pub settled : IsTrue left.agree → AllSettled sent failed (map (λ h. h.id) stores) orders left.broken (states_of stores)
       (states_of left.stores.items) links left.links.items
+  pub kept : AllKept sent failed links left.links.items
   pub spent : used_by sent failed left.links.items ≡ used_by sent failed links + left.spent
   pub within : left.spent ≤ window

@@ -1,15 +1,15 @@
 //! A step's dump: workers carry out the orders of one queue, over any number of stores.
-ghost use Rattle.std.specs.Prelude.{◌≡◌, ◌≢◌, ◌+◌, ◌-◌, ◌<◌, ◌≤◌, ◌^◌, length, map, All, AllPairs, IsTrue, None, IfNone, IfOk, IfErr, vec_len, vec_capacity};
+ghost use Rattle.std.specs.Prelude.{◌≡◌, ◌≢◌, ◌+◌, ◌-◌, ◌<◌, ◌≤◌, ◌^◌, length, map, All, AllPairs, IsTrue, IsFalse, IfNone, IfOk, IfErr, vec_len, vec_capacity};
 ghost use Rattle.mm_base.specs.declared.limits.TheConstants.{MAX_STORES};
 ghost use Rattle.mm_desk.specs.declared.desk.TheConstants.{MAX_SEATS};
 ghost use Rattle.mm_crew.specs.Closings.{labels_of, states_of};
-ghost use Rattle.mm_dump.specs.Dumped.{AllDumped, AllSettled, used_by};
+ghost use Rattle.mm_dump.specs.Dumped.{AllDumped, AllSettled, AllKept, used_by};
 ghost use Rattle.mm_dump.specs.Rooms.{MayDump, AreRooms, Leaves};
 
 use crate::dumper::{Dumper, Floor, dump_all};
 use crate::gear::{equip_all, strip_all};
 use crate::queue::{OrderPass, OrderQueue, is_dealt, new_queue, push_all};
-use crate::worst::worst_broken;
+use crate::worst::{all_broke, worst_broken};
 use mm_base::NoMemory;
 use mm_crew::{Rooms, close_all, new_rooms, open_all, pair_all, part_all};
 use mm_desk::laws::lone_seats_are_logs;
@@ -22,7 +22,8 @@ use std::sync::ledger::Blank;
 use std::thread::Threads;
 
 /// What a step's dump leaves: its stores and its links, the worst cause for which an order broke where one did, whether each
-/// store's log is a shuffle of the lists that the workers kept and all orders were taken, and how many blocks were drawn.
+/// store's log is a shuffle of the lists that the workers kept and, unless each worker's order broke, all orders were taken, and
+/// how many blocks were drawn.
 #[derive(Drop)]
 pub struct Dumping<L: Drop> {
     pub stores: Vec<Held>,
@@ -81,12 +82,13 @@ fn new_dump_rooms<N: Opening, W: Passing, L: Drop>(
     })
 }
 
-// Whether all agrees: each store's log with the lists that the workers kept, and, where no order broke, no number is left queued.
-fn agrees(closed: bool, dealt: bool, broken: Option<OrderBroken>) -> bool
+// Whether all agrees: each store's log with the lists that the workers kept, and, unless each worker broke off, no number is left
+// queued.
+fn agrees(closed: bool, dealt: bool, all_broke: bool) -> bool
     ensures closed { IsTrue result → IsTrue closed }
-    ensures dealt { IsTrue result → broken ≡ None → IsTrue dealt }
+    ensures dealt { IsTrue result → IsFalse all_broke → IsTrue dealt }
 {
-    closed && (dealt || broken.is_some())
+    closed && (dealt || all_broke)
 }
 
 // Carries out a step's orders, where there is memory for it.
@@ -173,10 +175,10 @@ fn dump_in<
     );
     let (stores, closed) = close_all(stations, &workers, stores);
     let broken = worst_broken(&workers);
+    let all_broke = all_broke(&workers);
     let dumpers = part_all(workers, dumpers);
     let (links, pages) = strip_all(&queue, &mut pass, dumpers, links, pages);
-    let dealt = is_dealt(&queue, &mut pass);
-    let agree = agrees(closed, dealt, broken);
+    let agree = agrees(closed, is_dealt(&queue, &mut pass), all_broke);
     let spent = book.close(pages);
     Dumping {
         stores,
@@ -189,8 +191,8 @@ fn dump_in<
 
 /// Carries out a step's dump orders, of which no two name one store: each link gets a worker, which takes orders from one queue
 /// until it finds it empty, and sends the packets of each before it deletes them. A worker whose order breaks takes no further
-/// one. The packets sent, and the sends that fail, are drawn from a window of this many blocks. Where there is no memory for
-/// the queue, the pass book, seats, workers and desks, nothing is begun.
+/// one, and the others go on. The packets sent, and the sends that fail, are drawn from a window of this many blocks. Where there
+/// is no memory for the queue, the pass book, seats, workers and desks, nothing is begun.
 pub fn dump<L: Link + Send + Drop, R: Threads + Wait + Sync>(
     rt: &R,
     alloc: Global,
@@ -214,6 +216,8 @@ pub fn dump<L: Link + Send + Drop, R: Threads + Wait + Sync>(
     // What became of each order in any case.
     ensures settled { IfOk result (λ d. IsTrue d.agree → AllSettled L.sent L.failed (map (λ h. h.id) stores.items) orders.now d.broken
         (states_of stores.items) (states_of d.stores.items) links.items d.links.items) }
+    // What each link had sent before, in any case.
+    ensures kept { IfOk result (λ d. AllKept L.sent L.failed links.items d.links.items) }
     // The window, in any case.
     ensures spent { IfOk result (λ d. used_by L.sent L.failed d.links.items ≡ used_by L.sent L.failed links.items + d.spent) }
     ensures within { IfOk result (λ d. d.spent ≤ window) }

@@ -1,5 +1,5 @@
-//! The worst of the causes for which workers broke off.
-ghost use Rattle.std.specs.Prelude.{◌≡◌};
+//! Whether workers broke off, and the worst of the causes for which they did.
+ghost use Rattle.std.specs.Prelude.{◌≡◌, ◌↔◌, All, IsSome, IsTrue};
 ghost use Rattle.mm_dump.specs.Courses.{worse, worst_of};
 ghost use Rattle.mm_dump.specs.Crews.{causes_of};
 
@@ -34,4 +34,11 @@ pub(crate) fn worst_broken<N: Opening, W: Passing, L: Drop>(
         worst = worse(worst, worker.broken);
     }
     worst
+}
+
+// Whether each worker broke off.
+pub(crate) fn all_broke<N: Opening, W: Passing, L: Drop>(workers: &[DumpWorker<N, W, L>]) -> bool
+    ensures all { IsTrue result ↔ All (λ w. IsSome w.broken) workers.now }
+{
+    workers.iter().all(|worker| worker.broken.is_some())
 }

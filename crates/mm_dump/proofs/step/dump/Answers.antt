@@ -1,6 +1,4 @@
-use Rattle.std.proofs.Common.{rules}
 use Rattle.std.proofs.lemmas.Result.{IfOk-weaker}
-use Rattle.mm_dump.specs.Rooms.{Leaves}
 use Rattle.mm_dump.proofs.step.dump.Goals as goal
 
 pub dump_as-requires-clause-may : goal.dump_as-requires-clause-may
@@ -23,6 +21,9 @@ returns-clause-dumped g c = IfOk-weaker c.dump_as.result _ _ (λ d left. left.du
 
 pub returns-clause-settled : goal.returns-clause-settled
 returns-clause-settled g c = IfOk-weaker c.dump_as.result _ _ (λ d left. left.settled) c.dump_as.ensures.leaves
+
+pub returns-clause-kept : goal.returns-clause-kept
+returns-clause-kept g c = IfOk-weaker c.dump_as.result _ _ (λ d left. left.kept) c.dump_as.ensures.leaves
 
 pub returns-clause-spent : goal.returns-clause-spent
 returns-clause-spent g c = IfOk-weaker c.dump_as.result _ _ (λ d left. left.spent) c.dump_as.ensures.leaves
