@@ -33,7 +33,7 @@ use Rattle.mm_order.specs.declared.order.OrderBroken.TheVariants as broken
 use Rattle.mm_order.specs.Laws.{AbortedOrdersChangeNothing}
 use Rattle.mm_order.specs.Sending.{Sent}
 use Rattle.mm_dump.specs.Courses.{Course, IsCourse, WentAs, worse, worst_of}
-use Rattle.mm_dump.specs.Dumped.{times, HasTried, AllSettled, used_by}
+use Rattle.mm_dump.specs.Dumped.{times, HasTried, AllSettled, AllKept, used_by}
 use Rattle.mm_report.specs.declared.cause.Cause.{Cause}
 use Rattle.mm_report.specs.declared.cause.Cause.TheVariants.{NoMemory, LinkFailed, LogMismatch}
 use Rattle.mm_runs.specs.StepRuns.{AreTimed}
@@ -245,7 +245,8 @@ OrdersEnd sent failed step orders mid off = ((off.cargo.stores ≡ mid.stores) �
     ⊎ ((agree : Bool) × (why : Option OrderBroken) × (dump_cause step agree why ≡ Some off.cause)
     × (IsTrue agree → AllSettled sent failed (map (λ h. h.id) mid.stores.items) orders why (states_of mid.stores.items)
     (states_of off.cargo.stores.items) mid.links.items off.cargo.links.items)
-    × (used_by sent failed off.cargo.links.items ≡ used_by sent failed mid.links.items + off.spent))
+    × (used_by sent failed off.cargo.links.items ≡ used_by sent failed mid.links.items + off.spent)
+    × AllKept sent failed mid.links.items off.cargo.links.items)
 
 module _ {S L : Type 0} (gives : S → ℕ → List SpacePacket) (sent : L → List Sent) (failed : L → ℕ) (step now : ℕ) (routes : List RouteRow) (orders : List Order)
     (before : Cargo S L) (off : BrokenOff S L) (labels : labels_of off.cargo.stores.items ≡ labels_of before.stores.items) (k : ℕ) (within : k < length before.stores.items) where

@@ -13,7 +13,7 @@ use Rattle.mm_order.specs.declared.order.Order.{Order}
 use Rattle.mm_order.specs.declared.order.OrderBroken.{OrderBroken}
 use Rattle.mm_order.specs.declared.order.OrderBroken.TheVariants as broken
 use Rattle.mm_order.specs.Sending.{Sent}
-use Rattle.mm_dump.specs.Dumped.{wanted, times, places_of, AllTook, AllDumped, AllSettled, used_by}
+use Rattle.mm_dump.specs.Dumped.{wanted, times, places_of, AllTook, AllDumped, AllSettled, AllKept, used_by}
 use Rattle.mm_runs.specs.StepRuns.{IsStepRun}
 use Rattle.mm_report.specs.declared.cause.Cause.{Cause}
 use Rattle.mm_report.specs.declared.cause.Cause.TheVariants.{NoMemory, LinkFailed, LogMismatch}
@@ -87,15 +87,16 @@ pub record BrokeRecording {S L : Type 0} (gives : S → ℕ → List SpacePacket
       × (off.cargo.stores ≡ left.stores) × (off.cargo.sources ≡ left.sources) × (cause_in e.step left.agree left.broken ≡ Some off.cause))
 
 -- the dump of a step was broken off: the sources are as they were. Either there was no memory to begin, and nothing was done; or this is
--- what the dump workers left: which course each order took, what each link sent and how often it failed, how much was drawn in all, and
--- the cause is theirs
+-- what the dump workers left: which course each order took, what each link sent and how often it failed, how much was drawn in all, that
+-- no link lost what it had sent before, and the cause is theirs
 pub record BrokeOrders {S L : Type 0} (sent : L → List Sent) (failed : L → ℕ) (step : ℕ) (orders : List Order) (before : Cargo S L) (off : BrokenOff S L) : Type 0 where
   pub sources : off.cargo.sources ≡ before.sources
   pub how : ((off.cargo.stores ≡ before.stores) × (off.cargo.links ≡ before.links) × (off.spent ≡ 0) × (off.cause ≡ NoMemory step))
       ⊎ ((agree : Bool) × (why : Option OrderBroken) × (dump_cause step agree why ≡ Some off.cause)
       × (IsTrue agree → AllSettled sent failed (map (λ h. h.id) before.stores.items) orders why (states_of before.stores.items)
       (states_of off.cargo.stores.items) before.links.items off.cargo.links.items)
-      × (used_by sent failed off.cargo.links.items ≡ used_by sent failed before.links.items + off.spent))
+      × (used_by sent failed off.cargo.links.items ≡ used_by sent failed before.links.items + off.spent)
+      × AllKept sent failed before.links.items off.cargo.links.items)
 
 -- a step was broken off after what came was recorded: while its orders were carried out
 pub record BrokeDumping {S L : Type 0} (gives : S → ℕ → List SpacePacket) (sent : L → List Sent) (failed : L → ℕ) (e : Errand) (orders : List Order)
