@@ -1,6 +1,6 @@
 #!/usr/bin/env bash
 # Draws the charts of examples/ anew and looks at them as a reader's tools do:
-# - `mm_tool chart` prints each chart.svg octet for octet;
+# - `mm_tool chart` prints each chart.svg byte for byte;
 # - xmllint finds it well-formed;
 # - a headless Chromium draws it 1,200 pixels wide in the proportions of its view box, and none of its words stands outside.
 # The last two are passed over with a line where the tool is not installed. The program must be built from the sources that

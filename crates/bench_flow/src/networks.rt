@@ -15,11 +15,11 @@ const MAX_STEPS: u32 = 256;
 /// A family of networks, each of a size.
 #[derive(Clone, Copy)]
 pub(crate) enum Family {
-    /// Sixteen stores over so many steps, whose windows are about what arrives.
+    /// Sixteen stores over as many steps as the size says, whose windows are about what arrives.
     Tight,
     /// The same with windows of about a sixteenth of it.
     Spare,
-    /// So many nodes, and four times as many arcs between them at random.
+    /// As many nodes as the size says, and four times as many arcs between them at random.
     Made,
 }
 
@@ -47,7 +47,7 @@ impl Family {
     }
 }
 
-// A network of so many nodes with these arcs, but those that no network has.
+// A network of this many nodes with these arcs, but those that no network has.
 fn built(alloc: Global, nodes: u32, arcs: &[Arc]) -> Result<Network, NoMemory>
     requires few { 1 < nodes }
     requires most { nodes ≤ MAX_NODES }
@@ -59,7 +59,7 @@ fn built(alloc: Global, nodes: u32, arcs: &[Arc]) -> Result<Network, NoMemory>
     Ok(network)
 }
 
-// Adds so many nodes.
+// Adds this many nodes.
 pub(crate) fn add_nodes(network: &mut Network, nodes: u32) -> Result<(), NoMemory>
     requires empty { network.old.graph.nodes ≡ 0 }
     requires none { network.old.graph.arcs ≡ [] }
@@ -131,7 +131,7 @@ fn unlimited(from: u32, to: u32) -> Arc {
     }
 }
 
-// The arcs of sixteen stores over so many steps, with windows below a number.
+// The arcs of sixteen stores over this many steps, with windows below a number.
 fn stores(alloc: Global, steps: u32, window: u32) -> Result<Vec<Arc>, NoMemory>
     requires steps { steps ≤ MAX_STEPS }
     requires window { 0 < window }

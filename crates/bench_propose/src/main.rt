@@ -54,7 +54,7 @@ fn random(alloc: Global, numbers: &mut Numbers) -> Result<Problem> {
     Ok(Problem::read(alloc, &setup, forecast.as_bytes())?)
 }
 
-// How many of so many random problems are not shown to lose least.
+// How many of `count` random problems are not shown to lose least.
 fn fallbacks(alloc: Global, count: u32, seed: u64) -> Result<u32> {
     let mut numbers = Numbers::new(seed);
     let mut fallbacks: u32 = 0;

@@ -12,7 +12,7 @@ use rounds::{Report, SIZE, run};
 use std::alloc::Global;
 use std::time::Clock;
 
-/// Runs so many rounds on a new store of this form.
+/// Runs this many rounds on a new store of this form.
 fn measured(clock: &impl Clock, alloc: Global, form: Form, rounds: u32) -> Result<Report> {
     match form {
         Form::Ring => run(clock, alloc, &mut RingStore::new(alloc, SIZE)?, rounds),

@@ -37,7 +37,7 @@ pub fn plan_and_fly<R: Threads + Wait + Sync>(
     links: Vec<Downlink>,
 ) -> Result<Told, Cause>
     requires links { All (λ l. l.failed < 2 ^ 64 - 1) links.items }
-    // The text shows that no plan loses fewer blocks than it says. Where what came is what was forecast, so many packets were lost.
+    // The text shows that no plan loses fewer blocks than it says. If what came is what was forecast, that many were lost.
     ensures lost { IfOk result (λ told. (sheet : SheetRows) × PlansFor problem.now told.flown.sheet.items sheet
         × (AsForecast (mission ⟦<Burst as Source>⟧.gives problem.now sheet.plan 0 (memory_of setup.now) sources.items)
         → told.lost ≡ sheet.loss)) }

@@ -1,4 +1,4 @@
-//! From the octets of a setup and of requests to the text that answers them.
+//! From the bytes of a setup and of requests to the text that answers them.
 ghost use Rattle.std.specs.Prelude.{◌≡◌, IfOk, IfErr, OnOk};
 ghost use Rattle.mm_ask.specs.Answering.{opened};
 ghost use Rattle.mm_ask.specs.Asking.{Answers, Converses, IsSetupFault, Passes};

@@ -1,4 +1,4 @@
-//! The checker: from the octets of three texts to a verdict and its line.
+//! The checker: from the bytes of three texts to a verdict and its line.
 ghost use Rattle.std.specs.Prelude.{◌≡◌, ℕ, IfOk};
 ghost use Rattle.mm_base.specs.Reading.{IfRefused};
 ghost use Rattle.mm_plan.specs.Table.{HasShape};

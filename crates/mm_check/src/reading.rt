@@ -1,4 +1,4 @@
-//! From the octets of a setup and a forecast to the problem that they say together.
+//! From the bytes of a setup and a forecast to the problem that they say together.
 ghost use Rattle.mm_base.specs.Reading.{Gives};
 ghost use Rattle.mm_problem.specs.declared.fault.Fault.TheVariants as problem;
 ghost use Rattle.mm_check.specs.Checking.{problem_in};

@@ -53,7 +53,7 @@ fn status_of(verdict: Verdict) -> Status {
     }
 }
 
-/// The octets of the files of a problem and of a plan for it.
+/// The bytes of the files of a problem and of a plan for it.
 #[derive(Drop)]
 pub(crate) struct PlanTexts {
     pub(crate) setup: Vec<u8>,

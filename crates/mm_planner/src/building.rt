@@ -23,7 +23,7 @@ pub(crate) fn step_width(problem: &Problem) -> u32
     4 * problem.stores() as u32 + u32::from(problem.channels()) + 1
 }
 
-// Adds so many nodes.
+// Adds this many nodes.
 fn add_nodes(network: &mut Network, nodes: u32) -> Result<(), NoMemory>
     requires none { network.old.graph ≡ nodes_alone 0 }
     requires most { nodes ≤ MAX_NODES }

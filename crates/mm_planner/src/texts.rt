@@ -1,4 +1,4 @@
-//! From the octets of a setup and a forecast to the text of a plan.
+//! From the bytes of a setup and a forecast to the text of a plan.
 ghost use Rattle.std.specs.Prelude.{IfOk};
 ghost use Rattle.mm_base.specs.Reading.{IfRefused};
 ghost use Rattle.mm_check.specs.declared.fault.Fault.TheVariants.{NoMemory};

@@ -10,7 +10,7 @@ use crate::fault::Fault;
 use mm_packet::octet_at;
 use std::alloc::{AllocError, Global};
 
-// The count and the octets after it, where these are so many entries.
+// The count and the octets after it, where these are that many entries.
 fn counted_at(least: u8, width: usize, octets: &[u8]) -> Option<(usize, &[u8])>
     requires { width ≤ 28 }
     ensures value { option_map (λ x. (x.0, x.1.now)) result ≡ counted_at least width octets.now }
@@ -25,7 +25,7 @@ fn counted_at(least: u8, width: usize, octets: &[u8]) -> Option<(usize, &[u8])>
     Some((count as usize, rest))
 }
 
-// The entries after their count, of which there are so many at least.
+// The entries after their count, of which there are at least this many.
 pub(crate) fn counted_entries<E: Entry>(
     alloc: Global,
     least: u8,

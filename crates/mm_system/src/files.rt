@@ -11,10 +11,10 @@ use std::io::{self, ErrorKind, Read};
 use std::rt;
 use thiserror::Error;
 
-/// The most reads of one file, and the most octets that it may have.
+/// The most reads of one file, and the most bytes that it may have.
 pub const MAX_READS: u64 = 1 << 30;
 
-/// How many octets one read asks for.
+/// How many bytes one read asks for.
 const PIECE: usize = 4096;
 
 /// Why the text of a file is not there.
@@ -26,15 +26,15 @@ pub enum ReadFault {
     NotRead,
 }
 
-/// Where the octets of a file come from.
+/// Where the bytes of a file come from.
 pub trait Input {
-    /// The octets that are still to come, where they are known.
+    /// The bytes that are still to come, where they are known.
     ghost coming: { Self → Option (List ℕ) };
 
     /// Whether no read fails.
     ghost is_sure: { Self → Bool };
 
-    /// Reads some octets, and none only at the end.
+    /// Reads some bytes, and none only at the end.
     fn read(&mut self, piece: &mut [u8]) -> io::Result<usize>
         ensures bound { ReadsAtMost result piece.new }
         ensures octets { ReadConsumes (coming self.old) (coming self.new) result piece.new }
@@ -72,7 +72,7 @@ pub trait Files {
     fn read(&mut self, alloc: Global, name: &str) -> Result<Vec<u8>, ReadFault>;
 }
 
-/// Reads to the end; `NotRead` where a read fails, or the end has not come after 2^30 reads or 2^30 octets.
+/// Reads to the end; `NotRead` where a read fails, or the end has not come after 2^30 reads or 2^30 bytes.
 pub fn read_to_end<I: Input>(alloc: Global, input: &mut I) -> Result<Vec<u8>, ReadFault>
     ensures within { IfOk result (λ text. length text.items ≤ MAX_READS) }
     ensures whole { IfOk result (λ text. IfSome (I.coming input.old) (λ octets. text.items ≡ octets)) }
