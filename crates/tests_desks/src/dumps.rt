@@ -259,3 +259,34 @@ fn a_worker_that_broke_off_takes_no_further_order(rt: HostRuntime) {
 fn a_window_that_is_too_small_breaks_the_order(rt: HostRuntime) {
     tried(&rt, rt.alloc(), &SMALL_WINDOW);
 }
+
+// How many packets stores hold together.
+fn held_in_all(stores: &[Held]) -> u32 {
+    let mut held = 0u32;
+    for store in stores {
+        held = held.saturating_add(store.state.store().len());
+    }
+    held
+}
+
+// Of three orders the link that fails broke one, or was given none; the other link carried out the rest.
+fn other_went_on(rt: &impl Abort, stores: &[Held], failing: &Wire, other: &Wire) {
+    let kept = held_in_all(stores);
+    assert!(rt; kept <= 1, "one order breaks at the most");
+    assert!(rt; failing.taken().is_empty(), "nothing went over the link that fails");
+    assert!(rt; failing.failures() == u64::from(kept), "it failed once where an order broke");
+    assert!(rt; other.taken().len() + kept as usize == 3, "the other orders are whole");
+}
+
+#[test]
+fn the_other_worker_goes_on_where_one_broke_off(rt: HostRuntime) {
+    let alloc = rt.alloc();
+    let stores = stores_with(&rt, alloc, &[1, 1, 1]);
+    let links = wires(&rt, alloc, &[Some(0), None]);
+    let left = dumped(&rt, alloc, 3, &[1, 1, 1], stores, links);
+    assert!(rt; left.agree, "all agrees");
+    match left.links.as_slice() {
+        [failing, other] => other_went_on(&rt, &left.stores, failing, other),
+        _ => assert!(rt; false, "two links"),
+    }
+}
