@@ -27,15 +27,20 @@ fn setup_text(alloc: Global) -> Result<String, AllocError> {
     Ok(text)
 }
 
-// A memory of that setup, where there is room for it.
-fn memory_in_room(alloc: Global) -> Option<Memory> {
-    let text = setup_text(alloc).ok()?;
-    let setup = Setup::read(alloc, text.as_str().as_bytes()).ok()?;
+/// The memory of a setup with this text, where there is room for it.
+pub(crate) fn memory_of_text(alloc: Global, text: &[u8]) -> Option<Memory> {
+    let setup = Setup::read(alloc, text).ok()?;
     Memory::of_setup(alloc, &setup).ok()
 }
 
-// The target of an instruction on the store, where there is room for it.
-fn target(alloc: Global, id: &StoreId) -> Option<Entries<Target>> {
+// The memory of the sixteen stores, where there is room for it.
+fn memory_in_room(alloc: Global) -> Option<Memory> {
+    let text = setup_text(alloc).ok()?;
+    memory_of_text(alloc, text.as_str().as_bytes())
+}
+
+/// The target of an instruction on the store, where there is room for it.
+pub(crate) fn target(alloc: Global, id: &StoreId) -> Option<Entries<Target>> {
     let mut targets = Vec::new(alloc);
     targets.push(Target { id: id.field() }).ok()?;
     Some(Entries::new(targets))

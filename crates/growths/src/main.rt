@@ -2,6 +2,7 @@
 #![tactic(auto)]
 
 mod applied;
+mod created;
 mod met;
 mod runs;
 mod seats;
@@ -11,6 +12,7 @@ mod wire;
 
 use anyhow::Result;
 use applied::deleted;
+use created::created;
 use met::Met;
 use runs::{crowd, flight, run};
 use seats::desk;
@@ -26,6 +28,7 @@ fn named<R: Threads + Wait + Sync>(rt: &R, alloc: Global, name: &[u8]) -> Met {
         b"plan_bytes" => planned(alloc),
         b"check_bytes" => checked(alloc),
         b"apply" => deleted(alloc),
+        b"create" => created(alloc),
         b"seats" => desk(rt, alloc),
         b"carry_out" => run(rt, alloc),
         b"crowd" => crowd(rt, alloc),

@@ -14,7 +14,9 @@ use std::alloc::Global;
 use std::sync::Wait;
 use std::thread::Threads;
 
-const SETUP: &[u8] = b"[[store]]\nid = \"SCI\"\nsize = 4\ntype = \"bounded\"\nchannel = 0\n\n\
+/// One bounded store of four blocks, SCI, on channel 0, with one route.
+pub(crate) const SETUP: &[u8] =
+    b"[[store]]\nid = \"SCI\"\nsize = 4\ntype = \"bounded\"\nchannel = 0\n\n\
     [[route]]\napid = 100\nservice = 3\nsubtype = 25\nstore = \"SCI\"\n";
 
 const FORECAST: &[u8] = b"step,window,SCI\n1,2,3\n2,2,3\n3,0,4\n";
