@@ -300,7 +300,7 @@ module _ {S L : Type 0} (gives : S → ℕ → List SpacePacket) (sent : L → L
           same_held (WentByOneLog e came k old) dumping.mid.stores off.cargo.stores stores
           (then_calls e came k old (opening_at (states_of dumping.mid.stores.items) k) first (opening_at (states_of dumping.mid.stores.items) k) []
           (record { legal = tt; leaves = refl }) (inl refl))
-      by_how (inr (agree, why, cause, settled, used)) =
+      by_how (inr (agree, why, cause, settled, used, kept)) =
           let all = settled (dump_agrees step agree why off.cause cause other) in
           then_tried e came k old (opening_at (states_of dumping.mid.stores.items) k) first new (sum_by (times k) all.places) (all.course k)
           (all.stores k (inside off.cargo.stores.items labels))
@@ -324,7 +324,7 @@ module _ {S L : Type 0} (gives : S → ℕ → List SpacePacket) (sent : L → L
 
         by_how : OrdersEnd sent failed step orders dumping.mid off → WentWhole e came k old new
         by_how (inl (stores, links, spent, cause)) = absurd (cc (cause, is_link))
-        by_how (inr (agree, why, cause, settled, used)) =
+        by_how (inr (agree, why, cause, settled, used, kept)) =
             let told = link_failed step agree why (cause ∙ ap (λ (c : Cause). Some c) is_link) in
             let all = settled told.0 in
             let tried = all.stores k (inside off.cargo.stores.items labels) in

@@ -1,4 +1,4 @@
-use Rattle.std.proofs.Common.{rules, ◌≡◌, inl, inr, length, sym, subst, vec_len}
+use Rattle.std.proofs.Common.{rules, ◌≡◌, refl, inl, inr, length, sym, subst, vec_len}
 use Rattle.mm_ready.specs.Ready.{outset, Stops, MayBegin}
 use Rattle.mm_exec.specs.Course.{HasStopped, IsEnded, IsRefusal}
 use Rattle.mm_exec.specs.Mission.{mission}
@@ -16,6 +16,15 @@ returns-in-Err-clause-err g c =
       record { cargo_is = c.not_begun.ensures.cargo; report_is = c.not_begun.ensures.report; spent_is = c.not_begun.ensures.spent },
       subst (IsRefusal o) (sym c.not_begun.ensures.cause) (refused o c.in-Err.cause stops),
     )
+
+pub returns-in_default-new_room-clause-err : goal.returns-in_default-new_room-clause-err
+returns-in_default-new_room-clause-err g c =
+    let sources : c.len-sources.result ≡ length c.args.cargo.sources.items = search rules in
+    let links : c.len-links.result ≡ length c.args.cargo.links.items = search rules in
+    let begun = outset_by MayBegin c.args.problem.now c.args.plan.now c.args.base c.deref.ensures.value sources links c.in_default.ensures.ok in
+    let o = outset c.args.problem.now c.args.plan.now c.args.cargo.stores.items c.args.base (length c.args.cargo.sources.items) (length c.args.cargo.links.items) in
+    let left = c.not_begun-in_default-new_room.ensures in
+    inr (record { cargo_is = left.cargo; report_is = left.report; spent_is = left.spent }, subst (IsRefusal o) (sym left.cause) (refl, begun))
 
 pub carry_steps-requires-clause-begins : goal.carry_steps-requires-clause-begins
 carry_steps-requires-clause-begins g c κs within =
