@@ -273,9 +273,18 @@ fn held_in_all(stores: &[Held]) -> u32 {
 fn other_went_on(rt: &impl Abort, stores: &[Held], failing: &Wire, other: &Wire) {
     let kept = held_in_all(stores);
     assert!(rt; kept <= 1, "one order breaks at the most");
-    assert!(rt; failing.taken().is_empty(), "nothing went over the link that fails");
-    assert!(rt; failing.failures() == u64::from(kept), "it failed once where an order broke");
-    assert!(rt; other.taken().len() + kept as usize == 3, "the other orders are whole");
+    assert!(rt;
+        failing.taken().is_empty(),
+        "nothing went over the link that fails"
+    );
+    assert!(rt;
+        failing.failures() == u64::from(kept),
+        "it failed once where an order broke"
+    );
+    assert!(rt;
+        other.taken().len() + kept as usize == 3,
+        "the other orders are whole"
+    );
 }
 
 #[test]
