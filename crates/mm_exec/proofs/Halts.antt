@@ -17,7 +17,7 @@ use Rattle.mm_desk.specs.declared.fault.Fault.TheVariants as fault
 use Rattle.mm_desk.specs.declared.held.Held.{Held}
 use Rattle.mm_desk.specs.Laws.{HasTimes, OffersLeave, ReplaysKeepStates, OrdersDumpTheOldest}
 use Rattle.mm_desk.specs.Machine.{State, IsState}
-use Rattle.mm_desk.specs.Offers.{Leaves, IsShuffleOfEvents, count_of}
+use Rattle.mm_desk.specs.Offers.{Leaves, count_of}
 use Rattle.mm_desk.specs.Orders.{Dumps}
 use Rattle.mm_desk.specs.Runs.{IsRun, opening_at, replay}
 use Rattle.mm_crew.specs.Closings.{labels_of, states_of}
@@ -32,7 +32,7 @@ use Rattle.mm_order.specs.declared.order.OrderBroken.{OrderBroken}
 use Rattle.mm_order.specs.declared.order.OrderBroken.TheVariants as broken
 use Rattle.mm_order.specs.Laws.{AbortedOrdersChangeNothing}
 use Rattle.mm_order.specs.Sending.{Sent}
-use Rattle.mm_dump.specs.Courses.{Course, IsCourse, WentAs, worse, worst_of}
+use Rattle.mm_dump.specs.Courses.{Course, WentAs, worse, worst_of}
 use Rattle.mm_dump.specs.Dumped.{times, HasTried, AllSettled, AllKept, used_by}
 use Rattle.mm_report.specs.declared.cause.Cause.{Cause}
 use Rattle.mm_report.specs.declared.cause.Cause.TheVariants.{NoMemory, LinkFailed, LogMismatch}
@@ -41,7 +41,7 @@ use Rattle.mm_runs.proofs.Replays.{IsRun-append, timed_log}
 use Rattle.mm_exec.specs.declared.step.BrokenOff.{BrokenOff}
 use Rattle.mm_exec.specs.declared.step.Cargo.{Cargo}
 use Rattle.mm_exec.specs.Halts.{AreOneOrder, AreFirstOffers, WentByOneLog, WentWhole, BrokenStepsAreLogs, FailedLinksLeaveAllRecorded}
-use Rattle.mm_exec.specs.Step.{dump_cause, BrokeRecording, BrokeOrders, BrokeDumping, BrokeStep}
+use Rattle.mm_exec.specs.Step.{dump_cause, BrokeRecording, BrokeDumping, BrokeStep}
 use Rattle.mm_exec.proofs.Coming.{timed_list}
 use Rattle.mm_exec.proofs.Parts.{as_many}
 

@@ -1,5 +1,5 @@
 -- How a run ends: carried out, or halted.
-use Rattle.std.specs.Prelude.{◌≡◌, ◌≢◌, ℕ, ◌-◌, ◌≤◌, ◌⊎◌, List, [], length, ◌+◌, ◌<◌}
+use Rattle.std.specs.Prelude.{◌≡◌, ◌≢◌, ℕ, ◌-◌, ◌≤◌, ◌⊎◌, List, [], length, ◌+◌}
 use Rattle.std.specs.List.{AllZip}
 use Rattle.mm_packet.specs.Packet.{SpacePacket}
 use Rattle.mm_problem.specs.Dumping.{window}

@@ -1,6 +1,5 @@
-use Rattle.std.proofs.Common.{ap, ◌∙◌, rules, ◌≡◌, ℕ, ◌+◌, ◌-◌, ◌<◌, ◌≤◌, List, length, take, sym, subst, arith, vec_len}
+use Rattle.std.proofs.Common.{ap, ◌∙◌, rules, ◌≡◌, ℕ, ◌+◌, ◌-◌, ◌<◌, ◌≤◌, length, take, sym, subst, arith, vec_len}
 use Rattle.std.proofs.lemmas.List.{length-take-le}
-use Rattle.mm_desk.specs.declared.held.Held.{Held}
 use Rattle.mm_memory.specs.Holdings.{Holdings}
 use Rattle.mm_report.specs.Report.{Reported}
 use Rattle.mm_plan.specs.Table.{amount}
