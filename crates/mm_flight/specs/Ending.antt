@@ -7,7 +7,7 @@ use Rattle.mm_base.specs.declared.refusal.Refusal.{Refusal}
 use Rattle.mm_base.specs.declared.refusal.Refusal.TheVariants as refusal
 use Rattle.mm_report.specs.Cause.{refusal_of}
 use Rattle.mm_report.specs.declared.cause.Cause.{Cause}
-use Rattle.mm_report.specs.declared.cause.Cause.TheVariants.{PlanShape, NotReady, SizeDiffers, OpeningDiffers, ChannelDiffers, ClockTooLate, PlanDoesNotFit, Counts, NoMemory, LinkFailed, LogMismatch}
+use Rattle.mm_report.specs.declared.cause.Cause.TheVariants.{NotReady, SizeDiffers, OpeningDiffers, ChannelDiffers, PlanDoesNotFit, NoMemory, LinkFailed, LogMismatch}
 
 -- the number and the name of a refusal
 abbrev pub refusal_text : Refusal → List ℕ

@@ -1,5 +1,5 @@
 -- Which fault of the texts is told: the first, in the order setup, forecast, plan text, its shape, sources, links.
-use Rattle.std.specs.Prelude.{◌≡◌, List, ℕ}
+use Rattle.std.specs.Prelude.{List, ℕ}
 use Rattle.mm_problem.specs.Dumping.{Dumping}
 use Rattle.mm_memory.specs.Holdings.{Holdings}
 use Rattle.mm_plan.specs.Sheet.{SheetRows}

@@ -5,7 +5,6 @@ use Rattle.mm_report.specs.Cause.{refusal_of}
 use Rattle.mm_report.specs.Report.{Reported}
 use Rattle.mm_report.specs.Text.{report_text}
 use Rattle.mm_report.specs.declared.cause.Cause.{Cause}
-use Rattle.mm_flight.specs.declared.printed.Outcome.{Outcome}
 use Rattle.mm_flight.specs.declared.printed.Outcome.TheVariants.{CarriedOut, Stopped}
 use Rattle.mm_flight.specs.declared.printed.Printed.{Printed}
 use Rattle.mm_flight.specs.Ending.{step_of, end_line, lacking_line}

@@ -1,5 +1,5 @@
 -- What a run from texts prints.
-use Rattle.std.specs.Prelude.{◌≡◌, ◌⊎◌, ℕ, List, [], slice_index_or}
+use Rattle.std.specs.Prelude.{◌⊎◌, ℕ, List, [], slice_index_or}
 use Rattle.mm_problem.specs.Dumping.{Dumping}
 use Rattle.mm_packet.specs.Packet.{SpacePacket}
 use Rattle.mm_plan.specs.Sheet.{SheetRows}

@@ -2,7 +2,6 @@ use Rattle.std.proofs.Common.{◌≡◌, inl, inr, ◌∙◌, ap}
 use Rattle.mm_flight.specs.declared.printed.Printed.{Printed}
 use Rattle.mm_flight.specs.Opening.{opened_with}
 use Rattle.mm_flight.specs.Printed.{TellsAll, TellsEnd}
-use Rattle.mm_flight.specs.Runs.{FliesWhole, FliesEarly}
 use Rattle.mm_flight.proofs.Endings.{if_ok}
 use Rattle.mm_flight.proofs.fly.plan_and_carry.Goals as goal
 

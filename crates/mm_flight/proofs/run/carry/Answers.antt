@@ -1,8 +1,7 @@
-use Rattle.std.proofs.Common.{◌≡◌, [], inl, inr, ◌∙◌, sym, ap}
+use Rattle.std.proofs.Common.{◌≡◌, [], inl, inr, ◌∙◌, ap}
 use Rattle.mm_flight.specs.declared.printed.Printed.{Printed}
 use Rattle.mm_flight.specs.Opening.{opened_with}
 use Rattle.mm_flight.specs.Printed.{TellsAll, TellsEnd}
-use Rattle.mm_flight.specs.Runs.{EndsWhole, EndsEarly}
 use Rattle.mm_flight.proofs.Endings.{if_ok}
 use Rattle.mm_flight.proofs.run.carry.Goals as goal
 
