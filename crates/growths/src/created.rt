@@ -121,7 +121,7 @@ fn as_answered(memory: &Memory, step: &Step, answer: Answer) -> Met {
         Answer::Done => Met::Whole.provided(now == Some(step.after), "another store"),
         Answer::Refused(fault) => {
             let lacks = fault == Fault::NoMemory && may_lack_memory(&step.alone);
-            Met::Wanted
+            Met::Refused
                 .provided(lacks, "another answer")
                 .provided(now == step.before, "a store changed without memory")
         }

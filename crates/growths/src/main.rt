@@ -51,6 +51,7 @@ fn main(rt: HostRuntime) -> Result<()> {
     match part(&rt, rt.alloc()) {
         Met::Unready => println!(rt; "there was no memory to begin the calls")?,
         Met::Wanted => println!(rt; "memory was wanted")?,
+        Met::Refused => println!(rt; "an instruction found no memory")?,
         Met::Unplanned => println!(rt; "there was no memory to plan")?,
         Met::Halted(step) => println!(rt; "halted in step {step}")?,
         Met::HaltedOn(step) => println!(rt; "halted in step {step}, and a retrieval was on")?,

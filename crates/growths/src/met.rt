@@ -7,6 +7,8 @@ pub(crate) enum Met {
     Unready,
     /// A call answered that memory was wanted.
     Wanted,
+    /// An instruction was refused by itself for want of memory.
+    Refused,
     /// No plan was made, for want of memory, and nothing was done.
     Unplanned,
     /// A run was halted for want of memory in this step, or before the first one, in step 0.
