@@ -121,6 +121,18 @@ impl ControlTable {
         (before - self.rows.len()) as u32
     }
 
+    /// The rows of a report type, in the order of their stores. They are read in place.
+    pub fn rows_for(&self, apid: u16, service: u8, subtype: u8) -> &[RouteRow]
+        ensures rows { result.now ≡ filter (is_for apid service subtype) self.now }
+        // Their stores stand in order, and a store is among them once where the table has the row, and else not.
+        ensures in_order { AreInOrder (map (λ r. r.store) result.now) }
+        ensures once { (id : List ℕ)
+            → filter (bytes_eq id) (map (λ r. r.store) result.now)
+            ≡ (if has_row (record { apid = apid; service = service; subtype = subtype; store = id }) self.now then id ∷ [] else []) }
+    {
+        rows_for(&self.rows, apid, service, subtype)
+    }
+
     /// The stores that a report type goes into, in the order of their identifiers.
     pub fn stores_for(
         &self,
@@ -137,7 +149,7 @@ impl ControlTable {
             → filter (bytes_eq id) stores.items
             ≡ (if has_row (record { apid = apid; service = service; subtype = subtype; store = id }) self.now then id ∷ [] else [])) }
     {
-        let stores = stores_of(alloc, rows_for(&self.rows, apid, service, subtype))?;
+        let stores = stores_of(alloc, self.rows_for(apid, service, subtype))?;
         Ok(stores)
     }
 

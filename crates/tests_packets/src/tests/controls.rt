@@ -25,7 +25,7 @@ fn adds(rt: &impl Abort, table: &mut ControlTable, row: RouteRow) {
     assert!(rt; table.add(row) == Ok(()));
 }
 
-// Report types of this APID, service and subtype go into these stores.
+// Report types of this APID, service and subtype go into these stores, and their rows lead there.
 fn finds(
     rt: &impl Abort,
     alloc: Global,
@@ -37,6 +37,14 @@ fn finds(
     let stores = table.stores_for(alloc, apid, service, subtype);
     let stores = stores.expect(rt, "memory");
     assert!(rt; stores.as_slice() == want, "for {apid} {service} {subtype}");
+    let rows = table.rows_for(apid, service, subtype);
+    assert!(rt;
+        rows.len() == want.len(),
+        "rows of {apid} {service} {subtype}"
+    );
+    for (row, id) in rows.iter().zip(want.iter()) {
+        assert!(rt; row.store == *id && row.apid == apid);
+    }
 }
 
 fn empty(rt: &impl Abort, alloc: Global) -> ControlTable {
