@@ -6,6 +6,7 @@ use Rattle.std.proofs.lemmas.Bool.Decides.{eqb_tells}
 use Rattle.std.proofs.lemmas.List.{append-nil, get_or_default, map-append, take_more, take_all, take-append-drop}
 use Rattle.std.proofs.lemmas.List.Elements.{filter-append, All-append}
 use Rattle.std.proofs.lemmas.Result.{on_ok_weaker, on_err_weaker}
+use Rattle.mm_base.specs.declared.rows.RouteRow.{RouteRow}
 use Rattle.mm_packet.specs.Packet.{SpacePacket}
 use Rattle.mm_desk.specs.declared.entry.Entry.{Entry}
 use Rattle.mm_desk.specs.declared.event.Event.{Event}
@@ -22,7 +23,7 @@ use Rattle.mm_desk.specs.Runs.{entry}
 use Rattle.mm_desk.specs.Seats.{Place, Tells, new_seat, with_call}
 use Rattle.mm_crew.specs.Crews.{list_at}
 use Rattle.mm_crew.specs.Stations.{id_at}
-use Rattle.mm_record.specs.Offering.{offer_at, offers_named, GoesBy, GoesPartly, Adds, AddsPartly}
+use Rattle.mm_record.specs.Offering.{offer_at, offers_by, GoesBy, GoesPartly, Adds, AddsPartly}
 
 -- a list that stays goes on by nothing
 pub goes_nowhere : (xs : List Entry) → GoesBy [] xs xs
@@ -142,36 +143,36 @@ adds_partly_at now p seats place count d seat seated within goes = record {
   lists = each_at GoesPartly (partly_nowhere []) now p seats place count d seat seated within goes;
 }
 
--- the store at this place is the one with an identifier
-found_at : (now : ℕ) (p : SpacePacket) (own id : List ℕ) (k place : ℕ) → bytes_eq own id ≡ (k == place)
-    → offer_at now p place k ≡ offers_named now p own (id ∷ [])
-found_at now p own id k place is = rw is (by_test (k == place))
+-- the store at this place is the one that a row leads to
+found_at : (now : ℕ) (p : SpacePacket) (own : List ℕ) (row : RouteRow) (k place : ℕ) → bytes_eq own row.store ≡ (k == place)
+    → offer_at now p place k ≡ offers_by now p own (row ∷ [])
+found_at now p own row k place is = rw is (by_test (k == place))
   where
-    by_test : (b : Bool) → (if b then Offer now p ∷ [] else []) ≡ map (λ _. Offer now p) (cond b (id ∷ []) [])
+    by_test : (b : Bool) → (if b then Offer now p ∷ [] else []) ≡ map (λ _. Offer now p) (cond b (row ∷ []) [])
     by_test true = refl
     by_test false = refl
 
-pub adds_found : (now : ℕ) (p : SpacePacket) (ids : List (List ℕ)) (id : List ℕ) (place count : ℕ) (a b : List Place)
-    → ((j : ℕ) → j < count → bytes_eq (id_at ids j) id ≡ (j == place))
-    → Adds count (offer_at now p place) a b → Adds count (λ k. offers_named now p (id_at ids k) (id ∷ [])) a b
-adds_found now p ids id place count a b is one = record {
+pub adds_found : (now : ℕ) (p : SpacePacket) (ids : List (List ℕ)) (row : RouteRow) (place count : ℕ) (a b : List Place)
+    → ((j : ℕ) → j < count → bytes_eq (id_at ids j) row.store ≡ (j == place))
+    → Adds count (offer_at now p place) a b → Adds count (λ k. offers_by now p (id_at ids k) (row ∷ [])) a b
+adds_found now p ids row place count a b is one = record {
   seated = one.seated;
-  lists = λ k within. rw (found_at now p (id_at ids k) id k place (is k within)) at (one.lists k within);
+  lists = λ k within. rw (found_at now p (id_at ids k) row k place (is k within)) at (one.lists k within);
 }
 
-pub adds_partly_found : (now : ℕ) (p : SpacePacket) (ids : List (List ℕ)) (id : List ℕ) (place count : ℕ) (a b : List Place)
-    → ((j : ℕ) → j < count → bytes_eq (id_at ids j) id ≡ (j == place))
-    → AddsPartly count (offer_at now p place) a b → AddsPartly count (λ k. offers_named now p (id_at ids k) (id ∷ [])) a b
-adds_partly_found now p ids id place count a b is one = record {
+pub adds_partly_found : (now : ℕ) (p : SpacePacket) (ids : List (List ℕ)) (row : RouteRow) (place count : ℕ) (a b : List Place)
+    → ((j : ℕ) → j < count → bytes_eq (id_at ids j) row.store ≡ (j == place))
+    → AddsPartly count (offer_at now p place) a b → AddsPartly count (λ k. offers_by now p (id_at ids k) (row ∷ [])) a b
+adds_partly_found now p ids row place count a b is one = record {
   seated = one.seated;
-  lists = λ k within. rw (found_at now p (id_at ids k) id k place (is k within)) at (one.lists k within);
+  lists = λ k within. rw (found_at now p (id_at ids k) row k place (is k within)) at (one.lists k within);
 }
 
--- no store has the identifier, so nothing is offered
-pub adds_nothing : (now : ℕ) (p : SpacePacket) (ids : List (List ℕ)) (id : List ℕ) (seats : List Place) (count : ℕ)
-    → ((j : ℕ) → j < count → bytes_eq (id_at ids j) id ≡ false)
-    → Adds count (λ k. offers_named now p (id_at ids k) (id ∷ [])) seats seats
-adds_nothing now p ids id seats count none = record {
+-- the row leads to no store, so nothing is offered
+pub adds_nothing : (now : ℕ) (p : SpacePacket) (ids : List (List ℕ)) (row : RouteRow) (seats : List Place) (count : ℕ)
+    → ((j : ℕ) → j < count → bytes_eq (id_at ids j) row.store ≡ false)
+    → Adds count (λ k. offers_by now p (id_at ids k) (row ∷ [])) seats seats
+adds_nothing now p ids row seats count none = record {
   seated = refl;
   lists = λ k within. rw (none k within) (goes_nowhere (list_at seats k));
 }
@@ -183,6 +184,19 @@ adds_none count seats = record { seated = refl; lists = λ k within. goes_nowher
 -- seats that stay, with all left to do
 pub adds_partly_none : (count : ℕ) (more : ℕ → List Event) (seats : List Place) → AddsPartly count more seats seats
 adds_partly_none count more seats = record { seated = refl; lists = λ k within. partly_nowhere (more k) (list_at seats k) }
+
+-- the same offers in other words
+pub adds_same : (count : ℕ) (f g : ℕ → List Event) (a b : List Place) → ((k : ℕ) → f k ≡ g k) → Adds count f a b → Adds count g a b
+adds_same count f g a b same one = record {
+  seated = one.seated;
+  lists = λ k within. rw (same k) at (one.lists k within);
+}
+
+pub adds_partly_same : (count : ℕ) (f g : ℕ → List Event) (a b : List Place) → ((k : ℕ) → f k ≡ g k) → AddsPartly count f a b → AddsPartly count g a b
+adds_partly_same count f g a b same one = record {
+  seated = one.seated;
+  lists = λ k within. rw (same k) at (one.lists k within);
+}
 
 -- one after another
 pub adds_more : (count : ℕ) (f g h : ℕ → List Event) (a b c : List Place) → Adds count f a b → Adds count g b c
@@ -206,56 +220,56 @@ adds_partly_before count f g h a b one both = record {
   lists = λ k within. rw (both k) (partly_before (f k) (g k) (list_at a k) (list_at b k) (one.lists k within));
 }
 
--- the offers by names, one after another
-offers_more : (now : ℕ) (p : SpacePacket) (id : List ℕ) (xs ys : List (List ℕ)) → offers_named now p id (xs ++ ys) ≡ offers_named now p id xs ++ offers_named now p id ys
-offers_more now p id xs ys = ap (map (λ _. Offer now p)) (filter-append (bytes_eq id) xs ys) ∙ map-append (λ _. Offer now p) (filter (bytes_eq id) xs) (filter (bytes_eq id) ys)
+-- the offers by rows, one after another
+offers_more : (now : ℕ) (p : SpacePacket) (id : List ℕ) (xs ys : List RouteRow) → offers_by now p id (xs ++ ys) ≡ offers_by now p id xs ++ offers_by now p id ys
+offers_more now p id xs ys = ap (map (λ _. Offer now p)) (filter-append (λ (r : RouteRow). bytes_eq id r.store) xs ys) ∙ map-append (λ _. Offer now p) (filter (λ (r : RouteRow). bytes_eq id r.store) xs) (filter (λ (r : RouteRow). bytes_eq id r.store) ys)
 
--- after one name more
-pub adds_name : (now : ℕ) (p : SpacePacket) (ids named : List (List ℕ)) (i : ℕ) (id : List ℕ) (count : ℕ) (a b c : List Place)
-    → i < length named → get_or named i id ≡ id
-    → Adds count (λ k. offers_named now p (id_at ids k) (take i named)) a b
-    → Adds count (λ k. offers_named now p (id_at ids k) (id ∷ [])) b c
-    → Adds count (λ k. offers_named now p (id_at ids k) (take (i + 1) named)) a c
-adds_name now p ids named i id count a b c within at one two =
-    let next : take (i + 1) named ≡ take i named ++ id ∷ [] = take_more named i id within ∙ ap (λ (x : List ℕ). take i named ++ x ∷ []) at in
+-- after one row more
+pub adds_row : (now : ℕ) (p : SpacePacket) (ids : List (List ℕ)) (rows : List RouteRow) (i : ℕ) (row : RouteRow) (count : ℕ) (a b c : List Place)
+    → i < length rows → get_or rows i row ≡ row
+    → Adds count (λ k. offers_by now p (id_at ids k) (take i rows)) a b
+    → Adds count (λ k. offers_by now p (id_at ids k) (row ∷ [])) b c
+    → Adds count (λ k. offers_by now p (id_at ids k) (take (i + 1) rows)) a c
+adds_row now p ids rows i row count a b c within at one two =
+    let next : take (i + 1) rows ≡ take i rows ++ row ∷ [] = take_more rows i row within ∙ ap (λ (x : RouteRow). take i rows ++ x ∷ []) at in
     adds_more count _ _ _ a b c one two
-    (λ k. ap (offers_named now p (id_at ids k)) next ∙ offers_more now p (id_at ids k) (take i named) (id ∷ []))
+    (λ k. ap (offers_by now p (id_at ids k)) next ∙ offers_more now p (id_at ids k) (take i rows) (row ∷ []))
 
--- a name at which it ends
-pub adds_name_partly : (now : ℕ) (p : SpacePacket) (ids named : List (List ℕ)) (i : ℕ) (id : List ℕ) (count : ℕ) (a b c : List Place)
-    → i < length named → get_or named i id ≡ id
-    → Adds count (λ k. offers_named now p (id_at ids k) (take i named)) a b
-    → AddsPartly count (λ k. offers_named now p (id_at ids k) (id ∷ [])) b c
-    → AddsPartly count (λ k. offers_named now p (id_at ids k) named) a c
-adds_name_partly now p ids named i id count a b c within at one two =
-    let next : take (i + 1) named ≡ take i named ++ id ∷ [] = take_more named i id within ∙ ap (λ (x : List ℕ). take i named ++ x ∷ []) at in
-    let here = adds_partly_after count _ _ (λ k. offers_named now p (id_at ids k) (take (i + 1) named)) a b c one two
-    (λ k. ap (offers_named now p (id_at ids k)) next ∙ offers_more now p (id_at ids k) (take i named) (id ∷ [])) in
-    adds_partly_before count _ (λ k. offers_named now p (id_at ids k) (drop (i + 1) named)) _ a c here
-    (λ k. ap (offers_named now p (id_at ids k)) (sym (take-append-drop (i + 1) named)) ∙ offers_more now p (id_at ids k) (take (i + 1) named) (drop (i + 1) named))
+-- a row at which it ends
+pub adds_row_partly : (now : ℕ) (p : SpacePacket) (ids : List (List ℕ)) (rows : List RouteRow) (i : ℕ) (row : RouteRow) (count : ℕ) (a b c : List Place)
+    → i < length rows → get_or rows i row ≡ row
+    → Adds count (λ k. offers_by now p (id_at ids k) (take i rows)) a b
+    → AddsPartly count (λ k. offers_by now p (id_at ids k) (row ∷ [])) b c
+    → AddsPartly count (λ k. offers_by now p (id_at ids k) rows) a c
+adds_row_partly now p ids rows i row count a b c within at one two =
+    let next : take (i + 1) rows ≡ take i rows ++ row ∷ [] = take_more rows i row within ∙ ap (λ (x : RouteRow). take i rows ++ x ∷ []) at in
+    let here = adds_partly_after count _ _ (λ k. offers_by now p (id_at ids k) (take (i + 1) rows)) a b c one two
+    (λ k. ap (offers_by now p (id_at ids k)) next ∙ offers_more now p (id_at ids k) (take i rows) (row ∷ [])) in
+    adds_partly_before count _ (λ k. offers_by now p (id_at ids k) (drop (i + 1) rows)) _ a c here
+    (λ k. ap (offers_by now p (id_at ids k)) (sym (take-append-drop (i + 1) rows)) ∙ offers_more now p (id_at ids k) (take (i + 1) rows) (drop (i + 1) rows))
 
--- at the end of the names
-pub adds_names : (now : ℕ) (p : SpacePacket) (ids named : List (List ℕ)) (i : ℕ) (count : ℕ) (a b : List Place)
-    → length named ≤ i → Adds count (λ k. offers_named now p (id_at ids k) (take i named)) a b
-    → Adds count (λ k. offers_named now p (id_at ids k) named) a b
-adds_names now p ids named i count a b past one =
-    subst (λ (xs : List (List ℕ)). Adds count (λ k. offers_named now p (id_at ids k) xs) a b) (take_all i named past) one
+-- at the end of the rows
+pub adds_rows : (now : ℕ) (p : SpacePacket) (ids : List (List ℕ)) (rows : List RouteRow) (i : ℕ) (count : ℕ) (a b : List Place)
+    → length rows ≤ i → Adds count (λ k. offers_by now p (id_at ids k) (take i rows)) a b
+    → Adds count (λ k. offers_by now p (id_at ids k) rows) a b
+adds_rows now p ids rows i count a b past one =
+    subst (λ (xs : List RouteRow). Adds count (λ k. offers_by now p (id_at ids k) xs) a b) (take_all i rows past) one
 
--- the last name after the others
-module _ {T E : Type 0} (r : Result T E) (now : ℕ) (p : SpacePacket) (ids named : List (List ℕ)) (last : List ℕ) (count : ℕ) (a b c : List Place)
-    (some : 1 ≤ length named) (at : get_or named (length named - 1) last ≡ last)
-    (others : Adds count (λ k. offers_named now p (id_at ids k) (take (length named - 1) named)) a b) where
-  pub adds_last : OnOk r (Adds count (λ k. offers_named now p (id_at ids k) (last ∷ [])) b c) → OnOk r (Adds count (λ k. offers_named now p (id_at ids k) named) a c)
-  adds_last = on_ok_weaker r (λ one. adds_names now p ids named (length named - 1 + 1) count a c (omega arith)
-      (adds_name now p ids named (length named - 1) last count a b c (omega arith) at others one))
+-- the last row after the others
+module _ {T E : Type 0} (r : Result T E) (now : ℕ) (p : SpacePacket) (ids : List (List ℕ)) (rows : List RouteRow) (last : RouteRow) (count : ℕ) (a b c : List Place)
+    (some : 1 ≤ length rows) (at : get_or rows (length rows - 1) last ≡ last)
+    (others : Adds count (λ k. offers_by now p (id_at ids k) (take (length rows - 1) rows)) a b) where
+  pub adds_last : OnOk r (Adds count (λ k. offers_by now p (id_at ids k) (last ∷ [])) b c) → OnOk r (Adds count (λ k. offers_by now p (id_at ids k) rows) a c)
+  adds_last = on_ok_weaker r (λ one. adds_rows now p ids rows (length rows - 1 + 1) count a c (omega arith)
+      (adds_row now p ids rows (length rows - 1) last count a b c (omega arith) at others one))
 
-  pub adds_partly_last : OnErr r (AddsPartly count (λ k. offers_named now p (id_at ids k) (last ∷ [])) b c) → OnErr r (AddsPartly count (λ k. offers_named now p (id_at ids k) named) a c)
-  adds_partly_last = on_err_weaker r (λ one. adds_name_partly now p ids named (length named - 1) last count a b c (omega arith) at others one)
+  pub adds_partly_last : OnErr r (AddsPartly count (λ k. offers_by now p (id_at ids k) (last ∷ [])) b c) → OnErr r (AddsPartly count (λ k. offers_by now p (id_at ids k) rows) a c)
+  adds_partly_last = on_err_weaker r (λ one. adds_row_partly now p ids rows (length rows - 1) last count a b c (omega arith) at others one)
 
--- where it ends before the last names
-pub adds_names_partly : (now : ℕ) (p : SpacePacket) (ids named : List (List ℕ)) (i : ℕ) (count : ℕ) (a b : List Place)
-    → AddsPartly count (λ k. offers_named now p (id_at ids k) (take i named)) a b
-    → AddsPartly count (λ k. offers_named now p (id_at ids k) named) a b
-adds_names_partly now p ids named i count a b one =
-    adds_partly_before count _ (λ k. offers_named now p (id_at ids k) (drop i named)) _ a b one
-    (λ k. ap (offers_named now p (id_at ids k)) (sym (take-append-drop i named)) ∙ offers_more now p (id_at ids k) (take i named) (drop i named))
+-- where it ends before the last rows
+pub adds_rows_partly : (now : ℕ) (p : SpacePacket) (ids : List (List ℕ)) (rows : List RouteRow) (i : ℕ) (count : ℕ) (a b : List Place)
+    → AddsPartly count (λ k. offers_by now p (id_at ids k) (take i rows)) a b
+    → AddsPartly count (λ k. offers_by now p (id_at ids k) rows) a b
+adds_rows_partly now p ids rows i count a b one =
+    adds_partly_before count _ (λ k. offers_by now p (id_at ids k) (drop i rows)) _ a b one
+    (λ k. ap (offers_by now p (id_at ids k)) (sym (take-append-drop i rows)) ∙ offers_more now p (id_at ids k) (take i rows) (drop i rows))

@@ -19,9 +19,9 @@ asked seats k = asked_in (list_at seats k)
 abbrev pub offer_at : ℕ → SpacePacket → ℕ → ℕ → List Event
 offer_at now p place k = if k == place then Offer now p ∷ [] else []
 
--- the offers of a packet to the store with an identifier: one for each time that it is named
-abbrev pub offers_named : ℕ → SpacePacket → List ℕ → List (List ℕ) → List Event
-offers_named now p id named = map (λ _. Offer now p) (filter (bytes_eq id) named)
+-- the offers of a packet to the store with an identifier: one for each row that leads to it
+abbrev pub offers_by : ℕ → SpacePacket → List ℕ → List RouteRow → List Event
+offers_by now p id rows = map (λ _. Offer now p) (filter (λ r. bytes_eq id r.store) rows)
 
 -- the offers of a packet to the store with an identifier: one where it is routed to it
 abbrev pub offers_of : ℕ → List RouteRow → List ℕ → SpacePacket → List Event

@@ -1,10 +1,10 @@
 //! One packet: it is offered to each store that its report type is routed to, to the last one itself and to the others a copy.
 ghost use Rattle.std.specs.Prelude.{◌≡◌, ◌<◌, [], ◌∷◌, length, OnOk, OnErr};
 ghost use Rattle.mm_crew.specs.Stations.{ids_of, id_at, AreNamed};
-ghost use Rattle.mm_record.specs.Offering.{offer_at, offers_named, offers_of, Adds, AddsPartly};
+ghost use Rattle.mm_record.specs.Offering.{offer_at, offers_by, offers_of, Adds, AddsPartly};
 
 use crate::round::Round;
-use mm_base::StoreId;
+use mm_base::RouteRow;
 use mm_crew::place_of;
 use mm_desk::{Fault, Opening, Seat};
 use mm_packet::BlockPacket;
@@ -36,82 +36,82 @@ fn offer_at<N: Opening, R: Wait>(
     }
 }
 
-// Offers a copy of a packet to the store with an identifier, where it is one of these.
+// Offers a copy of a packet to the store that a row leads to, where it is one of these.
 fn offer_copy<N: Opening, R: Wait>(
     round: &Round<'_, N, R>,
     seats: &mut [Seat<N>],
     packet: &BlockPacket,
-    id: &StoreId,
+    row: &RouteRow,
 ) -> Result<(), Fault>
     requires named { AreNamed (ids_of round.now.stations.now) }
     requires seated { length seats.old ≡ length round.now.stations.now }
     ensures ok { OnOk result (Adds (length round.now.stations.now)
-        (λ k. offers_named round.now.moment packet.now (id_at (ids_of round.now.stations.now) k) (id.now ∷ [])) seats.old seats.new) }
+        (λ k. offers_by round.now.moment packet.now (id_at (ids_of round.now.stations.now) k) (row.now ∷ [])) seats.old seats.new) }
     ensures err { OnErr result (AddsPartly (length round.now.stations.now)
-        (λ k. offers_named round.now.moment packet.now (id_at (ids_of round.now.stations.now) k) (id.now ∷ [])) seats.old seats.new) }
+        (λ k. offers_by round.now.moment packet.now (id_at (ids_of round.now.stations.now) k) (row.now ∷ [])) seats.old seats.new) }
 {
-    let Some(place) = place_of(round.stations, id) else {
+    let Some(place) = place_of(round.stations, &row.store) else {
         return Ok(());
     };
     let copy = packet.copy(round.alloc)?;
     offer_at(round, seats, copy, place)
 }
 
-// Offers a packet itself to the store with an identifier, where it is one of these.
+// Offers a packet itself to the store that a row leads to, where it is one of these.
 fn offer_itself<N: Opening, R: Wait>(
     round: &Round<'_, N, R>,
     seats: &mut [Seat<N>],
     packet: BlockPacket,
-    id: &StoreId,
+    row: &RouteRow,
 ) -> Result<(), Fault>
     requires named { AreNamed (ids_of round.now.stations.now) }
     requires seated { length seats.old ≡ length round.now.stations.now }
     ensures ok { OnOk result (Adds (length round.now.stations.now)
-        (λ k. offers_named round.now.moment packet (id_at (ids_of round.now.stations.now) k) (id.now ∷ [])) seats.old seats.new) }
+        (λ k. offers_by round.now.moment packet (id_at (ids_of round.now.stations.now) k) (row.now ∷ [])) seats.old seats.new) }
     ensures err { OnErr result (AddsPartly (length round.now.stations.now)
-        (λ k. offers_named round.now.moment packet (id_at (ids_of round.now.stations.now) k) (id.now ∷ [])) seats.old seats.new) }
+        (λ k. offers_by round.now.moment packet (id_at (ids_of round.now.stations.now) k) (row.now ∷ [])) seats.old seats.new) }
 {
-    match place_of(round.stations, id) {
+    match place_of(round.stations, &row.store) {
         Some(place) => offer_at(round, seats, packet, place),
         None => Ok(()),
     }
 }
 
-// Offers a copy of a packet to each of the stores named that is one of these, in their order.
+// Offers a copy of a packet to each store that a row leads to and that is one of these, in the order of the rows.
 fn offer_copies<N: Opening, R: Wait>(
     round: &Round<'_, N, R>,
     seats: &mut [Seat<N>],
     packet: &BlockPacket,
-    named: &[StoreId],
+    rows: &[RouteRow],
 ) -> Result<(), Fault>
     requires named { AreNamed (ids_of round.now.stations.now) }
     requires seated { length seats.old ≡ length round.now.stations.now }
     ensures ok { OnOk result (Adds (length round.now.stations.now)
-        (λ k. offers_named round.now.moment packet.now (id_at (ids_of round.now.stations.now) k) named.now) seats.old seats.new) }
+        (λ k. offers_by round.now.moment packet.now (id_at (ids_of round.now.stations.now) k) rows.now) seats.old seats.new) }
     ensures err { OnErr result (AddsPartly (length round.now.stations.now)
-        (λ k. offers_named round.now.moment packet.now (id_at (ids_of round.now.stations.now) k) named.now) seats.old seats.new) }
+        (λ k. offers_by round.now.moment packet.now (id_at (ids_of round.now.stations.now) k) rows.now) seats.old seats.new) }
 {
-    for id in named {
-        offer_copy(round, seats, packet, id)?;
+    for row in rows {
+        offer_copy(round, seats, packet, row)?;
     }
     Ok(())
 }
 
-// Offers a packet to each of the stores named that is one of these, in their order: the last takes the packet itself.
-fn offer_named<N: Opening, R: Wait>(
+// Offers a packet to each store that a row leads to and that is one of these, in the order of the rows: the last takes the packet itself.
+fn offer_routed<N: Opening, R: Wait>(
     round: &Round<'_, N, R>,
     seats: &mut [Seat<N>],
     packet: BlockPacket,
-    named: &[StoreId],
+    rows: &[RouteRow],
 ) -> Result<(), Fault>
     requires named { AreNamed (ids_of round.now.stations.now) }
     requires seated { length seats.old ≡ length round.now.stations.now }
     ensures ok { OnOk result (Adds (length round.now.stations.now)
-        (λ k. offers_named round.now.moment packet (id_at (ids_of round.now.stations.now) k) named.now) seats.old seats.new) }
+        (λ k. offers_by round.now.moment packet (id_at (ids_of round.now.stations.now) k) rows.now) seats.old seats.new) }
     ensures err { OnErr result (AddsPartly (length round.now.stations.now)
-        (λ k. offers_named round.now.moment packet (id_at (ids_of round.now.stations.now) k) named.now) seats.old seats.new) }
+        (λ k. offers_by round.now.moment packet (id_at (ids_of round.now.stations.now) k) rows.now) seats.old seats.new) }
 {
-    let [others @ .., last] = named else {
+    let [others @ .., last] = rows else {
         return Ok(());
     };
     offer_copies(round, seats, &packet, others)?;
@@ -136,8 +136,6 @@ pub(crate) fn offer_packet<N: Opening, R: Wait>(
         return Ok(());
     }
     let (apid, service) = (content.apid(), content.service());
-    let named = round
-        .control
-        .stores_for(round.alloc, apid, service, content.subtype())?;
-    offer_named(round, seats, packet, &named)
+    let rows = round.control.rows_for(apid, service, content.subtype());
+    offer_routed(round, seats, packet, rows)
 }
