@@ -1,3 +1,4 @@
 pub mod Places
 pub mod Leaving
 pub mod Seated
+pub mod Walks

@@ -2,32 +2,41 @@
 ghost use Rattle.std.specs.Prelude.{◌≡◌, ◌↔◌, ℕ, ◌<◌, ◌≤◌, [], length, map, IsTrue, slice_index_or, vec_len, vec_capacity};
 ghost use Rattle.mm_desk.specs.declared.desk.TheConstants.{MAX_SEATS};
 ghost use Rattle.mm_desk.specs.Runs.{opening_at};
-ghost use Rattle.mm_desk.specs.Shuffles.{IsShuffle, part};
+ghost use Rattle.mm_desk.specs.Shuffles.{IsShuffle};
 ghost use Rattle.mm_crew.specs.Closings.{lists_at, states_of, labels_of, WentBy, AllWentBy};
 
 use crate::crew::Worker;
 use crate::station::Station;
-use mm_desk::agree::{is_below, is_part};
-use mm_desk::{Entry, Held, Opening, Parts};
+use mm_desk::{Entry, Held, MAX_SEATS, Opening, Parts};
 
-// Whether each worker's list at this place is its part of a log.
-fn are_parts_at<N: Opening, W: Drop, B: Copy>(
-    log: &[Entry],
+// Whether an entry is the next of a list of which so many were met.
+fn is_next(list: &[Entry], met: usize, entry: &Entry) -> bool
+    ensures next { IsTrue result ↔ ((met < length list.now) × (slice_index_or list.now met entry.now ≡ entry.now)) }
+{
+    match list.get(met) {
+        Some(listed) => listed.is(entry),
+        None => false,
+    }
+}
+
+// Whether so many entries of each worker's list at this place are all of them.
+fn are_ended<N: Opening, W: Drop, B: Copy>(
     workers: &[Worker<N, W, B>],
     place: usize,
+    met: &[usize; MAX_SEATS as usize],
 ) -> bool
     requires few { length workers.now ≤ MAX_SEATS }
-    ensures parts { IsTrue result ↔ ((i : ℕ) → i < length workers.now → part i log.now ≡ slice_index_or (lists_at place workers.now) i []) }
+    ensures ended { IsTrue result ↔ ((i : ℕ) → i < length workers.now → slice_index_or met.now i 0 ≡ length (slice_index_or (lists_at place workers.now) i [])) }
 {
     for i in 0..workers.len() {
-        if !is_part(log, i as u32, workers[i].list_at(place)) {
+        if met[i] != workers[i].list_at(place).len() {
             return false;
         }
     }
     true
 }
 
-/// Whether a log is a shuffle of the workers' lists at this place.
+/// Whether a log is a shuffle of the workers' lists at this place. The log is walked once, with a place in each list.
 pub fn agrees_at<N: Opening, W: Drop, B: Copy>(
     log: &[Entry],
     workers: &[Worker<N, W, B>],
@@ -36,7 +45,18 @@ pub fn agrees_at<N: Opening, W: Drop, B: Copy>(
     requires few { length workers.now ≤ MAX_SEATS }
     ensures shuffle { IsTrue result ↔ IsShuffle (lists_at place workers.now) log.now }
 {
-    is_below(log, workers.len() as u32) && are_parts_at(log, workers, place)
+    let mut met = [0; MAX_SEATS as usize];
+    for entry in log {
+        let seat = entry.seat as usize;
+        if seat >= workers.len() {
+            return false;
+        }
+        if !is_next(workers[seat].list_at(place), met[seat], entry) {
+            return false;
+        }
+        met[seat] += 1;
+    }
+    are_ended(workers, place, &met)
 }
 
 // Closes a desk, and says whether its log is a shuffle of the workers' lists at this place.
