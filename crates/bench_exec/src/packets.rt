@@ -20,7 +20,7 @@ const MOST_DATA: u32 = 1003;
 /// Telemetry of this APID, which is this many octets long.
 pub fn packet(alloc: Global, apid: u32, octets: u32) -> Result<BlockPacket> {
     let data = octets.saturating_sub(HEADERS).min(MOST_DATA) as usize;
-    let body = Octets::new(vec![in alloc; 7u8; data]?);
+    let body = Octets::new(vec![in alloc; 7u8; data]?)?;
     let header = Header::new((apid % 16) as u16, 0, 3, 25);
     Ok(BlockPacket::of(Packet::tm(header, 0, 0, 0, body))?)
 }

@@ -45,7 +45,7 @@ fn packet(alloc: Global, count: u16) -> Result<BlockPacket> {
         service: 3,
         subtype: 25,
     };
-    let data = Octets::new(Vec::from_slice(alloc, &DATA)?);
+    let data = Octets::new(Vec::from_slice(alloc, &DATA)?)?;
     Ok(BlockPacket::of(Packet::tm(header, 0, 0, 0, data))?)
 }
 

@@ -32,7 +32,7 @@ const FORECAST: &[u8] = b"step,window,SCI\n1,2,3\n2,2,3\n3,0,4\n";
 fn telemetry(rt: &impl Abort, alloc: Global, count: u16) -> Packet {
     let header = Header::new(100, count % 1000, 3, 25);
     let data = vec![in alloc; 7, 9].expect(rt, "memory");
-    Packet::tm(header, 1, 2, 3, Octets::new(data))
+    Packet::tm(header, 1, 2, 3, Octets::new(data).expect(rt, "memory"))
 }
 
 fn block(rt: &impl Abort, alloc: Global, count: u16) -> BlockPacket {

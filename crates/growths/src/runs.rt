@@ -25,7 +25,7 @@ const FORECAST: &[u8] = b"step,window,SCI\n1,2,3\n2,2,3\n3,0,4\n";
 const PLAN: &[u8] = b"mmplan 1\nstores SCI\ndump 1 2\ndump 2 2\ndump 3 0\nloss 2\n\
     stretch SCI 1 3\nbound 2\nend\n";
 
-// Telemetry with three octets of data, so that each copy of it takes memory: packets 1 to 11, by their sequence counts.
+// Telemetry with three octets of data: packets 1 to 11, by their sequence counts.
 const OF_ONE: &[u8] = b"1 1 0864C0010011200319000000000000000000000000010203\n\
     1 1 0864C0020011200319000000000000000000000000010203\n\
     1 1 0864C0030011200319000000000000000000000000010203\n\

@@ -36,12 +36,12 @@ enum Told {
     Other,
 }
 
-// Telemetry with this sequence count and three octets of data, so that each copy of it takes memory.
+// Telemetry with this sequence count and three octets of data.
 fn packet(alloc: Global, count: u16) -> Result<BlockPacket, NoMemory> {
     let mut octets = Vec::new(alloc);
     octets.extend_from_slice(&[1, 2, 3])?;
     let header = Header::new(100, count % 1000, 3, 25);
-    let body = Octets::new(octets);
+    let body = Octets::new(octets)?;
     match BlockPacket::of(Packet::tm(header, 0, 0, 0, body)) {
         Ok(packet) => Ok(packet),
         Err(_) => Err(NoMemory),

@@ -1,39 +1,58 @@
-//! A list of octets.
-ghost use Rattle.std.specs.Prelude.{◌≡◌};
+//! A list of octets that its copies share.
+ghost use Rattle.std.specs.Prelude.{◌≡◌, IfOk, IfErr};
 
+use std::alloc::{AllocError, AllocFailed, Global};
 use std::marker::Model;
+use std::sync::Arc;
 
-/// A list of octets, which contracts see as that list. It is made from a `Vec` and gives it back.
+/// A list of octets, which contracts see as that list. Copies share the octets.
 #[derive(Debug, Drop)]
 pub struct Octets {
-    bytes: Vec<u8>,
+    bytes: Arc<Vec<u8>, Global>,
 }
 
 impl Model for Octets {
     ghost use Rattle.std.specs.Prelude.{ℕ, List};
+    ghost use Rattle.std.specs.Arc.{arc_value};
 
     ghost Value = { List ℕ };
 
-    ghost view = { λ o. o.bytes.items };
+    ghost view = { λ o. (arc_value o.bytes).items };
 }
 
 impl Octets {
-    pub fn new(bytes: Vec<u8>) -> Octets
-        ensures octets { result ≡ bytes.items }
+    /// The octets of a list, which comes back where there is no memory to share it.
+    pub fn new(bytes: Vec<u8>) -> Result<Octets, AllocFailed<Vec<u8>>>
+        ensures octets { IfOk result (λ octets. octets ≡ bytes.items) }
+        ensures back { IfErr result (λ failed. failed.value ≡ bytes) }
     {
-        Octets { bytes }
+        let alloc = *bytes.allocator();
+        let bytes = Arc::new(alloc, bytes)?;
+        Ok(Octets { bytes })
+    }
+
+    // The octets of a slice.
+    pub(crate) fn of(alloc: Global, octets: &[u8]) -> Result<Octets, AllocError>
+        ensures octets { IfOk result (λ list. list ≡ octets.now) }
+    {
+        let bytes = Vec::from_slice(alloc, octets)?;
+        let list = Octets::new(bytes)?;
+        Ok(list)
     }
 
     pub fn as_slice(&self) -> &[u8]
         ensures octets { result.now ≡ self.now }
     {
-        &self.bytes
+        self.bytes.as_slice()
     }
 
-    pub fn into_vec(self) -> Vec<u8>
-        ensures octets { result.items ≡ self }
+    // The same octets once more. Memory is taken only where they have 2^63 owners.
+    pub(crate) fn copy(&self, alloc: Global) -> Result<Octets, AllocError>
+        ensures octets { IfOk result (λ copy. copy ≡ self.now) }
     {
-        let Octets { bytes } = self;
-        bytes
+        match Arc::try_clone(&self.bytes) {
+            Ok(bytes) => Ok(Octets { bytes }),
+            Err(_) => Octets::of(alloc, self.as_slice()),
+        }
     }
 }

@@ -176,7 +176,7 @@ impl Packet {
     pub(crate) fn copy(&self, alloc: Global) -> Result<Packet, AllocError>
         ensures { IfOk result (λ copy. copy ≡ self.now) }
     {
-        let body = Octets::new(Vec::from_slice(alloc, self.body())?);
+        let body = self.body.copy(alloc)?;
         Ok(Packet {
             header: self.header,
             kind: self.kind,

@@ -188,7 +188,7 @@ fn packet_at(alloc: Global, octets: &[u8]) -> Result<(Packet, &[u8]), Fault>
     let packet = Packet {
         header: header_of(primary, secondary),
         kind: secondary.kind,
-        body: Octets::new(Vec::from_slice(alloc, body)?),
+        body: Octets::of(alloc, body)?,
     };
     Ok((packet, rest))
 }

@@ -91,7 +91,7 @@ impl Report {
             service: SERVICE,
             subtype: self.subtype(),
         };
-        let body = Octets::new(self.data(alloc)?);
+        let body = Octets::new(self.data(alloc)?)?;
         Ok(Packet::tm(header, counter, destination, self.moment(), body))
     }
 

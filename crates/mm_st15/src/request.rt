@@ -138,7 +138,7 @@ impl Request {
             service: SERVICE,
             subtype: self.subtype(),
         };
-        let body = Octets::new(self.data(alloc)?);
+        let body = Octets::new(self.data(alloc)?)?;
         Ok(Packet::tc(header, source, body))
     }
 

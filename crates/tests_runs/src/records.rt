@@ -54,13 +54,15 @@ impl Source for Burst {
 // Telemetry of this APID with this sequence count.
 fn telemetry(rt: &impl Abort, alloc: Global, apid: u16, count: u16) -> BlockPacket {
     let header = Header::new(apid % 1000, count % 1000, 3, 25);
-    let packet = Packet::tm(header, 0, 0, 0, Octets::new(Vec::new(alloc)));
+    let data = Octets::new(Vec::new(alloc)).expect(rt, "memory");
+    let packet = Packet::tm(header, 0, 0, 0, data);
     BlockPacket::of(packet).expect(rt, "a short packet")
 }
 
 // A telecommand of APID 100 with the service and subtype of that telemetry.
 fn telecommand(rt: &impl Abort, alloc: Global) -> BlockPacket {
-    let packet = Packet::tc(Header::new(100, 0, 3, 25), 0, Octets::new(Vec::new(alloc)));
+    let data = Octets::new(Vec::new(alloc)).expect(rt, "memory");
+    let packet = Packet::tc(Header::new(100, 0, 3, 25), 0, data);
     BlockPacket::of(packet).expect(rt, "a short packet")
 }
 

@@ -58,7 +58,8 @@ impl Source for Script {
 // Telemetry with this sequence count, by which the tests know it again.
 pub(crate) fn packet(rt: &impl Abort, alloc: Global, apid: u16, count: u16) -> BlockPacket {
     let header = Header::new(apid % 2000, count % 1000, 3, 25);
-    let packet = Packet::tm(header, 0, 0, 0, Octets::new(Vec::new(alloc)));
+    let data = Octets::new(Vec::new(alloc)).expect(rt, "memory");
+    let packet = Packet::tm(header, 0, 0, 0, data);
     BlockPacket::of(packet).expect(rt, "a short packet")
 }
 

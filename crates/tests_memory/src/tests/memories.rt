@@ -70,7 +70,8 @@ fn memory_of(rt: &impl Abort, alloc: Global, setup: &str) -> Memory {
 fn request_in_room(rt: &impl Abort, alloc: Global, subtype: u8, data: &[u8]) -> Option<Request> {
     assert!(rt; data.len() <= TELECOMMAND_BODY);
     let header = Header::new(100, 0, 15, subtype);
-    let packet = Packet::tc(header, 0, Octets::new(data.to_vec(alloc).ok()?));
+    let data = Octets::new(data.to_vec(alloc).ok()?).ok()?;
+    let packet = Packet::tc(header, 0, data);
     Request::read(alloc, &packet).ok()
 }
 
@@ -112,7 +113,8 @@ fn shape(memory: &Memory, id: &StoreId) -> Option<(Kind, u32, u32, bool)> {
 // Telemetry with a sequence count of 1.
 fn packet(rt: &impl Abort, alloc: Global) -> BlockPacket {
     let header = Header::new(100, 1, 3, 25);
-    let packet = Packet::tm(header, 0, 0, 0, Octets::new(Vec::new(alloc)));
+    let data = Octets::new(Vec::new(alloc)).expect(rt, "memory");
+    let packet = Packet::tm(header, 0, 0, 0, data);
     BlockPacket::of(packet).expect(rt, "a short packet")
 }
 

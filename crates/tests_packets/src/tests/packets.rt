@@ -66,7 +66,8 @@ fn headers_of(packet: &Packet) -> (Header, PacketType) {
 fn octets_of(rt: &impl Abort, alloc: Global, len: usize) -> Octets
     ensures { length result ≡ len }
 {
-    Octets::new(vec![in alloc; 7; len].expect(rt, "memory"))
+    let list = vec![in alloc; 7; len].expect(rt, "memory");
+    Octets::new(list).expect(rt, "memory")
 }
 
 // The packet has these headers and this data.
@@ -120,7 +121,8 @@ fn telemetry_is_read_and_written(rt: HostRuntime) {
 fn data_of(rt: &impl Abort, alloc: Global, octets: &[u8]) -> Octets
     ensures { length result ≡ length octets.now }
 {
-    Octets::new(octets.to_vec(alloc).expect(rt, "memory"))
+    let list = octets.to_vec(alloc).expect(rt, "memory");
+    Octets::new(list).expect(rt, "memory")
 }
 
 #[test]
@@ -291,10 +293,9 @@ fn the_longest_telemetry_is_written(rt: HostRuntime) {
 }
 
 #[test]
-fn octets_give_their_vec_back(rt: HostRuntime) {
-    let octets = Octets::new([1, 2, 3].to_vec(rt.alloc()).expect(&rt, "memory"));
+fn octets_are_those_of_the_list(rt: HostRuntime) {
+    let octets = data_of(&rt, rt.alloc(), &[1, 2, 3]);
     assert!(rt; octets.as_slice() == [1, 2, 3].as_slice());
-    assert!(rt; octets.into_vec().as_slice() == [1, 2, 3].as_slice());
 }
 
 const NINE: [u8; 9] = [1, 2, 3, 4, 5, 6, 7, 8, 9];

@@ -46,7 +46,8 @@ type Step = (Call, Told);
 // Telemetry with this sequence count.
 fn packet(rt: &impl Abort, alloc: Global, count: u16) -> BlockPacket {
     let header = Header::new(100, count % 1000, 3, 25);
-    let packet = Packet::tm(header, 0, 0, 0, Octets::new(Vec::new(alloc)));
+    let data = Octets::new(Vec::new(alloc)).expect(rt, "memory");
+    let packet = Packet::tm(header, 0, 0, 0, data);
     BlockPacket::of(packet).expect(rt, "a short packet")
 }
 

@@ -20,7 +20,7 @@ returns-clause-found c =
     let front_fits = rw (c.in_ok-primary.ensures.ok_part) at c.primary_at.ensures.fits in
     let fits_front = subst FitsPrimary (sym same) front_fits in
     let bit = rw c.in_ok-secondary.ensures.ok_part at c.secondary_at.ensures.kind in
-    rw (c.header_of.ensures, c.new.ensures.octets, c.in_ok-from_slice.ensures.items) (
+    rw (c.header_of.ensures, c.in_ok-of.ensures.octets) (
       fits primary secondary _ body none back_fits back (omega (arith, len, fits_front.data_length)),
       is_found _ _ _ _ primary secondary body fits_front none
           (bit ∙ ap (λ (b : Bool). if b then 1 else 0) c.is_telecommand.ensures) (omega arith)
