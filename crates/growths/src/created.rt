@@ -9,22 +9,65 @@ use mm_store::PacketStore;
 use std::alloc::Global;
 use std::slice;
 
-// The kind, the size and the number of packets of a store, whether its storage is on, and its virtual channel.
-type Shape = (Kind, u32, u32, bool, u8);
+// What a store is.
+#[derive(Clone, Copy, PartialEq, Eq)]
+struct Shape {
+    kind: Kind,
+    size: u32,
+    packets: u32,
+    storage: bool,
+    channel: u8,
+}
 
 // The store SCI as the setup has it, and then with its storage off, resized, and of the other kind.
-const OPENED: Shape = (Kind::Bounded, 4, 0, true, 0);
+const OPENED: Shape = Shape {
+    kind: Kind::Bounded,
+    size: 4,
+    packets: 0,
+    storage: true,
+    channel: 0,
+};
 
-const OFF: Shape = (Kind::Bounded, 4, 0, false, 0);
+const OFF: Shape = Shape {
+    kind: Kind::Bounded,
+    size: 4,
+    packets: 0,
+    storage: false,
+    channel: 0,
+};
 
-const RESIZED: Shape = (Kind::Bounded, 8, 0, false, 0);
+const RESIZED: Shape = Shape {
+    kind: Kind::Bounded,
+    size: 8,
+    packets: 0,
+    storage: false,
+    channel: 0,
+};
 
-const CIRCULAR: Shape = (Kind::Circular, 8, 0, false, 0);
+const CIRCULAR: Shape = Shape {
+    kind: Kind::Circular,
+    size: 8,
+    packets: 0,
+    storage: false,
+    channel: 0,
+};
 
 // The stores A and B, as they are created.
-const FIRST: Shape = (Kind::Bounded, 4, 0, false, 0);
+const FIRST: Shape = Shape {
+    kind: Kind::Bounded,
+    size: 4,
+    packets: 0,
+    storage: false,
+    channel: 0,
+};
 
-const SECOND: Shape = (Kind::Circular, 2, 0, false, 1);
+const SECOND: Shape = Shape {
+    kind: Kind::Circular,
+    size: 2,
+    packets: 0,
+    storage: false,
+    channel: 1,
+};
 
 // The identifiers of the three stores.
 #[derive(Clone, Copy)]
@@ -81,23 +124,23 @@ fn ids_of_stores() -> Option<Ids> {
 }
 
 // What a store is, where it is there.
-fn shape(memory: &Memory, id: &StoreId) -> Option<Shape> {
-    for held in memory.stores() {
-        if held.id == *id {
-            let state = &held.state;
-            let store = state.store();
-            let (kind, size, len) = (store.kind(), store.size(), store.len());
-            return Some((kind, size, len, state.storage(), held.channel));
-        }
-    }
-    None
+fn shape_of(memory: &Memory, id: &StoreId) -> Option<Shape> {
+    let held = memory.stores().iter().find(|held| held.id == *id)?;
+    let store = held.state.store();
+    Some(Shape {
+        kind: store.kind(),
+        size: store.size(),
+        packets: store.len(),
+        storage: held.state.storage(),
+        channel: held.channel,
+    })
 }
 
 fn all_seen(memory: &Memory, ids: &Ids) -> Seen {
     Seen {
-        sci: shape(memory, &ids.sci),
-        a: shape(memory, &ids.a),
-        b: shape(memory, &ids.b),
+        sci: shape_of(memory, &ids.sci),
+        a: shape_of(memory, &ids.a),
+        b: shape_of(memory, &ids.b),
         stores: memory.stores().len(),
         routes: memory.control().list().len(),
     }
@@ -116,7 +159,7 @@ fn may_lack_memory(request: &Request) -> bool {
 
 // Whether the store that an instruction names is as the answer says.
 fn as_answered(memory: &Memory, step: &Step, answer: Answer) -> Met {
-    let now = shape(memory, &step.id);
+    let now = shape_of(memory, &step.id);
     match answer {
         Answer::Done => Met::Whole.provided(now == Some(step.after), "another store"),
         Answer::Refused(fault) => {
@@ -142,12 +185,9 @@ fn is_done(alloc: Global, memory: &mut Memory, request: &Request, instructions: 
     let Ok(answers) = memory.apply(alloc, 1, request) else {
         return false;
     };
-    for answer in &answers.each {
-        if *answer != Answer::Done {
-            return false;
-        }
-    }
-    answers.each.len() == instructions && answers.reports.is_empty()
+    answers.each.len() == instructions
+        && answers.reports.is_empty()
+        && answers.each.iter().all(|answer| *answer == Answer::Done)
 }
 
 // Asks once more for each instruction that was refused, by itself.
@@ -169,12 +209,9 @@ fn refused_ones_again(
 
 // Whether each store is as its instruction leaves it.
 fn are_left(memory: &Memory, steps: &[Step]) -> bool {
-    for step in steps {
-        if shape(memory, &step.id) != Some(step.after) {
-            return false;
-        }
-    }
-    true
+    steps
+        .iter()
+        .all(|step| shape_of(memory, &step.id) == Some(step.after))
 }
 
 // What came of a request of these instructions. What found no memory has changed nothing, and is asked once more.
@@ -223,12 +260,11 @@ fn changes(alloc: Global, sci: StoreId) -> Option<[Step; 4]> {
 
 // The instruction that creates this store.
 fn form(id: &StoreId, shape: Shape) -> Configuration {
-    let (kind, size, _, _, channel) = shape;
     Configuration {
         id: id.field(),
-        size,
-        kind: kind.code(),
-        channel,
+        size: shape.size,
+        kind: shape.kind.code(),
+        channel: shape.channel,
     }
 }
 
