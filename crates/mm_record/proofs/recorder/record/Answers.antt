@@ -30,5 +30,6 @@ returns-in_err-offer_packet g c =
 
 pub returns : goal.returns
 returns g c =
+    let e = errand c.args.round.now.step c.args.round.now.moment c.args.round.now.control.now c.args.round.now.stations.now in
     let none : g.S.Source.gives c.loop-packet.source c.args.round.now.step ≡ [] = search rules in
-    record { ran = ran_whole _ _ (g.S.Source.gives c.loop-packet.source) (g.S.Source.gives c.next.new.self) _ c.loop-packet.invariant none (search rules) c.in_default.ensures.others }
+    record { ran = ran_whole e _ (g.S.Source.gives c.loop-packet.source) (g.S.Source.gives c.next.new.self) _ c.loop-packet.invariant none (search rules) c.in_default.ensures.others }
