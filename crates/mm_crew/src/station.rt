@@ -23,13 +23,6 @@ impl<N: Opening> Model for Station<N> {
     ghost view = { λ s. record { id = s.id; channel = s.channel; desk = s.desk } };
 }
 
-// Whether two identifiers are the same. Their eight octets are compared at once, as a number.
-fn is_same(one: &StoreId, other: &StoreId) -> bool
-    ensures { result ≡ bytes_eq one.now other.now }
-{
-    u64::from_le_bytes(one.field()) == u64::from_le_bytes(other.field())
-}
-
 /// The place of the store with an identifier.
 pub fn place_of<N: Opening>(stations: &[Station<N>], id: &StoreId) -> Option<usize>
     requires named { AreNamed (ids_of stations.now) }
@@ -37,5 +30,5 @@ pub fn place_of<N: Opening>(stations: &[Station<N>], id: &StoreId) -> Option<usi
     ensures is { IfSome result (λ k. (j : ℕ) → j < length stations.now → bytes_eq (id_at (ids_of stations.now) j) id.now ≡ (j == k)) }
     ensures none { IfNone result ((j : ℕ) → j < length stations.now → bytes_eq (id_at (ids_of stations.now) j) id.now ≡ false) }
 {
-    stations.iter().position(|station| is_same(&station.id, id))
+    stations.iter().position(|station| station.id == *id)
 }
