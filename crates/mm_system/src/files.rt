@@ -1,8 +1,8 @@
 //! Where the program's files come from, and how they are read to their end.
-ghost use Rattle.std.specs.Prelude.{◌≡◌, ◌≤◌, ◌<◌, ℕ, List, Option, Some, Bool, true, false, length, IsOk, IfOk, IfErr, IfSome, IsTrue};
+ghost use Rattle.std.specs.Prelude.{◌≡◌, ◌≤◌, ◌<◌, ℕ, List, Option, Some, None, Bool, true, false, length, IsOk, IfOk, IfErr, IfSome, IsTrue};
 ghost use Rattle.std.specs.Io.{ReadsAtMost};
 ghost use Rattle.std.specs.Io.KnownBytes.{ReadConsumes};
-ghost use Rattle.mm_system.specs.declared.files.ReadFault.TheVariants.{NoMemory};
+ghost use Rattle.mm_system.specs.declared.files.ReadFault.TheVariants.{NoMemory, NotRead};
 ghost use Rattle.mm_system.specs.declared.files.TheConstants.{MAX_READS};
 
 use mm_base::Refusal;
@@ -68,8 +68,14 @@ impl<R: Read + Drop> Input for Device<R> {
 
 /// Files by name.
 pub trait Files {
+    /// The bytes of the file of a name, where they are known.
+    ghost content: { Self → List ℕ → Option (List ℕ) };
+
     /// The whole file; `NotRead` where there is none of this name, it fails, or it does not end in time.
-    fn read(&mut self, alloc: Global, name: &str) -> Result<Vec<u8>, ReadFault>;
+    fn read(&mut self, alloc: Global, name: &str) -> Result<Vec<u8>, ReadFault>
+        ensures whole { IfOk result (λ text. IfSome (content self.old name.now) (λ octets. text.items ≡ octets)) }
+        ensures unread { IfErr result (λ fault. fault ≡ NotRead → content self.old name.now ≡ None) }
+        ensures stays { content self.new ≡ content self.old };
 }
 
 /// Reads to the end; `NotRead` where a read fails, or the end has not come after 2^30 reads or 2^30 bytes.
@@ -112,6 +118,8 @@ impl<'a, R: rt::Files> SystemFiles<'a, R> {
 }
 
 impl<R: rt::Files> Files for SystemFiles<'_, R> {
+    ghost content = { λ _ _. None };
+
     fn read(&mut self, alloc: Global, name: &str) -> Result<Vec<u8>, ReadFault> {
         match std::fs::open(self.runtime, name) {
             Ok(file) => read_to_end(alloc, &mut Device(file)),

@@ -1,5 +1,6 @@
 //! How a run of the program ended.
-ghost use Rattle.std.specs.Prelude.{◌≤◌};
+ghost use Rattle.std.specs.Prelude.{◌≡◌, ◌≤◌, IfOk, IfErr};
+ghost use Rattle.mm_system.specs.Statuses.{exit_code};
 
 use std::io;
 
@@ -16,6 +17,7 @@ pub enum Status {
 impl Status {
     /// The exit status.
     pub fn code(self) -> u8
+        ensures code { result ≡ exit_code self }
         ensures most { result ≤ 2 }
     {
         match self {
@@ -27,6 +29,8 @@ impl Status {
 
     /// The exit status of a run, where a write that failed counts as a refusal.
     pub fn code_of(run: io::Result<Status>) -> u8
+        ensures code { IfOk run (λ status. result ≡ exit_code status) }
+        ensures failed { IfErr run (λ error. result ≡ 1) }
         ensures most { result ≤ 2 }
     {
         match run {

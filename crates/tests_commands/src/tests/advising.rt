@@ -1,6 +1,6 @@
 //! What the program says of a refusal on standard error, in the words of docs/FORMATS.md.
 
-use mm_commands::run_script;
+use crate::tests::samples::told;
 
 // A script whose task is refused, and the line on standard error, or how it begins where a long list of ranges follows.
 static ADVICE: [(&str, &str); 15] = [
@@ -68,11 +68,11 @@ static ADVICE: [(&str, &str); 15] = [
 
 #[test]
 fn refusals_are_explained(rt: HostRuntime) {
-    let alloc = rt.alloc();
     for (script, advice) in &ADVICE {
-        let (mut out, mut err) = (Vec::new(alloc), Vec::new(alloc));
-        let status = run_script(&rt, alloc, script.as_bytes(), &mut out, &mut err);
-        let is_told = err.starts_with(advice.as_bytes());
-        assert!(rt; status == 1 && is_told, "for {script}");
+        let (_, err, status) = told(&rt, script.as_bytes());
+        assert!(rt;
+            status == 1 && err.starts_with(advice.as_bytes()),
+            "for {script}"
+        );
     }
 }

@@ -1,4 +1,5 @@
 //! Files and writers that fail.
+ghost use Rattle.std.specs.Prelude.{None};
 
 use crate::tests::samples::{FIRST_PLAN, SCI, THREE_STEPS};
 use mm_commands::run_tool;
@@ -25,6 +26,8 @@ struct FailingFiles {
 }
 
 impl Files for FailingFiles {
+    ghost content = { λ _ _. None };
+
     fn read(&mut self, alloc: Global, name: &str) -> Result<Vec<u8>, ReadFault> {
         if self.left == 0 {
             return Err(ReadFault::NotRead);

@@ -45,15 +45,24 @@ fn is_refused(printed: &str) -> bool {
         || printed.contains("\nhalted ")
 }
 
+// What the program writes to standard output and to standard error for a script, and its status.
+pub(crate) fn told<R: Abort + AllocGlobal + Threads + Wait + Sync>(
+    rt: &R,
+    script: &[u8],
+) -> (Vec<u8>, Vec<u8>, u8) {
+    let alloc = rt.alloc();
+    let (mut out, mut err) = (Vec::new(alloc), Vec::new(alloc));
+    let status = run_script(rt, alloc, script, &mut out, &mut err);
+    (out, err, status)
+}
+
 // What the program prints for a script, and its status; it says something on standard error where something is refused, and
 // nothing otherwise.
 pub(crate) fn run<R: Abort + AllocGlobal + Threads + Wait + Sync>(
     rt: &R,
     script: &str,
 ) -> (String, u8) {
-    let alloc = rt.alloc();
-    let (mut out, mut err) = (Vec::new(alloc), Vec::new(alloc));
-    let status = run_script(rt, alloc, script.as_bytes(), &mut out, &mut err);
+    let (out, err, status) = told(rt, script.as_bytes());
     let out = String::from_utf8(out).expect(rt, "UTF-8");
     assert!(rt; err.is_empty() != is_refused(out.as_str()), "for {script}");
     (out, status)

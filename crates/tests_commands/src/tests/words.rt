@@ -1,7 +1,7 @@
 //! Bad command lines, calls for help, and what a script may hold.
 
 use crate::tests::failing::FailingWriter;
-use crate::tests::samples::{FIRST_PLAN, SCI, THREE_STEPS, prints};
+use crate::tests::samples::{FIRST_PLAN, SCI, THREE_STEPS, prints, told};
 use mm_commands::{refuse_input, run_script};
 use mm_system::files::ReadFault;
 
@@ -28,25 +28,21 @@ static LINES: [&str; 19] = [
 ];
 
 #[test]
-fn command_lines(rt: HostRuntime) {
-    let alloc = rt.alloc();
-    for line in &LINES {
-        let (mut out, mut err) = (Vec::new(alloc), Vec::new(alloc));
-        let status = run_script(&rt, alloc, line.as_bytes(), &mut out, &mut err);
-        let is_told = out.is_empty() && !err.is_empty();
-        assert!(rt; status == 2 && is_told, "for {line}");
-    }
+fn a_first_line_that_is_not_utf8(rt: HostRuntime) {
+    let (mut out, err, status) = told(&rt, b"plan \xff F\n");
+    assert!(rt; status == 2 && out.is_empty() && !err.is_empty());
+    let mut refusing = FailingWriter::after(0);
+    let status = run_script(&rt, rt.alloc(), b"plan \xff F\n", &mut out, &mut refusing);
+    assert!(rt; status == 1 && out.is_empty());
 }
 
 #[test]
-fn a_first_line_that_is_not_utf8(rt: HostRuntime) {
-    let alloc = rt.alloc();
-    let (mut out, mut err) = (Vec::new(alloc), Vec::new(alloc));
-    let status = run_script(&rt, alloc, b"plan \xff F\n", &mut out, &mut err);
-    assert!(rt; status == 2 && out.is_empty() && !err.is_empty());
-    let mut refusing = FailingWriter::after(0);
-    let status = run_script(&rt, alloc, b"plan \xff F\n", &mut out, &mut refusing);
-    assert!(rt; status == 1 && out.is_empty());
+fn command_lines(rt: HostRuntime) {
+    for line in &LINES {
+        let (out, err, status) = told(&rt, line.as_bytes());
+        let is_told = out.is_empty() && !err.is_empty();
+        assert!(rt; status == 2 && is_told, "for {line}");
+    }
 }
 
 // What stands before the first file is passed over, and of two files of one name the first is read.
@@ -57,6 +53,25 @@ fn files_of_a_script(rt: HostRuntime) {
     ).expect(&rt, "memory");
     prints(&rt, script.as_str(), "least 2\n", 0);
     prints(&rt, "plan - F\n=== S\n", "refused 50 NotRead name -\n", 1);
+}
+
+// After `--` no word is a flag, and the `--` is no word itself.
+#[test]
+fn names_after_two_dashes(rt: HostRuntime) {
+    for (words, printed, want) in [
+        ("check -- -S F P", "least 2\n", 0),
+        ("check -- -- F P", "least 2\n", 0),
+        ("check -S -- F P", "", 2),
+    ] {
+        let script = format!(in rt.alloc();
+            "{words}\n=== -S\n{SCI}=== F\n{THREE_STEPS}=== P\n{FIRST_PLAN}=== --\n{SCI}"
+        ).expect(&rt, "memory");
+        let (out, _, status) = told(&rt, script.as_bytes());
+        assert!(rt;
+            status == want && out.as_slice() == printed.as_bytes(),
+            "for {words}"
+        );
+    }
 }
 
 #[test]

@@ -1,65 +1,12 @@
-//! The command line.
+//! The commands of the program, with their files and their help.
+ghost use Rattle.std.specs.Prelude.{◌≡◌, IfOk, [], ◌∷◌, codes, false};
+ghost use Rattle.clap.specs.Words.{app_of, rule_of};
+ghost use Rattle.mm_command_line.specs.Commands.{AddsFiles, IsCommand, ask, check, file_rule, plan, tool, bare};
 
-use crate::advice::Role;
 use crate::chart::chart_command;
-use crate::flight::{FlightFiles, flight_task, fly_command, run_command};
-use clap::error::ErrorKind;
-use clap::{Arg, ArgMatches, Command, Error};
+use crate::flight::{fly_command, run_command};
+use clap::{Arg, Command};
 use std::alloc::{AllocError, Global};
-use std::convert::AsStr;
-
-/// The files of a problem and of a plan for it.
-#[derive(Clone, Copy)]
-pub struct PlanFiles<'a> {
-    pub setup: &'a str,
-    pub forecast: &'a str,
-    pub plan: &'a str,
-}
-
-impl<'a> PlanFiles<'a> {
-    fn file(self, role: Role) -> Option<&'a str> {
-        match role {
-            Role::Setup => Some(self.setup),
-            Role::Forecast => Some(self.forecast),
-            Role::Plan => Some(self.plan),
-            Role::Sources | Role::Links => None,
-        }
-    }
-}
-
-/// What the program is asked to do.
-#[derive(Clone, Copy)]
-pub enum Task<'a> {
-    /// Plan the dumps so that least is lost.
-    Plan { setup: &'a str, forecast: &'a str },
-    /// Say whether the plan loses least.
-    Check(PlanFiles<'a>),
-    /// Draw the plan.
-    Chart(PlanFiles<'a>),
-    /// Carry out the plan, which is made first where there is no file of it.
-    Fly(FlightFiles<'a>),
-    /// Answer the requests of the storage service, one after another, in a memory of the setup.
-    Ask { setup: &'a str, requests: &'a str },
-}
-
-impl<'a> Task<'a> {
-    /// The name of this file of the task, where the task has such a file.
-    pub fn file(self, role: Role) -> Option<&'a str> {
-        match self {
-            Task::Plan { setup, forecast } => match role {
-                Role::Setup => Some(setup),
-                Role::Forecast => Some(forecast),
-                _ => None,
-            },
-            Task::Check(names) | Task::Chart(names) => names.file(role),
-            Task::Fly(names) => names.file(role),
-            Task::Ask { setup, .. } => match role {
-                Role::Setup => Some(setup),
-                _ => None,
-            },
-        }
-    }
-}
 
 const ABOUT: &str =
     "Plans when a spacecraft's packet stores are dumped, checks, draws and carries out such plans, and answers requests of the storage service";
@@ -142,102 +89,112 @@ Example:
 
 The formats are described in docs/FORMATS.md. Exit status: 0 where nothing is refused, 1 otherwise.";
 
-pub(crate) fn file<'a>(alloc: Global, name: &'a str, help: &'a str) -> Arg<'a> {
+// The name of a file, which has to be there.
+fn file<'a>(alloc: Global, name: &'a str, help: &'a str) -> Arg<'a>
+    ensures rule { rule_of result ≡ file_rule name.entry.now }
+    ensures local { result.global ≡ false }
+{
     Arg::new(alloc, name).required(true).help(help)
 }
 
-// The first words of every command: its name and help, and the setup.
+/// The command with one file more, after those that it has.
+pub(crate) fn with_file<'a>(
+    alloc: Global,
+    command: Command<'a>,
+    name: &'a str,
+    help: &'a str,
+) -> Result<Command<'a>, AllocError>
+    ensures adds { IfOk result (AddsFiles command.entry (name.entry.now ∷ [])) }
+{
+    command.arg(file(alloc, name, help))
+}
+
+// A command of which the setup is the first file.
 fn setup_command<'a>(
     alloc: Global,
     name: &'a str,
     about: &'a str,
     help: &'a str,
-) -> Result<Command<'a>, AllocError> {
-    Command::new(alloc, name)
-        .about(about)
-        .after_help(help)
-        .arg(file(alloc, "SETUP", SETUP_HELP))
+) -> Result<Command<'a>, AllocError>
+    ensures files { IfOk result (IsCommand (name.entry.now, codes "SETUP" ∷ [])) }
+{
+    let command = Command::new(alloc, name).about(about).after_help(help);
+    with_file(alloc, command, "SETUP", SETUP_HELP)
 }
 
-/// The first words of a command on a problem.
+/// A command on a problem, with the files of the problem.
 pub(crate) fn problem_command<'a>(
     alloc: Global,
     name: &'a str,
     about: &'a str,
     help: &'a str,
-) -> Result<Command<'a>, AllocError> {
-    let forecast = file(alloc, "FORECAST", FORECAST_HELP);
-    setup_command(alloc, name, about, help)?.arg(forecast)
+) -> Result<Command<'a>, AllocError>
+    ensures files { IfOk result (IsCommand (name.entry.now, codes "SETUP" ∷ codes "FORECAST" ∷ [])) }
+{
+    let command = setup_command(alloc, name, about, help)?;
+    with_file(alloc, command, "FORECAST", FORECAST_HELP)
 }
 
-/// The words of a command on a problem and a plan for it.
+/// A command on a problem and a plan for it, with their files.
 pub(crate) fn judging_command<'a>(
     alloc: Global,
     name: &'a str,
     about: &'a str,
     help: &'a str,
-) -> Result<Command<'a>, AllocError> {
-    let plan = file(alloc, "PLAN", "The dump plan with its loss and its cut");
-    problem_command(alloc, name, about, help)?.arg(plan)
+) -> Result<Command<'a>, AllocError>
+    ensures files { IfOk result (IsCommand (name.entry.now, codes "SETUP" ∷ codes "FORECAST" ∷ codes "PLAN" ∷ [])) }
+{
+    let command = problem_command(alloc, name, about, help)?;
+    with_file(
+        alloc,
+        command,
+        "PLAN",
+        "The dump plan with its loss and its cut",
+    )
 }
 
-fn ask_command<'a>(alloc: Global) -> Result<Command<'a>, AllocError> {
-    let requests = file(alloc, "REQUESTS", REQUESTS_HELP);
-    setup_command(alloc, "ask", ASK_ABOUT, ASK_HELP)?.arg(requests)
+fn plan_command<'a>(alloc: Global) -> Result<Command<'a>, AllocError>
+    ensures files { IfOk result (IsCommand plan) }
+{
+    problem_command(alloc, "plan", PLAN_ABOUT, PLAN_HELP)
 }
 
-fn tool_command<'a>(alloc: Global) -> Result<Command<'a>, AllocError> {
-    Command::new(alloc, "mm_tool")
+fn check_command<'a>(alloc: Global) -> Result<Command<'a>, AllocError>
+    ensures files { IfOk result (IsCommand check) }
+{
+    judging_command(alloc, "check", CHECK_ABOUT, CHECK_HELP)
+}
+
+fn ask_command<'a>(alloc: Global) -> Result<Command<'a>, AllocError>
+    ensures files { IfOk result (IsCommand ask) }
+{
+    let command = setup_command(alloc, "ask", ASK_ABOUT, ASK_HELP)?;
+    with_file(alloc, command, "REQUESTS", REQUESTS_HELP)
+}
+
+// The program without its commands.
+fn bare_command<'a>(alloc: Global) -> Result<Command<'a>, AllocError>
+    ensures bare { IfOk result (λ c. app_of c ≡ bare) }
+{
+    let command = Command::new(alloc, "mm_tool")
         .bin_name("mm_tool")?
         .about(ABOUT)
         .after_help(TOOL_HELP)
         .no_binary_name(true)
         .subcommand_required(true)
-        .arg_required_else_help(true)
-        .subcommand(problem_command(alloc, "plan", PLAN_ABOUT, PLAN_HELP)?)?
-        .subcommand(judging_command(alloc, "check", CHECK_ABOUT, CHECK_HELP)?)?
+        .arg_required_else_help(true);
+    Ok(command)
+}
+
+/// The program with its commands.
+pub(crate) fn tool_command<'a>(alloc: Global) -> Result<Command<'a>, AllocError>
+    ensures commands { IfOk result (λ c. app_of c ≡ tool) }
+{
+    bare_command(alloc)?
+        .subcommand(plan_command(alloc)?)?
+        .subcommand(check_command(alloc)?)?
         .subcommand(chart_command(alloc)?)?
         .subcommand(run_command(alloc)?)?
         .subcommand(fly_command(alloc)?)?
         .subcommand(ask_command(alloc)?)
-}
-
-fn plan_task<'a>(files: &ArgMatches<'a>) -> Option<Task<'a>> {
-    Some(Task::Plan {
-        setup: files.get_str("SETUP")?,
-        forecast: files.get_str("FORECAST")?,
-    })
-}
-
-fn plan_files<'a>(files: &ArgMatches<'a>) -> Option<PlanFiles<'a>> {
-    Some(PlanFiles {
-        setup: files.get_str("SETUP")?,
-        forecast: files.get_str("FORECAST")?,
-        plan: files.get_str("PLAN")?,
-    })
-}
-
-fn ask_task<'a>(files: &ArgMatches<'a>) -> Option<Task<'a>> {
-    Some(Task::Ask {
-        setup: files.get_str("SETUP")?,
-        requests: files.get_str("REQUESTS")?,
-    })
-}
-
-/// What the words ask for; the error has the text for the user.
-pub fn parse<'a, S: AsStr>(alloc: Global, words: &'a [S]) -> Result<Task<'a>, Error> {
-    let mut command = tool_command(alloc)?;
-    let matches = command.try_get_matches_from_mut(words)?;
-    let task = match matches.subcommand() {
-        Some(("plan", files)) => plan_task(files),
-        Some(("check", files)) => plan_files(files).map(Task::Check),
-        Some(("chart", files)) => plan_files(files).map(Task::Chart),
-        Some(("run" | "fly", files)) => flight_task(files),
-        Some(("ask", files)) => ask_task(files),
-        _ => None,
-    };
-    match task {
-        Some(task) => Ok(task),
-        None => Err(command.error(ErrorKind::InvalidSubcommand, "no such command")?),
-    }
 }

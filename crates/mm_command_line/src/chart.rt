@@ -1,12 +1,9 @@
 //! The command `chart`: the chart of a dump plan.
+ghost use Rattle.std.specs.Prelude.{IfOk};
+ghost use Rattle.mm_command_line.specs.Commands.{IsCommand, chart};
 
-use crate::command::{PlanFiles, judging_command};
-use crate::fault::Fault;
-use crate::run::PlanTexts;
+use crate::command::judging_command;
 use clap::Command;
-use mm_chart::chart_bytes;
-use mm_system::Status;
-use mm_system::files::Files;
 use std::alloc::{AllocError, Global};
 
 const ABOUT: &str = "Draws a dump plan: what is lost, when, and why no plan loses fewer";
@@ -24,18 +21,9 @@ Example:
 
 Exit status: 0 for a picture, whatever its headline, 1 for a refusal.";
 
-/// The words of the command.
-pub fn chart_command<'a>(alloc: Global) -> Result<Command<'a>, AllocError> {
+/// The command `chart`, with its files.
+pub(crate) fn chart_command<'a>(alloc: Global) -> Result<Command<'a>, AllocError>
+    ensures files { IfOk result (IsCommand chart) }
+{
     judging_command(alloc, "chart", ABOUT, HELP)
-}
-
-/// The chart of the plan in the files.
-pub fn chart<'a, F: Files>(
-    alloc: Global,
-    files: &mut F,
-    names: PlanFiles<'a>,
-) -> Result<(Status, Vec<u8>), Fault<'a>> {
-    let texts = PlanTexts::read(alloc, files, names)?;
-    let text = chart_bytes(alloc, &texts.setup, &texts.forecast, &texts.plan)?;
-    Ok((Status::Done, text))
 }

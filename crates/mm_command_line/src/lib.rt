@@ -1,0 +1,11 @@
+//! The command line of the program: its words are read as a task.
+#![tactic(auto)]
+
+mod chart;
+mod command;
+mod flight;
+mod line;
+mod task;
+
+pub use line::parse;
+pub use task::{FlightFiles, PlanFiles, Role, Task};

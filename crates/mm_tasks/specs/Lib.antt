@@ -1,0 +1,4 @@
+pub mod Answers
+pub mod Spots
+pub mod Faults
+pub mod Refusing
