@@ -10,6 +10,8 @@
 # - each file that a link or a path of any document names is there;
 # - each name in code style in a crate's README stands in the sources of that crate, or of another that it names; README's table of
 #   crates has those of crates.txt; and each promise of docs/PROMISES.md names something of its crates;
+# - each must-fail edit is named in docs/PROMISES.md in a sentence that begins with 'Refused:', each edit named there is there, each promise
+#   names one, and there are at most as many as the gate has time for;
 # - each refusal of mm_base's table has one row in the tables of refusals of docs/FORMATS.md, with its number, its name and the
 #   words of mm_words; and the test and the crate that 'Where each refusal is met' names for a refusal are there.
 # The commands of one document are run one after another in one new folder, in which the top of the repository is seen, but not its
@@ -220,6 +222,54 @@ check_promises() {
   done < <(grep -E '^## .*`mm_' "$top/docs/PROMISES.md")
 }
 
+# The headings of docs/PROMISES.md that name a crate or a promise, and the edits named below each in sentences that begin with 'Refused:',
+# separated by tabs.
+refused_in_promises() {
+  awk -v RS= '
+    /^## / { heading = $0; next }
+    { while (match($0, /Refused:[^.]*\./)) {
+        told = substr($0, RSTART, RLENGTH)
+        $0 = substr($0, RSTART + RLENGTH)
+        while (match(told, /`[^`]*`/)) {
+          print heading "\t" substr(told, RSTART + 1, RLENGTH - 2)
+          told = substr(told, RSTART + RLENGTH)
+        }
+      } }' "$top/docs/PROMISES.md"
+}
+
+# The edits that docs/PROMISES.md names, as CRATE/NAME. One with no crate before its name is of a crate of the heading.
+edits_in_promises() {
+  local heading edit folder
+  while IFS=$'\t' read -r heading edit; do
+    if [ "${edit%/*}" != "$edit" ]; then
+      printf '%s\n' "$edit"
+      continue
+    fi
+    while IFS= read -r folder; do
+      if [ -f "$folder/must-fail/$edit.edit" ]; then printf '%s/%s\n' "$(basename "$folder")" "$edit"; fi
+    done < <(crates_named <<<"$heading") | grep . || printf '%s\n' "$edit"
+  done <"$work/refused"
+}
+
+# Each promise of docs/PROMISES.md, and the edits of the gate.
+check_edits() {
+  local most=110 edits heading edit
+  refused_in_promises >"$work/refused"
+  edits_in_promises | sort -u >"$work/named"
+  (cd "$top/crates" && find . -path '*/must-fail/*.edit') | sed 's|^\./||; s|/must-fail/|/|; s|\.edit$||' | sort >"$work/edits"
+  while IFS= read -r edit; do
+    fail "docs/PROMISES.md: no promise names the edit $edit after 'Refused:'; if none is to name it, it belongs into wrong-bodies"
+  done < <(comm -13 "$work/named" "$work/edits")
+  while IFS= read -r edit; do
+    fail "docs/PROMISES.md: there is no must-fail edit $edit"
+  done < <(comm -23 "$work/named" "$work/edits")
+  while IFS= read -r heading; do
+    cut -f 1 "$work/refused" | grep -qxF -- "$heading" || fail "docs/PROMISES.md: '${heading#\#\# }' names no wrong body after 'Refused:'"
+  done < <(grep -E '^## (.*`mm_|The .* promise)' "$top/docs/PROMISES.md")
+  edits=$(wc -l <"$work/edits")
+  [ "$edits" -le "$most" ] || fail "$edits must-fail edits, and the gate has time for $most: move some to wrong-bodies"
+}
+
 # The table of mm_base: number, name and case of each refusal.
 refusals() {
   sed -nE 's/^ *Refusal::([A-Za-z0-9]+) => \(([0-9]+), "([A-Za-z0-9]+)"\),$/\2 \3 \1/p' "$top/crates/mm_base/src/refusal.rt"
@@ -248,7 +298,7 @@ check_refusals() {
   awk '/^## /{inside = /^## Refusals/} inside && /^\| `[0-9]/' "$top/docs/FORMATS.md" >"$work/rows"
   [ "$(wc -l <"$work/rows")" = "$(refusals | wc -l)" ] || fail "docs/FORMATS.md: not one row for each refusal"
   while read -r number name case; do
-    row=$(grep -E "^\| \`$number $name[ \`]" "$work/rows")
+    row=$(grep -E "^\| \`$number ${name}[ \`]" "$work/rows")
     [ "${row#*\` }" = "| $(words_of expected "$case") | $(words_of advice "$case") |" ] ||
       fail "docs/FORMATS.md: the row of $number $name has other words than mm_words"
   done < <(refusals)
@@ -270,6 +320,7 @@ for readme in "$top"/crates/*/README.md; do
 done
 check_crate_rows
 check_promises
+check_edits
 check_refusals
 check_refusal_tests
 while IFS= read -r document; do
