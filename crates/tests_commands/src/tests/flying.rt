@@ -52,6 +52,32 @@ const PLAN_FROM_2: &str =
 const PLAN_FOR_HK: &str =
     "mmplan 1\nstores HK\ndump 1 2\ndump 2 2\ndump 3 0\nloss 2\nstretch HK 1 3\nbound 2\nend\n";
 
+// A bounded store and a circular one of two blocks each, both full as the run begins, each with a report type of its own.
+const TWO_ARE_FULL: &str = "\
+    [[store]]\nid = \"A\"\nsize = 2\ntype = \"bounded\"\nchannel = 0\nstart = 2\n\n\
+    [[store]]\nid = \"C\"\nsize = 2\ntype = \"circular\"\nchannel = 0\nstart = 2\n\n\
+    [[route]]\napid = 100\nservice = 3\nsubtype = 25\nstore = \"A\"\n\n\
+    [[route]]\napid = 101\nservice = 3\nsubtype = 25\nstore = \"C\"\n";
+
+const THREE_OF_TWO: &str = "mmplan 1\nstores A C\ndump 1 2 1\nloss 2\nbound 0\nend\n";
+
+// Lines of two sources: before the run three packets for each store, in turn, and in step 1 one for each.
+const THREE_FOR_EACH: &str = "\
+    2 0 0865C000000E200319000000000000000000000000\n\
+    1 0 0864C000000E200319000000000000000000000000\n\
+    1 0 0865C000000E200319000000000000000000000000\n\
+    2 1 0864C000000E200319000000000000000000000000\n\
+    2 0 0864C000000E200319000000000000000000000000\n\
+    1 0 0864C000000E200319000000000000000000000000\n\
+    1 0 0865C000000E200319000000000000000000000000\n\
+    1 1 0865C000000E200319000000000000000000000000\n";
+
+// Before the run two packets for the first of the two stores, and one for the second.
+const ONE_TOO_FEW: &str = "\
+    1 0 0864C000000E200319000000000000000000000000\n\
+    1 0 0865C000000E200319000000000000000000000000\n\
+    1 0 0864C000000E200319000000000000000000000000\n";
+
 const THREE_BLOCKS: &str = "mmplan 1\nstores SCI\ndump 1 3\nloss 0\nbound 0\nend\n";
 
 // What is printed where five packets come in step 3.
@@ -80,7 +106,7 @@ const OTHER_ARRIVALS: Run = Run {
     ..FIRST_RUN
 };
 
-static RUNS: [Run; 7] = [
+static RUNS: [Run; 8] = [
     OTHER_ARRIVALS,
     Run {
         example: "fewer_arrivals_than_forecast",
@@ -132,6 +158,20 @@ static RUNS: [Run; 7] = [
             total arrived 10 lost 4 dumped 4 held 4\n",
         ..FIRST_RUN
     },
+    // The third packet for each store is lost before the run, of which the report says nothing.
+    Run {
+        example: "more_opening_packets_than_blocks",
+        setup: TWO_ARE_FULL,
+        forecast: "step,window,A,C\n1,3,1,1\n",
+        plan: THREE_OF_TWO,
+        came: &[],
+        more: THREE_FOR_EACH,
+        prints: "\
+            step 1 A arrived 1 lost 1 dumped 2 held 0\n\
+            step 1 C arrived 1 lost 1 dumped 1 held 1\n\
+            total arrived 2 lost 2 dumped 3 held 1\n",
+        ..FIRST_RUN
+    },
     Run {
         example: "a_telecommand_is_not_stored",
         forecast: "step,window,SCI\n1,3,0\n",
@@ -146,6 +186,10 @@ static RUNS: [Run; 7] = [
     },
 ];
 
+// A plan that dumps more in step 1 than its window.
+const ABOVE_THE_WINDOW: &str =
+    "mmplan 1\nstores SCI\ndump 1 3\ndump 2 0\ndump 3 0\nloss 0\nbound 0\nend\n";
+
 // A run that does not begin, for what one of its texts says: with one packet, in step 1.
 const REFUSED: Run = Run {
     came: &[(1, 1)],
@@ -153,7 +197,41 @@ const REFUSED: Run = Run {
     ..FIRST_RUN
 };
 
-static RUNS_REFUSED: [Run; 9] = [
+// Where several texts are bad the first in the order of the command is told, and of several refusals of the run the first.
+static RUNS_REFUSED: [Run; 14] = [
+    Run {
+        example: "no plan text, a packet cut short and a hundred links",
+        plan: "mmplan 3\n",
+        came: &[],
+        more: "1 3 08\n",
+        links: "links 100",
+        prints: "refused 34 PlanText line 1\n",
+        ..REFUSED
+    },
+    Run {
+        example: "a plan for another store, a packet cut short and a hundred links",
+        plan: PLAN_FOR_HK,
+        came: &[],
+        more: "1 3 08\n",
+        links: "links 100",
+        prints: "refused 35 Shape\n",
+        ..REFUSED
+    },
+    Run {
+        example: "a packet cut short and a hundred links",
+        came: &[],
+        more: "1 3 08\n",
+        links: "links 100",
+        prints: "refused 51 SourcesText line 1\n",
+        ..REFUSED
+    },
+    Run {
+        example: "a plan above its window and no source",
+        plan: ABOVE_THE_WINDOW,
+        came: &[],
+        prints: "refused 43 PlanDoesNotFit step 1\n",
+        ..REFUSED
+    },
     Run {
         example: "opening_contents_run, without the opening contents",
         setup: STARTS_WITH_2,
@@ -163,16 +241,28 @@ static RUNS_REFUSED: [Run; 9] = [
         ..REFUSED
     },
     Run {
-        example: "a plan for another store",
-        plan: PLAN_FOR_HK,
-        prints: "refused 35 Shape\n",
+        example: "an opening packet too many and no link",
+        came: &[(0, 1)],
+        links: "links 0",
+        prints: "refused 41 OpeningDiffers store SCI\n",
         ..REFUSED
     },
     Run {
-        example: "a packet cut short",
+        example: "more_opening_packets_than_blocks, with one too few for the second store",
+        setup: TWO_ARE_FULL,
+        forecast: "step,window,A,C\n1,3,1,1\n",
+        plan: THREE_OF_TWO,
         came: &[],
-        more: "1 3 08\n",
-        prints: "refused 51 SourcesText line 1\n",
+        more: ONE_TOO_FEW,
+        prints: "refused 41 OpeningDiffers store C\n",
+        ..REFUSED
+    },
+    Run {
+        example: "more_opening_packets_than_blocks, without opening packets",
+        setup: TWO_ARE_FULL,
+        forecast: "step,window,A,C\n1,3,1,1\n",
+        plan: THREE_OF_TWO,
+        prints: "refused 41 OpeningDiffers store A\n",
         ..REFUSED
     },
     Run {
