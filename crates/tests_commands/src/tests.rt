@@ -2,6 +2,7 @@
 
 mod advising;
 mod asking;
+mod causes;
 mod charting;
 mod checking;
 mod failing;
