@@ -59,6 +59,13 @@ const TWO_ARE_FULL: &str = "\
     [[route]]\napid = 100\nservice = 3\nsubtype = 25\nstore = \"A\"\n\n\
     [[route]]\napid = 101\nservice = 3\nsubtype = 25\nstore = \"C\"\n";
 
+// Two bounded stores of two blocks, with one report type.
+const A_AND_B: &str = "\
+    [[store]]\nid = \"A\"\nsize = 2\ntype = \"bounded\"\nchannel = 0\n\n\
+    [[store]]\nid = \"B\"\nsize = 2\ntype = \"bounded\"\nchannel = 0\n\n\
+    [[route]]\napid = 100\nservice = 3\nsubtype = 25\nstore = \"A\"\n\n\
+    [[route]]\napid = 100\nservice = 3\nsubtype = 25\nstore = \"B\"\n";
+
 const THREE_OF_TWO: &str = "mmplan 1\nstores A C\ndump 1 2 1\nloss 2\nbound 0\nend\n";
 
 // Lines of two sources: before the run three packets for each store, in turn, and in step 1 one for each.
@@ -106,7 +113,7 @@ const OTHER_ARRIVALS: Run = Run {
     ..FIRST_RUN
 };
 
-static RUNS: [Run; 8] = [
+static RUNS: [Run; 9] = [
     OTHER_ARRIVALS,
     Run {
         example: "fewer_arrivals_than_forecast",
@@ -130,6 +137,17 @@ static RUNS: [Run; 8] = [
         plan: THREE_BLOCKS,
         came: &[(1, 3)],
         links: "links 1\nfail 1 2\n",
+        prints: HALTED_IN_1,
+        status: 1,
+        ..FIRST_RUN
+    },
+    Run {
+        example: "two_links_fail",
+        setup: A_AND_B,
+        forecast: "step,window,A,B\n1,4,2,2\n",
+        plan: "mmplan 1\nstores A B\ndump 1 2 2\nloss 0\nbound 0\nend\n",
+        came: &[(1, 2)],
+        links: "links 2\nfail 1 1\nfail 2 1\n",
         prints: HALTED_IN_1,
         status: 1,
         ..FIRST_RUN

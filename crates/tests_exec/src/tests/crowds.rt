@@ -220,7 +220,7 @@ fn all_meet<R: Threads + Wait + Sync + Abort>(rt: &R, alloc: Global, meeting: &M
     let links = gated_links(rt, alloc, *links, Awaits::Begun(u64::from(*links)));
     let flight = flown(rt, &mut trial, sources, links);
     let many = apids.len().saturating_mul(*each as usize);
-    let is_whole = flight.sources.len() == many && flight.links.len() == *links as usize;
+    let is_whole = flight.sources.len() == many && flight.links.len() == meeting.links as usize;
     assert!(rt; is_whole, "all sources and links come back");
     have_met(rt, &flight.sources);
     have_sent(rt, &flight.links, *each);

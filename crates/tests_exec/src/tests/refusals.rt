@@ -4,7 +4,7 @@ use crate::tests::rows::{Run, carries_out, run};
 use crate::tests::scripts::{Script, has_left, scripts};
 use crate::tests::trials::{
     Change, FIRST_RUN, Left, NO_STEP, ONE_STORE, TOO_LATE, TWO_PASSES, Task, Trial, has_text, id,
-    left, memory_of, setup, task,
+    left, memory_of, setup,
 };
 use crate::tests::wires::{Wire, wires};
 use mm_desk::StoreState;
@@ -233,12 +233,9 @@ fn causes_come_in_order(rt: HostRuntime) {
     }
 }
 
-const TWO_STORES: Task = task! {
-    {
-        store "HK", apid 100, size 4, type "bounded", channel 0; store "SCI", apid 100, size 4, type "bounded", channel 1;
-        limit channel 0, blocks 9;
-    }
-    "step,window,HK,SCI\n1,2,3,3\n" "mmplan 1\nstores HK SCI\ndump 1 1 1\nloss 0\nbound 0\nend\n"
+const TWO_STORES: &str = setup! {
+    store "HK", apid 100, size 4, type "bounded", channel 0; store "SCI", apid 100, size 4, type "bounded", channel 1;
+    limit channel 0, blocks 9;
 };
 
 const BOTH_LARGER: &str = setup! {
@@ -263,8 +260,12 @@ const A_LATE_TIME: &[Change] = &[Change::Offer(TOO_LATE, 900), Change::Delete(u6
 
 const OF_TWO: Refused = Refused {
     name: "both stores are off",
-    task: TWO_STORES,
-    memory: TWO_STORES.setup,
+    task: Task {
+        setup: TWO_STORES,
+        forecast: "step,window,HK,SCI\n1,2,3,3\n",
+        plan: "mmplan 1\nstores HK SCI\ndump 1 1 1\nloss 0\nbound 0\nend\n",
+    },
+    memory: TWO_STORES,
     others: &[Change::Off],
     changes: &[Change::Off],
     sources: 1,
@@ -275,7 +276,7 @@ const OF_TWO: Refused = Refused {
 
 // Each cause is looked for in all stores, in their order, before the next one: where the first store has a later cause than the second,
 // the second is told, and where both have one, the first.
-static OF_SEVERAL_STORES: [Refused; 8] = [
+static OF_SEVERAL_STORES: [Refused; 9] = [
     OF_TWO,
     Refused {
         name: "the first is larger, the second is off",
@@ -331,6 +332,13 @@ static OF_SEVERAL_STORES: [Refused; 8] = [
         why: Why::ChannelDiffers("SCI"),
         ..OF_TWO
     },
+    Refused {
+        name: "the second has a late storage time",
+        others: &[],
+        changes: A_LATE_TIME,
+        why: Why::ClockTooLate,
+        ..OF_TWO
+    },
 ];
 
 #[test]
@@ -341,10 +349,14 @@ fn each_cause_is_looked_for_in_all_stores(rt: HostRuntime) {
     }
 }
 
-const CHANNEL_0: Task = task! {
-    { store "A", apid 100, size 3, type "bounded", channel 0; limit channel 0, blocks 1; }
-    "step,window,A\n1,5,3\n2,0,3\n"
-    "mmplan 2\nstores A\ndump 1 1\ndump 2 0\nloss 2\nstretch A 1 2\ncount 1 channels\nbound 2\nend\n"
+const A_LIMITED: &str = setup! {
+    store "A", apid 100, size 3, type "bounded", channel 0; limit channel 0, blocks 1;
+};
+
+const CHANNEL_0: Task = Task {
+    setup: A_LIMITED,
+    forecast: "step,window,A\n1,5,3\n2,0,3\n",
+    plan: "mmplan 2\nstores A\ndump 1 1\ndump 2 0\nloss 2\nstretch A 1 2\ncount 1 channels\nbound 2\nend\n",
 };
 
 static OVER_CHANNEL_0: Run = run! {
@@ -357,7 +369,7 @@ static OVER_CHANNEL_0: Run = run! {
 static OVER_CHANNEL_5: Refused = Refused {
     name: "over channel 5",
     task: CHANNEL_0,
-    memory: CHANNEL_0.setup,
+    memory: A_LIMITED,
     others: &[],
     changes: &[],
     sources: 1,

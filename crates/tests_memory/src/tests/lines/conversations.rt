@@ -1,7 +1,7 @@
 //! Conversations of empty lines, and a refused setup.
 use super::{ENABLE, Talk, each_answers};
 use crate::tests::samples::ONE_STORE;
-use mm_ask::{Fault, ask_bytes};
+use mm_ask::{Fault, Outcome, ask_bytes};
 use std::alloc::AllocGlobal;
 use std::process::Abort;
 
