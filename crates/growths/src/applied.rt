@@ -163,9 +163,10 @@ fn carried_out_or_unchanged(
     if matches!(met, Met::Wanted | Met::Refused) {
         let same = seen(memory, id) == before;
         let again = asked(alloc, memory, request, step);
-        met = met
-            .provided(same, "changed without memory")
-            .provided(matches!(again, Met::Whole), "another answer after want of memory");
+        met = met.provided(same, "changed without memory").provided(
+            matches!(again, Met::Whole),
+            "another answer after want of memory",
+        );
     }
     met.provided(seen(memory, id) == step.left, "another memory")
 }

@@ -49,7 +49,11 @@ fn packet(alloc: Global, count: u16) -> Result<BlockPacket, NoMemory> {
 }
 
 // What an offer is answered. The packet that comes back is put where it was taken from.
-fn told_of_offer(answer: Result<Offered, Returned>, count: u16, packet: &mut Option<BlockPacket>) -> Told {
+fn told_of_offer(
+    answer: Result<Offered, Returned>,
+    count: u16,
+    packet: &mut Option<BlockPacket>,
+) -> Told {
     match answer {
         Ok(Offered::Kept(time)) => Told::Kept(time),
         Ok(_) => Told::Other,

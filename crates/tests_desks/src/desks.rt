@@ -169,7 +169,10 @@ fn offers_a_fifth<N: Opening, R: Wait + Abort>(rt: &R, alloc: Global, state: Sto
     seats.push(seat).expect(rt, "memory");
     let closed = desk.close(seats);
     let is_logged = closed.agree && closed.log.len() == 1;
-    assert!(rt; is_logged && counts(&closed.state) == [5, 1, 0, 4], "one packet is lost");
+    assert!(rt;
+        is_logged && counts(&closed.state) == [5, 1, 0, 4],
+        "one packet is lost"
+    );
 }
 
 #[test]

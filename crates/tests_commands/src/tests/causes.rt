@@ -15,5 +15,4 @@ fn last_lines_of_runs()
     ensures no_memory { end_line (NoMemory 3) ≡ codes "halted step 3 45 NoMemory" ++ line_feed ∷ [] }
     ensures log_mismatch { end_line (LogMismatch 3) ≡ codes "halted step 3 47 LogMismatch" ++ line_feed ∷ [] }
     ensures channel_differs { end_line (ChannelDiffers (codes "C       ")) ≡ codes "refused 53 ChannelDiffers store C" ++ line_feed ∷ [] }
-{
-}
+{}

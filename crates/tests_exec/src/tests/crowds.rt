@@ -271,7 +271,10 @@ fn orders_from_one_queue(rt: HostRuntime) {
     let sources = four_sources(&rt, alloc);
     let links = gated_links(&rt, alloc, 2, Awaits::Ended(3));
     let flight = flown(&rt, &mut trial, sources, links);
-    assert!(rt; flight.links.len() == 2 && flight.sources.len() == 4, "all come back");
+    assert!(rt;
+        flight.links.len() == 2 && flight.sources.len() == 4,
+        "all come back"
+    );
     assert!(rt; flight.report.totals().dumped == 4, "all are dumped");
     let most = most_sent(&rt, &flight.links);
     assert!(rt; most == 3, "three orders of one link");

@@ -36,18 +36,34 @@ fn push_packets(rt: &impl Abort, list: &mut Standing, state: &StoreState) {
 
 // A store: its identifier and its counters, how many packets it holds, its last time, its size and its kind, its channel, and whether
 // storage and a retrieval are on; and then its packets.
-fn push_store(rt: &impl Abort, list: &mut Standing, name: [u8; 8], channel: u8, state: &StoreState) {
+fn push_store(
+    rt: &impl Abort,
+    list: &mut Standing,
+    name: [u8; 8],
+    channel: u8,
+    state: &StoreState,
+) {
     let (store, retrieval) = (state.store(), state.retrieval().is_some());
     let counters = [state.offered(), state.lost(), state.deleted()];
     let rows = [
-        [u64::from_be_bytes(name), counters[0], counters[1], counters[2]],
+        [
+            u64::from_be_bytes(name),
+            counters[0],
+            counters[1],
+            counters[2],
+        ],
         [
             u64::from(store.len()),
             store.last_time(),
             u64::from(store.size()),
             u64::from(store.kind().code()),
         ],
-        [u64::from(channel), u64::from(state.storage()), u64::from(retrieval), 0],
+        [
+            u64::from(channel),
+            u64::from(state.storage()),
+            u64::from(retrieval),
+            0,
+        ],
     ];
     list.extend_from_slice(&rows).expect(rt, "memory");
     push_packets(rt, list, state);
@@ -62,8 +78,13 @@ fn standing(rt: &impl Abort, trial: &Trial) -> Standing {
     for row in trial.memory.control().list() {
         let store = u64::from_be_bytes(row.store.field());
         let (apid, service, subtype) = (row.apid, row.service, row.subtype);
-        list.push([u64::from(apid), u64::from(service), u64::from(subtype), store])
-            .expect(rt, "memory");
+        list.push([
+            u64::from(apid),
+            u64::from(service),
+            u64::from(subtype),
+            store,
+        ])
+        .expect(rt, "memory");
     }
     list
 }
@@ -382,10 +403,18 @@ static OVER_CHANNEL_5: Refused = Refused {
 fn moves_to_channel(rt: &impl Abort, trial: &mut Trial, channel: u8) {
     trial.change_of(rt, "A", &[Change::Off]);
     let id = id(rt, "A").field();
-    let list = [Channel { id, channel }].to_vec(trial.alloc).expect(rt, "memory");
+    let list = [Channel { id, channel }]
+        .to_vec(trial.alloc)
+        .expect(rt, "memory");
     let request = Request::ChangeChannel(Entries::new(list));
-    let answers = trial.memory.apply(trial.alloc, 1, &request).expect(rt, "memory");
-    assert!(rt; answers.each.as_slice() == [Answer::Done].as_slice(), "channel {channel}");
+    let answers = trial
+        .memory
+        .apply(trial.alloc, 1, &request)
+        .expect(rt, "memory");
+    assert!(rt;
+        answers.each.as_slice() == [Answer::Done].as_slice(),
+        "channel {channel}"
+    );
     trial.change_of(rt, "A", &[Change::On]);
 }
 

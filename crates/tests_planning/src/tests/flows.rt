@@ -99,12 +99,7 @@ static CASES: [Case; 5] = [
 ];
 
 // The network of so many nodes with these arcs.
-pub(crate) fn built(
-    rt: &impl Abort,
-    alloc: Global,
-    nodes: u32,
-    arcs: &[ArcRow],
-) -> Network {
+pub(crate) fn built(rt: &impl Abort, alloc: Global, nodes: u32, arcs: &[ArcRow]) -> Network {
     let mut network = Network::new(alloc);
     for _ in 0..nodes {
         node(rt, &mut network);
@@ -214,10 +209,17 @@ fn comes(rt: &impl Abort, problem: &Problem, step: u32, store: usize) -> u32 {
 fn store_arc(rt: &impl Abort, problem: &Problem, way: Way, step: u32, store: usize) -> ArcRow {
     assert!(rt; store < problem.stores());
     let place = u32::try_from(store).expect(rt, "few stores");
-    let (come, held) = (node_of(step, place), node_of(step, HELD.saturating_add(place)));
+    let (come, held) = (
+        node_of(step, place),
+        node_of(step, HELD.saturating_add(place)),
+    );
     let leaves = CHANNELS.saturating_add(u32::from(problem.channel(store)));
     match way {
-        Way::Come => (SOURCE, come, Some(u64::from(comes(rt, problem, step, store)))),
+        Way::Come => (
+            SOURCE,
+            come,
+            Some(u64::from(comes(rt, problem, step, store))),
+        ),
         Way::Hold => (come, held, Some(u64::from(problem.size(store)))),
         Way::Keep if step == problem.steps() => (held, SINK, None),
         Way::Keep => (held, node_of(step.saturating_add(1), place), None),
@@ -236,10 +238,22 @@ fn add_step(rt: &impl Abort, network: &mut Network, problem: &Problem, step: u32
     let pass = node_of(step, PASS);
     for channel in 0..problem.channels() {
         let from = node_of(step, CHANNELS.saturating_add(u32::from(channel)));
-        arc(rt, network, from, pass, problem.limit(channel).map(u64::from));
+        arc(
+            rt,
+            network,
+            from,
+            pass,
+            problem.limit(channel).map(u64::from),
+        );
     }
     assert!(rt; 0 < step && step <= problem.steps());
-    arc(rt, network, pass, SINK, Some(u64::from(problem.window(step))));
+    arc(
+        rt,
+        network,
+        pass,
+        SINK,
+        Some(u64::from(problem.window(step))),
+    );
 }
 
 // The network that the planner solves for a problem.

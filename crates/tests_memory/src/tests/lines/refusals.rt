@@ -53,6 +53,8 @@ fn each_proper_prefix_of_a_packet_is_short(rt: HostRuntime) {
 
 #[test]
 fn the_refusal_of_a_line_is_shown_as_it_is_printed(rt: HostRuntime) {
-    let shown = LineFault::HexLine.to_string(rt.alloc()).expect(&rt, "its text");
+    let shown = LineFault::HexLine
+        .to_string(rt.alloc())
+        .expect(&rt, "its text");
     assert!(rt; shown.as_str() == "49 HexLine");
 }
