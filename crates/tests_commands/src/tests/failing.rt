@@ -114,8 +114,7 @@ fn each_file_that_is_not_read(rt: HostRuntime) {
 // No command writes as often for the first run.
 const MANY_WRITES: u32 = 100;
 
-// How many writes of a command's output can be refused, each in turn and no other with it; its status is 1 each time, and this one
-// then.
+// How many writes of a command's output can be refused, each in turn; its status is 1 each time, and this one then.
 fn refused_writes<R: Abort + AllocGlobal + Threads + Wait + Sync>(
     rt: &R,
     words: &[&str],
