@@ -111,6 +111,7 @@ fn has_logged(rt: &impl Abort, log: &[Entry], entries: &[(u32, Told)]) {
 
 // The seats at place 0 have made so many calls each.
 fn have_called<N: Opening>(rt: &impl Abort, seats: &[Seat<N>], calls: &[usize]) {
+    assert!(rt; seats.len() == calls.len(), "as many seats");
     for (seat, calls) in seats.iter().zip(calls) {
         assert!(rt; seat.place() == 0, "the place");
         assert!(rt; seat.list().len() == *calls, "as many calls");
