@@ -2,7 +2,6 @@
 
 mod advising;
 mod asking;
-mod causes;
 mod charting;
 mod checking;
 mod failing;

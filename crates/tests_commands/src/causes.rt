@@ -1,13 +1,12 @@
-//! The last line of a run for causes that no files of the program meet. It is compared as the test is proved: a run is proved to
-//! print `end_line` of its cause.
+//! The last line of a run for causes that no files of the program meet, compared in the proof.
 ghost use Rattle.std.specs.Prelude.{◌≡◌, ◌++◌, ◌∷◌, [], codes};
 ghost use Rattle.mm_base.specs.Characters.{line_feed};
 ghost use Rattle.mm_flight.specs.Ending.{end_line};
 ghost use Rattle.mm_report.specs.declared.cause.Cause.TheVariants.{PlanShape, NotReady, SizeDiffers, ClockTooLate, ChannelDiffers, NoMemory, LogMismatch};
 
-// The store is C, whose identifier is seen as its field of eight octets.
-#[test]
-fn last_lines_of_runs()
+/// The lines of these causes: a run is proved to print `end_line` of its cause. The store is C, whose identifier is seen as its field of
+/// eight octets.
+pub fn last_lines_of_runs()
     ensures plan_shape { end_line PlanShape ≡ codes "refused 38 PlanShape" ++ line_feed ∷ [] }
     ensures not_ready { end_line (NotReady (codes "C       ")) ≡ codes "refused 39 NotReady store C" ++ line_feed ∷ [] }
     ensures size_differs { end_line (SizeDiffers (codes "C       ")) ≡ codes "refused 40 SizeDiffers store C" ++ line_feed ∷ [] }

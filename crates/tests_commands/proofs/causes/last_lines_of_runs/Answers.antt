@@ -1,7 +1,7 @@
 -- Each line computes, once its numbers are spelled.
 use Rattle.std.specs.Fmt.{digits}
 use Rattle.std.proofs.Common.{refl}
-use Rattle.tests_commands.proofs.tests.causes.last_lines_of_runs.Goals as goal
+use Rattle.tests_commands.proofs.causes.last_lines_of_runs.Goals as goal
 
 pub returns-clause-plan_shape : goal.returns-clause-plan_shape
 unfolding digits
