@@ -5,7 +5,6 @@ mod asking;
 mod charting;
 mod checking;
 mod failing;
-mod flights;
 mod flying;
 mod planning;
 mod samples;

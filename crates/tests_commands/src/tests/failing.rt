@@ -46,7 +46,7 @@ impl Files for FailingFiles {
     }
 }
 
-// A writer that refuses the write after so many.
+// A writer that refuses one write, the one after so many, and takes all others.
 #[derive(Drop)]
 pub(crate) struct FailingWriter {
     left: u32,
@@ -64,11 +64,11 @@ impl FailingWriter {
 
 impl Write for FailingWriter {
     fn write(&mut self, buf: &[u8]) -> io::Result<usize> {
-        if self.left == 0 {
+        if self.left == 0 && !self.has_refused {
             self.has_refused = true;
             return Err(io::Error::from(ErrorKind::BrokenPipe));
         }
-        self.left -= 1;
+        self.left = self.left.saturating_sub(1);
         Ok(buf.len())
     }
 
