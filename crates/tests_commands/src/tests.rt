@@ -6,6 +6,7 @@ mod charting;
 mod checking;
 mod failing;
 mod flying;
+mod inputs;
 mod planning;
 mod samples;
 mod words;
