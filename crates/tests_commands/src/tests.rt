@@ -7,6 +7,7 @@ mod checking;
 mod failing;
 mod flights;
 mod flying;
+mod inputs;
 mod planning;
 mod samples;
 mod words;
