@@ -45,14 +45,10 @@ impl Files for FailingFiles {
     }
 }
 
-<<<<<<< HEAD
-// A writer that refuses one write, the one after so many, and takes all others.
-=======
 // What standard error says where standard output refuses a write.
 pub(crate) const UNWRITTEN: &[u8] = b"mm_tool: standard output could not be written\n";
 
-// A writer that refuses the write after so many.
->>>>>>> afbb911213873b588df43abffc4120b7a9daea2b
+// A writer that refuses one write, the one after so many, and takes all others.
 #[derive(Drop)]
 pub(crate) struct FailingWriter {
     left: u32,
