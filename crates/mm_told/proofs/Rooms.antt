@@ -13,7 +13,6 @@ use Rattle.mm_base.specs.declared.limits.TheConstants.{MAX_STORES, MAX_STEPS, MA
 use Rattle.mm_base.specs.Id.{IsIdField, id_text}
 use Rattle.mm_plan.specs.Sheet.{SheetRows, Line, title_line, stores_line, dump_line, loss_line, stretch_line, count_line, bound_line, end_line, words, line_text, dump_lines, has_counts, lines_of, sheet_text, IsWritten, IsSheet}
 use Rattle.mm_plan.specs.declared.stretch.Stretch.{Stretch}
-use Rattle.mm_plan.specs.declared.stretch.TheConstants.{MAX_STRETCHES, MAX_COUNTS}
 use Rattle.mm_told.specs.declared.room.TheConstants.{PLAN_ROOM}
 
 -- pieces with one octet after each

@@ -1,5 +1,5 @@
 -- A refusal with its place, as codes.
-use Rattle.std.specs.Prelude.{ℕ, Option, Some, None, slice_get, option_map, option_and_then}
+use Rattle.std.specs.Prelude.{ℕ, Option, Some, slice_get, option_map, option_and_then}
 use Rattle.mm_base.specs.Refusals.{number_of}
 use Rattle.mm_base.specs.declared.refusal.Refusal.{Refusal}
 use Rattle.mm_told.specs.Codes.{code_of_place, code_of_name}
