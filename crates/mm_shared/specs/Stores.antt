@@ -70,19 +70,27 @@ IsFresh lines = (k : ℕ) → list_at lines k ≡ []
 abbrev pub no_ports : TableId → ℕ → PortsView
 no_ports id seats = record { of = id; first = seats; lists = [] }
 
--- stores were opened in these states, for workers that have a line at each, and there is room to give the stores back
-pub record AreOpen (before : List State) (it : OpenStores) : Type 0 where
-  pub states : map (λ s. s.store.opening) it.stores.items ≡ before
+-- the identifiers and the channels of shared stores
+abbrev pub names_of : List NamedStore → List (List ℕ × ℕ)
+names_of stores = map (λ s. (s.id, s.channel)) stores
+
+-- the states in which shared stores were opened
+abbrev pub openings_of : List NamedStore → List State
+openings_of stores = map (λ s. s.store.opening) stores
+
+-- each worker has a line at each store, the other ports and the room to give the stores back are there
+pub record AreOpen (it : OpenStores) : Type 0 where
   pub seats : All (λ s. s.store.seats ≡ length it.workers.items) it.stores.items
   pub workers : AreWorkers it.stores.items 0 it.workers.items
   pub spare : map (λ s. s.ports) it.spare.items ≡ map (λ s. no_ports s.store.id (length it.workers.items)) it.stores.items
   pub empty : it.room.items ≡ []
   pub room : length it.stores.items ≤ vec_capacity it.room
 
--- these are the workers of stores opened in these states, before any call
+-- these stores are open for this many workers, and no call was made
 pub record AreNew (before : List Held) (workers : ℕ) (it : OpenStores) : Type 0 where
-  pub labels : map (λ s. (s.id, s.channel)) it.stores.items ≡ labels_of before
-  pub open_is : AreOpen (states_of before) it
+  pub labels : names_of it.stores.items ≡ labels_of before
+  pub states : openings_of it.stores.items ≡ states_of before
+  pub are_open : AreOpen it
   pub count : length it.workers.items ≡ workers
   pub fresh : All (λ w. IsFresh w.lines.items) it.workers.items
 

@@ -1,8 +1,8 @@
 //! The stores of a step that workers share.
-ghost use Rattle.std.specs.Prelude.{◌≡◌, ◌≤◌, [], map, length, All, IfOk, OnErr};
+ghost use Rattle.std.specs.Prelude.{◌≡◌, ◌≤◌, length, All, IfOk, OnErr};
 ghost use Rattle.mm_base.specs.declared.limits.TheConstants.{MAX_STORES};
 ghost use Rattle.mm_desk.specs.Machine.{IsState};
-ghost use Rattle.mm_shared.specs.Stores.{states_of, labels_of, AreOpen, AreNew, HaveLegalLogs};
+ghost use Rattle.mm_shared.specs.Stores.{states_of, labels_of, names_of, openings_of, AreOpen, AreNew, HaveLegalLogs};
 
 use crate::port::{Port, Ports};
 use crate::store::SharedStore;
@@ -58,9 +58,9 @@ pub fn open_all(alloc: Global, stores: &mut Vec<Held>, workers: u32) -> Result<O
 
 /// Takes all ports back, and gives the stores back in the states that they are in. It takes no memory.
 pub fn close_all(opened: OpenStores, stores: &mut Vec<Held>)
-    requires opened { AreOpen (map (λ s. s.store.opening) opened.stores.items) opened }
-    ensures labels { labels_of stores.new.items ≡ map (λ s. (s.id, s.channel)) opened.stores.items }
-    ensures went { HaveLegalLogs opened.workers.items (map (λ s. s.store.opening) opened.stores.items) (states_of stores.new.items) }
+    requires opened { AreOpen opened }
+    ensures labels { labels_of stores.new.items ≡ names_of opened.stores.items }
+    ensures went { HaveLegalLogs opened.workers.items (openings_of opened.stores.items) (states_of stores.new.items) }
     ensures sound { All (λ h. IsState h.state) stores.new.items }
 {
     unreachable!()
