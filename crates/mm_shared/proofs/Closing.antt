@@ -94,8 +94,8 @@ back_more stores before store spare others one back held stores_are spare_are co
         (subst (CameBack store one) (sym (at_last back (back ++ held ∷ []) held h k refl (same ∙ sym backs))) came))
     by_order k s p h within (inr (inl front)) =
         subst (λ (x : NamedStore). CameBack x (get_or spare k p) (get_or (back ++ held ∷ []) k h)) (sym (at_first before stores store s k stores_are front))
-        (subst (λ (x : Spare). CameBack (get_or before k s) x (get_or (back ++ held ∷ []) k h)) (sym (at_first others spare one p k spare_are (omega arith)))
-        (subst (CameBack (get_or before k s) (get_or others k p)) (sym (at_first back (back ++ held ∷ []) held h k refl (omega arith))) (went.each k s p h front)))
+        (subst (λ (x : Spare). CameBack (get_or before k s) x (get_or (back ++ held ∷ []) k h)) (sym (at_first others spare one p k spare_are (omega (arith, counts))))
+        (subst (CameBack (get_or before k s) (get_or others k p)) (sym (at_first back (back ++ held ∷ []) held h k refl (omega (arith, backs)))) (went.each k s p h front)))
     by_order k s p h within (inr (inr past)) = absurd (omega (arith, one_more before stores store stores_are))
 
 -- no stores, none of which came back
@@ -166,37 +166,40 @@ same_back before seats stores spare back fresh went =
         ∙ ap (λ (s : State). record { id = (get_or before k h).id; channel = (get_or before k h).channel; state = s }) state
 
 -- one store more is open
-pub fresh_more : (before : List Held) (held : Held) (seats : ℕ) (stores : List NamedStore) (store : NamedStore) (spare : List Spare) (one : Spare) → AreFresh before seats stores spare
-    → (store.id ≡ held.id) × (store.channel ≡ held.channel) → store.store.opening ≡ held.state → store.store.seats ≡ seats → one.ports ≡ new_ports store.store.id seats
-    → AreFresh (before ++ held ∷ []) seats (stores ++ store ∷ []) (spare ++ one ∷ [])
-fresh_more before held seats stores store spare one fresh label state seats_is ports = record {
+pub fresh_more : (before all : List Held) (held : Held) (seats : ℕ) (stores opened : List NamedStore) (store : NamedStore) (spare spares : List Spare) (one : Spare) → AreFresh before seats stores spare
+    → all ≡ before ++ held ∷ [] → opened ≡ stores ++ store ∷ [] → spares ≡ spare ++ one ∷ []
+    → store.id ≡ held.id → store.channel ≡ held.channel → store.store.opening ≡ held.state → store.store.seats ≡ seats → one.ports ≡ new_ports store.store.id seats
+    → AreFresh all seats opened spares
+fresh_more before all held seats stores opened store spare spares one fresh all_are opened_are spares_are id channel state seats_is ports = record {
   labels =
-      map-append (λ (s : NamedStore). (s.id, s.channel)) stores (store ∷ [])
+      ap names_of opened_are
+      ∙ (map-append (λ (s : NamedStore). (s.id, s.channel)) stores (store ∷ [])
       ∙ (ap (λ (xs : List (List ℕ × ℕ)). xs ++ (store.id, store.channel) ∷ []) fresh.labels
-      ∙ (ap (λ (x : List ℕ × ℕ). labels_of before ++ x ∷ []) same_label ∙ sym (map-append (λ (h : Held). (h.id, h.channel)) before (held ∷ []))));
+      ∙ (ap (λ (x : List ℕ × ℕ). labels_of before ++ x ∷ []) same_label ∙ (sym (map-append (λ (h : Held). (h.id, h.channel)) before (held ∷ [])) ∙ ap labels_of (sym all_are)))));
   states =
-      map-append (λ (s : NamedStore). s.store.opening) stores (store ∷ [])
+      ap openings_of opened_are
+      ∙ (map-append (λ (s : NamedStore). s.store.opening) stores (store ∷ [])
       ∙ (ap (λ (xs : List State). xs ++ store.store.opening ∷ []) fresh.states
-      ∙ (ap (λ (x : State). states_of before ++ x ∷ []) state ∙ sym (map-append (λ (h : Held). h.state) before (held ∷ []))));
-  seats_are = All-push (λ (s : NamedStore). s.store.seats ≡ seats) stores store fresh.seats_are seats_is;
+      ∙ (ap (λ (x : State). states_of before ++ x ∷ []) state ∙ (sym (map-append (λ (h : Held). h.state) before (held ∷ [])) ∙ ap states_of (sym all_are)))));
+  seats_are = subst (All (λ (s : NamedStore). s.store.seats ≡ seats)) (sym opened_are) (All-push (λ (s : NamedStore). s.store.seats ≡ seats) stores store fresh.seats_are seats_is);
   ports = record {
-    count = omega (arith, fresh.ports.count, length-append spare (one ∷ []), length-append stores (store ∷ []));
+    count = omega (arith, fresh.ports.count, one_more spare spares one spares_are, one_more stores opened store opened_are);
     each = λ k s p within. by_order k s p within (cases_order k (length stores));
   };
 }
   where
     same_label : ◌≡◌ {A = List ℕ × ℕ} (store.id, store.channel) (held.id, held.channel)
-    same_label = ap (λ (i : List ℕ). (i, store.channel)) label.0 ∙ ap (λ (c : ℕ). (held.id, c)) label.1
+    same_label = ap (λ (i : List ℕ). (i, store.channel)) id ∙ ap (λ (c : ℕ). (held.id, c)) channel
 
-    by_order : (k : ℕ) (s : NamedStore) (p : Spare) → k < length (stores ++ store ∷ []) → (k ≡ length stores) ⊎ ((k < length stores) ⊎ (length stores < k))
-        → (get_or (spare ++ one ∷ []) k p).ports ≡ new_ports (get_or (stores ++ store ∷ []) k s).store.id seats
+    by_order : (k : ℕ) (s : NamedStore) (p : Spare) → k < length opened → (k ≡ length stores) ⊎ ((k < length stores) ⊎ (length stores < k))
+        → (get_or spares k p).ports ≡ new_ports (get_or opened k s).store.id seats
     by_order k s p within (inl same) =
-        ap (λ (x : Spare). x.ports) (get_or_push spare one p k (fresh.ports.count ∙ sym same))
-        ∙ (ports ∙ ap (λ (x : NamedStore). new_ports x.store.id seats) (sym (get_or_push stores store s k (sym same))))
+        ap (λ (x : Spare). x.ports) (at_last spare spares one p k spares_are (same ∙ sym fresh.ports.count))
+        ∙ (ports ∙ ap (λ (x : NamedStore). new_ports x.store.id seats) (sym (at_last stores opened store s k opened_are same)))
     by_order k s p within (inr (inl front)) =
-        ap (λ (x : Spare). x.ports) (get_or_append_left spare (one ∷ []) p k (omega (arith, fresh.ports.count)))
-        ∙ (fresh.ports.each k s p front ∙ ap (λ (x : NamedStore). new_ports x.store.id seats) (sym (get_or_append_left stores (store ∷ []) s k front)))
-    by_order k s p within (inr (inr past)) = absurd (omega (arith, length-append stores (store ∷ [])))
+        ap (λ (x : Spare). x.ports) (at_first spare spares one p k spares_are (omega (arith, fresh.ports.count)))
+        ∙ (fresh.ports.each k s p front ∙ ap (λ (x : NamedStore). new_ports x.store.id seats) (sym (at_first stores opened store s k opened_are front)))
+    by_order k s p within (inr (inr past)) = absurd (omega (arith, one_more stores opened store opened_are))
 
 -- no stores are open
 pub none_open : (before : List Held) (seats : ℕ) (stores : List NamedStore) (spare : List Spare) → before ≡ [] → stores ≡ [] → spare ≡ [] → AreFresh before seats stores spare

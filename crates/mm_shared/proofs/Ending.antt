@@ -60,7 +60,6 @@ module _ (start : State) (seats : ℕ) where
   closes ws xs id v result final at rest first all =
       let s = final.0 in
       let k = final.1.0 in
-      let end = ends s k.0 id v k.1 rest first all in
-      let k' = k.0 in
-      let there : get_elem? xs 0 ≡ some k'.now = final.1.1.1.1 0 k'.now (ap (λ (hs : List (mathlib.Core.Option.Option State)). get_elem? hs 0) end.1) in
-      subst (HasLegalLog v.lists start) (some-injective k'.now result (sym there ∙ at)) end.0
+      let end = ends s k id v final.1.1 rest first all in
+      let there : get_elem? xs 0 ≡ some k.now = final.4 0 k.now (ap (λ (hs : List (mathlib.Core.Option.Option State)). get_elem? hs 0) end.1) in
+      subst (HasLegalLog v.lists start) (some-injective k.now result (sym there ∙ at)) end.0

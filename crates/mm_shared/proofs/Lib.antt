@@ -10,3 +10,4 @@ pub mod Places
 pub mod Handing
 pub mod Workers
 pub mod Closing
+pub mod StillOpen

@@ -126,7 +126,7 @@ drop_one (x ∷ xs) (suc i) d within = drop_one xs i d (omega arith)
 -- one worker more
 pub all_taken_more : (i : ℕ) (stores : List NamedStore) (all left rest : List Lines) (worker : Lines) (old new : List Spare) → AllTakenFrom i stores all left old → left ≡ rest ++ worker ∷ []
     → IsWorker stores (length rest) worker.lines.items → HaveTaken old worker.lines.items new → AllTakenFrom (length rest) stores all rest new
-all_taken_more i stores all left rest worker old new taken popped is_worker have =
+all_taken_more i stores all left rest worker old new taken popped theirs have =
     let more : i ≡ length rest + 1 = sym taken.many ∙ ap length popped ∙ length-append rest (worker ∷ []) in
     let within = taken.within in
     record {
@@ -147,14 +147,31 @@ all_taken_more i stores all left rest worker old new taken popped is_worker have
     rest_of : i ≡ length rest + 1 → drop (length rest) all ≡ worker ∷ drop i all
     rest_of more =
         let within = taken.within in
-        drop_one all (length rest) worker (omega arith) ∙ (ap (λ (w : Lines). w ∷ drop (suc (length rest)) all) (last more) ∙ ap (λ (n : ℕ). worker ∷ drop n all) (omega arith))
+        let next : suc (length rest) ≡ i = omega arith in
+        drop_one all (length rest) worker (omega arith) ∙ (ap (λ (w : Lines). w ∷ drop (suc (length rest)) all) (last more) ∙ ap (λ (n : ℕ). worker ∷ drop n all) next)
 
     joined : i ≡ length rest + 1 → (k : ℕ) (s : NamedStore) → k < length stores
         → with_port (get_or worker.lines.items k no_line).port (back_from i all k (get_or stores k s).store.id) ≡ back_from (length rest) all k (get_or stores k s).store.id
     joined more k s inside =
-        let number : (get_or worker.lines.items k no_line).port.number ≡ length rest = (is_worker.at k s no_line inside).number_is in
-        let list : (get_or worker.lines.items k no_line).port.list ≡ list_at worker.lines.items k = sym (get_or-map (λ (l : Line). l.port.list) worker.lines.items k no_line [] (omega (arith, is_worker.count))) in
+        let number : (get_or worker.lines.items k no_line).port.number ≡ length rest = (theirs.at k s no_line inside).number_is in
+        let list : (get_or worker.lines.items k no_line).port.list ≡ list_at worker.lines.items k = sym (get_or-map (λ (l : Line). l.port.list) worker.lines.items k no_line [] (omega (arith, theirs.count))) in
         let lists : (get_or worker.lines.items k no_line).port.list ∷ lists_at k (drop i all) ≡ lists_at k (drop (length rest) all) =
         ap (λ (l : List Entry). l ∷ lists_at k (drop i all)) list ∙ sym (ap (lists_at k) (rest_of more)) in
         ap (λ (n : ℕ). record { of = (get_or stores k s).store.id; first = n; lists = (get_or worker.lines.items k no_line).port.list ∷ lists_at k (drop i all) }) number
         ∙ ap (λ (ls : List (List Entry)). record { of = (get_or stores k s).store.id; first = length rest; lists = ls }) lists
+
+-- the worker that comes last of those that still have their lines
+pub last_worker : (i : ℕ) (stores : List NamedStore) (all left rest : List Lines) (worker : Lines) (spare : List Spare) → AllTakenFrom i stores all left spare → left ≡ rest ++ worker ∷ []
+    → AreWorkers stores 0 all → IsWorker stores (length rest) worker.lines.items
+last_worker i stores all left rest worker spare taken popped workers =
+    let more : i ≡ length rest + 1 = sym taken.many ∙ ap length popped ∙ length-append rest (worker ∷ []) in
+    let within = taken.within in
+    let last : get_or all (length rest) worker ≡ worker =
+    sym (taken.first (length rest) worker (omega arith)) ∙ (ap (λ (ws : List Lines). get_or ws (length rest) worker) popped ∙ get_or_push rest worker worker (length rest) refl) in
+    let number : 0 + length rest ≡ length rest = omega arith in
+    subst (λ (n : ℕ). IsWorker stores n worker.lines.items) number
+    (subst (λ (w : Lines). IsWorker stores (0 + length rest) w.lines.items) last (workers (length rest) worker (omega arith)))
+
+-- its seat is the one before
+pub one_before : (i : ℕ) (stores : List NamedStore) (all left rest : List Lines) (worker : Lines) (spare : List Spare) → AllTakenFrom i stores all left spare → left ≡ rest ++ worker ∷ [] → i ≡ length rest + 1
+one_before i stores all left rest worker spare taken popped = sym taken.many ∙ ap length popped ∙ length-append rest (worker ∷ [])

@@ -75,8 +75,8 @@ fn open_each(
     ensures emptied { OnOk result (stores.new.items ≡ []) }
     ensures err { OnErr result (stores.new.items ≡ stores.old.items) }
     ensures stores { vec_capacity stores.new ≡ vec_capacity stores.old }
-    ensures opened { vec_capacity opened.new ≡ vec_capacity opened.old }
-    ensures spare { vec_capacity spare.new ≡ vec_capacity spare.old }
+    ensures opened { OnOk result (vec_capacity opened.new ≡ vec_capacity opened.old) }
+    ensures spare { OnOk result (vec_capacity spare.new ≡ vec_capacity spare.old) }
 {
     let Some(held) = stores.pop() else {
         return Ok(());

@@ -17,5 +17,5 @@ swap-requires g c =
     let same : c.loop.seat.me ≡ c.args.seat.now.me = c.loop.invariant.1 ∙ c.compare_exchange.ensures.2.1 c.if-compare_exchange-eq-FREE.false in (
       search rules,
       search rules,
-      tries _ _ _ _ _ _ 2 0 (λ k. omega arith) (subst (λ (m : Seated). IsAtRest m) (sym same) c.requires.rest) (subst (λ (m : Seated). 0 < length m.0.lists) (sym same) c.requires.seated),
+      tries _ _ _ _ _ (λ k. 2) 2 0 (λ k. omega arith) (subst (λ (m : Seated). IsAtRest m) (sym same) c.requires.rest) (subst (λ (m : Seated). 0 < length m.0.lists) (sym same) c.requires.seated),
     )

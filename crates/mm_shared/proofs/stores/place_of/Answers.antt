@@ -5,7 +5,7 @@ use Rattle.mm_shared.proofs.Places.{is_named, place_is, told_found, told_some, t
 use Rattle.mm_shared.proofs.stores.place_of.Goals as goal
 
 pub returns : goal.returns
-returns g c =
+returns c =
     let id = c.args.id.now in
     let stores = c.args.stores.now in
     let place = c.position.result in

@@ -10,7 +10,7 @@ returns-clause-went c =
     let result = c.taken_out.result in
     subst (λ (v : PortsView). HasLegalLog v.lists c.args.self.opening result) c.ports.view_is
     (subst (λ (s : StoreView). HasLegalLog c.ports.inside.seat.me.0.lists s.opening result) c.self.view_is
-    (closes _ _ _ _ _ _ result c.close_with.ensures.values.1.1 c.taken_out.ensures.state c.ports.invariant.none first all))
+    (closes _ _ _ _ _ _ result c.close_with.ensures.values.2 c.taken_out.ensures.state c.ports.invariant.none first all))
 
 pub returns-clause-untouched : goal.returns-clause-untouched
 returns-clause-untouched c empty = untouched _ _ _ (returns-clause-went c) empty
