@@ -37,13 +37,7 @@ impl SharedStore {
     }
 
     /// Begins a retrieval from a first to a last time, both included.
-    pub fn begin<R: Wait>(
-        &self,
-        rt: &R,
-        port: &mut Port,
-        from: u64,
-        to: u64,
-    ) -> Result<(), Fault>
+    pub fn begin<R: Wait>(&self, rt: &R, port: &mut Port, from: u64, to: u64) -> Result<(), Fault>
         requires of { port.old.of ≡ self.now.id }
         ensures called { port.new ≡ with_call port.old (Event.Begin from to) (Reply.Done result) }
     {

@@ -51,10 +51,7 @@ pub(crate) fn next(
     seat.slot_mut(table, 0).next_copy(alloc)
 }
 
-pub(crate) fn abort(
-    table: &StoreTable,
-    seat: &mut StoreSeat,
-) -> Result<(), Fault>
+pub(crate) fn abort(table: &StoreTable, seat: &mut StoreSeat) -> Result<(), Fault>
     requires of { seat.old.table_id ≡ table.now.table_id }
     requires held { HasInHand seat.old.me }
     ensures of { seat.new.table_id ≡ seat.old.table_id }
@@ -63,11 +60,7 @@ pub(crate) fn abort(
     seat.slot_mut(table, 0).abort()
 }
 
-pub(crate) fn delete(
-    table: &StoreTable,
-    seat: &mut StoreSeat,
-    limit: u64,
-) -> Result<u32, Fault>
+pub(crate) fn delete(table: &StoreTable, seat: &mut StoreSeat, limit: u64) -> Result<u32, Fault>
     requires of { seat.old.table_id ≡ table.now.table_id }
     requires held { HasInHand seat.old.me }
     ensures of { seat.new.table_id ≡ seat.old.table_id }
@@ -76,10 +69,7 @@ pub(crate) fn delete(
     seat.slot_mut(table, 0).delete(limit)
 }
 
-pub(crate) fn enable(
-    table: &StoreTable,
-    seat: &mut StoreSeat,
-)
+pub(crate) fn enable(table: &StoreTable, seat: &mut StoreSeat)
     requires of { seat.old.table_id ≡ table.now.table_id }
     requires held { HasInHand seat.old.me }
     ensures of { seat.new.table_id ≡ seat.old.table_id }
@@ -88,10 +78,7 @@ pub(crate) fn enable(
     seat.slot_mut(table, 0).enable();
 }
 
-pub(crate) fn disable(
-    table: &StoreTable,
-    seat: &mut StoreSeat,
-)
+pub(crate) fn disable(table: &StoreTable, seat: &mut StoreSeat)
     requires of { seat.old.table_id ≡ table.now.table_id }
     requires held { HasInHand seat.old.me }
     ensures of { seat.new.table_id ≡ seat.old.table_id }

@@ -8,7 +8,9 @@ use std::sync::Wait;
 
 // The word: 0 where the state is in its slot, 1 where a thread has it, 2 where another may sleep meanwhile.
 const FREE: u64 = 0;
+
 const LOCKED: u64 = 1;
+
 const AWAITED: u64 = 2;
 
 // Tries before a thread sleeps.
@@ -24,9 +26,7 @@ fn try_take(table: &StoreTable, seat: &mut StoreSeat) -> bool
     ensures took { MatchBool result (Holds seat.old.me seat.new.me) (seat.new.me ≡ seat.old.me) }
 {
     for _ in 0..TRIES {
-        if table.peek(0) == FREE
-            && table.compare_exchange::<Take>(seat, 0, FREE, LOCKED) == FREE
-        {
+        if table.peek(0) == FREE && table.compare_exchange::<Take>(seat, 0, FREE, LOCKED) == FREE {
             return true;
         }
         spin_loop();
@@ -56,12 +56,7 @@ pub(crate) fn take<R: Wait>(rt: &R, table: &StoreTable, seat: &mut StoreSeat)
 }
 
 // Gives the state back after a call on it. What was asked and answered is for the proof alone.
-pub(crate) fn give<T: Told, X, Y>(
-    table: &StoreTable,
-    seat: &mut StoreSeat,
-    _asked: &X,
-    _answer: &Y,
-)
+pub(crate) fn give<T: Told, X, Y>(table: &StoreTable, seat: &mut StoreSeat, _asked: &X, _answer: &Y)
     requires of { seat.old.table_id ≡ table.now.table_id }
     requires one { HasOneSlot table.now.table_id }
     requires called { HasCalled T.event T.reply seat.old.me }

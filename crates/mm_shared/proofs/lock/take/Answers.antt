@@ -1,4 +1,4 @@
-use Rattle.std.proofs.Common.{rules, ◌≡◌, ◌<◌, length, sym, ◌∙◌, subst, arith}
+use Rattle.std.proofs.Common.{rules, ◌≡◌, ◌<◌, length, sym, subst, arith}
 use Rattle.mm_shared.specs.Steps.{Seated, IsAtRest}
 use Rattle.mm_shared.proofs.Keeping.{tries}
 use Rattle.mm_shared.proofs.lock.take.Goals as goal
