@@ -1,4 +1,4 @@
--- A state in hand is given back, after a call or as it was.
+-- A state that is held is given back, after a call or as it was.
 use Rattle.std.proofs.Common.{◌≡◌, inl, ⊎_elim, ℕ, zero, suc, ◌+◌, ◌<◌, List, [], ◌∷◌, ◌++◌, length, get_or, set, sym, ap, ◌∙◌, subst, arith, Option, None}
 use Rattle.std.proofs.lemmas.List.Elements.{All-push}
 use mathlib.Core.Option.{none, some}
@@ -37,7 +37,7 @@ module _ (start : State) (seats : ℕ) where
   owns_first : (log : List Entry) (owner : ℕ → ℕ) (id : ℕ) (v : Knows) → 0 < length v.lists → Fits seats log owner id v → owner v.first ≡ id
   owns_first log owner id v some_seat fit = ap owner (omega arith) ∙ fit.owned 0 some_seat
 
-  -- a call was made on the state in hand, which is given back
+  -- a call was made on the state that is held, which is given back
   pub gives_back : (n id : ℕ) (m : Seated) (event : Event) (reply : Reply) → HasCalled event reply m
       → Allows (Keeps start seats) n id m 0 (λ k. 0) (λ r it. it ≡ called m event reply)
   gives_back n id m event reply c s k wide me fits64 = (
@@ -90,7 +90,7 @@ module _ (start : State) (seats : ℕ) where
           })
           (at_set s.views id port w v at)
 
-  -- the state in hand is given back as it was
+  -- the state is given back as it was
   pub restores : (n id : ℕ) (m : Seated) → IsAsTaken m → Allows (Keeps start seats) n id m 0 (λ k. 0) (λ r it. it ≡ at_rest m)
   restores n id m c s k wide me fits64 = (
     w,

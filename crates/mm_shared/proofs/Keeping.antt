@@ -55,11 +55,11 @@ module _ (start : State) (seats : ℕ) where
       fit zero v at = subst (Fits seats [] (λ i. 0) 0) (some-injective (all_seats seats) v at) all_fit
       fit (suc port) v at = absurd (some-ne-none v (sym at))
 
-  -- what fits a view fits one with other things in hand
+  -- what fits a view fits one that holds something else
   refits : (log : List Entry) (owner : ℕ → ℕ) (port : ℕ) (v : Knows) (held : Option State) → Fits seats log owner port v → Fits seats log owner port (knows v.first v.lists held)
   refits log owner port v held fit = record { within = fit.within; owned = fit.owned; parts = fit.parts }
 
-  -- the views after one has changed what it has in hand
+  -- the views after one has changed what it holds
   pub refit_all : (log : List Entry) (owner : ℕ → ℕ) (views : List Knows) (id : ℕ) (v : Knows) (held : Option State) → get_elem? views id ≡ some v
       → ((port : ℕ) (u : Knows) → get_elem? views port ≡ some u → Fits seats log owner port u)
       → (port : ℕ) (u : Knows) → get_elem? (set views id (knows v.first v.lists held)) port ≡ some u → Fits seats log owner port u
@@ -156,7 +156,7 @@ module _ (start : State) (seats : ℕ) where
           })
           k.stands)
 
-  -- who has a state in hand is the only one, and has the state of the rule
+  -- who holds a state is the only one, and has the state of the rule
   pub record HasIt (t : Table State Knows) (id : ℕ) (taken now : State) : Type 0 where
     pub same : now ≡ taken
     pub homes : t.homes ≡ none ∷ []

@@ -175,7 +175,7 @@ module _ (start : State) (seats : ℕ) where
           ⊎_elim (λ here. subst (λ (p : ℕ). P p u) (sym here.0) (subst (P id) here.1 joint)) (λ elsewhere. old elsewhere.0 there.0 elsewhere.1) (at_set s.views id port both u there.1))
           (at_set (set s.views id both) other port spent u at)
 
-      -- who has nothing in hand is not the holder
+      -- who holds nothing is not the holder
       idle : (out : IsOut s k.word k.now) (port : ℕ) (u : Knows) → get_elem? s.views port ≡ some u → u.held ≡ None → out.port ≢ port
       idle out port u at rest same =
           let one : out.holder ≡ u = some-injective out.holder u (sym out.at ∙ (ap (λ (i : ℕ). get_elem? s.views i) same ∙ at)) in

@@ -1,8 +1,8 @@
-//! The lock of a shared store: its state is taken in hand, and given back.
+//! The lock of a shared store: its state is taken, and given back.
 ghost use Rattle.std.specs.Prelude.{◌≡◌, ◌<◌, length, MatchBool};
 ghost use Rattle.mm_shared.specs.Steps.{HasOneSlot, IsAtRest, Holds, HasCalled, IsAsTaken, called, at_rest};
 
-use crate::rule::{Give, Restore, StoreSeat, StoreTable, Take, Told};
+use crate::rule::{Give, Restore, StoreSeat, StoreTable, Take, Call};
 use std::hint::spin_loop;
 use std::sync::Wait;
 
@@ -16,7 +16,7 @@ const AWAITED: u64 = 2;
 // Tries before a thread sleeps.
 const TRIES: u32 = 100;
 
-// Takes the state in hand, where it comes free soon.
+// Takes the state, where it comes free soon.
 fn try_take(table: &StoreTable, seat: &mut StoreSeat) -> bool
     requires of { seat.old.table_id ≡ table.now.table_id }
     requires one { HasOneSlot table.now.table_id }
@@ -34,7 +34,7 @@ fn try_take(table: &StoreTable, seat: &mut StoreSeat) -> bool
     false
 }
 
-// Takes the state in hand.
+// Takes the state.
 pub(crate) fn take<R: Wait>(rt: &R, table: &StoreTable, seat: &mut StoreSeat)
     requires of { seat.old.table_id ≡ table.now.table_id }
     requires one { HasOneSlot table.now.table_id }
@@ -56,7 +56,7 @@ pub(crate) fn take<R: Wait>(rt: &R, table: &StoreTable, seat: &mut StoreSeat)
 }
 
 // Gives the state back after a call on it. What was asked and answered is for the proof alone.
-pub(crate) fn give<T: Told, X, Y>(table: &StoreTable, seat: &mut StoreSeat, _asked: &X, _answer: &Y)
+pub(crate) fn give<T: Call, X, Y>(table: &StoreTable, seat: &mut StoreSeat, _asked: &X, _answer: &Y)
     requires of { seat.old.table_id ≡ table.now.table_id }
     requires one { HasOneSlot table.now.table_id }
     requires called { HasCalled T.event T.reply seat.old.me }
