@@ -1,7 +1,9 @@
+pub mod Indices
 pub mod Offers
 pub mod Going
 pub mod Hand
-pub mod Crews
-pub mod Steps
 pub mod Whys
+pub mod Runs
+pub mod Taking
+pub mod Steps
 pub mod Memories

@@ -1,16 +1,21 @@
--- The counters of stores before a step, and what is told after it. No public clause cites this module.
+-- The counters of stores, what they rise by in a step, and what is told of it.
 use Rattle.std.specs.Prelude.{◌≡◌, ℕ, ◌-◌, ◌<◌, List, length, slice_index_or}
 use Rattle.mm_desk.specs.declared.held.Held.{Held}
-use Rattle.mm_record.specs.declared.memory_step.Counters.{Counters}
+use Rattle.mm_desk.specs.Machine.{State}
+use Rattle.mm_record.specs.declared.counters.Counters.{Counters}
 use Rattle.mm_record.specs.declared.memory_step.Recorded.{Recorded}
 
 -- the counters of a store
-abbrev pub counters_of : Held → Counters
-counters_of h = record { offered = h.state.offered; lost = h.state.lost }
+abbrev pub counters_of : State → Counters
+counters_of s = record { offered = s.offered; lost = s.lost; deleted = s.deleted }
+
+-- what counters rose by since they were as before
+abbrev pub rise : Counters → Counters → Counters
+rise before after = record { offered = after.offered - before.offered; lost = after.lost - before.lost; deleted = after.deleted - before.deleted }
 
 -- what is told of a store that had these counters before
 abbrev pub told : Counters → Held → Recorded
-told before h = record { store = h.id; came = h.state.offered - before.offered; lost = h.state.lost - before.lost }
+told before h = record { store = h.id; came = (rise before (counters_of h.state)).offered; lost = (rise before (counters_of h.state)).lost }
 
 -- these are the rows of the first stores, as many as stated
 pub record AreRows (before : List Counters) (stores : List Held) (many : ℕ) (rows : List Recorded) : Type 0 where
