@@ -14,12 +14,13 @@ use Rattle.mm_desk.specs.declared.event.Event.{Event}
 use Rattle.mm_desk.specs.declared.event.Event.TheVariants.{Offer}
 use Rattle.mm_desk.specs.declared.reply.Offered.{Offered}
 use Rattle.mm_desk.specs.declared.reply.Returned.{Returned}
+use Rattle.mm_desk.specs.declared.reply.Reply.{Reply}
 use Rattle.mm_desk.specs.declared.reply.Reply.TheVariants as reply
 use Rattle.mm_desk.specs.Offers.{AreTaken, IsTaken}
 use Rattle.mm_desk.specs.Offers.{asked as asked_in}
 use Rattle.mm_desk.specs.Runs.{entry}
 use Rattle.atomic_table.specs.Seated.{TableId}
-use Rattle.mm_shared.specs.declared.stores.Line.{Line}
+use Rattle.mm_shared.specs.declared.lines.Line.{Line}
 use Rattle.mm_shared.specs.declared.stores.NamedStore.{NamedStore}
 use Rattle.mm_shared.specs.Stores.{list_at, ends_of, id_at}
 use Rattle.mm_shared.specs.Views.{PortView, with_call}
@@ -94,6 +95,10 @@ not_taken xs seat now p back taken =
 -- what is at the end of a line, which no call changes
 abbrev pub end_of : Line → ℕ × TableId × ℕ
 end_of l = (l.index, l.port.of, l.port.number)
+
+-- a call does not change it
+pub same_end : (l : Line) (q : PortView) (event : Event) (reply : Reply) → q ≡ with_call l.port event reply → end_of (record l { port = q }) ≡ end_of l
+same_end l q event reply told = ap (λ (p : PortView). (l.index, p.of, p.number)) told
 
 -- the line at an index changes, and no other
 module _ (G : List Event → List Entry → List Entry → Type 0) (nothing : (xs : List Entry) → G [] xs xs) (now : ℕ) (p : SpacePacket) (lines : List Line) (index count : ℕ) (d line : Line) where

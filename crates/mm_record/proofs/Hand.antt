@@ -5,7 +5,7 @@ use Rattle.mm_desk.specs.declared.event.Event.{Event}
 use Rattle.mm_desk.specs.declared.fault.Fault.{Fault}
 use Rattle.mm_desk.specs.Offers.{AreTaken}
 use Rattle.mm_desk.specs.Offers.{asked as asked_in}
-use Rattle.mm_shared.specs.declared.stores.Line.{Line}
+use Rattle.mm_shared.specs.declared.lines.Line.{Line}
 use Rattle.mm_shared.specs.Stores.{list_at, ends_of, IsFresh}
 use Rattle.mm_record.specs.Offering.{asked, Adds, AddsPartly, IsReason}
 use Rattle.mm_record.specs.Recorded.{RecordingContext, offers}

@@ -1,4 +1,3 @@
-pub mod Indices
 pub mod Offers
 pub mod Going
 pub mod Hand
@@ -6,4 +5,5 @@ pub mod Whys
 pub mod Runs
 pub mod Taking
 pub mod Steps
+pub mod Before
 pub mod Memories

@@ -5,8 +5,8 @@ use Rattle.std.proofs.lemmas.List.{get_or-map, get_or_append_left, get_or-append
 use Rattle.atomic_table.specs.Seated.{TableId}
 use Rattle.mm_packet.specs.Packet.{SpacePacket}
 use Rattle.mm_desk.specs.declared.fault.Fault.{Fault}
-use Rattle.mm_shared.specs.declared.stores.Line.{Line}
-use Rattle.mm_shared.specs.declared.stores.Lines.{Lines}
+use Rattle.mm_shared.specs.declared.lines.Line.{Line}
+use Rattle.mm_shared.specs.declared.lines.Lines.{Lines}
 use Rattle.mm_shared.specs.declared.stores.NamedStore.{NamedStore}
 use Rattle.mm_shared.specs.Stores.{ends_of, AreWorkers, IsFresh, IsWorker}
 use Rattle.mm_record.specs.Offering.{AreAt}

@@ -1,5 +1,5 @@
 -- From what each recorder and each store says, to the step.
-use Rattle.std.proofs.Common.{◌≡◌, ◌≢◌, ◌⊎◌, inl, inr, ℕ, zero, suc, ◌+◌, ◌*◌, ◌<◌, ◌≤◌, List, [], ◌∷◌, ◌++◌, length, get_or, map, filter, All, Option, Some, None, IfNone, IfSome, refl, sym, subst, ap, ◌∙◌, append_assoc, length-append, arith}
+use Rattle.std.proofs.Common.{◌≡◌, ◌≢◌, ◌⊎◌, inl, inr, ℕ, zero, suc, ◌+◌, ◌*◌, ◌<◌, ◌≤◌, max, List, [], ◌∷◌, ◌++◌, length, get_or, map, filter, All, Option, Some, None, IfNone, IfSome, refl, sym, subst, ap, ◌∙◌, append_assoc, length-append, arith}
 use Rattle.std.proofs.lemmas.List.{append-nil, get_or-map, length-map, map-append}
 use Rattle.std.proofs.lemmas.List.Elements.{All-head, All-map, All-tail}
 use Rattle.std.proofs.lemmas.List.Sums.{sum_by-le}
@@ -16,17 +16,17 @@ use Rattle.mm_desk.specs.Offers.{AreTaken, IsTaken, IsShuffleOfEvents, count_of}
 use Rattle.mm_desk.specs.Offers.{asked as asked_in}
 use Rattle.mm_desk.specs.Runs.{opening_at, blank}
 use Rattle.mm_desk.specs.Shuffles.{AreBelow, IsShuffle, part}
-use Rattle.mm_shared.specs.declared.stores.Line.{Line}
-use Rattle.mm_shared.specs.declared.stores.Lines.{Lines}
+use Rattle.mm_shared.specs.declared.lines.Line.{Line}
+use Rattle.mm_shared.specs.declared.lines.Lines.{Lines}
 use Rattle.mm_shared.specs.declared.stores.NamedStore.{NamedStore}
 use Rattle.mm_shared.specs.Stores.{list_at, lists_at, states_of, labels_of, names_of, openings_of, ids_of, id_at, HaveLegalLogs}
 use Rattle.mm_record.specs.Offering.{asked, IsReason}
 use Rattle.mm_record.specs.Recorded.{RecordingContext, recording, open_recording, offers, is_routed}
 use Rattle.mm_record.specs.Recorders.{AreRunsAt, HaveRun, IsRunAt}
-use Rattle.mm_record.specs.Steps.{given_in, latest, AllRecorded, AllHaveLegalOffers, AreFew, AreRecorderRuns, IsOpen, IsRecorderRun, IsWhy, RecorderRun, Records, StoppedEarly, TakesAll}
+use Rattle.mm_record.specs.Steps.{given_in, latest, AllRecorded, HasRecorded, AllHaveLegalOffers, AreFew, AreRecorderRuns, IsOpen, IsRecorderRun, IsWhy, RecorderRun, Records, StoppedEarly, TakesAll}
 use Rattle.mm_record.proofs.Offers.{offers_more}
 use Rattle.mm_record.proofs.Runs.{all_first}
-use Rattle.mm_record.proofs.Taking.{HasTime, IsOfferAt, all_unmapped, filter_fewer, lists_taken, parts_all, shuffle_is_taken}
+use Rattle.mm_record.proofs.Taking.{HasTime, IsOfferAt, all_unmapped, filter_fewer, lists_taken, parts_all, shuffle_is_taken, shuffle_last}
 
 -- an element of a mapped list
 at_map : {X Y : Type 0} (f : X → Y) (xs : List X) (i : ℕ) (d : X) → get_or (map f xs) i (f d) ≡ f (get_or xs i d)
@@ -238,6 +238,13 @@ module _ {S : Type 0} (gives : S → ℕ → List SpacePacket) (e : RecordingCon
       all_more (λ run. IfSome run.broken (λ fault. fault ≡ NoMemory)) run runs
       (reason_of e w.lines.items run.broken at.0.reason (λ k within. All-head AreTaken (list_at w.lines.items k) (lists_at k ws) (taken k within)))
       (reasons_of ss ts ws runs at.1 (λ k within. All-tail AreTaken (list_at w.lines.items k) (lists_at k ws) (taken k within)))
+
+-- the last storage time of a store that has recorded
+pub recorded_last : (e : RecordingContext) (gave : List (List SpacePacket)) (k : ℕ) (s t : State) → HasRecorded e gave k s t
+    → t.store.last ≤ max s.store.last e.now + count_of (map (offers e k) gave)
+recorded_last e gave k s t has =
+    shuffle_last e.now s t (map (offers e k) gave) has.log has.run has.shuffle
+    (All-map (λ es. All (IsOfferAt e.now) es) (offers e k) gave (λ i d within. offers_all e k (get_or gave i d)))
 
 -- what follows where there is nothing
 if_none : {A : Type 0} (P Q : Type 0) (o : Option A) → IfNone o P → (P → Q) → IfNone o Q

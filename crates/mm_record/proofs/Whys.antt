@@ -15,12 +15,12 @@ why_none = record { none = λ i d within. absurd (omega arith); some = tt; lack 
 pub why_one : (broken : Option Fault) → IsWhy (broken ∷ []) broken
 why_one None = record { none = none; some = tt; lack = λ is. cc }
   where
-    none : All (λ f. f ≡ None) (None ∷ [])
+    none : All (λ (f : Option Fault). f ≡ None) (None ∷ [])
     none zero d within = refl
     none (suc i) d within = absurd (omega arith)
 why_one (Some fault) = record { none = tt; some = (0, omega arith, refl); lack = lack }
   where
-    lack : Some fault ≡ Some NoMemory → All (λ f. IfSome f (λ g. g ≡ NoMemory)) (Some fault ∷ [])
+    lack : Some fault ≡ Some NoMemory → All (λ (f : Option Fault). IfSome f (λ g. g ≡ NoMemory)) (Some fault ∷ [])
     lack is zero d within = cc
     lack is (suc i) d within = absurd (omega arith)
 

@@ -24,17 +24,18 @@ is_clock_late stores base = is_late base || list_any (λ h. is_late h.state.stor
 abbrev pub is_count : ℕ → ℕ → Bool
 is_count count most = nat_le 1 count && nat_le count most
 
--- why a step of recorders is not begun, the first reason first: a store that is not ready; a first moment or a last storage time that
--- is too late; too few or too many sources
+-- why a step is not begun, where this is the first store that is not ready: that store; or else a first moment or a last storage time
+-- that is too late; or else too few or too many sources
+abbrev pub cause_by : List Held → ℕ → ℕ → Option Held → Option Cause
+cause_by stores base sources (Some h) = Some (NotReady h.id)
+cause_by stores base sources None =
+    if is_clock_late stores base then Some ClockTooLate
+    else if is_count sources MAX_SOURCES then None
+    else Some Counts
+
+-- why a step of recorders is not begun
 abbrev pub cause_before : List Held → ℕ → ℕ → Option Cause
-cause_before stores base sources = by_store (find (λ h. not (is_ready h)) stores)
-  where
-    by_store : Option Held → Option Cause
-    by_store (Some h) = Some (NotReady h.id)
-    by_store None =
-        if is_clock_late stores base then Some ClockTooLate
-        else if is_count sources MAX_SOURCES then None
-        else Some Counts
+cause_before stores base sources = cause_by stores base sources (find (λ h. not (is_ready h)) stores)
 
 -- why a step of recorders is ended: a store refused an offer; or else there was no memory
 abbrev pub cause_in : ℕ → Option Fault → Option Cause

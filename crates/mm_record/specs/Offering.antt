@@ -10,7 +10,7 @@ use Rattle.mm_desk.specs.declared.fault.Fault.{Fault}
 use Rattle.mm_desk.specs.declared.fault.Fault.TheVariants.{NoMemory}
 use Rattle.mm_desk.specs.Offers.{AreTaken}
 use Rattle.mm_desk.specs.Offers.{asked as asked_in}
-use Rattle.mm_shared.specs.declared.stores.Line.{Line}
+use Rattle.mm_shared.specs.declared.lines.Line.{Line}
 use Rattle.mm_shared.specs.declared.stores.NamedStore.{NamedStore}
 use Rattle.mm_shared.specs.Stores.{list_at, ends_of}
 use Rattle.mm_record.specs.Recorded.{is_routed}

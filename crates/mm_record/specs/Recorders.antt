@@ -4,8 +4,8 @@ use Rattle.mm_packet.specs.Packet.{SpacePacket}
 use Rattle.mm_desk.specs.declared.fault.Fault.{Fault}
 use Rattle.mm_desk.specs.declared.fault.Fault.TheVariants.{NoMemory}
 use Rattle.mm_desk.specs.Offers.{AreTaken}
-use Rattle.mm_shared.specs.declared.stores.Line.{Line}
-use Rattle.mm_shared.specs.declared.stores.Lines.{Lines}
+use Rattle.mm_shared.specs.declared.lines.Line.{Line}
+use Rattle.mm_shared.specs.declared.lines.Lines.{Lines}
 use Rattle.mm_shared.specs.declared.stores.NamedStore.{NamedStore}
 use Rattle.mm_shared.specs.Stores.{list_at, ends_of, IsFresh}
 use Rattle.mm_record.specs.Recorded.{RecordingContext}

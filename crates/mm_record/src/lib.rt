@@ -8,7 +8,6 @@ mod memory_step;
 mod offering;
 mod readiness;
 mod recorder;
-mod routing;
 mod source;
 mod step;
 

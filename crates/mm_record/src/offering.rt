@@ -4,11 +4,10 @@ ghost use Rattle.mm_shared.specs.Stores.{ids_of, id_at, ends_of, AreNamed};
 ghost use Rattle.mm_record.specs.Offering.{offer_at, offers_by, offers_of, AreAt, Adds, AddsPartly, IsReason};
 
 use crate::context::StepContext;
-use crate::routing::index_of;
 use mm_base::RouteRow;
 use mm_desk::Fault;
 use mm_packet::BlockPacket;
-use mm_shared::Line;
+use mm_shared::{Line, place_of};
 use std::sync::Wait;
 
 // Offers a packet to the store at an index.
@@ -47,7 +46,7 @@ fn offer_copy<R: Wait>(
         (λ k. offers_by context.now.moment packet.now (id_at (ids_of context.now.stores.now) k) (row.now ∷ [])) lines.old lines.new) }
     ensures why { IfErr result (IsReason (length context.now.stores.now) lines.new) }
 {
-    let Some(index) = index_of(context.stores, &row.store) else {
+    let Some(index) = place_of(context.stores, &row.store) else {
         return Ok(());
     };
     let copy = packet.copy(context.alloc)?;
@@ -69,7 +68,7 @@ fn offer_itself<R: Wait>(
         (λ k. offers_by context.now.moment packet (id_at (ids_of context.now.stores.now) k) (row.now ∷ [])) lines.old lines.new) }
     ensures why { IfErr result (IsReason (length context.now.stores.now) lines.new) }
 {
-    match index_of(context.stores, &row.store) {
+    match place_of(context.stores, &row.store) {
         Some(index) => offer_at(context, lines, packet, index),
         None => Ok(()),
     }

@@ -1,5 +1,5 @@
 //! Recorders: each takes what its source gives in a step, and offers it.
-ghost use Rattle.std.specs.Prelude.{◌≡◌, ◌+◌, ◌<◌, length};
+ghost use Rattle.std.specs.Prelude.{◌≡◌, ◌<◌, ◌++◌, length};
 ghost use Rattle.std.specs.Result.{result_err};
 ghost use Rattle.std.specs.Thread.{IsSync, IsSend};
 ghost use Rattle.mm_shared.specs.Stores.{ids_of, ends_of, all_ends, AreNamed, IsFresh};

@@ -2,7 +2,7 @@
 ghost use Rattle.std.specs.Prelude.{◌≡◌, ◌≤◌, length, IfOk, OnErr, vec_len};
 ghost use Rattle.mm_base.specs.declared.limits.TheConstants.{MAX_STORES};
 ghost use Rattle.mm_desk.specs.declared.desk.TheConstants.{MAX_SEATS};
-ghost use Rattle.mm_shared.specs.Stores.{AreNamed};
+ghost use Rattle.mm_shared.specs.Stores.{labels_of, AreNamed};
 ghost use Rattle.mm_record.specs.Recorded.{recording};
 ghost use Rattle.mm_record.specs.Steps.{Records};
 
@@ -40,6 +40,7 @@ pub fn record<S: Source + Send, R: Threads + Wait + Sync>(
     requires named { AreNamed (recording step.now.step step.now.now step.now.control.now stores.old.items).ids }
     ensures records { IfOk result (Records S.gives (recording step.entry.now.step step.entry.now.now step.entry.now.control.now stores.old.items)
         stores.old.items stores.new.items sources.old sources.new) }
+    ensures labels { labels_of stores.new.items ≡ labels_of stores.old.items }
     ensures stores { OnErr result (stores.new.items ≡ stores.old.items) }
     ensures sources { OnErr result (sources.new ≡ sources.old) }
 {
