@@ -1,3 +1,13 @@
 pub mod Lists
 pub mod Parts
 pub mod Keeping
+pub mod Giving
+pub mod Parting
+pub mod Ending
+pub mod Calling
+pub mod Defaults
+pub mod Places
+pub mod Handing
+pub mod Workers
+pub mod Closing
+pub mod StillOpen

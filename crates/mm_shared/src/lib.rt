@@ -4,12 +4,14 @@
 
 mod calls;
 mod hand;
+mod lines;
 mod lock;
 mod port;
 mod rule;
 mod store;
 mod stores;
 
+pub use lines::{Line, Lines};
 pub use port::{Port, Ports};
 pub use store::SharedStore;
-pub use stores::{Line, Lines, NamedStore, OpenStores, close_all, open_all};
+pub use stores::{NamedStore, OpenStores, close_all, open_all, place_of};

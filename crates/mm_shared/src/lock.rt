@@ -1,5 +1,5 @@
 //! The lock of a shared store: its state is taken in hand, and given back.
-ghost use Rattle.std.specs.Prelude.{◌≡◌};
+ghost use Rattle.std.specs.Prelude.{◌≡◌, ◌<◌, length};
 ghost use Rattle.mm_shared.specs.Steps.{HasOneSlot, IsAtRest, Holds, HasCalled, IsAsTaken, called, at_rest};
 
 use crate::rule::{Give, Restore, StoreSeat, StoreTable, Take, Told};
@@ -15,6 +15,7 @@ pub(crate) fn take<R: Wait>(rt: &R, table: &StoreTable, seat: &mut StoreSeat)
     requires of { seat.old.table_id ≡ table.now.table_id }
     requires one { HasOneSlot table.now.table_id }
     requires rest { IsAtRest seat.old.me }
+    requires seated { 0 < length seat.old.me.0.lists }
     ensures of { seat.new.table_id ≡ seat.old.table_id }
     ensures holds { Holds seat.old.me seat.new.me }
 {

@@ -1,5 +1,8 @@
 //! A packet store that threads share.
 ghost use Rattle.std.specs.Prelude.{◌≡◌, ◌≢◌, ◌+◌, ◌<◌, [], length, All, IfOk, IfErr, Err};
+ghost use Rattle.std.specs.Slots.{slots_items, slots_len, IsFull};
+ghost use mathlib.Core.Option.{some};
+ghost use lib.ListN.{get_elem?};
 ghost use Rattle.mm_desk.specs.Machine.{IsState};
 ghost use Rattle.mm_shared.specs.Views.{HasLegalLog, new_ports, first_port, other_ports, with_port};
 
@@ -32,6 +35,9 @@ impl Model for SharedStore {
 
 // Takes the state out of a closed table.
 fn taken_out(closed: Closed<StoreState, Global>) -> StoreState
+    requires full { IsFull closed.slots }
+    requires one { slots_len closed.slots ≡ 1 }
+    ensures state { get_elem? (slots_items closed.slots) 0 ≡ some result }
 {
     let mut closed = closed;
     let state = closed.take(0);
@@ -94,6 +100,7 @@ impl SharedStore {
         requires all { length ports.lists ≡ self.seats }
         ensures went { HasLegalLog ports.lists self.opening result }
         ensures untouched { All (λ list. list ≡ []) ports.lists → result ≡ self.opening }
+        ensures sound { IsState result }
     {
         taken_out(self.table.close_with(ports.seat))
     }

@@ -1,4 +1,4 @@
-//! Tests of mm_desk, mm_crew, mm_order and mm_dump.
+//! Tests of mm_desk, mm_crew, mm_shared, mm_order and mm_dump.
 #![tactic(auto)]
 
 #[cfg(test)]
@@ -11,6 +11,8 @@ mod dumps;
 mod orders;
 #[cfg(test)]
 mod samples;
+#[cfg(test)]
+mod shared;
 #[cfg(test)]
 mod states;
 #[cfg(test)]
