@@ -1,4 +1,4 @@
-//! Tests of mm_desk, mm_crew, mm_order and mm_dump.
+//! Tests of mm_desk, mm_crew and mm_dump.
 #![tactic(auto)]
 
 #[cfg(test)]
@@ -7,8 +7,6 @@ mod crews;
 mod desks;
 #[cfg(test)]
 mod dumps;
-#[cfg(test)]
-mod orders;
 #[cfg(test)]
 mod samples;
 #[cfg(test)]
