@@ -17,3 +17,5 @@ mod Settled
 mod Halves
 mod Ready
 pub mod Idle
+mod Ending
+mod Leaves

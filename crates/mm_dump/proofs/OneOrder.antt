@@ -7,6 +7,7 @@ use lib.Seq.{map-set_same}
 use Rattle.std.proofs.lemmas.List.Sums.{sum_by-cons}
 use Rattle.mm_desk.specs.declared.entry.Entry.{Entry}
 use Rattle.mm_shared.specs.declared.lines.Line.{Line}
+use Rattle.mm_shared.specs.declared.stores.NamedStore.{NamedStore}
 use Rattle.mm_shared.specs.Stores.{id_at, list_at, ends_of}
 use Rattle.mm_shared.specs.Views.{PortView}
 use Rattle.mm_dump.specs.declared.order.Order.{Order}
@@ -16,7 +17,7 @@ use Rattle.mm_dump.specs.declared.stop.Stop.TheVariants.{Broken, Refused}
 use Rattle.mm_dump.specs.Courses.{Course, calls_at, failed_by, spent_by}
 use Rattle.mm_dump.specs.Parts.{HasSent, HasEnded, EndsAs}
 use Rattle.mm_dump.specs.Sending.{Sent, LinkState, all_sent}
-use Rattle.mm_dump.specs.Workers.{Shows, IsTried, HasCarried}
+use Rattle.mm_dump.specs.Workers.{HasLines, Shows, IsTried, HasCarried}
 
 -- the calls of one order, at its place and at another
 calls_here : (place : ℕ) (c : Course) → c.order.place ≡ place → calls_at place (c ∷ []) ≡ c.calls
@@ -33,6 +34,11 @@ calls_elsewhere place c apart = by_test (eqb_tells c.order.place place)
     by_test (inl same) = absurd (apart same.1)
     by_test (inr other) = rw other.0 refl
 
+-- the line of a worker at a store's place is a port of that store
+pub port_of : (stores : List NamedStore) (lines : List Line) (place : ℕ) (line d : Line) (s : NamedStore) → HasLines stores lines → place < length stores → line ≡ get_or lines place d
+    → line.port.of ≡ (get_or stores place s).store.id
+port_of stores lines place line d s has within at = ap (λ (l : Line). l.port.of) at ∙ (has.at_each.at place s d within).of
+
 -- the list of a line
 list_of : Line → List Entry
 list_of l = l.port.list
@@ -43,15 +49,21 @@ module _ (ids : List (List ℕ)) (id : List ℕ) (lines : List Line) (place : �
       → HasSent id c.calls c.sent c.unsent old.port new.port l m → Shows ids (c ∷ []) lines (set lines place new) l m
   unfolding list_of
   shows_one d c within at named here index went = record {
-    ends = map-set_same (λ (l : Line). (l.index, l.port.of, l.port.number)) lines place new d end_there;
+    ends = map-set_same _ lines place new d (λ i. (same_index i, same_store i, same_number i));
     lists = λ k inside. by_place k inside (eqb_tells k place);
     all = went.all ∙ ap (λ (xs : List Sent). l.sent ++ xs) (sent_is ∙ sym (append-nil _));
     failures = omega (arith, went.failures, sum_by-cons (λ (c : Course). length c.unsent) c []);
     blocks = omega (arith, went.blocks, sum_by-cons (λ (c : Course). length c.sent + length c.unsent) c []);
   }
     where
-      end_there : (new.index, new.port.of, new.port.number) ≡ ((get_or lines place d).index, (get_or lines place d).port.of, (get_or lines place d).port.number)
-      end_there = (λ i. (index i, (went.port i).of, (went.port i).number)) ∙ ap (λ (l : Line). (l.index, l.port.of, l.port.number)) at
+      same_index : new.index ≡ (get_or lines place d).index
+      same_index = index ∙ ap (λ (l : Line). l.index) at
+
+      same_store : new.port.of ≡ (get_or lines place d).port.of
+      same_store = ap (λ (p : PortView). p.of) went.port ∙ ap (λ (l : Line). l.port.of) at
+
+      same_number : new.port.number ≡ (get_or lines place d).port.number
+      same_number = ap (λ (p : PortView). p.number) went.port ∙ ap (λ (l : Line). l.port.number) at
 
       sent_is : all_sent id c.sent ≡ all_sent (id_at ids c.order.place) c.sent
       sent_is = ap (λ (i : List ℕ). all_sent i c.sent) (named ∙ ap (id_at ids) (sym here))
@@ -62,7 +74,7 @@ module _ (ids : List (List ℕ)) (id : List ℕ) (lines : List Line) (place : �
           let written : list_at (set lines place new) k ≡ get_or (set (map list_of lines) place (list_of new)) k [] = ap (λ (xs : List (List Entry)). get_or xs k []) (map-set list_of lines place new) in
           let after : get_or (set (map list_of lines) place (list_of new)) place [] ≡ list_of new = get_or-set_same (map list_of lines) place (list_of new) [] (omega (arith, within, length-map lines list_of)) in
           let before : list_at lines place ≡ list_of old = get_or-map list_of lines place d [] within ∙ ap list_of (sym at) in
-          written ∙ ap (get_or (set (map list_of lines) place (list_of new))) same.1 ∙ after
+          written ∙ ap (λ (j : ℕ). get_or (set (map list_of lines) place (list_of new)) j []) same.1 ∙ after
           ∙ ap (λ (p : PortView). p.list) went.port
           ∙ ap (λ (xs : List Entry). xs ++ c.calls) (sym (ap (list_at lines) same.1 ∙ before))
           ∙ ap (λ (xs : List Entry). list_at lines k ++ xs) (sym (calls_here k c (here ∙ sym same.1)))

@@ -12,29 +12,16 @@ use Rattle.mm_desk.specs.declared.entry.Entry.{Entry}
 use Rattle.mm_shared.specs.declared.lines.Line.{Line}
 use Rattle.mm_shared.specs.declared.lines.Lines.{Lines}
 use Rattle.mm_shared.specs.declared.stores.NamedStore.{NamedStore}
-use Rattle.mm_shared.specs.Stores.{list_at, lists_at, ends_of, all_ends, IsWorker, AreWorkers, IsFresh}
+use Rattle.mm_desk.specs.declared.held.Held.{Held}
+use Rattle.mm_shared.specs.Stores.{list_at, lists_at, ends_of, all_ends, names_of, labels_of, IsWorker, AreWorkers, IsFresh}
 use Rattle.mm_dump.specs.declared.dumper.DumpWorker.{DumpWorker}
 use Rattle.mm_dump.specs.declared.order.Order.{Order}
 use Rattle.mm_dump.specs.declared.queue.QueueView.{QueueView}
+use Rattle.mm_dump.specs.Dumped.{MayDump}
 use Rattle.mm_dump.specs.Sending.{Sent}
 use Rattle.mm_dump.specs.Steps.{IsHired, HasPart}
-use Rattle.mm_dump.specs.Workers.{Sided, sided, IsReady, HasWorked, AllWorked}
+use Rattle.mm_dump.specs.Workers.{Sided, sided, IsReady, AreReady, HasWorked, AllWorked}
 use Rattle.mm_dump.proofs.Gathering.{IsFreshAt}
-
--- lists that agree at each place are equal
-same_lists : {X Y Z : Type 0} (f : X → Z) (g : Y → Z) (xs : List X) (ys : List Y) → length xs ≡ length ys
-    → ((k : ℕ) (x : X) (y : Y) → k < length ys → f (get_or xs k x) ≡ g (get_or ys k y)) → map f xs ≡ map g ys
-same_lists f g [] [] same each = refl
-same_lists f g [] (y ∷ ys) same each = absurd (omega arith)
-same_lists f g (x ∷ xs) [] same each = absurd (omega arith)
-same_lists f g (x ∷ xs) (y ∷ ys) same each =
-    let first = each 0 x y (omega arith) in
-    let rest = same_lists f g xs ys (omega arith) (λ k a b within. each (suc k) a b (omega arith)) in
-    λ i. first i ∷ rest i
-
--- the lines of a worker are at the stores
-lines_of : (stores : List NamedStore) (number : ℕ) (lines : List Line) → IsWorker stores number lines → map (λ (l : Line). l.port.of) lines ≡ map (λ (n : NamedStore). n.store.id) stores
-lines_of stores number lines is = same_lists (λ (l : Line). l.port.of) (λ (n : NamedStore). n.store.id) lines stores is.count (λ k l n within. (is.at k n l within).of)
 
 module _ {L Q A : Type 0} (sent : L → List Sent) (failed : L → ℕ) (queue : Slotted (Option ℕ) (Doing ℕ QueueView) Q A) (stores : List NamedStore) where
   -- each worker is ready
@@ -50,7 +37,7 @@ module _ {L Q A : Type 0} (sent : L → List Sent) (failed : L → ℕ) (queue :
       let first = are 0 b (omega arith) in
       All-cons (IsReady sent failed queue stores) _ (sided links lines workers)
       (record {
-        lines = lines_of stores (number + 0) b.lines.items first;
+        lines = record { number = number + 0; at_each = first };
         pass = mine.pass;
         first = mine.first ∙ (λ i. record { parts = 1; pushed = (sym count) i; taken = [] });
         few = omega (arith, count, few);
@@ -85,6 +72,21 @@ module _ {L Q A : Type 0} (sent : L → List Sent) (failed : L → ℕ) (queue :
       later i d within =
           let more : number + suc i ≡ number + 1 + i = omega arith in
           subst (λ (n : ℕ). IsWorker stores n (get_or lines i d).lines.items) more (are (suc i) d (omega arith))
+
+  -- and so are all of a step
+  pub step_ready : (orders : List Order) (stores_old : List Held) (links : List L) (lines : List Lines) (workers : List DumpWorker) (pushed : ℕ) → MayDump failed orders stores_old links
+      → names_of stores ≡ labels_of stores_old → AreWorkers stores 0 lines → length lines ≡ length links → length workers ≡ length links → All (IsHired queue pushed) workers → pushed ≤ 65536
+      → AreReady sent failed queue stores orders links lines workers
+  step_ready orders stores_old links lines workers pushed may names are lines_count workers_count hired few = record {
+    some = may.lowest;
+    lines_count = lines_count;
+    workers_count = workers_count;
+    within = subst (λ (n : ℕ). All (λ (o : Order). o.place < n) orders) (sym many) may.places;
+    each = all_ready pushed 0 links lines workers few are hired may.room;
+  }
+    where
+      many : length stores ≡ length stores_old
+      many = sym (length-map stores (λ (s : NamedStore). (s.id, s.channel))) ∙ ap length names ∙ length-map stores_old (λ (s : Held). (s.id, s.channel))
 
   module _ (ids : List (List ℕ)) (orders : List Order) where
     -- the lines of all workers are where they were

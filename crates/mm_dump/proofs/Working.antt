@@ -1,19 +1,21 @@
 -- A worker at work: the orders that it carried out so far, and one more.
-use Rattle.std.proofs.Common.{◌≡◌, ℕ, ◌+◌, ◌*◌, ◌^◌, ◌<◌, ◌≤◌, ◌==◌, Bool, List, [], ◌∷◌, ◌++◌, length, map, filter, All, refl, sym, ap, subst, ◌∙◌, append_assoc, length-append, arith}
+use Rattle.std.proofs.Common.{◌≡◌, ℕ, ◌+◌, ◌*◌, ◌^◌, ◌<◌, ◌≤◌, ◌==◌, Bool, true, List, [], ◌∷◌, ◌++◌, length, map, filter, All, refl, sym, ap, subst, ◌∙◌, append_assoc, length-append, arith}
 use Rattle.std.specs.List.{flat_map}
-use Rattle.std.specs.Prelude.{Option, Some, None}
+use Rattle.std.specs.Prelude.{Option, Some, None, is_some}
 use Rattle.std.proofs.lemmas.List.{append-nil, map-append, length-map}
 use Rattle.std.proofs.lemmas.List.Concat.{flat_map-append}
-use Rattle.std.proofs.lemmas.List.Elements.{All-nil, All-cons, All-append, All-push, filter-append}
+use Rattle.std.proofs.lemmas.List.Elements.{All-nil, All-cons, All-head, All-tail, All-append, All-push, filter-append}
 use Rattle.std.proofs.lemmas.List.Sums.{sum_by-append, sum_by-cons}
 use Rattle.mm_desk.specs.declared.entry.Entry.{Entry}
 use Rattle.mm_shared.specs.declared.lines.Line.{Line}
+use Rattle.mm_shared.specs.declared.stores.NamedStore.{NamedStore}
 use Rattle.mm_shared.specs.Stores.{id_at, list_at, ends_of}
+use Rattle.mm_shared.proofs.StillOpen.{same_worker}
 use Rattle.mm_dump.specs.declared.order.Order.{Order}
 use Rattle.mm_dump.specs.declared.stop.Stop.{Stop}
-use Rattle.mm_dump.specs.Courses.{Course, calls_at, sent_by}
+use Rattle.mm_dump.specs.Courses.{Course, calls_at, sent_by, failed_by}
 use Rattle.mm_dump.specs.Sending.{Sent, LinkState, all_sent}
-use Rattle.mm_dump.specs.Workers.{order_at, IsTried, Shows, HasCarried, EndsWith, AreTried, TookAs, HasWorkedOn, Worked}
+use Rattle.mm_dump.specs.Workers.{order_at, HasLines, IsTried, Shows, HasCarried, EndsWith, AreTried, TookAs, HasWorkedOn, Worked}
 
 -- the calls of orders, one after another
 calls_more : (k : ℕ) (cs ds : List Course) → calls_at k (cs ++ ds) ≡ calls_at k cs ++ calls_at k ds
@@ -24,6 +26,17 @@ calls_more k cs ds =
 -- where no order stopped all courses are whole
 whole_all : (courses : List Course) → AreTried None courses → All (IsTried None) courses
 whole_all courses are = subst (λ (cs : List Course). All (IsTried None) cs) (sym are.last) are.each
+
+-- whole orders have no failures
+no_failures : (courses : List Course) → All (IsTried None) courses → failed_by courses ≡ 0
+no_failures [] whole = refl
+no_failures (c ∷ courses) whole =
+    omega (
+      arith,
+      sum_by-cons (λ (c : Course). length c.unsent) c courses,
+      ap length (All-head (IsTried None) c courses whole).1.all,
+      no_failures courses (All-tail (IsTried None) c courses whole),
+    )
 
 -- one order more
 are_more : (courses : List Course) (c : Course) (stop : Option Stop) → AreTried None courses → IsTried stop c → AreTried stop (courses ++ c ∷ [])
@@ -37,6 +50,10 @@ are_more courses c (Some stop) are is = record {
   each = whole_all courses are;
   last = (c, refl, is);
 }
+
+-- the lines of a worker stay at their stores
+pub still_lines : (stores : List NamedStore) (old new : List Line) → ends_of new ≡ ends_of old → HasLines stores old → HasLines stores new
+still_lines stores old new same has = record { number = has.number; at_each = same_worker stores has.number old new same has.at_each }
 
 module _ (ids : List (List ℕ)) where
   -- what orders show, one after another
@@ -89,3 +106,23 @@ module _ (ids : List (List ℕ)) where
     are = are_more worked.courses carried.course stop worked.are (subst (λ (s : Option Stop). IsTried s carried.course) same carried.is);
     shown = shows_more worked.courses (carried.course ∷ []) old mid new l m n worked.shown carried.shown;
   }
+
+  -- a worker of whose orders none stopped has had no failure
+  pub worked_well : (orders : List Order) (numbers : List ℕ) (old new : List Line) (l m : LinkState) → HasWorkedOn ids orders numbers None old new l m → m.failed ≡ l.failed
+  worked_well orders numbers old new l m worked = omega (arith, worked.shown.failures, no_failures worked.courses (whole_all worked.courses worked.are))
+
+  -- an order spends no more than its amount
+  pub carried_few : (order : Order) (stop : Option Stop) (old new : List Line) (l m : LinkState) → HasCarried ids order stop old new l m → m.spent ≤ l.spent + order.amount
+  carried_few order stop old new l m carried =
+      omega (arith, carried.shown.blocks, carried.few, sum_by-cons (λ (c : Course). length c.sent + length c.unsent) carried.course [])
+
+  -- a worker that took a number past those of the orders
+  pub worked_all : (orders : List Order) (numbers taken : List ℕ) (past : ℕ) (old new : List Line) (l m : LinkState) → length orders ≤ past → taken ≡ numbers ++ past ∷ []
+      → HasWorkedOn ids orders numbers None old new l m → Worked ids orders taken None old new l m
+  worked_all orders numbers taken past old new l m beyond took on = record { numbers = numbers; took = (past, beyond, took); on = on }
+
+  -- a worker of which an order stopped
+  pub worked_stopped : (orders : List Order) (taken : List ℕ) (stop : Option Stop) (old new : List Line) (l m : LinkState) → is_some stop ≡ true
+      → HasWorkedOn ids orders taken stop old new l m → Worked ids orders taken stop old new l m
+  worked_stopped orders taken None old new l m some_stop on = absurd (cc some_stop)
+  worked_stopped orders taken (Some stop) old new l m some_stop on = record { numbers = taken; took = refl; on = on }

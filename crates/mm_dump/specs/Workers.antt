@@ -7,7 +7,7 @@ use Rattle.crossbeam_queue.specs.Passes.{view, IsPassOf}
 use Rattle.mm_shared.specs.declared.lines.Line.{Line}
 use Rattle.mm_shared.specs.declared.lines.Lines.{Lines}
 use Rattle.mm_shared.specs.declared.stores.NamedStore.{NamedStore}
-use Rattle.mm_shared.specs.Stores.{list_at, ends_of}
+use Rattle.mm_shared.specs.Stores.{list_at, ends_of, IsWorker}
 use Rattle.mm_dump.specs.declared.dumper.DumpWorker.{DumpWorker}
 use Rattle.mm_dump.specs.declared.order.Order.{Order}
 use Rattle.mm_dump.specs.declared.order.OrderBroken.{OrderBroken}
@@ -22,6 +22,11 @@ use Rattle.mm_dump.specs.Sending.{Sent, LinkState, link_state}
 -- the order of a number
 abbrev pub order_at : List Order → ℕ → Order
 order_at orders number = slice_index_or orders number (record { place = 0; amount = 0 })
+
+-- a worker has a line at each store
+pub record HasLines (stores : List NamedStore) (lines : List Line) : Type 0 where
+  pub number : ℕ
+  pub at_each : IsWorker stores number lines
 
 -- how an order went that stopped so: it is whole, or it broke, or a call was refused
 abbrev pub IsTried : Option Stop → Course → Type 0
@@ -96,7 +101,7 @@ module _ {L Q A : Type 0} (sent : L → List Sent) (failed : L → ℕ) (queue :
 
   -- a worker has a line at each store and a pass with one part that took nothing, has spent nothing, and its link may fail once more
   pub record IsReady (stores : List NamedStore) (s : Sided L) : Type 0 where
-    pub lines : map (λ l. l.port.of) s.lines ≡ map (λ n. n.store.id) stores
+    pub lines : HasLines stores s.lines
     pub pass : IsPassOf queue s.worker.pass
     pub first : view s.worker.pass ≡ queue_view 1 (view s.worker.pass).pushed []
     pub few : (view s.worker.pass).pushed ≤ 65536

@@ -1,6 +1,7 @@
 //! One dump order carried out.
-ghost use Rattle.std.specs.Prelude.{◌≡◌, ℕ, ◌+◌, ◌-◌, ◌<◌, ◌^◌, [], ◌∷◌, not, false, Some, None, IfOk, IfErr, OnOk, OnErr};
+ghost use Rattle.std.specs.Prelude.{◌≡◌, ℕ, ◌+◌, ◌-◌, ◌<◌, ◌^◌, [], ◌∷◌, not, false, Some, None, Ok, IfOk, IfErr, OnOk, OnErr};
 ghost use Rattle.mm_desk.specs.Orders.{begun};
+ghost use Rattle.mm_shared.specs.Views.{with_call};
 ghost use Rattle.mm_dump.specs.Parts.{with_calls, SentNext, AbortsAs, HasStopped, SentAll, WasRefused, HasEnded, abort_where, deletion};
 ghost use Rattle.mm_dump.specs.Sending.{link_state};
 
@@ -8,7 +9,7 @@ use crate::link::Link;
 use crate::order::OrderBroken;
 use crate::stop::Stop;
 use mm_base::StoreId;
-use mm_desk::Fault;
+use mm_desk::{Event, Fault, Reply};
 use mm_shared::{Port, SharedStore};
 use mm_store::Stored;
 use std::alloc::Global;
@@ -55,6 +56,25 @@ fn abort<R: Wait>(context: &OrderContext<'_, R>, port: &mut Port, why: OrderBrok
     }
 }
 
+// Takes the next packet of the retrieval. Where there is no memory for its copy the retrieval is aborted.
+fn next<R: Wait>(
+    context: &OrderContext<'_, R>,
+    port: &mut Port,
+) -> Result<Option<Stored>, Stop>
+    requires of { port.old.of ≡ context.now.store.now.id }
+    ensures ok { IfOk result (λ next. port.new ≡ with_call port.old Event.Next (Reply.Given (Ok next))) }
+    ensures err { IfErr result (λ stop. AbortsAs OrderBroken.NoMemory stop port.old port.new) }
+{
+    let fault = match context.store.next(context.rt, context.alloc, port) {
+        Ok(next) => return Ok(next),
+        Err(fault) => fault,
+    };
+    match fault {
+        Fault::NoMemory => Err(abort(context, port, OrderBroken::NoMemory)),
+        _ => Err(Stop::Refused),
+    }
+}
+
 // Takes the next packet of the retrieval and sends it, for which a block of the window is spent. Where memory lacks, or the link
 // does not take the packet, the retrieval is aborted.
 fn send_next<L: Link, R: Wait>(
@@ -72,11 +92,8 @@ fn send_next<L: Link, R: Wait>(
     ensures err { IfErr result (λ stop. HasStopped context.now.id.now 1 stop port.old port.new
         (link_state (L.sent link.old) (L.failed link.old) spent.old) (link_state (L.sent link.new) (L.failed link.new) spent.new)) }
 {
-    let stored = match context.store.next(context.rt, context.alloc, port) {
-        Ok(Some(stored)) => stored,
-        Ok(None) => return Ok(None),
-        Err(Fault::NoMemory) => return Err(abort(context, port, OrderBroken::NoMemory)),
-        Err(_) => return Err(Stop::Refused),
+    let Some(stored) = next(context, port)? else {
+        return Ok(None);
     };
     *spent += 1;
     if link.send(context.id, stored.time, &stored.packet).is_err() {

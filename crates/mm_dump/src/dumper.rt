@@ -1,10 +1,10 @@
 //! Dump workers: each takes its next order from the queue until it finds that none is left, and carries it out.
-ghost use Rattle.std.specs.Prelude.{◌≡◌, ◌+◌, ◌-◌, ◌<◌, ◌≤◌, ◌^◌, length, map, All};
+ghost use Rattle.std.specs.Prelude.{◌≡◌, ◌+◌, ◌-◌, ◌<◌, ◌≤◌, ◌^◌, length, All};
 ghost use Rattle.std.specs.Thread.{IsSync, IsSend};
 ghost use Rattle.crossbeam_queue.specs.Passes.{view, IsPassOf};
 ghost use Rattle.mm_shared.specs.Stores.{ids_of};
 ghost use Rattle.mm_dump.specs.Sending.{link_state};
-ghost use Rattle.mm_dump.specs.Workers.{HasCarried, Worked, side, sided, IsReady, AreReady, AllWorked};
+ghost use Rattle.mm_dump.specs.Workers.{HasLines, HasCarried, Worked, side, sided, IsReady, AreReady, AllWorked};
 
 use crate::carrying::{OrderContext, carry};
 use crate::link::Link;
@@ -44,9 +44,10 @@ fn carry_at<L: Link, R: Wait>(
     spent: &mut u64,
 ) -> Option<Stop>
     requires within { order.place < length context.now.stores.now }
-    requires of { map (λ l. l.port.of) lines.old.items ≡ map (λ s. s.store.id) context.now.stores.now }
+    requires lines { HasLines context.now.stores.now lines.old.items }
     requires room { L.failed link.old < 2 ^ 64 - 1 }
-    requires blocks { spent.old + order.amount < 2 ^ 64 }
+    requires blocks { spent.old < 2 ^ 48 }
+    ensures few { spent.new ≤ spent.old + 2 ^ 32 }
     ensures carried { HasCarried (ids_of context.now.stores.now) order result lines.old.items lines.new.items
         (link_state (L.sent link.old) (L.failed link.old) spent.old) (link_state (L.sent link.new) (L.failed link.new) spent.new) }
 {
@@ -81,11 +82,12 @@ fn work<L: Link, R: Wait>(
         (link_state (L.sent link.old) (L.failed link.old) worker.old.spent) (link_state (L.sent link.new) (L.failed link.new) worker.new.spent) }
 {
     for _ in context.rt.forever() {
-        let number = take_next(context.rt, context.queue, &mut worker.pass);
-        let Some(order) = context.orders.get(number as usize) else {
+        let number = take_next(context.rt, context.queue, &mut worker.pass) as usize;
+        if number >= context.orders.len() {
             return None;
-        };
-        let stop = carry_at(context, *order, lines, link, &mut worker.spent);
+        }
+        let order = context.orders[number];
+        let stop = carry_at(context, order, lines, link, &mut worker.spent);
         if stop.is_some() {
             return stop;
         }

@@ -123,11 +123,12 @@ pub fn dump<L: Link + Send, R: Threads + Wait + Sync>(
     ensures stores_same { OnErr result (stores.new.items ≡ stores.old.items) }
     ensures links_same { OnErr result (links.new ≡ links.old) }
 {
+    let buffers = new_buffers(rt, alloc, links.len() as u32, orders.len() as u32)?;
     let DumpBuffers {
         queue,
         mut pass,
         mut workers,
-    } = new_buffers(rt, alloc, links.len() as u32, orders.len() as u32)?;
+    } = buffers;
     let mut opened = open_all(alloc, stores, links.len() as u32)?;
     dump_all(
         &DumpContext {
