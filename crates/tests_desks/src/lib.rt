@@ -1,4 +1,4 @@
-//! Tests of mm_desk, mm_crew and mm_dump.
+//! Tests of mm_desk, mm_crew, mm_shared and mm_dump.
 #![tactic(auto)]
 
 #[cfg(test)]
@@ -9,6 +9,8 @@ mod desks;
 mod dumps;
 #[cfg(test)]
 mod samples;
+#[cfg(test)]
+mod shared;
 #[cfg(test)]
 mod states;
 #[cfg(test)]
