@@ -4,7 +4,6 @@ pub mod Keeping
 pub mod Giving
 pub mod Parting
 pub mod Ending
-pub mod Calling
 pub mod Defaults
 pub mod Places
 pub mod Handing
