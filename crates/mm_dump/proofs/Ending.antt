@@ -1,5 +1,5 @@
 -- What a step's dump leaves, from its buffers, its open stores and its workers.
-use Rattle.std.proofs.Common.{◌≡◌, ℕ, ◌+◌, ◌<◌, ◌≤◌, suc, List, [], ◌∷◌, length, map, All, refl, sym, ap, ◌∙◌, arith}
+use Rattle.std.proofs.Common.{◌≡◌, ℕ, ◌+◌, ◌<◌, ◌≤◌, zero, suc, List, [], ◌∷◌, ◌++◌, length, map, take, All, refl, sym, ap, ◌∙◌, arith}
 use Rattle.std.specs.List.{sum_by}
 use Rattle.std.proofs.lemmas.List.{length-map}
 use Rattle.std.proofs.lemmas.List.Elements.{All-nil, All-cons, All-head, All-tail}
@@ -75,3 +75,10 @@ sided_each P (a ∷ links) (b ∷ lines) [] one two each = absurd (omega arith)
 sided_each {L} P (a ∷ links) (b ∷ lines) (c ∷ workers) one two each =
     All-cons P c workers (All-head (λ (s : Sided L). P s.worker) (side a b.lines.items c) (sided links lines workers) each)
     (sided_each P links lines workers (omega arith) (omega arith) (All-tail (λ (s : Sided L). P s.worker) (side a b.lines.items c) (sided links lines workers) each))
+
+-- a list that was lent whole is back
+pub lent : {X : Type 0} (n : ℕ) (xs rest : List X) → length xs ≡ n → take n (xs ++ rest) ≡ xs
+lent zero [] rest same = refl
+lent zero (x ∷ xs) rest same = absurd (omega arith)
+lent (suc n) [] rest same = absurd (omega arith)
+lent (suc n) (x ∷ xs) rest same = let back = lent n xs rest (omega arith) in λ i. x ∷ back i
