@@ -109,7 +109,7 @@ module _ (id : List ℕ) (wanted : ℕ) (a b : PortView) (l : LinkState) (port :
       most = rw (append-nil gave) sends.most;
       has_sent = then_called calls d goes;
       ends = after_begun n _ (subst (λ (es : List Entry). IsRefused true es) (sym (append_assoc (given n gave) (end_where n over) calls))
-      (after_given n gave (end_where n over ++ calls) (after_end_where n over calls refused)));
+          (after_given n gave (end_where n over ++ calls) (after_end_where n over calls refused)));
     }
 
     -- the retrieval could not be ended
