@@ -1,5 +1,5 @@
 -- A worker at work: the orders that it carried out so far, and one more.
-use Rattle.std.proofs.Common.{◌≡◌, ℕ, ◌+◌, ◌*◌, ◌^◌, ◌<◌, ◌≤◌, ◌==◌, Bool, true, List, [], ◌∷◌, ◌++◌, length, map, filter, All, refl, sym, ap, subst, ◌∙◌, append_assoc, length-append, arith}
+use Rattle.std.proofs.Common.{◌≡◌, ℕ, ◌+◌, ◌<◌, ◌≤◌, ◌==◌, Bool, true, List, [], ◌∷◌, ◌++◌, length, map, filter, All, refl, sym, ap, subst, ◌∙◌, append_assoc, arith}
 use Rattle.std.specs.List.{flat_map}
 use Rattle.std.specs.Prelude.{Option, Some, None, is_some}
 use Rattle.std.proofs.lemmas.List.{append-nil, map-append, length-map}
@@ -17,7 +17,7 @@ use Rattle.mm_dump.specs.declared.stop.Stop.{Stop}
 use Rattle.mm_dump.specs.Courses.{Course, calls_at, sent_by, failed_by}
 use Rattle.mm_dump.specs.Queue.{queue_view}
 use Rattle.mm_dump.specs.Sending.{Sent, LinkState, all_sent}
-use Rattle.mm_dump.specs.Workers.{order_at, HasLines, IsTried, Shows, HasCarried, EndsWith, AreTried, TookAs, HasWorkedOn, Worked}
+use Rattle.mm_dump.specs.Workers.{order_at, HasLines, IsTried, Shows, HasCarried, AreTried, HasWorkedOn, Worked}
 
 -- the calls of orders, one after another
 calls_more : (k : ℕ) (cs ds : List Course) → calls_at k (cs ++ ds) ≡ calls_at k cs ++ calls_at k ds

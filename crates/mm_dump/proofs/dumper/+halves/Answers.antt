@@ -1,4 +1,4 @@
-use Rattle.std.proofs.Common.{◌≡◌, ◌<◌, length, arith}
+use Rattle.std.proofs.Common.{arith}
 use Rattle.mm_shared.specs.Stores.{ids_of}
 use Rattle.mm_dump.specs.Workers.{HasWorked}
 use Rattle.mm_dump.proofs.Halves.{low_ready, high_ready, halves_zip}
