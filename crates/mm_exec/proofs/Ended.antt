@@ -25,7 +25,7 @@ use Rattle.mm_exec.specs.Numbers.{report_of, rows_of, tally_of}
 use Rattle.mm_memory.specs.Laws.{ids_of}
 use Rattle.mm_exec.specs.Step.{RunState, AreReady, StepBroke, StepStopped, NeverRefused}
 use Rattle.mm_exec.specs.Steps.{StepsDone}
-use Rattle.mm_exec.specs.Course.{RunDone, RunHalted, IsRefusal, NeverBegan, IsEnded, outset_of}
+use Rattle.mm_exec.specs.Course.{RunDone, RunHalted, IsRefusal, IsEnded, outset_of}
 use Rattle.mm_exec.specs.Ending.{IsHaltedIn, IsHalted, state_left}
 use Rattle.mm_exec.proofs.Halts.{failed_link}
 use Rattle.mm_exec.proofs.Parts.{same_ids}

@@ -1,11 +1,10 @@
 -- What each link did in a step that a failed link halted.
-use Rattle.std.proofs.Common.{◌≡◌, ◌≢◌, ◌⊎◌, inl, inr, ℕ, zero, suc, ◌+◌, ◌<◌, ◌≤◌, Bool, true, false, cond, eqb, List, [], ◌∷◌, ◌++◌, length, map, All, refl, sym, ap, subst, ◌∙◌, arith, append_assoc}
+use Rattle.std.proofs.Common.{◌≡◌, ◌≢◌, ◌⊎◌, inl, inr, ℕ, zero, suc, ◌+◌, ◌<◌, Bool, true, false, cond, eqb, List, [], ◌∷◌, ◌++◌, length, map, All, refl, sym, ap, subst, ◌∙◌, arith}
 use Rattle.std.specs.Prelude.{Option, Some, None, slice_index_or, sum_by}
-use Rattle.std.proofs.lemmas.Bool.{eq-eqb, cases_lt}
+use Rattle.std.proofs.lemmas.Bool.{eq-eqb}
 use Rattle.std.proofs.lemmas.Bool.Decides.{eqb_tells}
 use Rattle.std.proofs.lemmas.List.Elements.{All-nil, All-cons, All-head, All-tail}
 use Rattle.std.proofs.lemmas.List.Sums.{sum_by-cons, sum_by-append}
-use Rattle.mm_store.specs.declared.stored.Stored.{Stored}
 use Rattle.mm_desk.specs.Machine.{State, IsState}
 use Rattle.mm_desk.specs.Runs.{opening_at, IsLegal}
 use Rattle.mm_dump.specs.Broken.{aborted}
@@ -17,7 +16,7 @@ use Rattle.mm_dump.specs.Laws.{BrokenOrdersChangeNothing}
 use Rattle.mm_dump.specs.Sending.{Sent}
 use Rattle.mm_dump.specs.Courses.{Course, EndedAs, IsWhole, IsBroken, IsCourse, worse, worst_of, failed_by, sent_by}
 use Rattle.mm_dump.specs.Dumped.{times, places_of, AllTried, AllSettled}
-use Rattle.mm_exec.specs.Failure.{NoneBroke, LastBroke, LinkCarried, LinksFailed}
+use Rattle.mm_exec.specs.Failure.{NoneBroke, LastBroke, LinksFailed}
 use Rattle.mm_exec.proofs.Mild.{IsMild, mild_both}
 
 -- the causes for which orders of some stores broke

@@ -1,27 +1,25 @@
 -- What a step that was broken off leaves at a store.
-use Rattle.std.proofs.Common.{◌≡◌, ◌⊎◌, inl, inr, ℕ, zero, suc, ◌+◌, ◌<◌, ◌≤◌, ◌^◌, List, [], ◌∷◌, ◌++◌, length, map, filter, All, refl, sym, ap, subst, ◌∙◌, arith, append_assoc}
-use Rattle.std.specs.Prelude.{Option, Some, None, IfSome, IfNone, sum_by, slice_index_or}
+use Rattle.std.proofs.Common.{◌≡◌, ◌⊎◌, inl, inr, ℕ, ◌<◌, ◌≤◌, List, [], length, map, All, refl, sym, ap, subst, ◌∙◌, arith}
+use Rattle.std.specs.Prelude.{Option, Some, None, sum_by}
 use Rattle.std.specs.List.{AllZip}
 use Rattle.std.proofs.lemmas.Bool.{cases_lt}
-use Rattle.std.proofs.lemmas.List.{length-map, map-append, append-nil}
-use Rattle.std.proofs.lemmas.List.Elements.{All-nil, filter-append}
+use Rattle.std.proofs.lemmas.List.{length-map, append-nil}
+use Rattle.std.proofs.lemmas.List.Elements.{All-nil}
 use Rattle.mm_base.specs.declared.rows.RouteRow.{RouteRow}
 use Rattle.mm_packet.specs.Packet.{SpacePacket}
 use Rattle.mm_desk.specs.declared.entry.Entry.{Entry}
 use Rattle.mm_desk.specs.declared.event.Event.{Event}
-use Rattle.mm_desk.specs.declared.event.Event.TheVariants.{Offer}
 use Rattle.mm_desk.specs.declared.fault.Fault.{Fault}
 use Rattle.mm_desk.specs.declared.fault.Fault.TheVariants as fault
 use Rattle.mm_desk.specs.declared.held.Held.{Held}
 use Rattle.mm_desk.specs.Machine.{State, IsState}
 use Rattle.mm_desk.specs.Offers.{IsShuffleOfEvents}
-use Rattle.mm_desk.specs.Runs.{IsRun, opening_at, replay}
-use Rattle.mm_shared.specs.Stores.{labels_of, states_of, id_at}
+use Rattle.mm_desk.specs.Runs.{IsRun, opening_at}
+use Rattle.mm_shared.specs.Stores.{labels_of, states_of}
 use Rattle.mm_record.specs.Causes.{cause_in}
-use Rattle.mm_record.specs.Recorded.{RecordingContext, offers, is_routed}
-use Rattle.mm_record.specs.Steps.{StoppedEarly}
+use Rattle.mm_record.specs.Recorded.{RecordingContext, offers}
 use Rattle.mm_record.specs.Recorded.{recording}
-use Rattle.mm_record.specs.Steps.{given_in, HasRecorded, RecorderRun, IsRecorderRun, AreRecorderRuns}
+use Rattle.mm_record.specs.Steps.{given_in, HasRecorded}
 use Rattle.mm_dump.specs.declared.order.Order.{Order}
 use Rattle.mm_dump.specs.declared.order.OrderBroken.{OrderBroken}
 use Rattle.mm_dump.specs.declared.order.OrderBroken.TheVariants as broken
@@ -35,7 +33,7 @@ use Rattle.mm_runs.proofs.Replays.{IsRun-append}
 use Rattle.mm_exec.specs.Failure.{FailedLink}
 use Rattle.mm_exec.specs.Halts.{AreOneOrder, AreFirstOffers, IsByOneLog, BrokenStepsAreLogs}
 use Rattle.mm_memory.specs.Laws.{ids_of}
-use Rattle.mm_exec.specs.Step.{RunState, AreReady, StepRecorded, OutOfMemory, RecordersBroke, OrdersBroke, RecordingBroke, DumpBroke, StepBroke, dump_cause}
+use Rattle.mm_exec.specs.Step.{RunState, AreReady, OutOfMemory, RecordersBroke, OrdersBroke, RecordingBroke, DumpBroke, StepBroke, dump_cause}
 use Rattle.mm_exec.proofs.Failing.{links_failed}
 use Rattle.mm_exec.proofs.Parts.{as_many, same_ids}
 use Rattle.mm_exec.proofs.Firsts.{none_first, none_listed, all_first, first_turns}

@@ -1,8 +1,8 @@
 -- How a run begins, and what is known of it on the way.
 use Rattle.std.proofs.Common.{◌≡◌, ◌≢◌, ◌⊎◌, inl, inr, ℕ, suc, ◌+◌, ◌-◌, ◌*◌, ◌<◌, ◌≤◌, ◌^◌, Bool, true, false, List, [], ◌∷◌, ◌++◌, length, map, take, get_or, All, refl, sym, subst, ap, ◌∙◌, arith}
-use Rattle.std.specs.Prelude.{slice_index, slice_index_or, bytes_eq, slice_get, Option, Some, None, is_some, not, ◌&&◌, ◌==◌, IsTrue, vec_capacity}
+use Rattle.std.specs.Prelude.{slice_index, slice_index_or, bytes_eq, slice_get, Option, Some, None, is_some, not, ◌&&◌, IsTrue, vec_capacity}
 use Rattle.std.specs.List.{position_or_len}
-use Rattle.std.proofs.lemmas.Bool.{eqb-true, cases_lt, cases_order, eq-eqb}
+use Rattle.std.proofs.lemmas.Bool.{eqb-true, cases_order, eq-eqb}
 use Rattle.std.proofs.lemmas.List.{length-map, get_or-map, get_or_default, append-nil, length-take-le}
 use Rattle.std.proofs.lemmas.List.FromFn.{length-map-range_with_len}
 use Rattle.std.proofs.lemmas.List.Folds.{find_at}
@@ -13,7 +13,7 @@ use Rattle.std.proofs.lemmas.Slice.Eq.{bytes_eq-Decides}
 use Rattle.mm_base.specs.declared.limits.TheConstants.{MAX_STEPS, MAX_STORES}
 use Rattle.mm_base.specs.declared.rows.StoreRow.{StoreRow}
 use Rattle.mm_packet.specs.Packet.{SpacePacket}
-use Rattle.mm_problem.specs.Dumping.{Dumping, IsDumping, row, no_row, place, window}
+use Rattle.mm_problem.specs.Dumping.{Dumping, IsDumping, row, no_row, place}
 use Rattle.mm_plan.specs.Fit.{Fits}
 use Rattle.mm_plan.specs.Table.{Table, amount, HasShape}
 use Rattle.mm_desk.specs.declared.held.Held.{Held}
@@ -38,7 +38,7 @@ use Rattle.mm_exec.specs.Places.{IsPlaceOf, ArePlaces}
 use Rattle.mm_exec.specs.RunInput.{RunInput, run_input}
 use Rattle.mm_exec.specs.Numbers.{row_from, orders_of, AreByCounters}
 use Rattle.mm_memory.specs.Laws.{ids_of}
-use Rattle.mm_exec.specs.Step.{RunState, AreReady, MayCarry, StepDone}
+use Rattle.mm_exec.specs.Step.{RunState, AreReady, StepDone}
 use Rattle.mm_exec.specs.Steps.{StepsDone}
 use Rattle.mm_exec.specs.Course.{MayReport, AreWithinLimits}
 use Rattle.mm_exec.proofs.Counters.{counted_first}
@@ -46,7 +46,7 @@ use Rattle.mm_exec.proofs.Ordered.{may_order, wanted_in_all}
 use Rattle.mm_exec.proofs.StepMore.{Footing, done_on}
 use Rattle.mm_exec.proofs.Parts.{as_many, same_ids, as_many_sources}
 use Rattle.mm_exec.proofs.Placing.{no_held, places_differ, places_cut}
-use Rattle.mm_exec.proofs.Ready.{IsFar, AllFar, state_holds}
+use Rattle.mm_exec.proofs.Ready.{AllFar, state_holds}
 
 -- what the tests before a run have shown
 pub record Begun (o : Outset) : Type 0 where

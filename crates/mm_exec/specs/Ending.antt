@@ -14,7 +14,7 @@ use Rattle.mm_ready.specs.Ready.{outset, MayBegin}
 use Rattle.mm_exec.specs.declared.flight.Flight.{Flight}
 use Rattle.mm_exec.specs.declared.flight.Halted.{Halted}
 use Rattle.mm_exec.specs.RunInput.{RunInput, as_came, step_orders}
-use Rattle.mm_exec.specs.Step.{RunState, AreReady, IsCauseIn, StepStopped, StepBroke}
+use Rattle.mm_exec.specs.Step.{RunState, AreReady, StepStopped, StepBroke}
 use Rattle.mm_exec.specs.Steps.{StepsDone}
 use Rattle.mm_exec.specs.Course.{IsRefusal}
 use Rattle.mm_exec.specs.Failure.{FailedLink}

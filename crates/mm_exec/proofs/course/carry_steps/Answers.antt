@@ -1,4 +1,4 @@
-use Rattle.std.proofs.Common.{◌≡◌, ◌∙◌, ℕ, ◌+◌, ◌-◌, ◌*◌, ◌<◌, ◌≤◌, ◌^◌, List, length, take, All, refl, sym, ap, subst, arith}
+use Rattle.std.proofs.Common.{◌≡◌, ℕ, ◌+◌, ◌-◌, ◌<◌, ◌≤◌, List, length, take, All, refl, sym, subst, arith}
 use Rattle.mm_memory.specs.Holdings.{Holdings}
 use Rattle.mm_record.specs.Recorded.{recording}
 use Rattle.mm_dump.specs.declared.order.Order.{Order}

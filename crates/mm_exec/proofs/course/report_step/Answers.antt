@@ -1,4 +1,4 @@
-use Rattle.std.proofs.Common.{◌≡◌, ◌∙◌, ℕ, List, [], ◌∷◌, ◌++◌, length, ap, subst, arith}
+use Rattle.std.proofs.Common.{◌∙◌, ℕ, List, [], ◌∷◌, ◌++◌, length, ap, subst, arith}
 use Rattle.mm_desk.specs.declared.held.Held.{Held}
 use Rattle.mm_report.specs.declared.tally.Tally.{Tally}
 use Rattle.mm_exec.specs.Numbers.{row_from, AreCounters, AreTallies}

@@ -1,4 +1,4 @@
-use Rattle.std.proofs.Common.{rules, ◌≡◌, refl, inl, inr, List, length, All, sym, ap, subst}
+use Rattle.std.proofs.Common.{refl, inl, inr, List, length, All, sym, ap, subst}
 use Rattle.mm_desk.specs.declared.held.Held.{Held}
 use Rattle.mm_desk.specs.Machine.{IsState}
 use Rattle.mm_memory.specs.Holdings.{Holdings}

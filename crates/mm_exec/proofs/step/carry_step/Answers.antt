@@ -1,4 +1,4 @@
-use Rattle.std.proofs.Common.{◌≡◌, ◌⊎◌, inl, inr, refl}
+use Rattle.std.proofs.Common.{◌⊎◌, inl, inr, refl}
 use Rattle.mm_record.specs.Recorded.{recording}
 use Rattle.mm_exec.specs.declared.step.StepBroken.{StepBroken}
 use Rattle.mm_exec.specs.Step.{run_state, AreReady, StepDumped, StepDone, StepBroke, OutOfMemory, OrdersBroke}
