@@ -1,10 +1,9 @@
 -- Stores are opened and closed, one after another.
-use Rattle.std.proofs.Common.{◌≡◌, ◌≢◌, ◌⊎◌, inl, inr, ℕ, ◌+◌, ◌<◌, ◌≤◌, List, [], ◌∷◌, ◌++◌, length, get_or, map, refl, sym, ap, ◌∙◌, subst, arith}
-use Rattle.std.specs.Prelude.{replicate, All}
-use Rattle.std.proofs.lemmas.Bool.{cases_lt, cases_order}
+use Rattle.std.proofs.Common.{◌≡◌, ◌⊎◌, inl, inr, ℕ, ◌+◌, ◌<◌, List, [], ◌∷◌, ◌++◌, length, get_or, refl, sym, ap, ◌∙◌, subst, arith}
+use Rattle.std.specs.Prelude.{All}
+use Rattle.std.proofs.lemmas.Bool.{cases_order}
 use Rattle.std.proofs.lemmas.List.{length-append, get_or_append_left, get_or_push, get_or-map, length-map, map-append, length-replicate, same_lists}
-use Rattle.std.proofs.lemmas.List.Elements.{All-push, All-replicate, All-from_get_or}
-use Rattle.atomic_table.specs.Seated.{TableId}
+use Rattle.std.proofs.lemmas.List.Elements.{All-push, All-replicate}
 use Rattle.mm_desk.specs.declared.entry.Entry.{Entry}
 use Rattle.mm_desk.specs.declared.held.Held.{Held}
 use Rattle.mm_desk.specs.Machine.{State, IsState}
@@ -14,7 +13,7 @@ use Rattle.mm_shared.specs.declared.lines.Spare.{Spare}
 use Rattle.mm_shared.specs.declared.stores.NamedStore.{NamedStore}
 use Rattle.mm_shared.specs.Views.{PortsView, HasLegalLog, new_ports}
 use Rattle.mm_shared.specs.Stores.{labels_of, names_of, states_of, openings_of, list_at, lists_at, HaveLegalLogs}
-use Rattle.mm_shared.specs.Spares.{HavePorts, AreAt, HaveAll, AllTaken, CameBack, WentBack, AreFresh}
+use Rattle.mm_shared.specs.Spares.{HaveAll, AllTaken, CameBack, WentBack, AreFresh}
 use Rattle.mm_shared.proofs.Defaults.{no_store, no_spare}
 
 -- what is read in a list with one more at its end

@@ -1,15 +1,14 @@
 -- The ports of all seats come back: the state is in its slot, and went by a log of their calls.
-use Rattle.std.proofs.Common.{◌≡◌, ◌≢◌, ◌⊎◌, ⊎_elim, ℕ, ◌+◌, ◌<◌, List, [], ◌∷◌, length, get_or, refl, sym, ap, ◌∙◌, subst, arith, Option, Some, None}
+use Rattle.std.proofs.Common.{◌≡◌, ⊎_elim, ℕ, ◌<◌, List, [], ◌∷◌, length, refl, sym, ap, ◌∙◌, subst, arith, None}
 use Rattle.std.specs.Prelude.{All}
 use Rattle.std.proofs.lemmas.Bool.{eq-eqb}
 use Rattle.std.proofs.lemmas.List.Elements.{All-head}
 use mathlib.Core.Option.{none, some, some-injective}
-use native.Mathlib.Decide.{ℕ_discrete}
 use lib.ListN.{get_elem?}
 use Rattle.atomic_table.specs.Table.{State as Table, Final, Seen}
 use Rattle.mm_desk.specs.declared.entry.Entry.{Entry}
 use Rattle.mm_desk.specs.Machine.{State}
-use Rattle.mm_desk.specs.Runs.{IsRun, replay}
+use Rattle.mm_desk.specs.Runs.{replay}
 use Rattle.mm_desk.specs.Shuffles.{AreBelow, IsShuffle, part}
 use Rattle.mm_shared.specs.declared.rule.Knows.{Knows}
 use Rattle.mm_shared.specs.Rule.{Fits, IsHome, IsOut, Keeps}
@@ -29,7 +28,7 @@ untouched lists s t went empty = went.run.leaves ∙ ap (replay s) (none_made we
         absurd (omega (arith, ap length (sym one ∙ none)))
 
 module _ (start : State) (seats : ℕ) where
-  -- the view of all seats, with nothing in hand, is the only one that could have the state in hand
+  -- the view of all seats, which holds nothing, is the only one that could hold the state
   pub ends : (s : Table State Knows) (k : Keeps start seats s) (id : ℕ) (v : Knows) → get_elem? s.views id ≡ some v → v.held ≡ None → v.first ≡ 0 → length v.lists ≡ seats
       → HasLegalLog v.lists start k.now × (s.homes ≡ some k.now ∷ [])
   ends s k id v me rest first all = (record { log = k.log; run = k.run; shuffle = shuffle }, ⊎_elim (λ (home : IsHome s k.now). home.homes) away k.stands)

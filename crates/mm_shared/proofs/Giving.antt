@@ -1,20 +1,20 @@
--- A state in hand is given back, after a call or as it was.
-use Rattle.std.proofs.Common.{◌≡◌, ◌≢◌, ◌⊎◌, inl, inr, ⊎_elim, ℕ, zero, suc, ◌+◌, ◌<◌, List, [], ◌∷◌, ◌++◌, length, get_or, set, refl, sym, ap, ◌∙◌, subst, arith, Option, Some, None}
+-- A state that is held is given back, after a call or as it was.
+use Rattle.std.proofs.Common.{◌≡◌, inl, ⊎_elim, ℕ, zero, suc, ◌+◌, ◌<◌, List, [], ◌∷◌, ◌++◌, length, get_or, set, sym, ap, ◌∙◌, subst, arith, Option, None}
 use Rattle.std.proofs.lemmas.List.Elements.{All-push}
 use mathlib.Core.Option.{none, some}
 use lib.ListN.{get_elem?}
-use Rattle.atomic_table.specs.Table.{State as Table, Act, step as step_of, gives, stepped, Allows, rest, put_back}
+use Rattle.atomic_table.specs.Table.{gives, Allows, rest, put_back}
 use Rattle.atomic_table.proofs.Lists.{at_set}
 use Rattle.mm_desk.specs.declared.entry.Entry.{Entry}
 use Rattle.mm_desk.specs.declared.event.Event.{Event}
 use Rattle.mm_desk.specs.declared.reply.Reply.{Reply}
 use Rattle.mm_desk.specs.Machine.{State}
 use Rattle.mm_desk.specs.Machine as Machine
-use Rattle.mm_desk.specs.Runs.{entry, IsRun}
-use Rattle.mm_desk.specs.Shuffles.{AreBelow, part}
+use Rattle.mm_desk.specs.Runs.{entry}
+use Rattle.mm_desk.specs.Shuffles.{part}
 use Rattle.mm_desk.proofs.Runs.{run_more}
 use Rattle.mm_shared.specs.declared.rule.Knows.{Knows}
-use Rattle.mm_shared.specs.Rule.{knows, NoneElse, Fits, IsHome, IsOut, Keeps}
+use Rattle.mm_shared.specs.Rule.{knows, Fits, Keeps}
 use Rattle.mm_shared.specs.Steps.{Seated, HasCalled, IsAsTaken, lists_with, called, at_rest}
 use Rattle.mm_shared.proofs.Keeping.{HasIt, holds, refit_all}
 use Rattle.mm_shared.proofs.Parts.{part-mine, part-other}
@@ -37,7 +37,7 @@ module _ (start : State) (seats : ℕ) where
   owns_first : (log : List Entry) (owner : ℕ → ℕ) (id : ℕ) (v : Knows) → 0 < length v.lists → Fits seats log owner id v → owner v.first ≡ id
   owns_first log owner id v some_seat fit = ap owner (omega arith) ∙ fit.owned 0 some_seat
 
-  -- a call was made on the state in hand, which is given back
+  -- a call was made on the state that is held, which is given back
   pub gives_back : (n id : ℕ) (m : Seated) (event : Event) (reply : Reply) → HasCalled event reply m
       → Allows (Keeps start seats) n id m 0 (λ k. 0) (λ r it. it ≡ called m event reply)
   gives_back n id m event reply c s k wide me fits64 = (
@@ -90,7 +90,7 @@ module _ (start : State) (seats : ℕ) where
           })
           (at_set s.views id port w v at)
 
-  -- the state in hand is given back as it was
+  -- the state is given back as it was
   pub restores : (n id : ℕ) (m : Seated) → IsAsTaken m → Allows (Keeps start seats) n id m 0 (λ k. 0) (λ r it. it ≡ at_rest m)
   restores n id m c s k wide me fits64 = (
     w,

@@ -1,17 +1,11 @@
 -- Ports of each store, one after another, to workers and back.
-use Rattle.std.proofs.Common.{◌≡◌, ◌≢◌, ◌⊎◌, inl, inr, ⊎_elim, ℕ, zero, suc, ◌+◌, ◌-◌, ◌<◌, ◌≤◌, List, [], ◌∷◌, ◌++◌, length, get_or, set, drop, map, refl, sym, ap, ◌∙◌, subst, arith, length-set, get_or-set_same, get_or-set_other}
-use Rattle.std.specs.Prelude.{replicate, All}
-use Rattle.std.proofs.lemmas.Bool.{cases_lt, cases_order}
-use Rattle.std.proofs.lemmas.List.{length-append, get_or_append_left, get_or_push, get_or-map, length-map, get_or-replicate, length-replicate}
-use Rattle.atomic_table.specs.Seated.{TableId}
-use Rattle.mm_desk.specs.declared.entry.Entry.{Entry}
+use Rattle.std.proofs.Common.{◌≡◌, ◌⊎◌, inl, inr, ℕ, ◌+◌, ◌<◌, ◌≤◌, List, [], ◌∷◌, ◌++◌, length, get_or, set, refl, sym, ap, ◌∙◌, subst, arith, length-set, get_or-set_same, get_or-set_other}
+use Rattle.std.proofs.lemmas.Bool.{cases_order}
+use Rattle.std.proofs.lemmas.List.{length-append, get_or_append_left, get_or_push}
 use Rattle.mm_shared.specs.declared.lines.Line.{Line}
-use Rattle.mm_shared.specs.declared.lines.Lines.{Lines}
 use Rattle.mm_shared.specs.declared.lines.Spare.{Spare}
-use Rattle.mm_shared.specs.declared.stores.NamedStore.{NamedStore}
-use Rattle.mm_shared.specs.Views.{first_port, other_ports, with_port}
-use Rattle.mm_shared.specs.Stores.{IsAt, IsWorker, AreWorkers, IsFresh, list_at, lists_at}
-use Rattle.mm_shared.specs.Spares.{new_left, HavePorts, AreAt, IsFirst, HaveGiven, AreNext, HaveTaken}
+use Rattle.mm_shared.specs.Views.{with_port}
+use Rattle.mm_shared.specs.Spares.{IsFirst}
 
 -- the first ports of the stores up to an index were given
 pub record GivenUpTo (k : ℕ) (old new : List Spare) (lines : List Line) : Type 0 where

@@ -1,27 +1,18 @@
 -- Each step on a shared store keeps its rule.
-use Rattle.std.proofs.Common.{◌≡◌, ◌≢◌, ◌⊎◌, inl, inr, ⊎_elim, ℕ, zero, suc, ◌+◌, ◌<◌, ◌≤◌, eqb, List, [], ◌∷◌, ◌++◌, length, get_or, set, drop, map, refl, sym, ap, ◌∙◌, subst, arith, All, Option, Some, None, cond}
-use Rattle.std.specs.Prelude.{replicate, if◌then◌else◌, ◌==◌}
-use Rattle.std.proofs.lemmas.Bool.{eq-eqb, ne_eqb, cases_lt}
-use Rattle.std.proofs.lemmas.List.{length-append, length-replicate, get_or-replicate, get_or_append_left, get_or-append-add}
+use Rattle.std.proofs.Common.{◌≡◌, ◌≢◌, ◌⊎◌, inl, inr, ⊎_elim, ℕ, zero, suc, ◌<◌, List, [], ◌∷◌, length, get_or, set, refl, sym, ap, ◌∙◌, subst, arith, Option, Some, None}
+use Rattle.std.proofs.lemmas.List.{length-replicate, get_or-replicate}
 use Rattle.std.proofs.lemmas.List.Elements.{All-nil}
 use mathlib.Core.Option.{none, some, some-injective, some-ne-none}
-use mathlib.Core.Logic.{dite}
 use native.Mathlib.Decide.{ℕ_discrete}
 use lib.ListN.{get_elem?}
 use Rattle.atomic_table.specs.Table.{State as Table, Act, step as step_of, keeps, takes, gives, stepped, opening, Allows, Splits, Joins}
-use Rattle.atomic_table.proofs.Lists.{at_set, set_else, set_again, at_longer}
+use Rattle.atomic_table.proofs.Lists.{at_set, set_again}
 use Rattle.mm_desk.specs.declared.entry.Entry.{Entry}
-use Rattle.mm_desk.specs.declared.event.Event.{Event}
-use Rattle.mm_desk.specs.declared.reply.Reply.{Reply}
 use Rattle.mm_desk.specs.Machine.{State}
-use Rattle.mm_desk.specs.Runs.{entry, IsRun}
-use Rattle.mm_desk.specs.Shuffles.{AreBelow, part}
-use Rattle.mm_desk.proofs.Runs.{run_more}
 use Rattle.mm_shared.specs.declared.rule.Knows.{Knows}
 use Rattle.mm_shared.specs.Rule.{knows, all_seats, NoneElse, Fits, IsHome, IsOut, Keeps}
-use Rattle.mm_shared.specs.Steps.{Seated, IsAtRest, Holds, HasCalled, IsAsTaken, lists_with, called, at_rest, in_hand, tried, first_of, others_of, joined}
-use Rattle.mm_shared.proofs.Lists.{at_written, at_end}
-use Rattle.mm_shared.proofs.Parts.{part-mine, part-other}
+use Rattle.mm_shared.specs.Steps.{Seated, IsAtRest, tried}
+use Rattle.mm_shared.proofs.Lists.{at_written}
 
 -- what an option has is one thing
 some-one : {A : Type 0} (a b : A) → Some a ≡ Some b → a ≡ b
@@ -64,11 +55,11 @@ module _ (start : State) (seats : ℕ) where
       fit zero v at = subst (Fits seats [] (λ i. 0) 0) (some-injective (all_seats seats) v at) all_fit
       fit (suc port) v at = absurd (some-ne-none v (sym at))
 
-  -- what fits a view fits one with other things in hand
+  -- what fits a view fits one that holds something else
   refits : (log : List Entry) (owner : ℕ → ℕ) (port : ℕ) (v : Knows) (held : Option State) → Fits seats log owner port v → Fits seats log owner port (knows v.first v.lists held)
   refits log owner port v held fit = record { within = fit.within; owned = fit.owned; parts = fit.parts }
 
-  -- the views after one has changed what it has in hand
+  -- the views after one has changed what it holds
   pub refit_all : (log : List Entry) (owner : ℕ → ℕ) (views : List Knows) (id : ℕ) (v : Knows) (held : Option State) → get_elem? views id ≡ some v
       → ((port : ℕ) (u : Knows) → get_elem? views port ≡ some u → Fits seats log owner port u)
       → (port : ℕ) (u : Knows) → get_elem? (set views id (knows v.first v.lists held)) port ≡ some u → Fits seats log owner port u
@@ -165,7 +156,7 @@ module _ (start : State) (seats : ℕ) where
           })
           k.stands)
 
-  -- who has a state in hand is the only one, and has the state of the rule
+  -- who holds a state is the only one, and has the state of the rule
   pub record HasIt (t : Table State Knows) (id : ℕ) (taken now : State) : Type 0 where
     pub same : now ≡ taken
     pub homes : t.homes ≡ none ∷ []

@@ -1,18 +1,17 @@
 -- Seats are parted and put together.
-use Rattle.std.proofs.Common.{◌≡◌, ◌≢◌, ◌⊎◌, inl, inr, ⊎_elim, ℕ, zero, suc, ◌+◌, ◌-◌, ◌<◌, ◌≤◌, eqb, true, false, List, [], ◌∷◌, ◌++◌, length, get_or, set, drop, refl, sym, ap, ◌∙◌, subst, arith, Option, Some, None}
+use Rattle.std.proofs.Common.{◌≡◌, ◌≢◌, ◌⊎◌, inl, inr, ⊎_elim, ℕ, zero, suc, ◌+◌, ◌-◌, ◌<◌, ◌≤◌, eqb, List, [], ◌∷◌, ◌++◌, length, get_or, set, refl, sym, ap, ◌∙◌, subst, arith, Option, None}
 use Rattle.std.specs.Prelude.{if◌then◌else◌}
 use Rattle.std.proofs.lemmas.Bool.{eq-eqb, ne_eqb, cases_lt}
-use Rattle.std.proofs.lemmas.List.{length-append, length-set, get_or_append_left, get_or-append_right}
-use mathlib.Core.Option.{none, some, some-injective}
-use native.Mathlib.Decide.{ℕ_discrete}
+use Rattle.std.proofs.lemmas.List.{length-append, get_or_append_left, get_or-append_right}
+use mathlib.Core.Option.{some, some-injective}
 use lib.ListN.{get_elem?}
-use Rattle.atomic_table.specs.Table.{State as Table, Splits, Joins}
+use Rattle.atomic_table.specs.Table.{Splits, Joins}
 use Rattle.atomic_table.proofs.Lists.{at_set, set_else, at_longer}
 use Rattle.mm_desk.specs.declared.entry.Entry.{Entry}
 use Rattle.mm_desk.specs.Machine.{State}
 use Rattle.mm_desk.specs.Shuffles.{part}
 use Rattle.mm_shared.specs.declared.rule.Knows.{Knows}
-use Rattle.mm_shared.specs.Rule.{knows, NoneElse, Fits, IsHome, IsOut, Keeps}
+use Rattle.mm_shared.specs.Rule.{knows, Fits, IsHome, IsOut, Keeps}
 use Rattle.mm_shared.specs.Steps.{first_of, others_of, joined}
 use Rattle.mm_shared.proofs.Lists.{at_end}
 use Rattle.mm_shared.proofs.Keeping.{none-some}
@@ -176,7 +175,7 @@ module _ (start : State) (seats : ℕ) where
           ⊎_elim (λ here. subst (λ (p : ℕ). P p u) (sym here.0) (subst (P id) here.1 joint)) (λ elsewhere. old elsewhere.0 there.0 elsewhere.1) (at_set s.views id port both u there.1))
           (at_set (set s.views id both) other port spent u at)
 
-      -- who has nothing in hand is not the holder
+      -- who holds nothing is not the holder
       idle : (out : IsOut s k.word k.now) (port : ℕ) (u : Knows) → get_elem? s.views port ≡ some u → u.held ≡ None → out.port ≢ port
       idle out port u at rest same =
           let one : out.holder ≡ u = some-injective out.holder u (sym out.at ∙ (ap (λ (i : ℕ). get_elem? s.views i) same ∙ at)) in

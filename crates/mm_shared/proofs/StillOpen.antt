@@ -1,6 +1,5 @@
 -- Stores stay open while workers call through their lines, since no call changes where a line is.
-use Rattle.std.proofs.Common.{◌≡◌, ◌⊎◌, inl, inr, ℕ, ◌+◌, ◌<◌, List, length, get_or, set, map, refl, sym, ap, ◌∙◌, subst, arith, Vec, Global, length-set, get_or-set_same, get_or-set_other}
-use Rattle.std.specs.Prelude.{All}
+use Rattle.std.proofs.Common.{◌≡◌, ◌⊎◌, inl, inr, ℕ, ◌+◌, ◌<◌, List, length, get_or, set, sym, ap, ◌∙◌, subst, arith, Vec, Global, length-set, get_or-set_same, get_or-set_other}
 use Rattle.std.proofs.lemmas.Bool.{cases_order}
 use Rattle.std.proofs.lemmas.List.{get_or-map, length-map, same_lists}
 use Rattle.atomic_table.specs.Seated.{TableId}
@@ -8,7 +7,7 @@ use Rattle.mm_shared.specs.declared.lines.Line.{Line}
 use Rattle.mm_shared.specs.declared.lines.Lines.{Lines}
 use Rattle.mm_shared.specs.declared.stores.NamedStore.{NamedStore}
 use Rattle.mm_shared.specs.declared.stores.OpenStores.{OpenStores}
-use Rattle.mm_shared.specs.Stores.{IsAt, IsWorker, AreWorkers, ends_of, all_ends, no_ports, AreOpen}
+use Rattle.mm_shared.specs.Stores.{IsWorker, ends_of, all_ends, no_ports, AreOpen}
 use Rattle.mm_shared.proofs.Defaults.{no_table, no_line}
 
 -- where a line is

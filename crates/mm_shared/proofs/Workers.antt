@@ -1,6 +1,6 @@
 -- Ports of all stores to each worker, and back.
-use Rattle.std.proofs.Common.{◌≡◌, ◌≢◌, ◌⊎◌, inl, inr, ℕ, zero, suc, ◌+◌, ◌-◌, ◌<◌, ◌≤◌, List, [], ◌∷◌, ◌++◌, length, get_or, set, drop, map, refl, sym, ap, ◌∙◌, subst, arith, length-set, get_or-set_same, get_or-set_other}
-use Rattle.std.specs.Prelude.{replicate, All, vec_capacity}
+use Rattle.std.proofs.Common.{◌≡◌, ◌⊎◌, inl, inr, ℕ, zero, suc, ◌+◌, ◌<◌, ◌≤◌, List, [], ◌∷◌, ◌++◌, length, get_or, set, drop, map, refl, sym, ap, ◌∙◌, subst, arith, length-set, get_or-set_same, get_or-set_other}
+use Rattle.std.specs.Prelude.{vec_capacity}
 use Rattle.std.proofs.lemmas.Bool.{cases_lt, cases_order}
 use Rattle.std.proofs.lemmas.List.{length-append, get_or_append_left, get_or_push, get_or-map, get_or_past, length-map, length-replicate, drop_all}
 use Rattle.atomic_table.specs.Seated.{TableId}
@@ -10,8 +10,8 @@ use Rattle.mm_shared.specs.declared.lines.Lines.{Lines}
 use Rattle.mm_shared.specs.declared.lines.Spare.{Spare}
 use Rattle.mm_shared.specs.declared.stores.NamedStore.{NamedStore}
 use Rattle.mm_shared.specs.Views.{PortView, PortsView, first_port, other_ports, with_port, new_port}
-use Rattle.mm_shared.specs.Stores.{IsAt, IsWorker, AreWorkers, IsFresh, list_at, lists_at}
-use Rattle.mm_shared.specs.Spares.{new_left, HavePorts, AreAt, HaveSome, IsFirst, HaveGiven, AreNext, HaveTaken}
+use Rattle.mm_shared.specs.Stores.{IsWorker, AreWorkers, IsFresh, list_at, lists_at}
+use Rattle.mm_shared.specs.Spares.{new_left, HavePorts, AreAt, HaveSome, HaveGiven, AreNext, HaveTaken}
 use Rattle.mm_shared.proofs.Defaults.{no_store, no_spare, no_line}
 
 -- the ports are of their stores

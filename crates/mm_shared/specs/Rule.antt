@@ -9,7 +9,7 @@ use Rattle.mm_desk.specs.Runs.{IsRun}
 use Rattle.mm_desk.specs.Shuffles.{AreBelow, part}
 use Rattle.mm_shared.specs.declared.rule.Knows.{Knows}
 
--- what is known of seats from the first on: the list of calls of each, and the state that is in hand
+-- what is known of seats from the first on: the list of calls of each, and the state that is held
 abbrev pub knows : ℕ → List (List Entry) → Option State → Knows
 knows first lists held = record { first = first; lists = lists; held = held }
 
@@ -17,7 +17,7 @@ knows first lists held = record { first = first; lists = lists; held = held }
 abbrev pub all_seats : ℕ → Knows
 all_seats seats = knows 0 (replicate seats []) None
 
--- none but this one of the views has a state in hand
+-- none but this one of the views holds a state
 abbrev pub NoneElse : ℕ → List Knows → Type 0
 NoneElse port views = (other : ℕ) (u : Knows) → get_elem? views other ≡ some u → other ≢ port → u.held ≡ None
 
@@ -27,12 +27,12 @@ pub record Fits (seats : ℕ) (log : List Entry) (owner : ℕ → ℕ) (port : �
   pub owned : (i : ℕ) → i < length v.lists → owner (v.first + i) ≡ port
   pub parts : (i : ℕ) → i < length v.lists → part (v.first + i) log ≡ slice_index_or v.lists i []
 
--- the state is in its slot, and in no hand
+-- the state is in its slot, and no view holds it
 pub record IsHome (t : Table State Knows) (now : State) : Type 0 where
   pub homes : t.homes ≡ some now ∷ []
   pub none : (port : ℕ) (u : Knows) → get_elem? t.views port ≡ some u → u.held ≡ None
 
--- the state is in the hand of one view, which has a seat, and the word says so
+-- one view, which has a seat, holds the state, and the word says so
 pub record IsOut (t : Table State Knows) (word : ℕ) (now : State) : Type 0 where
   pub homes : t.homes ≡ none ∷ []
   pub locked : 0 < word
@@ -43,7 +43,7 @@ pub record IsOut (t : Table State Knows) (word : ℕ) (now : State) : Type 0 whe
   pub seated : 0 < length holder.lists
   pub others : NoneElse port t.views
 
--- there is a legal log from the opening state to the state now, which is in its slot or in one hand; each seat is in one view at
+-- there is a legal log from the opening state to the state now, which is in its slot or held by one view; each seat is in one view at
 -- most, and the lists of the views are the parts of their seats
 pub record Keeps (opening : State) (seats : ℕ) (t : Table State Knows) : Type 0 where
   pub log : List Entry

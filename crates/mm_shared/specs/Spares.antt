@@ -1,9 +1,8 @@
 -- Ports that no worker has, before, while and after workers have theirs. No public clause cites this module.
-use Rattle.std.specs.Prelude.{◌≡◌, ℕ, ◌+◌, ◌<◌, ◌≤◌, List, [], length, map, slice_index_or, All, replicate, vec_capacity}
+use Rattle.std.specs.Prelude.{◌≡◌, ℕ, ◌+◌, ◌<◌, ◌≤◌, List, [], length, slice_index_or, All, replicate, vec_capacity}
 use Rattle.atomic_table.specs.Seated.{TableId}
-use Rattle.mm_desk.specs.declared.entry.Entry.{Entry}
 use Rattle.mm_desk.specs.declared.held.Held.{Held}
-use Rattle.mm_desk.specs.Machine.{State, IsState}
+use Rattle.mm_desk.specs.Machine.{IsState}
 use Rattle.mm_shared.specs.declared.lines.Line.{Line}
 use Rattle.mm_shared.specs.declared.lines.Lines.{Lines}
 use Rattle.mm_shared.specs.declared.lines.Spare.{Spare}

@@ -24,26 +24,26 @@ pub record IsAtRest (m : Seated) : Type 0 where
   pub none : m.0.held ≡ None
   pub empty : m.1 ≡ []
 
--- the seat with the state in hand, which was the first one when it was taken and is the second one now
-abbrev pub in_hand : Seated → State → State → Seated
-in_hand m taken now = (knows m.0.first m.0.lists (Some taken), (0, now) ∷ [])
+-- the seat holding the state, which was the first one when it was taken and is the second one now
+abbrev pub holding : Seated → State → State → Seated
+holding m taken now = (knows m.0.first m.0.lists (Some taken), (0, now) ∷ [])
 
 -- the seat at rest
 abbrev pub at_rest : Seated → Seated
 at_rest m = (knows m.0.first m.0.lists None, [])
 
--- the seat has a state in hand, which is still as it was taken
+-- the seat holds a state, which is still as it was taken
 abbrev pub Holds : Seated → Seated → Type 0
-Holds m n = (s : State) × (n ≡ in_hand m s s)
+Holds m n = (s : State) × (n ≡ holding m s s)
 
--- the seat has a state in hand, which is as it was taken
+-- the seat holds a state as it was taken
 pub record IsAsTaken (m : Seated) : Type 0 where
   pub taken : State
   pub held : m.0.held ≡ Some taken
   pub has : m.1 ≡ (0, taken) ∷ []
 
--- the seat has some state in hand
-pub record HasInHand (m : Seated) : Type 0 where
+-- the seat holds some state
+pub record HasState (m : Seated) : Type 0 where
   pub now : State
   pub has : m.1 ≡ (0, now) ∷ []
 
@@ -56,7 +56,7 @@ lists_with first (list ∷ lists) event reply = (list ++ entry first event reply
 abbrev pub called : Seated → Event → Reply → Seated
 called m event reply = (knows m.0.first (lists_with m.0.first m.0.lists event reply) None, [])
 
--- the seat has the state in hand that this call left
+-- the seat holds the state that this call left
 pub record HasCalled (event : Event) (reply : Reply) (m : Seated) : Type 0 where
   pub taken : State
   pub now : State
@@ -65,7 +65,7 @@ pub record HasCalled (event : Event) (reply : Reply) (m : Seated) : Type 0 where
   pub seated : 0 < length m.0.lists
   pub stepped : step taken event ≡ (reply, now)
 
--- the state in hand goes by this event, with this reply
+-- the state that is held goes by this event, with this reply
 pub record Goes (m : Seated) (event : Event) (reply : Reply) (n : Seated) : Type 0 where
   pub old : State
   pub new : State
@@ -73,7 +73,7 @@ pub record Goes (m : Seated) (event : Event) (reply : Reply) (n : Seated) : Type
   pub has : n ≡ (m.0, (0, new) ∷ [])
   pub stepped : step old event ≡ (reply, new)
 
--- a try of the lock: the state is in hand where the word was 0
+-- a try of the lock: the state is held where the word was 0
 abbrev pub tried : Step State → Seated → ℕ → Seated → Type 0
 tried st m r n = (r ≡ 0 → Holds m n) × (r ≢ 0 → n ≡ m)
 

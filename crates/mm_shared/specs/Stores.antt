@@ -2,7 +2,7 @@
 use Rattle.std.specs.Prelude.{◌≡◌, ℕ, ◌+◌, ◌<◌, ◌≤◌, List, [], length, map, slice_index_or, bytes_eq, AllPairs, All, false, vec_capacity}
 use Rattle.mm_desk.specs.declared.entry.Entry.{Entry}
 use Rattle.mm_desk.specs.declared.held.Held.{Held}
-use Rattle.mm_desk.specs.Machine.{State, IsState}
+use Rattle.mm_desk.specs.Machine.{State}
 use Rattle.mm_desk.specs.Runs.{opening_at}
 use Rattle.atomic_table.specs.Seated.{TableId}
 use Rattle.mm_shared.specs.Views.{StoreView, PortsView, HasLegalLog}

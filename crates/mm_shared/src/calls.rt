@@ -3,7 +3,7 @@ ghost use Rattle.std.specs.Prelude.{◌≡◌, ◌≢◌, IfErr, Ok, Err};
 ghost use Rattle.mm_desk.specs.declared.fault.Fault.TheVariants.{NoMemory};
 ghost use Rattle.mm_shared.specs.Views.{with_call};
 
-use crate::hand;
+use crate::held;
 use crate::lock::{give, restore, take};
 use crate::port::Port;
 use crate::store::SharedStore;
@@ -31,25 +31,19 @@ impl SharedStore {
         let table = &self.table.shared;
         let asked = (now, Snapshot::of(&packet));
         take(rt, table, &mut port.seat);
-        let answer = hand::offer(table, &mut port.seat, now, packet);
+        let answer = held::offer(table, &mut port.seat, now, packet);
         give::<Brand, _, _>(table, &mut port.seat, &asked, &answer);
         answer
     }
 
     /// Begins a retrieval from a first to a last time, both included.
-    pub fn begin<R: Wait>(
-        &self,
-        rt: &R,
-        port: &mut Port,
-        from: u64,
-        to: u64,
-    ) -> Result<(), Fault>
+    pub fn begin<R: Wait>(&self, rt: &R, port: &mut Port, from: u64, to: u64) -> Result<(), Fault>
         requires of { port.old.of ≡ self.now.id }
         ensures called { port.new ≡ with_call port.old (Event.Begin from to) (Reply.Done result) }
     {
         let table = &self.table.shared;
         take(rt, table, &mut port.seat);
-        let answer = hand::begin(table, &mut port.seat, from, to);
+        let answer = held::begin(table, &mut port.seat, from, to);
         give::<Brand, _, _>(table, &mut port.seat, &(from, to), &answer);
         answer
     }
@@ -68,7 +62,7 @@ impl SharedStore {
     {
         let table = &self.table.shared;
         take(rt, table, &mut port.seat);
-        let answer = hand::next(table, alloc, &mut port.seat);
+        let answer = held::next(table, alloc, &mut port.seat);
         if let Err(Fault::NoMemory) = answer {
             restore(table, &mut port.seat);
             return answer;
@@ -84,7 +78,7 @@ impl SharedStore {
     {
         let table = &self.table.shared;
         take(rt, table, &mut port.seat);
-        let answer = hand::abort(table, &mut port.seat);
+        let answer = held::abort(table, &mut port.seat);
         give::<Brand, _, _>(table, &mut port.seat, &(), &answer);
         answer
     }
@@ -96,7 +90,7 @@ impl SharedStore {
     {
         let table = &self.table.shared;
         take(rt, table, &mut port.seat);
-        let answer = hand::delete(table, &mut port.seat, limit);
+        let answer = held::delete(table, &mut port.seat, limit);
         give::<Brand, _, _>(table, &mut port.seat, &limit, &answer);
         answer
     }
@@ -108,7 +102,7 @@ impl SharedStore {
     {
         let table = &self.table.shared;
         take(rt, table, &mut port.seat);
-        hand::enable(table, &mut port.seat);
+        held::enable(table, &mut port.seat);
         give::<Brand, _, _>(table, &mut port.seat, &(), &());
     }
 
@@ -119,7 +113,7 @@ impl SharedStore {
     {
         let table = &self.table.shared;
         take(rt, table, &mut port.seat);
-        hand::disable(table, &mut port.seat);
+        held::disable(table, &mut port.seat);
         give::<Brand, _, _>(table, &mut port.seat, &(), &());
     }
 }

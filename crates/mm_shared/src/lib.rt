@@ -3,7 +3,7 @@
 #![tactic(auto)]
 
 mod calls;
-mod hand;
+mod held;
 mod lines;
 mod lock;
 mod port;

@@ -1,10 +1,9 @@
 //! What is known of a shared store, in the proofs alone, and the rule that all its steps keep.
-ghost use Rattle.mm_shared.specs.Rule.{Keeps, all_seats};
+ghost use Rattle.mm_shared.specs.Rule.{Keeps, knows, all_seats};
 ghost use Rattle.mm_shared.specs.Steps.{tried, called, at_rest, first_of, others_of, joined};
-ghost use Rattle.mm_shared.specs.Rule.{knows};
 ghost use Rattle.std.specs.Prelude.{◌≡◌, [], None, Ok};
 ghost use Rattle.mm_desk.specs.declared.event.Event.{Event as Asked};
-ghost use Rattle.mm_desk.specs.declared.event.Event.TheVariants.{Next};
+ghost use Rattle.mm_desk.specs.declared.event.Event.TheVariants.{Enable};
 ghost use Rattle.mm_desk.specs.declared.reply.Reply.{Reply as Answered};
 
 use atomic_table::{Join, Play, Split, TableRule};
@@ -13,7 +12,7 @@ use std::collections::LinkedList;
 use std::marker::{Brand, PhantomData};
 use std::snapshot::Snapshot;
 
-/// What is known with seats: the number of the first, the calls made through each from it on, and the state that is in hand. No
+/// What is known with seats: the number of the first, the calls made through each from it on, and the state that it holds. No
 /// value of it is made.
 pub struct Knows {
     pub first: u64,
@@ -51,29 +50,29 @@ impl Play<StoreState, Knows> for Take {
     ghost then = { tried };
 }
 
-/// The call that was made on a state in hand, with its answer.
-pub trait Told {
+/// The call that was made on a state that is held, with its answer.
+pub trait Call {
     ghost event: { Asked };
 
     ghost reply: { Answered };
 }
 
-impl Told for Brand {
-    ghost event = { Next };
+impl Call for Brand {
+    ghost event = { Enable };
 
     ghost reply = { Answered.Done (Ok tt) };
 }
 
-/// The state in hand is given back after a call.
-pub struct Give<T: Told> {
+/// The state is given back after a call.
+pub struct Give<T: Call> {
     of: PhantomData<T>,
 }
 
-impl<T: Told> Play<StoreState, Knows> for Give<T> {
+impl<T: Call> Play<StoreState, Knows> for Give<T> {
     ghost then = { λ st m r n. n ≡ called m T.event T.reply };
 }
 
-/// The state in hand is given back as it was.
+/// The state is given back as it was.
 pub struct Restore;
 
 impl Play<StoreState, Knows> for Restore {

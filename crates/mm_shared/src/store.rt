@@ -90,7 +90,9 @@ impl SharedStore {
         requires next { port.number + 1 ≡ ports.old.first }
         ensures joined { ports.new ≡ with_port port ports.old }
     {
-        self.table.shared.join_seat::<Before>(&mut ports.seat, port.seat);
+        self.table
+            .shared
+            .join_seat::<Before>(&mut ports.seat, port.seat);
     }
 
     /// Takes the state out, with all ports. It takes no memory.

@@ -102,11 +102,7 @@ fn open_each(
 }
 
 /// Opens each store for this many workers, each with a line at it. Where there is no memory the stores are as they were.
-pub fn open_all(
-    alloc: Global,
-    stores: &mut Vec<Held>,
-    workers: u32,
-) -> Result<OpenStores, NoMemory>
+pub fn open_all(alloc: Global, stores: &mut Vec<Held>, workers: u32) -> Result<OpenStores, NoMemory>
     requires few { vec_len stores.old ≤ MAX_STORES }
     ensures opened { IfOk result (λ it. AreNew stores.old.items workers it) }
     ensures err { OnErr result (stores.new.items ≡ stores.old.items) }

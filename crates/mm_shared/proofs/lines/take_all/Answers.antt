@@ -1,5 +1,5 @@
 use Rattle.std.proofs.Common.{length}
-use Rattle.mm_shared.proofs.Workers.{back_from, none_taken, comes_next, last_worker, one_before, all_taken_more}
+use Rattle.mm_shared.proofs.Workers.{back_from, comes_next, last_worker, one_before, all_taken_more}
 use Rattle.mm_shared.proofs.lines.take_all.Goals as goal
 
 pub take_lines-requires-clause-next : goal.take_lines-requires-clause-next

@@ -1,9 +1,7 @@
 use Rattle.std.proofs.Common.{◌≡◌, List, [], ◌∷◌, ◌++◌, refl, sym, ap, ◌∙◌}
 use Rattle.mm_desk.specs.declared.held.Held.{Held}
 use Rattle.mm_desk.specs.Machine.{State}
-use Rattle.mm_shared.specs.declared.lines.Spare.{Spare}
 use Rattle.mm_shared.specs.declared.stores.NamedStore.{NamedStore}
-use Rattle.mm_shared.specs.Spares.{AreFresh}
 use Rattle.mm_shared.proofs.Closing.{fresh_all, fresh_more, same_back}
 use Rattle.mm_shared.proofs.stores.+open_each.Goals as goal
 
