@@ -1,5 +1,5 @@
 -- What the tests before a step tell, where all pass.
-use Rattle.std.proofs.Common.{◌≡◌, ℕ, zero, suc, ◌+◌, ◌<◌, ◌≤◌, ◌^◌, ◌&&◌, ◌||◌, Bool, true, false, not, cond, ltb, List, [], ◌∷◌, length, All, Option, Some, None, is_some, refl, sym, arith}
+use Rattle.std.proofs.Common.{◌≡◌, ℕ, zero, suc, ◌+◌, ◌<◌, ◌≤◌, ◌^◌, ◌&&◌, Bool, true, false, not, cond, List, [], ◌∷◌, All, Option, Some, None, refl, sym, arith}
 use Rattle.std.specs.List.{find, list_any}
 use Rattle.std.proofs.lemmas.Bool.{ltb-false, or_parts}
 use Rattle.mm_packet.specs.Packet.{SpacePacket}
@@ -10,7 +10,7 @@ use Rattle.mm_report.specs.declared.cause.Cause.TheVariants.{ClockTooLate, Count
 use Rattle.mm_report.specs.declared.cause.TheConstants.{MAX_SOURCES, LATEST_START}
 use Rattle.mm_record.specs.Causes.{cause_before, cause_by, is_clock_late, is_count, is_late, is_ready}
 use Rattle.mm_record.specs.MemorySteps.{recording_of}
-use Rattle.mm_record.specs.Steps.{IsOpen, IsWithinLimits, TakesAll}
+use Rattle.mm_record.specs.Steps.{IsWithinLimits, TakesAll}
 
 -- what nothing is found of is none of the list
 none_more : (t : Bool) (y : Held) (rest : Option Held) → cond t (Some y) rest ≡ None → (t ≡ false) × (rest ≡ None)

@@ -1,5 +1,5 @@
 -- A step over the stores of a memory.
-use Rattle.std.proofs.Common.{◌≡◌, ◌≢◌, ◌⊎◌, inl, inr, ℕ, zero, suc, ◌+◌, ◌<◌, ◌≤◌, ◌^◌, ◌&&◌, ◌||◌, Bool, true, false, not, cond, ltb, List, [], ◌∷◌, ◌++◌, length, get_or, take, map, All, Option, Some, None, IfNone, IfSome, refl, sym, subst, ap, ◌∙◌, arith}
+use Rattle.std.proofs.Common.{◌≡◌, ◌≢◌, ◌⊎◌, inl, inr, ℕ, zero, suc, ◌+◌, ◌<◌, false, List, [], ◌∷◌, ◌++◌, length, get_or, take, map, All, Option, Some, None, IfNone, IfSome, refl, sym, subst, ap, ◌∙◌, arith}
 use Rattle.std.specs.List.{AllPairs}
 use Rattle.std.specs.Prelude.{bytes_eq}
 use Rattle.std.proofs.lemmas.Bool.{false_from_ne_true}
@@ -25,7 +25,7 @@ use Rattle.mm_record.specs.Causes.{cause_in}
 use Rattle.mm_record.specs.Counters.{counters_of, AreRows}
 use Rattle.mm_record.specs.MemorySteps.{came, store_at, AreTold, IsRecorded, WasEnded}
 use Rattle.mm_record.specs.Recorded.{RecordingContext, recording, offers}
-use Rattle.mm_record.specs.Steps.{given_in, AllRecorded, AllHaveLegalOffers, AreRecorderRuns, Records, RecorderRun}
+use Rattle.mm_record.specs.Steps.{given_in, AllRecorded, Records, RecorderRun}
 use Rattle.mm_record.proofs.Steps.{same_many}
 use Rattle.mm_record.proofs.Taking.{all_unmapped}
 

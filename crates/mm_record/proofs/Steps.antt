@@ -1,6 +1,6 @@
 -- From what each recorder and each store says, to the step.
-use Rattle.std.proofs.Common.{◌≡◌, ◌≢◌, ◌⊎◌, inl, inr, ℕ, zero, suc, ◌+◌, ◌*◌, ◌<◌, ◌≤◌, max, List, [], ◌∷◌, ◌++◌, length, get_or, map, filter, All, Option, Some, None, IfNone, IfSome, refl, sym, subst, ap, ◌∙◌, append_assoc, length-append, arith}
-use Rattle.std.proofs.lemmas.List.{append-nil, get_or-map, length-map, map-append}
+use Rattle.std.proofs.Common.{◌≡◌, ◌≢◌, inl, inr, ℕ, zero, suc, ◌+◌, ◌*◌, ◌<◌, ◌≤◌, max, List, [], ◌∷◌, ◌++◌, length, get_or, map, filter, All, Option, Some, None, IfNone, IfSome, refl, sym, subst, ap, ◌∙◌, append_assoc, length-append, arith}
+use Rattle.std.proofs.lemmas.List.{append-nil, length-map}
 use Rattle.std.proofs.lemmas.List.Elements.{All-head, All-map, All-tail}
 use Rattle.std.proofs.lemmas.List.Sums.{sum_by-le}
 use Rattle.mm_base.specs.declared.rows.RouteRow.{RouteRow}
@@ -15,7 +15,7 @@ use Rattle.mm_desk.specs.Machine.{State, IsState}
 use Rattle.mm_desk.specs.Offers.{AreTaken, IsTaken, IsShuffleOfEvents, count_of}
 use Rattle.mm_desk.specs.Offers.{asked as asked_in}
 use Rattle.mm_desk.specs.Runs.{opening_at, blank}
-use Rattle.mm_desk.specs.Shuffles.{AreBelow, IsShuffle, part}
+use Rattle.mm_desk.specs.Shuffles.{AreBelow, IsShuffle}
 use Rattle.mm_shared.specs.declared.lines.Line.{Line}
 use Rattle.mm_shared.specs.declared.lines.Lines.{Lines}
 use Rattle.mm_shared.specs.declared.stores.NamedStore.{NamedStore}
@@ -23,7 +23,7 @@ use Rattle.mm_shared.specs.Stores.{list_at, lists_at, states_of, labels_of, name
 use Rattle.mm_record.specs.Offering.{asked, IsReason}
 use Rattle.mm_record.specs.Recorded.{RecordingContext, recording, open_recording, offers, is_routed}
 use Rattle.mm_record.specs.Recorders.{AreRunsAt, HaveRun, IsRunAt}
-use Rattle.mm_record.specs.Steps.{given_in, latest, AllRecorded, HasRecorded, AllHaveLegalOffers, AreFew, AreRecorderRuns, IsOpen, IsRecorderRun, IsWhy, RecorderRun, Records, StoppedEarly, TakesAll}
+use Rattle.mm_record.specs.Steps.{given_in, latest, AllRecorded, HasRecorded, AllHaveLegalOffers, AreFew, AreRecorderRuns, IsOpen, IsRecorderRun, IsWhy, RecorderRun, Records, StoppedEarly}
 use Rattle.mm_record.proofs.Offers.{offers_more}
 use Rattle.mm_record.proofs.Runs.{all_first}
 use Rattle.mm_record.proofs.Taking.{HasTime, IsOfferAt, all_unmapped, filter_fewer, lists_taken, parts_all, shuffle_is_taken, shuffle_last}

@@ -1,12 +1,11 @@
 -- Offers that no store refuses: storage is on, and clock and count are far from their ends.
-use Rattle.std.proofs.Common.{◌≡◌, ◌≢◌, ◌⊎◌, inl, inr, ℕ, zero, suc, ◌+◌, ◌*◌, ◌<◌, ◌≤◌, ◌==◌, ◌||◌, Bool, true, false, not, eqb, max, ltb, List, [], ◌∷◌, ◌++◌, length, get_or, map, filter, All, Option, Some, None, IfNone, IfSome, Result, Ok, Err, refl, sym, subst, ap, ◌∙◌, length-append, rules, arith}
+use Rattle.std.proofs.Common.{◌≡◌, ◌≢◌, ◌⊎◌, inl, inr, ℕ, zero, suc, ◌+◌, ◌<◌, ◌≤◌, ◌==◌, ◌||◌, Bool, true, false, not, eqb, max, ltb, List, [], ◌∷◌, length, map, filter, All, Result, Ok, Err, refl, sym, subst, ap, ◌∙◌, rules, arith}
 use Rattle.std.specs.Prelude.{IsOk}
 use Rattle.std.proofs.lemmas.Bool.{cond_both, eq-eqb}
 use Rattle.std.proofs.lemmas.Bool.Decides.{eqb_tells, nat_tests}
 use Rattle.std.proofs.lemmas.List.{get_or_default, length-map, get_or-map}
-use Rattle.std.proofs.lemmas.List.Elements.{All-filter, All-head, All-map, All-tail}
+use Rattle.std.proofs.lemmas.List.Elements.{All-filter, All-head, All-tail}
 use Rattle.std.proofs.lemmas.List.Filters.{length-filter_both}
-use Rattle.std.proofs.lemmas.List.Sums.{sum_by-le}
 use Rattle.mm_base.specs.declared.kind.Kind.{Kind}
 use Rattle.mm_base.specs.declared.kind.Kind.TheVariants.{Circular, Bounded}
 use Rattle.mm_packet.specs.Packet.{SpacePacket}
@@ -17,12 +16,10 @@ use Rattle.mm_desk.specs.declared.entry.Entry.{Entry}
 use Rattle.mm_desk.specs.declared.event.Event.{Event}
 use Rattle.mm_desk.specs.declared.event.Event.TheVariants.{Offer, Begin, Next, Abort, Delete, Enable, Disable}
 use Rattle.mm_desk.specs.declared.reply.Offered.{Offered}
-use Rattle.mm_desk.specs.declared.reply.Reply.{Reply}
 use Rattle.mm_desk.specs.declared.reply.Reply.TheVariants as reply
 use Rattle.mm_desk.specs.declared.reply.Returned.{Returned}
 use Rattle.mm_desk.specs.Machine.{State, answer_of, after_put, offer, step}
 use Rattle.mm_desk.specs.Offers.{AreTaken, IsTaken, IsShuffleOfEvents, count_of}
-use Rattle.mm_desk.specs.Offers.{asked as asked_in}
 use Rattle.mm_desk.specs.Runs.{IsLegal, IsRun, replay}
 use Rattle.mm_desk.specs.Shuffles.{AreBelow, IsShuffle, part}
 use Rattle.mm_desk.proofs.Counting.{count_of_shuffle}
@@ -69,16 +66,16 @@ offer_taken s now n packet time =
     (λ early. cond_both (s.store.last == clock_end) _ _ (λ (done : Put × Store). TakesOne now n (answer_of done.0, after_put s done))
     (λ late. absurd (grind (arith, nat_tests)))
     (λ before.
-        let put = timed_takes s.store (record { time = max now (s.store.last + 1); packet = packet }) (omega arith) in
-        record {
-          taken = put.taken;
-          time = record {
-            storage = time.storage;
-            last = omega (arith, put.last, time.last, time.moment);
-            moment = omega (arith, time.moment);
-            count = omega (arith, time.count);
-          };
-        })))
+    let put = timed_takes s.store (record { time = max now (s.store.last + 1); packet = packet }) (omega arith) in
+    record {
+      taken = put.taken;
+      time = record {
+        storage = time.storage;
+        last = omega (arith, put.last, time.last, time.moment);
+        moment = omega (arith, time.moment);
+        count = omega (arith, time.count);
+      };
+    })))
 
 -- the last time after an offer
 offer_last : (s : State) (now : ℕ) (packet : SpacePacket) → (offer s now packet).1.store.last ≤ max now (s.store.last + 1)

@@ -1,5 +1,5 @@
 //! Recorders: each takes what its source gives in a step, and offers it.
-ghost use Rattle.std.specs.Prelude.{◌≡◌, ◌<◌, ◌++◌, length};
+ghost use Rattle.std.specs.Prelude.{◌≡◌, ◌<◌, length};
 ghost use Rattle.std.specs.Result.{result_err};
 ghost use Rattle.std.specs.Thread.{IsSync, IsSend};
 ghost use Rattle.mm_shared.specs.Stores.{ids_of, ends_of, all_ends, AreNamed, IsFresh};
@@ -80,10 +80,18 @@ pub(crate) fn record_all<S: Source + Send, R: Threads + Wait + Sync>(
     let half = sources.len() / 2;
     let (low_sources, high_sources) = sources.split_at_mut(half);
     let (low_workers, high_workers) = workers.split_at_mut(half);
-    record_halves(context, low_sources, low_workers, high_sources, high_workers)
+    let (first, second) = record_halves(
+        context,
+        low_sources,
+        low_workers,
+        high_sources,
+        high_workers,
+    );
+    worse(first, second)
 }
 
-// Lets the recorders of two halves run, each half in a thread of its own where one can be made.
+// Lets the recorders of two halves run, each half in a thread of its own where one can be made, and tells why some of each stopped
+// early.
 #[cycle(recorders)]
 fn record_halves<S: Source + Send, R: Threads + Wait + Sync>(
     context: &StepContext<'_, R>,
@@ -91,14 +99,14 @@ fn record_halves<S: Source + Send, R: Threads + Wait + Sync>(
     low_workers: &mut [Lines],
     high_sources: &mut [S],
     high_workers: &mut [Lines],
-) -> Option<Fault>
+) -> (Option<Fault>, Option<Fault>)
     requires named { AreNamed (ids_of context.now.stores.now) }
     requires low { MayRecord context.now.stores.now low_sources.old low_workers.old }
     requires high { MayRecord context.now.stores.now high_sources.old high_workers.old }
     requires some_low { 0 < length low_sources.old }
     requires some_high { 0 < length high_sources.old }
-    ensures run { HaveRun S.gives (open_recording context.now.step context.now.moment context.now.control.now context.now.stores.now)
-        (low_sources.old ++ high_sources.old) (low_sources.new ++ high_sources.new) (low_workers.new ++ high_workers.new) result }
+    ensures low { HaveRun S.gives (open_recording context.now.step context.now.moment context.now.control.now context.now.stores.now) low_sources.old low_sources.new low_workers.new result.0 }
+    ensures high { HaveRun S.gives (open_recording context.now.step context.now.moment context.now.control.now context.now.stores.now) high_sources.old high_sources.new high_workers.new result.1 }
     ensures low_ends { all_ends low_workers.new ≡ all_ends low_workers.old }
     ensures high_ends { all_ends high_workers.new ≡ all_ends high_workers.old }
 {
@@ -110,6 +118,5 @@ fn record_halves<S: Source + Send, R: Threads + Wait + Sync>(
         requires { IsSync R.row × IsSend S.row × AreNamed (ids_of context.now.stores.now) × MayRecord context.now.stores.now high_sources.now high_workers.now }
         ensures { HaveRun S.gives (open_recording context.entry.now.step context.entry.now.moment context.entry.now.control.now context.entry.now.stores.now) high_sources.entry.now high_sources.exit.now high_workers.exit.now result × (all_ends high_workers.exit.now ≡ all_ends high_workers.entry.now) }
     { record_all(context, high_sources, high_workers) };
-    let (first, second) = join_mut(context.rt, &mut low, &mut high);
-    worse(first, second)
+    join_mut(context.rt, &mut low, &mut high)
 }

@@ -1,4 +1,4 @@
-use Rattle.std.proofs.Common.{rules, ◌≡◌, length, refl, subst, ap, ◌∙◌, inr}
+use Rattle.std.proofs.Common.{rules, ◌≡◌, length, subst, ap, ◌∙◌, inr}
 use Rattle.mm_memory.specs.Holdings.{Holdings}
 use Rattle.mm_shared.specs.Stores.{labels_of}
 use Rattle.mm_record.specs.Counters.{AreRows}

@@ -9,8 +9,7 @@ record_all-returns-then-is_empty-clause-run g t c =
     let none : length c.args.sources.now ≡ 0 = search rules in
     none_run g.S.Source.gives (open_recording context.step context.moment context.control.now context.stores.now) c.args.sources.now c.args.workers.now none c.requires.may.same
 
-pub record_halves-returns-clause-run : goal.record_halves-returns-clause-run
-record_halves-returns-clause-run g t c =
-    let context = c.args.context.now in
-    let both = c.join_mut-first.ensures in
-    rw c.worse.ensures (both_run g.S.Source.gives (open_recording context.step context.moment context.control.now context.stores.now) _ _ _ _ _ _ _ _ both.0.met.0 both.1.met.0)
+pub record_all-returns-clause-run : goal.record_all-returns-clause-run
+record_all-returns-clause-run g t c =
+    let run = both_run g.S.Source.gives _ _ _ _ _ _ _ _ _ c.record_halves-first.ensures.low c.record_halves-first.ensures.high in
+    rw (c.worse.ensures, c.split_at_mut-low_sources.ensures.value) run
