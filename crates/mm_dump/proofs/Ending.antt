@@ -1,15 +1,14 @@
 -- What a step's dump leaves, from its buffers, its open stores and its workers.
-use Rattle.std.proofs.Common.{◌≡◌, ℕ, ◌+◌, ◌<◌, ◌≤◌, suc, List, [], ◌∷◌, length, map, refl, sym, ap, ◌∙◌, arith}
+use Rattle.std.proofs.Common.{◌≡◌, ℕ, zero, suc, List, [], ◌∷◌, ◌++◌, length, map, take, All, refl, sym, ap, ◌∙◌, arith}
 use Rattle.std.specs.List.{sum_by}
-use Rattle.std.proofs.lemmas.List.{length-map}
+use Rattle.std.proofs.lemmas.List.Elements.{All-nil, All-cons, All-head, All-tail}
 use Rattle.std.proofs.lemmas.List.Sums.{sum_by-cons}
-use Rattle.mm_desk.specs.declared.entry.Entry.{Entry}
 use Rattle.mm_desk.specs.declared.held.Held.{Held}
 use Rattle.mm_shared.specs.declared.lines.Lines.{Lines}
 use Rattle.mm_shared.specs.declared.stores.NamedStore.{NamedStore}
 use Rattle.mm_shared.specs.Stores.{list_at, lists_at, ends_of, all_ends, ids_of, names_of, labels_of}
 use Rattle.mm_dump.specs.declared.dumper.DumpWorker.{DumpWorker}
-use Rattle.mm_dump.specs.Workers.{Sided, sided}
+use Rattle.mm_dump.specs.Workers.{Sided, side, sided}
 
 -- the lists of calls of workers at a store
 pub sided_lists : {L : Type 0} (k : ℕ) (links : List L) (lines : List Lines) (workers : List DumpWorker) → length lines ≡ length links → length workers ≡ length links
@@ -63,3 +62,21 @@ sided_ends [] (b ∷ lines) workers one two = absurd (omega arith)
 sided_ends (a ∷ links) [] workers one two = absurd (omega arith)
 sided_ends (a ∷ links) (b ∷ lines) [] one two = absurd (omega arith)
 sided_ends (a ∷ links) (b ∷ lines) (c ∷ workers) one two = let rest = sided_ends links lines workers (omega arith) (omega arith) in λ i. ends_of b.lines.items ∷ rest i
+
+-- what holds of each worker
+pub sided_each : {L : Type 0} (P : DumpWorker → Type 0) (links : List L) (lines : List Lines) (workers : List DumpWorker) → length lines ≡ length links → length workers ≡ length links
+    → All (λ (s : Sided L). P s.worker) (sided links lines workers) → All P workers
+sided_each P [] lines [] one two each = All-nil P
+sided_each P [] lines (c ∷ workers) one two each = absurd (omega arith)
+sided_each P (a ∷ links) [] workers one two each = absurd (omega arith)
+sided_each P (a ∷ links) (b ∷ lines) [] one two each = absurd (omega arith)
+sided_each {L} P (a ∷ links) (b ∷ lines) (c ∷ workers) one two each =
+    All-cons P c workers (All-head (λ (s : Sided L). P s.worker) (side a b.lines.items c) (sided links lines workers) each)
+    (sided_each P links lines workers (omega arith) (omega arith) (All-tail (λ (s : Sided L). P s.worker) (side a b.lines.items c) (sided links lines workers) each))
+
+-- a list that was lent whole is back
+pub lent : {X : Type 0} (n : ℕ) (xs rest : List X) → length xs ≡ n → take n (xs ++ rest) ≡ xs
+lent zero [] rest same = refl
+lent zero (x ∷ xs) rest same = absurd (omega arith)
+lent (suc n) [] rest same = absurd (omega arith)
+lent (suc n) (x ∷ xs) rest same = let back = lent n xs rest (omega arith) in λ i. x ∷ back i

@@ -11,7 +11,6 @@ use Rattle.crossbeam_queue.specs.Passes.{view}
 use Rattle.mm_sums.proofs.Sums.{sum_by-map}
 use Rattle.mm_desk.specs.declared.entry.Entry.{Entry}
 use Rattle.mm_store.specs.declared.stored.Stored.{Stored}
-use Rattle.mm_shared.specs.declared.lines.Line.{Line}
 use Rattle.mm_shared.specs.Stores.{id_at, list_at}
 use Rattle.mm_dump.specs.declared.order.Order.{Order}
 use Rattle.mm_dump.specs.declared.queue.QueueView.{QueueView}
@@ -19,7 +18,7 @@ use Rattle.mm_dump.specs.declared.stop.Stop.{Stop}
 use Rattle.mm_dump.specs.Courses.{Course, calls_at, sent_by, failed_by, spent_by}
 use Rattle.mm_dump.specs.Dumped.{AllKept, used_by}
 use Rattle.mm_dump.specs.Sending.{Sent, all_sent}
-use Rattle.mm_dump.specs.Workers.{order_at, IsTried, AreTried, TookAs, HasWorkedOn, Sided, HasWorked, AllWorked}
+use Rattle.mm_dump.specs.Workers.{order_at, AreTried, TookAs, Sided, AllWorked}
 use Rattle.mm_dump.proofs.Weighing.{below, all_below, not_below, is_it, last_stands}
 
 -- an order is the one of some number

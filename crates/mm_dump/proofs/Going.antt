@@ -1,5 +1,5 @@
 -- How what was done through a port and a link adds up.
-use Rattle.std.proofs.Common.{◌≡◌, ℕ, List, [], ◌∷◌, ◌++◌, length, refl, sym, ap, ◌∙◌, append_assoc, arith, length-append}
+use Rattle.std.proofs.Common.{◌≡◌, ℕ, List, [], ◌∷◌, ◌++◌, refl, sym, ap, ◌∙◌, append_assoc, arith, length-append}
 use Rattle.std.specs.Prelude.{Some, Ok}
 use Rattle.std.proofs.lemmas.List.{append-nil}
 use Rattle.mm_store.specs.declared.stored.Stored.{Stored}

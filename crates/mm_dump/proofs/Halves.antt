@@ -1,18 +1,17 @@
 -- Workers side by side, in two halves.
-use Rattle.std.proofs.Common.{◌≡◌, ℕ, ◌+◌, ◌<◌, List, [], ◌∷◌, ◌++◌, length, get_or, set, map, All, refl, sym, ap, subst, ◌∙◌, arith, length-append}
+use Rattle.std.proofs.Common.{◌≡◌, ℕ, ◌<◌, List, [], ◌∷◌, ◌++◌, length, get_or, set, map, All, refl, sym, ap, subst, ◌∙◌, arith, length-append}
 use Rattle.std.specs.List.{AllZip}
 use Rattle.std.specs.Prelude.{Option}
 use Rattle.std.proofs.lemmas.List.Elements.{All-nil, All-cons, All-head, All-tail}
 use Rattle.crossbeam_queue.specs.declared.array_queue.Doing.{Doing}
 use Rattle.crossbeam_queue.specs.declared.array_queue.Slotted.{Slotted}
-use Rattle.mm_shared.specs.declared.lines.Line.{Line}
 use Rattle.mm_shared.specs.declared.lines.Lines.{Lines}
 use Rattle.mm_shared.specs.declared.stores.NamedStore.{NamedStore}
 use Rattle.mm_dump.specs.declared.dumper.DumpWorker.{DumpWorker}
 use Rattle.mm_dump.specs.declared.order.Order.{Order}
 use Rattle.mm_dump.specs.declared.queue.QueueView.{QueueView}
 use Rattle.mm_dump.specs.Sending.{Sent}
-use Rattle.mm_dump.specs.Workers.{Sided, side, sided, AreReady, IsReady, AllWorked, HasWorked}
+use Rattle.mm_dump.specs.Workers.{Sided, side, sided, AreReady, IsReady}
 
 -- what holds of each element of two lists
 pub all_left : {X : Type 0} (P : X → Type 0) (xs ys : List X) → All P (xs ++ ys) → All P xs

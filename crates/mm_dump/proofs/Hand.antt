@@ -1,23 +1,22 @@
 -- An order in its retrieval: what it was given so far is sent.
-use Rattle.std.proofs.Common.{◌≡◌, ℕ, ◌+◌, ◌<◌, ◌≤◌, Bool, true, false, nat_lt, List, [], ◌∷◌, ◌++◌, length, refl, sym, ap, subst, ◌∙◌, append_assoc, arith, length-append}
-use Rattle.std.specs.Prelude.{Option, Some, None, Result, Ok, Err}
+use Rattle.std.proofs.Common.{◌≡◌, ℕ, ◌+◌, ◌<◌, true, false, List, [], ◌∷◌, ◌++◌, length, refl, sym, ap, subst, ◌∙◌, append_assoc, arith, length-append}
+use Rattle.std.specs.Prelude.{Option, Some, None, Ok, Err}
 use Rattle.std.proofs.lemmas.Bool.{lt-ltb, le-ltb}
 use Rattle.std.proofs.lemmas.List.{append-nil}
 use Rattle.mm_store.specs.declared.stored.Stored.{Stored}
 use Rattle.mm_desk.specs.declared.entry.Entry.{Entry}
-use Rattle.mm_desk.specs.declared.event.Event.TheVariants.{Next, Abort}
+use Rattle.mm_desk.specs.declared.event.Event.TheVariants.{Next}
 use Rattle.mm_desk.specs.declared.fault.Fault.{Fault}
 use Rattle.mm_desk.specs.declared.reply.Reply.TheVariants as reply
 use Rattle.mm_desk.specs.Orders.{given, last_time}
 use Rattle.mm_desk.specs.Runs.{entry}
 use Rattle.mm_shared.specs.Views.{PortView, with_call}
-use Rattle.mm_dump.specs.declared.order.OrderBroken.{OrderBroken}
 use Rattle.mm_dump.specs.declared.order.OrderBroken.TheVariants.{NoMemory, LinkFailed}
 use Rattle.mm_dump.specs.declared.stop.Stop.{Stop}
 use Rattle.mm_dump.specs.declared.stop.Stop.TheVariants.{Broken, Refused}
 use Rattle.mm_dump.specs.Broken.{aborted, unsent_at}
 use Rattle.mm_dump.specs.Parts.{HasSent, SentNext, AbortsAs, StopsAs, HasStopped, SentAll, last_of, end_where, with_calls}
-use Rattle.mm_dump.specs.Sending.{Sent, LinkState, all_sent}
+use Rattle.mm_dump.specs.Sending.{LinkState}
 use Rattle.mm_dump.proofs.Going.{went_on, called, number_stays, given_more, with_more}
 use Rattle.mm_dump.proofs.Refusing.{next_refused, after_given}
 

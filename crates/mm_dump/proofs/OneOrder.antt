@@ -1,5 +1,5 @@
 -- One order more, carried out at the store of its place.
-use Rattle.std.proofs.Common.{◌≡◌, ◌≢◌, ◌⊎◌, inl, inr, ℕ, ◌+◌, ◌<◌, ◌≤◌, true, false, eqb, List, [], ◌∷◌, ◌++◌, length, get_or, set, map, refl, sym, ap, ◌∙◌, length-append, get_or-set_same, get_or-set_other, arith}
+use Rattle.std.proofs.Common.{◌≡◌, ◌≢◌, ◌⊎◌, inl, inr, ℕ, ◌+◌, ◌<◌, true, false, eqb, List, [], ◌∷◌, ◌++◌, length, get_or, set, map, refl, sym, ap, ◌∙◌, length-append, get_or-set_same, get_or-set_other, arith}
 use Rattle.std.specs.Prelude.{Option, Some, None}
 use Rattle.std.proofs.lemmas.Bool.Decides.{eqb_tells}
 use Rattle.std.proofs.lemmas.List.{append-nil, get_or-map, length-map, map-set}
@@ -8,16 +8,15 @@ use Rattle.std.proofs.lemmas.List.Sums.{sum_by-cons}
 use Rattle.mm_desk.specs.declared.entry.Entry.{Entry}
 use Rattle.mm_shared.specs.declared.lines.Line.{Line}
 use Rattle.mm_shared.specs.declared.stores.NamedStore.{NamedStore}
-use Rattle.mm_shared.specs.Stores.{id_at, list_at, ends_of}
+use Rattle.mm_shared.specs.Stores.{id_at, list_at}
 use Rattle.mm_shared.specs.Views.{PortView}
 use Rattle.mm_dump.specs.declared.order.Order.{Order}
-use Rattle.mm_dump.specs.declared.order.OrderBroken.{OrderBroken}
 use Rattle.mm_dump.specs.declared.stop.Stop.{Stop}
 use Rattle.mm_dump.specs.declared.stop.Stop.TheVariants.{Broken, Refused}
-use Rattle.mm_dump.specs.Courses.{Course, calls_at, failed_by, spent_by}
-use Rattle.mm_dump.specs.Parts.{HasSent, HasEnded, EndsAs}
+use Rattle.mm_dump.specs.Courses.{Course, calls_at}
+use Rattle.mm_dump.specs.Parts.{HasSent, HasEnded}
 use Rattle.mm_dump.specs.Sending.{Sent, LinkState, all_sent}
-use Rattle.mm_dump.specs.Workers.{HasLines, Shows, IsTried, HasCarried}
+use Rattle.mm_dump.specs.Workers.{HasLines, Shows, HasCarried}
 
 -- the calls of one order, at its place and at another
 calls_here : (place : ℕ) (c : Course) → c.order.place ≡ place → calls_at place (c ∷ []) ≡ c.calls

@@ -1,26 +1,22 @@
 -- Workers that were hired and given lines are ready, and what they did is that of a step.
-use Rattle.std.proofs.Common.{◌≡◌, ℕ, zero, suc, ◌+◌, ◌-◌, ◌<◌, ◌≤◌, ◌^◌, List, [], ◌∷◌, ◌++◌, length, get_or, map, All, refl, sym, ap, subst, ◌∙◌, arith, length-append}
-use Rattle.std.specs.List.{AllZip, sum_by}
+use Rattle.std.proofs.Common.{◌≡◌, ℕ, suc, ◌+◌, ◌-◌, ◌<◌, ◌≤◌, ◌^◌, List, [], ◌∷◌, length, get_or, map, All, refl, sym, ap, subst, ◌∙◌, arith}
 use Rattle.std.specs.Prelude.{Option}
 use Rattle.std.proofs.lemmas.List.{length-map}
 use Rattle.std.proofs.lemmas.List.Elements.{All-nil, All-cons, All-head, All-tail}
-use Rattle.std.proofs.lemmas.List.Sums.{sum_by-cons}
 use Rattle.crossbeam_queue.specs.declared.array_queue.Doing.{Doing}
 use Rattle.crossbeam_queue.specs.declared.array_queue.Slotted.{Slotted}
 use Rattle.crossbeam_queue.specs.Passes.{view}
-use Rattle.mm_desk.specs.declared.entry.Entry.{Entry}
-use Rattle.mm_shared.specs.declared.lines.Line.{Line}
 use Rattle.mm_shared.specs.declared.lines.Lines.{Lines}
 use Rattle.mm_shared.specs.declared.stores.NamedStore.{NamedStore}
 use Rattle.mm_desk.specs.declared.held.Held.{Held}
-use Rattle.mm_shared.specs.Stores.{list_at, lists_at, ends_of, all_ends, names_of, labels_of, IsWorker, AreWorkers, IsFresh}
+use Rattle.mm_shared.specs.Stores.{ends_of, names_of, labels_of, IsWorker, AreWorkers, IsFresh}
 use Rattle.mm_dump.specs.declared.dumper.DumpWorker.{DumpWorker}
 use Rattle.mm_dump.specs.declared.order.Order.{Order}
 use Rattle.mm_dump.specs.declared.queue.QueueView.{QueueView}
 use Rattle.mm_dump.specs.Dumped.{MayDump}
 use Rattle.mm_dump.specs.Sending.{Sent}
 use Rattle.mm_dump.specs.Steps.{IsHired, HasPart}
-use Rattle.mm_dump.specs.Workers.{Sided, sided, IsReady, AreReady, HasWorked, AllWorked}
+use Rattle.mm_dump.specs.Workers.{Sided, sided, IsReady, AreReady, AllWorked}
 use Rattle.mm_dump.proofs.Gathering.{IsFreshAt}
 
 module _ {L Q A : Type 0} (sent : L → List Sent) (failed : L → ℕ) (queue : Slotted (Option ℕ) (Doing ℕ QueueView) Q A) (stores : List NamedStore) where

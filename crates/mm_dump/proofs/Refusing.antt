@@ -1,5 +1,5 @@
 -- Calls that no store answers so.
-use Rattle.std.proofs.Common.{◌≡◌, ℕ, Bool, true, false, List, [], ◌∷◌, ◌++◌, refl, sym, ap, ◌∙◌}
+use Rattle.std.proofs.Common.{◌≡◌, ℕ, Bool, true, false, List, [], ◌∷◌, ◌++◌, refl, sym, ◌∙◌}
 use Rattle.std.specs.Prelude.{Option, Some, None, Result, Ok, Err, is_some}
 use Rattle.std.proofs.lemmas.Bool.{cond_both}
 use Rattle.mm_store.specs.declared.stored.Stored.{Stored}
@@ -11,7 +11,7 @@ use Rattle.mm_desk.specs.declared.reply.Reply.TheVariants as reply
 use Rattle.mm_desk.specs.declared.state.Retrieval.{Retrieval}
 use Rattle.mm_desk.specs.Machine.{State, give, next_of, step}
 use Rattle.mm_desk.specs.Orders.{begun, given}
-use Rattle.mm_desk.specs.Runs.{entry, IsRun}
+use Rattle.mm_desk.specs.Runs.{entry}
 use Rattle.mm_dump.specs.Broken.{aborted}
 use Rattle.mm_dump.specs.Parts.{IsRefused}
 

@@ -1,6 +1,6 @@
 -- What a step's dump leaves, from what its workers did.
-use Rattle.std.proofs.Common.{◌≡◌, ◌≢◌, ℕ, zero, suc, ◌+◌, ◌<◌, ◌≤◌, false, List, [], ◌∷◌, ◌++◌, length, get_or, map, All, AllPairs, refl, sym, ap, subst, ◌∙◌, append_assoc, length-append, arith}
-use Rattle.std.specs.List.{AllZip, flat_map, sum_by, range_with_len}
+use Rattle.std.proofs.Common.{◌≡◌, ◌≢◌, ℕ, zero, suc, ◌+◌, ◌<◌, ◌≤◌, false, List, [], ◌∷◌, ◌++◌, length, map, All, AllPairs, refl, sym, ap, subst, ◌∙◌, append_assoc, length-append, arith}
+use Rattle.std.specs.List.{AllZip, sum_by, range_with_len}
 use Rattle.std.specs.Prelude.{Any, Option, Some, None, IfNone, is_some}
 use Rattle.std.proofs.lemmas.List.{get_or-map, length-map}
 use Rattle.std.proofs.lemmas.List.Elements.{All-nil, All-cons, All-head, All-tail, All-get_or}
@@ -23,11 +23,11 @@ use Rattle.mm_dump.specs.Courses.{Course, IsCourse, EndedAs, worst_of, spent_by}
 use Rattle.mm_dump.specs.Dumped.{times, places_of, AreCourses, AllDumped, AllSettled, amount_of}
 use Rattle.mm_dump.specs.Parts.{IsRefused}
 use Rattle.mm_dump.specs.Sending.{Sent}
-use Rattle.mm_dump.specs.Workers.{order_at, IsTried, EndsWith, AreTried, Sided, why_of}
+use Rattle.mm_dump.specs.Workers.{order_at, AreTried, Sided, why_of}
 use Rattle.mm_dump.proofs.Causes.{worse-none}
 use Rattle.mm_dump.proofs.Courses.{whys, whole_courses, broken_courses}
 use Rattle.mm_dump.proofs.Finding.{find, here, tally, flat, found_at}
-use Rattle.mm_dump.proofs.Gathering.{IsOrdered, FoundNone, IsOf, Gathered}
+use Rattle.mm_dump.proofs.Gathering.{IsOrdered, IsOf, Gathered}
 use Rattle.mm_dump.proofs.Ordered.{names, named_once, times_by_number, by_number}
 use Rattle.mm_dump.proofs.Settling.{spots, Known, Went, spots_tally, all_tried, all_took, same_causes, all_unbroken, run_found, amount_found, tried, dumped}
 use Rattle.mm_dump.proofs.Weighing.{below, range_below, is_it, reached}

@@ -15,7 +15,7 @@ use Rattle.mm_shared.specs.Stores.{id_at}
 use Rattle.mm_dump.specs.declared.order.Order.{Order}
 use Rattle.mm_dump.specs.declared.order.OrderBroken.{OrderBroken}
 use Rattle.mm_dump.specs.Courses.{Course, IsCourse, worst_of, calls_at, sent_by, failed_by}
-use Rattle.mm_dump.specs.Dumped.{wanted, times, places_of, AreCourses, HasDumped, AllTook, HasTried, HasTaken, AllTried}
+use Rattle.mm_dump.specs.Dumped.{wanted, times, places_of, AreCourses, HasDumped, AllTook, HasTried, AllTried}
 use Rattle.mm_dump.specs.Sending.{Sent, all_sent}
 use Rattle.mm_dump.proofs.Causes.{worse-none}
 use Rattle.mm_dump.proofs.Courses.{whys, none_broke, whole_course, no_failures}

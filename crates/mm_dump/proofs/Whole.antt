@@ -1,6 +1,6 @@
 -- An order put together from its begin, its packets and its end.
-use Rattle.std.proofs.Common.{◌≡◌, ℕ, ◌≤◌, Bool, true, false, not, nat_lt, List, [], ◌∷◌, ◌++◌, length, refl, sym, ap, subst, ◌∙◌, append_assoc, arith}
-use Rattle.std.specs.Prelude.{Option, Some, None, Ok}
+use Rattle.std.proofs.Common.{◌≡◌, ℕ, Bool, true, false, not, nat_lt, List, [], ◌∷◌, ◌++◌, length, refl, sym, ap, subst, ◌∙◌, append_assoc, arith}
+use Rattle.std.specs.Prelude.{Option, Some, None}
 use Rattle.std.proofs.lemmas.List.{append-nil}
 use Rattle.mm_store.specs.declared.stored.Stored.{Stored}
 use Rattle.mm_desk.specs.declared.entry.Entry.{Entry}
@@ -8,7 +8,6 @@ use Rattle.mm_desk.specs.Orders.{begun, given, ended, removed}
 use Rattle.mm_shared.specs.Views.{PortView}
 use Rattle.mm_dump.specs.declared.stop.Stop.{Stop}
 use Rattle.mm_dump.specs.declared.stop.Stop.TheVariants.{Broken, Refused}
-use Rattle.mm_dump.specs.Broken.{aborted}
 use Rattle.mm_dump.specs.Parts.{IsRefused, HasSent, WasRefused, StopsAs, HasStopped, SentAll, EndsAs, HasEnded, with_calls, last_of, end_where, abort_where, deletion}
 use Rattle.mm_dump.specs.Sending.{LinkState}
 use Rattle.mm_dump.proofs.Going.{went_on, called, number_stays}
@@ -109,7 +108,7 @@ module _ (id : List ℕ) (wanted : ℕ) (a b : PortView) (l : LinkState) (port :
       most = rw (append-nil gave) sends.most;
       has_sent = then_called calls d goes;
       ends = after_begun n _ (subst (λ (es : List Entry). IsRefused true es) (sym (append_assoc (given n gave) (end_where n over) calls))
-      (after_given n gave (end_where n over ++ calls) (after_end_where n over calls refused)));
+          (after_given n gave (end_where n over ++ calls) (after_end_where n over calls refused)));
     }
 
     -- the retrieval could not be ended

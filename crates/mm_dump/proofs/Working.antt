@@ -1,5 +1,5 @@
 -- A worker at work: the orders that it carried out so far, and one more.
-use Rattle.std.proofs.Common.{◌≡◌, ℕ, ◌+◌, ◌*◌, ◌^◌, ◌<◌, ◌≤◌, ◌==◌, Bool, true, List, [], ◌∷◌, ◌++◌, length, map, filter, All, refl, sym, ap, subst, ◌∙◌, append_assoc, length-append, arith}
+use Rattle.std.proofs.Common.{◌≡◌, ℕ, ◌+◌, ◌<◌, ◌≤◌, ◌==◌, Bool, true, List, [], ◌∷◌, ◌++◌, length, map, filter, All, refl, sym, ap, subst, ◌∙◌, append_assoc, arith}
 use Rattle.std.specs.List.{flat_map}
 use Rattle.std.specs.Prelude.{Option, Some, None, is_some}
 use Rattle.std.proofs.lemmas.List.{append-nil, map-append, length-map}
@@ -12,10 +12,12 @@ use Rattle.mm_shared.specs.declared.stores.NamedStore.{NamedStore}
 use Rattle.mm_shared.specs.Stores.{id_at, list_at, ends_of}
 use Rattle.mm_shared.proofs.StillOpen.{same_worker}
 use Rattle.mm_dump.specs.declared.order.Order.{Order}
+use Rattle.mm_dump.specs.declared.queue.QueueView.{QueueView}
 use Rattle.mm_dump.specs.declared.stop.Stop.{Stop}
 use Rattle.mm_dump.specs.Courses.{Course, calls_at, sent_by, failed_by}
+use Rattle.mm_dump.specs.Queue.{queue_view}
 use Rattle.mm_dump.specs.Sending.{Sent, LinkState, all_sent}
-use Rattle.mm_dump.specs.Workers.{order_at, HasLines, IsTried, Shows, HasCarried, EndsWith, AreTried, TookAs, HasWorkedOn, Worked}
+use Rattle.mm_dump.specs.Workers.{order_at, HasLines, IsTried, Shows, HasCarried, AreTried, HasWorkedOn, Worked}
 
 -- the calls of orders, one after another
 calls_more : (k : ℕ) (cs ds : List Course) → calls_at k (cs ++ ds) ≡ calls_at k cs ++ calls_at k ds
@@ -50,6 +52,11 @@ are_more courses c (Some stop) are is = record {
   each = whole_all courses are;
   last = (c, refl, is);
 }
+
+-- what a pass with one part knows once it has taken a number more
+pub seen_more : (old new : QueueView) (pushed : ℕ) (taken : List ℕ) → old ≡ queue_view 1 pushed old.taken → new ≡ queue_view old.parts old.pushed taken → new ≡ queue_view 1 pushed new.taken
+seen_more old new pushed taken seen next =
+    next ∙ (λ i. queue_view ((ap (λ (v : QueueView). v.parts) seen) i) ((ap (λ (v : QueueView). v.pushed) seen) i) ((ap (λ (v : QueueView). v.taken) (sym next)) i))
 
 -- the lines of a worker stay at their stores
 pub still_lines : (stores : List NamedStore) (old new : List Line) → ends_of new ≡ ends_of old → HasLines stores old → HasLines stores new

@@ -1,6 +1,6 @@
 -- What a step's dump takes beside its stores and its links, and what its passes know when they are back. No public clause cites
 -- this module.
-use Rattle.std.specs.Prelude.{◌≡◌, ℕ, ◌+◌, ◌<◌, List, [], length, sum_by, All, vec_len}
+use Rattle.std.specs.Prelude.{◌≡◌, ℕ, ◌+◌, List, [], length, sum_by, All, vec_len}
 use Rattle.crossbeam_queue.specs.Passes.{view, IsPassOf}
 use Rattle.mm_dump.specs.declared.dumper.DumpWorker.{DumpWorker}
 use Rattle.mm_dump.specs.declared.queue.QueueView.{QueueView}

@@ -57,10 +57,7 @@ fn abort<R: Wait>(context: &OrderContext<'_, R>, port: &mut Port, why: OrderBrok
 }
 
 // Takes the next packet of the retrieval. Where there is no memory for its copy the retrieval is aborted.
-fn next<R: Wait>(
-    context: &OrderContext<'_, R>,
-    port: &mut Port,
-) -> Result<Option<Stored>, Stop>
+fn next<R: Wait>(context: &OrderContext<'_, R>, port: &mut Port) -> Result<Option<Stored>, Stop>
     requires of { port.old.of ≡ context.now.store.now.id }
     ensures ok { IfOk result (λ next. port.new ≡ with_call port.old Event.Next (Reply.Given (Ok next))) }
     ensures err { IfErr result (λ stop. AbortsAs OrderBroken.NoMemory stop port.old port.new) }

@@ -1,5 +1,4 @@
 use Rattle.std.proofs.Common.{rules, arith}
-use Rattle.mm_dump.specs.Sending.{link_state}
 use Rattle.mm_dump.proofs.Hand.{in_hand_more, in_hand_stopped}
 use Rattle.mm_dump.proofs.carrying.send_all.Goals as goal
 

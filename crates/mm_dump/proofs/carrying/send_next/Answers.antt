@@ -1,5 +1,5 @@
 use Rattle.std.proofs.Common.{rules, ◌≡◌, ◌+◌, refl, ap, ◌∙◌}
-use Rattle.std.specs.Prelude.{Option, Some, Ok}
+use Rattle.std.specs.Prelude.{Option, Ok}
 use Rattle.mm_store.specs.declared.stored.Stored.{Stored}
 use Rattle.mm_desk.specs.declared.event.Event.TheVariants.{Next}
 use Rattle.mm_desk.specs.declared.reply.Reply.TheVariants as reply

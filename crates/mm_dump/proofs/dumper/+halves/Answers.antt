@@ -1,4 +1,4 @@
-use Rattle.std.proofs.Common.{◌≡◌, ◌<◌, length, arith}
+use Rattle.std.proofs.Common.{arith}
 use Rattle.mm_shared.specs.Stores.{ids_of}
 use Rattle.mm_dump.specs.Workers.{HasWorked}
 use Rattle.mm_dump.proofs.Halves.{low_ready, high_ready, halves_zip}
@@ -6,7 +6,7 @@ use Rattle.mm_dump.proofs.dumper.+halves.Goals as goal
 
 pub dump_all-dump_halves-requires-clause-low : goal.dump_all-dump_halves-requires-clause-low
 dump_all-dump_halves-requires-clause-low g t c κs within =
-    low_ready g.L.Link.sent g.L.Link.failed c.args.context.now.queue.now c.args.context.now.stores.now c.args.context.now.orders.now c.args.links.now _ _ c.args.lines.now _ _ c.args.workers.now _ _ c.requires.ready
+    low_ready g.L.Link.sent g.L.Link.failed c.args.context.now.queue.now c.args.context.now.stores.now c.args.context.now.orders.now c.args.links.now c.split_at_mut-low_links.result.0.now c.split_at_mut-low_links.result.1.now c.args.lines.now c.split_at_mut-low_lines.result.0.now c.split_at_mut-low_lines.result.1.now c.args.workers.now c.split_at_mut-low_workers.result.0.now c.split_at_mut-low_workers.result.1.now c.requires.ready
     c.split_at_mut-low_links.ensures.value c.split_at_mut-low_lines.ensures.value c.split_at_mut-low_workers.ensures.value
     (omega (arith, c.split_at_mut-low_links.ensures.front_len, c.split_at_mut-low_lines.ensures.front_len))
     (omega (arith, c.split_at_mut-low_links.ensures.front_len, c.split_at_mut-low_workers.ensures.front_len))
@@ -15,7 +15,7 @@ dump_all-dump_halves-requires-clause-low g t c κs within =
 
 pub dump_all-dump_halves-requires-clause-high : goal.dump_all-dump_halves-requires-clause-high
 dump_all-dump_halves-requires-clause-high g t c κs within =
-    high_ready g.L.Link.sent g.L.Link.failed c.args.context.now.queue.now c.args.context.now.stores.now c.args.context.now.orders.now c.args.links.now _ _ c.args.lines.now _ _ c.args.workers.now _ _ c.requires.ready
+    high_ready g.L.Link.sent g.L.Link.failed c.args.context.now.queue.now c.args.context.now.stores.now c.args.context.now.orders.now c.args.links.now c.split_at_mut-low_links.result.0.now c.split_at_mut-low_links.result.1.now c.args.lines.now c.split_at_mut-low_lines.result.0.now c.split_at_mut-low_lines.result.1.now c.args.workers.now c.split_at_mut-low_workers.result.0.now c.split_at_mut-low_workers.result.1.now c.requires.ready
     c.split_at_mut-low_links.ensures.value c.split_at_mut-low_lines.ensures.value c.split_at_mut-low_workers.ensures.value
     (omega (arith, c.split_at_mut-low_links.ensures.front_len, c.split_at_mut-low_lines.ensures.front_len))
     (omega (arith, c.split_at_mut-low_links.ensures.front_len, c.split_at_mut-low_workers.ensures.front_len))
@@ -28,7 +28,7 @@ dump_all-returns g t c = record {
       c.args.links.now _ _ _ _ c.args.lines.now _ _ _ _ c.args.workers.now _ _ _ _ c.split_at_mut-low_links.ensures.value c.split_at_mut-low_lines.ensures.value c.split_at_mut-low_workers.ensures.value
       (omega (arith, c.split_at_mut-low_links.ensures.front_len, c.split_at_mut-low_lines.ensures.front_len))
       (omega (arith, c.split_at_mut-low_links.ensures.front_len, c.split_at_mut-low_workers.ensures.front_len))
-      ?
-      ?
+      (omega (arith, c.dump_halves.auto.low_links, c.dump_halves.auto.low_lines, c.split_at_mut-low_links.ensures.front_len, c.split_at_mut-low_lines.ensures.front_len))
+      (omega (arith, c.dump_halves.auto.low_links, c.dump_halves.auto.low_workers, c.split_at_mut-low_links.ensures.front_len, c.split_at_mut-low_workers.ensures.front_len))
       c.dump_halves.ensures.low c.dump_halves.ensures.high;
 }

@@ -1,4 +1,4 @@
-use Rattle.std.proofs.Common.{rules, ◌≡◌, ◌+◌, ◌<◌, ◌≤◌, ◌^◌, [], length, get_or, refl, sym, arith}
+use Rattle.std.proofs.Common.{◌<◌, [], length, get_or, refl, sym, arith}
 use Rattle.std.specs.Prelude.{Some, None}
 use Rattle.std.proofs.lemmas.List.{get_or-map}
 use Rattle.mm_shared.specs.declared.stores.NamedStore.{NamedStore}

@@ -1,11 +1,11 @@
-use Rattle.std.proofs.Common.{rules, ◌≡◌, ◌+◌, ◌*◌, ◌^◌, ◌<◌, ◌≤◌, true, List, [], ◌∷◌, length, refl, sym, ap, ◌∙◌, arith, length-append}
-use Rattle.std.specs.Prelude.{Some, None, is_some}
+use Rattle.std.proofs.Common.{rules, ◌≡◌, ◌+◌, ◌<◌, ◌≤◌, true, [], ◌∷◌, length, refl, sym, ap, ◌∙◌, arith, length-append}
+use Rattle.std.specs.Prelude.{None, is_some}
 use Rattle.crossbeam_queue.specs.Passes.{view}
 use Rattle.mm_shared.specs.Stores.{ids_of}
 use Rattle.mm_dump.specs.declared.queue.QueueView.{QueueView}
 use Rattle.mm_dump.specs.Queue.{queue_view}
 use Rattle.mm_dump.specs.Sending.{link_state}
-use Rattle.mm_dump.proofs.Working.{still_lines, worked_start, worked_more, worked_well, worked_stopped}
+use Rattle.mm_dump.proofs.Working.{seen_more, still_lines, worked_start, worked_more, worked_well, worked_stopped}
 use Rattle.mm_dump.proofs.dumper.work.Goals as goal
 
 pub loop-init : goal.loop-init
@@ -28,13 +28,53 @@ carry_at-stop-requires-clause-room g c =
     omega (arith, worked_well (ids_of c.args.context.now.stores.now) _ _ _ _ _ _ c.loop.invariant.worked, c.requires.ready.room)
 
 pub carry_at-stop-requires-clause-blocks : goal.carry_at-stop-requires-clause-blocks
-carry_at-stop-requires-clause-blocks g c = ?
+carry_at-stop-requires-clause-blocks g c =
+    let bound : c.loop.worker.spent < 281474976710656 = omega (
+      arith,
+      c.loop.invariant.spent,
+      c.take_next-number.ensures.few,
+      ap (λ (v : QueueView). length v.taken) c.take_next-number.ensures.taken,
+      length-append (view c.loop.worker.pass).taken (c.take_next-number.result ∷ []),
+      ap (λ (v : QueueView). v.pushed) c.loop.invariant.seen,
+      c.requires.ready.few,
+    ) in
+    bound
 
 pub returns-then-is_some-clause-bound : goal.returns-then-is_some-clause-bound
-returns-then-is_some-clause-bound g c = ?
+returns-then-is_some-clause-bound g c =
+    let more : c.carry_at-stop.new.spent ≤ c.loop.worker.spent + 4294967296 = c.carry_at-stop.ensures.few in
+    omega (
+      arith,
+      more,
+      c.loop.invariant.spent,
+      c.take_next-number.ensures.few,
+      ap (λ (v : QueueView). length v.taken) c.take_next-number.ensures.taken,
+      length-append (view c.loop.worker.pass).taken (c.take_next-number.result ∷ []),
+      ap (λ (v : QueueView). v.pushed) c.loop.invariant.seen,
+      c.requires.ready.few,
+    )
 
 pub returns-then-is_some-clause-worked : goal.returns-then-is_some-clause-worked
-returns-then-is_some-clause-worked g c = ?
+returns-then-is_some-clause-worked g c =
+    let more = ap (λ (v : QueueView). v.taken) c.take_next-number.ensures.taken in
+    let stopped : is_some c.carry_at-stop.result ≡ true = search rules in
+    worked_stopped (ids_of c.args.context.now.stores.now) c.args.context.now.orders.now (view c.take_next-number.new.pass).taken c.carry_at-stop.result _ _ _ _ stopped
+    (worked_more (ids_of c.args.context.now.stores.now) c.args.context.now.orders.now (view c.loop.worker.pass).taken (view c.take_next-number.new.pass).taken c.take_next-number.result _
+    c.carry_at-stop.result c.carry_at-stop.result _ _ _ _ _ _ more c.if-number-context.false refl refl c.loop.invariant.worked c.carry_at-stop.ensures.carried)
 
 pub loop-preserved : goal.loop-preserved
-loop-preserved g c = ?
+loop-preserved g c =
+    let more = ap (λ (v : QueueView). v.taken) c.take_next-number.ensures.taken in
+    let none : c.carry_at-stop.result ≡ None = search rules in
+    let spent : c.carry_at-stop.new.spent ≤ c.loop.worker.spent + 4294967296 = c.carry_at-stop.ensures.few in
+    record {
+      can_next = tt;
+      is_finite = tt;
+      pass = search rules;
+      seen = seen_more (view c.loop.worker.pass) (view c.take_next-number.new.pass) (view c.args.worker.now.pass).pushed _ c.loop.invariant.seen c.take_next-number.ensures.taken;
+      few = omega (arith, c.take_next-number.ensures.few, ap (λ (v : QueueView). v.pushed) c.loop.invariant.seen);
+      spent = omega (arith, spent, c.loop.invariant.spent, ap (λ (v : QueueView). length v.taken) c.take_next-number.ensures.taken, length-append (view c.loop.worker.pass).taken (c.take_next-number.result ∷ []));
+      has = still_lines c.args.context.now.stores.now c.loop.lines.items c.carry_at-stop.new.lines.items c.carry_at-stop.ensures.carried.shown.ends c.loop.invariant.has;
+      worked = worked_more (ids_of c.args.context.now.stores.now) c.args.context.now.orders.now (view c.loop.worker.pass).taken (view c.take_next-number.new.pass).taken c.take_next-number.result _
+          None c.carry_at-stop.result _ _ _ _ _ _ more c.if-number-context.false refl none c.loop.invariant.worked c.carry_at-stop.ensures.carried;
+    }

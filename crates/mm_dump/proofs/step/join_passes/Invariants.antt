@@ -1,4 +1,4 @@
-use Rattle.std.proofs.Common.{◌≡◌, ◌<◌, ℕ, ◌+◌, All, List, length, vec_len}
+use Rattle.std.proofs.Common.{◌≡◌, ◌<◌, ℕ, ◌+◌, All, length, vec_len}
 use Rattle.std.specs.List.{sum_by}
 use Rattle.crossbeam_queue.specs.Passes.{view, IsPassOf}
 use Rattle.mm_dump.specs.declared.dumper.DumpWorker.{DumpWorker}

@@ -1,7 +1,8 @@
-use Rattle.std.proofs.Common.{rules, ◌≡◌, ◌+◌, ◌-◌, ◌<◌, [], ap, ◌∙◌, arith}
+use Rattle.std.proofs.Common.{rules, ℕ, ◌+◌, List, [], All, refl, sym, ap, subst, ◌∙◌, arith}
 use Rattle.std.proofs.lemmas.List.Elements.{All-push}
-use Rattle.crossbeam_queue.specs.Passes.{view}
+use Rattle.mm_dump.specs.declared.dumper.DumpWorker.{DumpWorker}
 use Rattle.mm_dump.specs.declared.queue.QueueView.{QueueView}
+use Rattle.mm_dump.specs.Queue.{queue_view}
 use Rattle.mm_dump.specs.Steps.{IsHired}
 use Rattle.mm_dump.proofs.Moves.{forks}
 use Rattle.mm_dump.proofs.step.new_buffers.Goals as goal
@@ -19,5 +20,7 @@ loop-preserved g c =
       none = ap (λ (v : QueueView). v.taken) left ∙ c.loop.invariant.none;
       count = search rules;
       room = search rules;
-      hired = ?;
+      hired = subst (λ (ws : List DumpWorker). All (IsHired c.in_ok-queue.queue (c.args.orders + c.args.links)) ws) (sym c.push_reserved.ensures.items)
+          (All-push (IsHired c.in_ok-queue.queue (c.args.orders + c.args.links)) c.loop.workers.items _ c.loop.invariant.hired
+          (record { pass = c.another.ensures.queue.1; first = c.another.ensures.rule.1 ∙ ap (λ (n : ℕ). queue_view 1 n []) c.loop.invariant.pushed; spent = refl }));
     }

@@ -1,4 +1,4 @@
-use Rattle.std.proofs.Common.{◌≡◌, ◌+◌, ◌<◌, [], All, vec_len, vec_capacity}
+use Rattle.std.proofs.Common.{◌≡◌, ◌+◌, [], All, vec_len, vec_capacity}
 use Rattle.crossbeam_queue.specs.Passes.{view, IsPassOf}
 use Rattle.mm_dump.specs.Steps.{IsHired}
 use Rattle.mm_dump.proofs.step.new_buffers.Given as goal
