@@ -169,7 +169,7 @@ check_paths() {
   done < <(grep -oE '\]\([^)#: ]+' "$top/$document" | sed 's/^](//' | sort -u)
   while IFS= read -r path; do
     [ -e "$top/$path" ] || fail "$document: there is no $path"
-  done < <(grep -oE '(^|[ `(])(docs|examples|bench|crates)/[A-Za-z0-9_./-]+' "$top/$document" |
+  done < <(grep -oE '(^|[ `(])(docs|examples|bench|bindings|crates)/[A-Za-z0-9_./-]+' "$top/$document" |
     sed -E 's/^[ `(]//; s/[./]+$//' | grep -vE '/(NAME|THING|out)(/|$)' | sort -u)
 }
 

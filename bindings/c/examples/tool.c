@@ -1,0 +1,157 @@
+/* What `mm_tool` does with files, over the library:
+ *
+ *   tool plan SETUP FORECAST
+ *   tool check SETUP FORECAST PLAN
+ *   tool chart SETUP FORECAST PLAN
+ *   tool ask SETUP REQUESTS
+ *
+ * The status is 0 where all is done, 1 where something is refused or a verdict is not `least`, and 2 where the command line or a file is
+ * not well. */
+#include <rudlayog.h>
+#include <stdio.h>
+#include <stdlib.h>
+#include <string.h>
+
+struct text {
+    uint8_t *octets;
+    size_t length;
+};
+
+/* What a call needs, and what it leaves. */
+struct call {
+    struct text setup, second, plan;
+    struct mm_verdict verdict;
+    uint32_t outcome;
+    struct mm_answer answer;
+};
+
+typedef void act(struct call *call, uint8_t *out, size_t room);
+
+static void plan(struct call *call, uint8_t *out, size_t room) {
+    mm_plan(call->setup.octets, call->setup.length, call->second.octets, call->second.length, out, room, &call->answer);
+}
+
+static void check(struct call *call, uint8_t *out, size_t room) {
+    mm_check(call->setup.octets, call->setup.length, call->second.octets, call->second.length, call->plan.octets, call->plan.length, out,
+             room, &call->verdict, &call->answer);
+}
+
+static void chart(struct call *call, uint8_t *out, size_t room) {
+    mm_chart(call->setup.octets, call->setup.length, call->second.octets, call->second.length, call->plan.octets, call->plan.length, out,
+             room, &call->answer);
+}
+
+static void ask(struct call *call, uint8_t *out, size_t room) {
+    mm_ask(call->setup.octets, call->setup.length, call->second.octets, call->second.length, out, room, &call->outcome, &call->answer);
+}
+
+/* A command, with the number of its files and a first guess of the room that its text needs. */
+struct command {
+    const char *name;
+    int files;
+    size_t room;
+    act *act;
+};
+
+static const struct command commands[] = {
+    {"plan", 2, MM_PLAN_ROOM, plan},
+    {"check", 3, MM_LINE_ROOM, check},
+    {"chart", 3, 131072, chart},
+    {"ask", 2, 4096, ask},
+};
+
+/* Reads a file whole; the octets are null where that fails. */
+static struct text read_file(const char *name) {
+    struct text text = {NULL, 0};
+    size_t room = 4096, got;
+    FILE *file = fopen(name, "rb");
+    if (file == NULL) {
+        return text;
+    }
+    text.octets = malloc(room);
+    while (text.octets != NULL && (got = fread(text.octets + text.length, 1, room - text.length, file)) > 0) {
+        text.length += got;
+        if (text.length == room) {
+            uint8_t *more = realloc(text.octets, room *= 2);
+            if (more == NULL) {
+                free(text.octets);
+            }
+            text.octets = more;
+        }
+    }
+    if (ferror(file)) {
+        free(text.octets);
+        text.octets = NULL;
+    }
+    fclose(file);
+    return text;
+}
+
+/* Makes the call, a second time where the first guess was too small. The text is null where there is none. */
+static uint8_t *make(const struct command *command, struct call *call) {
+    size_t room = command->room;
+    uint8_t *out = malloc(room);
+    if (out == NULL) {
+        return NULL;
+    }
+    command->act(call, out, room);
+    if (call->answer.status == MM_TOO_SMALL) {
+        free(out);
+        room = call->answer.length;
+        out = malloc(room);
+        if (out == NULL) {
+            return NULL;
+        }
+        command->act(call, out, room);
+    }
+    return out;
+}
+
+/* Prints the text or the refusal. */
+static int print(const struct call *call, const uint8_t *out) {
+    uint8_t words[1024];
+    struct mm_answer said;
+    if (call->answer.status == MM_WRITTEN) {
+        fwrite(out, 1, call->answer.length, stdout);
+        return call->verdict.kind > MM_LEAST || call->outcome == MM_SOME_REFUSED;
+    }
+    mm_words(&call->answer.refused, words, sizeof words, &said);
+    if (said.status == MM_WRITTEN) {
+        fprintf(stderr, "%.*s\n", (int)said.length, (const char *)words);
+    } else {
+        fprintf(stderr, "refused %u\n", (unsigned)call->answer.refused.number);
+    }
+    return 1;
+}
+
+static int run(const struct command *command, char **names) {
+    struct call call = {0};
+    struct text *const texts[] = {&call.setup, &call.second, &call.plan};
+    uint8_t *out = NULL;
+    int status = 2, read = 0;
+    while (read < command->files && (*texts[read] = read_file(names[read])).octets != NULL) {
+        read++;
+    }
+    if (read < command->files) {
+        fprintf(stderr, "not read: %s\n", names[read]);
+    } else if ((out = make(command, &call)) == NULL) {
+        fprintf(stderr, "out of memory\n");
+    } else {
+        status = print(&call, out);
+    }
+    free(out);
+    while (read > 0) {
+        free(texts[--read]->octets);
+    }
+    return status;
+}
+
+int main(int count, char **words) {
+    for (size_t k = 0; k < sizeof commands / sizeof commands[0]; k++) {
+        if (count == commands[k].files + 2 && strcmp(words[1], commands[k].name) == 0) {
+            return run(&commands[k], words + 2);
+        }
+    }
+    fprintf(stderr, "usage: tool plan SETUP FORECAST | check SETUP FORECAST PLAN | chart SETUP FORECAST PLAN | ask SETUP REQUESTS\n");
+    return 2;
+}

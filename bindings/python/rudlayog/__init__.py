@@ -1,0 +1,43 @@
+"""Plans the downlink of a spacecraft's mass memory, judges a plan, draws it, and answers telecommands of the storage service.
+
+    >>> from rudlayog import Forecast, Setup, Store, check, plan
+    >>> setup = Setup.of([Store("SCI", size=4)])
+    >>> forecast = Forecast.of(windows=[2, 3], arrivals={"SCI": [5, 2]})
+    >>> made = plan(setup, forecast)
+    >>> made.loss, made.by_store["SCI"]
+    (1, (2, 3))
+    >>> bool(check(setup, forecast, made))
+    True
+
+The calls are those of a library whose answers are proved: no plan that fits loses fewer blocks than one that `plan` makes, and `check`
+answers `least` only of such a plan. This package writes the texts that the library reads, and reads those that it writes; that part is
+not proved. A call lets go of Python's lock, so calls run in several threads at once. Do not make one in the forked child of a process
+with threads: start processes by `spawn`.
+"""
+
+from .calls import Chart, Replies, Verdict, ask, chart, check, plan, version
+from .forecasts import Forecast
+from .plans import Cut, Plan, Stretch
+from .refusals import Refusal
+from .setups import Limit, Route, Setup, Store
+
+__all__ = [
+    "Chart",
+    "Cut",
+    "Forecast",
+    "Limit",
+    "Plan",
+    "Refusal",
+    "Replies",
+    "Route",
+    "Setup",
+    "Store",
+    "Stretch",
+    "Verdict",
+    "ask",
+    "chart",
+    "check",
+    "plan",
+    "version",
+]
+__version__ = "0.1.0"

@@ -1,0 +1,100 @@
+#!/usr/bin/env python3
+"""Compares the package with the program on random texts, good and bad: `compare.py PROGRAM CALLS SEED`. What goes to standard output, the
+status and the words of each refusal must be the same. Prints one line where they are."""
+
+import random
+import subprocess
+import sys
+import tempfile
+from pathlib import Path
+
+sys.path.insert(0, str(Path(__file__).resolve().parents[1]))
+from rudlayog import Forecast, Limit, Refusal, Route, Setup, Store, ask, chart, check, plan  # noqa: E402
+
+EXAMPLES = Path(__file__).resolve().parents[3] / "examples"
+REQUESTS = (EXAMPLES / "requests" / "requests.hex").read_text().split("\n")
+COMMANDS = {"plan": ("setup", "forecast"), "check": ("setup", "forecast", "plan"), "chart": ("setup", "forecast", "plan"), "ask": ("setup", "requests")}
+
+
+def setup(dice: random.Random) -> Setup:
+    names = dice.sample(["SCI", "HK", "IMG_1", "X-2", "ABCDEFGH", "0"], dice.randint(1, 5))
+    stores = []
+    for name in names:
+        size = dice.choice([1, 3, 9, 200, 1_000_000])
+        stores.append(Store(name, size, dice.choice(["bounded", "circular"]), dice.randint(0, 7), dice.randint(0, min(size, 9))))
+    routes = {(dice.randint(0, 2046), dice.randint(0, 255), dice.randint(0, 255)) for _ in range(dice.randint(0, 3))}
+    channels = dice.sample(range(8), dice.randint(0, 2))
+    return Setup.of(stores, [Route(*key, dice.choice(names)) for key in sorted(routes)], [Limit(channel, dice.randint(0, 4)) for channel in channels])
+
+
+def forecast(dice: random.Random, stores: Setup) -> Forecast:
+    steps = dice.choice([1, 2, 5, 12, 40])
+    most = dice.choice([3, 9, 400])
+    return Forecast.of([dice.randint(0, most) for _ in range(steps)], {store.id: [dice.randint(0, most) for _ in range(steps)] for store in stores.stores})
+
+
+def spoiled(dice: random.Random, text: bytes) -> bytes:
+    """The text with one octet changed, left out or put in, or one line left out or repeated."""
+    if not text or dice.random() < 0.5:
+        return text
+    at = dice.randrange(len(text))
+    if dice.random() < 0.3:
+        lines = text.split(b"\n")
+        at = dice.randrange(len(lines))
+        lines[at : at + 1] = [lines[at]] * dice.choice([0, 2])
+        return b"\n".join(lines)
+    octet = bytes([dice.choice(b'0123456789 ,\n"=[]AZaz-\xff\x00')])
+    return dice.choice([text[:at] + octet + text[at + 1 :], text[:at] + text[at + 1 :], text[:at] + octet + text[at:]])
+
+
+def texts(dice: random.Random) -> dict[str, bytes]:
+    good = setup(dice)
+    coming = forecast(dice, good)
+    made = bytes(plan(good, coming))
+    lines = [dice.choice(REQUESTS) for _ in range(dice.randint(0, 6))]
+    found = {"setup": bytes(good), "forecast": bytes(coming), "plan": made, "requests": "\n".join(lines).encode()}
+    return {name: spoiled(dice, text) for name, text in found.items()}
+
+
+def answered(command: str, given: list[bytes]) -> tuple[bytes, int, str]:
+    """What the package answers: as standard output, as a status, and as words."""
+    try:
+        if command == "plan":
+            return bytes(plan(*given)), 0, ""
+        if command == "check":
+            verdict = check(*given)
+            return f"{verdict.line}\n".encode(), 0 if verdict else 1, ""
+        if command == "chart":
+            return chart(*given).svg.encode(), 0, ""
+        replies = ask(*given)
+        return replies.text.encode(), 0 if replies.all_done else 1, ""
+    except Refusal as refusal:
+        return f"refused {refusal.text()}\n".encode(), 1, f"expected {refusal.expected}; {refusal.advice}"
+
+
+def main() -> int:
+    program, calls, seed = sys.argv[1], int(sys.argv[2]), int(sys.argv[3])
+    dice = random.Random(seed)
+    refused = 0
+    with tempfile.TemporaryDirectory() as room:
+        for call in range(calls):
+            command = dice.choice(list(COMMANDS))
+            found = texts(dice)
+            given = [found[name] for name in COMMANDS[command]]
+            names = [str(Path(room, name)) for name in COMMANDS[command]]
+            for name, text in zip(names, given, strict=True):
+                Path(name).write_bytes(text)
+            ran = subprocess.run([program, command, *names], capture_output=True, check=False)
+            words = ran.stderr.decode()
+            said = words[words.index("expected ") :].rstrip("\n") if words else ""
+            if (ran.stdout, ran.returncode, said) != answered(command, given):
+                print(f"compare: call {call} of seed {seed}, {command}: the package and the program answer differently")
+                print(f"program: {ran.stdout[:300]!r} {ran.returncode} {said!r}\npackage: {answered(command, given)!r}"[:2000])
+                return 1
+            refused += bool(said)
+    print(f"compare: {calls} calls, {refused} of them refused: package and program answer the same")
+    return 0
+
+
+if __name__ == "__main__":
+    sys.exit(main())

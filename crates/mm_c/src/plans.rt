@@ -1,0 +1,88 @@
+//! Plans, verdicts on them, and their charts.
+ghost use Rattle.std.specs.Prelude.{◌≤◌, length};
+ghost use Rattle.mm_planner.specs.PlanTexts.{PlansLeast};
+ghost use Rattle.mm_chart.specs.Charts.{Charts};
+ghost use Rattle.mm_told.specs.Telling.{Tells};
+ghost use Rattle.mm_c.specs.Telling.{IsWhyUnplanned, IsWhyUnjudged, Judges, LeavesUnjudged, IsNotTooSmall};
+
+use mm_chart::chart_bytes;
+use mm_check::check_bytes;
+use mm_planner::plan_bytes;
+use mm_told::{Answer, PLAN_ROOM, Reason, VerdictTold, plan_texts_fit, tell_text};
+use std::alloc::Global;
+
+// What is told of the plan for a setup and a forecast.
+fn plan_told(alloc: Global, setup: &[u8], forecast: &[u8], out: &mut [u8]) -> Answer
+    ensures told { Tells (PlansLeast setup.now forecast.now) (IsWhyUnplanned setup.now forecast.now) out.old out.new result }
+    ensures room { PLAN_ROOM ≤ length out.old → IsNotTooSmall result }
+{
+    plan_texts_fit();
+    match plan_bytes(alloc, setup, forecast) {
+        Ok(text) => tell_text(&text, out),
+        Err(fault) => Answer::refused(Reason::of_texts(fault)),
+    }
+}
+
+/// The text of a dump plan that loses least for a setup and a forecast, as `plan_bytes` of `mm_planner` gives it. It is written into
+/// `out`, if there is room for all of it; otherwise `out` stays as it was, and so it does where the call is refused. `PLAN_ROOM` octets
+/// are never too few.
+#[unsafe(no_mangle)]
+pub extern "C" fn mm_plan(
+    alloc: Global,
+    setup: &[u8],
+    forecast: &[u8],
+    out: &mut [u8],
+    answer: &mut Answer,
+)
+    ensures told { Tells (PlansLeast setup.now forecast.now) (IsWhyUnplanned setup.now forecast.now) out.old out.new answer.new }
+    ensures room { PLAN_ROOM ≤ length out.old → IsNotTooSmall answer.new }
+{
+    *answer = plan_told(alloc, setup, forecast, out);
+}
+
+/// The verdict on a plan text for a setup and a forecast, as `check_bytes` of `mm_check` gives it: in `verdict`, and as its line in
+/// `out`. Where the call is refused each field of `verdict` is 0.
+#[unsafe(no_mangle)]
+pub extern "C" fn mm_check(
+    alloc: Global,
+    setup: &[u8],
+    forecast: &[u8],
+    plan: &[u8],
+    out: &mut [u8],
+    verdict: &mut VerdictTold,
+    answer: &mut Answer,
+)
+    ensures told { Tells (Judges setup.now forecast.now plan.now verdict.new)
+        (LeavesUnjudged setup.now forecast.now plan.now verdict.new) out.old out.new answer.new }
+{
+    match check_bytes(alloc, setup, forecast, plan) {
+        Ok((judged, line)) => {
+            *verdict = VerdictTold::of(judged);
+            *answer = tell_text(&line, out);
+        }
+        Err(fault) => {
+            *verdict = VerdictTold::nothing();
+            *answer = Answer::refused(Reason::of_texts(fault));
+        }
+    }
+}
+
+/// The chart of a plan text for a setup and a forecast, as `chart_bytes` of `mm_chart` draws it: a document of Scalable Vector Graphics
+/// (SVG) 1.1 by itself.
+#[unsafe(no_mangle)]
+pub extern "C" fn mm_chart(
+    alloc: Global,
+    setup: &[u8],
+    forecast: &[u8],
+    plan: &[u8],
+    out: &mut [u8],
+    answer: &mut Answer,
+)
+    ensures told { Tells (Charts setup.now forecast.now plan.now) (IsWhyUnjudged setup.now forecast.now plan.now)
+        out.old out.new answer.new }
+{
+    *answer = match chart_bytes(alloc, setup, forecast, plan) {
+        Ok(text) => tell_text(&text, out),
+        Err(fault) => Answer::refused(Reason::of_texts(fault)),
+    };
+}

@@ -1,0 +1,30 @@
+//! The words of a refusal, and the version of the library.
+ghost use Rattle.mm_told.specs.Telling.{Tells, TellsText};
+ghost use Rattle.mm_told.specs.Wording.{SaysTold};
+ghost use Rattle.mm_c.specs.Telling.{IsNoMemory};
+
+use mm_told::{Answer, Reason, RefusedAt, tell_text, words_of};
+use std::alloc::Global;
+
+/// The version of the library: that of its calls and of the texts that they take and give.
+pub const VERSION: &[u8] = b"0.1.0";
+
+/// The words of a refusal for people, in one line without its end: its number, its name and its fields, what was expected, and what to
+/// do. There is no octet where no refusal has these codes.
+#[unsafe(no_mangle)]
+pub extern "C" fn mm_words(alloc: Global, refused: &RefusedAt, out: &mut [u8], answer: &mut Answer)
+    ensures told { Tells (SaysTold refused.now) IsNoMemory out.old out.new answer.new }
+{
+    *answer = match words_of(alloc, refused) {
+        Ok(text) => tell_text(&text, out),
+        Err(_) => Answer::refused(Reason::no_memory()),
+    };
+}
+
+/// The version of the library.
+#[unsafe(no_mangle)]
+pub extern "C" fn mm_version(out: &mut [u8], answer: &mut Answer)
+    ensures told { TellsText VERSION.now out.old out.new answer.new }
+{
+    *answer = tell_text(VERSION, out);
+}

@@ -1,0 +1,3 @@
+pub mod ReadBack
+pub mod Rooms
+pub mod Tables

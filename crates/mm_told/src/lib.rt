@@ -1,0 +1,20 @@
+//! What a call from C or Python is told: a text in a buffer of the caller's, or a refusal with its place.
+#![tactic(auto)]
+
+mod answer;
+mod codes;
+mod reason;
+mod refused_at;
+mod room;
+mod spot;
+mod verdict;
+mod words;
+
+pub use answer::{Answer, Status, tell_text};
+pub use codes::{NAMES, PLACES, Place, REFUSALS};
+pub use reason::Reason;
+pub use refused_at::RefusedAt;
+pub use room::{PLAN_ROOM, plan_texts_fit};
+pub use spot::Spot;
+pub use verdict::{VerdictKind, VerdictTold};
+pub use words::words_of;
