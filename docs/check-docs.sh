@@ -13,7 +13,7 @@
 # - each must-fail edit is named in docs/PROMISES.md in a sentence that begins with 'Refused:', each edit named there is there, each promise
 #   names one, and there are at most as many as the gate has time for;
 # - each refusal of mm_base's table has one row in the tables of refusals of docs/FORMATS.md, with its number, its name and the
-#   words of mm_words; and the test and the crate that 'Where each refusal is met' names for a refusal are there.
+#   words of mm_words; 'Where each refusal is met' has a row for each, and the test and the crate that it names are there.
 # The commands of one document are run one after another in one new folder, in which the top of the repository is seen, but not its
 # folder out.
 # The program must be built from the sources that are there: `./mm_tool --help` builds it. Prints one line where all is well.
@@ -304,14 +304,22 @@ check_refusals() {
   done < <(refusals)
 }
 
-# The tests that docs/FORMATS.md names for refusals.
+# The tests that docs/FORMATS.md names for refusals: at least one for each, in a crate whose sources name the refusal.
 check_refusal_tests() {
-  local refusal name crate
+  local refusal name crate number case
+  awk '/^## /{inside = /^## Where each refusal is met/} inside && /^\| `/' "$top/docs/FORMATS.md" | tr -d '`' >"$work/met"
+  while read -r number name _; do
+    grep -q "^| $number $name |" "$work/met" || fail "docs/FORMATS.md: no row says where $number $name is met"
+  done < <(refusals)
   while IFS='|' read -r _ refusal name crate _; do
+    read -r number case <<<"$refusal"
+    refusals | grep -q "^$number $case " || fail "docs/FORMATS.md: a row says where $number $case is met, which is no refusal"
     name=${name// /} crate=${crate// /}
     grep -rqE --include='*.rt' --exclude-dir=out "^ *fn $name\(" "$top/crates/$crate/src" ||
-      fail "docs/FORMATS.md: $crate has no test $name, in which$refusal is met"
-  done < <(awk '/^## /{inside = /^## Where each refusal is met/} inside && /^\| `/' "$top/docs/FORMATS.md" | tr -d '`')
+      fail "docs/FORMATS.md: $crate has no test $name, in which $number $case is met"
+    grep -rqw --include='*.rt' --exclude-dir=out -- "$case" "$top/crates/$crate/src" ||
+      fail "docs/FORMATS.md: no source of $crate names $number $case"
+  done <"$work/met"
 }
 
 if is_built; then is_ready=1; else is_ready=0; fi

@@ -1,7 +1,8 @@
-//! A store that is deleted with its routes from a memory of sixteen stores.
+//! A store that is deleted with its routes from a memory of sixteen stores, and what is refused before and after that.
 use crate::met::Met;
 use mm_base::StoreId;
-use mm_memory::{Answer, Memory};
+use mm_memory::{Answer, Fault, Memory};
+use mm_packet::Packet;
 use mm_problem::Setup;
 use mm_st15::{Entries, Request, Target};
 use std::alloc::{AllocError, Global};
@@ -46,19 +47,107 @@ pub(crate) fn target(alloc: Global, id: &StoreId) -> Option<Entries<Target>> {
     Some(Entries::new(targets))
 }
 
-// Whether the store is there, how many stores there are, and how many routes.
-fn seen(memory: &Memory, id: &StoreId) -> (bool, bool, usize) {
+// Whether the store C is there, how many stores there are, and how many routes.
+type Seen = (bool, usize, usize);
+
+// A request as its packet, its answers, whether one of these may be want of memory, and what it leaves.
+#[derive(Clone, Copy)]
+struct Step {
+    packet: &'static [u8],
+    answers: &'static [Answer],
+    may_lack: bool,
+    left: Seen,
+}
+
+const STORAGE_ON: Answer = Answer::Refused(Fault::State(mm_desk::Fault::StorageOn));
+
+static STEPS: [Step; 8] = [
+    // A seventeenth store, Z.
+    Step {
+        packet: b"\x18\x64\xC0\0\0\x13\x20\x0F\x14\0\0\x01Z       \0\0\0\x04\x01\0",
+        answers: &[Answer::Refused(Fault::TooManyStores)],
+        may_lack: false,
+        left: (true, 16, 16),
+    },
+    // The store C is deleted, whose storage is on; its storage is turned off, and then it is deleted with its route.
+    Step {
+        packet: b"\x18\x64\xC0\0\0\x0D\x20\x0F\x15\0\0\x01C       ",
+        answers: &[STORAGE_ON],
+        may_lack: false,
+        left: (true, 16, 16),
+    },
+    Step {
+        packet: b"\x18\x64\xC0\0\0\x0D\x20\x0F\x02\0\0\x01C       ",
+        answers: &[Answer::Done],
+        may_lack: false,
+        left: (true, 16, 16),
+    },
+    Step {
+        packet: b"\x18\x64\xC0\0\0\x0D\x20\x0F\x15\0\0\x01C       ",
+        answers: &[Answer::Done],
+        may_lack: false,
+        left: (false, 15, 15),
+    },
+    // Its storage is turned on.
+    Step {
+        packet: b"\x18\x64\xC0\0\0\x0D\x20\x0F\x01\0\0\x01C       ",
+        answers: &[Answer::Refused(Fault::NoSuchStore)],
+        may_lack: false,
+        left: (false, 15, 15),
+    },
+    // It is created without a block, and then with four.
+    Step {
+        packet: b"\x18\x64\xC0\0\0\x13\x20\x0F\x14\0\0\x01C       \0\0\0\0\x01\0",
+        answers: &[Answer::Refused(Fault::BadSize)],
+        may_lack: false,
+        left: (false, 15, 15),
+    },
+    Step {
+        packet: b"\x18\x64\xC0\0\0\x13\x20\x0F\x14\0\0\x01C       \0\0\0\x04\x01\0",
+        answers: &[Answer::Done],
+        may_lack: true,
+        left: (true, 16, 15),
+    },
+    // Storage off for an identifier in small letters, and for C.
+    Step {
+        packet: b"\x18\x64\xC0\0\0\x15\x20\x0F\x02\0\0\x02sci     C       ",
+        answers: &[Answer::Refused(Fault::BadId), Answer::Done],
+        may_lack: false,
+        left: (true, 16, 15),
+    },
+];
+
+// The requests of the steps, where there is room for them.
+fn requests_in_room(alloc: Global) -> Option<Vec<Request>> {
+    let mut requests = Vec::new(alloc);
+    for step in &STEPS {
+        let (packet, _rest) = Packet::parse(alloc, step.packet).ok()?;
+        requests.push(Request::read(alloc, &packet).ok()?).ok()?;
+    }
+    Some(requests)
+}
+
+fn seen(memory: &Memory, id: &StoreId) -> Seen {
     (
         memory.state(id).is_some(),
-        memory.entry(15).is_some(),
+        memory.stores().len(),
         memory.control().list().len(),
     )
 }
 
-// Whether one instruction was carried out, and nothing was reported; nothing where the whole request found no memory.
-fn is_done(alloc: Global, memory: &mut Memory, request: &Request) -> Option<bool> {
-    let answers = memory.apply(alloc, 1, request).ok()?;
-    Some(answers.each.as_slice() == [Answer::Done].as_slice() && answers.reports.is_empty())
+// What a request without reports is answered: as in its step, or that there is no memory, for all of it or for its one instruction.
+fn asked(alloc: Global, memory: &mut Memory, request: &Request, step: &Step) -> Met {
+    let Ok(answers) = memory.apply(alloc, 1, request) else {
+        return Met::Wanted;
+    };
+    let each = answers.each.as_slice();
+    let lacks = each == [Answer::Refused(Fault::NoMemory)].as_slice();
+    let met = if step.may_lack && lacks {
+        Met::Refused
+    } else {
+        Met::Whole.provided(each == step.answers, "another answer")
+    };
+    met.provided(answers.reports.is_empty(), "a report")
 }
 
 // What came of a request. One that found no memory has changed nothing, and is carried out once more.
@@ -67,29 +156,32 @@ fn carried_out_or_unchanged(
     memory: &mut Memory,
     id: &StoreId,
     request: &Request,
-    after: (bool, bool, usize),
+    step: &Step,
 ) -> Met {
     let before = seen(memory, id);
-    let (met, done) = match is_done(alloc, memory, request) {
-        Some(done) => (Met::Whole, done),
-        None => {
-            let met = Met::Wanted.provided(seen(memory, id) == before, "changed without memory");
-            (met, is_done(alloc, memory, request).unwrap_or(false))
-        }
-    };
-    met.provided(done, "another answer")
-        .provided(seen(memory, id) == after, "another memory")
+    let mut met = asked(alloc, memory, request, step);
+    if matches!(met, Met::Wanted | Met::Refused) {
+        let same = seen(memory, id) == before;
+        let again = asked(alloc, memory, request, step);
+        met = met.provided(same, "changed without memory").provided(
+            matches!(again, Met::Whole),
+            "another answer after want of memory",
+        );
+    }
+    met.provided(seen(memory, id) == step.left, "another memory")
 }
 
-// What storage off and then a deletion come to; nothing where there was no memory to ask.
+// What the steps come to; nothing where there was no memory to ask.
 fn deleted_in_room(alloc: Global) -> Option<Met> {
     let id = StoreId::of_text(b"C").ok()?;
     let mut memory = memory_in_room(alloc)?;
-    let off = Request::DisableStorage(target(alloc, &id)?);
-    let out = Request::DeleteStores(target(alloc, &id)?);
-    let first = carried_out_or_unchanged(alloc, &mut memory, &id, &off, (true, true, 16));
-    let second = carried_out_or_unchanged(alloc, &mut memory, &id, &out, (false, false, 15));
-    Some(first.and(second))
+    let requests = requests_in_room(alloc)?;
+    let mut met = Met::Whole.provided(requests.len() == STEPS.len(), "another number of requests");
+    for (request, step) in requests.iter().zip(&STEPS) {
+        let one = carried_out_or_unchanged(alloc, &mut memory, &id, request, step);
+        met = met.and(one);
+    }
+    Some(met)
 }
 
 /// What came of the requests that delete a store with its routes.

@@ -1,8 +1,9 @@
 //! What the calls of a part met.
+use std::fmt;
 
 /// What the calls of a part answered, where one growth may be refused.
 #[derive(Clone, Copy)]
-pub(crate) enum Met {
+pub enum Met {
     /// Memory lacked for what the calls are made on.
     Unready,
     /// A call answered that memory was wanted.
@@ -38,6 +39,22 @@ impl Met {
             self
         } else {
             self.and(Met::Wrong(wrong))
+        }
+    }
+}
+
+/// Shown as the line that `bench/growths` reads.
+impl fmt::Display for Met {
+    fn fmt<W: fmt::Write>(&self, f: &mut fmt::Formatter<W>) -> fmt::Result {
+        match *self {
+            Met::Unready => write!(f, "there was no memory to begin the calls"),
+            Met::Wanted => write!(f, "memory was wanted"),
+            Met::Refused => write!(f, "an instruction found no memory"),
+            Met::Unplanned => write!(f, "there was no memory to plan"),
+            Met::Halted(step) => write!(f, "halted in step {step}"),
+            Met::HaltedOn(step) => write!(f, "halted in step {step}, and a retrieval was on"),
+            Met::Whole => write!(f, "all was as with ample memory"),
+            Met::Wrong(told) => write!(f, "wrong: {told}"),
         }
     }
 }

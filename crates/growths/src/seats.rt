@@ -48,16 +48,19 @@ fn packet(alloc: Global, count: u16) -> Result<BlockPacket, NoMemory> {
     }
 }
 
-fn told_of_offer(answer: Result<Offered, Returned>, count: u16) -> Told {
+// What an offer is answered. The packet that comes back is put where it was taken from.
+fn told_of_offer(
+    answer: Result<Offered, Returned>,
+    count: u16,
+    packet: &mut Option<BlockPacket>,
+) -> Told {
     match answer {
         Ok(Offered::Kept(time)) => Told::Kept(time),
         Ok(_) => Told::Other,
         Err(back) => {
-            if back.fault == Fault::NoMemory && back.packet.packet().count() == count {
-                Told::NoMemory
-            } else {
-                Told::Other
-            }
+            let lacks = back.fault == Fault::NoMemory && back.packet.packet().count() == count;
+            *packet = Some(back.packet);
+            if lacks { Told::NoMemory } else { Told::Other }
         }
     }
 }
@@ -86,17 +89,27 @@ fn told_of(answer: Result<(), Fault>) -> Told {
     }
 }
 
+// The packet of an offer, and none for another call.
+fn packet_for(alloc: Global, ask: Ask) -> Result<Option<BlockPacket>, NoMemory> {
+    match ask {
+        Ask::Offer(_, count) => Ok(Some(packet(alloc, count)?)),
+        _ => Ok(None),
+    }
+}
+
+// What a call answers, which offers the packet that was made for it.
 fn answer<N: Opening, R: Wait>(
     rt: &R,
     alloc: Global,
     desk: &Desk<N>,
     seat: &mut Seat<N>,
     ask: Ask,
+    made: &mut Option<BlockPacket>,
 ) -> Told {
     match ask {
-        Ask::Offer(now, count) => match packet(alloc, count) {
-            Ok(packet) => told_of_offer(desk.offer(rt, alloc, seat, now, packet), count),
-            Err(NoMemory) => Told::NoMemory,
+        Ask::Offer(now, count) => match made.take() {
+            Some(packet) => told_of_offer(desk.offer(rt, alloc, seat, now, packet), count, made),
+            None => Told::Other,
         },
         Ask::Begin(from, to) => told_of(desk.begin(rt, alloc, seat, from, to)),
         Ask::Next => told_of_next(desk.next(rt, alloc, seat)),
@@ -119,15 +132,20 @@ fn called<N: Opening, R: Wait>(
     let Some(seat) = seat else {
         return Met::Wrong("a seat is missing");
     };
+    // Without memory for its packet the call is made all the same, with a packet that is made once more.
+    let (met, mut made) = match packet_for(alloc, ask) {
+        Ok(made) => (Met::Whole, made),
+        Err(NoMemory) => (Met::Unready, packet_for(alloc, ask).unwrap_or(None)),
+    };
     let before = seat.list().len();
-    let first = answer(rt, alloc, desk, seat, ask);
+    let first = answer(rt, alloc, desk, seat, ask, &mut made);
     if first != Told::NoMemory {
-        return Met::Whole
+        return met
             .provided(first == want, "another answer")
             .provided(seat.list().len() > before, "a call that is not listed");
     }
     let unlisted = seat.list().len() == before;
-    let second = answer(rt, alloc, desk, seat, ask);
+    let second = answer(rt, alloc, desk, seat, ask, &mut made);
     Met::Wanted
         .provided(unlisted, "listed without memory")
         .provided(second == want, "another answer after want of memory")
@@ -169,7 +187,7 @@ fn seated<N: Opening, R: Wait>(rt: &R, alloc: Global, state: StoreState) -> Met
         Ok(opened) => opened,
         Err((state, _)) => {
             let right = state.offered() == 0 && state.storage();
-            return Met::Wanted.provided(right, "another state comes back");
+            return Met::Unready.provided(right, "another state comes back");
         }
     };
     let mut met = Met::Whole;

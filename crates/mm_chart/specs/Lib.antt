@@ -7,3 +7,4 @@ pub mod Words
 pub mod Charts
 pub mod Listed
 pub mod Shading
+pub mod Legend

@@ -1,5 +1,9 @@
 //! What the words of a chart show, over their definitions alone.
+ghost use Rattle.std.specs.Prelude.{◌≡◌, codes};
 ghost use Rattle.mm_chart.specs.Listed.{SumsAddUp, OnlyListedHelps};
+ghost use Rattle.mm_chart.specs.Legend.{legend};
+ghost use Rattle.mm_chart.specs.declared.document.TheConstants.{LEGEND};
+ghost use Rattle.mm_chart.specs.declared.words.TheConstants.{AS_ENDS, AT_LEAST, BY_LIMITS, BY_WINDOWS, COME, FEWER, HELP, HIGHER, IN_STRETCHES, LARGER, MARKED, MARKED_LIMITS, MARKED_PASSES, MARKED_WINDOWS, NO_FEWER, NO_HIGHER, NO_LIMITS, NO_WIDER, NO_WINDOWS, ONLY_SHOWN, STAND, WHY, WIDER};
 
 /// The four numbers of the sum give the number that follows it: the loss that no plan goes below, or the cut's bound.
 pub fn sums_add_up()
@@ -13,3 +17,43 @@ pub fn only_listed_helps()
 {
     mm_cut::only_counted_helps()
 }
+
+/// What the headline says of a cut, and what the colours mean.
+pub fn headline_words_are()
+    ensures least { NO_FEWER.now ≡ codes " blocks are lost, and no plan loses fewer" }
+    ensures shown { ONLY_SHOWN.now ≡ codes " blocks are lost; this cut shows only that no plan loses fewer than " }
+    ensures legend { LEGEND.now ≡ legend }
+{}
+
+/// The words of the sum, around its numbers.
+pub fn sum_words_are()
+    ensures heading { WHY.now ≡ codes "Why no plan loses fewer than " }
+    ensures stretches { IN_STRETCHES.now ≡ codes "In the shaded stretches " }
+    ensures come { COME.now ≡ codes " blocks come, or stand there as step 1 begins." }
+    ensures ends { AS_ENDS.now ≡ codes "As each stretch ends, at most " }
+    ensures stand { STAND.now ≡ codes " of them stand in the stores: the sizes of the stores." }
+    ensures windows { BY_WINDOWS.now ≡ codes " leave by the windows." }
+    ensures no_windows { NO_WINDOWS.now ≡ codes "No open window counts." }
+    ensures limits { BY_LIMITS.now ≡ codes " leave by the limits of the channels." }
+    ensures no_limits { NO_LIMITS.now ≡ codes "No limit of a channel counts." }
+    ensures follows { AT_LEAST.now ≡ codes ": at least that many blocks are lost, whatever is dumped." }
+{}
+
+/// The words of what would help.
+pub fn helping_words_are()
+    ensures heading { HELP.now ≡ codes "What would help: only these changes can lower the loss, and no change anywhere else can" }
+    ensures windows { WIDER.now ≡ codes " a wider window." }
+    ensures no_windows { NO_WIDER.now ≡ codes "No wider window." }
+    ensures limits { HIGHER.now ≡ codes " a higher limit of a channel marked there, or another channel for a store shaded there." }
+    ensures no_limits { NO_HIGHER.now ≡ codes "No higher limit, and no other channel for a store." }
+    ensures stores { LARGER.now ≡ codes "Larger stores:" }
+    ensures arrivals { FEWER.now ≡ codes "In the shaded stretches, fewer blocks that come, or stand there as step 1 begins." }
+{}
+
+/// What follows the number of steps that are too many to list.
+pub fn marked_words_are()
+    ensures windows { MARKED_WINDOWS.now ≡ codes " steps marked in the row of the windows," }
+    ensures passes { MARKED_PASSES.now ≡ codes " steps marked in the row of the windows that have one," }
+    ensures limits { MARKED_LIMITS.now ≡ codes " steps marked in the rows of the channels," }
+    ensures others { MARKED.now ≡ codes " steps," }
+{}

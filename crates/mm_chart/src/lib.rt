@@ -12,7 +12,10 @@ mod shades;
 mod words;
 
 pub use document::{chart_bytes, draw};
-pub use laws::{only_listed_helps, sums_add_up};
+pub use laws::{
+    headline_words_are, helping_words_are, marked_words_are, only_listed_helps, sum_words_are,
+    sums_add_up,
+};
 pub use mm_check::Fault;
 pub use picture::Picture;
 pub use series::Series;

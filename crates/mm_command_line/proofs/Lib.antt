@@ -5,3 +5,4 @@ pub mod Taking
 pub mod Reading
 pub mod Exact
 pub mod Spelled
+pub mod Versions

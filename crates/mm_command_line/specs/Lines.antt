@@ -1,5 +1,5 @@
 -- The words that ask for a task.
-use Rattle.std.specs.Prelude.{◌≡◌, ℕ, List, [], ◌∷◌, Option, Some, None, codes, drop, nat_eq, true, bytes_eq, if◌then◌else◌, Bool, ◌&&◌, nat_lt, length, chars}
+use Rattle.std.specs.Prelude.{◌≡◌, ℕ, List, [], ◌∷◌, Option, Some, None, codes, drop, nat_eq, true, false, bytes_eq, if◌then◌else◌, Bool, ◌&&◌, ◌||◌, nat_lt, length, chars}
 use Rattle.std.specs.List.{All, starts_with}
 use Rattle.mm_command_line.specs.declared.task.PlanFiles.{PlanFiles}
 use Rattle.mm_command_line.specs.declared.task.Task.{Task}
@@ -48,3 +48,13 @@ before_dashes (word ∷ rest) = if bytes_eq word (codes "--") then [] else word 
 -- the word is `-` with a character after it
 abbrev pub is_flag : List ℕ → Bool
 is_flag word = starts_with nat_eq word (codes "-") && nat_lt 1 (length (chars word))
+
+-- the word asks for the version: `--version` or `-V`
+abbrev pub is_version_word : List ℕ → Bool
+is_version_word word = bytes_eq word (codes "--version") || bytes_eq word (codes "-V")
+
+-- the words are one that asks for the version
+abbrev pub is_version_line : List (List ℕ) → Bool
+is_version_line [] = false
+is_version_line (word ∷ []) = is_version_word word
+is_version_line (word ∷ next ∷ rest) = false

@@ -22,6 +22,7 @@ Examples:
   mm_tool run setup.toml forecast.csv plan.txt sources.hex links.txt
   mm_tool fly setup.toml forecast.csv sources.hex links.txt
   mm_tool ask setup.toml requests.hex
+  mm_tool --version           prints the version, and the kit that the program is proved with
 
 Exit status: 0 where the task is done and, for check, the plan is least, for ask, nothing is refused; 1
 where something is refused, a run is halted, the verdict is another, or a write failed; 2 where the command

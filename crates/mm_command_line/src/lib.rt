@@ -6,6 +6,8 @@ mod command;
 mod flight;
 mod line;
 mod task;
+mod version;
 
 pub use line::parse;
 pub use task::{FlightFiles, PlanFiles, Role, Task};
+pub use version::{VERSION, asks_version};

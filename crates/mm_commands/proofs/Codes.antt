@@ -1,25 +1,30 @@
 -- What an exit status says of the words of a command line.
-use Rattle.std.proofs.Common.{◌≡◌, ◌≢◌, ◌≤◌, ℕ, List, Option, Result, Ok, Err, IfOk, IfErr, inl, inr, refl, arith}
+use Rattle.std.proofs.Common.{◌≡◌, ◌≢◌, ◌≤◌, ◌⊎◌, ℕ, List, Option, Result, Ok, Err, IfOk, IfErr, inl, inr, refl, arith}
 use Rattle.mm_system.specs.Statuses.{exit_code}
 use Rattle.mm_system.specs.declared.status.Status.{Status}
 use Rattle.mm_system.specs.declared.status.Status.TheVariants.{Done, Refused, BadCommandLine}
-use Rattle.mm_tasks.specs.Answers.{Contents}
-use Rattle.mm_commands.specs.Doing.{Does, IsDone}
+use Rattle.mm_system.specs.Contents.{Contents}
+use Rattle.mm_commands.specs.Doing.{Does, DoesTask, IsBadLine, IsDone, TellsVersion, WantsMemory}
 
 -- a task that was done is no refused one
-does-done : (contents : Contents) (words : List (List ℕ)) (before after : Option (List ℕ)) → Does contents words Done before after → IsDone contents words before after
-does-done contents words before after does = elim does [
-  | inl task ↦ elim task.told [
-    | inl prints ↦ record { task = task.task; asked = task.asked; prints = prints }
-    | inr refuses ↦ absurd (let is = refuses.status_is in cc)
-  ]
-  | inr other ↦ elim other [ inl wants ↦ absurd (let is = wants.status_is in cc) | inr bad ↦ absurd (let is = bad.status_is in cc) ]
+task-done : (contents : Contents) (words : List (List ℕ)) (before after : Option (List ℕ)) → DoesTask contents words Done before after → IsDone contents words before after
+task-done contents words before after task = elim task.told [
+  | inl prints ↦ record { task = task.task; asked = task.asked; prints = prints }
+  | inr refuses ↦ absurd (let is = refuses.status_is in cc)
 ]
+
+-- and no bad line
+does-done : (contents : Contents) (words : List (List ℕ)) (before after : Option (List ℕ)) → Does contents words Done before after
+    → IsDone contents words before after ⊎ TellsVersion words before after
+does-done contents words before after (inl task) = inl (task-done contents words before after task)
+does-done contents words before after (inr (inl wants)) = absurd (let is = wants.status_is in cc)
+does-done contents words before after (inr (inr (inl bad))) = absurd (let is = bad.status_is in cc)
+does-done contents words before after (inr (inr (inr tells))) = inr tells.0
 
 -- a run that ends with 0 has done the task
 pub code-done : {E : Type 0} (contents : Contents) (words : List (List ℕ)) (before after : Option (List ℕ)) (r : Result Status E) (code : ℕ)
     → IfOk r (λ status. code ≡ exit_code status) → IfErr r (λ e. code ≡ 1) → IfOk r (λ status. Does contents words status before after)
-    → code ≡ 0 → IsDone contents words before after
+    → code ≡ 0 → IsDone contents words before after ⊎ TellsVersion words before after
 code-done contents words before after (Ok Done) code is failed does zero = does-done contents words before after does
 code-done contents words before after (Ok Refused) code is failed does zero = absurd (omega (arith, is, zero))
 code-done contents words before after (Ok BadCommandLine) code is failed does zero = absurd (omega (arith, is, zero))

@@ -1,16 +1,18 @@
 -- What a run of the program has done.
-use Rattle.std.specs.Prelude.{◌≡◌, ◌⊎◌, ◌==◌, ℕ, List, [], ◌∷◌, Option}
+use Rattle.std.specs.Prelude.{◌≡◌, ◌⊎◌, ◌==◌, ℕ, Bool, true, false, List, [], ◌∷◌, Option}
 use Rattle.std.specs.List.{slice_split}
 use Rattle.std.specs.Str.{IsUtf8}
 use Rattle.std.specs.Io.KnownBytes.{Appends}
 use Rattle.mm_base.specs.Characters.{space}
-use Rattle.mm_system.specs.Scripts.{IsFirstLine, script_file}
+use Rattle.mm_system.specs.Contents.{Contents}
+use Rattle.mm_system.specs.Scripts.{IsFirstLine, script_contents}
 use Rattle.mm_system.specs.declared.files.ReadFault.TheVariants.{NoMemory}
 use Rattle.mm_system.specs.declared.status.Status.{Status}
 use Rattle.mm_system.specs.declared.status.Status.TheVariants.{Done, Refused, BadCommandLine}
-use Rattle.mm_command_line.specs.Lines.{IsTaskLine, spelling, without_dashes}
+use Rattle.mm_command_line.specs.Lines.{IsTaskLine, is_version_line, spelling, without_dashes}
+use Rattle.mm_command_line.specs.declared.version.TheConstants.{VERSION}
 use Rattle.mm_command_line.specs.declared.task.Task.{Task}
-use Rattle.mm_tasks.specs.Answers.{Contents, Prints}
+use Rattle.mm_tasks.specs.Answers.{Prints}
 use Rattle.mm_tasks.specs.Refusing.{Refuses, refused_input}
 
 -- the words of a line, separated by single spaces; an empty line has none
@@ -29,9 +31,15 @@ pub record WantsMemory (status : Status) (before after : Option (List ℕ)) : Ty
   pub told : Appends before after (refused_input NoMemory)
   pub status_is : status ≡ Refused
 
--- the words spell no task; only standard error says so
+-- the words ask for the version, which was printed
+pub record TellsVersion (words : List (List ℕ)) (before after : Option (List ℕ)) : Type 0 where
+  pub asked : is_version_line words ≡ true
+  pub printed : Appends before after VERSION.now
+
+-- the words spell no task, and do not ask for the version; only standard error says so
 pub record IsBadLine (words : List (List ℕ)) (status : Status) (before after : Option (List ℕ)) : Type 0 where
   pub no_task : IsTaskLine words → ⊥
+  pub no_version : is_version_line words ≡ false
   pub untold : after ≡ before
   pub status_is : status ≡ BadCommandLine
 
@@ -39,6 +47,7 @@ pub record IsBadLine (words : List (List ℕ)) (status : Status) (before after :
 abbrev pub Does : Contents → List (List ℕ) → Status → Option (List ℕ) → Option (List ℕ) → Type 0
 Does contents words status before after =
     DoesTask contents words status before after ⊎ WantsMemory status before after ⊎ IsBadLine words status before after
+    ⊎ (TellsVersion words before after × (status ≡ Done))
 
 -- the task that the words ask for was done: what was written between answers it
 pub record IsDone (contents : Contents) (words : List (List ℕ)) (before after : Option (List ℕ)) : Type 0 where
@@ -46,12 +55,12 @@ pub record IsDone (contents : Contents) (words : List (List ℕ)) (before after 
   pub asked : spelling task ≡ without_dashes words
   pub prints : Prints contents task Done before after
 
--- the task that the first line of a script asks for was done over the files that follow
+-- the task that the first line of a script asks for was done over the files that follow, or the line asks for the version
 pub record DoesScript (script : List ℕ) (before after : Option (List ℕ)) : Type 0 where
   pub line : List ℕ
   pub files : List ℕ
   pub split : IsFirstLine script line files
-  pub done : IsDone (script_file files) (words_in line) before after
+  pub done : IsDone (script_contents files) (words_in line) before after ⊎ TellsVersion (words_in line) before after
 
 -- the first line of a script spells a task
 pub record IsTaskScript (script : List ℕ) : Type 0 where

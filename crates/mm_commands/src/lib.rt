@@ -3,4 +3,6 @@
 
 mod run;
 
+pub use mm_system::files::{Device, Files, ReadFault, SystemFiles, read_to_end};
+pub use mm_system::{Status, Unwritten};
 pub use run::{refuse_input, run_script, run_tool, run_words};

@@ -1,24 +1,25 @@
 //! The program, over any files and any writers.
-ghost use Rattle.std.specs.Prelude.{◌≡◌, ◌≢◌, ◌≤◌, IfOk, map};
+ghost use Rattle.std.specs.Prelude.{◌≡◌, ◌≢◌, ◌≤◌, ◌⊎◌, IfOk, IfErr, map};
+ghost use Rattle.mm_system.specs.Statuses.{exit_code};
 ghost use Rattle.mm_system.specs.declared.status.Status.TheVariants.{BadCommandLine};
 ghost use Rattle.mm_command_line.specs.Lines.{IsTaskLine};
-ghost use Rattle.mm_commands.specs.Doing.{Does, DoesScript, IsDone, IsTaskScript, words_in};
+ghost use Rattle.mm_commands.specs.Doing.{Does, DoesScript, IsDone, IsTaskScript, TellsVersion, words_in};
 
 use clap::error::ErrorKind;
-use mm_command_line::parse;
-use mm_system::Status;
+use mm_command_line::{VERSION, asks_version, parse};
 use mm_system::files::{Files, ReadFault};
 use mm_system::script::{ScriptFiles, first_line};
+use mm_system::{Status, Unwritten};
 use mm_tasks::do_task;
 use std::alloc::{AllocError, Global};
 use std::convert::AsStr;
-use std::io::{self, Write};
+use std::io::Write;
 use std::sync::Wait;
 use std::thread::Threads;
 
 /// Does what the words of a command line, without the program's own name, ask for. What answers the task goes to `out`, and so
-/// does the line that says why it is refused. The texts of a bad command line and of help go to `err`, and so does the line
-/// that says what a refusal means. The error is that of a write that failed.
+/// do the line that says why it is refused, and the version. The texts of a bad command line and of help go to `err`, and so
+/// does the line that says what a refusal means. The error says which writer failed.
 pub fn run_words<R: Threads + Wait + Sync, S: AsStr, F: Files, W: Write, E: Write>(
     rt: &R,
     alloc: Global,
@@ -26,25 +27,43 @@ pub fn run_words<R: Threads + Wait + Sync, S: AsStr, F: Files, W: Write, E: Writ
     files: &mut F,
     out: &mut W,
     err: &mut E,
-) -> io::Result<Status>
+) -> Result<Status, Unwritten>
     ensures does { IfOk result (λ status. Does (F.content files.old) (map S.text words.now) status (W.contents out.old) (W.contents out.new)) }
     // Words that spell a task are no bad command line.
     ensures taken { IsTaskLine (map S.text words.now) → IfOk result (λ status. status ≢ BadCommandLine) }
 {
+    if asks_version(words) {
+        out.write_all(VERSION.as_bytes())
+            .map_err(|_| Unwritten::Output)?;
+        return Ok(Status::Done);
+    }
     match parse(alloc, words) {
         Ok(task) => do_task(rt, alloc, task, files, out, err),
         Err(error) if error.kind() == ErrorKind::OutOfMemory => {
             mm_tasks::refuse_input(ReadFault::NoMemory, out, err)
         }
         Err(error) => {
-            write!(err, "{error}")?;
+            write!(err, "{error}").map_err(|_| Unwritten::Messages)?;
             Ok(Status::BadCommandLine)
         }
     }
 }
 
-/// Runs the program on its words, as `run_words` does. The exit status is 0 where the task is done, 1 where something is
-/// refused, a verdict is not `Least` or a write failed, and 2 for a bad command line or a call for help.
+// The exit status of a run. Where standard output could not be written, standard error says so.
+fn end<E: Write>(run: Result<Status, Unwritten>, err: &mut E) -> u8
+    ensures code { IfOk run (λ status. result ≡ exit_code status) }
+    ensures failed { IfErr run (λ unwritten. result ≡ 1) }
+    ensures most { result ≤ 2 }
+{
+    if let Err(Unwritten::Output) = run {
+        let _told = writeln!(err, "mm_tool: standard output could not be written");
+    }
+    Status::code_of(run)
+}
+
+/// Runs the program on its words, as `run_words` does. The exit status is 0 where the task is done or the version is told, 1
+/// where something is refused, a verdict is not `Least` or a write failed, and 2 for a bad command line or a call for help.
+/// Where `out` could not be written, a line on `err` says so.
 pub fn run_tool<R: Threads + Wait + Sync, S: AsStr, F: Files, W: Write, E: Write>(
     rt: &R,
     alloc: Global,
@@ -54,12 +73,14 @@ pub fn run_tool<R: Threads + Wait + Sync, S: AsStr, F: Files, W: Write, E: Write
     err: &mut E,
 ) -> u8
     ensures status { result ≤ 2 }
-    // Where the exit status is 0, the task that the words ask for was done: what was written answers it.
-    ensures does { result ≡ 0 → IsDone (F.content files.old) (map S.text words.now) (W.contents out.old) (W.contents out.new) }
+    // Where the exit status is 0, the task that the words ask for was done: what was written answers it. Or they ask for the version.
+    ensures does { result ≡ 0 → IsDone (F.content files.old) (map S.text words.now) (W.contents out.old) (W.contents out.new)
+        ⊎ TellsVersion (map S.text words.now) (W.contents out.old) (W.contents out.new) }
     // Words that spell a task are no bad command line.
     ensures taken { IsTaskLine (map S.text words.now) → result ≤ 1 }
 {
-    Status::code_of(run_words(rt, alloc, words, files, out, err))
+    let run = run_words(rt, alloc, words, files, out, err);
+    end(run, err)
 }
 
 /// Runs the program on a script: a first line with the words, separated by single spaces, and then the files.
@@ -72,6 +93,7 @@ pub fn run_script<R: Threads + Wait + Sync, W: Write, E: Write>(
 ) -> u8
     ensures status { result ≤ 2 }
     // Where the exit status is 0, the task of the first line was done over the files of the script: what was written answers it.
+    // Or the line asks for the version.
     ensures does { result ≡ 0 → DoesScript script.now (W.contents out.old) (W.contents out.new) }
     ensures taken { IsTaskScript script.now → result ≤ 1 }
 {
@@ -111,5 +133,6 @@ fn words_of(alloc: Global, line: &str) -> Result<Vec<&str>, AllocError>
 pub fn refuse_input<W: Write, E: Write>(fault: ReadFault, out: &mut W, err: &mut E) -> u8
     ensures status { result ≡ 1 }
 {
-    Status::code_of(mm_tasks::refuse_input(fault, out, err))
+    let run = mm_tasks::refuse_input(fault, out, err);
+    end(run, err)
 }

@@ -1,10 +1,11 @@
 -- What the first line of a text says of its files.
-use Rattle.std.proofs.Common.{◌≡◌, ℕ, ◌+◌, true, false, List, [], ◌∷◌, ◌++◌, length, Some, refl, sym, ap, ◌∙◌, inl, inr, arith, append_assoc, ◌==◌}
+use Rattle.std.proofs.Common.{◌≡◌, ℕ, ◌+◌, true, false, List, [], ◌∷◌, ◌++◌, length, Option, Some, None, refl, sym, ap, ◌∙◌, inl, inr, arith, append_assoc, ◌==◌}
 use Rattle.std.proofs.lemmas.List.{append-nil}
 use Rattle.std.specs.Prelude.{bytes_eq}
 use Rattle.std.specs.List.{join_with_byte}
 use Rattle.std.proofs.lemmas.List.Splits.{length-slice_split, join_with_byte-slice_split}
 use Rattle.mm_base.specs.Lines.{text_lines}
+use Rattle.mm_system.specs.Contents.{MayBe, MayBeUnread, content_of}
 use Rattle.mm_system.specs.Scripts.{is_heading, heading_of, before_heading, file_in, IsFirstLine}
 
 -- a line before others ends with a line feed
@@ -43,3 +44,11 @@ found name text line rest (inr last) is = rw (last.0, last.1) (rw is refl)
 pub not_found : (name text line rest : List ℕ) → IsFirstLine text line rest → bytes_eq line (heading_of name) ≡ false → file_in name (text_lines text) ≡ file_in name (text_lines rest)
 not_found name text line rest (inl lines) other = rw lines (rw other refl)
 not_found name text line rest (inr last) other = rw (last.0, last.1) (rw other refl)
+
+-- what was read is the file, where there is one
+pub is_file : (file : Option (List ℕ)) (octets text : List ℕ) → Some octets ≡ file → text ≡ octets → MayBe (content_of file) text
+is_file file octets text is same = rw (← is) same
+
+-- and where there is none, it may be unread
+pub is_no_file : (file : Option (List ℕ)) → None ≡ file → MayBeUnread (content_of file)
+is_no_file file is = rw (← is) tt

@@ -3,6 +3,7 @@ use Rattle.std.specs.Prelude.{◌≡◌, ℕ, Bool, if◌then◌else◌, List, [
 use Rattle.std.specs.List.{starts_with}
 use Rattle.mm_base.specs.Characters.{line_feed}
 use Rattle.mm_base.specs.Lines.{text_lines}
+use Rattle.mm_system.specs.Contents.{Contents, content_of}
 
 -- what each heading starts with
 abbrev pub heading : List ℕ
@@ -30,6 +31,10 @@ file_in name (line ∷ rest) = if bytes_eq line (heading_of name) then Some (bef
 -- the file of this name in the text of a script after its first line
 unfoldable pub script_file : List ℕ → List ℕ → Option (List ℕ)
 script_file text name = file_in name (text_lines text)
+
+-- the files of that text: each is known, or there is none
+abbrev pub script_contents : List ℕ → Contents
+script_contents text = λ name. content_of (script_file text name)
 
 -- the line and the rest are what stands before and after the first line feed of a text, or the line is the whole text
 abbrev pub IsFirstLine : List ℕ → List ℕ → List ℕ → Type 0

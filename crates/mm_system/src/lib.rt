@@ -6,4 +6,4 @@ pub mod laws;
 pub mod script;
 mod status;
 
-pub use status::Status;
+pub use status::{Status, Unwritten};

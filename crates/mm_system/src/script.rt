@@ -1,8 +1,9 @@
 //! Scripts: the words of a command line, and then its files, in one text.
-ghost use Rattle.std.specs.Prelude.{◌≡◌, ◌<◌, ◌≤◌, length, bytes_eq, IfOk, IfErr, IfSome, IfNone, None};
+ghost use Rattle.std.specs.Prelude.{◌≡◌, ◌<◌, ◌≤◌, length, bytes_eq, IfOk, IfErr, IfSome, IfNone};
 ghost use Rattle.std.specs.Option.{option_map};
 ghost use Rattle.mm_base.specs.Lines.{text_lines};
-ghost use Rattle.mm_system.specs.Scripts.{IsFirstLine, is_heading, heading_of, before_heading, script_file};
+ghost use Rattle.mm_system.specs.Contents.{MayBe, MayBeUnread, content_of};
+ghost use Rattle.mm_system.specs.Scripts.{IsFirstLine, is_heading, heading_of, before_heading, script_contents, script_file};
 ghost use Rattle.mm_system.specs.declared.files.ReadFault.TheVariants.{NoMemory, NotRead};
 
 use crate::files::{Files, ReadFault};
@@ -91,13 +92,14 @@ impl<'a> ScriptFiles<'a> {
 }
 
 impl Files for ScriptFiles<'_> {
-    ghost content = { λ text name. script_file text name };
+    ghost content = { λ text. script_contents text };
 
+    #[tactic(auto, using(crate::proofs::ScriptLemmas::is_file, crate::proofs::ScriptLemmas::is_no_file))]
     fn read(&mut self, alloc: Global, name: &str) -> Result<Vec<u8>, ReadFault>
-        ensures whole { IfOk result (λ text. IfSome (script_file self.old name.now) (λ octets. text.items ≡ octets)) }
+        ensures whole { IfOk result (λ text. MayBe (content_of (script_file self.old name.now)) text.items) }
         ensures found { IfSome (script_file self.old name.now) (λ _. IfErr result (λ fault. fault ≡ NoMemory)) }
         ensures none { IfNone (script_file self.old name.now) (result ≡ Err NotRead) }
-        ensures unread { IfErr result (λ fault. fault ≡ NotRead → script_file self.old name.now ≡ None) }
+        ensures unread { IfErr result (λ fault. fault ≡ NotRead → MayBeUnread (content_of (script_file self.old name.now))) }
         ensures stays { self.new ≡ self.old }
     {
         let text = self.find(name.as_bytes()).ok_or(ReadFault::NotRead)?;

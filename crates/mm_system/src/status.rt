@@ -2,8 +2,6 @@
 ghost use Rattle.std.specs.Prelude.{◌≡◌, ◌≤◌, IfOk, IfErr};
 ghost use Rattle.mm_system.specs.Statuses.{exit_code};
 
-use std::io;
-
 /// How a run of the program ended.
 #[derive(Clone, Copy)]
 pub enum Status {
@@ -12,6 +10,15 @@ pub enum Status {
     Refused,
     /// The command line is no good, or help was asked for.
     BadCommandLine,
+}
+
+/// Which of the program's writers failed.
+#[derive(Clone, Copy, Debug, PartialEq, Eq)]
+pub enum Unwritten {
+    /// The one for what answers a task, and for why it is refused: standard output.
+    Output,
+    /// The one for what a refusal means, and for help: standard error.
+    Messages,
 }
 
 impl Status {
@@ -28,9 +35,9 @@ impl Status {
     }
 
     /// The exit status of a run, where a write that failed counts as a refusal.
-    pub fn code_of(run: io::Result<Status>) -> u8
+    pub fn code_of(run: Result<Status, Unwritten>) -> u8
         ensures code { IfOk run (λ status. result ≡ exit_code status) }
-        ensures failed { IfErr run (λ error. result ≡ 1) }
+        ensures failed { IfErr run (λ unwritten. result ≡ 1) }
         ensures most { result ≤ 2 }
     {
         match run {

@@ -12,7 +12,8 @@ use Rattle.mm_system.specs.declared.status.Status.{Status}
 use Rattle.mm_system.specs.declared.status.Status.TheVariants.{BadCommandLine}
 use Rattle.mm_tasks.specs.declared.answers.Answer.{Answer}
 use Rattle.mm_command_line.specs.declared.task.Task.{Task}
-use Rattle.mm_tasks.specs.Answers.{Contents, AnswersTask, IsAnswerTo, Prints, text_in, status_in, status_of, status_of_replies, status_of_run}
+use Rattle.mm_system.specs.Contents.{Contents}
+use Rattle.mm_tasks.specs.Answers.{AnswersTask, IsAnswerTo, Prints, text_in, status_in, status_of, status_of_replies, status_of_run}
 
 pub answer-prints : {E : Type 0} (R : Status → Type 0) (contents : Contents) (task : Task) (answer : Answer) (before after : Option (List ℕ)) (result : Result Status E)
     → IfOk result (λ status. Appends before after (text_in answer)) → IfOk result (λ status. status ≡ status_in answer)

@@ -1,5 +1,5 @@
 -- What answers a task, by what its files hold.
-use Rattle.std.specs.Prelude.{◌≡◌, ℕ, List, Option, Some, None, IfSome}
+use Rattle.std.specs.Prelude.{◌≡◌, ℕ, List, Option, Some, None}
 use Rattle.std.specs.Borrow.{Bor}
 use Rattle.std.specs.Io.KnownBytes.{Appends}
 use Rattle.mm_cut.specs.declared.verdict.Verdict.{Verdict}
@@ -16,6 +16,7 @@ use Rattle.mm_flight.specs.declared.printed.Outcome.TheVariants as ended
 use Rattle.mm_flight.specs.declared.printed.Printed.{Printed}
 use Rattle.mm_flight.specs.Printed.{text_of}
 use Rattle.mm_flight.specs.Runs.{Runs, FliesBy}
+use Rattle.mm_system.specs.Contents.{Contents, MayBe}
 use Rattle.mm_system.specs.declared.status.Status.{Status}
 use Rattle.mm_system.specs.declared.status.Status.TheVariants.{Done, Refused}
 use Rattle.mm_tasks.specs.declared.answers.Answer.{Answer}
@@ -25,13 +26,9 @@ use Rattle.mm_command_line.specs.declared.task.FlightFiles.{FlightFiles}
 use Rattle.mm_command_line.specs.declared.task.Task.{Task}
 use Rattle.mm_command_line.specs.declared.task.Task.TheVariants.{Plan, Check, Chart, Fly, Ask}
 
--- the bytes of files by their names, where they are known
-abbrev pub Contents : Type 0
-Contents = List ℕ → Option (List ℕ)
-
--- the file of this name has these bytes, which may be so of any where its bytes are not known
+-- the file of this name may have these bytes; a missing one has none
 abbrev pub Holds : Contents → List ℕ → List ℕ → Type 0
-Holds contents name octets = IfSome (contents name) (λ known. octets ≡ known)
+Holds contents name octets = MayBe (contents name) octets
 
 -- the file of this name has bytes of which P holds
 abbrev pub Of : Contents → List ℕ → (List ℕ → Type 0) → Type 0

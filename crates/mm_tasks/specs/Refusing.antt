@@ -1,5 +1,5 @@
 -- Which faults a task is refused for.
-use Rattle.std.specs.Prelude.{◌≡◌, ◌≢◌, ℕ, List, [], ◌∷◌, ◌++◌, codes, Option, Some, None, Contains}
+use Rattle.std.specs.Prelude.{◌≡◌, ◌≢◌, ◌⊎◌, ℕ, List, [], ◌∷◌, ◌++◌, codes, Option, Some, None}
 use Rattle.std.specs.Borrow.{Bor}
 use Rattle.std.specs.Io.KnownBytes.{Appends}
 use Rattle.mm_base.specs.Characters.{line_feed}
@@ -12,11 +12,12 @@ use Rattle.mm_flight.specs.Ending.{refusal_text}
 use Rattle.mm_flight.specs.Judging.{IsRunFault, IsFlyFault}
 use Rattle.mm_flight.specs.declared.fault.Fault.{Fault as FlightFault}
 use Rattle.mm_flight.specs.declared.fault.Fault.TheVariants as flight
+use Rattle.mm_system.specs.Contents.{Contents, MayBeUnread}
 use Rattle.mm_system.specs.declared.files.ReadFault.{ReadFault}
 use Rattle.mm_system.specs.declared.files.ReadFault.TheVariants as read
 use Rattle.mm_system.specs.declared.status.Status.{Status}
 use Rattle.mm_system.specs.declared.status.Status.TheVariants.{Refused}
-use Rattle.mm_tasks.specs.Answers.{Contents, Of, OfPlan, OfFlight}
+use Rattle.mm_tasks.specs.Answers.{Holds, Of, OfPlan, OfFlight}
 use Rattle.mm_tasks.specs.Faults.{refused_line}
 use Rattle.mm_tasks.specs.declared.fault.Fault.{Fault}
 use Rattle.mm_tasks.specs.declared.fault.Fault.TheVariants.{NoMemory, NotRead, Texts, Run, Setup}
@@ -41,10 +42,16 @@ abbrev pub IsFlightFault : Option (List ℕ) → FlightFault → List ℕ → Li
 IsFlightFault (Some plan) e setup forecast sources links = IsRunFault setup forecast plan sources links e
 IsFlightFault None e setup forecast sources links = IsFlyFault setup forecast sources links e
 
--- one of the files of these names was not read: its bytes are not known; want of memory may come at any time
+-- the file of this name was the first of these that was not read: those before it were, and its bytes are not known
+abbrev pub IsFirstUnread : Contents → List (List ℕ) → List ℕ → Type 0
+IsFirstUnread contents [] name = ⊥
+IsFirstUnread contents (first ∷ rest) name = ((name ≡ first) × MayBeUnread (contents first))
+    ⊎ (((octets : List ℕ) × Holds contents first octets) × IsFirstUnread contents rest name)
+
+-- the first of these files that was not read is told; want of memory may come at any time
 abbrev pub IsUnread : Contents → List (List ℕ) → Fault → Type 0
 IsUnread contents names NoMemory = Unit {0}
-IsUnread contents names (NotRead name) = Contains names name.now × (contents name.now ≡ None)
+IsUnread contents names (NotRead name) = IsFirstUnread contents names name.now
 IsUnread contents names fault = ⊥
 
 -- the task cannot be done: a file of it was not read, or this is the first fault of its texts; want of memory may come at any time

@@ -12,10 +12,10 @@ use crate::fault::Fault;
 use crate::flight::fly;
 use mm_command_line::Task;
 use mm_flight::Outcome;
-use mm_system::Status;
 use mm_system::files::{Files, ReadFault};
+use mm_system::{Status, Unwritten};
 use std::alloc::Global;
-use std::io::{self, Write};
+use std::io::Write;
 use std::sync::Wait;
 use std::thread::Threads;
 
@@ -25,12 +25,12 @@ fn refuse<W: Write, E: Write>(
     fault: Fault<'_>,
     out: &mut W,
     err: &mut E,
-) -> io::Result<Status>
+) -> Result<Status, Unwritten>
     ensures line { IfOk result (λ status. Appends (W.contents out.old) (W.contents out.new) (refused_line fault.entry)) }
     ensures status { IfOk result (λ status. status ≡ Refused) }
 {
-    writeln!(out, "refused {fault}")?;
-    writeln!(err, "{}", Advice::of_fault(task, fault))?;
+    writeln!(out, "refused {fault}").map_err(|_| Unwritten::Output)?;
+    writeln!(err, "{}", Advice::of_fault(task, fault)).map_err(|_| Unwritten::Messages)?;
     Ok(Status::Refused)
 }
 
@@ -39,7 +39,7 @@ pub fn refuse_input<W: Write, E: Write>(
     fault: ReadFault,
     out: &mut W,
     err: &mut E,
-) -> io::Result<Status>
+) -> Result<Status, Unwritten>
     ensures line { IfOk result (λ status. Appends (W.contents out.old) (W.contents out.new) (refused_input fault)) }
     ensures status { IfOk result (λ status. status ≡ Refused) }
 {
@@ -56,23 +56,27 @@ fn print<W: Write, E: Write>(
     answer: &Answer,
     out: &mut W,
     err: &mut E,
-) -> io::Result<Status>
+) -> Result<Status, Unwritten>
     ensures text { IfOk result (λ status. Appends (W.contents out.old) (W.contents out.new) (text_in answer.now)) }
     ensures status { IfOk result (λ status. status ≡ status_in answer.now) }
 {
     match answer {
         Answer::Text { status, text } => {
-            out.write_all(text)?;
+            out.write_all(text).map_err(|_| Unwritten::Output)?;
             Ok(*status)
         }
         Answer::Run(printed) => {
-            out.write_all(&printed.sheet)?;
-            out.write_all(&printed.report)?;
-            out.write_all(&printed.end)?;
+            out.write_all(&printed.sheet)
+                .map_err(|_| Unwritten::Output)?;
+            out.write_all(&printed.report)
+                .map_err(|_| Unwritten::Output)?;
+            out.write_all(&printed.end).map_err(|_| Unwritten::Output)?;
             match printed.outcome {
                 Outcome::CarriedOut => Ok(Status::Done),
                 Outcome::Stopped(refusal) => {
-                    writeln!(err, "{}", Advice::of_run(task, refusal))?;
+                    writeln!(err, "{}", Advice::of_run(task, refusal)).map_err(
+                        |_| Unwritten::Messages,
+                    )?;
                     Ok(Status::Refused)
                 }
             }
@@ -101,7 +105,7 @@ fn answer<'a, R: Threads + Wait + Sync, F: Files>(
 
 /// Does a task. What answers it goes to `out`, and so does the line that says why a task is refused; what a refusal means
 /// goes to `err`. The status is `Done` where the task is done, and `Refused` where something is refused, a verdict is not
-/// `Least`, or a run was halted. The error is that of a write that failed.
+/// `Least`, or a run was halted. The error says which writer failed.
 pub fn do_task<R: Threads + Wait + Sync, F: Files, W: Write, E: Write>(
     rt: &R,
     alloc: Global,
@@ -109,7 +113,7 @@ pub fn do_task<R: Threads + Wait + Sync, F: Files, W: Write, E: Write>(
     files: &mut F,
     out: &mut W,
     err: &mut E,
-) -> io::Result<Status>
+) -> Result<Status, Unwritten>
     ensures prints { IfOk result (λ status. Prints (F.content files.old) task.entry status (W.contents out.old) (W.contents out.new)
         ⊎ Refuses (F.content files.old) task.entry status (W.contents out.old) (W.contents out.new)) }
     ensures status { IfOk result (λ status. status ≢ BadCommandLine) }

@@ -31,9 +31,22 @@ impl fmt::Display for Spot {
             Spot::Row(row) => write!(f, ", row {row}"),
             Spot::Cell { row, column } => write!(f, ", row {row}, column {column}"),
             Spot::Key { row: 0, name } => write!(f, ", at the top, {name}"),
-            Spot::Key { row, name } => write!(f, ", row {row}, {name}"),
+            Spot::Key { row, name } => match array_of(name) {
+                Some(array) => write!(f, ", table {row} of {array}, {name}"),
+                None => write!(f, ", table {row}, {name}"),
+            },
             Spot::Number(name) => write!(f, ", {name}"),
         }
+    }
+}
+
+// The array of the setup whose tables have this key; none for a key that tables of several arrays have, or that names no one key.
+fn array_of(name: Name) -> Option<Name> {
+    match name {
+        Name::Id | Name::Size | Name::Type | Name::Start => Some(Name::Store),
+        Name::Apid | Name::Service | Name::Subtype => Some(Name::Route),
+        Name::Blocks => Some(Name::Limit),
+        _ => None,
     }
 }
 

@@ -2,8 +2,9 @@
 ghost use Rattle.std.specs.Prelude.{◌≡◌};
 ghost use Rattle.mm_desk.specs.Runs.{opening_at};
 
-use crate::samples::{counts, is_told, packet, store_with};
+use crate::samples::{counts, is_told, packet, store_of, store_with};
 use crate::told::{Told, answers, told_of, told_of_delete, told_of_given, told_of_offer};
+use mm_base::Kind;
 use mm_desk::agree::{agrees, is_below, is_part};
 use mm_desk::{
     Closed, Desk, Entry, Event, Fault, Offered, Opening, PassBook, PassSeat, Passing, Reply, Seat,
@@ -110,6 +111,7 @@ fn has_logged(rt: &impl Abort, log: &[Entry], entries: &[(u32, Told)]) {
 
 // The seats at place 0 have made so many calls each.
 fn have_called<N: Opening>(rt: &impl Abort, seats: &[Seat<N>], calls: &[usize]) {
+    assert!(rt; seats.len() == calls.len(), "as many seats");
     for (seat, calls) in seats.iter().zip(calls) {
         assert!(rt; seat.place() == 0, "the place");
         assert!(rt; seat.list().len() == *calls, "as many calls");
@@ -147,6 +149,43 @@ fn close_exchanged<N: Opening, R: Wait + Abort>(rt: &R, alloc: Global, state: St
 #[test]
 fn two_seats_one_desk(rt: HostRuntime) {
     close_in_order::<Brand, HostRuntime>(&rt, rt.alloc(), store_with(&rt, rt.alloc(), 0));
+}
+
+#[test]
+fn two_seats_one_desk_of_a_circular_store(rt: HostRuntime) {
+    let state = store_of(&rt, rt.alloc(), Kind::Circular, 0);
+    close_in_order::<Brand, HostRuntime>(&rt, rt.alloc(), state);
+}
+
+// A full store of four packets answers this to the offer of a fifth.
+fn offers_a_fifth<N: Opening, R: Wait + Abort>(rt: &R, alloc: Global, state: StoreState, want: Told)
+    requires state { state ≡ opening_at N.states 0 }
+{
+    let Ok((desk, mut seats)) = Desk::<N>::open(alloc, state, 0, 1) else {
+        panic!(rt; "memory");
+    };
+    let mut seat = seats.pop().expect(rt, "a seat");
+    let told = offers(rt, alloc, &desk, &mut seat, 7, 5);
+    answers(rt, told, want, "the fifth offer");
+    seats.push(seat).expect(rt, "memory");
+    let closed = desk.close(seats);
+    let is_logged = closed.agree && closed.log.len() == 1;
+    assert!(rt;
+        is_logged && counts(&closed.state) == [5, 1, 0, 4],
+        "one packet is lost"
+    );
+}
+
+#[test]
+fn a_full_bounded_store_loses_the_new_packet(rt: HostRuntime) {
+    let state = store_of(&rt, rt.alloc(), Kind::Bounded, 4);
+    offers_a_fifth::<Brand, HostRuntime>(&rt, rt.alloc(), state, Told::Lost(5));
+}
+
+#[test]
+fn a_full_circular_store_loses_its_oldest_packet(rt: HostRuntime) {
+    let state = store_of(&rt, rt.alloc(), Kind::Circular, 4);
+    offers_a_fifth::<Brand, HostRuntime>(&rt, rt.alloc(), state, Told::KeptOver(11, 1));
 }
 
 #[test]

@@ -32,7 +32,12 @@ pub fn new_state(rt: &impl Abort, alloc: Global, kind: Kind) -> StoreState {
 
 /// A bounded store of four blocks, with its storage on and the packets 1, 2, .. up to a number at the times 7, 8, ..
 pub fn store_with(rt: &impl Abort, alloc: Global, held: u16) -> StoreState {
-    let mut state = new_state(rt, alloc, Kind::Bounded);
+    store_of(rt, alloc, Kind::Bounded, held)
+}
+
+/// The same of a store of this kind.
+pub fn store_of(rt: &impl Abort, alloc: Global, kind: Kind, held: u16) -> StoreState {
+    let mut state = new_state(rt, alloc, kind);
     state.enable();
     for count in 0..held {
         let packet = packet(rt, alloc, count.saturating_add(1));

@@ -6,5 +6,6 @@ mod halts;
 mod refusals;
 mod rows;
 mod scripts;
+mod standing;
 mod trials;
 mod wires;

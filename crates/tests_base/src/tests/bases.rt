@@ -1,6 +1,6 @@
-//! Identifiers, kinds, refusals, numbers and lines.
+//! Identifiers, kinds, numbers and lines, and refusals of several types in one text.
 use mm_base::numbers::{Numeral, push_number};
-use mm_base::{Fault, Kind, NoMemory, Refusal, StoreId, lines};
+use mm_base::{Fault, Kind, NoMemory, StoreId, lines};
 use std::process::Abort;
 
 fn id(rt: &impl Abort, text: &str) -> StoreId {
@@ -43,23 +43,6 @@ fn identifiers_are_refused(rt: HostRuntime) {
 fn kinds_are_read_by_their_codes(rt: HostRuntime) {
     assert!(rt; Kind::of_code(1).expect(&rt, "a kind") == Kind::Bounded);
     assert!(rt; Kind::of_code(2).expect_err(&rt, "no kind") == Fault::BadEnum);
-}
-
-static REFUSALS: [(Refusal, &str); 6] = [
-    (Refusal::NoMemory, "0 NoMemory"),
-    (Refusal::IdlePacket, "6 Idle"),
-    (Refusal::NoRetrieval, "19 Idle"),
-    (Refusal::Cell, "31 Cell"),
-    (Refusal::NoMemoryInStep, "45 NoMemory"),
-    (Refusal::ChannelDiffers, "53 ChannelDiffers"),
-];
-
-#[test]
-fn refusals_are_printed_with_number_and_name(rt: HostRuntime) {
-    for (refusal, text) in &REFUSALS {
-        let shown = refusal.to_string(rt.alloc()).expect(&rt, "memory");
-        assert!(rt; shown.as_str() == *text, "{text}");
-    }
 }
 
 #[test]

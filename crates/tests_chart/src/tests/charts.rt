@@ -19,7 +19,7 @@ const HELP: &str = "What would help";
 
 // One store of size 4 gets 3, 3 and 4 blocks, and sends 2 and 2: 3 and 4 stand in it, then 6 come to stand, of which 2
 // are lost. In a scale of 32 for 4 blocks that is 24, 32 and 32; 8, 16 and 32 are left.
-const SHOWN: [&str; 15] = [
+pub(crate) const SHOWN: [&str; 15] = [
     "<text class='h' x='16' y='30'>2 of 10 blocks are lost, and no plan loses fewer</text>",
     "<path class='c' d='M180 148V108H276H372V148V148'/>",
     "<path class='p' d='M180 144V112H276H372V144V144'/>",

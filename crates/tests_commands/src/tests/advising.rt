@@ -3,7 +3,7 @@
 use crate::tests::samples::told;
 
 // A script whose task is refused, and the line on standard error, or how it begins where a long list of ranges follows.
-static ADVICE: [(&str, &str); 15] = [
+static ADVICE: [(&str, &str); 18] = [
     (
         "plan S F\n=== S\n",
         "F: expected a file that is there, can be read and has at most 2^30 bytes; check its name and who may read it; the name - stands for the script on standard input\n",
@@ -18,7 +18,19 @@ static ADVICE: [(&str, &str); 15] = [
     ),
     (
         "plan S F\n=== S\n[[store]]\nid = \"A\"\nsize = \"4\"\ntype = \"bounded\"\nchannel = 0\n=== F\n",
-        "S, row 1, size: expected the keys that docs/FORMATS.md lists for this table, each with an allowed value, and no store, route or limit twice; look for a key that is missing, misspelt or has a value of another kind\n",
+        "S, table 1 of store, size: expected the keys that docs/FORMATS.md lists for this table, each with an allowed value, and no store, route or limit twice; look for a key that is missing, misspelt or has a value of another kind\n",
+    ),
+    (
+        "plan S F\n=== S\n[[store]]\nid = \"A\"\nsize = 1\ntype = \"bounded\"\nchannel = 0\n[[route]]\napid = \"1\"\n=== F\n",
+        "S, table 1 of route, apid: expected the keys",
+    ),
+    (
+        "plan S F\n=== S\n[[store]]\nid = \"A\"\nsize = 1\ntype = \"bounded\"\nchannel = 0\n[[limit]]\nchannel = 0\n=== F\n",
+        "S, table 1 of limit, blocks: expected the keys",
+    ),
+    (
+        "plan S F\n=== S\n[[store]]\nid = \"A\"\nsize = 1\ntype = \"bounded\"\nchannel = \"0\"\n=== F\n",
+        "S, table 1, channel: expected the keys",
     ),
     (
         "ask S R\n=== S\n[[store]\n=== R\n",

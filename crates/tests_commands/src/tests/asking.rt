@@ -10,7 +10,7 @@ struct Asked {
     status: u8,
 }
 
-static ASKED: [Asked; 8] = [
+static ASKED: [Asked; 12] = [
     Asked {
         example: "no_request",
         requests: "",
@@ -44,6 +44,72 @@ static ASKED: [Asked; 8] = [
 1864C0000015200F0B000001534349202020202000000000000000FF
 ",
         prints: "1.1 done\n2.1 refused 18 Busy\n3.1 done\n4.1 done\n",
+        status: 1,
+    },
+    // The storage is on, and then it is turned off. The route is gone, also for a new store with the identifier.
+    Asked {
+        example: "delete_store_with_routes",
+        requests: "\
+1864C000000D200F150000015343492020202020
+1864C000000D200F020000015343492020202020
+1864C000000D200F150000015343492020202020
+1864C000000D200F010000015343492020202020
+1864C0000013200F140000015343492020202020000000040100
+1864C000000D200F050000015343492020202020
+",
+        prints: "\
+1.1 refused 26 StorageOn
+2.1 done
+3.1 done
+4.1 refused 23 NoSuchStore
+5.1 done
+6.1 done
+6 report 0864C0000018200F0600000000000000000000000653434920202020200000
+",
+        status: 1,
+    },
+    Asked {
+        example: "delete_store_with_routes, a store of no size",
+        requests: "1864C0000013200F14000001484B202020202020000000000001",
+        prints: "1.1 refused 48 BadSize\n",
+        status: 1,
+    },
+    // With the store of the setup there are 16 after the fifteenth.
+    Asked {
+        example: "delete_store_with_routes, a seventeenth store",
+        requests: "1864C00000E5200F14000010\
+            41202020202020200000000100004220202020202020000000010000\
+            43202020202020200000000100004420202020202020000000010000\
+            45202020202020200000000100004620202020202020000000010000\
+            47202020202020200000000100004820202020202020000000010000\
+            49202020202020200000000100004A20202020202020000000010000\
+            4B202020202020200000000100004C20202020202020000000010000\
+            4D202020202020200000000100004E20202020202020000000010000\
+            4F202020202020200000000100005020202020202020000000010000\n",
+        prints: "\
+1.1 done
+1.2 done
+1.3 done
+1.4 done
+1.5 done
+1.6 done
+1.7 done
+1.8 done
+1.9 done
+1.10 done
+1.11 done
+1.12 done
+1.13 done
+1.14 done
+1.15 done
+1.16 refused 25 TooManyStores
+",
+        status: 1,
+    },
+    Asked {
+        example: "delete_store_with_routes, an identifier in small letters beside a good one",
+        requests: "1864C0000015200F0100000273636920202020205343492020202020",
+        prints: "1.1 refused 15 BadId\n1.2 done\n",
         status: 1,
     },
     Asked {

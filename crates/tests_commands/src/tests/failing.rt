@@ -1,9 +1,8 @@
 //! Files and writers that fail.
-ghost use Rattle.std.specs.Prelude.{None};
+ghost use Rattle.mm_system.specs.Contents.{unknown};
 
 use crate::tests::samples::{FIRST_PLAN, SCI, THREE_STEPS};
-use mm_commands::run_tool;
-use mm_system::files::{Files, ReadFault};
+use mm_commands::{Files, ReadFault, run_tool};
 use std::alloc::Global;
 use std::io::{self, ErrorKind, Write};
 use std::process::Abort;
@@ -26,7 +25,7 @@ struct FailingFiles {
 }
 
 impl Files for FailingFiles {
-    ghost content = { λ _ _. None };
+    ghost content = { λ _ _. unknown };
 
     fn read(&mut self, alloc: Global, name: &str) -> Result<Vec<u8>, ReadFault> {
         if self.left == 0 {
@@ -46,7 +45,10 @@ impl Files for FailingFiles {
     }
 }
 
-// A writer that refuses the write after so many.
+// What standard error says where standard output refuses a write.
+pub(crate) const UNWRITTEN: &[u8] = b"mm_tool: standard output could not be written\n";
+
+// A writer that refuses one write, the one after so many, and takes all others.
 #[derive(Drop)]
 pub(crate) struct FailingWriter {
     left: u32,
@@ -64,11 +66,11 @@ impl FailingWriter {
 
 impl Write for FailingWriter {
     fn write(&mut self, buf: &[u8]) -> io::Result<usize> {
-        if self.left == 0 {
+        if self.left == 0 && !self.has_refused {
             self.has_refused = true;
             return Err(io::Error::from(ErrorKind::BrokenPipe));
         }
-        self.left -= 1;
+        self.left = self.left.saturating_sub(1);
         Ok(buf.len())
     }
 
@@ -114,7 +116,8 @@ fn each_file_that_is_not_read(rt: HostRuntime) {
 // No command writes as often for the first run.
 const MANY_WRITES: u32 = 100;
 
-// How many writes of a command's output can be refused, each in turn; its status is 1 each time, and this one then.
+// How many writes of a command's output can be refused, each in turn; its status is 1 each time, and standard error says why. With
+// none refused it is this status.
 fn refused_writes<R: Abort + AllocGlobal + Threads + Wait + Sync>(
     rt: &R,
     words: &[&str],
@@ -126,7 +129,8 @@ fn refused_writes<R: Abort + AllocGlobal + Threads + Wait + Sync>(
         let (mut out, mut err) = (FailingWriter::after(writes), Vec::new(alloc));
         let got = run_tool(rt, alloc, words, &mut files, &mut out, &mut err);
         let want = if out.has_refused { 1 } else { status };
-        assert!(rt; got == want, "after {writes} writes");
+        let is_told = err.ends_with(UNWRITTEN) == out.has_refused;
+        assert!(rt; got == want && is_told, "after {writes} writes");
         if !out.has_refused {
             return writes;
         }
@@ -143,4 +147,28 @@ fn each_write_that_fails(rt: HostRuntime) {
             "{writes} writes, not {fewest}"
         );
     }
+}
+
+// A write to standard error that fails is not told as one to standard output.
+#[test]
+fn writes_of_words_that_fail(rt: HostRuntime) {
+    let alloc = rt.alloc();
+    for writes in 0..MANY_WRITES {
+        let mut files = FailingFiles { left: 0 };
+        let (mut out, mut err) = (Vec::new(alloc), FailingWriter::after(writes));
+        let status = run_tool(
+            &rt,
+            alloc,
+            &["ask", "S", "R"],
+            &mut files,
+            &mut out,
+            &mut err,
+        );
+        let is_told = out.as_slice() == b"refused 50 NotRead name S\n".as_slice();
+        assert!(rt; status == 1 && is_told, "after {writes} writes");
+        if !err.has_refused {
+            return;
+        }
+    }
+    assert!(rt; false, "each write was refused");
 }

@@ -5,6 +5,8 @@ use std::process::Abort;
 use std::sync::Wait;
 use std::thread::Threads;
 
+mod refusals;
+
 // Telemetry without data, of APID 100, service 3, subtype 25.
 const PACKET: &str = "0864C000000E200319000000000000000000000000";
 
@@ -49,8 +51,32 @@ const STARTS_WITH_2: &str = "\
 const PLAN_FROM_2: &str =
     "mmplan 1\nstores SCI\ndump 1 2\ndump 2 2\ndump 3 0\nloss 4\nstretch SCI 1 3\nbound 4\nend\n";
 
-const PLAN_FOR_HK: &str =
-    "mmplan 1\nstores HK\ndump 1 2\ndump 2 2\ndump 3 0\nloss 2\nstretch HK 1 3\nbound 2\nend\n";
+// A bounded store and a circular one of two blocks each, both full as the run begins, each with a report type of its own.
+const TWO_ARE_FULL: &str = "\
+    [[store]]\nid = \"A\"\nsize = 2\ntype = \"bounded\"\nchannel = 0\nstart = 2\n\n\
+    [[store]]\nid = \"C\"\nsize = 2\ntype = \"circular\"\nchannel = 0\nstart = 2\n\n\
+    [[route]]\napid = 100\nservice = 3\nsubtype = 25\nstore = \"A\"\n\n\
+    [[route]]\napid = 101\nservice = 3\nsubtype = 25\nstore = \"C\"\n";
+
+// Two bounded stores of two blocks, with one report type.
+const A_AND_B: &str = "\
+    [[store]]\nid = \"A\"\nsize = 2\ntype = \"bounded\"\nchannel = 0\n\n\
+    [[store]]\nid = \"B\"\nsize = 2\ntype = \"bounded\"\nchannel = 0\n\n\
+    [[route]]\napid = 100\nservice = 3\nsubtype = 25\nstore = \"A\"\n\n\
+    [[route]]\napid = 100\nservice = 3\nsubtype = 25\nstore = \"B\"\n";
+
+const THREE_OF_TWO: &str = "mmplan 1\nstores A C\ndump 1 2 1\nloss 2\nbound 0\nend\n";
+
+// Lines of two sources: before the run three packets for each store, in turn, and in step 1 one for each.
+const THREE_FOR_EACH: &str = "\
+    2 0 0865C000000E200319000000000000000000000000\n\
+    1 0 0864C000000E200319000000000000000000000000\n\
+    1 0 0865C000000E200319000000000000000000000000\n\
+    2 1 0864C000000E200319000000000000000000000000\n\
+    2 0 0864C000000E200319000000000000000000000000\n\
+    1 0 0864C000000E200319000000000000000000000000\n\
+    1 0 0865C000000E200319000000000000000000000000\n\
+    1 1 0865C000000E200319000000000000000000000000\n";
 
 const THREE_BLOCKS: &str = "mmplan 1\nstores SCI\ndump 1 3\nloss 0\nbound 0\nend\n";
 
@@ -80,7 +106,7 @@ const OTHER_ARRIVALS: Run = Run {
     ..FIRST_RUN
 };
 
-static RUNS: [Run; 7] = [
+static RUNS: [Run; 9] = [
     OTHER_ARRIVALS,
     Run {
         example: "fewer_arrivals_than_forecast",
@@ -109,6 +135,17 @@ static RUNS: [Run; 7] = [
         ..FIRST_RUN
     },
     Run {
+        example: "two_links_fail",
+        setup: A_AND_B,
+        forecast: "step,window,A,B\n1,4,2,2\n",
+        plan: "mmplan 1\nstores A B\ndump 1 2 2\nloss 0\nbound 0\nend\n",
+        came: &[(1, 2)],
+        links: "links 2\nfail 1 1\nfail 2 1\n",
+        prints: HALTED_IN_1,
+        status: 1,
+        ..FIRST_RUN
+    },
+    Run {
         example: "ring_and_blocks_lose_alike",
         setup: RING_AND_BLOCKS,
         forecast: "step,window,C,B\n1,2,3,3\n",
@@ -132,6 +169,20 @@ static RUNS: [Run; 7] = [
             total arrived 10 lost 4 dumped 4 held 4\n",
         ..FIRST_RUN
     },
+    // The third packet for each store is lost before the run, of which the report says nothing.
+    Run {
+        example: "more_opening_packets_than_blocks",
+        setup: TWO_ARE_FULL,
+        forecast: "step,window,A,C\n1,3,1,1\n",
+        plan: THREE_OF_TWO,
+        came: &[],
+        more: THREE_FOR_EACH,
+        prints: "\
+            step 1 A arrived 1 lost 1 dumped 2 held 0\n\
+            step 1 C arrived 1 lost 1 dumped 1 held 1\n\
+            total arrived 2 lost 2 dumped 3 held 1\n",
+        ..FIRST_RUN
+    },
     Run {
         example: "a_telecommand_is_not_stored",
         forecast: "step,window,SCI\n1,3,0\n",
@@ -143,73 +194,6 @@ static RUNS: [Run; 7] = [
             step 1 SCI arrived 0 lost 0 dumped 0 held 0\n\
             total arrived 0 lost 0 dumped 0 held 0\n",
         ..FIRST_RUN
-    },
-];
-
-// A run that does not begin, for what one of its texts says: with one packet, in step 1.
-const REFUSED: Run = Run {
-    came: &[(1, 1)],
-    status: 1,
-    ..FIRST_RUN
-};
-
-static RUNS_REFUSED: [Run; 9] = [
-    Run {
-        example: "opening_contents_run, without the opening contents",
-        setup: STARTS_WITH_2,
-        plan: PLAN_FROM_2,
-        came: &[(1, 3), (2, 3), (3, 4)],
-        prints: "refused 41 OpeningDiffers store SCI\n",
-        ..REFUSED
-    },
-    Run {
-        example: "a plan for another store",
-        plan: PLAN_FOR_HK,
-        prints: "refused 35 Shape\n",
-        ..REFUSED
-    },
-    Run {
-        example: "a packet cut short",
-        came: &[],
-        more: "1 3 08\n",
-        prints: "refused 51 SourcesText line 1\n",
-        ..REFUSED
-    },
-    Run {
-        example: "a hundred links",
-        links: "links 100",
-        prints: "refused 52 LinksText line 1\n",
-        ..REFUSED
-    },
-    Run {
-        example: "send 0 fails",
-        links: "links 1\nfail 1 0",
-        prints: "refused 52 LinksText line 2\n",
-        ..REFUSED
-    },
-    Run {
-        example: "no link",
-        links: "links 0",
-        prints: "refused 44 Counts\n",
-        ..REFUSED
-    },
-    Run {
-        example: "five links",
-        links: "links 5",
-        prints: "refused 44 Counts\n",
-        ..REFUSED
-    },
-    Run {
-        example: "good lines, and then too many links",
-        links: "links 99\nfail 99 1",
-        prints: "refused 44 Counts\n",
-        ..REFUSED
-    },
-    Run {
-        example: "no source",
-        came: &[],
-        prints: "refused 44 Counts\n",
-        ..REFUSED
     },
 ];
 
@@ -240,19 +224,6 @@ fn runs_of_the_examples(rt: HostRuntime) {
     for row in &RUNS {
         runs(&rt, row);
     }
-}
-
-#[test]
-fn run_files_refused(rt: HostRuntime) {
-    for row in &RUNS_REFUSED {
-        runs(&rt, row);
-    }
-    prints(
-        &rt,
-        "run S F P X LINKS\n=== S\n[[store\n=== F\n=== P\n=== X\n",
-        "refused 50 NotRead name LINKS\n",
-        1,
-    );
 }
 
 // `fly` for the files of a row but its plan, which it makes: it is printed before what the row says.

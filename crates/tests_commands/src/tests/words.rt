@@ -1,11 +1,10 @@
 //! Bad command lines, calls for help, and what a script may hold.
 
-use crate::tests::failing::FailingWriter;
+use crate::tests::failing::{FailingWriter, UNWRITTEN};
 use crate::tests::samples::{FIRST_PLAN, SCI, THREE_STEPS, prints, told};
-use mm_commands::{refuse_input, run_script};
-use mm_system::files::ReadFault;
+use mm_commands::{ReadFault, refuse_input, run_script};
 
-static LINES: [&str; 19] = [
+static LINES: [&str; 22] = [
     "",
     "\n",
     "plan S\n",
@@ -25,6 +24,9 @@ static LINES: [&str; 19] = [
     "ask S\n",
     "ask --help\n",
     "--help\n",
+    "--version plan\n",
+    "plan --version\n",
+    "-- --version\n",
 ];
 
 #[test]
@@ -43,6 +45,18 @@ fn command_lines(rt: HostRuntime) {
         let is_told = out.is_empty() && !err.is_empty();
         assert!(rt; status == 2 && is_told, "for {line}");
     }
+}
+
+#[test]
+fn the_version_is_told(rt: HostRuntime) {
+    for line in ["--version\n", "-V\n", "--version"] {
+        let (out, err, status) = told(&rt, line.as_bytes());
+        let is_version = out.starts_with(b"mm_tool 0.3.0\nrattle-kit-");
+        assert!(rt; status == 0 && is_version && err.is_empty(), "for {line}");
+    }
+    let (mut out, mut err) = (FailingWriter::after(0), Vec::new(rt.alloc()));
+    let status = run_script(&rt, rt.alloc(), b"--version", &mut out, &mut err);
+    assert!(rt; status == 1 && err.as_slice() == UNWRITTEN);
 }
 
 // What stands before the first file is passed over, and of two files of one name the first is read.

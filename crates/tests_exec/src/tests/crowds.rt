@@ -219,6 +219,9 @@ fn all_meet<R: Threads + Wait + Sync + Abort>(rt: &R, alloc: Global, meeting: &M
     let sources = gated_sources(rt, alloc, apids, *each);
     let links = gated_links(rt, alloc, *links, Awaits::Begun(u64::from(*links)));
     let flight = flown(rt, &mut trial, sources, links);
+    let many = apids.len().saturating_mul(*each as usize);
+    let is_whole = flight.sources.len() == many && flight.links.len() == meeting.links as usize;
+    assert!(rt; is_whole, "all sources and links come back");
     have_met(rt, &flight.sources);
     have_sent(rt, &flight.links, *each);
     assert!(rt; flight.report.totals().lost == 0, "nothing is lost");
@@ -268,6 +271,10 @@ fn orders_from_one_queue(rt: HostRuntime) {
     let sources = four_sources(&rt, alloc);
     let links = gated_links(&rt, alloc, 2, Awaits::Ended(3));
     let flight = flown(&rt, &mut trial, sources, links);
+    assert!(rt;
+        flight.links.len() == 2 && flight.sources.len() == 4,
+        "all come back"
+    );
     assert!(rt; flight.report.totals().dumped == 4, "all are dumped");
     let most = most_sent(&rt, &flight.links);
     assert!(rt; most == 3, "three orders of one link");

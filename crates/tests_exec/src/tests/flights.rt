@@ -102,6 +102,8 @@ fn a_refused_flight_has_its_sheet(rt: HostRuntime) {
     let mut trial = Trial::new(&rt, rt.alloc(), &FIRST_RUN);
     let halted = not_flown(&rt, &mut trial, &[]);
     has_cause(&rt, "no link", halted.cause, Cause::Counts);
+    let is_whole = halted.sources.len() == 1 && halted.links.is_empty();
+    assert!(rt; is_whole, "the source comes back");
     for source in &halted.sources {
         has_left(&rt, source, [3, 3, 4]);
     }

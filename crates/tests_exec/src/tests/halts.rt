@@ -36,8 +36,9 @@ pub(crate) fn has_broken(
     run: &Broken,
 ) {
     let name = run.name;
-    let is_whole = halted.spent == run.spent && halted.links.len() == run.good.len();
-    assert!(rt; is_whole, "{name}: what was drawn, and all links");
+    let is_whole = halted.sources.len() == 1 && halted.links.len() == run.good.len();
+    assert!(rt; is_whole, "{name}: the source, and all links");
+    assert!(rt; halted.spent == run.spent, "{name}: what was drawn");
     has_text(rt, trial.alloc, name, &halted.report, run.report);
     trial.leaves(rt, name, run.stores);
     for source in &halted.sources {

@@ -2,38 +2,19 @@
 
 use crate::tests::rows::{Run, carries_out, run};
 use crate::tests::scripts::{Script, has_left, scripts};
+use crate::tests::standing::standing;
 use crate::tests::trials::{
     Change, FIRST_RUN, Left, NO_STEP, ONE_STORE, TOO_LATE, TWO_PASSES, Task, Trial, has_text, id,
-    left, memory_of, setup, task,
+    left, memory_of, setup,
 };
 use crate::tests::wires::{Wire, wires};
 use mm_exec::{Cause, Halted};
-use mm_store::PacketStore;
+use mm_memory::Answer;
+use mm_st15::{Channel, Entries, Request};
 use std::alloc::Global;
 use std::process::Abort;
 use std::sync::Wait;
 use std::thread::Threads;
-
-// What can be seen of each store: its identifier, its counters, how many packets it holds, its last time, and whether storage and a
-// retrieval are on.
-fn standing(rt: &impl Abort, trial: &Trial) -> Vec<[u64; 8]> {
-    let mut list = Vec::new(trial.alloc);
-    for held in trial.memory.stores() {
-        let state = &held.state;
-        let row = [
-            u64::from_be_bytes(held.id.field()),
-            state.offered(),
-            state.lost(),
-            state.deleted(),
-            u64::from(state.store().len()),
-            state.store().last_time(),
-            u64::from(state.storage()),
-            u64::from(state.retrieval().is_some()),
-        ];
-        list.push(row).expect(rt, "memory");
-    }
-    list
-}
 
 // Nothing was drawn, nothing was taken from the sources, and nothing was sent.
 fn is_untouched(rt: &impl Abort, name: &str, halted: &Halted<Script, Wire>) {
@@ -79,12 +60,13 @@ fn cause_of(rt: &impl Abort, why: &Why) -> Cause {
     }
 }
 
-// A task over a memory of another setup, to whose store SCI something was done; this many sources of the first run, links that do
-// not fail, and the moment before the first step; and why it is refused.
+// A task over a memory of another setup, to whose stores HK and SCI something was done; this many sources of the first run, links that
+// do not fail, and the moment before the first step; and why it is refused.
 struct Refused {
     name: &'static str,
     task: Task,
     memory: &'static str,
+    others: &'static [Change],
     changes: &'static [Change],
     sources: u32,
     links: &'static [Option<u64>],
@@ -98,6 +80,7 @@ macro_rules! refused {
             name: $name,
             task: Task { plan: $plan, ..FIRST_RUN },
             memory: $memory,
+            others: &[],
             changes: &[$($change),*],
             sources: $sources,
             links: &$links,
@@ -128,7 +111,8 @@ fn refuses<R: Threads + Wait + Sync + Abort>(rt: &R, trial: &mut Trial, run: &Re
 fn prepared(rt: &impl Abort, alloc: Global, run: &Refused) -> Trial {
     let mut trial = Trial::new(rt, alloc, &run.task);
     trial.memory = memory_of(rt, alloc, run.memory);
-    trial.change(rt, run.changes);
+    trial.change_of(rt, "HK", run.others);
+    trial.change_of(rt, "SCI", run.changes);
     trial
 }
 
@@ -156,7 +140,7 @@ static REFUSED: [Refused; 14] = refused! {
 
     "a plan of two steps", TWO_STEPS, ONE_STORE, [], 1, [None], 0 => Why::PlanShape;
     "a plan above its window", THREE_IN_STEP_1, ONE_STORE, [], 1, [None], 0 => Why::PlanDoesNotFit(1);
-    "another size", TWO_PASSES, FIVE_BLOCKS, [], 1, [None], 0 => Why::SizeDiffers("SCI");
+    "another size", TWO_PASSES, ONE_STORE, [Change::Off, Change::Resize(5), Change::On], 1, [None], 0 => Why::SizeDiffers("SCI");
     "a packet", TWO_PASSES, ONE_STORE, [Change::Offer(0, 900)], 1, [None], 0 => Why::OpeningDiffers("SCI");
 
     "storage off", TWO_PASSES, ONE_STORE, [Change::Off], 1, [None], 0 => Why::NotReady("SCI");
@@ -197,10 +181,130 @@ fn causes_come_in_order(rt: HostRuntime) {
     }
 }
 
-const CHANNEL_0: Task = task! {
-    { store "A", apid 100, size 3, type "bounded", channel 0; limit channel 0, blocks 1; }
-    "step,window,A\n1,5,3\n2,0,3\n"
-    "mmplan 2\nstores A\ndump 1 1\ndump 2 0\nloss 2\nstretch A 1 2\ncount 1 channels\nbound 2\nend\n"
+const TWO_STORES: &str = setup! {
+    store "HK", apid 100, size 4, type "bounded", channel 0; store "SCI", apid 100, size 4, type "bounded", channel 1;
+    limit channel 0, blocks 9;
+};
+
+const BOTH_LARGER: &str = setup! {
+    store "HK", apid 100, size 5, type "bounded", channel 0; store "SCI", apid 100, size 5, type "bounded", channel 1;
+};
+
+const SCI_LARGER: &str = setup! {
+    store "HK", apid 100, size 4, type "bounded", channel 0; store "SCI", apid 100, size 5, type "bounded", channel 1;
+};
+
+const BOTH_MOVED: &str = setup! {
+    store "HK", apid 100, size 4, type "bounded", channel 5; store "SCI", apid 100, size 4, type "bounded", channel 6;
+};
+
+const SCI_MOVED: &str = setup! {
+    store "HK", apid 100, size 4, type "bounded", channel 0; store "SCI", apid 100, size 4, type "bounded", channel 0;
+};
+
+const A_PACKET: &[Change] = &[Change::Offer(0, 900)];
+
+const A_LATE_TIME: &[Change] = &[Change::Offer(TOO_LATE, 900), Change::Delete(u64::MAX, 1)];
+
+const OF_TWO: Refused = Refused {
+    name: "both stores are off",
+    task: Task {
+        setup: TWO_STORES,
+        forecast: "step,window,HK,SCI\n1,2,3,3\n",
+        plan: "mmplan 1\nstores HK SCI\ndump 1 1 1\nloss 0\nbound 0\nend\n",
+    },
+    memory: TWO_STORES,
+    others: &[Change::Off],
+    changes: &[Change::Off],
+    sources: 1,
+    links: &[None],
+    base: 0,
+    why: Why::NotReady("HK"),
+};
+
+// Each cause is looked for in all stores, in their order, before the next one: where the first store has a later cause than the second,
+// the second is told, and where both have one, the first.
+static OF_SEVERAL_STORES: [Refused; 9] = [
+    OF_TWO,
+    Refused {
+        name: "the first is larger, the second is off",
+        memory: BOTH_LARGER,
+        others: &[],
+        why: Why::NotReady("SCI"),
+        ..OF_TWO
+    },
+    Refused {
+        name: "both are larger",
+        memory: BOTH_LARGER,
+        others: &[],
+        changes: &[],
+        why: Why::SizeDiffers("HK"),
+        ..OF_TWO
+    },
+    Refused {
+        name: "the first holds a packet, the second is larger",
+        memory: SCI_LARGER,
+        others: A_PACKET,
+        changes: &[],
+        why: Why::SizeDiffers("SCI"),
+        ..OF_TWO
+    },
+    Refused {
+        name: "both hold a packet",
+        others: A_PACKET,
+        changes: A_PACKET,
+        why: Why::OpeningDiffers("HK"),
+        ..OF_TWO
+    },
+    Refused {
+        name: "both are on other channels, the second holds a packet",
+        memory: BOTH_MOVED,
+        others: &[],
+        changes: A_PACKET,
+        why: Why::OpeningDiffers("SCI"),
+        ..OF_TWO
+    },
+    Refused {
+        name: "both are on other channels",
+        memory: BOTH_MOVED,
+        others: &[],
+        changes: &[],
+        why: Why::ChannelDiffers("HK"),
+        ..OF_TWO
+    },
+    Refused {
+        name: "the first has a late storage time, the second is on another channel",
+        memory: SCI_MOVED,
+        others: A_LATE_TIME,
+        changes: &[],
+        why: Why::ChannelDiffers("SCI"),
+        ..OF_TWO
+    },
+    Refused {
+        name: "the second has a late storage time",
+        others: &[],
+        changes: A_LATE_TIME,
+        why: Why::ClockTooLate,
+        ..OF_TWO
+    },
+];
+
+#[test]
+fn each_cause_is_looked_for_in_all_stores(rt: HostRuntime) {
+    for run in &OF_SEVERAL_STORES {
+        let mut trial = prepared(&rt, rt.alloc(), run);
+        refuses(&rt, &mut trial, run);
+    }
+}
+
+const A_LIMITED: &str = setup! {
+    store "A", apid 100, size 3, type "bounded", channel 0; limit channel 0, blocks 1;
+};
+
+const CHANNEL_0: Task = Task {
+    setup: A_LIMITED,
+    forecast: "step,window,A\n1,5,3\n2,0,3\n",
+    plan: "mmplan 2\nstores A\ndump 1 1\ndump 2 0\nloss 2\nstretch A 1 2\ncount 1 channels\nbound 2\nend\n",
 };
 
 static OVER_CHANNEL_0: Run = run! {
@@ -213,7 +317,8 @@ static OVER_CHANNEL_0: Run = run! {
 static OVER_CHANNEL_5: Refused = Refused {
     name: "over channel 5",
     task: CHANNEL_0,
-    memory: setup! { store "A", apid 100, size 3, type "bounded", channel 5; },
+    memory: A_LIMITED,
+    others: &[],
     changes: &[],
     sources: 1,
     links: &[None],
@@ -221,11 +326,31 @@ static OVER_CHANNEL_5: Refused = Refused {
     why: Why::ChannelDiffers("A"),
 };
 
+// Requests that the store A be on a channel, with its storage off meanwhile.
+fn moves_to_channel(rt: &impl Abort, trial: &mut Trial, channel: u8) {
+    trial.change_of(rt, "A", &[Change::Off]);
+    let id = id(rt, "A").field();
+    let list = [Channel { id, channel }]
+        .to_vec(trial.alloc)
+        .expect(rt, "memory");
+    let request = Request::ChangeChannel(Entries::new(list));
+    let answers = trial
+        .memory
+        .apply(trial.alloc, 1, &request)
+        .expect(rt, "memory");
+    assert!(rt;
+        answers.each.as_slice() == [Answer::Done].as_slice(),
+        "channel {channel}"
+    );
+    trial.change_of(rt, "A", &[Change::On]);
+}
+
 // With a limit of its channel, the plan is carried out over a store on that channel alone.
 #[test]
 fn channel_of_a_store_changed(rt: HostRuntime) {
     let mut trial = prepared(&rt, rt.alloc(), &OVER_CHANNEL_5);
+    moves_to_channel(&rt, &mut trial, 5);
     refuses(&rt, &mut trial, &OVER_CHANNEL_5);
-    trial.memory = memory_of(&rt, rt.alloc(), CHANNEL_0.setup);
+    moves_to_channel(&rt, &mut trial, 0);
     carries_out(&rt, &mut trial, None, &OVER_CHANNEL_0);
 }

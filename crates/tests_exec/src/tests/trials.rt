@@ -2,7 +2,7 @@
 
 use crate::tests::scripts::{Script, packet};
 use crate::tests::wires::{Wire, may_fail};
-use mm_base::StoreId;
+use mm_base::{MAX_BLOCKS, StoreId};
 use mm_desk::StoreState;
 use mm_exec::{Cause, Flight, Halted, carry_out};
 use mm_memory::Memory;
@@ -102,6 +102,8 @@ pub(crate) enum Change {
     Off,
     On,
     Retrieve,
+    // Its size becomes so many blocks.
+    Resize(u32),
 }
 
 // Does it to the state of the store.
@@ -118,6 +120,10 @@ fn changes(rt: &impl Abort, alloc: Global, state: &mut StoreState, change: &Chan
         Change::Off => state.disable(),
         Change::On => state.enable(),
         Change::Retrieve => assert!(rt; state.begin(0, u64::MAX).is_ok(), "a retrieval"),
+        Change::Resize(size) => {
+            assert!(rt; 0 < *size && *size <= MAX_BLOCKS, "a size");
+            assert!(rt; state.resize(*size).is_ok(), "another size");
+        }
     }
 }
 
@@ -256,7 +262,12 @@ impl Trial {
 
     // Does these to the store of the first run.
     pub(crate) fn change(&mut self, rt: &impl Abort, list: &[Change]) {
-        let store = id(rt, "SCI");
+        self.change_of(rt, "SCI", list);
+    }
+
+    // Does these to a store.
+    pub(crate) fn change_of(&mut self, rt: &impl Abort, store: &str, list: &[Change]) {
+        let store = id(rt, store);
         for change in list {
             let state = self.memory.state_mut(&store).expect(rt, "a store");
             changes(rt, self.alloc, state, change);

@@ -2,7 +2,7 @@
 use crate::tests::samples::TWO_STORES;
 use mm_base::{Kind, Refused, RouteRow, StoreId};
 use mm_desk::{Offered, Returned};
-use mm_memory::{Answer, Answers, Fault, Memory, laws};
+use mm_memory::{Answer, Answers, Fault, Memory};
 use mm_packet::{BlockPacket, Header, Octets, Packet, TELECOMMAND_BODY};
 use mm_problem::Setup;
 use mm_st15::Request;
@@ -18,7 +18,6 @@ macro_rules! plays {
 }
 
 mod applying;
-mod growths;
 mod holding;
 mod refusals;
 mod reporting;
@@ -56,23 +55,18 @@ fn id(rt: &impl Abort, text: &[u8]) -> StoreId {
     StoreId::of_text(text).expect(rt, "an identifier")
 }
 
-// The memory of a setup, where there is room for it.
-fn memory_in_room(alloc: Global, setup: &str) -> Option<Memory> {
-    let setup = Setup::read(alloc, setup.as_bytes()).ok()?;
-    Memory::of_setup(alloc, &setup).ok()
-}
-
 fn memory_of(rt: &impl Abort, alloc: Global, setup: &str) -> Memory {
-    memory_in_room(alloc, setup).expect(rt, "a setup and memory")
+    let setup = Setup::read(alloc, setup.as_bytes()).expect(rt, "a setup");
+    Memory::of_setup(alloc, &setup).expect(rt, "memory")
 }
 
-// The request of a subtype with these octets for its data, where there is room for it.
-fn request_in_room(rt: &impl Abort, alloc: Global, subtype: u8, data: &[u8]) -> Option<Request> {
+// The request of a subtype with these octets for its data.
+fn request_of(rt: &impl Abort, alloc: Global, subtype: u8, data: &[u8]) -> Request {
     assert!(rt; data.len() <= TELECOMMAND_BODY);
     let header = Header::new(100, 0, 15, subtype);
-    let data = Octets::new(data.to_vec(alloc).ok()?).ok()?;
-    let packet = Packet::tc(header, 0, data);
-    Request::read(alloc, &packet).ok()
+    let list = data.to_vec(alloc).expect(rt, "memory");
+    let packet = Packet::tc(header, 0, Octets::new(list).expect(rt, "memory"));
+    Request::read(alloc, &packet).expect(rt, "a request")
 }
 
 // What a request is answered at a moment.
@@ -84,7 +78,7 @@ fn asked(
     subtype: u8,
     data: &[u8],
 ) -> Answers {
-    let request = request_in_room(rt, alloc, subtype, data).expect(rt, "a request");
+    let request = request_of(rt, alloc, subtype, data);
     memory.apply(alloc, now, &request).expect(rt, "memory")
 }
 
@@ -281,23 +275,30 @@ fn routes_of_setup(rt: HostRuntime) {
         subtype: 25,
         store: sci,
     };
-    laws::table_has_the_setup_s_routes();
     assert!(rt; memory.control().list() == [row].as_slice());
     leads_to(&rt, rt.alloc(), &memory, 25, &[sci]);
     leads_to(&rt, rt.alloc(), &memory, 26, &[]);
 }
 
+// The two stores of the setup, empty, and its route.
+fn stands_whole(rt: &impl Abort, memory: &Memory, name: &str) {
+    let (sci, hk) = (id(rt, b"SCI"), id(rt, b"HK"));
+    has_counts(rt, name, memory, 2, 1);
+    stands(rt, name, memory, 0, &sci, 0);
+    stands(rt, name, memory, 1, &hk, 3);
+    has_shape(rt, name, memory, &sci, (Kind::Bounded, 4, 0, true));
+    has_shape(rt, name, memory, &hk, (Kind::Circular, 2, 0, true));
+}
+
 #[test]
 fn lifted_stores_are_put_back(rt: HostRuntime) {
     let mut memory = memory_of(&rt, rt.alloc(), TWO_STORES);
-    let sci = id(&rt, b"SCI");
+    stands_whole(&rt, &memory, "before");
     let stores = memory.lift();
     assert!(rt; stores.len() == 2 && memory.entry(0).is_none());
     has_counts(&rt, "lifted", &memory, 0, 1);
-    laws::identifiers_decide_what_is_restored();
     memory.restore(stores);
-    stands(&rt, "restored", &memory, 0, &sci, 0);
-    has_shape(&rt, "restored", &memory, &sci, (Kind::Bounded, 4, 0, true));
+    stands_whole(&rt, &memory, "restored");
 }
 
 #[test]
@@ -309,44 +310,16 @@ fn a_lent_state_is_the_store_s_state(rt: HostRuntime) {
     has_shape(&rt, "not lent", &memory, &sci, (Kind::Bounded, 4, 0, true));
 }
 
-// Refusals with their numbers, their names, and as they are printed.
-static NAMED: [(Fault, u8, &str, &str); 9] = [
-    (Fault::NoMemory, 0, "NoMemory", "0 NoMemory"),
-    (Fault::BadId, 15, "BadId", "15 BadId"),
-    (Fault::BadEnum, 16, "BadEnum", "16 BadEnum"),
-    (Fault::NoSuchStore, 23, "NoSuchStore", "23 NoSuchStore"),
-    (Fault::Exists, 24, "Exists", "24 Exists"),
-    (
-        Fault::TooManyStores,
-        25,
-        "TooManyStores",
-        "25 TooManyStores",
-    ),
-    (Fault::BadSize, 48, "BadSize", "48 BadSize"),
-    (Fault::State(mm_desk::Fault::Busy), 18, "Busy", "18 Busy"),
-    (
-        Fault::Control(mm_control::Fault::TableFull),
-        11,
-        "TableFull",
-        "11 TableFull",
-    ),
+// Its own refusals and those of the crates below it are printed so.
+static SHOWN: [(Fault, &str); 2] = [
+    (Fault::TooManyStores, "25 TooManyStores"),
+    (Fault::State(mm_desk::Fault::Busy), "18 Busy"),
 ];
 
-// A refusal has this number and this name.
-fn is_named(rt: &impl Abort, fault: &Fault, number: u8, name: &str) {
-    assert!(rt; fault.number() == number && fault.name() == name, "{name}");
-}
-
-// A refusal is printed so.
-fn is_printed(rt: &impl Abort, alloc: Global, fault: &Fault, text: &str) {
-    let printed = fault.to_string(alloc).expect(rt, "memory");
-    assert!(rt; printed.as_str() == text, "{text}");
-}
-
 #[test]
-fn refusals_have_numbers_and_names(rt: HostRuntime) {
-    for (fault, number, name, text) in &NAMED {
-        is_named(&rt, fault, *number, name);
-        is_printed(&rt, rt.alloc(), fault, text);
+fn refusals_are_printed_with_number_and_name(rt: HostRuntime) {
+    for (fault, text) in &SHOWN {
+        let printed = fault.to_string(rt.alloc()).expect(&rt, "memory");
+        assert!(rt; printed.as_str() == *text, "{text}");
     }
 }

@@ -1,9 +1,9 @@
 //! The table of the storage control.
 ghost use Rattle.std.specs.Prelude.{◌≤◌};
 
-use crate::tests::samples::{has_name, is_shown};
-use mm_base::{NoMemory, RouteRow, StoreId};
-use mm_control::{ControlTable, Fault, laws};
+use crate::tests::samples::is_shown;
+use mm_base::{RouteRow, StoreId};
+use mm_control::{ControlTable, Fault};
 use std::alloc::Global;
 use std::process::Abort;
 
@@ -166,23 +166,7 @@ fn each_report_type_finds_its_stores_among_many(rt: HostRuntime) {
     }
 }
 
-// Refusals with their numbers, their names, and as they are printed.
-static NAMED: [(Fault, u8, &str, &str); 2] = [
-    (Fault::NoSuchRoute, 10, "NoSuchRoute", "10 NoSuchRoute"),
-    (Fault::TableFull, 11, "TableFull", "11 TableFull"),
-];
-
 #[test]
-fn refusals_have_numbers_and_names(rt: HostRuntime) {
-    for (fault, number, name, text) in &NAMED {
-        has_name(&rt, *fault, *number, name);
-        is_shown(&rt, rt.alloc(), fault, text);
-    }
-    is_shown(&rt, rt.alloc(), &NoMemory, "0 NoMemory");
-}
-
-#[test]
-fn laws_are_called() {
-    laws::tables_are_sets();
-    laws::stores_are_named_once();
+fn a_refusal_is_shown_by_number_and_name(rt: HostRuntime) {
+    is_shown(&rt, rt.alloc(), &Fault::TableFull, "11 TableFull");
 }

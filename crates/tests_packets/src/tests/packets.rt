@@ -2,11 +2,10 @@
 ghost use Rattle.std.specs.Prelude.{◌≡◌, ◌<◌, ◌≤◌, ◌^◌, length};
 ghost use Rattle.mm_packet.specs.declared.header.TheConstants.{IDLE_APID, SEQUENCE_COUNTS};
 
-use crate::tests::samples::{CREATE_STORES, ENABLE, has_name, is_shown, packet_of, written};
-use mm_base::NoMemory;
+use crate::tests::samples::{CREATE_STORES, ENABLE, is_shown, packet_of, written};
 use mm_packet::{
-    BlockPacket, Fault, Header, Octets, Packet, PacketType, TELECOMMAND_BODY, TELEMETRY_BODY, laws,
-    octet_at, u16_at, u32_at, u64_at,
+    BlockPacket, Fault, Header, Octets, Packet, PacketType, TELECOMMAND_BODY, TELEMETRY_BODY,
+    TooLong, octet_at, u16_at, u32_at, u64_at,
 };
 use std::alloc::Global;
 use std::process::Abort;
@@ -205,12 +204,18 @@ fn packets_refused(rt: HostRuntime) {
     }
 }
 
+// A packet is read, and each of its proper prefixes is too short.
+fn prefixes_are_short(rt: &impl Abort, alloc: Global, octets: &[u8]) {
+    for len in 0..octets.len() {
+        refused(rt, alloc, &octets[..len], Fault::Short);
+    }
+    assert!(rt; Packet::parse(alloc, octets).is_ok());
+}
+
 #[test]
 fn each_proper_prefix_is_short(rt: HostRuntime) {
-    for len in 0..CREATE_STORES.len() {
-        refused(&rt, rt.alloc(), &CREATE_STORES[..len], Fault::Short);
-    }
-    assert!(rt; Packet::parse(rt.alloc(), &CREATE_STORES).is_ok());
+    prefixes_are_short(&rt, rt.alloc(), &ENABLE);
+    prefixes_are_short(&rt, rt.alloc(), &CREATE_STORES);
 }
 
 const LOWEST: Header = Header {
@@ -241,13 +246,19 @@ fn a_packet_of_1024_octets_goes_into_a_block(rt: HostRuntime) {
     writes(&rt, rt.alloc(), copy.packet(), &octets);
 }
 
+// The packet is refused as too long for a block, and is this one.
+fn comes_back(rt: &impl Abort, alloc: Global, back: &TooLong, octets: &[u8]) {
+    assert!(rt; octets.len() == 1025);
+    writes(rt, alloc, &back.packet, octets);
+    is_shown(rt, alloc, back, "8 TooLong");
+}
+
 #[test]
 fn a_packet_of_1025_octets_is_handed_back(rt: HostRuntime) {
     let packet = telemetry(&rt, rt.alloc(), HIGHEST, 1, 1004);
+    let octets = written(&rt, rt.alloc(), &packet);
     let back = BlockPacket::of(packet).expect_err(&rt, "it is too long");
-    assert!(rt; back.packet.body().len() == 1004);
-    let shown = back.to_string(rt.alloc()).expect(&rt, "memory");
-    assert!(rt; shown.as_str() == "8 TooLong");
+    comes_back(&rt, rt.alloc(), &back, &octets);
 }
 
 // The packet is equal to another made alike, and to none that differs in one field.
@@ -316,37 +327,4 @@ fn numbers_of_four_and_eight_are_read_from_the_front(rt: HostRuntime) {
 fn what_follows_a_number_is_the_rest(rt: HostRuntime) {
     assert!(rt; u64_at(&NINE).map(|x| x.1.len()) == Some(1));
     assert!(rt; u64_at(&NINE[..7]).is_none());
-}
-
-static REFUSALS: [(Fault, u8, &str, &str); 9] = [
-    (Fault::NoMemory, 0, "NoMemory", "0 NoMemory"),
-    (Fault::Short, 1, "Short", "1 Short"),
-    (Fault::Version, 2, "Version", "2 Version"),
-    (
-        Fault::NoSecondaryHeader,
-        3,
-        "NoSecondaryHeader",
-        "3 NoSecondaryHeader",
-    ),
-    (Fault::PusVersion, 4, "PusVersion", "4 PusVersion"),
-    (Fault::Segmented, 5, "Segmented", "5 Segmented"),
-    (Fault::Idle, 6, "Idle", "6 Idle"),
-    (Fault::HeaderCut, 7, "HeaderCut", "7 HeaderCut"),
-    (Fault::TooLong, 8, "TooLong", "8 TooLong"),
-];
-
-#[test]
-fn refusals_are_shown_by_number_and_name(rt: HostRuntime) {
-    for (fault, number, name, shown) in &REFUSALS {
-        has_name(&rt, *fault, *number, name);
-        is_shown(&rt, rt.alloc(), fault, shown);
-    }
-    is_shown(&rt, rt.alloc(), &NoMemory, "0 NoMemory");
-}
-
-#[test]
-fn laws_are_called() {
-    laws::one_packet_one_spelling();
-    laws::written_is_read();
-    laws::constants_are();
 }

@@ -2,13 +2,11 @@
 ghost use Rattle.mm_st15.specs.Request.{HasCount, kind_of, count_of};
 
 use crate::tests::samples::{
-    CONFIGURATIONS, CREATE_STORES, ENABLE, HK, SCI, STORES, has_name, is_shown, packet_of, written,
+    CONFIGURATIONS, CREATE_STORES, ENABLE, HK, SCI, STORES, is_shown, packet_of, written,
 };
-use mm_base::NoMemory;
 use mm_packet::Packet;
 use mm_st15::{
     Channel, Entries, Fault, ReportType, Request, RequestKind, Size, Target, TimeLimit, TimeRange,
-    laws,
 };
 use std::alloc::Global;
 use std::process::Abort;
@@ -289,37 +287,7 @@ fn request_lines_refused(rt: HostRuntime) {
     }
 }
 
-static NAMES: [(Fault, u8, &str, &str); 4] = [
-    (Fault::NoMemory, 0, "NoMemory", "0 NoMemory"),
-    (Fault::NotSt15, 12, "NotSt15", "12 NotSt15"),
-    (
-        Fault::UnknownSubtype,
-        13,
-        "UnknownSubtype",
-        "13 UnknownSubtype",
-    ),
-    (
-        Fault::CountMismatch,
-        14,
-        "CountMismatch",
-        "14 CountMismatch",
-    ),
-];
-
 #[test]
-fn refusals_are_shown_by_number_and_name(rt: HostRuntime) {
-    for (fault, number, name, shown) in &NAMES {
-        has_name(&rt, *fault, *number, name);
-        is_shown(&rt, rt.alloc(), fault, shown);
-    }
-    is_shown(&rt, rt.alloc(), &NoMemory, "0 NoMemory");
-}
-
-#[test]
-fn laws_are_called() {
-    laws::one_packet_one_request();
-    laws::request_is_not_refused();
-    laws::one_packet_one_report();
-    laws::report_is_not_refused();
-    laws::constants_are();
+fn a_refusal_is_shown_by_number_and_name(rt: HostRuntime) {
+    is_shown(&rt, rt.alloc(), &Fault::NotSt15, "12 NotSt15");
 }

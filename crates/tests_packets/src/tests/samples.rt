@@ -1,5 +1,4 @@
-//! Packets, the names of refusals, and how both are compared.
-use mm_base::Refused;
+//! Packets spelled by hand, and how packets and refusals are compared.
 use mm_packet::Packet;
 use mm_st15::Configuration;
 use std::alloc::Global;
@@ -47,12 +46,6 @@ pub fn packet_of(rt: &impl Abort, alloc: Global, octets: &[u8]) -> Packet {
 /// The octets of a packet.
 pub fn written(rt: &impl Abort, alloc: Global, packet: &Packet) -> Vec<u8> {
     packet.write(alloc).expect(rt, "memory")
-}
-
-/// The refusal has this number and this name.
-pub fn has_name(rt: &impl Abort, refusal: impl Refused + Copy, number: u8, name: &str) {
-    assert!(rt; refusal.number() == number, "{name}");
-    assert!(rt; refusal.name() == name, "{name}");
 }
 
 /// It is printed so.

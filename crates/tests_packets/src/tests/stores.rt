@@ -2,10 +2,10 @@
 ghost use Rattle.std.specs.Prelude.{◌≤◌};
 ghost use Rattle.mm_base.specs.declared.limits.TheConstants.{MAX_BLOCKS};
 
-use crate::tests::samples::{has_name, is_shown};
+use crate::tests::samples::is_shown;
 use mm_base::Kind;
 use mm_packet::{BlockPacket, Header, Octets, Packet};
-use mm_store::{AnyStore, BlockStore, Fault, PacketStore, Put, RingStore, Stored, laws};
+use mm_store::{AnyStore, BlockStore, Fault, PacketStore, Put, RingStore, Stored};
 use std::alloc::Global;
 use std::process::Abort;
 
@@ -430,14 +430,6 @@ fn stored_packets_are_equal_with_their_times(rt: HostRuntime) {
 }
 
 #[test]
-fn refusals_have_numbers_and_names(rt: HostRuntime) {
-    has_name(&rt, Fault::HoldsMore, 9, "HoldsMore");
-    has_name(&rt, Fault::NoMemory, 0, "NoMemory");
+fn a_refusal_is_shown_by_number_and_name(rt: HostRuntime) {
     is_shown(&rt, rt.alloc(), &Fault::HoldsMore, "9 HoldsMore");
-}
-
-#[test]
-fn laws_are_called() {
-    laws::stores_lose_alike();
-    laws::stores_stay_stores();
 }

@@ -1,21 +1,14 @@
 //! The worked examples: what each plan loses, whether it fits, and what its cut shows.
 use crate::tests::samples::{
-    A_AND_B, APART, CHANNEL_LIMIT_CUT, FIRST_RUN, SCI, SCI_OF_SIZE_2, THREE_STEPS, problem_of,
+    A_AND_B, A_LIMITED, APART, CHANNEL_LIMIT_CUT, FIRST_RUN, SCI, SCI_OF_SIZE_2, SCI_STARTS_WITH_2,
+    THREE_STEPS, TWO_STEPS_OF_A, problem_of,
 };
 use mm_cut::{Verdict, bound, first_bad, first_bad_count, verify};
-use mm_plan::{Sheet, fits, loss_of};
+use mm_plan::{Fault, Sheet, fits, loss_of};
 use mm_problem::Problem;
 use std::process::Abort;
 
-const TWO_STEPS_OF_A: &str = "step,window,A\n1,5,3\n2,0,3\n";
-
-const SCI_STARTS_WITH_2: &str =
-    "[[store]]\nid = \"SCI\"\nsize = 4\ntype = \"bounded\"\nchannel = 0\nstart = 2\n";
-
 const A: &str = "[[store]]\nid = \"A\"\nsize = 3\ntype = \"bounded\"\nchannel = 0\n";
-
-const A_LIMITED: &str =
-    "[[store]]\nid = \"A\"\nsize = 3\ntype = \"bounded\"\nchannel = 0\n[[limit]]\nchannel = 0\nblocks = 1\n";
 
 const A_AND_B_LIMITED: &str =
     "[[store]]\nid = \"A\"\nsize = 3\ntype = \"bounded\"\nchannel = 0\n\n[[store]]\nid = \"B\"\nsize = 3\ntype = \"bounded\"\nchannel = 0\n\n[[limit]]\nchannel = 0\nblocks = 1\n";
@@ -203,4 +196,12 @@ fn plans_and_cuts_of_the_worked_examples(rt: HostRuntime) {
         assert!(rt; bound_of(&problem, &sheet) == row.bound, "{}", row.name);
         is_judged(&rt, &problem, &sheet, row);
     }
+}
+
+// A plan for one store and three steps, beside a problem of two stores.
+#[test]
+fn a_sheet_for_another_problem_has_another_shape(rt: HostRuntime) {
+    let problem = problem_of(&rt, rt.alloc(), A_AND_B, "step,window,A,B\n1,2,3,3\n");
+    let sheet = Sheet::parse(rt.alloc(), FIRST_RUN).expect(&rt, "a sheet");
+    assert!(rt; sheet.shape(&problem).err() == Some(Fault::Shape));
 }

@@ -1,125 +1,27 @@
 //! Networks with values from a textbook or counted by hand.
 
-use crate::tests::samples::next_number;
-use mm_base::Refused;
-use mm_flow::laws::{
-    constants_are, net_flow_is_the_value, solution_is_best, value_is_within_each_cut,
+use crate::tests::samples::{
+    A_AND_B, A_LIMITED, APART, SCI, SCI_OF_SIZE_2, SCI_STARTS_WITH_2, THREE_STEPS, TWO_STEPS_OF_A,
+    joined, numbered, problem_of, sixteen_stores,
 };
 use mm_flow::paths::solve_paths;
 use mm_flow::{Fault, MAX_ARCS, MAX_CAPACITY, MAX_NODES, Network, Solved, solve};
+use mm_problem::Problem;
 use std::alloc::Global;
 use std::process::Abort;
+
+// An arc: from where, to where, and its capacity.
+pub(crate) type ArcRow = (u32, u32, Option<u64>);
 
 // A network, and the value of its maximum flow from node 0 to the last node; `None` where unlimited arcs lead there.
 struct Case {
     name: &'static str,
     nodes: u32,
-    arcs: &'static [(u32, u32, Option<u64>)],
+    arcs: &'static [ArcRow],
     value: Option<u64>,
 }
 
-static CASES: [Case; 18] = [
-    Case {
-        name: "no arcs",
-        nodes: 2,
-        arcs: &[],
-        value: Some(0),
-    },
-    Case {
-        name: "a single arc",
-        nodes: 2,
-        arcs: &[(0, 1, Some(7))],
-        value: Some(7),
-    },
-    // The narrower of two arcs in a row.
-    Case {
-        name: "in a row",
-        nodes: 3,
-        arcs: &[(0, 1, Some(7)), (1, 2, Some(4))],
-        value: Some(4),
-    },
-    // Two paths without a common arc: 2 and 3.
-    Case {
-        name: "side by side",
-        nodes: 4,
-        arcs: &[
-            (0, 1, Some(2)),
-            (1, 3, Some(2)),
-            (0, 2, Some(3)),
-            (2, 3, Some(3)),
-        ],
-        value: Some(5),
-    },
-    Case {
-        name: "parallel arcs",
-        nodes: 2,
-        arcs: &[(0, 1, Some(2)), (0, 1, Some(3))],
-        value: Some(5),
-    },
-    // Loops carry nothing on.
-    Case {
-        name: "loops",
-        nodes: 3,
-        arcs: &[
-            (0, 0, Some(9)),
-            (0, 1, Some(4)),
-            (1, 1, None),
-            (1, 2, Some(6)),
-        ],
-        value: Some(4),
-    },
-    // What comes back to the source adds nothing: the one arc out of it carries 3.
-    Case {
-        name: "arcs into the source",
-        nodes: 3,
-        arcs: &[(1, 0, Some(5)), (0, 1, Some(3)), (1, 2, Some(8))],
-        value: Some(3),
-    },
-    Case {
-        name: "no way out of the source",
-        nodes: 3,
-        arcs: &[(1, 0, None), (1, 2, Some(5))],
-        value: Some(0),
-    },
-    Case {
-        name: "no way into the sink",
-        nodes: 3,
-        arcs: &[(0, 1, Some(5)), (2, 1, None)],
-        value: Some(0),
-    },
-    // Out of node 1 lead 4 towards the sink, and 3 back.
-    Case {
-        name: "arcs both ways",
-        nodes: 3,
-        arcs: &[
-            (0, 1, Some(5)),
-            (1, 0, Some(3)),
-            (1, 2, Some(4)),
-            (2, 1, Some(2)),
-        ],
-        value: Some(4),
-    },
-    // Nodes 0 to 2 are the cut: 4 and 5.
-    Case {
-        name: "narrow in the middle",
-        nodes: 5,
-        arcs: &[
-            (0, 1, Some(10)),
-            (0, 2, Some(10)),
-            (1, 2, Some(2)),
-            (1, 3, Some(4)),
-            (2, 3, Some(5)),
-            (3, 4, Some(100)),
-        ],
-        value: Some(9),
-    },
-    // 6 through the unlimited arc and 1 beside it.
-    Case {
-        name: "an unlimited arc that is not alone",
-        nodes: 3,
-        arcs: &[(0, 1, None), (1, 2, Some(6)), (0, 2, Some(1))],
-        value: Some(7),
-    },
+static CASES: [Case; 5] = [
     Case {
         name: "greatest capacities",
         nodes: 2,
@@ -194,21 +96,10 @@ static CASES: [Case; 18] = [
         ],
         value: Some(2_000_000),
     },
-    Case {
-        name: "unlimited",
-        nodes: 3,
-        arcs: &[(0, 1, None), (0, 2, Some(1)), (1, 2, None)],
-        value: None,
-    },
 ];
 
 // The network of so many nodes with these arcs.
-pub(crate) fn built(
-    rt: &impl Abort,
-    alloc: Global,
-    nodes: u32,
-    arcs: &[(u32, u32, Option<u64>)],
-) -> Network {
+pub(crate) fn built(rt: &impl Abort, alloc: Global, nodes: u32, arcs: &[ArcRow]) -> Network {
     let mut network = Network::new(alloc);
     for _ in 0..nodes {
         node(rt, &mut network);
@@ -275,130 +166,152 @@ fn values_by_hand(rt: HostRuntime) {
     }
 }
 
-// Stores of one size: what arrives at each store in each step, the pass windows, and the most blocks that do not get
-// lost. They flow through the stores to the windows, or stay there after the last step.
-struct Stores {
-    name: &'static str,
-    stores: usize,
-    size: u64,
-    arrivals: &'static [u64],
-    windows: &'static [u64],
-    value: u64,
+// The numbers of the nodes of a problem's network, as the planner gives them: the two ends, and for each step from 1 what comes to the
+// stores, what they hold, what leaves by channels, and the pass.
+const SOURCE: u32 = 0;
+
+const SINK: u32 = 1;
+
+const STEP_NODES: u32 = 41;
+
+const HELD: u32 = 16;
+
+const CHANNELS: u32 = 32;
+
+const PASS: u32 = 40;
+
+fn node_of(step: u32, place: u32) -> u32 {
+    STEP_NODES.saturating_mul(step).saturating_add(place)
 }
 
-static STORES: [Stores; 5] = [
-    // 10 arrive and 2 are lost.
-    Stores {
-        name: "first_run",
-        stores: 1,
-        size: 4,
-        arrivals: &[3, 3, 4],
-        windows: &[2, 2, 0],
-        value: 8,
-    },
-    // 9 arrive and 5 are lost.
-    Stores {
-        name: "more_than_the_store_holds",
-        stores: 1,
-        size: 4,
-        arrivals: &[9],
-        windows: &[9],
-        value: 4,
-    },
-    // All 8 are kept or dumped.
-    Stores {
-        name: "foresight_beats_even_split",
-        stores: 2,
-        size: 3,
-        arrivals: &[3, 3, 2, 0],
-        windows: &[2, 0],
-        value: 8,
-    },
-    // 10 arrive and 6 are lost.
-    Stores {
-        name: "two_stretches_of_one_store",
-        stores: 1,
-        size: 2,
-        arrivals: &[5, 0, 5],
-        windows: &[0, 9, 0],
-        value: 4,
-    },
-    // 4,096,000,000 arrive, and each store keeps 1.
-    Stores {
-        name: "largest_loss",
-        stores: 16,
-        size: 1,
-        arrivals: &[1_000_000; 4096],
-        windows: &[0; 256],
-        value: 16,
-    },
-];
+// What the blocks of a store do in a step: they come, the store holds some, keeps them for the next step, or they leave.
+#[derive(Clone, Copy)]
+enum Way {
+    Come,
+    Hold,
+    Keep,
+    Leave,
+}
 
-// The network of the stores, with the source as node 0 and the sink as node 1.
-fn network_of(rt: &impl Abort, alloc: Global, stores: &Stores) -> Network {
-    let mut network = Network::new(alloc);
-    let source = node(rt, &mut network);
-    let sink = node(rt, &mut network);
-    let mut arrivals = stores.arrivals.iter();
-    let mut kept: Vec<u32> = Vec::new(alloc);
-    for window in stores.windows {
-        let pass = node(rt, &mut network);
-        arc(rt, &mut network, pass, sink, Some(*window));
-        for store in 0..stores.stores {
-            let come = node(rt, &mut network);
-            let held = node(rt, &mut network);
-            let arrived = arrivals.next().copied().unwrap_or(0);
-            arc(rt, &mut network, source, come, Some(arrived));
-            arc(rt, &mut network, come, held, Some(stores.size));
-            arc(rt, &mut network, held, pass, None);
-            if let Some(before) = kept.get_mut(store) {
-                arc(rt, &mut network, *before, come, None);
-                *before = held;
-            } else {
-                kept.push(held).expect(rt, "memory");
-            }
+// What comes to a store in a step, and its start volume in the first.
+fn comes(rt: &impl Abort, problem: &Problem, step: u32, store: usize) -> u32 {
+    assert!(rt; store < problem.stores());
+    assert!(rt; 0 < step && step <= problem.steps());
+    let arrivals = problem.arrivals(store, step);
+    if step == 1 {
+        arrivals.saturating_add(problem.start(store))
+    } else {
+        arrivals
+    }
+}
+
+// The arc for it.
+fn store_arc(rt: &impl Abort, problem: &Problem, way: Way, step: u32, store: usize) -> ArcRow {
+    assert!(rt; store < problem.stores());
+    let place = u32::try_from(store).expect(rt, "few stores");
+    let (come, held) = (
+        node_of(step, place),
+        node_of(step, HELD.saturating_add(place)),
+    );
+    let leaves = CHANNELS.saturating_add(u32::from(problem.channel(store)));
+    match way {
+        Way::Come => (
+            SOURCE,
+            come,
+            Some(u64::from(comes(rt, problem, step, store))),
+        ),
+        Way::Hold => (come, held, Some(u64::from(problem.size(store)))),
+        Way::Keep if step == problem.steps() => (held, SINK, None),
+        Way::Keep => (held, node_of(step.saturating_add(1), place), None),
+        Way::Leave => (held, node_of(step, leaves), None),
+    }
+}
+
+// Adds the arcs of a step, kind by kind.
+fn add_step(rt: &impl Abort, network: &mut Network, problem: &Problem, step: u32) {
+    for way in [Way::Come, Way::Hold, Way::Keep, Way::Leave] {
+        for store in 0..problem.stores() {
+            let (from, to, capacity) = store_arc(rt, problem, way, step, store);
+            arc(rt, network, from, to, capacity);
         }
     }
-    for last in &kept {
-        arc(rt, &mut network, *last, sink, None);
+    let pass = node_of(step, PASS);
+    for channel in 0..problem.channels() {
+        let from = node_of(step, CHANNELS.saturating_add(u32::from(channel)));
+        arc(
+            rt,
+            network,
+            from,
+            pass,
+            problem.limit(channel).map(u64::from),
+        );
     }
-    network
+    assert!(rt; 0 < step && step <= problem.steps());
+    arc(
+        rt,
+        network,
+        pass,
+        SINK,
+        Some(u64::from(problem.window(step))),
+    );
 }
 
-#[test]
-fn networks_of_stores(rt: HostRuntime) {
-    for case in &STORES {
-        let network = network_of(&rt, rt.alloc(), case);
-        let value = same_value(&rt, rt.alloc(), &network, 0, 1);
-        assert!(rt; value == Some(case.value), "{}", case.name);
-    }
-}
-
-// A network of so many nodes, with arcs between them at random, of which one in 64 is unlimited.
-fn made(rt: &impl Abort, alloc: Global, nodes: u32, arcs: u32, state: &mut u32) -> Network {
+// The network that the planner solves for a problem.
+fn network_of(rt: &impl Abort, alloc: Global, problem: &Problem) -> Network {
+    let nodes = node_of(problem.steps().saturating_add(1), 0);
     let mut network = built(rt, alloc, nodes, &[]);
-    for _ in 0..arcs {
-        assert!(rt; nodes > 0);
-        let from = next_number(state) % nodes;
-        let to = next_number(state) % nodes;
-        let number = next_number(state);
-        let capacity = (number % 64 > 0).then_some(u64::from(number) / 64 % 100);
-        arc(rt, &mut network, from, to, capacity);
+    for step in 1..problem.steps() + 1 {
+        add_step(rt, &mut network, problem, step);
     }
     network
 }
 
+// Both solvers send as many blocks through a problem's network as do not get lost.
+fn keeps(rt: &impl Abort, alloc: Global, setup: &str, forecast: &str, kept: u64) {
+    let problem = problem_of(rt, alloc, setup, forecast);
+    let network = network_of(rt, alloc, &problem);
+    let value = same_value(rt, alloc, &network, SOURCE, SINK);
+    assert!(rt; value == Some(kept), "{forecast}");
+}
+
+const A_LIMITED_AND_B: &str =
+    "[[store]]\nid = \"A\"\nsize = 3\ntype = \"bounded\"\nchannel = 0\n\n[[store]]\nid = \"B\"\nsize = 3\ntype = \"bounded\"\nchannel = 1\n\n[[limit]]\nchannel = 0\nblocks = 1\n";
+
+// Setups and forecasts, and how many of all blocks do not get lost.
+static KEPT: [(&str, &str, u64); 7] = [
+    // first_run: 10 arrive and 2 are lost.
+    (SCI, THREE_STEPS, 8),
+    // more_than_the_store_holds: 9 arrive and 5 are lost.
+    (SCI, "step,window,SCI\n1,9,9\n", 4),
+    // foresight_beats_even_split: all 8 are kept or dumped.
+    (A_AND_B, "step,window,A,B\n1,2,3,3\n2,0,2,0\n", 8),
+    // two_stretches_of_one_store: 10 arrive and 6 are lost.
+    (SCI_OF_SIZE_2, APART, 4),
+    // opening_contents_plan: 2 are there, 10 arrive and 4 are lost.
+    (SCI_STARTS_WITH_2, THREE_STEPS, 8),
+    // channel_limit_cut: 6 arrive and 2 are lost.
+    (A_LIMITED, TWO_STEPS_OF_A, 4),
+    // channel_limit_shares: 10 arrive and 2 are lost.
+    (A_LIMITED_AND_B, "step,window,A,B\n1,2,3,3\n2,0,2,2\n", 8),
+];
+
 #[test]
-fn solvers_agree_on_made_networks(rt: HostRuntime) {
-    let mut state = 1;
-    let mut positive = 0_u32;
-    for number in 1_u32..201 {
-        let nodes = 5 * number;
-        let network = made(&rt, rt.alloc(), nodes, 3 * nodes, &mut state);
-        let value = same_value(&rt, rt.alloc(), &network, 0, 1);
-        positive = positive.saturating_add(u32::from(value > Some(0)));
+fn networks_of_problems(rt: HostRuntime) {
+    for (setup, forecast, kept) in &KEPT {
+        keeps(&rt, rt.alloc(), setup, forecast, *kept);
     }
-    assert!(rt; positive > 100);
+}
+
+// largest_loss: 4,096,000,000 arrive, and each of 16 stores keeps 1.
+#[test]
+fn the_network_of_the_largest_loss(rt: HostRuntime) {
+    let setup = sixteen_stores(&rt, rt.alloc());
+    let header = "step,window,S0,S1,S2,S3,S4,S5,S6,S7,S8,S9,S10,S11,S12,S13,S14,S15\n";
+    let full =
+        ",0,1000000,1000000,1000000,1000000,1000000,1000000,1000000,1000000,1000000,1000000,1000000,1000000,1000000,1000000,1000000,1000000";
+    let records = numbered(&rt, rt.alloc(), "", 256, full);
+    let forecast = joined(&rt, rt.alloc(), &[header, records.as_str()]);
+    keeps(&rt, rt.alloc(), setup.as_str(), forecast.as_str(), 16);
 }
 
 static BACKWARDS: Case = Case {
@@ -413,31 +326,13 @@ fn ends_in_any_order(rt: HostRuntime) {
     check(&rt, rt.alloc(), &BACKWARDS, 2, 0);
 }
 
-// Refusals with their numbers, their names, and as they are printed.
-static NAMED: [(Fault, u8, &str, &str); 3] = [
-    (Fault::NoMemory, 0, "NoMemory", "0 NoMemory"),
-    (Fault::Unbounded, 36, "Unbounded", "36 Unbounded"),
-    (Fault::SameEnds, 37, "SameEnds", "37 SameEnds"),
-];
-
 #[test]
-fn faults_have_numbers_and_names(rt: HostRuntime) {
-    for (fault, number, name, text) in &NAMED {
-        assert!(rt; fault.number() == *number && fault.name() == *name);
-        let shown = fault.to_string(rt.alloc()).expect(&rt, "memory");
-        assert!(rt; shown.as_str() == *text, "{text}");
-    }
+fn a_refusal_is_printed_with_number_and_name(rt: HostRuntime) {
+    let shown = Fault::Unbounded.to_string(rt.alloc()).expect(&rt, "memory");
+    assert!(rt; shown.as_str() == "36 Unbounded");
 }
 
-#[test]
-fn laws_are_called() {
-    constants_are();
-    net_flow_is_the_value();
-    value_is_within_each_cut();
-    solution_is_best();
-}
-
-const FOUR_NODES: [(u32, u32, Option<u64>); 5] = [
+const FOUR_NODES: [ArcRow; 5] = [
     (0, 1, Some(3)),
     (0, 2, Some(2)),
     (1, 2, Some(5)),

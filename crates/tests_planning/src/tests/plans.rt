@@ -66,8 +66,19 @@ fn nothing_leaves_by_the_plan_of_zeros(rt: HostRuntime) {
     assert!(rt; !plan.has_shape(&other));
 }
 
+// 3, 4, 4 blocks are written, 3, 3, 4 are left, and 0, 2, 3 are lost.
 #[test]
 fn one_amount_is_set(rt: HostRuntime) {
+    let problem = problem_of(&rt, rt.alloc(), SCI, THREE_STEPS);
+    assert!(rt; problem.stores() == 1 && problem.steps() == 3);
+    let mut plan = Plan::zero(rt.alloc(), &problem).expect(&rt, "memory");
+    plan.set(0, 2, 1);
+    has_amounts(&rt, &problem, &plan, &[0, 1, 0], "one is set");
+    assert!(rt; loss_of(&problem, &plan) == 5);
+}
+
+#[test]
+fn one_amount_of_two_stores_is_set(rt: HostRuntime) {
     let problem = problem_of(&rt, rt.alloc(), A_AND_B, A_AND_B_IDLE);
     assert!(rt; problem.stores() == 2 && problem.steps() == 3);
     let mut plan = Plan::zero(rt.alloc(), &problem).expect(&rt, "memory");

@@ -13,6 +13,13 @@ pub(crate) const SCI: &str = "[[store]]\nid = \"SCI\"\nsize = 4\ntype = \"bounde
 pub(crate) const SCI_OF_SIZE_2: &str =
     "[[store]]\nid = \"SCI\"\nsize = 2\ntype = \"bounded\"\nchannel = 0\n";
 
+pub(crate) const SCI_STARTS_WITH_2: &str =
+    "[[store]]\nid = \"SCI\"\nsize = 4\ntype = \"bounded\"\nchannel = 0\nstart = 2\n";
+
+// A store of size 3 on a channel with a limit of 1.
+pub(crate) const A_LIMITED: &str =
+    "[[store]]\nid = \"A\"\nsize = 3\ntype = \"bounded\"\nchannel = 0\n[[limit]]\nchannel = 0\nblocks = 1\n";
+
 // Two stores of size 3 on one channel.
 pub(crate) const A_AND_B: &str =
     "[[store]]\nid = \"A\"\nsize = 3\ntype = \"bounded\"\nchannel = 0\n\n[[store]]\nid = \"B\"\nsize = 3\ntype = \"bounded\"\nchannel = 0\n";
@@ -21,6 +28,8 @@ pub(crate) const THREE_STEPS: &str = "step,window,SCI\n1,2,3\n2,2,3\n3,0,4\n";
 
 // Two steps with more arrivals than the store of size 2 holds, and a wide window between them.
 pub(crate) const APART: &str = "step,window,SCI\n1,0,5\n2,9,0\n3,0,5\n";
+
+pub(crate) const TWO_STEPS_OF_A: &str = "step,window,A\n1,5,3\n2,0,3\n";
 
 // The best plan of `SCI` and `THREE_STEPS`.
 pub(crate) const FIRST_RUN: &[u8] =
@@ -160,7 +169,7 @@ pub(crate) fn filled(rt: &impl Abort, alloc: Global, problem: &Problem, plan: &P
 }
 
 // The next of the linear congruential numbers, of 24 bits (Numerical Recipes, section 7.1).
-pub(crate) fn next_number(state: &mut u32) -> u32 {
+fn next_number(state: &mut u32) -> u32 {
     *state = state.wrapping_mul(1_664_525).wrapping_add(1_013_904_223);
     *state >> 8
 }

@@ -27,10 +27,15 @@ fn shown_loss(rt: &impl Abort, problem: &Problem, planned: &Planned) -> u64 {
     loss
 }
 
-// What is lost by what is proposed, once its idle windows are used.
+// What is lost by what is proposed, once its idle windows are used: its own cut shows that no plan loses less.
 fn proposed_loss(rt: &impl Abort, alloc: Global, problem: &Problem) -> u64 {
     let proposed = propose(alloc, problem).expect(rt, "memory");
-    loss_of(problem, &filled(rt, alloc, problem, &proposed.plan))
+    let plan = filled(rt, alloc, problem, &proposed.plan);
+    let loss = loss_of(problem, &plan);
+    let (cut, by_channels) = (proposed.cut.as_slice(), proposed.by_channels.as_slice());
+    let verdict = verify(problem, &plan, cut, by_channels, loss, loss as i64);
+    assert!(rt; verdict == Verdict::Least(loss), "{verdict:?}");
+    loss
 }
 
 // The loss of a problem by the planner, by the network alone, and by the proposal alone, which is the same.

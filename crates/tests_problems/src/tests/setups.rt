@@ -53,9 +53,20 @@ fn setup_texts_refused(rt: HostRuntime) {
     refused_parts(&rt, rt.alloc(), &SETUP_TEXTS_REFUSED)
 }
 
-static DOCUMENTS_REFUSED: [(&str, &str); 13] = [
+// Arrays that stand so deep in one another are refused with this fault.
+fn nested(rt: &impl Abort, alloc: Global, depth: usize, fault: &str) {
+    let open = "[".repeat(alloc, depth).expect(rt, "memory");
+    let close = "]".repeat(alloc, depth).expect(rt, "memory");
+    let text = joined(rt, alloc, &["title = ", open.as_str(), close.as_str()]);
+    refused(rt, alloc, text.as_bytes(), fault);
+}
+
+static DOCUMENTS_REFUSED: [(&str, &str); 15] = [
     ("store", "27 SetupText"),
     ("store = [1", "27 SetupText"),
+    // A float that overflows, and one that does not.
+    ("title = 1e999", "27 SetupText"),
+    ("title = 1e99", "28 SetupField row 0 name unknown"),
     ("title = 1", "28 SetupField row 0 name unknown"),
     ("store = 3\ntitle = 1", "28 SetupField row 0 name unknown"),
     ("store = 3", "28 SetupField row 0 name store"),
@@ -88,6 +99,8 @@ fn documents_refused(rt: HostRuntime) {
     for (text, fault) in &DOCUMENTS_REFUSED {
         refused(&rt, alloc, text.as_bytes(), fault);
     }
+    nested(&rt, alloc, 10, "28 SetupField row 0 name unknown");
+    nested(&rt, alloc, 1000, "27 SetupText");
     let ones = "1, ".repeat(alloc, 257).expect(&rt, "memory");
     let head = "store = [1]\nlimit = [1, 2, 3, 4, 5, 6, 7, 8, 9]\nroute = [";
     let routes = joined(&rt, alloc, &[head, ones.as_str(), "]"]);

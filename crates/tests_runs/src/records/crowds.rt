@@ -131,6 +131,9 @@ fn gates_meet_at<R: Threads + Wait + Sync + Abort>(
     let mut memory = memory_of(rt, alloc, setup.as_str());
     let sources = gates(rt, alloc, apids, each);
     let step = recorded(rt, record_step(rt, alloc, &mut memory, 1, 0, sources));
+    let many = apids.len().saturating_mul(each as usize);
+    let is_whole = step.recorded.len() == apids.len() && step.sources.len() == many;
+    assert!(rt; is_whole, "a row for each store, and all sources");
     all_met(rt, &step, u64::from(each));
 }
 

@@ -3,8 +3,8 @@ use Rattle.mm_commands.proofs.run.run_tool.Goals as goal
 
 pub returns-clause-does : goal.returns-clause-does
 returns-clause-does g c =
-    code-done _ _ _ _ c.run_words.result _ c.code_of.ensures.code c.code_of.ensures.failed c.run_words.ensures.does
+    code-done _ _ _ _ c.run_words-run.result _ c.end.ensures.code c.end.ensures.failed c.run_words-run.ensures.does
 
 pub returns-clause-taken : goal.returns-clause-taken
 returns-clause-taken g c line =
-    code-taken c.run_words.result _ c.code_of.ensures.code c.code_of.ensures.failed (c.run_words.ensures.taken line)
+    code-taken c.run_words-run.result _ c.end.ensures.code c.end.ensures.failed (c.run_words-run.ensures.taken line)

@@ -10,5 +10,6 @@ invariant-loop-turn g l = record {
   within : length l.text.items ≤ MAX_READS;
   read : Consumes (g.I.Input.coming l.initial.input) (g.I.Input.coming l.input) l.text.items;
   sure : g.I.Input.is_sure l.input ≡ g.I.Input.is_sure l.initial.input;
+  failed : g.I.Input.has_failed l.input ≡ g.I.Input.has_failed l.initial.input;
   each : IsTrue (g.I.Input.is_sure l.input) → l._turn ≤ length l.text.items;
 }

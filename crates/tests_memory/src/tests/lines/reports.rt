@@ -1,6 +1,6 @@
 //! Reports, to the octet, and their numbers.
 use super::{CONFIGURATIONS, Talk, each_answers};
-use mm_ask::{Counters, Numbers, Outcome, SEQUENCE_COUNTS, laws, request_of};
+use mm_ask::{Counters, Numbers, Outcome, request_of};
 use mm_st15::ReportKind;
 use std::process::Abort;
 
@@ -48,9 +48,7 @@ const EVERY_ANSWER: &str = "\
 17 report 0864C003001D200F17000000000000000000000011015343492020202020000000050005
 ";
 
-static TALKS: [Talk; 5] = talks! {
-    "the configuration of each store", CONFIGURATIONS => AllDone,
-    "1 report 0864C000001D200F17000000000000000000000001015343492020202020000000040100\n";
+static TALKS: [Talk; 4] = talks! {
     // The report is sent from the request's APID; acknowledgement flags and sequence count are not repeated.
     "a report goes to the request's source", "187BC00500042F0F161234" => AllDone,
     "1 report 087BC000001D200F17000012340000000000000001015343492020202020000000040100\n";
@@ -113,12 +111,4 @@ fn counters_begin_again(rt: HostRuntime) {
 fn a_line_s_request(rt: HostRuntime) {
     let asked = request_of(rt.alloc(), CONFIGURATIONS.as_bytes()).expect(&rt, "a request");
     assert!(rt; asked.request.subtype() == 22 && asked.packet.apid() == 100);
-}
-
-#[test]
-fn laws_are_called(rt: HostRuntime) {
-    laws::numbers_count_reports();
-    laws::conversations_count_their_reports();
-    laws::constants_are();
-    assert!(rt; SEQUENCE_COUNTS == 16_384);
 }

@@ -315,16 +315,9 @@ fn only_256_steps_are_taken(rt: HostRuntime) {
     }
 }
 
-static FAULTS: [(Fault, &str); 3] = [
-    (Fault::PlanText { line: 9 }, "34 PlanText line 9"),
-    (Fault::Shape, "35 Shape"),
-    (Fault::NoMemory, "0 NoMemory"),
-];
-
 #[test]
-fn refusals_are_printed_with_number_name_and_line(rt: HostRuntime) {
-    for (fault, text) in &FAULTS {
-        let shown = fault.to_string(rt.alloc()).expect(&rt, "memory");
-        assert!(rt; shown.as_str() == *text, "{text}");
-    }
+fn a_refusal_is_printed_with_number_name_and_line(rt: HostRuntime) {
+    let fault = Fault::PlanText { line: 9 };
+    let shown = fault.to_string(rt.alloc()).expect(&rt, "memory");
+    assert!(rt; shown.as_str() == "34 PlanText line 9");
 }

@@ -1,15 +1,11 @@
 //! The least cut beside both solvers, on tiny networks.
 ghost use Rattle.std.specs.Prelude.{◌<◌};
 
-use crate::tests::flows::{built, same_value};
+use crate::tests::flows::{ArcRow, built, same_value};
 use crate::tests::samples::next_below;
-use mm_exhaustive::laws::constants_are;
 use mm_exhaustive::{MAX_TRIED, least_cut};
 use std::alloc::Global;
 use std::process::Abort;
-
-// An arc: from where, to where, and its capacity.
-type ArcRow = (u32, u32, Option<u64>);
 
 // The least capacity of a cut between node 0 and node 1, which is the value that both solvers answer.
 fn least_capacity(rt: &impl Abort, alloc: Global, nodes: u32, arcs: &[ArcRow]) -> Option<u64> {
@@ -55,7 +51,6 @@ static COUNTED: [(u32, &[ArcRow], Option<u64>); 5] = [
 
 #[test]
 fn cuts_counted_by_hand(rt: HostRuntime) {
-    constants_are();
     for (nodes, arcs, least) in &COUNTED {
         let found = least_capacity(&rt, rt.alloc(), *nodes, arcs);
         assert!(rt; found == *least, "{nodes} nodes");
