@@ -4,7 +4,7 @@ use Rattle.mm_system.specs.Statuses.{exit_code}
 use Rattle.mm_system.specs.declared.status.Status.{Status}
 use Rattle.mm_system.specs.declared.status.Status.TheVariants.{Done, Refused, BadCommandLine}
 use Rattle.mm_system.specs.Contents.{Contents}
-use Rattle.mm_commands.specs.Doing.{Does, DoesTask, IsBadLine, IsDone, TellsVersion, WantsMemory}
+use Rattle.mm_commands.specs.Doing.{Does, DoesTask, IsDone, TellsVersion}
 
 -- a task that was done is no refused one
 task-done : (contents : Contents) (words : List (List ℕ)) (before after : Option (List ℕ)) → DoesTask contents words Done before after → IsDone contents words before after

@@ -1,11 +1,15 @@
 -- What is said of a task that is refused.
-use Rattle.std.proofs.Common.{◌≡◌, ℕ, List, ◌∷◌, ◌++◌, [], sym, subst, inl, inr, Result, Ok, Err, IsErrAnd, IfErr, Option, Some, None, Bor}
-use Rattle.mm_system.specs.Contents.{Contents}
+use Rattle.std.proofs.Common.{◌≡◌, ℕ, List, ◌∷◌, ◌++◌, [], refl, sym, subst, inl, inr, Result, Ok, Err, IsErrAnd, IfErr, Option, Some, None, Bor}
+use Rattle.mm_system.specs.Contents.{Contents, MayBeUnread}
 use Rattle.mm_tasks.specs.Answers.{Holds, HoldsPlan}
 use Rattle.mm_tasks.specs.Refusing.{IsFirstUnread, IsUnread, IsFaultOf, files_of, names_of}
 use Rattle.mm_tasks.specs.declared.fault.Fault.{Fault}
 use Rattle.mm_tasks.specs.declared.fault.Fault.TheVariants.{NoMemory, NotRead, Texts, Run, Setup}
 use Rattle.mm_command_line.specs.declared.task.Task.{Task}
+
+-- a file that was not read is the first of itself alone
+pub alone_unread : (contents : Contents) (name : List ℕ) → MayBeUnread (contents name) → IsFirstUnread contents (name ∷ []) name
+alone_unread contents name unread = inl (refl, unread)
 
 -- what holds of the fault that is handed on holds of the one that is told
 pub told : {T : Type 0} (P : Fault → Type 0) (e : Fault) (r : Result T Fault) → IsErrAnd r (λ y. y ≡ e) → P e → IfErr r P

@@ -25,6 +25,7 @@ pub(crate) enum Answer {
 }
 
 /// The bytes of a file.
+#[tactic(auto, using(crate::proofs::Refusals::alone_unread))]
 pub fn read_file<'a, F: Files>(
     alloc: Global,
     files: &mut F,
