@@ -2,7 +2,7 @@
 use Rattle.std.specs.Prelude.{ℕ, List, [], map, slice_index_or}
 use Rattle.mm_packet.specs.declared.header.PacketType.TheVariants.{Telecommand}
 use Rattle.mm_packet.specs.Packet.{SpacePacket}
-use Rattle.mm_order.specs.Sending.{Sent, sent_at}
+use Rattle.mm_dump.specs.Sending.{Sent, sent_at}
 use Rattle.bench_exec.specs.declared.counter.Taken.{Taken}
 
 -- what stands where no packet is expected

@@ -1,12 +1,12 @@
 //! Links that count octets.
-ghost use Rattle.std.specs.Prelude.{◌≡◌, ◌-◌, ◌<◌, ◌^◌, [], ◌∷◌, ◌++◌, All, IsTrue, OnOk, OnErr};
+ghost use Rattle.std.specs.Prelude.{◌≡◌, [], ◌∷◌, ◌++◌, IsTrue, OnOk, OnErr};
 ghost use Rattle.bench_exec.specs.Counted.{expected_at};
 
 use crate::packets::{HEADERS, packet};
 use crate::setting::Setting;
 use anyhow::Result;
 use mm_base::{NoMemory, StoreId};
-use mm_order::{Link, SendFailed};
+use mm_dump::{Link, SendFailed};
 use mm_packet::BlockPacket;
 use std::alloc::Global;
 
@@ -109,11 +109,4 @@ pub fn counters(alloc: Global, setting: &Setting) -> Result<Vec<Counter>> {
         links.push(Counter::new(alloc, setting)?)?;
     }
     Ok(links)
-}
-
-/// Whether each link may fail once more.
-pub fn may_fail(links: &[Counter]) -> bool
-    ensures room { IsTrue result → All (λ l. l.failed < 2 ^ 64 - 1) links.now }
-{
-    links.iter().all(|link| link.failed < u64::MAX)
 }

@@ -1,10 +1,11 @@
 //! Steps of recorders and of dump workers, and the time that they take.
 
-use crate::counter::{Counter, counters, may_fail};
+use crate::counter::{Counter, counters};
 use crate::packets::{Batch, STEP, batches, silence};
 use crate::setting::Setting;
 use anyhow::Result;
 use mm_base::StoreId;
+use mm_dump::may_fail;
 use mm_exec::carry_out;
 use mm_memory::Memory;
 use mm_plan::Sheet;

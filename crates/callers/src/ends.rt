@@ -3,7 +3,7 @@ ghost use Rattle.std.specs.Prelude.{◌≡◌, ◌<◌, ◌^◌};
 ghost use Rattle.std.specs.VecDeque.{deque_len};
 
 use mm_base::StoreId;
-use mm_order::{Link, SendFailed};
+use mm_dump::{Link, SendFailed};
 use mm_packet::BlockPacket;
 use mm_record::Source;
 use mm_store::Stored;

@@ -4,7 +4,7 @@ ghost use Rattle.mm_plan.specs.Sheet.{SheetRows};
 ghost use Rattle.mm_memory.specs.Holdings.{Holdings, memory_of};
 ghost use Rattle.mm_report.specs.declared.cause.Cause.TheVariants.{NoMemory};
 ghost use Rattle.mm_exec.specs.Flying.{AsForecast, Flies, FliesNot, PlansFor};
-ghost use Rattle.mm_exec.specs.Mission.{mission};
+ghost use Rattle.mm_exec.specs.RunInput.{run_input};
 ghost use Rattle.mm_exec.specs.declared.flight.NotFlown.{NotFlown};
 ghost use Rattle.callers.specs.declared.ends.Burst.{Burst};
 ghost use Rattle.callers.specs.declared.ends.Downlink.{Downlink};
@@ -12,7 +12,7 @@ ghost use Rattle.callers.specs.declared.ends.Downlink.{Downlink};
 use crate::ends::{Burst, Downlink};
 use mm_exec::{Flown, NotFlown, fly};
 use mm_memory::Memory;
-use mm_order::Link;
+use mm_dump::Link;
 use mm_problem::{Problem, Setup};
 use mm_ready::Cause;
 use mm_record::Source;
@@ -39,7 +39,7 @@ pub fn plan_and_fly<R: Threads + Wait + Sync>(
     requires links { All (λ l. l.failed < 2 ^ 64 - 1) links.items }
     // The text shows that no plan loses fewer blocks than it says. If what came is what was forecast, that many were lost.
     ensures lost { IfOk result (λ told. (sheet : SheetRows) × PlansFor problem.now told.flown.sheet.items sheet
-        × (AsForecast (mission ⟦<Burst as Source>⟧.gives problem.now sheet.plan 0 (memory_of setup.now) sources.items)
+        × (AsForecast (run_input ⟦<Burst as Source>⟧.gives problem.now sheet.plan 0 (memory_of setup.now) sources.items)
         → told.lost ≡ sheet.loss)) }
     ensures flown { IfOk result (λ told. (left : Holdings)
         × Flies ⟦<Burst as Source>⟧.gives ⟦<Downlink as Link>⟧.sent ⟦<Downlink as Link>⟧.failed

@@ -5,6 +5,7 @@ pub mod checker;
 pub mod ends;
 pub mod flight;
 pub mod flow;
+pub mod halt;
 pub mod memory;
 pub mod packets;
 pub mod requests;

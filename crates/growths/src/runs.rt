@@ -2,8 +2,9 @@
 
 use crate::met::Met;
 use crate::traces::{Traces, traces_of};
-use crate::wire::{Wire, may_fail, new_wires};
+use crate::wire::{Wire, new_wires};
 use mm_base::StoreId;
+use mm_dump::may_fail;
 use mm_exec::{Cause, Halted, NotFlown, carry_out, fly};
 use mm_memory::Memory;
 use mm_plan::Sheet;

@@ -1,8 +1,7 @@
 //! A link that takes no memory for what is sent over it.
-ghost use Rattle.std.specs.Prelude.{◌≡◌, ◌-◌, ◌<◌, ◌^◌, All, IsTrue};
 
 use mm_base::StoreId;
-use mm_order::{Link, SendFailed};
+use mm_dump::{Link, SendFailed};
 use mm_packet::BlockPacket;
 use std::alloc::{AllocError, Global};
 use std::snapshot::Snapshot;
@@ -77,11 +76,4 @@ pub(crate) fn new_wires(alloc: Global, many: usize) -> Result<Vec<Wire>, AllocEr
         wires.push(Wire::new(alloc)?)?;
     }
     Ok(wires)
-}
-
-/// Whether each link may fail once more.
-pub(crate) fn may_fail<L: Link>(links: &[L]) -> bool
-    ensures room { IsTrue result → All (λ l. L.failed l < 2 ^ 64 - 1) links.now }
-{
-    links.iter().all(|link| link.failures() < u64::MAX)
 }

@@ -209,6 +209,22 @@ dumps_of s t wanted gs left none held many leaves =
       others = ap (λ (r : Option Retrieval). record s { store = record s.store { content = left }; deleted = s.deleted + length gs; retrieval = r }) (sym none);
     })
 
+-- the retrieval of all packets, from a state that is sound
+givings_of : (s : State) (seat : ℕ) (gs : List Stored) (es : List Entry) → IsState s → IsLegal s (begun seat ∷ given seat gs ++ es) → Gave s [] s.store.content 0 seat gs es
+givings_of s seat gs es sound legal =
+    let state = ap (λ (p : Reply × State). p.1) (begins s legal.0).stepped in
+    let rises = Rises-of 0 s.store.last s.store.content sound.store.rising
+    (All-weaker (λ (p : Stored). 1 ≤ p.time) (λ (p : Stored). 0 < p.time) (λ p one. omega arith) s.store.content sound.store.from_one)
+    sound.store.up_to_last (omega (arith, sound.store.last_fits)) in
+    gave s [] s.store.content 0 seat gs es refl (All-nil (λ (p : Stored). p.time ≤ 0)) rises (subst (λ (u : State). IsLegal u (given seat gs ++ es)) state legal.1)
+
+-- the packets that it gave are the oldest ones held
+pub given_oldest : (s : State) (seat : ℕ) (gs : List Stored) (es : List Entry) → IsState s → IsLegal s (begun seat ∷ given seat gs ++ es)
+    → (left : List Stored) × (s.store.content ≡ gs ++ left)
+given_oldest s seat gs es sound legal =
+    let givings = givings_of s seat gs es sound legal in
+    (givings.left, givings.split)
+
 -- a whole order dumps the oldest packets
 pub order_dumps : (s t : State) (seat wanted : ℕ) (gave : List Stored) (calls : List Entry) → IsState s → IsOrderOf seat wanted gave calls → IsRun s calls t → Dumps s t wanted gave
 order_dumps s t seat wanted gs calls sound order run =
@@ -216,11 +232,7 @@ order_dumps s t seat wanted gs calls sound order run =
     let legal : IsLegal s (begun seat ∷ given seat gs ++ tail) = subst (IsLegal s) order.are run.legal in
     let began = begins s legal.0 in
     let state = ap (λ (p : Reply × State). p.1) began.stepped in
-    let rises = Rises-of 0 s.store.last s.store.content sound.store.rising
-    (All-weaker (λ (p : Stored). 1 ≤ p.time) (λ (p : Stored). 0 < p.time) (λ p one. omega arith) s.store.content sound.store.from_one)
-    sound.store.up_to_last (omega (arith, sound.store.last_fits)) in
-    let givings = gave s [] s.store.content 0 seat gs tail refl (All-nil (λ (p : Stored). p.time ≤ 0)) rises
-    (subst (λ (u : State). IsLegal u (given seat gs ++ tail)) state legal.1) in
+    let givings = givings_of s seat gs tail sound legal in
     let after = ends s (last_time 0 gs) seat wanted gs givings.left (removed seat gs order.count) givings.split givings.early givings.rises order.most givings.legal in
     let left = deletes s seat order.count gs givings.left givings.split givings.early givings.rises in
     let replays : replay s (begun seat ∷ given seat gs ++ tail) ≡ dumped (idle s) givings.left (length gs) =

@@ -2,6 +2,7 @@
 #![tactic(auto)]
 
 pub mod agree;
+mod copying;
 mod desk;
 mod entry;
 mod event;

@@ -2,41 +2,31 @@
 use Rattle.std.proofs.Common.{◌≡◌, ℕ, ◌+◌, ◌<◌, List, [], ◌∷◌, ◌++◌, length, get_or, map, take, refl, sym, ap, ◌∙◌}
 use Rattle.std.specs.Prelude.{Option, Some, None}
 use Rattle.std.proofs.lemmas.List.{map-append, take_more}
-use Rattle.mm_order.specs.declared.order.OrderBroken.{OrderBroken}
-use Rattle.mm_order.specs.declared.order.OrderBroken.TheVariants.{LinkFailed, NoMemory, Refused}
+use Rattle.mm_dump.specs.declared.order.OrderBroken.{OrderBroken}
+use Rattle.mm_dump.specs.declared.order.OrderBroken.TheVariants.{LinkFailed, NoMemory}
 use Rattle.mm_dump.specs.Courses.{worse, worst_of}
 
 -- the worst of three is found in either order
 worse-assoc : (a b c : Option OrderBroken) → worse (worse a b) c ≡ worse a (worse b c)
 worse-assoc None b c = refl
-worse-assoc (Some Refused) b c = refl
-worse-assoc (Some NoMemory) None c = refl
-worse-assoc (Some NoMemory) (Some Refused) c = refl
-worse-assoc (Some NoMemory) (Some NoMemory) None = refl
-worse-assoc (Some NoMemory) (Some NoMemory) (Some Refused) = refl
-worse-assoc (Some NoMemory) (Some NoMemory) (Some NoMemory) = refl
-worse-assoc (Some NoMemory) (Some NoMemory) (Some LinkFailed) = refl
-worse-assoc (Some NoMemory) (Some LinkFailed) None = refl
-worse-assoc (Some NoMemory) (Some LinkFailed) (Some Refused) = refl
-worse-assoc (Some NoMemory) (Some LinkFailed) (Some NoMemory) = refl
-worse-assoc (Some NoMemory) (Some LinkFailed) (Some LinkFailed) = refl
+worse-assoc (Some NoMemory) b c = refl
 worse-assoc (Some LinkFailed) None c = refl
-worse-assoc (Some LinkFailed) (Some Refused) c = refl
-worse-assoc (Some LinkFailed) (Some NoMemory) None = refl
-worse-assoc (Some LinkFailed) (Some NoMemory) (Some Refused) = refl
-worse-assoc (Some LinkFailed) (Some NoMemory) (Some NoMemory) = refl
-worse-assoc (Some LinkFailed) (Some NoMemory) (Some LinkFailed) = refl
+worse-assoc (Some LinkFailed) (Some NoMemory) c = refl
 worse-assoc (Some LinkFailed) (Some LinkFailed) None = refl
-worse-assoc (Some LinkFailed) (Some LinkFailed) (Some Refused) = refl
-worse-assoc (Some LinkFailed) (Some LinkFailed) (Some NoMemory) = refl
-worse-assoc (Some LinkFailed) (Some LinkFailed) (Some LinkFailed) = refl
+worse-assoc (Some LinkFailed) (Some LinkFailed) (Some why) = refl
 
 -- what is worse than nothing is itself
 pub worse-alone : (a : Option OrderBroken) → worse a None ≡ a
 worse-alone None = refl
-worse-alone (Some Refused) = refl
 worse-alone (Some NoMemory) = refl
 worse-alone (Some LinkFailed) = refl
+
+-- nothing is worse than nothing
+pub worse-none : (a b : Option OrderBroken) → worse a b ≡ None → (a ≡ None) × (b ≡ None)
+worse-none None b none = (refl, none)
+worse-none (Some NoMemory) b none = absurd (cc none)
+worse-none (Some LinkFailed) None none = absurd (cc none)
+worse-none (Some LinkFailed) (Some why) none = absurd (cc none)
 
 -- the worst of causes and one more
 pub worst-push : (whys : List (Option OrderBroken)) (why : Option OrderBroken) → worst_of (whys ++ why ∷ []) ≡ worse (worst_of whys) why

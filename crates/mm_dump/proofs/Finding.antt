@@ -12,7 +12,7 @@ use Rattle.mm_dump.specs.Courses.{Course, calls_at}
 
 -- no order
 abbrev pub nobody : Course
-nobody = record { order = record { place = 0; amount = 0 }; seat = 0; calls = []; sent = []; unsent = []; fails = 0; why = None }
+nobody = record { order = record { place = 0; amount = 0 }; seat = 0; calls = []; sent = []; unsent = []; why = None }
 
 -- the first order at a place
 pub find : ℕ → List Course → Course

@@ -1,30 +1,25 @@
 -- What all workers did, as lists of the orders that each carried out.
-use Rattle.std.proofs.Common.{◌≡◌, ℕ, ◌+◌, ◌<◌, List, [], ◌∷◌, ◌++◌, length, map, All, refl, sym, ap, subst, ◌∙◌, length-append, arith}
-use Rattle.std.specs.List.{sum}
-use Rattle.std.specs.Prelude.{Option}
+use Rattle.std.proofs.Common.{◌≡◌, ℕ, ◌+◌, ◌<◌, ◌≤◌, List, [], ◌∷◌, ◌++◌, length, map, All, refl, sym, ap, subst, ◌∙◌, length-append, arith}
+use Rattle.std.specs.List.{AllZip, sum_by}
+use Rattle.std.specs.Prelude.{Option, Some, None}
 use Rattle.std.proofs.lemmas.List.{length-map}
 use Rattle.std.proofs.lemmas.List.Elements.{All-nil, All-cons, All-head, All-tail, All-map, All-weaker}
-use Rattle.std.proofs.lemmas.List.Sums.{sum_by-cons}
+use Rattle.std.proofs.lemmas.List.Sums.{sum_by-cons, sum_by-append}
 use Rattle.crossbeam_queue.specs.declared.array_queue.Doing.{Doing}
 use Rattle.crossbeam_queue.specs.declared.array_queue.Slotted.{Slotted}
+use Rattle.crossbeam_queue.specs.Passes.{view}
+use Rattle.mm_sums.proofs.Sums.{sum_by-map}
 use Rattle.mm_desk.specs.declared.entry.Entry.{Entry}
 use Rattle.mm_store.specs.declared.stored.Stored.{Stored}
-use Rattle.mm_order.specs.declared.order.Order.{Order}
-use Rattle.mm_order.specs.declared.order.OrderBroken.{OrderBroken}
-use Rattle.mm_order.specs.Sending.{Sent, all_sent}
-use Rattle.mm_crew.specs.declared.crew.Worker.{Worker}
-use Rattle.mm_crew.specs.Closings.{lists_at}
-use Rattle.mm_crew.specs.Crews.{owns_of, list_at}
-use Rattle.mm_crew.specs.Stations.{id_at}
-use Rattle.mm_dump.specs.declared.dumper.Dumper.{Dumper}
-use Rattle.mm_dump.specs.declared.queue.Hand.{Hand}
-use Rattle.mm_dump.specs.Courses.{Course, worst_of, calls_at, sent_by, fails_of, drawn_by}
-use Rattle.mm_dump.specs.Crews.{AllWorked, links_of, pages_of, causes_of}
+use Rattle.mm_shared.specs.Stores.{id_at, list_at}
+use Rattle.mm_dump.specs.declared.order.Order.{Order}
+use Rattle.mm_dump.specs.declared.queue.QueueView.{QueueView}
+use Rattle.mm_dump.specs.declared.stop.Stop.{Stop}
+use Rattle.mm_dump.specs.Courses.{Course, calls_at, sent_by, failed_by, spent_by}
 use Rattle.mm_dump.specs.Dumped.{AllKept, used_by}
-use Rattle.mm_dump.specs.Gear.{IsPart, taken_by}
-use Rattle.mm_dump.specs.Workers.{order_at, AreCourses}
-use Rattle.mm_dump.proofs.Readiness.{IsFresh, unmapped}
-use Rattle.mm_dump.proofs.Working.{whys}
+use Rattle.mm_dump.specs.Sending.{Sent, all_sent}
+use Rattle.mm_dump.specs.Workers.{order_at, AreTried, TookAs, Sided, AllWorked}
+use Rattle.mm_dump.proofs.Weighing.{below, all_below, not_below, is_it, last_stands}
 
 -- an order is the one of some number
 pub record IsOrdered (orders : List Order) (o : Order) : Type 0 where
@@ -32,30 +27,35 @@ pub record IsOrdered (orders : List Order) (o : Order) : Type 0 where
   pub within : number < length orders
   pub is : o ≡ order_at orders number
 
+-- what holds of each element of a mapped list
+pub unmapped : {X Y : Type 0} (P : Y → Type 0) (f : X → Y) (xs : List X) → All P (map f xs) → All (λ (x : X). P (f x)) xs
+unmapped P f [] all = All-nil (λ x. P (f x))
+unmapped P f (x ∷ xs) all = All-cons (λ x. P (f x)) x xs (All-head P (f x) (map f xs) all) (unmapped P f xs (All-tail P (f x) (map f xs) all))
+
 -- a packet of a store
 sending : List ℕ → Stored → Sent
 sending id stored = record { store = id; stored = stored }
 
--- what was sent by an order, and what failed, is what was drawn
-drawn_is : (ids : List (List ℕ)) (cs : List Course) → length (sent_by ids cs) + fails_of cs ≡ drawn_by cs
+-- what orders sent, and what failed, is what they spent
+spent_is : (ids : List (List ℕ)) (cs : List Course) → length (sent_by ids cs) + failed_by cs ≡ spent_by cs
 unfolding sending
-drawn_is ids [] = refl
-drawn_is ids (c ∷ cs) =
+spent_is ids [] = refl
+spent_is ids (c ∷ cs) =
     let here = all_sent (id_at ids c.order.place) c.sent in
     omega (
       arith,
       length-append here (sent_by ids cs),
       length-map c.sent (sending (id_at ids c.order.place)),
-      drawn_is ids cs,
-      sum_by-cons (λ (c : Course). c.fails) c cs,
-      sum_by-cons (λ (c : Course). length c.sent + c.fails) c cs,
+      spent_is ids cs,
+      sum_by-cons (λ (c : Course). length c.unsent) c cs,
+      sum_by-cons (λ (c : Course). length c.sent + length c.unsent) c cs,
     )
 
 -- each link took what its orders sent, and its failures rose
 unfoldable pub AllGrew : {L : Type 0} → (L → List Sent) → (L → ℕ) → List (List ℕ) → List (List Course) → List L → List L → Type 0
 AllGrew sent failed ids [] [] [] = Unit {0}
 AllGrew sent failed ids (cs ∷ more) (old ∷ olds) (new ∷ news) =
-    (sent new ≡ sent old ++ sent_by ids cs) × (failed new ≡ failed old + fails_of cs) × AllGrew sent failed ids more olds news
+    (sent new ≡ sent old ++ sent_by ids cs) × (failed new ≡ failed old + failed_by cs) × AllGrew sent failed ids more olds news
 AllGrew sent failed ids more olds news = ⊥
 
 -- and so it has sent what it had sent before
@@ -71,73 +71,116 @@ all_kept sent failed ids (cs ∷ more) (old ∷ olds) (new ∷ news) grew =
     (record { more = sent_by ids cs; all = grew.0; failures = omega (arith, grew.1) }, all_kept sent failed ids more olds news grew.2)
 
 -- one worker's orders
-ordered_of : (orders : List Order) (courses : List Course) (taken : List ℕ) → map (λ (c : Course). c.order) courses ≡ map (order_at orders) taken
-    → All (λ (k : ℕ). k < length orders) taken → All (λ (c : Course). IsOrdered orders c.order) courses
-ordered_of orders courses taken same within =
+ordered_of : (orders : List Order) (courses : List Course) (numbers : List ℕ) → map (λ (c : Course). c.order) courses ≡ map (order_at orders) numbers
+    → All (λ (k : ℕ). k < length orders) numbers → All (λ (c : Course). IsOrdered orders c.order) courses
+ordered_of orders courses numbers same within =
     unmapped (IsOrdered orders) (λ (c : Course). c.order) courses
     (subst (λ (os : List Order). All (IsOrdered orders) os) (sym same)
-    (All-map (IsOrdered orders) (order_at orders) taken (All-weaker (λ (k : ℕ). k < length orders) (λ (k : ℕ). IsOrdered orders (order_at orders k)) (λ k inside. record { number = k; within = inside; is = refl }) taken within)))
+    (All-map (IsOrdered orders) (order_at orders) numbers (All-weaker (λ (k : ℕ). k < length orders) (λ (k : ℕ). IsOrdered orders (order_at orders k)) (λ k inside. record { number = k; within = inside; is = refl }) numbers within)))
 
-module _ {N W L Q A : Type 0} (sent : L → List Sent) (failed : L → ℕ) (queue : Slotted (Option ℕ) (Doing ℕ Hand) Q A) (ids : List (List ℕ)) (orders : List Order) where
+-- what a worker took weighs what its orders weigh
+took_weighs : (orders : List Order) (g : Order → ℕ) (courses : List Course) (numbers taken : List ℕ) (stop : Option Stop)
+    → map (λ (c : Course). c.order) courses ≡ map (order_at orders) numbers → All (λ (k : ℕ). k < length orders) numbers → TookAs stop (length orders) numbers taken
+    → sum_by (λ (c : Course). g c.order) courses ≡ sum_by (below (length orders) (λ (k : ℕ). g (order_at orders k))) taken
+took_weighs orders g courses numbers taken stop same within took = these ∙ sym (by_stop stop took)
+  where
+    weight : ℕ → ℕ
+    weight k = below (length orders) (λ (k : ℕ). g (order_at orders k)) k
+
+    these : sum_by (λ (c : Course). g c.order) courses ≡ sum_by weight numbers
+    these =
+        sym (sum_by-map g (λ (c : Course). c.order) courses) ∙ ap (sum_by g) same ∙ sum_by-map g (order_at orders) numbers
+        ∙ sym (all_below (length orders) (λ (k : ℕ). g (order_at orders k)) numbers within)
+
+    by_stop : (stop : Option Stop) → TookAs stop (length orders) numbers taken → sum_by weight taken ≡ sum_by weight numbers
+    by_stop None t =
+        omega (arith, ap (sum_by weight) t.2, sum_by-append weight numbers (t.0 ∷ []), sum_by-cons weight t.0 [], not_below (length orders) (λ (k : ℕ). g (order_at orders k)) t.0 t.1)
+    by_stop (Some s) t = ap (sum_by weight) t
+
+-- a worker of whose orders none stopped took a number past those of the orders
+pub record FoundNone (orders : ℕ) (taken : List ℕ) : Type 0 where
+  pub past : ℕ
+  pub beyond : orders ≤ past
+  pub stands : 1 ≤ sum_by (is_it past) taken
+
+found_none : (orders : ℕ) (numbers taken : List ℕ) (stop : Option Stop) → TookAs stop orders numbers taken → stop ≡ None → FoundNone orders taken
+found_none orders numbers taken None took none = record { past = took.0; beyond = took.1; stands = last_stands took.0 numbers taken took.2 }
+found_none orders numbers taken (Some s) took none = absurd (cc none)
+
+-- a worker before it takes an order: no call was made through its lines, and it has spent nothing
+pub record IsFreshAt {L : Type 0} (desks : ℕ) (s : Sided L) : Type 0 where
+  pub count : length s.lines ≡ desks
+  pub empty : (k : ℕ) → list_at s.lines k ≡ []
+  pub spent : s.worker.spent ≡ 0
+
+-- how a worker's orders went, with what stopped it
+pub record IsOf {L : Type 0} (orders : List Order) (courses : List Course) (s : Sided L) : Type 0 where
+  pub are : AreTried s.worker.stop courses
+  pub ordered : All (λ (c : Course). IsOrdered orders c.order) courses
+  pub weighs : (g : Order → ℕ) → sum_by (λ (c : Course). g c.order) courses ≡ sum_by (below (length orders) (λ (k : ℕ). g (order_at orders k))) (view s.worker.pass).taken
+  pub found : s.worker.stop ≡ None → FoundNone (length orders) (view s.worker.pass).taken
+  pub blocks : s.worker.spent ≡ spent_by courses
+
+module _ {L Q A : Type 0} (sent : L → List Sent) (failed : L → ℕ) (queue : Slotted (Option ℕ) (Doing ℕ QueueView) Q A) (ids : List (List ℕ)) (orders : List Order) where
   -- the orders that workers carried out, each one's in order
-  pub record Gathered (desks : ℕ) (olds news : List (Worker N (Dumper W L) OrderBroken)) : Type 0 where
+  pub record Gathered (desks : ℕ) (olds news : List (Sided L)) : Type 0 where
     pub courses : List (List Course)
-    pub of : map (λ (cs : List Course). map (λ (c : Course). c.order) cs) courses
-        ≡ map (λ (w : Worker N (Dumper W L) OrderBroken). map (order_at orders) (taken_by w.own.pass)) news
-    pub ordered : All (λ (cs : List Course). All (λ (c : Course). IsOrdered orders c.order) cs) courses
-    pub are : All (λ (cs : List Course). (why : Option OrderBroken) × AreCourses why cs) courses
-    pub causes : map (λ (cs : List Course). worst_of (whys cs)) courses ≡ causes_of news
-    pub lists : (k : ℕ) → k < desks → lists_at k news ≡ map (calls_at k) courses
-    pub links : AllGrew sent failed ids courses (links_of (owns_of olds)) (links_of (owns_of news))
-    pub used : used_by sent failed (links_of (owns_of news)) ≡ used_by sent failed (links_of (owns_of olds)) + sum (pages_of (owns_of news))
-    pub parts : All (λ (d : Dumper W L). IsPart queue d.pass) (owns_of news)
+    pub each : AllZip (IsOf orders) courses news
+    pub lists : (k : ℕ) → k < desks → map (λ (s : Sided L). list_at s.lines k) news ≡ map (calls_at k) courses
+    pub links : AllGrew sent failed ids courses (map (λ (s : Sided L). s.link) olds) (map (λ (s : Sided L). s.link) news)
 
-  pub gathered : (desks count : ℕ) (olds news : List (Worker N (Dumper W L) OrderBroken)) → All (IsFresh sent failed queue desks count) olds
-      → AllWorked sent failed queue ids orders olds news → Gathered desks olds news
-  unfolding AllWorked AllGrew
-  gathered desks count [] [] fresh all = record {
-    courses = [];
-    of = refl;
-    ordered = All-nil (λ (cs : List Course). All (λ (c : Course). IsOrdered orders c.order) cs);
-    are = All-nil (λ (cs : List Course). (why : Option OrderBroken) × AreCourses why cs);
-    causes = refl;
-    lists = λ k within. refl;
-    links = tt;
-    used = refl;
-    parts = All-nil (λ (d : Dumper W L). IsPart queue d.pass);
-  }
-  gathered desks count [] (new ∷ news) fresh all = absurd all
-  gathered desks count (old ∷ olds) [] fresh all = absurd all
-  gathered desks count (old ∷ olds) (new ∷ news) fresh all =
-      let rest = gathered desks count olds news (All-tail (IsFresh sent failed queue desks count) old olds fresh) all.1 in
-      let one = all.0 in
-      let start = All-head (IsFresh sent failed queue desks count) old olds fresh in
-      let cs = one.worked.courses in
-      let used_here : List (Worker N (Dumper W L) OrderBroken) → List L = λ ws. links_of (owns_of ws) in
+  pub gathered : (desks : ℕ) (olds news : List (Sided L)) → All (IsFreshAt desks) olds → AllWorked sent failed queue ids orders olds news → Gathered desks olds news
+  unfolding AllGrew
+  gathered desks [] [] fresh all = record { courses = []; each = tt; lists = λ k within. refl; links = tt }
+  gathered desks [] (new ∷ news) fresh all = absurd all
+  gathered desks (old ∷ olds) [] fresh all = absurd all
+  gathered desks (old ∷ olds) (new ∷ news) fresh all =
+      let rest = gathered desks olds news (All-tail (IsFreshAt desks) old olds fresh) all.1 in
+      let one = all.0.worked in
+      let on = one.on in
+      let start = All-head (IsFreshAt desks) old olds fresh in
+      let cs = on.courses in
       record {
         courses = cs ∷ rest.courses;
-        of = λ i. one.worked.of i ∷ rest.of i;
-        ordered = All-cons (λ (cs : List Course). All (λ (c : Course). IsOrdered orders c.order) cs) cs rest.courses (ordered_of orders cs (taken_by new.own.pass) one.worked.of one.worked.within) rest.ordered;
-        are = All-cons (λ (cs : List Course). (why : Option OrderBroken) × AreCourses why cs) cs rest.courses (new.broken, one.worked.are) rest.are;
-        causes = λ i. one.worked.are.cause i ∷ rest.causes i;
+        each = (
+          record {
+            are = on.are;
+            ordered = ordered_of orders cs one.numbers on.of on.within;
+            weighs = λ g. took_weighs orders g cs one.numbers (view new.worker.pass).taken new.worker.stop on.of on.within one.took;
+            found = found_none (length orders) one.numbers (view new.worker.pass).taken new.worker.stop one.took;
+            blocks = omega (arith, on.shown.blocks, start.spent);
+          },
+          rest.each,
+        );
         lists = λ k within.
-            let here : list_at new.seats.items k ≡ calls_at k cs =
-            one.worked.shown.lists k (omega (arith, within, start.seats.count)) ∙ ap (λ (es : List Entry). es ++ calls_at k cs) (start.seats.empty k within) in
+            let here : list_at new.lines k ≡ calls_at k cs =
+            on.shown.lists k (omega (arith, within, start.count)) ∙ ap (λ (es : List Entry). es ++ calls_at k cs) (start.empty k) in
             let there = rest.lists k within in
             λ i. here i ∷ there i;
-        links = (one.worked.shown.sent, one.worked.shown.failed, rest.links);
-        used = omega (
-          arith,
-          rest.used,
-          sum_by-cons (λ (l : L). length (sent l) + failed l) new.own.link (used_here news),
-          sum_by-cons (λ (l : L). length (sent l) + failed l) old.own.link (used_here olds),
-          sum_by-cons (λ (n : ℕ). n) new.own.page (pages_of (owns_of news)),
-          ap length one.worked.shown.sent,
-          length-append (sent old.own.link) (sent_by ids cs),
-          one.worked.shown.failed,
-          one.worked.shown.drawn,
-          drawn_is ids cs,
-          start.page,
-        );
-        parts = All-cons (λ (d : Dumper W L). IsPart queue d.pass) new.own (owns_of news) (record { of = one.pass; part = ap (λ (h : Hand). h.parts) one.parts }) rest.parts;
+        links = (on.shown.all, on.shown.failures, rest.links);
       }
+
+  -- what links were used for is what workers spent
+  pub used_is : (courses : List (List Course)) (olds news : List (Sided L)) → AllZip (IsOf orders) courses news
+      → AllGrew sent failed ids courses (map (λ (s : Sided L). s.link) olds) (map (λ (s : Sided L). s.link) news)
+      → used_by sent failed (map (λ (s : Sided L). s.link) news) ≡ used_by sent failed (map (λ (s : Sided L). s.link) olds) + sum_by (λ (s : Sided L). s.worker.spent) news
+  unfolding AllGrew
+  used_is [] [] [] each grew = refl
+  used_is [] [] (new ∷ news) each grew = absurd each
+  used_is [] (old ∷ olds) news each grew = absurd grew
+  used_is (cs ∷ more) [] news each grew = absurd grew
+  used_is (cs ∷ more) (old ∷ olds) [] each grew = absurd each
+  used_is (cs ∷ more) (old ∷ olds) (new ∷ news) each grew =
+      let links : List (Sided L) → List L = λ ss. map (λ (s : Sided L). s.link) ss in
+      omega (
+        arith,
+        used_is more olds news each.1 grew.2,
+        sum_by-cons (λ (l : L). length (sent l) + failed l) new.link (links news),
+        sum_by-cons (λ (l : L). length (sent l) + failed l) old.link (links olds),
+        sum_by-cons (λ (s : Sided L). s.worker.spent) new news,
+        ap length grew.0,
+        length-append (sent old.link) (sent_by ids cs),
+        grew.1,
+        spent_is ids cs,
+        each.0.blocks,
+      )

@@ -1,12 +1,21 @@
-pub mod Moves
-pub mod Carrying
-pub mod Causes
-pub mod Working
-pub mod Crews
-pub mod Gears
-pub mod Finding
-pub mod Ordered
-pub mod Readiness
-pub mod Gathering
-pub mod Settling
-pub mod Settled
+mod Leaving
+mod Moves
+mod Refusing
+mod Going
+mod Hand
+mod Whole
+mod OneOrder
+mod Causes
+mod Working
+mod Weighing
+mod Gathering
+mod Finding
+mod Ordered
+mod Courses
+mod Settling
+mod Settled
+mod Halves
+mod Ready
+pub mod Idle
+mod Ending
+mod Leaves

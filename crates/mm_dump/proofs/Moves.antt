@@ -1,50 +1,58 @@
 -- Each step of the queue keeps its rule.
-use Rattle.std.proofs.Common.{◌≡◌, ◌≢◌, ◌⊎◌, inl, inr, ⊎_elim, ℕ, zero, suc, ◌+◌, ◌-◌, ◌<◌, ◌≤◌, Bool, cond, eqb, List, [], ◌∷◌, ◌++◌, set, refl, sym, ap, subst, ◌∙◌, arith, length-append}
+use Rattle.std.proofs.Common.{◌≡◌, ◌≢◌, ⊎_elim, ℕ, zero, suc, ◌+◌, ◌-◌, ◌<◌, ◌≤◌, List, [], ◌∷◌, ◌++◌, length, set, refl, sym, ap, subst, ◌∙◌, arith, length-append}
 use Rattle.std.specs.List.{sum_by, range_with_len}
-use Rattle.std.proofs.lemmas.Bool.{eq-eqb, ne_eqb, cases_lt}
+use Rattle.std.proofs.lemmas.List.FromFn.{length-range_with_len}
 use Rattle.std.proofs.lemmas.List.Sums.{sum_by-cons, sum_by-append, sum_by_push}
 use mathlib.Core.Option.{some, some-injective, some-ne-none}
 use lib.ListN.{get_elem?}
 use Rattle.crossbeam_queue.specs.Fifo.{Pushes, Pops, Forks, Merges, Learns}
 use Rattle.crossbeam_queue.proofs.Lists.{at_set, at_snoc}
-use Rattle.mm_sums.proofs.RangeSums.{sum_by_range_more, sum_by_range_zeros}
-use Rattle.mm_dump.specs.declared.queue.Hand.{Hand}
-use Rattle.mm_dump.specs.Taken.{hand, Knows, AreDealt, Tells}
+use Rattle.mm_sums.proofs.Ranges.{range_with_len_more}
+use Rattle.mm_sums.proofs.RangeSums.{sum_by_range_more}
+use Rattle.mm_dump.specs.declared.queue.QueueView.{QueueView}
+use Rattle.mm_dump.specs.Queue.{queue_view, Knows, AreTakenOnce, Takes, HasRoom, Tells}
 
 -- a sum over passes after a change of one
-total_set : (f : Hand → ℕ) (views : List Hand) (pass : ℕ) (v w : Hand) → get_elem? views pass ≡ some v → sum_by f (set views pass w) + f v ≡ sum_by f views + f w
+total_set : (f : QueueView → ℕ) (views : List QueueView) (pass : ℕ) (v w : QueueView) → get_elem? views pass ≡ some v → sum_by f (set views pass w) + f v ≡ sum_by f views + f w
 total_set f [] pass v w at = absurd (some-ne-none v (sym at))
 total_set f (u ∷ us) zero v w at =
     omega (arith, sum_by-cons f u us, sum_by-cons f w us, ap f (some-injective u v at))
 total_set f (u ∷ us) (suc pass) v w at =
     omega (arith, sum_by-cons f u us, sum_by-cons f u (set us pass w), total_set f us pass v w at)
 
--- the parts of a pass are at most those of all
-one_part : (views : List Hand) (pass : ℕ) (v : Hand) → get_elem? views pass ≡ some v → v.parts ≤ sum_by (λ (u : Hand). u.parts) views
-one_part [] pass v at = absurd (some-ne-none v (sym at))
-one_part (u ∷ us) zero v at = omega (arith, sum_by-cons (λ (u : Hand). u.parts) u us, ap (λ (u : Hand). u.parts) (some-injective u v at))
-one_part (u ∷ us) (suc pass) v at = omega (arith, sum_by-cons (λ (u : Hand). u.parts) u us, one_part us pass v at)
+-- what one pass counts is at most what all count
+one_part : (f : QueueView → ℕ) (views : List QueueView) (pass : ℕ) (v : QueueView) → get_elem? views pass ≡ some v → f v ≤ sum_by f views
+one_part f [] pass v at = absurd (some-ne-none v (sym at))
+one_part f (u ∷ us) zero v at = omega (arith, sum_by-cons f u us, ap f (some-injective u v at))
+one_part f (u ∷ us) (suc pass) v at = omega (arith, sum_by-cons f u us, one_part f us pass v at)
 
--- the parts of two passes are at most those of all
-two_parts : (views : List Hand) (one two : ℕ) (v w : Hand) → one ≢ two → get_elem? views one ≡ some v → get_elem? views two ≡ some w
-    → v.parts + w.parts ≤ sum_by (λ (u : Hand). u.parts) views
+-- how many parts a pass has, and what the numbers that it took weigh
+abbrev parts_of : QueueView → ℕ
+parts_of v = v.parts
+
+abbrev took : (ℕ → ℕ) → QueueView → ℕ
+took weight v = sum_by weight v.taken
+
+-- what two passes count is at most what all count
+two_parts : (views : List QueueView) (one two : ℕ) (v w : QueueView) → one ≢ two → get_elem? views one ≡ some v → get_elem? views two ≡ some w
+    → v.parts + w.parts ≤ sum_by parts_of views
 two_parts [] one two v w apart at here = absurd (some-ne-none v (sym at))
 two_parts (u ∷ us) zero zero v w apart at here = absurd (apart refl)
 two_parts (u ∷ us) zero (suc two) v w apart at here =
-    omega (arith, sum_by-cons (λ (u : Hand). u.parts) u us, ap (λ (u : Hand). u.parts) (some-injective u v at), one_part us two w here)
+    omega (arith, sum_by-cons parts_of u us, ap parts_of (some-injective u v at), one_part parts_of us two w here)
 two_parts (u ∷ us) (suc one) zero v w apart at here =
-    omega (arith, sum_by-cons (λ (u : Hand). u.parts) u us, ap (λ (u : Hand). u.parts) (some-injective u w here), one_part us one v at)
+    omega (arith, sum_by-cons parts_of u us, ap parts_of (some-injective u w here), one_part parts_of us one v at)
 two_parts (u ∷ us) (suc one) (suc two) v w apart at here =
-    omega (arith, sum_by-cons (λ (u : Hand). u.parts) u us, two_parts us one two v w (λ same. apart (ap suc same)) at here)
+    omega (arith, sum_by-cons parts_of u us, two_parts us one two v w (λ same. apart (ap suc same)) at here)
 
 -- a sum over passes of which one alone counts
-sole : (f : Hand → ℕ) (views : List Hand) (pass : ℕ) (v : Hand) → get_elem? views pass ≡ some v
-    → ((other : ℕ) (u : Hand) → other ≢ pass → get_elem? views other ≡ some u → f u ≡ 0) → sum_by f views ≡ f v
+sole : (f : QueueView → ℕ) (views : List QueueView) (pass : ℕ) (v : QueueView) → get_elem? views pass ≡ some v
+    → ((other : ℕ) (u : QueueView) → other ≢ pass → get_elem? views other ≡ some u → f u ≡ 0) → sum_by f views ≡ f v
 sole f [] pass v at others = absurd (some-ne-none v (sym at))
 sole f (u ∷ us) zero v at others =
     omega (arith, sum_by-cons f u us, ap f (some-injective u v at), zeros us (λ other w here. others (suc other) w (λ e. omega arith) here))
   where
-    zeros : (us : List Hand) → ((other : ℕ) (u : Hand) → get_elem? us other ≡ some u → f u ≡ 0) → sum_by f us ≡ 0
+    zeros : (us : List QueueView) → ((other : ℕ) (u : QueueView) → get_elem? us other ≡ some u → f u ≡ 0) → sum_by f us ≡ 0
     zeros [] all = refl
     zeros (u ∷ us) all = omega (arith, sum_by-cons f u us, all zero u refl, zeros us (λ other w here. all (suc other) w here))
 sole f (u ∷ us) (suc pass) v at others =
@@ -56,142 +64,173 @@ sole f (u ∷ us) (suc pass) v at others =
     )
 
 -- where one pass has all parts, another has none
-no_part : (views : List Hand) (pass other : ℕ) (v u : Hand) → sum_by (λ (u : Hand). u.parts) views ≡ 1024 → v.parts ≡ 1024
+no_part : (views : List QueueView) (pass other : ℕ) (v u : QueueView) → sum_by parts_of views ≡ 1024 → v.parts ≡ 1024
     → get_elem? views pass ≡ some v → other ≢ pass → get_elem? views other ≡ some u → u.parts ≡ 0
 no_part views pass other v u all mine at apart here = omega (arith, two_parts views other pass u v apart here at)
 
 -- what passes know after a change of one
-known_set : (m : ℕ) (views : List Hand) (pass : ℕ) (w : Hand) → Knows m w
-    → ((other : ℕ) (u : Hand) → other ≢ pass → get_elem? views other ≡ some u → Knows m u)
-    → (other : ℕ) (u : Hand) → get_elem? (set views pass w) other ≡ some u → Knows m u
+known_set : (m : ℕ) (views : List QueueView) (pass : ℕ) (w : QueueView) → Knows m w
+    → ((other : ℕ) (u : QueueView) → other ≢ pass → get_elem? views other ≡ some u → Knows m u)
+    → (other : ℕ) (u : QueueView) → get_elem? (set views pass w) other ≡ some u → Knows m u
 known_set m views pass w mine others other u at =
     ⊎_elim (λ (t : (other ≡ pass) × (w ≡ u)). subst (Knows m) t.1 mine) (λ (t : (other ≢ pass) × (get_elem? views other ≡ some u)). others other u t.0 t.1)
     (at_set views pass other w u at)
 
--- a number that is queued is below the number of those pushed
-queued_below : (n x m : ℕ) (xs : List ℕ)
-    → sum_by (λ (y : ℕ). cond {A = ℕ} (eqb y x) 1 0) (range_with_len 0 n) ≡ m + sum_by (λ (y : ℕ). cond {A = ℕ} (eqb y x) 1 0) (x ∷ xs) → x < n
-queued_below n x m xs each = by_order (cases_lt x n)
+-- what a pass with a part knows
+knows_part : (pushed : ℕ) (v : QueueView) → v.pushed ≡ pushed → 0 < v.parts → Knows pushed v
+knows_part pushed v same has = record { some_part = λ s. same; no_part = λ none. absurd (omega arith) }
+
+-- the first of the numbers queued, and the others
+first_queued : (x : ℕ) (items : List ℕ) (next many : ℕ) → x ∷ items ≡ range_with_len next many
+    → (1 ≤ many) × (x ≡ next) × (items ≡ range_with_len (next + 1) (many - 1))
+first_queued x items next zero same = absurd (cc same)
+first_queued x items next (suc many) same =
+    let less : suc many - 1 ≡ many = omega arith in
+    (omega arith, cc same, rw less (cc same))
+
+-- how many numbers were taken
+counted : (next : ℕ) → sum_by (λ (k : ℕ). 1) (range_with_len 0 next) ≡ next
+counted next = ones (range_with_len 0 next) ∙ length-range_with_len 0 next
   where
-    is_x : ℕ → ℕ
-    is_x y = cond (eqb y x) 1 0
+    ones : (xs : List ℕ) → sum_by (λ (k : ℕ). 1) xs ≡ length xs
+    ones [] = refl
+    ones (x ∷ xs) = omega (arith, sum_by-cons (λ (k : ℕ). 1) x xs, ones xs)
 
-    none : n ≤ x → sum_by is_x (range_with_len 0 n) ≡ 0
-    none past = sum_by_range_zeros is_x 0 n (λ t low high. ap (λ (b : Bool). cond {A = ℕ} b 1 0) (ne_eqb t x (λ same. omega arith)))
-
-    one : is_x x ≡ 1
-    one = ap (λ (b : Bool). cond {A = ℕ} b 1 0) (eq-eqb x x refl)
-
-    by_order : (x < n) ⊎ (n ≤ x) → x < n
-    by_order (inl less) = less
-    by_order (inr past) = absurd (omega (arith, each, none past, one, sum_by-cons is_x x xs))
-
--- how many parts a pass has, and what the numbers that it took weigh
-abbrev parts_of : Hand → ℕ
-parts_of v = v.parts
-
-abbrev took : (ℕ → ℕ) → Hand → ℕ
-took weight v = sum_by weight v.taken
+counted_list : (xs : List ℕ) → sum_by (λ (k : ℕ). 1) xs ≡ length xs
+counted_list [] = refl
+counted_list (x ∷ xs) = omega (arith, sum_by-cons (λ (k : ℕ). 1) x xs, counted_list xs)
 
 -- making the queue with its first pass
-pub begins : AreDealt [] (hand 1024 0 [] ∷ [])
+pub begins : AreTakenOnce [] (queue_view 1024 0 [] ∷ [])
 begins = record {
   pushed = 0;
+  next = 0;
+  within = omega arith;
+  queued = refl;
   parts = refl;
   each = λ weight. refl;
-  few = omega arith;
-  known = λ pass v at. known_set 0 (hand 1024 0 [] ∷ []) 0 (hand 1024 0 []) (record { some_part = λ some. refl; no_part = λ none. refl })
+  known = λ pass v at. known_set 0 (queue_view 1024 0 [] ∷ []) 0 (queue_view 1024 0 []) (knows_part 0 (queue_view 1024 0 []) refl (omega arith))
       (λ other u apart here. absurd (apart (only other u here))) pass v at;
 }
   where
-    only : (other : ℕ) (u : Hand) → get_elem? (hand 1024 0 [] ∷ []) other ≡ some u → other ≡ 0
+    only : (other : ℕ) (u : QueueView) → get_elem? (queue_view 1024 0 [] ∷ []) other ≡ some u → other ≡ 0
     only zero u here = refl
     only (suc other) u here = absurd (some-ne-none u (sym here))
 
 -- a push of the next number, by the pass with all parts
-pub pushes : (room pass : ℕ) (v : Hand) (x : ℕ) → v.parts ≡ 1024 → x ≡ v.pushed → Pushes AreDealt room pass v x (λ w. w ≡ hand v.parts (v.pushed + 1) v.taken)
-pushes room pass v x all next items views within rule at =
-    let w = hand v.parts (v.pushed + 1) v.taken in
+pub pushes : (room pass : ℕ) (v : QueueView) (x : ℕ) → v.parts ≡ 1024 → x ≡ v.pushed → Pushes AreTakenOnce room pass v x (λ w. w ≡ queue_view v.parts (v.pushed + 1) v.taken)
+pushes room pass v x all number items views within rule at =
+    let w = queue_view v.parts (v.pushed + 1) v.taken in
     let known = rule.known pass v at in
-    let count : v.pushed ≡ rule.pushed = known.some_part (omega arith) in (
+    let count : v.pushed ≡ rule.pushed = known.some_part (omega arith) in
+    let bound : rule.next ≤ rule.pushed = rule.within in (
       w,
       record {
         pushed = rule.pushed + 1;
+        next = rule.next;
+        within = omega arith;
+        queued = longer (omega arith) (omega arith);
         parts = omega (arith, total_set parts_of views pass v w at, rule.parts);
-        each = λ h. omega (arith, total_set (took h) views pass v w at, rule.each h, sum_by_push h items x, sum_by_range_more h 0 rule.pushed rule.pushed (omega arith), ap h (next ∙ count));
-        few = omega (arith, rule.few, length-append items (x ∷ []));
-        known = known_set (rule.pushed + 1) views pass w (record { some_part = λ some. omega arith; no_part = λ none. absurd (omega arith) })
+        each = λ h. omega (arith, total_set (took h) views pass v w at, rule.each h);
+        known = known_set (rule.pushed + 1) views pass w (knows_part (rule.pushed + 1) w (omega arith) (omega arith))
             (λ other u apart here.
             let none = no_part views pass other v u rule.parts all at apart here in
             record { some_part = λ some. absurd (omega arith); no_part = (rule.known other u here).no_part });
       },
       refl,
     )
+  where
+    longer : rule.next + (rule.pushed - rule.next) ≡ x → rule.pushed + 1 - rule.next ≡ suc (rule.pushed - rule.next)
+        → items ++ x ∷ [] ≡ range_with_len rule.next (rule.pushed + 1 - rule.next)
+    longer last more =
+        ap (λ (xs : List ℕ). xs ++ x ∷ []) rule.queued ∙ sym (range_with_len_more rule.next (rule.pushed - rule.next) x last)
+        ∙ ap (range_with_len rule.next) (sym more)
 
 -- a pop that takes
-pub takes : (pass : ℕ) (v : Hand) → 0 < v.parts → Pops AreDealt pass v (λ x w. (x < v.pushed) × (w ≡ hand v.parts v.pushed (v.taken ++ x ∷ [])))
+pub takes : (pass : ℕ) (v : QueueView) → 0 < v.parts → Pops AreTakenOnce pass v (Takes v)
 takes pass v some_part x items views rule at =
-    let w = hand v.parts v.pushed (v.taken ++ x ∷ []) in
+    let w = queue_view v.parts v.pushed (v.taken ++ x ∷ []) in
     let known = rule.known pass v at in
-    let count : v.pushed ≡ rule.pushed = known.some_part some_part in (
+    let count : v.pushed ≡ rule.pushed = known.some_part some_part in
+    let bound : rule.next ≤ rule.pushed = rule.within in
+    let first = first_queued x items rule.next (rule.pushed - rule.next) rule.queued in
+    let number : x ≡ rule.next = first.1 in
+    let rest : items ≡ range_with_len (rule.next + 1) (rule.pushed - (rule.next + 1)) =
+    first.2 ∙ ap (range_with_len (rule.next + 1)) (less rule.pushed rule.next) in
+    let before : length v.taken ≤ rule.next =
+    omega (arith, one_part (took (λ (k : ℕ). 1)) views pass v at, rule.each (λ (k : ℕ). 1), counted rule.next, counted_list v.taken) in (
       w,
       record {
         pushed = rule.pushed;
+        next = rule.next + 1;
+        within = omega (arith, first.0);
+        queued = rest;
         parts = omega (arith, total_set parts_of views pass v w at, rule.parts);
-        each = λ h. omega (arith, total_set (took h) views pass v w at, rule.each h, sum_by_push h v.taken x, sum_by-cons h x items);
-        few = omega (arith, rule.few);
-        known = known_set rule.pushed views pass w (record { some_part = λ some. count; no_part = λ none. absurd (omega arith) })
-            (λ other u apart here. rule.known other u here);
+        each = λ h. omega (arith, total_set (took h) views pass v w at, rule.each h, sum_by_push h v.taken x, sum_by_range_more h 0 rule.next rule.next (omega arith), ap h number);
+        known = known_set rule.pushed views pass w (knows_part rule.pushed w count some_part) (λ other u apart here. rule.known other u here);
       },
-      (subst (λ (n : ℕ). x < n) (sym count) (queued_below rule.pushed x _ items (rule.each (λ (y : ℕ). cond {A = ℕ} (eqb y x) 1 0))), refl),
+      record { within = omega (arith, first.0); taken = refl; few = omega (arith, first.0, before, length-append v.taken (x ∷ [])) },
     )
+  where
+    less : (a b : ℕ) → a - b - 1 ≡ a - (b + 1)
+    less a b = omega arith
 
 -- splitting a pass
-pub forks : (pass : ℕ) (v : Hand) → 1 < v.parts → Forks AreDealt pass v (hand (v.parts - 1) v.pushed v.taken) (hand 1 v.pushed [])
+pub forks : (pass : ℕ) (v : QueueView) → 1 < v.parts → Forks AreTakenOnce pass v (queue_view (v.parts - 1) v.pushed v.taken) (queue_view 1 v.pushed [])
 forks pass v parts items views rule at =
-    let l = hand (v.parts - 1) v.pushed v.taken in
-    let r = hand 1 v.pushed [] in
+    let l = queue_view (v.parts - 1) v.pushed v.taken in
+    let r = queue_view 1 v.pushed [] in
     let known = rule.known pass v at in
     let count : v.pushed ≡ rule.pushed = known.some_part (omega arith) in
     record {
       pushed = rule.pushed;
+      next = rule.next;
+      within = rule.within;
+      queued = rule.queued;
       parts = omega (arith, total_set parts_of views pass v l at, rule.parts, sum_by_push parts_of (set views pass l) r);
       each = λ h. omega (arith, total_set (took h) views pass v l at, rule.each h, sum_by_push (took h) (set views pass l) r);
-      few = rule.few;
       known = λ other u here.
           ⊎_elim (λ (old : get_elem? (set views pass l) other ≡ some u).
-          known_set rule.pushed views pass l (record { some_part = λ some. count; no_part = λ none. absurd (omega arith) }) (λ j t apart there. rule.known j t there) other u old)
-          (λ (new : r ≡ u). subst (Knows rule.pushed) new (record { some_part = λ some. count; no_part = λ none. refl })) (at_snoc (set views pass l) r u other here);
+          known_set rule.pushed views pass l (knows_part rule.pushed l count (omega arith)) (λ j t apart there. rule.known j t there) other u old)
+          (λ (new : r ≡ u). subst (Knows rule.pushed) new (knows_part rule.pushed r count (omega arith))) (at_snoc (set views pass l) r u other here);
     }
 
 -- joining a pass
-pub merges : (pass : ℕ) (v : Hand) (other : ℕ) (w : Hand) → 0 < v.parts
-    → Merges AreDealt pass v other w (hand (v.parts + w.parts) v.pushed (v.taken ++ w.taken)) (hand 0 0 [])
+pub merges : (pass : ℕ) (v : QueueView) (other : ℕ) (w : QueueView) → 0 < v.parts
+    → Merges AreTakenOnce pass v other w (queue_view (v.parts + w.parts) v.pushed (v.taken ++ w.taken)) (queue_view 0 0 [])
 merges pass v other w some_part items views rule at apart there =
-    let both = hand (v.parts + w.parts) v.pushed (v.taken ++ w.taken) in
-    let spent = hand 0 0 [] in
+    let both = queue_view (v.parts + w.parts) v.pushed (v.taken ++ w.taken) in
+    let spent = queue_view 0 0 [] in
     let known = rule.known pass v at in
     let count : v.pushed ≡ rule.pushed = known.some_part some_part in
     record {
       pushed = rule.pushed;
+      next = rule.next;
+      within = rule.within;
+      queued = rule.queued;
       parts = omega (arith, total_set parts_of views pass v both at, total_set parts_of (set views pass both) other w spent there, rule.parts);
       each = λ h. omega (arith, total_set (took h) views pass v both at, total_set (took h) (set views pass both) other w spent there, rule.each h, sum_by-append h v.taken w.taken);
-      few = rule.few;
       known = known_set rule.pushed (set views pass both) other spent (record { some_part = λ some. absurd (omega arith); no_part = λ none. refl })
-          (λ j t away here. known_set rule.pushed views pass both (record { some_part = λ some. count; no_part = λ none. absurd (omega arith) }) (λ i s off where_it_is. rule.known i s where_it_is) j t here);
+          (λ j t away here. known_set rule.pushed views pass both (knows_part rule.pushed both count (omega arith)) (λ i s off where_it_is. rule.known i s where_it_is) j t here);
     }
 
--- what the pass with all parts learns
-pub learns : (pass : ℕ) (v : Hand) → Learns AreDealt pass v (Tells v)
+-- what a pass with a part learns of the numbers queued
+pub learns_room : (pass : ℕ) (v : QueueView) → Learns AreTakenOnce pass v (HasRoom v)
+learns_room pass v items views rule at has =
+    omega (arith, (rule.known pass v at).some_part has, ap length rule.queued, length-range_with_len rule.next (rule.pushed - rule.next))
+
+-- what the pass with all parts learns of those taken
+pub learns : (pass : ℕ) (v : QueueView) → Learns AreTakenOnce pass v (λ items. Tells v)
 learns pass v items views rule at =
     let known = rule.known pass v at in
     let count : v.parts ≡ 1024 → v.pushed ≡ rule.pushed = λ all. known.some_part (omega arith) in
     record {
+      next = rule.next;
+      within = λ all. omega (arith, rule.within, count all);
       each = λ all h.
-          let alone = sole (took h) views pass v at (λ other u apart here. none_taken h u (rule.known other u here) (no_part views pass other v u rule.parts all at apart here)) in
-          omega (arith, ap (λ (n : ℕ). sum_by h (range_with_len 0 n)) (count all), rule.each h, alone);
-      few = λ all. omega (arith, rule.few, count all);
+          rule.each h
+          ∙ sole (took h) views pass v at (λ other u apart here. none_taken h u (rule.known other u here) (no_part views pass other v u rule.parts all at apart here));
     }
   where
-    none_taken : (h : ℕ → ℕ) (u : Hand) {n : ℕ} → Knows n u → u.parts ≡ 0 → took h u ≡ 0
+    none_taken : (h : ℕ → ℕ) (u : QueueView) {n : ℕ} → Knows n u → u.parts ≡ 0 → took h u ≡ 0
     none_taken h u known none = ap (λ (xs : List ℕ). sum_by h xs) (known.no_part none)

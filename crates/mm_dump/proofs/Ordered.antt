@@ -7,7 +7,7 @@ use Rattle.std.proofs.lemmas.List.Elements.{All-head, All-tail, All-get_or}
 use Rattle.std.proofs.lemmas.List.Sums.{sum_by-cons}
 use Rattle.mm_sums.proofs.Pairs.{AllPairs-head, AllPairs-tail}
 use Rattle.mm_sums.proofs.RangeSums.{sum_by_range_shift, sum_by_range_same}
-use Rattle.mm_order.specs.declared.order.Order.{Order}
+use Rattle.mm_dump.specs.declared.order.Order.{Order}
 use Rattle.mm_dump.specs.Workers.{order_at}
 use Rattle.mm_dump.specs.Dumped.{wanted, times, places_of}
 
@@ -34,6 +34,19 @@ times_by_number p (o ∷ os) =
   where
     next : (k : ℕ) → names p (order_at (o ∷ os) (k + 1)) ≡ names p (order_at os k)
     next k = let more : k + 1 ≡ suc k = omega arith in ap (λ (i : ℕ). names p (order_at (o ∷ os) i)) more
+
+-- orders weigh what their numbers weigh
+pub by_number : (f : Order → ℕ) (orders : List Order) → sum_by (λ (k : ℕ). f (order_at orders k)) (range_with_len 0 (length orders)) ≡ sum_by f orders
+by_number f [] = refl
+by_number f (o ∷ os) =
+    let here : ℕ → ℕ = λ k. f (order_at (o ∷ os) k) in
+    let there : ℕ → ℕ = λ k. f (order_at os k) in
+    let shifted : sum_by here (range_with_len 1 (length os)) ≡ sum_by there (range_with_len 0 (length os)) =
+    sum_by_range_shift here 0 (length os) ∙ sum_by_range_same (λ k. here (k + 1)) there 0 (length os) (λ k low high. next k) in
+    omega (arith, sum_by-cons here 0 (range_with_len 1 (length os)), shifted, by_number f os, sum_by-cons f o os)
+  where
+    next : (k : ℕ) → f (order_at (o ∷ os) (k + 1)) ≡ f (order_at os k)
+    next k = let more : k + 1 ≡ suc k = omega arith in ap (λ (i : ℕ). f (order_at (o ∷ os) i)) more
 
 -- no other order names a place
 none_names : (p : ℕ) (orders : List Order) → All (λ (o : Order). o.place ≢ p) orders → (times p (places_of orders) ≡ 0) × (wanted orders p ≡ 0)

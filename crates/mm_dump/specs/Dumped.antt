@@ -1,17 +1,32 @@
--- What a step's dump leaves: its stores, and its links.
-use Rattle.std.specs.Prelude.{◌≡◌, ℕ, ◌+◌, ◌<◌, ◌≤◌, ◌==◌, List, [], ◌∷◌, ◌++◌, length, map, filter, flat_map, sum_by, count_by, Any, Option, None}
+-- What a step's dump is given, and what it leaves: its stores, and its links.
+use Rattle.std.specs.Prelude.{◌≡◌, ◌≢◌, ℕ, ◌+◌, ◌-◌, ◌<◌, ◌≤◌, ◌^◌, ◌==◌, List, [], ◌∷◌, ◌++◌, length, map, filter, flat_map, sum_by, count_by, slice_index_or, All, AllPairs, Any, Option, None, suc}
 use Rattle.std.specs.List.{AllZip}
+use Rattle.mm_base.specs.declared.limits.TheConstants.{MAX_STORES}
 use Rattle.mm_store.specs.declared.stored.Stored.{Stored}
+use Rattle.mm_desk.specs.declared.desk.TheConstants.{MAX_SEATS}
 use Rattle.mm_desk.specs.declared.entry.Entry.{Entry}
+use Rattle.mm_desk.specs.declared.held.Held.{Held}
 use Rattle.mm_desk.specs.Machine.{State}
 use Rattle.mm_desk.specs.Orders.{IsOrderOf}
 use Rattle.mm_desk.specs.Runs.{IsRun, opening_at}
-use Rattle.mm_order.specs.declared.order.Order.{Order}
-use Rattle.mm_order.specs.declared.order.OrderBroken.{OrderBroken}
-use Rattle.mm_order.specs.Sending.{Sent, all_sent}
-use Rattle.mm_crew.specs.Stations.{id_at}
-use Rattle.mm_dump.specs.Courses.{Course, worst_of, sent_by, fails_of, IsCourse}
-use Rattle.mm_dump.specs.Workers.{AreCourses}
+use Rattle.mm_shared.specs.Stores.{id_at, states_of}
+use Rattle.mm_dump.specs.declared.order.Order.{Order}
+use Rattle.mm_dump.specs.declared.order.OrderBroken.{OrderBroken}
+use Rattle.mm_dump.specs.Courses.{Course, IsCourse, worst_of, sent_by, failed_by}
+use Rattle.mm_dump.specs.Sending.{Sent, all_sent}
+
+-- few stores, links and orders; each order wants blocks of a store of its own, at which no retrieval is on, and each link may fail
+-- once more
+pub record MayDump {L : Type 0} (failed : L → ℕ) (orders : List Order) (stores : List Held) (links : List L) : Type 0 where
+  pub lowest : 1 ≤ length links
+  pub highest : length links ≤ MAX_SEATS
+  pub few : length stores ≤ MAX_STORES
+  pub few_orders : length orders ≤ MAX_STORES
+  pub places : All (λ o. o.place < length stores) orders
+  pub amounts : All (λ o. 1 ≤ o.amount) orders
+  pub distinct : AllPairs (λ a b. a.place ≢ b.place) orders
+  pub idle : All (λ o. (opening_at (states_of stores) o.place).retrieval ≡ None) orders
+  pub room : All (λ l. failed l < 2 ^ 64 - 1) links
 
 -- how many blocks orders want of the store at a place: none where no order names it
 abbrev pub wanted : List Order → ℕ → ℕ
@@ -58,14 +73,25 @@ pub record HasTried (taken place : ℕ) (c : Course) (s t : State) : Type 0 wher
   pub none : taken ≡ 0 → (c.calls ≡ []) × (c.sent ≡ [])
   pub some : 0 < taken → (c.order.place ≡ place) × IsCourse c
 
--- each link took what the orders at these places sent, one after another, its last order alone may have broken, and its
--- failures rose by the sends that failed
+-- orders were carried out one after another; the last alone may have broken, and this is why, where it did
+pub record AreCourses (why : Option OrderBroken) (courses : List Course) : Type 0 where
+  pub each : All IsCourse courses
+  pub early : (i : ℕ) (d : Course) → suc i < length courses → (slice_index_or courses i d).why ≡ None
+  pub cause : worst_of (map (λ c. c.why) courses) ≡ why
+
+-- a link took what these orders sent, one after another, its last order alone may have broken, and its failures rose by the sends
+-- that failed
+pub record HasTaken {L : Type 0} (sent : L → List Sent) (failed : L → ℕ) (ids : List (List ℕ)) (courses : List Course) (old new : L) : Type 0 where
+  pub all : sent new ≡ sent old ++ sent_by ids courses
+  pub failures : failed new ≡ failed old + failed_by courses
+  pub why : Option OrderBroken
+  pub are : AreCourses why courses
+
+-- each link did so with the orders at its places
 unfoldable pub AllTried : {L : Type 0} → (L → List Sent) → (L → ℕ) → List (List ℕ) → (ℕ → Course) → List (List ℕ) → List L → List L → Type 0
 AllTried sent failed ids course [] [] [] = Unit {0}
 AllTried sent failed ids course (places ∷ more) (old ∷ olds) (new ∷ news) =
-    (sent new ≡ sent old ++ sent_by ids (map course places)) × (failed new ≡ failed old + fails_of (map course places))
-    × ((why : Option OrderBroken) × AreCourses why (map course places))
-    × AllTried sent failed ids course more olds news
+    HasTaken sent failed ids (map course places) old new × AllTried sent failed ids course more olds news
 AllTried sent failed ids course more olds news = ⊥
 
 -- orders were carried out, each by one link, and this is the worst cause for which one broke; where none broke, all were carried
@@ -95,3 +121,7 @@ AllKept sent failed olds news = AllZip (HasKept sent failed) olds news
 -- how many packets links took, and how many of their sends failed
 abbrev pub used_by : {L : Type 0} → (L → List Sent) → (L → ℕ) → List L → ℕ
 used_by sent failed links = sum_by (λ l. length (sent l) + failed l) links
+
+-- how many blocks orders want together
+abbrev pub amount_of : List Order → ℕ
+amount_of orders = sum_by (λ o. o.amount) orders

@@ -1,7 +1,10 @@
-pub mod Taken
-pub mod Gear
+pub use Rattle.mm_desk.specs.Orders
+pub mod Sending
+pub mod Broken
+pub mod Laws
+pub mod Queue
+pub mod Parts
 pub mod Courses
-pub mod Workers
-pub mod Crews
 pub mod Dumped
-pub mod Rooms
+pub mod Workers
+pub mod Steps

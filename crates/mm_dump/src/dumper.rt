@@ -1,151 +1,174 @@
-//! Dump workers: each takes its next order from the queue until it finds the queue empty, and carries it out.
-ghost use Rattle.std.specs.Prelude.{◌≡◌, ◌<◌, ◌-◌, ◌^◌, [], length, All, vec_len, vec_capacity};
-ghost use Rattle.std.specs.Thread.{IsSync};
+//! Dump workers: each takes its next order from the queue until it finds that none is left, and carries it out.
+ghost use Rattle.std.specs.Prelude.{◌≡◌, ◌+◌, ◌-◌, ◌<◌, ◌≤◌, ◌^◌, length, All};
+ghost use Rattle.std.specs.Thread.{IsSync, IsSend};
 ghost use Rattle.crossbeam_queue.specs.Passes.{view, IsPassOf};
-ghost use Rattle.mm_crew.specs.Stations.{ids_of};
-ghost use Rattle.mm_dump.specs.Taken.{hand};
-ghost use Rattle.mm_dump.specs.Crews.{IsReady, HasWorked, AllWorked};
-ghost use Rattle.mm_dump.specs.Workers.{gear, Goes, Worked};
+ghost use Rattle.mm_shared.specs.Stores.{ids_of};
+ghost use Rattle.mm_dump.specs.Sending.{link_state};
+ghost use Rattle.mm_dump.specs.Workers.{HasLines, HasCarried, Worked, side, sided, IsReady, AreReady, AllWorked};
 
-use crate::queue::{OrderPass, OrderQueue, Takes};
-use mm_crew::{Station, Worker};
-use mm_desk::{Opening, PassBook, PassSeat, Passing, Seat};
-use mm_order::{Link, Order, OrderBroken, carry};
+use crate::carrying::{OrderContext, carry};
+use crate::link::Link;
+use crate::order::Order;
+use crate::queue::{OrderPass, OrderQueue, take_next};
+use crate::stop::Stop;
+use mm_shared::{Line, Lines, NamedStore};
 use std::alloc::Global;
 use std::sync::Wait;
-use std::thread::{Threads, join};
+use std::thread::{Threads, join_mut};
 
-/// What a dump worker has of its own: its link, its page of the pass book, and its pass of the queue of orders.
+/// What a dump worker has beside its link and its lines: its pass of the queue, how many blocks of the window it spent, and why an
+/// order stopped it, where one did.
 #[derive(Drop)]
-pub(crate) struct Dumper<W: Passing, L: Drop> {
-    pub(crate) link: L,
-    pub(crate) page: PassSeat<W>,
+pub(crate) struct DumpWorker {
     pub(crate) pass: OrderPass,
+    pub(crate) spent: u64,
+    pub(crate) stop: Option<Stop>,
 }
 
-/// What the workers of a step share: the stations of its stores, the queue of the orders' numbers, the pass book, and the orders.
+/// What the workers of a step share: its stores, the queue of the orders' numbers, and the orders.
 #[derive(Drop)]
-pub(crate) struct Floor<'a, N: Opening, W: Passing, R: Wait> {
+pub(crate) struct DumpContext<'a, R: Wait> {
     pub(crate) rt: &'a R,
     pub(crate) alloc: Global,
-    pub(crate) stations: &'a [Station<N>],
+    pub(crate) stores: &'a [NamedStore],
     pub(crate) queue: &'a OrderQueue,
-    pub(crate) book: &'a PassBook<W>,
     pub(crate) orders: &'a [Order],
 }
 
-// Carries an order out at the desk of its place, and says why it broke, where it did.
-fn carry_at<N: Opening, W: Passing, L: Link, R: Wait>(
-    floor: &Floor<'_, N, W, R>,
+// Carries an order out at the store of its place, and says why it stopped, where it did.
+fn carry_at<L: Link, R: Wait>(
+    context: &DumpContext<'_, R>,
     order: Order,
-    seats: &mut [Seat<N>],
+    lines: &mut Vec<Line>,
     link: &mut L,
-    page: &mut PassSeat<W>,
-) -> Option<OrderBroken>
-    requires within { order.place < length floor.now.stations.now }
-    requires seated { length seats.old ≡ length floor.now.stations.now }
+    spent: &mut u64,
+) -> Option<Stop>
+    requires within { order.place < length context.now.stores.now }
+    requires lines { HasLines context.now.stores.now lines.old.items }
     requires room { L.failed link.old < 2 ^ 64 - 1 }
-    ensures goes { Goes (ids_of floor.now.stations.now) order result
-        (gear seats.old (L.sent link.old) (L.failed link.old) page.old)
-        (gear seats.new (L.sent link.new) (L.failed link.new) page.new) }
+    requires blocks { spent.old < 2 ^ 48 }
+    ensures few { spent.new ≤ spent.old + 2 ^ 32 }
+    ensures carried { HasCarried (ids_of context.now.stores.now) order result lines.old.items lines.new.items
+        (link_state (L.sent link.old) (L.failed link.old) spent.old) (link_state (L.sent link.new) (L.failed link.new) spent.new) }
 {
-    let Floor {
-        rt,
-        alloc,
-        stations,
-        book,
-        ..
-    } = *floor;
     let place = order.place as usize;
-    let Station { id, desk, .. } = &stations[place];
-    let seat = &mut seats[place];
-    match carry(rt, alloc, desk, seat, id, link, book, page, order.amount) {
+    let named = &context.stores[place];
+    let at = OrderContext {
+        rt: context.rt,
+        alloc: context.alloc,
+        store: &named.store,
+        id: &named.id,
+    };
+    let line = &mut lines[place];
+    match carry(&at, &mut line.port, link, spent, order.amount) {
         Ok(()) => None,
-        Err(why) => Some(why),
+        Err(stop) => Some(stop),
     }
 }
 
-// Carries out orders of the queue until it is found empty or an order breaks, and says why that one did.
-fn work<N: Opening, W: Passing, L: Link + Drop, R: Wait>(
-    floor: &Floor<'_, N, W, R>,
-    seats: &mut [Seat<N>],
-    dumper: &mut Dumper<W, L>,
-) -> Option<OrderBroken>
-    requires pass { IsPassOf floor.now.queue.now dumper.old.pass }
-    requires first { view dumper.old.pass ≡ hand 1 (length floor.now.orders.now) [] }
-    requires within { All (λ o. o.place < length floor.now.stations.now) floor.now.orders.now }
-    requires seated { length seats.old ≡ length floor.now.stations.now }
-    requires room { L.failed dumper.old.link < 2 ^ 64 - 1 }
-    ensures pass { IsPassOf floor.now.queue.now dumper.new.pass }
-    ensures hand { view dumper.new.pass ≡ hand 1 (length floor.now.orders.now) (view dumper.new.pass).taken }
-    ensures worked { Worked (ids_of floor.now.stations.now) floor.now.orders.now (view dumper.new.pass).taken result
-        (gear seats.old (L.sent dumper.old.link) (L.failed dumper.old.link) dumper.old.page)
-        (gear seats.new (L.sent dumper.new.link) (L.failed dumper.new.link) dumper.new.page) }
+// Carries out orders of the queue until none is left or one stops, and says why that one did.
+fn work<L: Link, R: Wait>(
+    context: &DumpContext<'_, R>,
+    lines: &mut Vec<Line>,
+    worker: &mut DumpWorker,
+    link: &mut L,
+) -> Option<Stop>
+    requires within { All (λ o. o.place < length context.now.stores.now) context.now.orders.now }
+    requires ready { IsReady L.sent L.failed context.now.queue.now context.now.stores.now (side link.old lines.old.items worker.old) }
+    ensures pass { IsPassOf context.now.queue.now worker.new.pass }
+    ensures parts { (view worker.new.pass).parts ≡ 1 }
+    ensures bound { worker.new.spent ≤ 2 ^ 48 }
+    ensures worked { Worked (ids_of context.now.stores.now) context.now.orders.now (view worker.new.pass).taken result lines.old.items lines.new.items
+        (link_state (L.sent link.old) (L.failed link.old) worker.old.spent) (link_state (L.sent link.new) (L.failed link.new) worker.new.spent) }
 {
-    let Floor {
-        rt,
-        queue,
-        orders,
-        ..
-    } = *floor;
-    for _ in rt.forever() {
-        let Some(number) = queue.pop_as::<Takes, R>(rt, &mut dumper.pass) else {
+    for _ in context.rt.forever() {
+        let number = take_next(context.rt, context.queue, &mut worker.pass) as usize;
+        if number >= context.orders.len() {
             return None;
-        };
-        let order = orders[number as usize];
-        let link = &mut dumper.link;
-        let why = carry_at(floor, order, seats, link, &mut dumper.page);
-        if why.is_some() {
-            return why;
+        }
+        let order = context.orders[number];
+        let stop = carry_at(context, order, lines, link, &mut worker.spent);
+        if stop.is_some() {
+            return stop;
         }
     }
     unreachable!()
 }
 
-/// A dump worker with its seats.
-pub(crate) type DumpWorker<N, W, L> = Worker<N, Dumper<W, L>, OrderBroken>;
-
-// Lets a worker carry out orders.
-fn run<N: Opening, W: Passing, L: Link + Drop, R: Wait>(
-    floor: &Floor<'_, N, W, R>,
-    worker: DumpWorker<N, W, L>,
-) -> DumpWorker<N, W, L>
-    requires within { All (λ o. o.place < length floor.now.stations.now) floor.now.orders.now }
-    requires ready { IsReady L.sent L.failed floor.now.queue.now (length floor.now.stations.now) (length floor.now.orders.now) worker }
-    ensures worked { HasWorked L.sent L.failed floor.now.queue.now (ids_of floor.now.stations.now) floor.now.orders.now worker result }
+// Lets one worker carry out orders.
+fn run<L: Link, R: Wait>(
+    context: &DumpContext<'_, R>,
+    links: &mut [L],
+    lines: &mut [Lines],
+    workers: &mut [DumpWorker],
+)
+    requires one { length links.old ≡ 1 }
+    requires ready { AreReady L.sent L.failed context.now.queue.now context.now.stores.now context.now.orders.now links.old lines.old workers.old }
+    ensures worked { AllWorked L.sent L.failed context.now.queue.now (ids_of context.now.stores.now) context.now.orders.now
+        (sided links.old lines.old workers.old) (sided links.new lines.new workers.new) }
 {
-    let mut worker = worker;
-    worker.broken = work(floor, &mut worker.seats, &mut worker.own);
-    worker
+    let worker = &mut workers[0];
+    let stop = work(context, &mut lines[0].lines, worker, &mut links[0]);
+    worker.stop = stop;
 }
 
 // Lets workers carry out orders, each in a thread of its own where one can be made.
-pub(crate) fn dump_all<
-    N: Opening + Send + Sync,
-    W: Passing + Send + Sync,
-    L: Link + Send + Drop,
-    R: Threads + Wait + Sync,
->(floor: &Floor<'_, N, W, R>, workers: Vec<DumpWorker<N, W, L>>) -> Vec<DumpWorker<N, W, L>>
-    requires within { All (λ o. o.place < length floor.now.stations.now) floor.now.orders.now }
-    requires ready { All (IsReady L.sent L.failed floor.now.queue.now (length floor.now.stations.now) (length floor.now.orders.now)) workers.items }
-    ensures worked { AllWorked L.sent L.failed floor.now.queue.now (ids_of floor.now.stations.now) floor.now.orders.now workers.items result.items }
-    ensures room { (vec_len result ≡ vec_len workers) × (vec_capacity result ≡ vec_capacity workers) }
+#[cycle(halves)]
+pub(crate) fn dump_all<L: Link + Send, R: Threads + Wait + Sync>(
+    context: &DumpContext<'_, R>,
+    links: &mut [L],
+    lines: &mut [Lines],
+    workers: &mut [DumpWorker],
+)
+    requires ready { AreReady L.sent L.failed context.now.queue.now context.now.stores.now context.now.orders.now links.old lines.old workers.old }
+    ensures worked { AllWorked L.sent L.failed context.now.queue.now (ids_of context.now.stores.now) context.now.orders.now
+        (sided links.old lines.old workers.old) (sided links.new lines.new workers.new) }
 {
-    let mut workers = workers;
-    let Some(one) = workers.pop() else {
-        return workers;
-    };
-    let (one, mut all) = join(
-        floor.rt,
-        move || -> DumpWorker<N, W, L>
-            requires { All (λ o. o.place < length floor.now.stations.now) floor.now.orders.now × IsReady L.sent L.failed floor.now.queue.now (length floor.now.stations.now) (length floor.now.orders.now) one }
-            ensures { HasWorked L.sent L.failed floor.entry.now.queue.now (ids_of floor.entry.now.stations.now) floor.entry.now.orders.now one result }
-        { run(floor, one) },
-        move || -> Vec<DumpWorker<N, W, L>>
-            requires { IsSync R.row × All (λ o. o.place < length floor.now.stations.now) floor.now.orders.now × All (IsReady L.sent L.failed floor.now.queue.now (length floor.now.stations.now) (length floor.now.orders.now)) workers.items }
-            ensures { AllWorked L.sent L.failed floor.entry.now.queue.now (ids_of floor.entry.now.stations.now) floor.entry.now.orders.now workers.items result.items × (vec_len result ≡ vec_len workers) × (vec_capacity result ≡ vec_capacity workers) }
-        { dump_all(floor, workers) },
+    if links.len() == 1 {
+        run(context, links, lines, workers);
+        return;
+    }
+    let middle = links.len() / 2;
+    let (low_links, high_links) = links.split_at_mut(middle);
+    let (low_lines, high_lines) = lines.split_at_mut(middle);
+    let (low_workers, high_workers) = workers.split_at_mut(middle);
+    dump_halves(
+        context,
+        low_links,
+        low_lines,
+        low_workers,
+        high_links,
+        high_lines,
+        high_workers,
     );
-    all.push_reserved(one);
-    all
+}
+
+// Lets two halves of the workers carry out orders side by side. A function of its own, so that what the closures require is what it
+// is given.
+#[cycle(halves)]
+fn dump_halves<L: Link + Send, R: Threads + Wait + Sync>(
+    context: &DumpContext<'_, R>,
+    low_links: &mut [L],
+    low_lines: &mut [Lines],
+    low_workers: &mut [DumpWorker],
+    high_links: &mut [L],
+    high_lines: &mut [Lines],
+    high_workers: &mut [DumpWorker],
+)
+    requires low { AreReady L.sent L.failed context.now.queue.now context.now.stores.now context.now.orders.now low_links.old low_lines.old low_workers.old }
+    requires high { AreReady L.sent L.failed context.now.queue.now context.now.stores.now context.now.orders.now high_links.old high_lines.old high_workers.old }
+    ensures low { AllWorked L.sent L.failed context.now.queue.now (ids_of context.now.stores.now) context.now.orders.now
+        (sided low_links.old low_lines.old low_workers.old) (sided low_links.new low_lines.new low_workers.new) }
+    ensures high { AllWorked L.sent L.failed context.now.queue.now (ids_of context.now.stores.now) context.now.orders.now
+        (sided high_links.old high_lines.old high_workers.old) (sided high_links.new high_lines.new high_workers.new) }
+{
+    let mut low = ||
+        requires { IsSync R.row × IsSend L.row × AreReady L.sent L.failed context.now.queue.now context.now.stores.now context.now.orders.now low_links.now low_lines.now low_workers.now }
+        ensures { AllWorked L.sent L.failed context.entry.now.queue.now (ids_of context.entry.now.stores.now) context.entry.now.orders.now (sided low_links.entry.now low_lines.entry.now low_workers.entry.now) (sided low_links.exit.now low_lines.exit.now low_workers.exit.now) }
+    { dump_all(context, low_links, low_lines, low_workers) };
+    let mut high = ||
+        requires { IsSync R.row × IsSend L.row × AreReady L.sent L.failed context.now.queue.now context.now.stores.now context.now.orders.now high_links.now high_lines.now high_workers.now }
+        ensures { AllWorked L.sent L.failed context.entry.now.queue.now (ids_of context.entry.now.stores.now) context.entry.now.orders.now (sided high_links.entry.now high_lines.entry.now high_workers.entry.now) (sided high_links.exit.now high_lines.exit.now high_workers.exit.now) }
+    { dump_all(context, high_links, high_lines, high_workers) };
+    join_mut(context.rt, &mut low, &mut high);
 }

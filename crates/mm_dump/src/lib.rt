@@ -1,10 +1,18 @@
-//! One step of a dump: workers, each in a thread of its own where one can be made, carry out the orders of one queue.
+//! Dumping: the packets of stores are sent over links to the ground, and then deleted.
 #![tactic(auto)]
 
+mod carrying;
 mod dumper;
-mod gear;
+pub mod laws;
+mod link;
+mod memory_link;
+mod order;
 mod queue;
 mod step;
+mod stop;
 mod worst;
 
-pub use step::{Dumping, NotDumped, dump};
+pub use link::{Link, SendFailed, may_fail};
+pub use memory_link::{MemoryLink, TakenPacket};
+pub use order::{Order, OrderBroken};
+pub use step::{Dumped, dump};

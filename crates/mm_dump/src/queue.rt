@@ -1,7 +1,8 @@
-//! The queue of a step's orders. Their numbers are pushed before the workers start, and each worker takes its next one from it.
-ghost use Rattle.std.specs.Prelude.{◌≡◌, ◌≤◌, ℕ, List, [], IfOk, IsTrue};
+//! The queue of a step's orders, by their numbers. All numbers are pushed before the workers start, and after those of the orders
+//! one more for each worker: a number that no order has tells the worker which takes it that no order is left.
+ghost use Rattle.std.specs.Prelude.{◌≡◌, ◌+◌, ◌<◌, ◌≤◌, [], ◌∷◌, ◌++◌, length, IfOk};
 ghost use Rattle.crossbeam_queue.specs.Passes.{view, IsPassOf, ruled_capacity};
-ghost use Rattle.mm_dump.specs.Taken.{hand, Tells};
+ghost use Rattle.mm_dump.specs.Queue.{queue_view, Tells};
 
 use crossbeam_queue::protocol::{Join, Lesson, Outcome, Protocol, Split};
 use crossbeam_queue::{Pass, RuledArrayQueue};
@@ -10,116 +11,132 @@ use std::alloc::Global;
 use std::collections::LinkedList;
 use std::sync::Wait;
 
-/// What a pass of the queue knows: its parts of the right to know the whole, how many numbers were pushed, and which of them
-/// it took. No value of it is made.
-pub struct Hand {
+/// What a pass of the queue knows: its parts of the right to know the whole, how many numbers were pushed, and which of them it
+/// took. No value of it is made.
+pub struct QueueView {
     pub parts: u64,
     pub pushed: u64,
     pub taken: LinkedList<u32>,
 }
 
-/// The queue's rule: the numbers pushed are those that some pass took, each once, and those still queued.
-pub(crate) struct Dealt;
+/// The queue's rule: the numbers are taken in order, each by one pass, and those still queued come after all that were taken.
+pub(crate) struct EachTakenOnce;
 
-impl Protocol<u32, Hand> for Dealt {
+impl Protocol<u32, QueueView> for EachTakenOnce {
     ghost use Rattle.std.specs.Prelude.{[]};
-    ghost use Rattle.mm_dump.specs.Taken.{hand, AreDealt};
+    ghost use Rattle.mm_dump.specs.Queue.{queue_view, AreTakenOnce};
 
-    ghost holds = { AreDealt };
+    ghost holds = { AreTakenOnce };
 
-    ghost first = { hand 1024 0 [] };
+    ghost first = { queue_view 1024 0 [] };
 }
 
 /// A part goes to a new pass, which has taken nothing, and comes back with what it took.
-pub(crate) struct Parts;
+pub(crate) struct SplitOne;
 
-impl Split<Hand> for Parts {
+impl Split<QueueView> for SplitOne {
     ghost use Rattle.std.specs.Prelude.{◌-◌, []};
-    ghost use Rattle.mm_dump.specs.Taken.{hand};
+    ghost use Rattle.mm_dump.specs.Queue.{queue_view};
 
-    ghost left = { λ v. hand (v.parts - 1) v.pushed v.taken };
+    ghost left = { λ v. queue_view (v.parts - 1) v.pushed v.taken };
 
-    ghost right = { λ v. hand 1 v.pushed [] };
+    ghost right = { λ v. queue_view 1 v.pushed [] };
 }
 
-impl Join<Hand> for Parts {
+impl Join<QueueView> for SplitOne {
     ghost use Rattle.std.specs.Prelude.{◌+◌, ◌++◌, []};
-    ghost use Rattle.mm_dump.specs.Taken.{hand};
+    ghost use Rattle.mm_dump.specs.Queue.{queue_view};
 
-    ghost both = { λ v w. hand (v.parts + w.parts) v.pushed (v.taken ++ w.taken) };
+    ghost both = { λ v w. queue_view (v.parts + w.parts) v.pushed (v.taken ++ w.taken) };
 
-    ghost spent = { hand 0 0 [] };
+    ghost spent = { queue_view 0 0 [] };
 }
 
 /// The next number is pushed.
-pub(crate) struct Pushes;
+pub(crate) struct PushNext;
 
-impl Outcome<u32, Hand> for Pushes {
+impl Outcome<u32, QueueView> for PushNext {
     ghost use Rattle.std.specs.Prelude.{◌≡◌, ◌+◌};
-    ghost use Rattle.mm_dump.specs.Taken.{hand};
+    ghost use Rattle.mm_dump.specs.Queue.{queue_view};
 
-    ghost then = { λ v x w. w ≡ hand v.parts (v.pushed + 1) v.taken };
+    ghost then = { λ v x w. w ≡ queue_view v.parts (v.pushed + 1) v.taken };
 }
 
-impl Lesson<u32, Hand> for Pushes {
-    ghost use Rattle.mm_dump.specs.Taken.{Tells};
+impl Lesson<u32, QueueView> for PushNext {
+    ghost use Rattle.mm_dump.specs.Queue.{HasRoom};
 
-    ghost fact = { Tells };
+    ghost fact = { HasRoom };
 }
 
-/// A number that was pushed is taken.
-pub(crate) struct Takes;
+/// The number that is next is taken.
+pub(crate) struct TakeNext;
 
-impl Outcome<u32, Hand> for Takes {
-    ghost use Rattle.std.specs.Prelude.{◌≡◌, ◌<◌, ◌∷◌, [], ◌++◌};
-    ghost use Rattle.mm_dump.specs.Taken.{hand};
+impl Outcome<u32, QueueView> for TakeNext {
+    ghost use Rattle.mm_dump.specs.Queue.{Takes};
 
-    ghost then = { λ v x w. (x < v.pushed) × (w ≡ hand v.parts v.pushed (v.taken ++ x ∷ [])) };
+    ghost then = { Takes };
 }
 
-impl Lesson<u32, Hand> for Takes {
-    ghost use Rattle.mm_dump.specs.Taken.{Tells};
+impl Lesson<u32, QueueView> for TakeNext {
+    ghost use Rattle.mm_dump.specs.Queue.{Tells};
 
-    ghost fact = { Tells };
+    ghost fact = { λ v items. Tells v };
 }
 
 /// A queue of orders, by their numbers.
-pub(crate) type OrderQueue = RuledArrayQueue<u32, Hand, Dealt>;
+pub(crate) type OrderQueue = RuledArrayQueue<u32, QueueView, EachTakenOnce>;
 
 /// A pass of the queue.
-pub(crate) type OrderPass = Pass<u32, Hand>;
+pub(crate) type OrderPass = Pass<u32, QueueView>;
 
-// A queue with room for this many numbers, and for one at least, with its first pass.
-pub(crate) fn new_queue(alloc: Global, orders: u32) -> Result<(OrderQueue, OrderPass), NoMemory>
-    ensures room { IfOk result (λ made. orders ≤ ruled_capacity made.0) }
+// A queue with room for this many numbers, with its first pass.
+pub(crate) fn new_queue(alloc: Global, numbers: u32) -> Result<(OrderQueue, OrderPass), NoMemory>
+    requires some { 1 ≤ numbers }
+    ensures room { IfOk result (λ made. numbers ≤ ruled_capacity made.0) }
     ensures pass { IfOk result (λ made. IsPassOf made.0 made.1) }
-    ensures first { IfOk result (λ made. view made.1 ≡ hand 1024 0 []) }
+    ensures first { IfOk result (λ made. view made.1 ≡ queue_view 1024 0 []) }
 {
-    Ok(OrderQueue::ruled(alloc, (orders as usize).max(1))?)
+    Ok(OrderQueue::ruled(alloc, numbers as usize)?)
 }
 
-// Pushes the numbers of this many orders.
-pub(crate) fn push_all<R: Wait>(rt: &R, queue: &OrderQueue, pass: &mut OrderPass, orders: u32)
+// Pushes the numbers from 0 on.
+pub(crate) fn push_all<R: Wait>(rt: &R, queue: &OrderQueue, pass: &mut OrderPass, numbers: u32)
     requires pass { IsPassOf queue.now pass.old }
-    requires first { view pass.old ≡ hand 1024 0 [] }
-    requires room { orders ≤ ruled_capacity queue.now }
+    requires first { view pass.old ≡ queue_view 1024 0 [] }
+    requires room { numbers ≤ ruled_capacity queue.now }
     ensures pass { IsPassOf queue.now pass.new }
-    ensures pushed { view pass.new ≡ hand 1024 orders [] }
+    ensures pushed { view pass.new ≡ queue_view 1024 numbers [] }
 {
-    for number in 0..orders {
-        let Ok(()) = queue.push_as::<Pushes, R>(rt, pass, number) else {
+    for number in 0..numbers {
+        let Ok(()) = queue.push_as::<PushNext, R>(rt, pass, number) else {
             unreachable!()
         };
     }
 }
 
-// Whether no number is queued, by the pass with all parts.
-pub(crate) fn is_dealt(queue: &OrderQueue, pass: &mut OrderPass) -> bool
+// Takes the next number. There is one for each worker after those of the orders, so a worker does not wait for one in vain.
+pub(crate) fn take_next<R: Wait>(rt: &R, queue: &OrderQueue, pass: &mut OrderPass) -> u32
     requires pass { IsPassOf queue.now pass.old }
-    requires all { (view pass.old).parts ≡ 1024 }
-    ensures all { IsTrue result → Tells (view pass.old) [] }
-    ensures left { (items : List ℕ) × Tells (view pass.old) items }
+    requires part { 0 < (view pass.old).parts }
+    ensures pass { IsPassOf queue.now pass.new }
+    ensures within { result < (view pass.old).pushed }
+    ensures taken { view pass.new ≡ queue_view (view pass.old).parts (view pass.old).pushed ((view pass.old).taken ++ result ∷ []) }
+    ensures few { length (view pass.new).taken ≤ (view pass.old).pushed }
 {
-    queue.learn_as::<Takes>(pass);
-    queue.is_empty_as::<Takes>(pass)
+    for _ in rt.forever() {
+        if let Some(number) = queue.pop_as::<TakeNext, R>(rt, pass) {
+            return number;
+        }
+    }
+    unreachable!()
+}
+
+// What the pass with all parts knows of the numbers that were taken.
+pub(crate) fn learn_taken(queue: &OrderQueue, pass: &mut OrderPass)
+    requires pass { IsPassOf queue.now pass.old }
+    ensures same { view pass.new ≡ view pass.old }
+    ensures pass { IsPassOf queue.now pass.new }
+    ensures taken { Tells (view pass.new) }
+{
+    queue.learn_as::<TakeNext>(pass);
 }

@@ -1,44 +1,41 @@
-//! Whether workers broke off, and the worst of the causes for which they did.
-ghost use Rattle.std.specs.Prelude.{◌≡◌, ◌↔◌, All, IsSome, IsTrue};
+//! The worst of the causes for which the orders of workers broke.
+ghost use Rattle.std.specs.Prelude.{◌≡◌};
 ghost use Rattle.mm_dump.specs.Courses.{worse, worst_of};
-ghost use Rattle.mm_dump.specs.Crews.{causes_of};
+ghost use Rattle.mm_dump.specs.Workers.{why_of, causes_of};
 
 use crate::dumper::DumpWorker;
-use mm_desk::{Opening, Passing};
-use mm_order::OrderBroken;
+use crate::order::OrderBroken;
+use crate::stop::Stop;
 
-// The worse of two causes: a refusal, then want of memory, then a link that failed.
+// The worse of two causes: out of memory, then a link that failed.
 fn worse(one: Option<OrderBroken>, other: Option<OrderBroken>) -> Option<OrderBroken>
     ensures worse { result ≡ worse one other }
 {
     match (one, other) {
         (None, _) => other,
-        (Some(OrderBroken::Refused), _) | (_, Some(OrderBroken::Refused)) => {
-            Some(OrderBroken::Refused)
-        }
-        (Some(OrderBroken::NoMemory), _) | (_, Some(OrderBroken::NoMemory)) => {
-            Some(OrderBroken::NoMemory)
-        }
-        _ => Some(OrderBroken::LinkFailed),
+        (Some(OrderBroken::NoMemory), _) | (_, None) => one,
+        _ => other,
     }
 }
 
-// The worst cause for which a worker broke off, where one did.
-pub(crate) fn worst_broken<N: Opening, W: Passing, L: Drop>(
-    workers: &[DumpWorker<N, W, L>],
-) -> Option<OrderBroken>
+// Why the last order of a worker broke, where it did. A refused call is no cause: once all workers have ended it is known that
+// there was none.
+fn why(stop: Option<Stop>) -> Option<OrderBroken>
+    ensures why { result ≡ why_of stop }
+{
+    match stop {
+        Some(Stop::Broken(why)) => Some(why),
+        Some(Stop::Refused) | None => None,
+    }
+}
+
+/// The worst cause for which an order of a worker broke, where one did.
+pub(crate) fn worst_broken(workers: &[DumpWorker]) -> Option<OrderBroken>
     ensures worst { result ≡ worst_of (causes_of workers.now) }
 {
     let mut worst = None;
     for worker in workers {
-        worst = worse(worst, worker.broken);
+        worst = worse(worst, why(worker.stop));
     }
     worst
-}
-
-// Whether each worker broke off.
-pub(crate) fn all_broke<N: Opening, W: Passing, L: Drop>(workers: &[DumpWorker<N, W, L>]) -> bool
-    ensures all { IsTrue result ↔ All (λ w. IsSome w.broken) workers.now }
-{
-    workers.iter().all(|worker| worker.broken.is_some())
 }

@@ -11,9 +11,9 @@ use Rattle.mm_problem.specs.Dumping.{arrivals, stores, steps}
 use Rattle.mm_desk.specs.declared.event.Event.{Event}
 use Rattle.mm_desk.specs.declared.event.Event.TheVariants.{Offer}
 use Rattle.mm_desk.specs.Laws.{HasTimes}
-use Rattle.mm_record.specs.Recorded.{Errand, offers}
+use Rattle.mm_record.specs.Recorded.{RecordingContext, offers}
 use Rattle.mm_runs.specs.StepRuns.{AreTimed}
-use Rattle.mm_exec.specs.Mission.{Mission, errand, offered, came, as_came}
+use Rattle.mm_exec.specs.RunInput.{RunInput, step_of, offered, came, as_came}
 
 -- rows of one length, one after another
 length-rows : {X : Type 0} (row : ℕ → List X) (n : ℕ) (xs : List ℕ) → ((t : ℕ) → length (row t) ≡ n) → length (flat_map row xs) ≡ length xs * n
@@ -33,7 +33,7 @@ map_range_same f g a n same =
     get_or-map-range_with_len f a n k (a + k) d inside refl ∙ same (a + k) (omega arith) (omega arith) ∙ sym (get_or-map-range_with_len g a n k (a + k) d inside refl))
 
 -- what comes stands in place of the forecast
-pub came_at : (m : Mission) (s t : ℕ) → s < length m.problem.rows → 1 ≤ t → t ≤ length m.problem.windows → arrivals (as_came m) s t ≡ came m s t
+pub came_at : (m : RunInput) (s t : ℕ) → s < length m.problem.rows → 1 ≤ t → t ≤ length m.problem.windows → arrivals (as_came m) s t ≡ came m s t
 came_at m s t store first last =
     let n = length m.problem.rows in
     let row : ℕ → List ℕ = λ u. map (λ r. came m r u) (stores m.problem) in
@@ -54,11 +54,17 @@ timed_list now [] fits = All-nil HasTimes
 timed_list now (p ∷ ps) fits = All-cons HasTimes (Offer now p) (map (λ p. Offer now p) ps) fits (timed_list now ps fits)
 
 -- what is offered in a run has moments that fit
-timed_lists : (e : Errand) (s t : ℕ) (givers : List (ℕ → List SpacePacket)) → e.now < 2 ^ 64 → AreTimed (map (λ gives. offers e s (gives t)) givers)
+timed_lists : (e : RecordingContext) (s t : ℕ) (givers : List (ℕ → List SpacePacket)) → e.now < 2 ^ 64 → AreTimed (map (λ gives. offers e s (gives t)) givers)
 timed_lists e s t [] fits = All-nil (λ (list : List Event). All HasTimes list)
 timed_lists e s t (g ∷ gs) fits =
     All-cons (λ (list : List Event). All HasTimes list) (offers e s (g t)) (map (λ gives. offers e s (gives t)) gs)
     (timed_list e.now _ fits) (timed_lists e s t gs fits)
 
-pub timed_offers : (m : Mission) (s t : ℕ) → m.base + t < 2 ^ 64 → AreTimed (offered m s t)
-timed_offers m s t fits = timed_lists (errand m t) s t m.gives fits
+pub timed_offers : (m : RunInput) (s t : ℕ) → m.base + t < 2 ^ 64 → AreTimed (offered m s t)
+timed_offers m s t fits = timed_lists (step_of m t) s t m.gives fits
+
+-- offers at a moment that fits have moments that fit
+pub timed_offers_of : (e : RecordingContext) (k : ℕ) (gives : List (List SpacePacket)) → e.now < 2 ^ 64 → AreTimed (map (offers e k) gives)
+timed_offers_of e k [] fits = All-nil (λ (list : List Event). All HasTimes list)
+timed_offers_of e k (g ∷ gives) fits =
+    All-cons (λ (list : List Event). All HasTimes list) (offers e k g) (map (offers e k) gives) (timed_list e.now _ fits) (timed_offers_of e k gives fits)

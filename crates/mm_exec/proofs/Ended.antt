@@ -1,27 +1,33 @@
 -- How a run ends.
-use Rattle.std.proofs.Common.{refl, ◌≡◌, inl, inr, ℕ, ◌-◌, List, length, map, get_or, ap, subst, ◌∙◌, arith}
-use Rattle.std.specs.Prelude.{sum_by}
+use Rattle.std.proofs.Common.{refl, ◌≡◌, inl, inr, ℕ, ◌+◌, ◌-◌, ◌≤◌, List, length, map, get_or, sym, ap, subst, ◌∙◌, arith}
+use Rattle.std.specs.Prelude.{Result, Ok, Err, IfOk, IfErr, sum_by}
 use Rattle.mm_sums.proofs.Sums.{sum_by-same, sum_by-map, sum_by-swap}
 use Rattle.mm_base.specs.declared.rows.RouteRow.{RouteRow}
 use Rattle.mm_packet.specs.Packet.{SpacePacket}
-use Rattle.mm_problem.specs.Dumping.{Dumping, stores, steps}
+use Rattle.mm_problem.specs.Dumping.{Dumping, stores, steps, window}
 use Rattle.mm_plan.specs.Table.{Table}
 use Rattle.mm_plan.specs.Volumes.{Amounts, lost, loss}
 use Rattle.mm_desk.specs.declared.held.Held.{Held}
-use Rattle.mm_crew.specs.Closings.{labels_of}
+use Rattle.mm_shared.specs.Stores.{labels_of}
 use Rattle.mm_memory.specs.Holdings.{Holdings}
-use Rattle.mm_order.specs.Sending.{Sent}
+use Rattle.mm_record.specs.Recorded.{recording}
+use Rattle.mm_dump.specs.Laws.{BrokenOrdersChangeNothing}
+use Rattle.mm_dump.specs.Sending.{Sent}
 use Rattle.mm_report.specs.declared.cause.Cause.{Cause}
 use Rattle.mm_report.specs.declared.cause.Cause.TheVariants.{PlanShape, NotReady, SizeDiffers, OpeningDiffers, ChannelDiffers, ClockTooLate, PlanDoesNotFit, Counts, NoMemory, LinkFailed, LogMismatch}
 use Rattle.mm_report.specs.declared.tally.Tally.{Tally}
 use Rattle.mm_report.specs.Report.{Reported, totals_of}
-use Rattle.mm_ready.specs.Ready.{Outset, outset, Stops}
-use Rattle.mm_exec.specs.declared.course.Stopped.{Stopped}
-use Rattle.mm_exec.specs.declared.step.Cargo.{Cargo}
-use Rattle.mm_exec.specs.Mission.{Mission, as_came}
+use Rattle.mm_ready.specs.Ready.{Outset, outset, MayBegin, Stops}
+use Rattle.mm_exec.specs.declared.course.RunStopped.{RunStopped}
+use Rattle.mm_exec.specs.declared.flight.Halted.{Halted}
+use Rattle.mm_exec.specs.RunInput.{RunInput, as_came, step_orders}
 use Rattle.mm_exec.specs.Numbers.{report_of, rows_of, tally_of}
-use Rattle.mm_exec.specs.Course.{IsRefusal, IsEnded}
-use Rattle.mm_exec.specs.Ending.{IsHalted}
+use Rattle.mm_memory.specs.Laws.{ids_of}
+use Rattle.mm_exec.specs.Step.{RunState, AreReady, StepBroke, StepStopped, NeverRefused}
+use Rattle.mm_exec.specs.Steps.{StepsDone}
+use Rattle.mm_exec.specs.Course.{RunDone, RunHalted, IsRefusal, IsEnded, outset_of}
+use Rattle.mm_exec.specs.Ending.{IsHaltedIn, IsHalted, state_left}
+use Rattle.mm_exec.proofs.Halts.{failed_link}
 use Rattle.mm_exec.proofs.Parts.{same_ids}
 
 -- what holds of an outset holds of the same one, by whatever names
@@ -43,6 +49,20 @@ refused o (NoMemory step) stops = absurd stops
 refused o (LinkFailed step) stops = stops
 refused o (LogMismatch step) stops = stops
 
+-- no test tells of a refusal
+pub refusals_are_none : (o : Outset) (cause : Cause) → Stops o cause → NeverRefused cause
+refusals_are_none o (LogMismatch step) stops = absurd stops
+refusals_are_none o PlanShape stops = λ t is. cc
+refusals_are_none o (NotReady id) stops = λ t is. cc
+refusals_are_none o (SizeDiffers id) stops = λ t is. cc
+refusals_are_none o (OpeningDiffers id) stops = λ t is. cc
+refusals_are_none o (ChannelDiffers id) stops = λ t is. cc
+refusals_are_none o ClockTooLate stops = λ t is. cc
+refusals_are_none o (PlanDoesNotFit step) stops = λ t is. cc
+refusals_are_none o Counts stops = λ t is. cc
+refusals_are_none o (NoMemory step) stops = λ t is. cc
+refusals_are_none o (LinkFailed step) stops = λ t is. cc
+
 -- the lost packets of the rows are as many as the plan loses
 rows_lost : (q : Dumping) (came : Dumping) (x : Amounts) → (totals_of (rows_of q came x (length q.windows))).lost ≡ sum_by (λ s. sum_by (lost came x s) (steps q)) (stores q)
 rows_lost q came x =
@@ -53,57 +73,81 @@ rows_lost q came x =
     ∙ sum_by-swap (λ (t s : ℕ). lost came x s t) (steps q) (stores q)
 
 -- the total of the lost packets is the loss of the plan, with what came in place of the forecast
-pub total_is : (m : Mission) (report : Reported) → report ≡ report_of m.problem (as_came m) m.amounts (length m.problem.windows)
+pub total_is : (m : RunInput) (report : Reported) → report ≡ report_of m.problem (as_came m) m.amounts (length m.problem.windows)
     → (totals_of report.steps).lost ≡ loss (as_came m) m.amounts
 total_is m report is = ap (λ (r : Reported). (totals_of r.steps).lost) is ∙ rows_lost m.problem (as_came m) m.amounts
 
-module _ {S L : Type 0} (gives : S → ℕ → List SpacePacket) (sent : L → List Sent) (failed : L → ℕ) (m : Mission) (plan : Table) (cargo : Cargo S L) (stopped : Stopped S L)
-    (lifted : cargo.stores.items ≡ m.memory.stores) where
+module _ {S L : Type 0} (gives : S → ℕ → List SpacePacket) (sent : L → List Sent) (failed : L → ℕ) (m : RunInput) (plan : Table) (before after : RunState S L)
+    (stopped : RunStopped) (lifted : before.stores ≡ m.memory.stores) where
   -- the stores are those of the memory, in order
-  ended_labels : IsEnded gives sent failed m plan cargo stopped → labels_of stopped.off.cargo.stores.items ≡ labels_of m.memory.stores
-  ended_labels (inl in_step) =
-      in_step.0.off.labels ∙ ap labels_of in_step.0.gone.held_is ∙ in_step.0.gone.went.labels (in_step.0.step - 1) (omega arith)
-  ended_labels (inr before) = ap (λ (c : Cargo S L). labels_of c.stores.items) before.0.cargo_is ∙ ap labels_of lifted
+  halted_labels : (h : RunHalted gives sent failed m before after stopped) → labels_of after.stores ≡ labels_of m.memory.stores
+  halted_labels h = h.stops.labels ∙ ap labels_of h.done.stores_are ∙ h.done.runs.labels (h.step - 1) (omega arith)
 
-  pub ended_ids : IsEnded gives sent failed m plan cargo stopped → map (λ (h : Held). h.id) stopped.off.cargo.stores.items ≡ map (λ (h : Held). h.id) m.memory.stores
-  ended_ids ended = same_ids stopped.off.cargo.stores.items m.memory.stores (ended_labels ended)
+  ended_labels : IsEnded gives sent failed m plan before after stopped → labels_of after.stores ≡ labels_of m.memory.stores
+  ended_labels (inl in_step) = halted_labels in_step.0
+  ended_labels (inr never) = ap (λ (x : RunState S L). labels_of x.stores) never.same ∙ ap labels_of lifted
+
+  pub ended_ids : IsEnded gives sent failed m plan before after stopped → ids_of after.stores ≡ ids_of m.memory.stores
+  ended_ids ended = same_ids after.stores m.memory.stores (ended_labels ended)
 
   -- what a run that ended so leaves, once its stores are back in the memory
-  pub halted_of : (memory : Holdings) → memory ≡ record m.memory { stores = stopped.off.cargo.stores.items } → IsEnded gives sent failed m plan cargo stopped
-      → IsHalted gives sent failed m plan cargo.sources.items cargo.links.items memory
-      (record { cause = stopped.off.cause; report = stopped.report; spent = stopped.off.spent; sources = stopped.off.cargo.sources; links = stopped.off.cargo.links })
-  halted_of memory back (inl in_step) = inl (
-    in_step.0.step,
-    in_step.0.off.cause,
-    record {
-      began = in_step.1;
-      first = in_step.0.first;
-      last = in_step.0.last;
-      before = in_step.0.before;
-      gone = in_step.0.gone;
-      off = stopped.off;
-      stores_are = ap (λ (h : Holdings). h.stores) back;
-      halted_is = refl;
-      labels = ap (λ (h : Holdings). labels_of h.stores) back ∙ ended_labels (inl in_step);
-      routes = ap (λ (h : Holdings). h.routes) back;
-      keep = in_step.0.off.keep;
-      others = in_step.0.off.others;
-      spent_within = in_step.0.off.within;
-      orders = in_step.0.orders;
-      orders_are = in_step.0.orders_are;
-      how = in_step.0.how;
-    },
-  )
-  halted_of memory back (inr before) = inr (
-    record {
-      memory_is = back ∙ ap (λ (held : List Held). record m.memory { stores = held }) (ap (λ (c : Cargo S L). c.stores.items) before.0.cargo_is ∙ lifted);
-      sources_are = ap (λ (c : Cargo S L). c.sources.items) before.0.cargo_is;
-      links_are = ap (λ (c : Cargo S L). c.links.items) before.0.cargo_is;
-      report_is = before.0.report_is;
-      spent_is = before.0.spent_is;
-    },
-    before.1,
-  )
+  module _ (memory : Holdings) (halted : Halted S L) (back : memory ≡ record m.memory { stores = after.stores }) (sources : halted.sources.items ≡ after.sources)
+      (links : halted.links.items ≡ after.links) (cause : halted.cause ≡ stopped.broken.cause) (spent : halted.spent ≡ stopped.broken.spent)
+      (report : halted.report ≡ stopped.report) where
+    stores_back : memory.stores ≡ after.stores
+    stores_back = ap (λ (h : Holdings). h.stores) back
+
+    left : after ≡ state_left memory halted
+    left = λ i. record { stores = sym stores_back i; sources = sym sources i; links = sym links i }
+
+    module _ (changes : BrokenOrdersChangeNothing) where
+      halted_in : (h : RunHalted gives sent failed m before after stopped) → MayBegin (outset_of m plan before)
+          → IsHaltedIn gives sent failed m plan before.sources before.links memory h.step halted
+      halted_in h began =
+          let e = recording h.step (m.base + h.step) m.memory.routes h.before.stores in
+          let orders = step_orders m h.step in
+          let how : StepBroke gives sent failed e orders h.before (state_left memory halted) halted.cause halted.spent =
+          subst (λ (n : ℕ). StepBroke gives sent failed e orders h.before (state_left memory halted) halted.cause n) (sym spent)
+          (subst (λ (c : Cause). StepBroke gives sent failed e orders h.before (state_left memory halted) c stopped.broken.spent) (sym cause)
+          (subst (λ (x : RunState S L). StepBroke gives sent failed e orders h.before x stopped.broken.cause stopped.broken.spent) left h.how)) in
+          record {
+            began = began;
+            first = h.from_one;
+            last = h.last;
+            before = h.before;
+            done = subst (λ (r : Reported). StepsDone gives sent failed m before.sources before.links (h.step - 1) h.before r) (sym report) h.done;
+            labels = ap labels_of stores_back ∙ halted_labels h;
+            routes = ap (λ (h : Holdings). h.routes) back;
+            ready = subst AreReady (sym stores_back) h.left;
+            stopped =
+                subst (λ (c : Cause). StepStopped gives h.step h.before (state_left memory halted) c) (sym cause)
+                (subst (λ (x : RunState S L). StepStopped gives h.step h.before x stopped.broken.cause) left h.stops);
+            within = subst (λ (n : ℕ). n ≤ window m.problem h.step) (sym spent) h.within;
+            how = how;
+            failed_link = λ is_link.
+                failed_link gives sent failed e orders h.before (state_left memory halted) halted.cause halted.spent changes refl h.ready h.there how is_link;
+          }
+
+      pub halted_of : IsEnded gives sent failed m plan before after stopped → IsHalted gives sent failed m plan before.sources before.links memory halted
+      halted_of (inl in_step) = inl (in_step.0.step, halted_in in_step.0 in_step.1)
+      halted_of (inr never) = inr (
+        record {
+          memory_is = back ∙ ap (λ (held : List Held). record m.memory { stores = held }) (ap (λ (x : RunState S L). x.stores) never.same ∙ lifted);
+          sources_are = sources ∙ ap (λ (x : RunState S L). x.sources) never.same;
+          links_are = links ∙ ap (λ (x : RunState S L). x.links) never.same;
+          report_is = ap (λ (r : Reported). r.steps) report ∙ never.report_is;
+          spent_is = spent ∙ never.spent_is;
+        },
+        subst (IsRefusal (outset_of m plan before)) (sym cause) never.cause_is,
+      )
+
+-- in either case the stores have their identifiers, in order
+pub left_ids : {S L : Type 0} (gives : S → ℕ → List SpacePacket) (sent : L → List Sent) (failed : L → ℕ) (m : RunInput) (plan : Table) (before after : RunState S L)
+    → before.stores ≡ m.memory.stores → (r : Result Reported RunStopped) → IfOk r (RunDone gives sent failed m before after)
+    → IfErr r (IsEnded gives sent failed m plan before after) → ids_of after.stores ≡ ids_of m.memory.stores
+left_ids gives sent failed m plan before after lifted (Ok report) done ended =
+    same_ids after.stores m.memory.stores (ap labels_of done.done.stores_are ∙ done.done.runs.labels (length m.problem.windows) (omega arith))
+left_ids gives sent failed m plan before after lifted (Err stopped) done ended = ended_ids gives sent failed m plan before after stopped lifted ended
 
 -- a memory of these stores and routes
 pub same_holdings : (memory : Holdings) (held : List Held) (routes : List RouteRow) → held ≡ memory.stores → routes ≡ memory.routes → record { stores = held; routes = routes } ≡ memory

@@ -12,7 +12,7 @@ use Rattle.mm_plan.proofs.Steps.{left_start, left_step}
 use Rattle.mm_planner.specs.Planned.{ShowsLeast}
 use Rattle.mm_planner.specs.PlanTexts.{ShowsInOrder}
 use Rattle.mm_report.specs.Report.{Reported, totals_of}
-use Rattle.mm_exec.specs.Mission.{Mission, as_came}
+use Rattle.mm_exec.specs.RunInput.{RunInput, as_came}
 use Rattle.mm_exec.specs.Flying.{PlansFor, LosesWhatIsPrinted}
 use Rattle.mm_exec.proofs.Coming.{came_at}
 
@@ -65,7 +65,7 @@ module _ (q : Dumping) (other : List ℕ) (x : Amounts)
       (λ s from within. sum_by_range_same (lost c x s) (lost q x s) 1 (length q.windows) (λ t first last. lost_alike s t (omega arith) first (omega arith)))
 
 -- the headline, of a plan that was printed and carried out
-pub headline_of : (m : Mission) (text : List ℕ) (sheet : SheetRows) (report : Reported) → m.amounts ≡ amount sheet.plan → PlansFor m.problem text sheet
+pub headline_of : (m : RunInput) (text : List ℕ) (sheet : SheetRows) (report : Reported) → m.amounts ≡ amount sheet.plan → PlansFor m.problem text sheet
     → (totals_of report.steps).lost ≡ loss (as_came m) m.amounts → LosesWhatIsPrinted m sheet report
 headline_of m text sheet report amounts plans total = record {
   fits = plans.shows_least.least.fits;

@@ -7,7 +7,7 @@ use Rattle.std.proofs.lemmas.List.{map-append, append-nil}
 use Rattle.std.proofs.lemmas.List.Elements.{filter-append}
 use Rattle.mm_sums.proofs.Ranges.{range_with_len_more}
 use Rattle.mm_plan.specs.Volumes.{Amounts}
-use Rattle.mm_order.specs.declared.order.Order.{Order}
+use Rattle.mm_dump.specs.declared.order.Order.{Order}
 use Rattle.mm_exec.specs.Numbers.{orders_of}
 
 module _ (x : Amounts) (places : List ℕ) (t : ℕ) where

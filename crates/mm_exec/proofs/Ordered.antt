@@ -1,20 +1,23 @@
 -- What the orders of a step want of each store.
-use Rattle.std.proofs.Common.{◌≡◌, ◌≢◌, ◌⊎◌, inl, inr, ℕ, ◌<◌, ◌≤◌, Bool, true, false, cond, ltb, eqb, List, All, refl, ◌∙◌, arith}
+use Rattle.std.proofs.Common.{◌≡◌, ◌≢◌, ◌⊎◌, inl, inr, ℕ, ◌<◌, ◌≤◌, Bool, true, false, cond, ltb, eqb, List, [], ◌∷◌, length, map, All, refl, ◌∙◌, arith}
 use Rattle.std.specs.Prelude.{filter, slice_index, AllPairs}
 use Rattle.std.specs.List.{sum_by, range_with_len}
 use Rattle.std.proofs.lemmas.Bool.{lt-ltb, le-ltb, ltb-true, ne_eqb, eq-eqb, cases_lt}
-use Rattle.std.proofs.lemmas.List.Elements.{All-map}
+use Rattle.std.proofs.lemmas.List.Elements.{All-map, All-head, All-tail}
 use Rattle.mm_sums.proofs.Pairs.{AllPairs-map}
 use Rattle.mm_sums.proofs.Ranges.{All-filter-range_with_len, AllPairs-filter-range_with_len}
-use Rattle.mm_sums.proofs.RangeSums.{sum_by_range_one}
-use Rattle.mm_sums.proofs.Sums.{sum_by-filter, sum_by-map, sum_by-map-filter}
+use Rattle.mm_sums.proofs.RangeSums.{sum_by_range_one, sum_by_range_same}
+use Rattle.mm_sums.proofs.Sums.{sum_by-filter, sum_by-map-filter}
+use Rattle.mm_plan.specs.Fit.{in_step}
 use Rattle.mm_plan.specs.Volumes.{Amounts}
-use Rattle.mm_order.specs.declared.order.Order.{Order}
-use Rattle.mm_dump.specs.Dumped.{wanted, times, places_of}
-use Rattle.mm_exec.specs.Going.{once_of}
+use Rattle.mm_dump.specs.declared.order.Order.{Order}
+use Rattle.mm_dump.specs.Dumped.{wanted}
 use Rattle.mm_exec.specs.Places.{AreApart}
+use Rattle.mm_exec.specs.RunInput.{RunInput, place_in_memory, step_orders}
 use Rattle.mm_exec.specs.Numbers.{orders_of}
-use Rattle.mm_exec.proofs.Listing.{is_ordered, order_of}
+use Rattle.mm_exec.specs.Step.{AreOrders}
+use Rattle.mm_exec.proofs.Listing.{is_ordered, order_of, orders_few}
+use Rattle.mm_base.specs.declared.limits.TheConstants.{MAX_STORES}
 
 module _ (x : Amounts) (places : List ℕ) (t n : ℕ) where
   -- the sum of the terms of one store
@@ -42,28 +45,57 @@ module _ (x : Amounts) (places : List ℕ) (t n : ℕ) where
       by_amount (inl some) = rw (lt-ltb 0 (x s t) some) refl
       by_amount (inr nothing) = rw (le-ltb 0 (x s t) nothing) (omega arith)
 
-  -- a store has one order, where packets are to leave it
-  pub times_is : (s : ℕ) → AreApart places n → s < n → times (slice_index places s) (places_of (orders_of x places t n)) ≡ once_of (x s t)
-  times_is s apart within =
-      sum_by-map (λ (y : ℕ). cond (eqb y (slice_index places s)) 1 0) (λ (o : Order). o.place) (orders_of x places t n)
-      ∙ sum_by-map-filter (λ (o : Order). cond (eqb o.place (slice_index places s)) 1 0) (order_of x places t) (is_ordered x places t) (range_with_len 0 n)
-      ∙ one_term (λ r. 1) s apart within
+  -- the orders want of all stores what is to leave them
+  pub wanted_in_all : sum_by (λ (o : Order). o.amount) (orders_of x places t n) ≡ sum_by (in_step x t) (range_with_len 0 n)
+  wanted_in_all =
+      sum_by-map-filter (λ (o : Order). o.amount) (order_of x places t) (is_ordered x places t) (range_with_len 0 n)
+      ∙ sum_by_range_same (λ s. cond (is_ordered x places t s) (x s t) 0) (in_step x t) 0 n (λ s from to. by_amount (x s t) (cases_lt 0 (x s t)))
+    where
+      by_amount : (amount : ℕ) → (0 < amount) ⊎ (amount ≤ 0) → cond (ltb 0 amount) amount 0 ≡ amount
+      by_amount amount (inl some) = rw (lt-ltb 0 amount some) refl
+      by_amount amount (inr nothing) = rw (le-ltb 0 amount nothing) (omega arith)
 
   -- the orders are of stores that are there
-  pub places_within : (m : ℕ) → ((s : ℕ) → s < n → slice_index places s < m) → All (λ o. o.place < m) (orders_of x places t n)
+  places_within : (m : ℕ) → ((s : ℕ) → s < n → slice_index places s < m) → All (λ o. o.place < m) (orders_of x places t n)
   places_within m within =
       All-map (λ (o : Order). o.place < m) (order_of x places t) (filter (is_ordered x places t) (range_with_len 0 n))
       (All-filter-range_with_len (λ (s : ℕ). slice_index places s < m) (is_ordered x places t) 0 n (λ s from to passes. within s (omega arith)))
 
   -- each is of one packet or more
-  pub amounts_some : All (λ o. 1 ≤ o.amount) (orders_of x places t n)
+  amounts_some : All (λ o. 1 ≤ o.amount) (orders_of x places t n)
   amounts_some =
       All-map (λ (o : Order). 1 ≤ o.amount) (order_of x places t) (filter (is_ordered x places t) (range_with_len 0 n))
       (All-filter-range_with_len (λ (s : ℕ). 1 ≤ x s t) (is_ordered x places t) 0 n (λ s from to passes. ltb-true 0 (x s t) passes))
 
   -- no two are of one store
-  pub places_apart : AreApart places n → AllPairs (λ a b. a.place ≢ b.place) (orders_of x places t n)
+  places_apart : AreApart places n → AllPairs (λ a b. a.place ≢ b.place) (orders_of x places t n)
   places_apart apart =
       AllPairs-map (λ (a b : Order). a.place ≢ b.place) (order_of x places t) (filter (is_ordered x places t) (range_with_len 0 n))
       (AllPairs-filter-range_with_len (λ (r s : ℕ). slice_index places r ≢ slice_index places s) (is_ordered x places t) 0 n
       (λ r s from before to one other. apart r s (omega arith) (omega arith) (λ same. omega (arith, same))))
+
+  -- the orders may be carried out
+  pub may_order : (many : ℕ) → n ≤ MAX_STORES → ((s : ℕ) → s < n → slice_index places s < many) → AreApart places n → AreOrders many (orders_of x places t n)
+  may_order many few within apart = record {
+    few = omega (arith, orders_few x places t n, few);
+    places = places_within many within;
+    some = amounts_some;
+    apart = places_apart apart;
+  }
+
+-- lists are equal where they are made alike of each element
+made_alike : {X Y : Type 0} (f g : X → Y) (xs : List X) → All (λ x. f x ≡ g x) xs → map f xs ≡ map g xs
+made_alike f g [] same = refl
+made_alike f g (x ∷ xs) same =
+    let here = All-head (λ x. f x ≡ g x) x xs same in
+    let rest = made_alike f g xs (All-tail (λ x. f x ≡ g x) x xs same) in
+    λ i. here i ∷ rest i
+
+-- the orders of a run, for stores at their places
+pub orders_are : (m : RunInput) (places : List ℕ) (t : ℕ) → ((s : ℕ) → s < length m.problem.rows → slice_index places s ≡ place_in_memory m s)
+    → orders_of m.amounts places t (length m.problem.rows) ≡ step_orders m t
+orders_are m places t stands =
+    let there : ℕ → Order = λ s. record { place = place_in_memory m s; amount = m.amounts s t } in
+    made_alike (order_of m.amounts places t) there (filter (is_ordered m.amounts places t) (range_with_len 0 (length m.problem.rows)))
+    (All-filter-range_with_len (λ (s : ℕ). order_of m.amounts places t s ≡ there s) (is_ordered m.amounts places t) 0 (length m.problem.rows)
+    (λ s from to passes. let is = stands s (omega arith) in λ i. record { place = is i; amount = m.amounts s t }))

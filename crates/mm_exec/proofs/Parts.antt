@@ -1,36 +1,47 @@
 -- The parts of a step.
-use Rattle.std.proofs.Common.{◌≡◌, ℕ, suc, ◌<◌, List, [], ◌∷◌, ◌++◌, length, map, All, refl, sym, ap, subst, ◌∙◌, arith, append_assoc}
-use Rattle.std.specs.Prelude.{Result, Ok, Err, IfOk, IfErr, OnOk}
+use Rattle.std.proofs.Common.{◌≡◌, ◌⊎◌, inl, inr, ℕ, suc, ◌<◌, List, [], ◌∷◌, ◌++◌, length, map, All, refl, sym, ap, subst, ◌∙◌, arith}
+use Rattle.std.specs.Prelude.{Option, Some, None, Result, Ok, Err, OnOk, IfErr}
 use Rattle.std.specs.List.{AllZip}
 use Rattle.std.proofs.lemmas.List.{length-map, append-nil}
+use Rattle.std.proofs.lemmas.Option.{same_Some}
 use Rattle.std.proofs.lemmas.List.Elements.{All-head, All-tail}
 use Rattle.mm_packet.specs.Packet.{SpacePacket}
+use Rattle.mm_desk.specs.declared.fault.Fault.{Fault}
+use Rattle.mm_desk.specs.declared.fault.Fault.TheVariants as fault
 use Rattle.mm_desk.specs.declared.held.Held.{Held}
-use Rattle.mm_crew.specs.Closings.{labels_of, states_of}
-use Rattle.mm_record.specs.Recorded.{Errand}
-use Rattle.mm_record.specs.Steps.{given_in, Turn, HadTurns}
-use Rattle.mm_order.specs.declared.order.Order.{Order}
-use Rattle.mm_order.specs.Sending.{Sent}
+use Rattle.mm_shared.specs.Stores.{labels_of, states_of}
+use Rattle.mm_record.specs.Causes.{cause_in}
+use Rattle.mm_record.specs.Recorded.{RecordingContext}
+use Rattle.mm_record.specs.Steps.{given_in, RecorderRun, AreRecorderRuns}
+use Rattle.mm_dump.specs.declared.order.Order.{Order}
+use Rattle.mm_dump.specs.declared.order.OrderBroken.{OrderBroken}
+use Rattle.mm_dump.specs.declared.order.OrderBroken.TheVariants as broken
+use Rattle.mm_dump.specs.Sending.{Sent}
 use Rattle.mm_dump.specs.Dumped.{AllTook}
+use Rattle.mm_report.specs.declared.cause.Cause.{Cause}
 use Rattle.mm_runs.specs.Laws.{HalvesMakeStepRuns}
-use Rattle.mm_exec.specs.declared.step.BrokenOff.{BrokenOff}
-use Rattle.mm_exec.specs.declared.step.Cargo.{Cargo}
-use Rattle.mm_exec.specs.Step.{HasRecorded, HasDumped, HasStepped, KeepsRest, HasBrokenOff}
-
--- what follows for what a call answers
-pub if_ok : {A E : Type 0} (P Q : A → Type 0) (r : Result A E) → IfOk r P → ((x : A) → P x → Q x) → IfOk r Q
-if_ok P Q (Ok x) p follows = follows x p
-if_ok P Q (Err e) p follows = tt
-
--- what follows for its refusal
-pub if_err : {A E : Type 0} (P Q : E → Type 0) (r : Result A E) → IfErr r P → ((e : E) → P e → Q e) → IfErr r Q
-if_err P Q (Ok x) p follows = tt
-if_err P Q (Err e) p follows = follows e p
+use Rattle.mm_memory.specs.Laws.{ids_of}
+use Rattle.mm_exec.specs.Step.{RunState, StepRecorded, StepDumped, StepDone, KeepsRest, IsCauseIn, dump_cause, OutOfMemory, RecordersBroke, OrdersBroke, StepBroke, StepStopped}
 
 -- what holds in any case holds where a call answers Ok
 pub on_ok : {A E : Type 0} (P : Type 0) (r : Result A E) → P → OnOk r P
 on_ok P (Ok x) p = p
 on_ok P (Err e) p = tt
+
+-- what follows from what holds where a call answers Ok
+pub ok_follows : {A E : Type 0} (P Q : Type 0) (r : Result A E) → OnOk r P → (P → Q) → OnOk r Q
+ok_follows P Q (Ok x) p follows = follows p
+ok_follows P Q (Err e) p follows = tt
+
+-- what follows for its refusal
+pub err_follows : {A E : Type 0} (P Q : E → Type 0) (r : Result A E) → IfErr r P → ((e : E) → P e → Q e) → IfErr r Q
+err_follows P Q (Ok x) p follows = tt
+err_follows P Q (Err e) p follows = follows e p
+
+-- what follows in either case
+pub both_follow : {A E : Type 0} (P Q : Type 0) (R : E → Type 0) (r : Result A E) → OnOk r P → IfErr r R → (P → Q) → ((e : E) → R e → Q) → Q
+both_follow P Q R (Ok x) p e first second = first p
+both_follow P Q R (Err e) p r first second = second e r
 
 -- stores with the same labels have the same identifiers
 pub same_ids : (xs ys : List Held) → labels_of xs ≡ labels_of ys → map (λ (h : Held). h.id) xs ≡ map (λ (h : Held). h.id) ys
@@ -50,9 +61,9 @@ keep_same gives step [] = tt
 keep_same gives step (x ∷ xs) = (([], refl), keep_same gives step xs)
 
 -- sources of recorders keep the rest
-pub keep_turns : {S : Type 0} (gives : S → ℕ → List SpacePacket) (e : Errand) (xs ys : List S) (turns : List Turn) → HadTurns gives e xs ys turns
+pub keep_turns : {S : Type 0} (gives : S → ℕ → List SpacePacket) (e : RecordingContext) (xs ys : List S) (turns : List RecorderRun) → AreRecorderRuns gives e xs ys turns
     → AllZip (KeepsRest gives e.step) xs ys
-unfolding HadTurns
+unfolding AreRecorderRuns
 keep_turns gives e [] [] turns had = tt
 keep_turns gives e [] (y ∷ ys) turns had = absurd had
 keep_turns gives e (x ∷ xs) [] turns had = absurd had
@@ -70,56 +81,85 @@ keep_none gives step (x ∷ xs) (y ∷ ys) same none =
     let all : gives x step ≡ gives x step ++ gives y step = sym (ap (λ (ps : List SpacePacket). gives x step ++ ps) nothing ∙ append-nil (gives x step)) in
     ((gives x step, all), keep_none gives step xs ys (omega arith) (All-tail (λ s. gives s step ≡ []) y ys none))
 
--- what is kept of what was kept
-pub keep_on : {S : Type 0} (gives : S → ℕ → List SpacePacket) (step : ℕ) (xs ys zs : List S) → AllZip (KeepsRest gives step) xs ys → AllZip (KeepsRest gives step) ys zs
-    → AllZip (KeepsRest gives step) xs zs
-keep_on gives step [] [] zs first second = second
-keep_on gives step [] (y ∷ ys) zs first second = absurd first
-keep_on gives step (x ∷ xs) [] zs first second = absurd first
-keep_on gives step (x ∷ xs) (y ∷ ys) [] first second = absurd second
-keep_on gives step (x ∷ xs) (y ∷ ys) (z ∷ zs) first second =
-    let both : gives x step ≡ (first.0.0 ++ second.0.0) ++ gives z step =
-    first.0.1 ∙ ap (λ (ps : List SpacePacket). first.0.0 ++ ps) second.0.1 ∙ sym (append_assoc first.0.0 second.0.0 (gives z step)) in
-    ((first.0.0 ++ second.0.0, both), keep_on gives step xs ys zs first.1 second.1)
-
 -- sources that give the same in some step are as many
 pub as_many_sources : {S : Type 0} (gives : S → ℕ → List SpacePacket) (t : ℕ) (xs ys : List S) → given_in gives t ys ≡ given_in gives t xs → length ys ≡ length xs
 as_many_sources gives t xs ys same = sym (length-map ys (λ s. gives s t)) ∙ ap length same ∙ length-map xs (λ s. gives s t)
 
-module _ {S L : Type 0} (gives : S → ℕ → List SpacePacket) (sent : L → List Sent) (failed : L → ℕ) (e : Errand) (orders : List Order) (before mid : Cargo S L) (recorded : HasRecorded gives e before mid) where
-  -- a step that is recorded and then dumped
-  pub both_parts : HalvesMakeStepRuns → (after : Cargo S L) → map (λ h. h.id) mid.stores.items ≡ e.ids → HasDumped sent failed orders mid after
-      → HasStepped gives sent failed e orders before after
-  both_parts halves after ids dumped =
-      let many : length after.stores.items ≡ length mid.stores.items = as_many after.stores.items mid.stores.items dumped.labels in
-      record {
-        labels = dumped.labels ∙ recorded.labels;
-        gave = dumped.dumped.gave;
-        runs = λ k within.
-            let here : k < length (states_of mid.stores.items) = omega (arith, many, length-map mid.stores.items (λ (h : Held). h.state)) in
-            let there : k < length (states_of after.stores.items) = omega (arith, length-map after.stores.items (λ (h : Held). h.state)) in
-            let first = recorded.stores k here in
-            let second = dumped.dumped.stores k there in
-            halves _ _ _ first.log second.calls _ _ _ first.run first.shuffle first.taken second.run (record { none = second.none; whole = second.whole });
-        places = dumped.dumped.places;
-        once = dumped.dumped.once;
-        links =
-            subst (λ (ids : List (List ℕ)). AllTook sent failed ids dumped.dumped.gave dumped.dumped.places before.links.items after.links.items) ids
-            (subst (λ (ls : List L). AllTook sent failed (map (λ h. h.id) mid.stores.items) dumped.dumped.gave dumped.dumped.places ls after.links.items) recorded.links dumped.dumped.links);
-        nothing_left = subst (All (λ s. gives s e.step ≡ [])) (sym dumped.sources) recorded.nothing_left;
-        others = λ t other. ap (given_in gives t) dumped.sources ∙ recorded.others t other;
-      }
+-- the cause of recorders is one of the step
+cause_recorded : (step : ℕ) (why : Option Fault) (cause : Cause) → cause_in step why ≡ Some cause → IsCauseIn step cause
+cause_recorded step None cause is = absurd (cc is)
+cause_recorded step (Some fault.NoMemory) cause is = subst (IsCauseIn step) (same_Some _ cause is) refl
+cause_recorded step (Some other) cause is = subst (IsCauseIn step) (same_Some _ cause is) refl
 
-  -- a step that is recorded and then broken off
-  pub broken_after : (window : ℕ) (off : BrokenOff S L) → HasBrokenOff gives e.step window mid off → HasBrokenOff gives e.step window before off
-  broken_after window off broken = record {
-    cause = broken.cause;
-    labels = broken.labels ∙ recorded.labels;
-    keep =
-        let many : length mid.sources.items ≡ length before.sources.items =
-        as_many_sources gives (suc e.step) before.sources.items mid.sources.items (recorded.others (suc e.step) (λ same. omega (arith, same))) in
-        keep_on gives e.step before.sources.items mid.sources.items off.cargo.sources.items
-        (keep_none gives e.step before.sources.items mid.sources.items many recorded.nothing_left) broken.keep;
-    others = λ t other. broken.others t other ∙ recorded.others t other;
-    within = broken.within;
-  }
+-- so is that of orders
+cause_dumped : (step : ℕ) (why : OrderBroken) → IsCauseIn step (dump_cause step why)
+cause_dumped step broken.LinkFailed = refl
+cause_dumped step why = refl
+
+-- a step that is recorded and then dumped
+pub both_parts : {S L : Type 0} (gives : S → ℕ → List SpacePacket) (sent : L → List Sent) (failed : L → ℕ) (e : RecordingContext) (orders : List Order)
+    (before after : RunState S L) (mid : List Held) → HalvesMakeStepRuns → ids_of before.stores ≡ e.ids
+    → StepRecorded gives e before.stores before.sources mid after.sources → StepDumped sent failed orders mid before.links after.stores after.links
+    → StepDone gives sent failed e orders before after
+both_parts gives sent failed e orders before after mid halves ids recorded dumped =
+    let many : length after.stores ≡ length mid = as_many after.stores mid dumped.labels in
+    record {
+      labels = dumped.labels ∙ recorded.labels;
+      gave = dumped.dumped.gave;
+      runs = λ k within.
+          let here : k < length (states_of mid) = omega (arith, many, length-map mid (λ (h : Held). h.state)) in
+          let there : k < length (states_of after.stores) = omega (arith, length-map after.stores (λ (h : Held). h.state)) in
+          let first = recorded.stores_are k here in
+          let second = dumped.dumped.stores k there in
+          halves _ _ _ first.log second.calls _ _ _ first.run first.shuffle first.taken second.run (record { none = second.none; whole = second.whole });
+      places = dumped.dumped.places;
+      once = dumped.dumped.once;
+      links =
+          subst (λ (ids : List (List ℕ)). AllTook sent failed ids dumped.dumped.gave dumped.dumped.places before.links after.links)
+          (same_ids mid before.stores recorded.labels ∙ ids) dumped.dumped.links;
+      nothing_left = recorded.nothing_left;
+      others = recorded.others;
+    }
+
+-- sources whose step is recorded keep the rest
+keep_recorded : {S : Type 0} (gives : S → ℕ → List SpacePacket) (e : RecordingContext) (stores : List Held) (sources : List S) (mid : List Held) (left : List S)
+    → StepRecorded gives e stores sources mid left → AllZip (KeepsRest gives e.step) sources left
+keep_recorded gives e stores sources mid left recorded =
+    let many : length left ≡ length sources = as_many_sources gives (suc e.step) sources left (recorded.others (suc e.step) (λ same. omega (arith, same))) in
+    keep_none gives e.step sources left many recorded.nothing_left
+
+-- what a step that was broken off leaves
+pub stopped_of : {S L : Type 0} (gives : S → ℕ → List SpacePacket) (sent : L → List Sent) (failed : L → ℕ) (e : RecordingContext) (orders : List Order)
+    (before after : RunState S L) (cause : Cause) (spent : ℕ) → StepBroke gives sent failed e orders before after cause spent → StepStopped gives e.step before after cause
+stopped_of {S = S} {L = L} gives sent failed e orders before after cause spent (inl recording) = by_how recording.how
+  where
+    by_how : OutOfMemory e.step before.stores before.sources after.stores after.sources cause spent
+        ⊎ RecordersBroke gives e before.stores before.sources after.stores after.sources cause spent → StepStopped gives e.step before after cause
+    by_how (inl lack) = record {
+      cause_is = subst (IsCauseIn e.step) (sym lack.cause_is) refl;
+      labels = ap labels_of lack.stores_same;
+      keep = subst (AllZip (KeepsRest gives e.step) before.sources) (sym lack.same) (keep_same gives e.step before.sources);
+      others = λ t other. ap (given_in gives t) lack.same;
+    }
+    by_how (inr broke) = record {
+      cause_is = cause_recorded e.step broke.why cause broke.cause_is;
+      labels = broke.records.labels;
+      keep = keep_turns gives e before.sources after.sources broke.records.runs broke.records.are_runs;
+      others = broke.records.others;
+    }
+stopped_of {S = S} {L = L} gives sent failed e orders before after cause spent (inr dumping) = by_how dumping.how
+  where
+    by_how : OutOfMemory e.step dumping.mid before.links after.stores after.links cause spent
+        ⊎ OrdersBroke sent failed e.step orders dumping.mid before.links after.stores after.links cause spent → StepStopped gives e.step before after cause
+    by_how (inl lack) = record {
+      cause_is = subst (IsCauseIn e.step) (sym lack.cause_is) refl;
+      labels = ap labels_of lack.stores_same ∙ dumping.recorded.labels;
+      keep = keep_recorded gives e before.stores before.sources dumping.mid after.sources dumping.recorded;
+      others = dumping.recorded.others;
+    }
+    by_how (inr broke) = record {
+      cause_is = subst (IsCauseIn e.step) (sym broke.cause_is) (cause_dumped e.step broke.why);
+      labels = broke.labels ∙ dumping.recorded.labels;
+      keep = keep_recorded gives e before.stores before.sources dumping.mid after.sources dumping.recorded;
+      others = dumping.recorded.others;
+    }

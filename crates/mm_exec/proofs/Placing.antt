@@ -9,12 +9,10 @@ use Rattle.std.proofs.lemmas.Slice.Eq.{bytes_eq-Decides}
 use Rattle.mm_problem.specs.Dumping.{Dumping, row, no_row}
 use Rattle.mm_problem.specs.Setup.{AreStores}
 use Rattle.mm_desk.specs.declared.held.Held.{Held}
-use Rattle.mm_desk.specs.Machine.{IsState}
-use Rattle.mm_desk.specs.Runs.{blank, opening_at}
-use Rattle.mm_crew.specs.Closings.{states_of}
-use Rattle.mm_crew.specs.Stations.{id_at}
+use Rattle.mm_desk.specs.Runs.{blank}
+use Rattle.mm_shared.specs.Stores.{id_at}
 use Rattle.mm_memory.specs.Holdings.{has_id}
-use Rattle.mm_exec.specs.Places.{IsPlaceOf, ArePlaces, AreSound}
+use Rattle.mm_exec.specs.Places.{IsPlaceOf, ArePlaces}
 
 -- what stands at the first place that passes passes
 place_passes : {X : Type 0} (p : X → Bool) (xs : List X) (d : X) → position_or_len p xs < length xs → p (get_or xs (position_or_len p xs) d) ≡ true
@@ -37,9 +35,9 @@ id_there id stores place is =
 -- stores with identifiers of their own stand at places of their own
 pub places_differ : (q : Dumping) (stores : List Held) (places : List ℕ) → AreStores q.rows → ArePlaces q stores (length q.rows) places
     → (r s : ℕ) → r < length q.rows → s < length q.rows → r ≢ s → slice_index places r ≢ slice_index places s
-places_differ q stores places are stand r s first second other same =
-    let one = id_there (row q r).id stores (slice_index places r) (stand r first) in
-    let two = id_there (row q s).id stores (slice_index places s) (stand s second) in
+places_differ q stores places are place_in_memory r s first second other same =
+    let one = id_there (row q r).id stores (slice_index places r) (place_in_memory r first) in
+    let two = id_there (row q s).id stores (slice_index places s) (place_in_memory s second) in
     let ids : (row q r).id ≡ (row q s).id = sym one ∙ ap (λ (k : ℕ). id_at (map (λ h. h.id) stores) k) same ∙ two in
     by_order ids (cases_order r s)
   where
@@ -51,6 +49,3 @@ places_differ q stores places are stand r s first second other same =
 -- places that are cut down to those of the problem's stores
 pub places_cut : (q : Dumping) (stores : List Held) (n : ℕ) (all : List ℕ) → ArePlaces q stores n all → ArePlaces q stores n (take n all)
 places_cut q stores n all are s within = subst (IsPlaceOf (row q s).id stores) (sym (get_or-take n all s 0 within)) (are s within)
-
-pub sound_cut : (stores : List Held) (n : ℕ) (all : List ℕ) → AreSound stores n all → AreSound stores n (take n all)
-sound_cut stores n all sound s within = subst (λ (k : ℕ). IsState (opening_at (states_of stores) k)) (sym (get_or-take n all s 0 within)) (sound s within)

@@ -6,25 +6,25 @@ use Rattle.std.proofs.lemmas.List.FromFn.{get_or-map-range_with_len, length-map-
 use Rattle.mm_problem.specs.Dumping.{Dumping}
 use Rattle.mm_desk.specs.declared.held.Held.{Held}
 use Rattle.mm_desk.specs.Runs.{opening_at}
-use Rattle.mm_crew.specs.Closings.{states_of}
+use Rattle.mm_shared.specs.Stores.{states_of}
 use Rattle.mm_report.specs.declared.tally.Tally.{Tally}
-use Rattle.mm_exec.specs.declared.tallies.Mark.{Mark}
-use Rattle.mm_exec.specs.Numbers.{AreMarks, AreTallies, tally_from, mark_of, row_from}
+use Rattle.mm_exec.specs.declared.tallies.Counters.{Counters}
+use Rattle.mm_exec.specs.Numbers.{AreCounters, AreTallies, tally_from, counters_of, row_from}
 
 -- no counters
-abbrev no_mark : Mark
+abbrev no_mark : Counters
 no_mark = record { offered = 0; lost = 0; deleted = 0 }
 
 -- the first tallies are the row
-pub row_taken : (q : Dumping) (t : ℕ) (places : List ℕ) (before after : List Held) (marks : List Mark) (tallies : List Tally) (n : ℕ)
-    → AreMarks before places n marks → AreTallies q t after places marks n tallies → n ≤ length tallies
+pub row_taken : (q : Dumping) (t : ℕ) (places : List ℕ) (before after : List Held) (marks : List Counters) (tallies : List Tally) (n : ℕ)
+    → AreCounters before places n marks → AreTallies q t after places marks n tallies → n ≤ length tallies
     → take n tallies ≡ row_from q t places before after n
 row_taken q t places before after marks tallies n marked told fits =
-    let one : ℕ → Tally = λ s. tally_from q s t (mark_of (opening_at (states_of before) (slice_index places s))) (opening_at (states_of after) (slice_index places s)) in
+    let one : ℕ → Tally = λ s. tally_from q s t (counters_of (opening_at (states_of before) (slice_index places s))) (opening_at (states_of after) (slice_index places s)) in
     let many : length (take n tallies) ≡ n = length-take-le n tallies fits in
     same_lists _ _ (many ∙ sym (length-map-range_with_len one 0 n))
     (λ k d within.
     let inside : k < n = omega (arith, many) in
     get_or-take n tallies k d inside ∙ told k d no_mark inside
-    ∙ ap (λ (m : Mark). tally_from q k t m (opening_at (states_of after) (slice_index places k))) (marked k no_mark inside)
+    ∙ ap (λ (m : Counters). tally_from q k t m (opening_at (states_of after) (slice_index places k))) (marked k no_mark inside)
     ∙ sym (get_or-map-range_with_len one 0 n k k d inside (omega arith)))

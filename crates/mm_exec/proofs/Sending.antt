@@ -2,8 +2,8 @@
 use Rattle.std.proofs.Common.{◌≡◌, ℕ, zero, suc, ◌<◌, List, [], ◌∷◌, ◌++◌, length, map, refl, ap, arith}
 use Rattle.std.specs.Prelude.{flat_map, slice_index_or}
 use Rattle.mm_store.specs.declared.stored.Stored.{Stored}
-use Rattle.mm_crew.specs.Stations.{id_at}
-use Rattle.mm_order.specs.Sending.{Sent, all_sent}
+use Rattle.mm_shared.specs.Stores.{id_at}
+use Rattle.mm_dump.specs.Sending.{Sent, all_sent}
 use Rattle.mm_dump.specs.Dumped.{AllTook}
 
 module _ {L : Type 0} (sent : L → List Sent) (failed : L → ℕ) (ids : List (List ℕ)) (gave : ℕ → List Stored) where

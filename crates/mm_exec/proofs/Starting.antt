@@ -1,59 +1,73 @@
 -- How a run begins, and what is known of it on the way.
-use Rattle.std.proofs.Common.{◌≡◌, ◌≢◌, ℕ, suc, ◌+◌, ◌-◌, ◌<◌, ◌≤◌, ◌^◌, true, false, List, [], ◌∷◌, ◌++◌, length, map, take, get_or, All, refl, sym, subst, ap, ◌∙◌, arith}
-use Rattle.std.specs.Prelude.{slice_index, slice_index_or, bytes_eq, slice_get, Some}
-use Rattle.std.proofs.lemmas.Bool.{eqb-true}
-use Rattle.std.proofs.lemmas.List.{length-map, get_or-map, append-nil}
+use Rattle.std.proofs.Common.{◌≡◌, ◌≢◌, ◌⊎◌, inl, inr, ℕ, suc, ◌+◌, ◌-◌, ◌*◌, ◌<◌, ◌≤◌, ◌^◌, Bool, true, false, List, [], ◌∷◌, ◌++◌, length, map, take, get_or, All, refl, sym, subst, ap, ◌∙◌, arith}
+use Rattle.std.specs.Prelude.{slice_index, slice_index_or, bytes_eq, slice_get, Option, Some, None, is_some, not, ◌&&◌, IsTrue, vec_capacity}
+use Rattle.std.specs.List.{position_or_len}
+use Rattle.std.proofs.lemmas.Bool.{eqb-true, cases_order, eq-eqb}
+use Rattle.std.proofs.lemmas.List.{length-map, get_or-map, get_or_default, append-nil, length-take-le}
 use Rattle.std.proofs.lemmas.List.FromFn.{length-map-range_with_len}
 use Rattle.std.proofs.lemmas.List.Folds.{find_at}
+use Rattle.std.proofs.lemmas.List.Sums.{fails_before_first, passes_at_first, prefix_len-le-length}
 use Rattle.std.proofs.lemmas.List.Elements.{All-map, All-from_get_or}
 use Rattle.std.proofs.lemmas.Option.{slice_get-get_or}
 use Rattle.std.proofs.lemmas.Slice.Eq.{bytes_eq-Decides}
-use Rattle.mm_base.specs.declared.limits.TheConstants.{MAX_STEPS}
+use Rattle.mm_base.specs.declared.limits.TheConstants.{MAX_STEPS, MAX_STORES}
+use Rattle.mm_base.specs.declared.rows.StoreRow.{StoreRow}
 use Rattle.mm_packet.specs.Packet.{SpacePacket}
-use Rattle.mm_problem.specs.Dumping.{Dumping, IsDumping, row}
-use Rattle.mm_plan.specs.Table.{Table, HasShape}
+use Rattle.mm_problem.specs.Dumping.{Dumping, IsDumping, row, no_row, place}
+use Rattle.mm_plan.specs.Fit.{Fits}
+use Rattle.mm_plan.specs.Table.{Table, amount, HasShape}
 use Rattle.mm_desk.specs.declared.held.Held.{Held}
+use Rattle.mm_desk.specs.declared.state.Retrieval.{Retrieval}
 use Rattle.mm_desk.specs.Machine.{State, IsState}
 use Rattle.mm_desk.specs.Runs.{opening_at, blank}
-use Rattle.mm_crew.specs.Closings.{labels_of, states_of}
-use Rattle.mm_crew.specs.Stations.{AreNamed}
+use Rattle.mm_shared.specs.Stores.{labels_of, states_of, AreNamed}
 use Rattle.mm_memory.specs.Holdings.{Holdings, AreHeld, has_id, store_of}
-use Rattle.mm_record.specs.Steps.{step_errand}
-use Rattle.mm_order.specs.Sending.{Sent}
+use Rattle.mm_record.specs.Recorded.{recording}
+use Rattle.mm_record.specs.Steps.{given_in, latest}
+use Rattle.mm_dump.specs.Sending.{Sent}
 use Rattle.mm_report.specs.declared.cause.TheConstants.{LATEST_START}
 use Rattle.mm_report.specs.Report.{Reported}
 use Rattle.mm_ready.specs.declared.need.Need.{Need}
 use Rattle.mm_ready.specs.declared.need.Need.TheVariants.{Standing, Size, Opening}
-use Rattle.mm_ready.specs.Ready.{Outset, outset, MayBegin, AllMeet, meets, meets_at, IsEarly, AreCounts}
+use Rattle.mm_ready.specs.Ready.{Outset, outset, MayBegin, AllMeet, NoneStrange, is_strange, meets, meets_at, IsEarly, AreCounts}
 use Rattle.mm_runs.proofs.Replays.{All-unmapped}
 use Rattle.mm_runs.specs.Laws.{RunsLoseAsPlanned}
 use Rattle.mm_runs.specs.Numbers.{IsReady}
-use Rattle.mm_exec.specs.declared.step.Cargo.{Cargo}
-use Rattle.mm_exec.specs.Step.{HasStepped}
-use Rattle.mm_exec.specs.Places.{IsPlaceOf, ArePlaces, AreSound}
-use Rattle.mm_exec.specs.Mission.{Mission, mission}
-use Rattle.mm_exec.specs.Numbers.{row_from, orders_of}
-use Rattle.mm_exec.specs.Going.{HasGone}
-use Rattle.mm_exec.proofs.Gone.{Footing, gone_on}
+use Rattle.mm_exec.specs.declared.room.RunBuffers.{RunBuffers}
+use Rattle.mm_exec.specs.Places.{IsPlaceOf, ArePlaces}
+use Rattle.mm_exec.specs.RunInput.{RunInput, run_input}
+use Rattle.mm_exec.specs.Numbers.{row_from, orders_of, AreByCounters}
+use Rattle.mm_memory.specs.Laws.{ids_of}
+use Rattle.mm_exec.specs.Step.{RunState, AreReady, StepDone}
+use Rattle.mm_exec.specs.Steps.{StepsDone}
+use Rattle.mm_exec.specs.Course.{MayReport, AreWithinLimits}
+use Rattle.mm_exec.proofs.Counters.{counted_first}
+use Rattle.mm_exec.proofs.Ordered.{may_order, wanted_in_all}
+use Rattle.mm_exec.proofs.StepMore.{Footing, done_on}
 use Rattle.mm_exec.proofs.Parts.{as_many, same_ids, as_many_sources}
-use Rattle.mm_exec.proofs.Placing.{no_held, places_differ, places_cut, sound_cut}
+use Rattle.mm_exec.proofs.Placing.{no_held, places_differ, places_cut}
+use Rattle.mm_exec.proofs.Ready.{AllFar, state_holds}
 
 -- what the tests before a run have shown
 pub record Begun (o : Outset) : Type 0 where
   pub shape : HasShape o.problem o.plan
   pub standing : AllMeet Standing o.problem o.stores
+  pub none_strange : NoneStrange o.problem o.stores
   pub sizes : AllMeet Size o.problem o.stores
   pub openings : AllMeet Opening o.problem o.stores
   pub early : IsEarly o.stores o.base
+  pub fits : Fits o.problem (amount o.plan)
   pub counts : AreCounts o.sources o.links
 
 pub begun_of : (o : Outset) → MayBegin o → Begun o
 begun_of o begins = record {
   shape = begins.0.0.0.0.0.0.0;
   standing = begins.0.0.0.0.0.0.1;
+  none_strange = begins.0.0.0.0.0.0.2;
   sizes = begins.0.0.0.0.0.1;
   openings = begins.0.0.0.0.1;
   early = begins.0.0.1;
+  fits = begins.0.1;
   counts = begins.1;
 }
 
@@ -77,11 +91,72 @@ ready_of q stores s place is sized opened sound =
       holds = ap (λ (u : State). length u.store.content) here ∙ eqb-true _ _ (meets_there Opening q stores s place is opened);
     }
 
+-- storage is on, and no retrieval
+standing_gives : (b : Bool) (r : Option Retrieval) → (b && not (is_some r)) ≡ true → IsTrue b × (r ≡ None)
+standing_gives true None is = (refl, refl)
+standing_gives true (Some r) is = absurd (cc is)
+standing_gives false r is = absurd (cc is)
+
+-- a store of the problem stands where the row with its identifier is
+row_there : (q : Dumping) (h : Held) → is_strange q h ≡ false → (s : ℕ) × (s < length q.rows) × ((row q s).id ≡ h.id)
+row_there q h known = (place q h.id, within, same)
+  where
+    within : place q h.id < length q.rows
+    within = by_order (cases_order (place q h.id) (length q.rows))
+      where
+        by_order : (place q h.id ≡ length q.rows) ⊎ ((place q h.id < length q.rows) ⊎ (length q.rows < place q h.id)) → place q h.id < length q.rows
+        by_order (inl equal) = let yes = eq-eqb (place q h.id) (length q.rows) equal in absurd (cc (yes, known))
+        by_order (inr (inl before)) = before
+        by_order (inr (inr after)) =
+            let few : place q h.id ≤ length q.rows = prefix_len-le-length _ q.rows in
+            absurd (omega (arith, after, few))
+
+    same : (row q (place q h.id)).id ≡ h.id
+    same = (bytes_eq-Decides _ h.id).0 (passes_at_first (λ (r : StoreRow). bytes_eq r.id h.id) q.rows no_row within)
+
+-- each store is the first with its identifier
+first_is : (stores : List Held) → AreHeld stores → (k : ℕ) (id : List ℕ) → k < length stores → (get_or stores k no_held).id ≡ id → position_or_len (has_id id) stores ≡ k
+first_is stores held k id within same = by_order (cases_order (position_or_len (has_id id) stores) k)
+  where
+    passes : has_id id (get_or stores k no_held) ≡ true
+    passes = (bytes_eq-Decides _ id).1 same
+
+    by_order : (position_or_len (has_id id) stores ≡ k) ⊎ ((position_or_len (has_id id) stores < k) ⊎ (k < position_or_len (has_id id) stores)) → position_or_len (has_id id) stores ≡ k
+    by_order (inl equal) = equal
+    by_order (inr (inl before)) =
+        let first = passes_at_first (has_id id) stores no_held (omega (arith, before, within)) in
+        let other : (get_or stores (position_or_len (has_id id) stores) no_held).id ≡ id = (bytes_eq-Decides _ id).0 first in
+        absurd (held.named (position_or_len (has_id id) stores) k no_held before within (other ∙ sym same))
+    by_order (inr (inr after)) =
+        let fails = fails_before_first (has_id id) stores k no_held after in
+        absurd (cc (fails, passes))
+
+-- where all tests passed, each store of the memory is ready
+pub all_ready : (q : Dumping) (stores : List Held) → AreHeld stores → AllMeet Standing q stores → NoneStrange q stores → All (λ h. IsState h.state) stores → AreReady stores
+all_ready q stores held standing known sound = record {
+  sound = sound;
+  storage = λ k d inside. subst (λ (h : Held). IsTrue h.state.storage) (there k d inside) (each k inside).0;
+  idle = λ k d inside. subst (λ (h : Held). h.state.retrieval ≡ None) (there k d inside) (each k inside).1;
+}
+  where
+    there : (k : ℕ) (d : Held) → k < length stores → get_or stores k no_held ≡ get_or stores k d
+    there k d inside = get_or_default stores k no_held d inside
+
+    each : (k : ℕ) → k < length stores → IsTrue (get_or stores k no_held).state.storage × ((get_or stores k no_held).state.retrieval ≡ None)
+    each k inside =
+        let h = get_or stores k no_held in
+        let found = row_there q h (known k no_held inside) in
+        let id = (row q found.0).id in
+        let at : position_or_len (has_id id) stores ≡ k = first_is stores held k id inside (sym found.2) in
+        let is : store_of id stores ≡ Some h = find_at (has_id id) stores ∙ ap (λ (j : ℕ). slice_get stores j) at ∙ slice_get-get_or stores k no_held inside in
+        let meets_it : meets Standing (row q found.0) (Some h) ≡ true = subst (λ (o : Option Held). meets Standing (row q found.0) o ≡ true) is (standing found.0 found.1) in
+        standing_gives h.state.storage h.state.retrieval meets_it
+
 -- what holds through a run that may begin
 pub footing_of : {S : Type 0} (gives : S → ℕ → List SpacePacket) (q : Dumping) (plan : Table) (base : ℕ) (memory : Holdings) (sources : List S) (places : List ℕ)
     → IsDumping q → AllMeet Size q memory.stores → AllMeet Opening q memory.stores → IsEarly memory.stores base
-    → ArePlaces q memory.stores (length q.rows) places → AreSound memory.stores (length q.rows) places
-    → Footing gives (mission gives q plan base memory sources) sources places
+    → ArePlaces q memory.stores (length q.rows) places → All (λ h. IsState h.state) memory.stores
+    → Footing gives (run_input gives q plan base memory sources) sources places
 footing_of gives q plan base memory sources places is sizes openings early stand_there sound = record {
   gives_are = refl;
   stand_at = stand_there;
@@ -89,63 +164,86 @@ footing_of gives q plan base memory sources places is sizes openings early stand
   ready = λ s store.
       let place = stand_there s store in
       subst (λ (k : ℕ). IsReady q s (opening_at (states_of memory.stores) k)) place.is
-      (ready_of q memory.stores s (slice_index places s) place (sizes s store) (openings s store) (sound s store));
+      (ready_of q memory.stores s (slice_index places s) place (sizes s store) (openings s store) (state_holds IsState memory.stores sound (slice_index places s) place.within));
   early = by_clock base (length q.windows) early.first is.steps.at_most;
 }
   where
     by_clock : (b t : ℕ) → b ≤ LATEST_START → t ≤ MAX_STEPS → b + t < 2 ^ 64
     by_clock b t first few = omega arith
 
+-- the same, where the stores were read, and the places cut down to those of the problem's stores
+pub footing_here : {S : Type 0} (gives : S → ℕ → List SpacePacket) (q : Dumping) (plan : Table) (base : ℕ) (memory : Holdings) (sources : List S) (links : ℕ) (all : List ℕ)
+    {many : ℕ} {held : List Held} → IsDumping q → MayBegin (outset q plan memory.stores base (length sources) links) → All (λ h. IsState h.state) memory.stores
+    → held ≡ memory.stores → ArePlaces q held (length q.rows) all → many ≡ length q.rows
+    → Footing gives (run_input gives q plan base memory sources) sources (take many all)
+footing_here gives q plan base memory sources links all is begins sound read there cut =
+    let begun = begun_of (outset q plan memory.stores base (length sources) links) begins in
+    let places = subst (λ (xs : List Held). ArePlaces q xs (length q.rows) all) read there in
+    subst (λ (n : ℕ). Footing gives (run_input gives q plan base memory sources) sources (take n all)) (sym cut)
+    (footing_of gives q plan base memory sources (take (length q.rows) all) is begun.sizes begun.openings begun.early
+    (places_cut q memory.stores (length q.rows) all places) sound)
+
+-- there is a place for each store of the problem
+pub places_many : (n many : ℕ) (all : List ℕ) → many ≡ n → n ≤ MAX_STORES → length all ≡ MAX_STORES → length (take many all) ≡ n
+places_many n many all cut few sixteen = length-take-le many all (omega (arith, cut, few, sixteen)) ∙ cut
+
 -- before its first step a run has done nothing
-pub gone_first : {S L : Type 0} (gives : S → ℕ → List SpacePacket) (sent : L → List Sent) (failed : L → ℕ) (m : Mission) (sources : List S) (links : List L) (report : Reported)
-    → report ≡ record { ids = map (λ r. r.id) m.problem.rows; most = length m.problem.windows; steps = [] }
-    → HasGone gives sent failed m sources links 0 m.memory.stores sources links report
-gone_first gives sent failed m sources links report is = record {
+pub done_first : {S L : Type 0} (gives : S → ℕ → List SpacePacket) (sent : L → List Sent) (failed : L → ℕ) (m : RunInput) (now : RunState S L) (report : Reported)
+    → now.stores ≡ m.memory.stores → report ≡ record { ids = map (λ r. r.id) m.problem.rows; most = length m.problem.windows; steps = [] }
+    → StepsDone gives sent failed m now.sources now.links 0 now report
+done_first gives sent failed m now report stores is = record {
   stores = λ t. m.memory.stores;
   gave = λ k t. [];
-  went = record {
+  runs = record {
     first = refl;
     labels = λ t last. refl;
     runs = λ s t store first last. absurd (omega arith);
   };
-  held_is = refl;
+  stores_are = stores;
   sources_are = record { nothing_left = λ t first last. absurd (omega arith); others = λ t outside. refl };
   links_are = record {
     took = λ t. [];
-    once = λ s t store first last. absurd (omega arith);
+    once = λ k t first last. absurd (omega arith);
     links = λ t first last. absurd (omega arith);
-    lists = λ l within. sym (append-nil (slice_index_or (map sent links) l []));
+    lists = λ l within. sym (append-nil (slice_index_or (map sent now.links) l []));
     no_failure = refl;
   };
   report_is = is;
+  counted =
+      subst (λ (held : List Held). AreByCounters m held report.steps) (sym stores)
+      (subst (λ (r : Reported). AreByCounters m m.memory.stores r.steps) (sym is) (record {
+        arrived = counted_first m (λ u. u.offered);
+        lost = counted_first m (λ u. u.lost);
+        dumped = counted_first m (λ u. u.deleted);
+      }));
 }
 
 -- what is known of the stores, the sources and the links after some steps
-pub record InHand {S L : Type 0} (failed : L → ℕ) (m : Mission) (sources : List S) (links : List L) (steps : ℕ) (held : List Held) (sources_left : List S) (links_left : List L) (report : Reported) : Type 0 where
-  pub stores : length held ≡ length m.memory.stores
-  pub ids : map (λ h. h.id) held ≡ map (λ h. h.id) m.memory.stores
-  pub sources_many : length sources_left ≡ length sources
-  pub links_many : length links_left ≡ length links
-  pub failures : map failed links_left ≡ map failed links
+pub record InHand {S L : Type 0} (failed : L → ℕ) (m : RunInput) (sources : List S) (links : List L) (steps : ℕ) (now : RunState S L) (report : Reported) : Type 0 where
+  pub stores : length now.stores ≡ length m.memory.stores
+  pub ids : ids_of now.stores ≡ ids_of m.memory.stores
+  pub labels : labels_of now.stores ≡ labels_of m.memory.stores
+  pub sources_many : length now.sources ≡ length sources
+  pub links_many : length now.links ≡ length links
+  pub failures : map failed now.links ≡ map failed links
   pub report_ids : length report.ids ≡ length m.problem.rows
   pub report_steps : length report.steps ≡ steps
   pub report_most : report.most ≡ length m.problem.windows
 
-pub in_hand : {S L : Type 0} (gives : S → ℕ → List SpacePacket) (sent : L → List Sent) (failed : L → ℕ) (m : Mission) (sources : List S) (links : List L) (steps : ℕ)
-    (held : List Held) (sources_left : List S) (links_left : List L) (report : Reported)
-    → HasGone gives sent failed m sources links steps held sources_left links_left report
-    → InHand failed m sources links steps held sources_left links_left report
-in_hand gives sent failed m sources links steps held sources_left links_left report gone =
-    let labels : labels_of held ≡ labels_of m.memory.stores = ap labels_of gone.held_is ∙ gone.went.labels steps (omega arith) in
+pub in_hand : {S L : Type 0} (gives : S → ℕ → List SpacePacket) (sent : L → List Sent) (failed : L → ℕ) (m : RunInput) (sources : List S) (links : List L) (steps : ℕ)
+    (now : RunState S L) (report : Reported) → StepsDone gives sent failed m sources links steps now report → InHand failed m sources links steps now report
+in_hand gives sent failed m sources links steps now report done =
+    let labels : labels_of now.stores ≡ labels_of m.memory.stores = ap labels_of done.stores_are ∙ done.runs.labels steps (omega arith) in
     record {
-      stores = as_many held m.memory.stores labels;
-      ids = same_ids held m.memory.stores labels;
-      sources_many = as_many_sources gives 0 sources sources_left (gone.sources_are.others 0 (λ first last. absurd (omega arith)));
-      links_many = sym (length-map links_left failed) ∙ ap length gone.links_are.no_failure ∙ length-map links failed;
-      failures = gone.links_are.no_failure;
-      report_ids = ap (λ (r : Reported). length r.ids) gone.report_is ∙ length-map m.problem.rows (λ r. r.id);
-      report_steps = ap (λ (r : Reported). length r.steps) gone.report_is ∙ length-map-range_with_len _ 1 steps;
-      report_most = ap (λ (r : Reported). r.most) gone.report_is;
+      stores = as_many now.stores m.memory.stores labels;
+      ids = same_ids now.stores m.memory.stores labels;
+      labels = labels;
+      sources_many = as_many_sources gives 0 sources now.sources (done.sources_are.others 0 (λ first last. absurd (omega arith)));
+      links_many = sym (length-map now.links failed) ∙ ap length done.links_are.no_failure ∙ length-map links failed;
+      failures = done.links_are.no_failure;
+      report_ids = ap (λ (r : Reported). length r.ids) done.report_is ∙ length-map m.problem.rows (λ r. r.id);
+      report_steps = ap (λ (r : Reported). length r.steps) done.report_is ∙ length-map-range_with_len _ 1 steps;
+      report_most = ap (λ (r : Reported). r.most) done.report_is;
     }
 
 -- no two stores of a memory have one identifier
@@ -174,45 +272,85 @@ still_room failed links links_left same room =
     All-unmapped (λ (n : ℕ). n < 2 ^ 64 - 1) failed links_left
     (subst (All (λ (n : ℕ). n < 2 ^ 64 - 1)) (sym same) (All-map (λ (n : ℕ). n < 2 ^ 64 - 1) failed links room))
 
--- what holds through a run, by what was tested before it
-pub footing_here : {S : Type 0} (gives : S → ℕ → List SpacePacket) (q : Dumping) (plan : Table) (base : ℕ) (memory : Holdings) (sources : List S) (links : ℕ) (all : List ℕ)
-    → IsDumping q → MayBegin (outset q plan memory.stores base (length sources) links)
-    → ArePlaces q memory.stores (length q.rows) all → AreSound memory.stores (length q.rows) all
-    → Footing gives (mission gives q plan base memory sources) sources (take (length q.rows) all)
-footing_here gives q plan base memory sources links all is begins there sound =
-    let begun = begun_of (outset q plan memory.stores base (length sources) links) begins in
-    footing_of gives q plan base memory sources (take (length q.rows) all) is begun.sizes begun.openings begun.early
-    (places_cut q memory.stores (length q.rows) all there) (sound_cut memory.stores (length q.rows) all sound)
-
--- the same, where the sources were counted, the stores read, and the places cut down to those of the problem's stores
-pub footing_by : {S : Type 0} (gives : S → ℕ → List SpacePacket) (q : Dumping) (plan : Table) (base : ℕ) (memory : Holdings) (sources : List S) (links : ℕ) (all : List ℕ)
-    {counted many : ℕ} {held : List Held} → IsDumping q → counted ≡ length sources → MayBegin (outset q plan memory.stores base counted links) → held ≡ memory.stores
-    → ArePlaces q held (length q.rows) all → AreSound held (length q.rows) all → many ≡ length q.rows
-    → Footing gives (mission gives q plan base memory sources) sources (take many all)
-footing_by gives q plan base memory sources links all is same begins read there sound cut =
-    let begun = subst (λ (k : ℕ). MayBegin (outset q plan memory.stores base k links)) same begins in
-    let places = subst (λ (xs : List Held). ArePlaces q xs (length q.rows) all) read there in
-    let sounds = subst (λ (xs : List Held). AreSound xs (length q.rows) all) read sound in
-    subst (λ (n : ℕ). Footing gives (mission gives q plan base memory sources) sources (take n all)) (sym cut)
-    (footing_here gives q plan base memory sources links all is begun places sounds)
-
 -- a step carried out after those before it
-pub gone_at : {S L : Type 0} (gives : S → ℕ → List SpacePacket) (sent : L → List Sent) (failed : L → ℕ) (m : Mission) (sources : List S) (links : List L) (places : List ℕ)
-    → Footing gives m sources places → RunsLoseAsPlanned → (t : ℕ) → 1 ≤ t → t ≤ length m.problem.windows → (before after : Cargo S L) (report new : Reported)
-    → HasGone gives sent failed m sources links (t - 1) before.stores.items before.sources.items before.links.items report
-    → HasStepped gives sent failed (step_errand t (m.base + t) m.memory.routes before.stores.items) (orders_of m.amounts places t (length m.problem.rows)) before after
-    → new ≡ record report { steps = report.steps ++ row_from m.problem t places before.stores.items after.stores.items (length m.problem.rows) ∷ [] }
-    → HasGone gives sent failed m sources links (t + 1 - 1) after.stores.items after.sources.items after.links.items new
-gone_at gives sent failed m sources links places footing law t first last before after report new gone stepped is =
+pub done_at : {S L : Type 0} (gives : S → ℕ → List SpacePacket) (sent : L → List Sent) (failed : L → ℕ) (m : RunInput) (sources : List S) (links : List L) (places : List ℕ)
+    → Footing gives m sources places → RunsLoseAsPlanned → (t : ℕ) → 1 ≤ t → t ≤ length m.problem.windows → (before after : RunState S L) (report new : Reported)
+    → StepsDone gives sent failed m sources links (t - 1) before report
+    → StepDone gives sent failed (recording t (m.base + t) m.memory.routes before.stores) (orders_of m.amounts places t (length m.problem.rows)) before after
+    → new ≡ record report { steps = report.steps ++ row_from m.problem t places before.stores after.stores (length m.problem.rows) ∷ [] }
+    → StepsDone gives sent failed m sources links (t + 1 - 1) after new
+done_at gives sent failed m sources links places footing law t first last before after report new done stepped is =
     let same : t ≡ suc (t - 1) = omega arith in
     let then : suc (t - 1) ≡ t + 1 - 1 = omega arith in
-    let step = subst (λ (u : ℕ). HasStepped gives sent failed (step_errand u (m.base + u) m.memory.routes before.stores.items) (orders_of m.amounts places u (length m.problem.rows)) before after) same stepped in
-    let row = subst (λ (u : ℕ). new ≡ record report { steps = report.steps ++ row_from m.problem u places before.stores.items after.stores.items (length m.problem.rows) ∷ [] }) same is in
-    subst (λ (u : ℕ). HasGone gives sent failed m sources links u after.stores.items after.sources.items after.links.items new) then
-    (gone_on gives sent failed m sources links places footing (t - 1) before after report gone step law (omega arith) new row)
+    let step = subst (λ (u : ℕ). StepDone gives sent failed (recording u (m.base + u) m.memory.routes before.stores) (orders_of m.amounts places u (length m.problem.rows)) before after) same stepped in
+    let row = subst (λ (u : ℕ). new ≡ record report { steps = report.steps ++ row_from m.problem u places before.stores after.stores (length m.problem.rows) ∷ [] }) same is in
+    subst (λ (u : ℕ). StepsDone gives sent failed m sources links u after new) then
+    (done_on gives sent failed m sources links places footing (t - 1) before after report done step law (omega arith) new row)
 
--- the places are of stores that are there
-pub places_there : {S : Type 0} (gives : S → ℕ → List SpacePacket) (m : Mission) (sources : List S) (places : List ℕ) (many : ℕ)
-    → Footing gives m sources places → length places ≡ length m.problem.rows → many ≡ length m.memory.stores → All (λ place. place < many) places
-places_there gives m sources places many footing all same =
-    All-from_get_or (λ (place : ℕ). place < many) places 0 (λ k within. rw same (footing.stand_at k (omega arith)).within)
+-- the next step may be carried out and reported
+pub may_report : {S L : Type 0} (gives : S → ℕ → List SpacePacket) (sent : L → List Sent) (failed : L → ℕ) (q : Dumping) (plan : Table) (base : ℕ) (memory : Holdings)
+    (sources : List S) (links : List L) (places : List ℕ) (t : ℕ) (now : RunState S L) (buffers : RunBuffers)
+    → IsDumping q → Begun (outset q plan memory.stores base (length sources) (length links)) → AreHeld memory.stores → All (λ l. failed l < 2 ^ 64 - 1) links
+    → Footing gives (run_input gives q plan base memory sources) sources places → length places ≡ length q.rows → 1 ≤ t → t ≤ length q.windows
+    → StepsDone gives sent failed (run_input gives q plan base memory sources) sources links (t - 1) now buffers.report → AreReady now.stores
+    → MAX_STORES ≤ vec_capacity buffers.orders → MayReport failed q plan base places t buffers now
+may_report gives sent failed q plan base memory sources links places t now buffers is begun held room footing all first last done ready orders =
+    let hand = in_hand gives sent failed (run_input gives q plan base memory sources) sources links (t - 1) now buffers.report done in
+    let within : (s : ℕ) → s < length q.rows → slice_index places s < length now.stores = λ s store. rw hand.stores (footing.stand_at s store).within in
+    record {
+      shape = begun.shape;
+      first = first;
+      last = last;
+      few = omega (arith, all, is.stores.at_most);
+      all = all;
+      within = All-from_get_or (λ (place : ℕ). place < length now.stores) places 0 (λ k inside. within k (omega (arith, inside, all)));
+      carry = record {
+        record_may = record {
+          few = omega (arith, hand.stores, held.at_most);
+          named = still_named memory.stores now.stores held hand.ids;
+          many = omega (arith, hand.sources_many, begun.counts.few_sources);
+        };
+        ready = ready;
+        some_link = omega (arith, hand.links_many, begun.counts.some_link);
+        few_links = omega (arith, hand.links_many, begun.counts.few_links);
+        links = still_room failed links now.links hand.failures room;
+        orders_may = may_order (amount plan) places t (length q.rows) (length now.stores) is.stores.at_most within footing.apart;
+        early = by_step base t (length q.windows) footing.early last;
+      };
+      fit = rw (wanted_in_all (amount plan) places t (length q.rows)) (begun.fits t first (omega arith)).windowed;
+      orders = orders;
+      ids = hand.report_ids;
+      room = omega (arith, hand.report_steps, hand.report_most, first, last);
+    }
+  where
+    by_step : (b t n : ℕ) → b + n < 2 ^ 64 → t ≤ n → b + t < 2 ^ 64
+    by_step b t n early last = omega arith
+
+-- counts after some steps: each store was offered, and has its last storage time, at most this far
+abbrev pub bound_at : ℕ → ℕ
+bound_at steps = 2 ^ 63 + (steps + 1) * 2 ^ 20
+
+pub bound_more : (t : ℕ) → 1 ≤ t → bound_at (t - 1) + 2 ^ 20 ≡ bound_at (t + 1 - 1)
+bound_more t first = omega arith
+
+pub bound_within : (t n : ℕ) → t ≤ n → n ≤ MAX_STEPS → bound_at (t - 1) ≤ latest
+bound_within t n last few = omega arith
+
+-- the moment of a step is no later
+pub early_at : (base t n : ℕ) → base ≤ LATEST_START → t ≤ n → n ≤ MAX_STEPS → base + t ≤ bound_at (t - 1)
+early_at base t n first last few = omega arith
+
+-- counts that are far from their end as a run begins
+pub far_first : {S : Type 0} (gives : S → ℕ → List SpacePacket) (sources : List S) (stores : List Held) (base : ℕ) → IsEarly stores base → AreWithinLimits gives stores sources
+    → AllFar (bound_at 0) stores
+far_first gives sources stores base early far k d inside =
+    let offered = (far 0).offered k d inside in
+    let last = early.last_times k d inside in
+    record { offered = omega (arith, offered); last = omega (arith, last) }
+
+-- each source still gives few packets
+pub still_few : {S : Type 0} (gives : S → ℕ → List SpacePacket) (t : ℕ) (sources left : List S) → given_in gives t left ≡ given_in gives t sources
+    → All (λ s. length (gives s t) ≤ 65535) sources → All (λ s. length (gives s t) ≤ 65535) left
+still_few gives t sources left same few =
+    All-unmapped (λ (ps : List SpacePacket). length ps ≤ 65535) (λ s. gives s t) left
+    (subst (All (λ (ps : List SpacePacket). length ps ≤ 65535)) (sym same) (All-map (λ (ps : List SpacePacket). length ps ≤ 65535) (λ s. gives s t) sources few))

@@ -11,14 +11,14 @@ use Rattle.mm_planner.specs.Checking.{SaysSheet}
 use Rattle.mm_planner.specs.Planned.{ShowsLeast}
 use Rattle.mm_planner.specs.PlanTexts.{IsInOrder}
 use Rattle.mm_memory.specs.Holdings.{Holdings}
-use Rattle.mm_order.specs.Sending.{Sent}
+use Rattle.mm_dump.specs.Sending.{Sent}
 use Rattle.mm_report.specs.declared.cause.Cause.TheVariants.{NoMemory}
 use Rattle.mm_report.specs.Report.{Reported, totals_of}
 use Rattle.mm_runs.specs.Numbers.{AtEach}
 use Rattle.mm_exec.specs.declared.flight.Flown.{Flown}
 use Rattle.mm_exec.specs.declared.flight.NotFlown.{NotFlown}
 use Rattle.mm_exec.specs.declared.flying.Printed.{Printed}
-use Rattle.mm_exec.specs.Mission.{Mission, mission, came}
+use Rattle.mm_exec.specs.RunInput.{RunInput, run_input, came}
 use Rattle.mm_exec.specs.Ending.{IsCarriedOut, IsHalted}
 
 -- the text says this sheet for the problem, in the order in which sheets are printed, and the sheet shows that its plan loses least: what
@@ -36,13 +36,13 @@ pub record IsPrintedFor (q : Dumping) (printed : Printed) : Type 0 where
   pub plan_is : printed.sheet.plan ≡ sheet.plan
 
 -- what came is what was forecast, in each store and step
-abbrev pub AsForecast : Mission → Type 0
+abbrev pub AsForecast : RunInput → Type 0
 AsForecast m = AtEach (length m.problem.rows) (length m.problem.windows) (λ s t. came m s t ≡ arrivals m.problem s t)
 
 -- THE HEADLINE: what was printed is what is lost. The printed plan fits every window and every channel's limit, no plan that fits loses
 -- fewer blocks than the printed number, and the printed cut shows this; and where what came is what was forecast, the packets lost in
 -- the run are the printed number
-pub record LosesWhatIsPrinted (m : Mission) (sheet : SheetRows) (report : Reported) : Type 0 where
+pub record LosesWhatIsPrinted (m : RunInput) (sheet : SheetRows) (report : Reported) : Type 0 where
   pub fits : Fits m.problem (amount sheet.plan)
   pub least : (other : Amounts) → Fits m.problem other → sheet.loss ≤ loss m.problem other
   pub cut : IsCut m.problem sheet.cut sheet.by_channels
@@ -54,16 +54,16 @@ pub record Flies {S L : Type 0} (gives : S → ℕ → List SpacePacket) (sent :
     (sources : List S) (links : List L) (after : Holdings) (flown : Flown S L) : Type 0 where
   pub sheet : SheetRows
   pub plans : PlansFor q flown.sheet.items sheet
-  pub carried_out : IsCarriedOut gives sent failed (mission gives q sheet.plan base before sources) sheet.plan sources links after
+  pub carried_out : IsCarriedOut gives sent failed (run_input gives q sheet.plan base before sources) sheet.plan sources links after
       (record { report = flown.report; sources = flown.sources; links = flown.links })
-  pub headline : LosesWhatIsPrinted (mission gives q sheet.plan base before sources) sheet flown.report
+  pub headline : LosesWhatIsPrinted (run_input gives q sheet.plan base before sources) sheet flown.report
 
 -- a plan was made and printed, and its run was halted
 pub record FliesNot {S L : Type 0} (gives : S → ℕ → List SpacePacket) (sent : L → List Sent) (failed : L → ℕ) (q : Dumping) (base : ℕ) (before : Holdings)
     (sources : List S) (links : List L) (after : Holdings) (ended : NotFlown S L) : Type 0 where
   pub sheet : SheetRows
   pub plans : PlansFor q ended.sheet.items sheet
-  pub halted : IsHalted gives sent failed (mission gives q sheet.plan base before sources) sheet.plan sources links after ended.halted
+  pub halted : IsHalted gives sent failed (run_input gives q sheet.plan base before sources) sheet.plan sources links after ended.halted
 
 -- there was no memory to plan: nothing is printed, and nothing was done
 pub record HasNoPlan {S L : Type 0} (before : Holdings) (sources : List S) (links : List L) (after : Holdings) (ended : NotFlown S L) : Type 0 where

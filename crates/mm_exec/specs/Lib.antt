@@ -1,10 +1,11 @@
 pub use Rattle.mm_ready.specs.Ready
 pub mod Places
-pub mod Step
-pub mod Mission
+pub mod RunInput
 pub mod Numbers
-pub mod Going
+pub mod Step
+pub mod Steps
 pub mod Course
+pub mod Failure
 pub mod Ending
 pub mod Flying
 pub mod Halts

@@ -1,16 +1,17 @@
 -- The report of a run, by the plan.
-use Rattle.std.specs.Prelude.{◌≡◌, ℕ, ◌-◌, ◌<◌, nat_lt, List, length, map, filter, slice_index, slice_index_or}
+use Rattle.std.specs.Prelude.{◌≡◌, ℕ, ◌+◌, ◌-◌, ◌<◌, nat_lt, List, length, map, filter, sum_by, slice_index, slice_index_or}
 use Rattle.std.specs.List.{range_with_len}
 use Rattle.mm_problem.specs.Dumping.{Dumping, arrivals, stores}
 use Rattle.mm_plan.specs.Volumes.{Amounts, left, written, lost}
 use Rattle.mm_desk.specs.declared.held.Held.{Held}
 use Rattle.mm_desk.specs.Machine.{State}
 use Rattle.mm_desk.specs.Runs.{opening_at}
-use Rattle.mm_crew.specs.Closings.{states_of}
-use Rattle.mm_order.specs.declared.order.Order.{Order}
+use Rattle.mm_shared.specs.Stores.{states_of}
+use Rattle.mm_dump.specs.declared.order.Order.{Order}
 use Rattle.mm_report.specs.declared.tally.Tally.{Tally}
-use Rattle.mm_report.specs.Report.{Reported}
-use Rattle.mm_exec.specs.declared.tallies.Mark.{Mark}
+use Rattle.mm_report.specs.Report.{Reported, totals_of}
+use Rattle.mm_exec.specs.declared.tallies.Counters.{Counters}
+use Rattle.mm_exec.specs.RunInput.{RunInput, state_in}
 
 -- what a step brings to a store: what was forecast, what came, and what the plan loses, dumps and leaves of what came
 abbrev pub tally_of : Dumping → Dumping → Amounts → ℕ → ℕ → Tally
@@ -32,35 +33,45 @@ report_of forecast came x steps =
     record { ids = map (λ r. r.id) forecast.rows; most = length forecast.windows; steps = rows_of forecast came x steps }
 
 -- the counters of a store as a step begins
-abbrev pub mark_of : State → Mark
-mark_of s = record { offered = s.offered; lost = s.lost; deleted = s.deleted }
+abbrev pub counters_of : State → Counters
+counters_of s = record { offered = s.offered; lost = s.lost; deleted = s.deleted }
 
 -- what a step brings to a store, by its counters as the step begins and its state as it ends
-abbrev pub tally_from : Dumping → ℕ → ℕ → Mark → State → Tally
-tally_from q s t mark after = record {
+abbrev pub tally_from : Dumping → ℕ → ℕ → Counters → State → Tally
+tally_from q s t before after = record {
   forecast = arrivals q s t;
-  arrived = after.offered - mark.offered;
-  lost = after.lost - mark.lost;
-  dumped = after.deleted - mark.deleted;
+  arrived = after.offered - before.offered;
+  lost = after.lost - before.lost;
+  dumped = after.deleted - before.deleted;
   held = length after.store.content;
 }
 
 -- the counters of the stores at these places
-abbrev pub AreMarks : List Held → List ℕ → ℕ → List Mark → Type 0
-AreMarks stores places n marks = (s : ℕ) (d : Mark) → s < n → slice_index_or marks s d ≡ mark_of (opening_at (states_of stores) (slice_index places s))
+abbrev pub AreCounters : List Held → List ℕ → ℕ → List Counters → Type 0
+AreCounters stores places n marks = (s : ℕ) (d : Counters) → s < n → slice_index_or marks s d ≡ counters_of (opening_at (states_of stores) (slice_index places s))
 
 -- what a step brings to the stores at these places
-abbrev pub AreTallies : Dumping → ℕ → List Held → List ℕ → List Mark → ℕ → List Tally → Type 0
-AreTallies q t stores places marks n tallies = (s : ℕ) (d : Tally) (e : Mark) → s < n
+abbrev pub AreTallies : Dumping → ℕ → List Held → List ℕ → List Counters → ℕ → List Tally → Type 0
+AreTallies q t stores places marks n tallies = (s : ℕ) (d : Tally) (e : Counters) → s < n
     → slice_index_or tallies s d ≡ tally_from q s t (slice_index_or marks s e) (opening_at (states_of stores) (slice_index places s))
 
 -- what a step brings to the first stores of the problem, which stand at these places, from these stores to those
 abbrev pub row_from : Dumping → ℕ → List ℕ → List Held → List Held → ℕ → List Tally
 row_from q t places before after n =
-    map (λ s. tally_from q s t (mark_of (opening_at (states_of before) (slice_index places s))) (opening_at (states_of after) (slice_index places s)))
+    map (λ s. tally_from q s t (counters_of (opening_at (states_of before) (slice_index places s))) (opening_at (states_of after) (slice_index places s)))
     (range_with_len 0 n)
 
 -- the orders of a step, for stores at these places: one where packets are to leave, in the problem's order
 abbrev pub orders_of : Amounts → List ℕ → ℕ → ℕ → List Order
 orders_of x places t n =
     map (λ s. record { place = slice_index places s; amount = x s t }) (filter (λ s. nat_lt 0 (x s t)) (range_with_len 0 n))
+
+-- what the stores of the problem have counted, in all
+abbrev pub counted : RunInput → (State → ℕ) → List Held → ℕ
+counted m counter held = sum_by (λ s. counter (state_in m held s)) (stores m.problem)
+
+-- the totals of a report are what the stores' counters rose by since the run began
+pub record AreByCounters (m : RunInput) (held : List Held) (steps : List (List Tally)) : Type 0 where
+  pub arrived : counted m (λ u. u.offered) held ≡ counted m (λ u. u.offered) m.memory.stores + (totals_of steps).arrived
+  pub lost : counted m (λ u. u.lost) held ≡ counted m (λ u. u.lost) m.memory.stores + (totals_of steps).lost
+  pub dumped : counted m (λ u. u.deleted) held ≡ counted m (λ u. u.deleted) m.memory.stores + (totals_of steps).dumped

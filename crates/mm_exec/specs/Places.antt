@@ -3,9 +3,6 @@ use Rattle.std.specs.Prelude.{◌≡◌, ◌≢◌, ℕ, ◌<◌, List, length, 
 use Rattle.std.specs.List.{position_or_len}
 use Rattle.mm_problem.specs.Dumping.{Dumping, row}
 use Rattle.mm_desk.specs.declared.held.Held.{Held}
-use Rattle.mm_desk.specs.Machine.{IsState}
-use Rattle.mm_desk.specs.Runs.{opening_at}
-use Rattle.mm_crew.specs.Closings.{states_of}
 use Rattle.mm_memory.specs.Holdings.{has_id}
 
 -- the store with this identifier stands at this place
@@ -16,10 +13,6 @@ pub record IsPlaceOf (id : List ℕ) (stores : List Held) (place : ℕ) : Type 0
 -- the first stores of the problem stand at these places
 abbrev pub ArePlaces : Dumping → List Held → ℕ → List ℕ → Type 0
 ArePlaces q stores n places = (s : ℕ) → s < n → IsPlaceOf (row q s).id stores (slice_index places s)
-
--- the states at these places are states
-abbrev pub AreSound : List Held → ℕ → List ℕ → Type 0
-AreSound stores n places = (s : ℕ) → s < n → IsState (opening_at (states_of stores) (slice_index places s))
 
 -- the stores stand at places of their own
 abbrev pub AreApart : List ℕ → ℕ → Type 0

@@ -1,138 +1,135 @@
 //! The steps of a run, one after another.
-ghost use Rattle.std.specs.Prelude.{◌≡◌, ◌+◌, ◌-◌, ◌<◌, ◌≤◌, ◌^◌, ◌∷◌, ◌++◌, [], length, map, All, IfOk, IfErr, OnErr, vec_len, vec_capacity};
-ghost use Rattle.mm_base.specs.declared.limits.TheConstants.{MAX_STORES};
+ghost use Rattle.std.specs.Prelude.{◌≡◌, ◌+◌, ◌∷◌, ◌++◌, ◌≤◌, [], length, IfOk, OnOk, IfErr, OnErr, vec_capacity};
 ghost use Rattle.mm_problem.specs.Dumping.{window};
-ghost use Rattle.mm_plan.specs.Table.{amount, HasShape};
-ghost use Rattle.mm_desk.specs.declared.desk.TheConstants.{MAX_SEATS};
-ghost use Rattle.mm_crew.specs.Stations.{AreNamed};
-ghost use Rattle.mm_record.specs.Steps.{step_errand};
+ghost use Rattle.mm_plan.specs.Table.{amount};
+ghost use Rattle.mm_record.specs.Steps.{TakesAll};
+ghost use Rattle.mm_record.specs.Recorded.{recording};
 ghost use Rattle.mm_exec.specs.Numbers.{row_from, orders_of};
-ghost use Rattle.mm_exec.specs.Places.{AreApart};
-ghost use Rattle.mm_memory.specs.Holdings.{AreHeld};
-ghost use Rattle.mm_ready.specs.Ready.{outset, MayBegin};
-ghost use Rattle.mm_exec.specs.Step.{HasStepped, HasBrokenOff, BrokeStep};
-ghost use Rattle.mm_exec.specs.Mission.{mission};
-ghost use Rattle.mm_exec.specs.Course.{HasCarried, HasStopped};
+ghost use Rattle.mm_exec.specs.RunInput.{run_input};
+ghost use Rattle.mm_exec.specs.Step.{run_state, AreReady, StepDone, StepBroke, NeverRefused};
+ghost use Rattle.mm_exec.specs.Course.{MayReport, MayRun, RunDone, RunHalted, AreWithinLimits};
 
 use crate::orders::list_orders;
 use crate::places::places_of;
-use crate::room::Room;
-use crate::step::{BrokenOff, Cargo, carry_step};
-use crate::tallies::{marks_of, tallies_of};
+use crate::room::RunBuffers;
+use crate::step::{StepBroken, carry_step};
+use crate::tallies::{all_counters, tallies_of};
 use mm_control::ControlTable;
-use mm_order::Link;
+use mm_desk::Held;
+use mm_dump::Link;
 use mm_plan::Plan;
 use mm_problem::Problem;
-use mm_record::Source;
+use mm_record::{RecordingStep, Source};
 use mm_report::Report;
-use mm_runs::runs_lose_as_planned;
+use mm_runs::{runs_lose_as_planned, step_runs_keep_stores};
 use std::alloc::Global;
 use std::sync::Wait;
 use std::thread::Threads;
 
-/// What a run leaves whose steps are carried out.
+/// What the steps of a run share: the storage control, the problem, the plan, and the moment before the first step.
 #[derive(Drop)]
-pub(crate) struct Carried<S: Drop, L: Drop> {
-    pub(crate) cargo: Cargo<S, L>,
-    pub(crate) report: Report,
+pub(crate) struct RunContext<'a> {
+    pub(crate) control: &'a ControlTable,
+    pub(crate) problem: &'a Problem,
+    pub(crate) plan: &'a Plan,
+    pub(crate) base: u64,
 }
 
-/// What a run leaves that was broken off in a step, with the report of the steps before it.
+/// A step of a run, and where the problem's stores stand in the memory.
 #[derive(Drop)]
-pub(crate) struct Stopped<S: Drop, L: Drop> {
-    pub(crate) off: BrokenOff<S, L>,
-    pub(crate) report: Report,
+pub(crate) struct StepContext<'a> {
+    pub(crate) run: &'a RunContext<'a>,
+    pub(crate) places: &'a [usize],
+    pub(crate) step: u32,
 }
 
 // Carries out one step of a plan, and adds its row to the report.
-fn report_step<S: Source + Send + Drop, L: Link + Send + Drop, R: Threads + Wait + Sync>(
+fn report_step<S: Source + Send, L: Link + Send, R: Threads + Wait + Sync>(
     rt: &R,
     alloc: Global,
-    control: &ControlTable,
-    problem: &Problem,
-    plan: &Plan,
-    places: &[usize],
-    base: u64,
-    step: u32,
-    room: &mut Room,
-    cargo: Cargo<S, L>,
-) -> Result<Cargo<S, L>, BrokenOff<S, L>>
-    requires shape { HasShape problem.now plan.now }
-    requires first { 1 ≤ step }
-    requires last { step ≤ length problem.now.windows }
-    requires early { base + step < 2 ^ 64 }
-    requires places_few { length places.now ≤ MAX_STORES }
-    requires all { length places.now ≡ length problem.now.rows }
-    requires within { All (λ place. place < vec_len cargo.stores) places.now }
-    requires apart { AreApart places.now (length problem.now.rows) }
-    requires few { vec_len cargo.stores ≤ MAX_STORES }
-    requires named { AreNamed (map (λ h. h.id) cargo.stores.items) }
-    requires many { vec_len cargo.sources ≤ MAX_SEATS }
-    requires some_link { 1 ≤ vec_len cargo.links }
-    requires few_links { vec_len cargo.links ≤ MAX_SEATS }
-    requires links { All (λ l. L.failed l < 2 ^ 64 - 1) cargo.links.items }
-    requires orders { MAX_STORES ≤ vec_capacity room.old.orders }
-    requires ids { length room.old.report.ids ≡ length problem.now.rows }
-    requires report { length room.old.report.steps < room.old.report.most }
-    ensures ok { IfOk result (HasStepped S.gives L.sent L.failed (step_errand step (base + step) control.now cargo.stores.items)
-        (orders_of (amount plan.now) places.now step (length problem.now.rows)) cargo) }
-    ensures row { IfOk result (λ after. room.new.report ≡ record room.old.report {
-      steps = room.old.report.steps
-          ++ row_from problem.now step places.now cargo.stores.items after.stores.items (length problem.now.rows) ∷ [];
+    at: &StepContext<'_>,
+    buffers: &mut RunBuffers,
+    stores: &mut Vec<Held>,
+    sources: &mut [S],
+    links: &mut [L],
+) -> Result<(), StepBroken>
+    requires may { MayReport L.failed at.now.run.now.problem.now at.now.run.now.plan.now at.now.run.now.base at.now.places.now at.now.step
+        buffers.old (run_state stores.old sources.old links.old) }
+    ensures ok { OnOk result (StepDone S.gives L.sent L.failed
+        (recording at.now.step (at.now.run.now.base + at.now.step) at.now.run.now.control.now stores.old.items)
+        (orders_of (amount at.now.run.now.plan.now) at.now.places.now at.now.step (length at.now.run.now.problem.now.rows))
+        (run_state stores.old sources.old links.old) (run_state stores.new sources.new links.new)) }
+    ensures row { OnOk result (buffers.new.report ≡ record buffers.old.report {
+      steps = buffers.old.report.steps
+          ++ row_from at.now.run.now.problem.now at.now.step at.now.places.now stores.old.items stores.new.items (length at.now.run.now.problem.now.rows) ∷ [];
     }) }
-    ensures err { IfErr result (HasBrokenOff S.gives step (window problem.now step) cargo) }
-    ensures how { IfErr result (BrokeStep S.gives L.sent L.failed (step_errand step (base + step) control.now cargo.stores.items)
-        (orders_of (amount plan.now) places.now step (length problem.now.rows)) cargo) }
-    ensures unreported { OnErr result (room.new.report ≡ room.old.report) }
-    ensures capacity { vec_capacity room.new.orders ≡ vec_capacity room.old.orders }
+    ensures how { IfErr result (λ broken. StepBroke S.gives L.sent L.failed
+        (recording at.now.step (at.now.run.now.base + at.now.step) at.now.run.now.control.now stores.old.items)
+        (orders_of (amount at.now.run.now.plan.now) at.now.places.now at.now.step (length at.now.run.now.problem.now.rows))
+        (run_state stores.old sources.old links.old) (run_state stores.new sources.new links.new) broken.cause broken.spent) }
+    ensures within { IfErr result (λ broken. broken.spent ≤ window at.now.run.now.problem.now at.now.step) }
+    ensures far { TakesAll S.gives (recording at.now.step (at.now.run.now.base + at.now.step) at.now.run.now.control.now stores.old.items)
+        stores.old.items sources.old → IfErr result (λ broken. NeverRefused broken.cause) }
+    ensures unreported { OnErr result (buffers.new.report ≡ buffers.old.report) }
+    ensures capacity { vec_capacity buffers.new.orders ≡ vec_capacity buffers.old.orders }
+    ensures ready { AreReady stores.new.items }
 {
-    let marks = marks_of(places, &cargo.stores);
-    list_orders(&mut room.orders, plan, places, step);
-    let window = problem.window(step);
-    let now = base + u64::from(step);
-    let after = carry_step(rt, alloc, control, window, &room.orders, step, now, cargo)?;
-    let tallies = tallies_of(problem, step, places, &marks, &after.stores);
-    room.report.add(&tallies[..places.len()]);
-    Ok(after)
+    let run = at.run;
+    let counters = all_counters(at.places, stores);
+    list_orders(&mut buffers.orders, run.plan, at.places, at.step);
+    let step = RecordingStep {
+        control: run.control,
+        step: at.step,
+        now: run.base + u64::from(at.step),
+    };
+    carry_step(rt, alloc, &step, &buffers.orders, stores, sources, links)?;
+    let tallies = tallies_of(run.problem, at.step, at.places, &counters, stores);
+    buffers.report.add(&tallies[..at.places.len()]);
+    Ok(())
+}
+
+/// A run that was broken off, and the report of the steps before.
+#[derive(Drop)]
+pub(crate) struct RunStopped {
+    pub(crate) broken: StepBroken,
+    pub(crate) report: Report,
 }
 
 // Carries out all steps of a plan.
-pub(crate) fn carry_steps<S: Source + Send + Drop, L: Link + Send + Drop, R: Threads + Wait + Sync>(
+pub(crate) fn carry_steps<S: Source + Send, L: Link + Send, R: Threads + Wait + Sync>(
     rt: &R,
     alloc: Global,
-    control: &ControlTable,
-    problem: &Problem,
-    plan: &Plan,
-    base: u64,
-    room: Room,
-    cargo: Cargo<S, L>,
-) -> Result<Carried<S, L>, Stopped<S, L>>
-    requires begins { MayBegin (outset problem.now plan.now cargo.stores.items base (vec_len cargo.sources) (vec_len cargo.links)) }
-    requires held { AreHeld cargo.stores.items }
-    requires links { All (λ l. L.failed l < 2 ^ 64 - 1) cargo.links.items }
-    requires report { room.report ≡ record { ids = map (λ r. r.id) problem.now.rows; most = length problem.now.windows; steps = [] } }
-    requires orders { MAX_STORES ≤ vec_capacity room.orders }
-    ensures ok { IfOk result (HasCarried S.gives L.sent L.failed
-        (mission S.gives problem.now plan.now base (record { stores = cargo.stores.items; routes = control.now }) cargo.sources.items) cargo) }
-    ensures err { IfErr result (HasStopped S.gives L.sent L.failed
-        (mission S.gives problem.now plan.now base (record { stores = cargo.stores.items; routes = control.now }) cargo.sources.items) cargo) }
+    run: &RunContext<'_>,
+    buffers: RunBuffers,
+    stores: &mut Vec<Held>,
+    sources: &mut [S],
+    links: &mut [L],
+) -> Result<Report, RunStopped>
+    requires may { MayRun L.failed run.now.problem.now run.now.plan.now run.now.base buffers (run_state stores.old sources.old links.old) }
+    ensures done { IfOk result (RunDone S.gives L.sent L.failed
+        (run_input S.gives run.now.problem.now run.now.plan.now run.now.base (record { stores = stores.old.items; routes = run.now.control.now }) sources.old)
+        (run_state stores.old sources.old links.old) (run_state stores.new sources.new links.new)) }
+    ensures halted { IfErr result (RunHalted S.gives L.sent L.failed
+        (run_input S.gives run.now.problem.now run.now.plan.now run.now.base (record { stores = stores.old.items; routes = run.now.control.now }) sources.old)
+        (run_state stores.old sources.old links.old) (run_state stores.new sources.new links.new)) }
+    ensures far { AreWithinLimits S.gives stores.old.items sources.old → IfErr result (λ stopped. NeverRefused stopped.broken.cause) }
 {
     runs_lose_as_planned();
-    let all = places_of(problem, &cargo.stores);
-    let places = &all[..problem.stores()];
-    let mut room = room;
-    let mut cargo = cargo;
-    for step in 1..problem.steps() + 1 {
-        match report_step(
-            rt, alloc, control, problem, plan, places, base, step, &mut room, cargo,
-        ) {
-            Ok(after) => cargo = after,
-            Err(off) => {
-                let Room { report, orders: _ } = room;
-                return Err(Stopped { off, report });
-            }
+    step_runs_keep_stores();
+    let all = places_of(run.problem, stores);
+    let places = &all[..run.problem.stores()];
+    let mut buffers = buffers;
+    for step in 1..run.problem.steps() + 1 {
+        let at = StepContext {
+            run: &*run,
+            places,
+            step,
+        };
+        if let Err(broken) = report_step(rt, alloc, &at, &mut buffers, stores, sources, links) {
+            let RunBuffers { report, orders: _ } = buffers;
+            return Err(RunStopped { broken, report });
         }
     }
-    let Room { report, orders: _ } = room;
-    Ok(Carried { cargo, report })
+    let RunBuffers { report, orders: _ } = buffers;
+    Ok(report)
 }

@@ -1,12 +1,14 @@
 //! A run that begins with its plan.
 ghost use Rattle.std.specs.Prelude.{◌-◌, ◌<◌, ◌^◌, ◌⊎◌, All, IfOk, IfErr};
 ghost use Rattle.mm_exec.specs.Flying.{IsPrintedFor, Flies, FliesNot, HasNoPlan};
+ghost use Rattle.mm_exec.specs.Step.{NeverRefused};
+ghost use Rattle.mm_exec.specs.Course.{AreWithinLimits};
 
 use crate::flight::{Flight, Flown, Halted, NotFlown};
 use crate::run::carry_out;
 use mm_base::NoMemory;
 use mm_memory::Memory;
-use mm_order::Link;
+use mm_dump::Link;
 use mm_plan::Sheet;
 use mm_planner::{sheet, sheets_show_in_order};
 use mm_problem::Problem;
@@ -52,6 +54,8 @@ pub fn fly<S: Source + Send + Drop, L: Link + Send + Drop, R: Threads + Wait + S
     ensures flown { IfOk result (Flies S.gives L.sent L.failed problem.now base memory.old sources.items links.items memory.new) }
     ensures not_flown { IfErr result (λ ended. FliesNot S.gives L.sent L.failed problem.now base memory.old sources.items links.items memory.new ended
         ⊎ HasNoPlan memory.old sources.items links.items memory.new ended) }
+    // Where counts are far from their end, no store refuses a packet.
+    ensures far { AreWithinLimits S.gives memory.old.stores sources.items → IfErr result (λ ended. NeverRefused ended.halted.cause) }
 {
     let Ok(Printed { sheet, text }) = print_plan(alloc, problem) else {
         return Err(NotFlown {

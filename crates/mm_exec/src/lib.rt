@@ -14,7 +14,7 @@ mod tallies;
 
 pub use flight::{Flight, Flown, Halted, NotFlown};
 pub use flying::fly;
-pub use mm_order::{Link, SendFailed};
+pub use mm_dump::{Link, SendFailed};
 pub use mm_ready::Cause;
 pub use mm_record::{RecordHalted, Recorded, RecordedStep, Source, record_step};
 pub use mm_report::Report;

@@ -4,7 +4,7 @@ ghost use Rattle.mm_base.specs.declared.limits.TheConstants.{MAX_STORES};
 ghost use Rattle.mm_plan.specs.Table.{amount};
 ghost use Rattle.mm_exec.specs.Numbers.{orders_of};
 
-use mm_order::Order;
+use mm_dump::Order;
 use mm_plan::Plan;
 
 // Lists the orders of a step, for stores at these places, in place of those that were listed.

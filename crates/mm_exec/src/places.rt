@@ -5,9 +5,8 @@ ghost use Rattle.mm_problem.specs.Dumping.{row, IsDumping};
 ghost use Rattle.mm_memory.specs.Holdings.{has_id, store_of};
 ghost use Rattle.mm_ready.specs.declared.need.Need.TheVariants.{Standing};
 ghost use Rattle.mm_ready.specs.Ready.{AllMeet};
-ghost use Rattle.mm_exec.specs.Places.{IsPlaceOf, ArePlaces, AreSound};
+ghost use Rattle.mm_exec.specs.Places.{IsPlaceOf, ArePlaces};
 
-use crate::tallies::state_at;
 use mm_base::{MAX_STORES, StoreId};
 use mm_desk::Held;
 use mm_problem::Problem;
@@ -23,7 +22,6 @@ fn place_of(stores: &[Held], id: &StoreId) -> Option<usize>
 pub(crate) fn places_of(problem: &Problem, stores: &[Held]) -> [usize; MAX_STORES]
     requires { AllMeet Standing problem.now stores.now }
     ensures places { ArePlaces problem.now stores.now (length problem.now.rows) result }
-    ensures sound { AreSound stores.now (length problem.now.rows) result }
     ensures len { length result ≡ MAX_STORES }
     ensures problem { IsDumping problem.now }
 {
@@ -32,7 +30,6 @@ pub(crate) fn places_of(problem: &Problem, stores: &[Held]) -> [usize; MAX_STORE
         let Some(place) = place_of(stores, &problem.id(store)) else {
             unreachable!()
         };
-        let _state = state_at(stores, place);
         places[store] = place;
     }
     places

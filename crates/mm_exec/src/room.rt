@@ -4,14 +4,14 @@ ghost use Rattle.mm_base.specs.declared.limits.TheConstants.{MAX_STORES};
 ghost use Rattle.mm_problem.specs.Dumping.{IsDumping};
 
 use mm_base::{MAX_STORES, NoMemory, StoreId};
-use mm_order::Order;
+use mm_dump::Order;
 use mm_problem::Problem;
 use mm_report::Report;
 use std::alloc::Global;
 
 /// What a run takes before its first step: the report, with room for all steps, and room for the orders of a step.
 #[derive(Drop)]
-pub(crate) struct Room {
+pub(crate) struct RunBuffers {
     pub(crate) report: Report,
     pub(crate) orders: Vec<Order>,
 }
@@ -29,7 +29,7 @@ fn store_ids(alloc: Global, problem: &Problem) -> Result<Vec<StoreId>, NoMemory>
 }
 
 // What a run of a problem takes.
-pub(crate) fn new_room(alloc: Global, problem: &Problem) -> Result<Room, NoMemory>
+pub(crate) fn reserve_run(alloc: Global, problem: &Problem) -> Result<RunBuffers, NoMemory>
     ensures report { IfOk result (λ room. room.report
         ≡ record { ids = map (λ r. r.id) problem.now.rows; most = length problem.now.windows; steps = [] }) }
     ensures orders { IfOk result (λ room. MAX_STORES ≤ vec_capacity room.orders) }
@@ -37,5 +37,5 @@ pub(crate) fn new_room(alloc: Global, problem: &Problem) -> Result<Room, NoMemor
     let ids = store_ids(alloc, problem)?;
     let report = Report::new(alloc, ids, problem.steps())?;
     let orders = Vec::with_capacity(alloc, MAX_STORES)?;
-    Ok(Room { report, orders })
+    Ok(RunBuffers { report, orders })
 }

@@ -1,20 +1,22 @@
 //! The run of a dump plan.
 ghost use Rattle.std.specs.Prelude.{◌≡◌, ◌-◌, ◌<◌, ◌^◌, [], All, length, IfOk, IfErr, OnOk};
-ghost use Rattle.mm_plan.specs.Table.{amount};
 ghost use Rattle.mm_memory.specs.Holdings.{AreHeld};
-ghost use Rattle.mm_ready.specs.Ready.{outset, MayBegin};
-ghost use Rattle.mm_exec.specs.Mission.{mission};
-ghost use Rattle.mm_exec.specs.Course.{HasCarried, IsEnded};
+ghost use Rattle.mm_exec.specs.RunInput.{run_input};
+ghost use Rattle.mm_exec.specs.Step.{run_state, NeverRefused};
+ghost use Rattle.mm_exec.specs.Course.{RunDone, IsEnded, outset_of, AreWithinLimits};
 ghost use Rattle.mm_exec.specs.Ending.{IsCarriedOut, IsHalted};
+ghost use Rattle.mm_ready.specs.Ready.{MayBegin};
 
-use crate::course::{Carried, Stopped, carry_steps};
+use crate::course::{RunContext, RunStopped, carry_steps};
 use crate::flight::{Flight, Halted};
-use crate::room::new_room;
-use crate::step::{BrokenOff, Cargo};
-use mm_control::ControlTable;
+use crate::room::reserve_run;
+use crate::step::StepBroken;
+use crate::tallies::read_states;
+use mm_desk::Held;
 use mm_memory::Memory;
 use mm_memory::laws::identifiers_decide_what_is_restored;
-use mm_order::Link;
+use mm_dump::Link;
+use mm_dump::laws::broken_orders_change_nothing;
 use mm_plan::Plan;
 use mm_problem::Problem;
 use mm_ready::{Cause, ready};
@@ -25,49 +27,48 @@ use std::sync::Wait;
 use std::thread::Threads;
 
 // A run that did not begin.
-fn not_begun<S: Drop, L: Drop>(alloc: Global, cause: Cause, cargo: Cargo<S, L>) -> Stopped<S, L>
-    ensures cargo { result.off.cargo ≡ cargo }
-    ensures cause { result.off.cause ≡ cause }
-    ensures spent { result.off.spent ≡ 0 }
+fn never_began(alloc: Global, cause: Cause) -> RunStopped
+    ensures broken { result.broken ≡ record { cause = cause; spent = 0 } }
     ensures report { result.report.steps ≡ [] }
 {
-    Stopped {
-        off: BrokenOff {
-            cause,
-            spent: 0,
-            cargo,
-        },
+    RunStopped {
+        broken: StepBroken { cause, spent: 0 },
         report: Report::none(alloc),
     }
 }
 
 // Carries out a plan, where a run may begin and there is memory for it.
-fn carry_cargo<S: Source + Send + Drop, L: Link + Send + Drop, R: Threads + Wait + Sync>(
+fn carry_plan<S: Source + Send, L: Link + Send, R: Threads + Wait + Sync>(
     rt: &R,
     alloc: Global,
-    control: &ControlTable,
-    problem: &Problem,
-    plan: &Plan,
-    base: u64,
-    cargo: Cargo<S, L>,
-) -> Result<Carried<S, L>, Stopped<S, L>>
-    requires held { AreHeld cargo.stores.items }
-    requires links { All (λ l. L.failed l < 2 ^ 64 - 1) cargo.links.items }
-    ensures ok { IfOk result (HasCarried S.gives L.sent L.failed
-        (mission S.gives problem.now plan.now base (record { stores = cargo.stores.items; routes = control.now }) cargo.sources.items) cargo) }
-    ensures began { OnOk result (MayBegin (outset problem.now plan.now cargo.stores.items base (length cargo.sources.items) (length cargo.links.items))) }
-    ensures err { IfErr result (IsEnded S.gives L.sent L.failed
-        (mission S.gives problem.now plan.now base (record { stores = cargo.stores.items; routes = control.now }) cargo.sources.items) plan.now cargo) }
+    run: &RunContext<'_>,
+    stores: &mut Vec<Held>,
+    sources: &mut [S],
+    links: &mut [L],
+) -> Result<Report, RunStopped>
+    requires held { AreHeld stores.old.items }
+    requires links { All (λ l. L.failed l < 2 ^ 64 - 1) links.old }
+    ensures done { IfOk result (RunDone S.gives L.sent L.failed
+        (run_input S.gives run.now.problem.now run.now.plan.now run.now.base (record { stores = stores.old.items; routes = run.now.control.now }) sources.old)
+        (run_state stores.old sources.old links.old) (run_state stores.new sources.new links.new)) }
+    ensures began { OnOk result (MayBegin (outset_of
+        (run_input S.gives run.now.problem.now run.now.plan.now run.now.base (record { stores = stores.old.items; routes = run.now.control.now }) sources.old)
+        run.now.plan.now (run_state stores.old sources.old links.old))) }
+    ensures ended { IfErr result (IsEnded S.gives L.sent L.failed
+        (run_input S.gives run.now.problem.now run.now.plan.now run.now.base (record { stores = stores.old.items; routes = run.now.control.now }) sources.old)
+        run.now.plan.now (run_state stores.old sources.old links.old) (run_state stores.new sources.new links.new)) }
+    ensures far { AreWithinLimits S.gives stores.old.items sources.old → IfErr result (λ stopped. NeverRefused stopped.broken.cause) }
 {
-    let sources = cargo.sources.len();
-    let links = cargo.links.len();
-    if let Err(cause) = ready(problem, plan, &cargo.stores, base, sources, links) {
-        return Err(not_begun(alloc, cause, cargo));
+    let many_sources = sources.len();
+    let many_links = links.len();
+    if let Err(cause) = ready(run.problem, run.plan, stores, run.base, many_sources, many_links) {
+        return Err(never_began(alloc, cause));
     }
-    let Ok(room) = new_room(alloc, problem) else {
-        return Err(not_begun(alloc, Cause::NoMemory { step: 0 }, cargo));
+    read_states(stores);
+    let Ok(buffers) = reserve_run(alloc, run.problem) else {
+        return Err(never_began(alloc, Cause::NoMemory { step: 0 }));
     };
-    carry_steps(rt, alloc, control, problem, plan, base, room, cargo)
+    carry_steps(rt, alloc, run, buffers, stores, sources, links)
 }
 
 /// Carries out a plan over a memory: in each step from 1 what the sources give is recorded, at the moment of the step, which is that
@@ -85,50 +86,37 @@ pub fn carry_out<S: Source + Send + Drop, L: Link + Send + Drop, R: Threads + Wa
 ) -> Result<Flight<S, L>, Halted<S, L>>
     requires links { All (λ l. L.failed l < 2 ^ 64 - 1) links.items }
     ensures carried_out { IfOk result (IsCarriedOut S.gives L.sent L.failed
-        (mission S.gives problem.now plan.now base memory.old sources.items) plan.now sources.items links.items memory.new) }
+        (run_input S.gives problem.now plan.now base memory.old sources.items) plan.now sources.items links.items memory.new) }
     ensures halted { IfErr result (IsHalted S.gives L.sent L.failed
-        (mission S.gives problem.now plan.now base memory.old sources.items) plan.now sources.items links.items memory.new) }
+        (run_input S.gives problem.now plan.now base memory.old sources.items) plan.now sources.items links.items memory.new) }
+    // Where counts are far from their end, no store refuses a packet.
+    ensures far { AreWithinLimits S.gives memory.old.stores sources.items → IfErr result (λ halted. NeverRefused halted.cause) }
 {
     identifiers_decide_what_is_restored();
-    let stores = memory.lift();
-    let cargo = Cargo {
-        stores,
-        sources,
-        links,
+    broken_orders_change_nothing();
+    let mut sources = sources;
+    let mut links = links;
+    let mut stores = memory.lift();
+    let run = RunContext {
+        control: memory.control(),
+        problem,
+        plan,
+        base,
     };
-    match carry_cargo(rt, alloc, memory.control(), problem, plan, base, cargo) {
-        Ok(Carried { cargo, report }) => {
-            let Cargo {
-                stores,
-                sources,
-                links,
-            } = cargo;
-            memory.restore(stores);
-            Ok(Flight {
-                report,
-                sources,
-                links,
-            })
-        }
-        Err(Stopped { off, report }) => {
-            let BrokenOff {
-                cause,
-                spent,
-                cargo,
-            } = off;
-            let Cargo {
-                stores,
-                sources,
-                links,
-            } = cargo;
-            memory.restore(stores);
-            Err(Halted {
-                cause,
-                report,
-                spent,
-                sources,
-                links,
-            })
-        }
+    let ended = carry_plan(rt, alloc, &run, &mut stores, &mut sources, &mut links);
+    memory.restore(stores);
+    match ended {
+        Ok(report) => Ok(Flight {
+            report,
+            sources,
+            links,
+        }),
+        Err(RunStopped { broken, report }) => Err(Halted {
+            cause: broken.cause,
+            report,
+            spent: broken.spent,
+            sources,
+            links,
+        }),
     }
 }

@@ -6,14 +6,14 @@ use Rattle.mm_plan.specs.Sheet.{SheetRows}
 use Rattle.mm_plan.specs.Table.{Table}
 use Rattle.mm_check.specs.Checking.{SaysSheet}
 use Rattle.mm_memory.specs.Holdings.{Holdings}
-use Rattle.mm_order.specs.Sending.{Sent}
+use Rattle.mm_dump.specs.Sending.{Sent}
 use Rattle.mm_scripted.specs.declared.link.ScriptedLink.{ScriptedLink}
 use Rattle.mm_scripted.specs.declared.source.ScriptedSource.{ScriptedSource}
 use Rattle.mm_exec.specs.declared.flight.Flight.{Flight}
 use Rattle.mm_exec.specs.declared.flight.Flown.{Flown}
 use Rattle.mm_exec.specs.declared.flight.Halted.{Halted}
 use Rattle.mm_exec.specs.declared.flight.NotFlown.{NotFlown}
-use Rattle.mm_exec.specs.Mission.{Mission, mission}
+use Rattle.mm_exec.specs.RunInput.{RunInput, run_input}
 use Rattle.mm_exec.specs.Ending.{IsCarriedOut, IsHalted}
 use Rattle.mm_exec.specs.Flying.{Flies, FliesNot, HasNoPlan}
 use Rattle.mm_flight.specs.declared.printed.Printed.{Printed}
@@ -32,8 +32,8 @@ abbrev pub failed : ScriptedLink → ℕ
 failed link = link.failed
 
 -- a run with these sources and links: the problem, the plan, the memory with the packets of step 0, and the moment 0 before the first step
-abbrev pub scripted : Dumping → Table → Holdings → List ScriptedSource → Mission
-scripted problem plan memory sources = mission gives problem plan 0 memory sources
+abbrev pub scripted : Dumping → Table → Holdings → List ScriptedSource → RunInput
+scripted problem plan memory sources = run_input gives problem plan 0 memory sources
 
 -- the run was carried out, and this is printed
 pub record EndsWhole (problem : Dumping) (plan : Table) (memory : Holdings) (sources : List ScriptedSource) (links : List ScriptedLink) (sheet : List ℕ) (p : Printed) : Type 0 where

@@ -1,31 +1,37 @@
 -- A recorder at work: what its source gave so far is recorded.
-use Rattle.std.proofs.Common.{◌≡◌, ◌≢◌, ℕ, true, false, List, [], ◌∷◌, ◌++◌, length, refl, sym, subst, ap, ◌∙◌, append_assoc, arith}
+use Rattle.std.proofs.Common.{◌≡◌, ◌≢◌, ℕ, ◌<◌, List, [], ◌∷◌, ◌++◌, length, Some, None, refl, sym, subst, ap, ◌∙◌, append_assoc, arith}
 use Rattle.mm_packet.specs.Packet.{SpacePacket}
 use Rattle.mm_desk.specs.declared.event.Event.{Event}
+use Rattle.mm_desk.specs.declared.fault.Fault.{Fault}
 use Rattle.mm_desk.specs.Offers.{AreTaken}
 use Rattle.mm_desk.specs.Offers.{asked as asked_in}
-use Rattle.mm_desk.specs.Seats.{Place}
-use Rattle.mm_record.specs.Offering.{Adds, AddsPartly}
-use Rattle.mm_record.specs.Recorded.{Errand, offers}
-use Rattle.mm_record.specs.Recorders.{AreFresh, Recorded, Ran}
+use Rattle.mm_shared.specs.declared.lines.Line.{Line}
+use Rattle.mm_shared.specs.Stores.{list_at, ends_of, IsFresh}
+use Rattle.mm_record.specs.Offering.{asked, Adds, AddsPartly, IsReason}
+use Rattle.mm_record.specs.Recorded.{RecordingContext, offers}
+use Rattle.mm_record.specs.Recorders.{HasRun}
 use Rattle.mm_record.proofs.Offers.{offers_at, offers_more, offers_one}
 
--- what the source gave so far is recorded
-pub record InHand (e : Errand) (before after : ℕ → List SpacePacket) (seats : List Place) : Type 0 where
-  pub seated : length seats ≡ length e.ids
+-- through each line exactly the offers of these packets were made, in order, and none was refused
+abbrev pub Offered : RecordingContext → List SpacePacket → List Line → Type 0
+Offered e gave lines = (k : ℕ) → k < length e.ids → (asked lines k ≡ offers e k gave) × AreTaken (list_at lines k)
+
+-- what the source gave so far is recorded, and the lines are where they were
+pub record InHand (e : RecordingContext) (before after : ℕ → List SpacePacket) (first lines : List Line) : Type 0 where
+  pub ends : ends_of lines ≡ ends_of first
   pub gave : List SpacePacket
   pub order : before e.step ≡ gave ++ after e.step
   pub others : (t : ℕ) → t ≢ e.step → after t ≡ before t
-  pub done : Recorded e gave seats
+  pub done : Offered e gave lines
 
 -- at the start nothing was given
-pub in_hand_start : (e : Errand) (before : ℕ → List SpacePacket) (seats : List Place) → AreFresh e seats → InHand e before before seats
-in_hand_start e before seats fresh = record {
-  seated = fresh.count;
+pub in_hand_start : (e : RecordingContext) (before : ℕ → List SpacePacket) (lines : List Line) → IsFresh lines → InHand e before before lines lines
+in_hand_start e before lines fresh = record {
+  ends = refl;
   gave = [];
   order = refl;
   others = λ t other. refl;
-  done = λ k within. (ap asked_in (fresh.empty k within), subst AreTaken (sym (fresh.empty k within)) (λ i d inside. absurd (omega arith)));
+  done = λ k within. (ap asked_in (fresh k), subst AreTaken (sym (fresh k)) (λ i d inside. absurd (omega arith)));
 }
 
 -- what is given with a packet more
@@ -35,11 +41,11 @@ given_more before mid after step gave p order next =
     order ∙ ap (λ (x : List SpacePacket). gave ++ x) next ∙ sym (append_assoc gave (p ∷ []) (after step))
 
 -- a packet more
-pub in_hand_more : (e : Errand) (before mid after : ℕ → List SpacePacket) (seats new : List Place) (count : ℕ) (p : SpacePacket)
-    → count ≡ length e.ids → InHand e before mid seats → mid e.step ≡ p ∷ after e.step → ((t : ℕ) → t ≢ e.step → after t ≡ mid t)
-    → Adds count (offers_at e p) seats new → InHand e before after new
-in_hand_more e before mid after seats new count p many hand next others adds = record {
-  seated = adds.seated ∙ hand.seated;
+pub in_hand_more : (e : RecordingContext) (before mid after : ℕ → List SpacePacket) (first lines new : List Line) (count : ℕ) (p : SpacePacket)
+    → count ≡ length e.ids → InHand e before mid first lines → mid e.step ≡ p ∷ after e.step → ((t : ℕ) → t ≢ e.step → after t ≡ mid t)
+    → Adds count (offers_at e p) lines new → InHand e before after first new
+in_hand_more e before mid after first lines new count p many hand next others adds = record {
+  ends = adds.ends ∙ hand.ends;
   gave = hand.gave ++ p ∷ [];
   order = given_more before mid after e.step hand.gave p hand.order next;
   others = λ t other. others t other ∙ hand.others t other;
@@ -52,39 +58,53 @@ in_hand_more e before mid after seats new count p many hand next others adds = r
 }
 
 -- the source gives no more
-pub ran_whole : (e : Errand) (before mid after : ℕ → List SpacePacket) (seats : List Place)
-    → InHand e before mid seats → mid e.step ≡ [] → mid e.step ≡ after e.step → ((t : ℕ) → t ≢ e.step → after t ≡ mid t)
-    → Ran e before after false seats
-ran_whole e before mid after seats hand none same others = record {
-  seated = hand.seated;
-  gave = hand.gave;
-  order = hand.order ∙ ap (λ (x : List SpacePacket). hand.gave ++ x) same;
-  others = λ t other. others t other ∙ hand.others t other;
-  whole = λ e. (sym same ∙ none, hand.done);
-  partly = λ no. cc;
+pub ran_whole : (e : RecordingContext) (before mid after : ℕ → List SpacePacket) (first lines : List Line)
+    → InHand e before mid first lines → mid e.step ≡ [] → mid e.step ≡ after e.step → ((t : ℕ) → t ≢ e.step → after t ≡ mid t)
+    → HasRun e before after None lines
+ran_whole e before mid after first lines hand none same others = record {
+  run = record { gave = hand.gave; offered = asked lines; broken = None };
+  is = record {
+    is = record {
+      order = hand.order ∙ ap (λ (x : List SpacePacket). hand.gave ++ x) same;
+      others = λ t other. others t other ∙ hand.others t other;
+      whole = (sym same ∙ none, λ k within. (hand.done k within).0);
+      partly = tt;
+    };
+    offered = λ k. refl;
+    taken = λ k within. (hand.done k within).1;
+    reason = tt;
+  };
+  ended = refl;
 }
 
 -- an offer failed
-pub ran_partly : (e : Errand) (before mid after : ℕ → List SpacePacket) (seats new : List Place) (count : ℕ) (p : SpacePacket)
-    → count ≡ length e.ids → InHand e before mid seats → mid e.step ≡ p ∷ after e.step → ((t : ℕ) → t ≢ e.step → after t ≡ mid t)
-    → AddsPartly count (offers_at e p) seats new → Ran e before after true new
-ran_partly e before mid after seats new count p many hand next others adds = record {
-  seated = adds.seated ∙ hand.seated;
-  gave = hand.gave ++ p ∷ [];
-  order = given_more before mid after e.step hand.gave p hand.order next;
-  others = λ t other. others t other ∙ hand.others t other;
-  whole = λ no. cc;
-  partly = λ yes. record {
-    before = hand.gave;
-    last = p;
-    are = refl;
-    began = λ k within.
-        let goes = adds.lists k (omega arith) in
-        record {
-          did = goes.did;
-          rest = goes.rest;
-          are = offers_one e k p ∙ goes.are;
-          asks_are = goes.first ∙ ap (λ (x : List Event). x ++ goes.did) (hand.done k within).0;
-        };
+pub ran_partly : (e : RecordingContext) (before mid after : ℕ → List SpacePacket) (first lines new : List Line) (count : ℕ) (p : SpacePacket) (fault : Fault)
+    → count ≡ length e.ids → InHand e before mid first lines → mid e.step ≡ p ∷ after e.step → ((t : ℕ) → t ≢ e.step → after t ≡ mid t)
+    → AddsPartly count (offers_at e p) lines new → IsReason count new fault → HasRun e before after (Some fault) new
+ran_partly e before mid after first lines new count p fault many hand next others adds reason = record {
+  run = record { gave = hand.gave ++ p ∷ []; offered = asked new; broken = Some fault };
+  is = record {
+    is = record {
+      order = given_more before mid after e.step hand.gave p hand.order next;
+      others = λ t other. others t other ∙ hand.others t other;
+      whole = tt;
+      partly = record {
+        before = hand.gave;
+        last = p;
+        are = refl;
+        began = λ k within.
+            let goes = adds.lists k (omega arith) in
+            record {
+              did = goes.did;
+              rest = goes.rest;
+              are = offers_one e k p ∙ goes.are;
+              asks_are = goes.first ∙ ap (λ (x : List Event). x ++ goes.did) (hand.done k within).0;
+            };
+      };
+    };
+    offered = λ k. refl;
+    taken = tt;
+    reason = subst (λ (n : ℕ). IsReason n new fault) many reason;
   };
+  ended = refl;
 }

@@ -1,7 +1,9 @@
 pub mod Offers
 pub mod Going
 pub mod Hand
-pub mod Crews
-pub mod Steps
 pub mod Whys
+pub mod Runs
+pub mod Taking
+pub mod Steps
+pub mod Before
 pub mod Memories

@@ -7,22 +7,22 @@ use Rattle.mm_base.specs.declared.rows.RouteRow.{RouteRow}
 use Rattle.mm_packet.specs.Packet.{SpacePacket}
 use Rattle.mm_desk.specs.declared.event.Event.{Event}
 use Rattle.mm_desk.specs.declared.event.Event.TheVariants.{Offer}
-use Rattle.mm_crew.specs.Stations.{id_at}
+use Rattle.mm_shared.specs.Stores.{id_at}
 use Rattle.mm_record.specs.Offering.{offers_by, offers_of}
-use Rattle.mm_record.specs.Recorded.{Errand, offers, is_routed}
+use Rattle.mm_record.specs.Recorded.{RecordingContext, offers, is_routed}
 
--- the offers of a packet of a step to the store at a place
-abbrev pub offers_at : Errand → SpacePacket → ℕ → List Event
+-- the offers of a packet of a step to the store at an index
+abbrev pub offers_at : RecordingContext → SpacePacket → ℕ → List Event
 offers_at e p k = offers_of e.now e.routes (id_at e.ids k) p
 
 -- the offers of packets, one after another
-pub offers_more : (e : Errand) (k : ℕ) (ps qs : List SpacePacket) → offers e k (ps ++ qs) ≡ offers e k ps ++ offers e k qs
+pub offers_more : (e : RecordingContext) (k : ℕ) (ps qs : List SpacePacket) → offers e k (ps ++ qs) ≡ offers e k ps ++ offers e k qs
 offers_more e k ps qs =
     let routed = is_routed e.routes (id_at e.ids k) in
     ap (map (λ (p : SpacePacket). Offer e.now p)) (filter-append routed ps qs) ∙ map-append (λ (p : SpacePacket). Offer e.now p) (filter routed ps) (filter routed qs)
 
 -- those of one packet
-pub offers_one : (e : Errand) (k : ℕ) (p : SpacePacket) → offers e k (p ∷ []) ≡ offers_at e p k
+pub offers_one : (e : RecordingContext) (k : ℕ) (p : SpacePacket) → offers e k (p ∷ []) ≡ offers_at e p k
 offers_one e k p = by_test (is_routed e.routes (id_at e.ids k) p)
   where
     by_test : (b : Bool) → map (λ (p : SpacePacket). Offer e.now p) (cond b (p ∷ []) []) ≡ (if b then Offer e.now p ∷ [] else [])

@@ -1,89 +1,32 @@
--- From what each recorder and each desk says, to the step.
-use Rattle.std.proofs.Common.{◌≡◌, ◌≢◌, ◌⊎◌, inl, inr, ℕ, zero, suc, ◌<◌, ◌≤◌, true, false, is_some, eqb, List, [], ◌∷◌, ◌++◌, length, get_or, map, All, Option, Some, None, IfNone, refl, sym, subst, ap, ◌∙◌, arith}
-use Rattle.std.proofs.lemmas.Bool.{eq-eqb}
-use Rattle.std.proofs.lemmas.Bool.Decides.{eqb_tells}
-use Rattle.std.proofs.lemmas.List.{append-nil, get_or-map, length-map}
-use Rattle.std.proofs.lemmas.List.Elements.{All-head, All-tail}
+-- From what each recorder and each store says, to the step.
+use Rattle.std.proofs.Common.{◌≡◌, ◌≢◌, inl, inr, ℕ, zero, suc, ◌+◌, ◌*◌, ◌<◌, ◌≤◌, max, List, [], ◌∷◌, ◌++◌, length, get_or, map, filter, All, Option, Some, None, IfNone, IfSome, refl, sym, subst, ap, ◌∙◌, append_assoc, length-append, arith}
+use Rattle.std.proofs.lemmas.List.{append-nil, length-map}
+use Rattle.std.proofs.lemmas.List.Elements.{All-head, All-map, All-tail}
+use Rattle.std.proofs.lemmas.List.Sums.{sum_by-le}
 use Rattle.mm_base.specs.declared.rows.RouteRow.{RouteRow}
 use Rattle.mm_packet.specs.Packet.{SpacePacket}
 use Rattle.mm_desk.specs.declared.entry.Entry.{Entry}
 use Rattle.mm_desk.specs.declared.event.Event.{Event}
+use Rattle.mm_desk.specs.declared.event.Event.TheVariants.{Offer}
 use Rattle.mm_desk.specs.declared.fault.Fault.{Fault}
+use Rattle.mm_desk.specs.declared.fault.Fault.TheVariants.{NoMemory}
 use Rattle.mm_desk.specs.declared.held.Held.{Held}
-use Rattle.mm_desk.specs.Machine.{State}
-use Rattle.mm_desk.specs.Offers.{AreTaken, IsTaken, IsShuffleOfEvents}
+use Rattle.mm_desk.specs.Machine.{State, IsState}
+use Rattle.mm_desk.specs.Offers.{AreTaken, IsTaken, IsShuffleOfEvents, count_of}
 use Rattle.mm_desk.specs.Offers.{asked as asked_in}
 use Rattle.mm_desk.specs.Runs.{opening_at, blank}
-use Rattle.mm_desk.specs.Seats.{Place}
-use Rattle.mm_desk.specs.Shuffles.{AreBelow, IsShuffle, part}
-use Rattle.mm_crew.specs.declared.crew.Seating.{Seating}
-use Rattle.mm_crew.specs.declared.crew.Worker.{Worker}
-use Rattle.mm_crew.specs.Closings.{lists_at, states_of, AllWentBy, AreOpenings}
-use Rattle.mm_crew.specs.Crews.{list_at, AreSeatsOf, owns_of}
-use Rattle.mm_crew.specs.Stations.{Standing, ids_of}
-use Rattle.mm_record.specs.Offering.{asked}
-use Rattle.mm_record.specs.Recorded.{Errand, offers}
-use Rattle.mm_record.specs.Recorders.{AreFresh, AllFresh, Ran, AllRan, errand}
-use Rattle.mm_record.specs.Steps.{given_in, step_errand, AllRecorded, AllWentByOffers, Turn, HadTurn, HadTurns}
-
--- no recorder broke off
-abbrev pub AreWhole : {N S : Type 0} → List (Worker N S Fault) → Type 0
-AreWhole recorders = All (λ r. is_some r.broken ≡ false) recorders
-
--- an entry is taken where all of its seat's part is
-taken_head : (e : Entry) (es : List Entry) → AreTaken (part e.seat (e ∷ es)) → IsTaken e.event e.reply
-taken_head e es all =
-    let mine : part e.seat (e ∷ es) ≡ e ∷ part e.seat es = rw (eq-eqb e.seat e.seat refl) refl in
-    All-head (λ (x : Entry). IsTaken x.event x.reply) e (part e.seat es) (subst AreTaken mine all)
-
--- the part of a seat is taken without the first entry too
-taken_tail : (e : Entry) (es : List Entry) (seat : ℕ) → AreTaken (part seat (e ∷ es)) → AreTaken (part seat es)
-taken_tail e es seat all = by_seat (eqb_tells e.seat seat)
-  where
-    by_seat : ((eqb e.seat seat ≡ true) × (e.seat ≡ seat)) ⊎ ((eqb e.seat seat ≡ false) × (e.seat ≢ seat)) → AreTaken (part seat es)
-    by_seat (inl mine) =
-        let here : part seat (e ∷ es) ≡ e ∷ part seat es = rw mine.0 refl in
-        All-tail (λ (x : Entry). IsTaken x.event x.reply) e (part seat es) (subst AreTaken here all)
-    by_seat (inr other) =
-        let here : part seat (e ∷ es) ≡ part seat es = rw other.0 refl in
-        subst AreTaken here all
-
--- a log is taken where the part of each of its seats is
-parts_taken : (seats : ℕ) (log : List Entry) → AreBelow seats log → ((seat : ℕ) → seat < seats → AreTaken (part seat log)) → AreTaken log
-parts_taken seats [] below parts = λ i d within. absurd (omega arith)
-parts_taken seats (e ∷ es) below parts =
-    all_cons (taken_head e es (parts e.seat (All-head (λ (x : Entry). x.seat < seats) e es below)))
-    (parts_taken seats es (All-tail (λ (x : Entry). x.seat < seats) e es below) (λ seat within. taken_tail e es seat (parts seat within)))
-  where
-    all_cons : IsTaken e.event e.reply → AreTaken es → AreTaken (e ∷ es)
-    all_cons head tail zero d within = head
-    all_cons head tail (suc i) d within = tail i d (omega arith)
-
--- what a recorder that did not break off has in the list of a seat
-whole_list : (e : Errand) (before after : ℕ → List SpacePacket) (seats : List Place) (k : ℕ) → Ran e before after false seats → k < length e.ids
-    → (asked_in (list_at seats k) ≡ offers e k (before e.step)) × AreTaken (list_at seats k)
-whole_list e before after seats k ran within =
-    let whole = ran.whole refl in
-    let all : before e.step ≡ ran.gave = ran.order ∙ ap (λ (x : List SpacePacket). ran.gave ++ x) whole.0 ∙ append-nil ran.gave in
-    let list = whole.1 k within in
-    (list.0 ∙ ap (offers e k) (sym all), list.1)
-
--- the lists of recorders that did not break off: as many as sources, each with the offers of what its source gave, none refused
-whole_lists : {N S : Type 0} (gives : S → ℕ → List SpacePacket) (e : Errand) (rs qs : List (Worker N S Fault)) (k : ℕ) → AllRan gives e rs qs → AreWhole qs → k < length e.ids
-    → (map asked_in (lists_at k qs) ≡ map (offers e k) (given_in gives e.step (owns_of rs))) × All AreTaken (lists_at k qs)
-unfolding AllRan
-whole_lists gives e [] [] k ran whole within = (refl, λ i d inside. absurd (omega arith))
-whole_lists gives e [] (q ∷ qs) k ran whole within = absurd ran
-whole_lists gives e (r ∷ rs) [] k ran whole within = absurd ran
-whole_lists gives e (r ∷ rs) (q ∷ qs) k ran whole within =
-    let done : is_some q.broken ≡ false = All-head (λ q. is_some q.broken ≡ false) q qs whole in
-    let one = whole_list e (gives r.own) (gives q.own) q.seats.items k (subst (λ b. Ran e (gives r.own) (gives q.own) b q.seats.items) done ran.0) within in
-    let rest = whole_lists gives e rs qs k ran.1 (All-tail (λ q. is_some q.broken ≡ false) q qs whole) within in
-    (λ i. one.0 i ∷ rest.0 i, all_cons one.1 rest.1)
-  where
-    all_cons : AreTaken (list_at q.seats.items k) → All AreTaken (lists_at k qs) → All AreTaken (lists_at k (q ∷ qs))
-    all_cons head tail zero d inside = head
-    all_cons head tail (suc i) d inside = tail i d (omega arith)
+use Rattle.mm_desk.specs.Shuffles.{AreBelow, IsShuffle}
+use Rattle.mm_shared.specs.declared.lines.Line.{Line}
+use Rattle.mm_shared.specs.declared.lines.Lines.{Lines}
+use Rattle.mm_shared.specs.declared.stores.NamedStore.{NamedStore}
+use Rattle.mm_shared.specs.Stores.{list_at, lists_at, states_of, labels_of, names_of, openings_of, ids_of, id_at, HaveLegalLogs}
+use Rattle.mm_record.specs.Offering.{asked, IsReason}
+use Rattle.mm_record.specs.Recorded.{RecordingContext, recording, open_recording, offers, is_routed}
+use Rattle.mm_record.specs.Recorders.{AreRunsAt, HaveRun, IsRunAt}
+use Rattle.mm_record.specs.Steps.{given_in, latest, AllRecorded, HasRecorded, AllHaveLegalOffers, AreFew, AreRecorderRuns, IsOpen, IsRecorderRun, IsWhy, RecorderRun, Records, StoppedEarly}
+use Rattle.mm_record.proofs.Offers.{offers_more}
+use Rattle.mm_record.proofs.Runs.{all_first}
+use Rattle.mm_record.proofs.Taking.{HasTime, IsOfferAt, all_unmapped, filter_fewer, lists_taken, parts_all, shuffle_is_taken, shuffle_last}
 
 -- an element of a mapped list
 at_map : {X Y : Type 0} (f : X → Y) (xs : List X) (i : ℕ) (d : X) → get_or (map f xs) i (f d) ≡ f (get_or xs i d)
@@ -91,8 +34,13 @@ at_map f [] i d = refl
 at_map f (x ∷ xs) zero d = refl
 at_map f (x ∷ xs) (suc i) d = at_map f xs i d
 
+-- one element more
+all_more : {X : Type 0} (P : X → Type 0) (x : X) (xs : List X) → P x → All P xs → All P (x ∷ xs)
+all_more P x xs head tail zero d within = head
+all_more P x xs head tail (suc i) d within = tail i d (omega arith)
+
 -- a log that is a shuffle of lists is one of what is asked in them
-asked_shuffled : (lists : List (List Entry)) (log : List Entry) → IsShuffle lists log → IsShuffleOfEvents (map asked_in lists) log
+pub asked_shuffled : (lists : List (List Entry)) (log : List Entry) → IsShuffle lists log → IsShuffleOfEvents (map asked_in lists) log
 asked_shuffled lists log shuffle = record {
   below = subst (λ n. AreBelow n log) (sym (length-map lists asked_in)) shuffle.below;
   parts = λ seat within.
@@ -103,164 +51,329 @@ asked_shuffled lists log shuffle = record {
 -- a log that is a shuffle of lists is taken where they are
 shuffle_taken : (lists : List (List Entry)) (log : List Entry) → IsShuffle lists log → All AreTaken lists → AreTaken log
 shuffle_taken lists log shuffle taken =
-    parts_taken (length lists) log shuffle.below (λ seat within. subst AreTaken (sym (shuffle.parts seat within)) (taken seat [] within))
+    parts_all (λ e. IsTaken e.event e.reply) (length lists) log shuffle.below
+    (λ seat within. subst AreTaken (sym (shuffle.parts seat within)) (taken seat [] within))
 
--- each store has recorded what the sources gave
-pub all_recorded : {N S : Type 0} (gives : S → ℕ → List SpacePacket) (e : Errand) (rs qs : List (Worker N S Fault)) (before after : List State)
-    → AllRan gives e rs qs → AreWhole qs → AllWentBy qs before after → length after ≤ length e.ids
-    → AllRecorded e (given_in gives e.step (owns_of rs)) before after
-all_recorded gives e rs qs before after ran whole went many k within =
-    let lists = whole_lists gives e rs qs k ran whole (omega arith) in
-    let store = went k within in
-    record {
-      log = store.log;
-      run = store.run;
-      shuffle = subst (λ (xs : List (List Event)). IsShuffleOfEvents xs store.log) lists.0 (asked_shuffled (lists_at k qs) store.log store.shuffle);
-      taken = shuffle_taken (lists_at k qs) store.log store.shuffle lists.1;
-    }
+-- what a recorder offered to a store is the first part of the offers of what its source gave
+record IsFirst (e : RecordingContext) (k : ℕ) (gave : List SpacePacket) (offered : List Event) : Type 0 where
+  rest : List Event
+  are : offers e k gave ≡ offered ++ rest
 
--- in another step the sources give what they gave
-pub others_same : {N S : Type 0} (gives : S → ℕ → List SpacePacket) (e : Errand) (rs qs : List (Worker N S Fault)) (t : ℕ) → AllRan gives e rs qs → t ≢ e.step
-    → given_in gives t (owns_of qs) ≡ given_in gives t (owns_of rs)
-unfolding AllRan
-others_same gives e [] [] t ran other = refl
-others_same gives e [] (q ∷ qs) t ran other = absurd ran
-others_same gives e (r ∷ rs) [] t ran other = absurd ran
-others_same gives e (r ∷ rs) (q ∷ qs) t ran other =
-    let one = ran.0.others t other in
-    let rest = others_same gives e rs qs t ran.1 other in
-    λ i. one i ∷ rest i
-
--- nothing is left for the step where no recorder broke off
-pub none_left : {N S : Type 0} (gives : S → ℕ → List SpacePacket) (e : Errand) (rs qs : List (Worker N S Fault)) → AllRan gives e rs qs → AreWhole qs
-    → All (λ s. gives s e.step ≡ []) (owns_of qs)
-unfolding AllRan
-none_left gives e [] [] ran whole = λ i d within. absurd (omega arith)
-none_left gives e [] (q ∷ qs) ran whole = absurd ran
-none_left gives e (r ∷ rs) [] ran whole = absurd ran
-none_left gives e (r ∷ rs) (q ∷ qs) ran whole =
-    let done : is_some q.broken ≡ false = All-head (λ q. is_some q.broken ≡ false) q qs whole in
-    all_cons (ran.0.whole done).0 (none_left gives e rs qs ran.1 (All-tail (λ q. is_some q.broken ≡ false) q qs whole))
+first_of : (e : RecordingContext) (before after : ℕ → List SpacePacket) (run : RecorderRun) (k : ℕ) → IsRecorderRun e before after run → k < length e.ids
+    → IsFirst e k run.gave (run.offered k)
+first_of e before after run k is within = by_end run.broken is.whole is.partly
   where
-    all_cons : gives q.own e.step ≡ [] → All (λ s. gives s e.step ≡ []) (owns_of qs) → All (λ s. gives s e.step ≡ []) (owns_of (q ∷ qs))
-    all_cons head tail zero d within = head
-    all_cons head tail (suc i) d within = tail i d (omega arith)
+    by_end : (broken : Option Fault) → IfNone broken ((after e.step ≡ []) × ((k : ℕ) → k < length e.ids → run.offered k ≡ offers e k run.gave))
+        → IfSome broken (λ fault. StoppedEarly e run.gave run.offered) → IsFirst e k run.gave (run.offered k)
+    by_end None whole partly = record { rest = []; are = sym (whole.1 k within) ∙ sym (append-nil (run.offered k)) }
+    by_end (Some fault) whole partly =
+        let began = partly.began k within in
+        record {
+          rest = began.rest;
+          are = ap (offers e k) partly.are ∙ offers_more e k partly.before (partly.last ∷ []) ∙ ap (λ (es : List Event). offers e k partly.before ++ es) began.are
+              ∙ sym (append_assoc (offers e k partly.before) began.did began.rest) ∙ ap (λ (es : List Event). es ++ began.rest) (sym began.asks_are);
+        }
 
--- there are as many recorders as there were
-pub as_many : {N S : Type 0} (gives : S → ℕ → List SpacePacket) (e : Errand) (rs qs : List (Worker N S Fault)) → AllRan gives e rs qs → length qs ≡ length rs
-unfolding AllRan
-as_many gives e [] [] ran = refl
-as_many gives e [] (q ∷ qs) ran = absurd ran
-as_many gives e (r ∷ rs) [] ran = absurd ran
-as_many gives e (r ∷ rs) (q ∷ qs) ran = ap suc (as_many gives e rs qs ran.1)
+-- what was asked through a line is offers at the step's moment, and no more of them than the source gave packets
+record AreOffers (e : RecordingContext) (asks : List Event) : Type 0 where
+  offers_are : All (IsOfferAt e.now) asks
+  few : length asks ≤ 65535
 
--- the states of stores are their openings
-pub openings_of : (states : List State) (stores : List Held) → states ≡ states_of stores → AreOpenings states stores
-openings_of states stores same k d within =
-    sym (ap (λ (ss : List State). opening_at ss k) same ∙ get_or-map (λ (h : Held). h.state) stores k d blank within)
+offers_all : (e : RecordingContext) (k : ℕ) (ps : List SpacePacket) → All (IsOfferAt e.now) (offers e k ps)
+offers_all e k ps = All-map (IsOfferAt e.now) (λ (p : SpacePacket). Offer e.now p) (filter (is_routed e.routes (id_at e.ids k)) ps) (λ i d within. refl)
 
--- the seats of a worker of any number are fresh
-seats_fresh : (e : Errand) (number : ℕ) (seats : List Place) → AreSeatsOf (length e.ids) number seats → AreFresh e seats
-seats_fresh e number seats are = record { count = are.count; empty = λ k within. ap (λ (s : Place). s.list) (are.each k within) }
+offers_fewer : (e : RecordingContext) (k : ℕ) (ps : List SpacePacket) → length (offers e k ps) ≤ length ps
+offers_fewer e k ps =
+    let routed = is_routed e.routes (id_at e.ids k) in
+    omega (arith, length-map (filter routed ps) (λ (p : SpacePacket). Offer e.now p), filter_fewer routed ps)
 
--- recorders with the seats of new seatings are fresh
-pub paired_fresh : {N S : Type 0} (e : Errand) (rs : List (Worker N S Fault)) (seatings : List (Seating N))
-    → map (λ (r : Worker N S Fault). r.seats) rs ≡ map (λ (s : Seating N). s.seats) seatings
-    → ((i : ℕ) (d : Seating N) → i < length seatings → (number : ℕ) × AreSeatsOf (length e.ids) number (get_or seatings i d).seats.items)
-    → AllFresh e rs
-unfolding AllFresh
-paired_fresh e [] seatings same are = tt
-paired_fresh e (r ∷ rs) [] same are = absurd (omega (arith, ap length same))
-paired_fresh e (r ∷ rs) (s ∷ seatings) same are =
-    let mine : r.seats ≡ s.seats = ap (λ vs. get_or vs 0 r.seats) same in
-    let first = are 0 s (omega arith) in (
-      seats_fresh e first.0 r.seats.items (subst (λ v. AreSeatsOf (length e.ids) first.0 v.items) (sym mine) first.1),
-      paired_fresh e rs seatings (ap tail_of same) (λ i d within. are (suc i) d (omega arith)),
-    )
+are_offers : (e : RecordingContext) (before after : ℕ → List SpacePacket) (lines : List Line) (run : RecorderRun) (k : ℕ) → IsRunAt e before after lines run → k < length e.ids
+    → length (before e.step) ≤ 65535 → AreOffers e (asked lines k)
+are_offers e before after lines run k at within few =
+    let first = first_of e before after run k at.is within in
+    subst (AreOffers e) (at.offered k) (record {
+      offers_are = all_first (IsOfferAt e.now) (run.offered k) first.rest (subst (All (IsOfferAt e.now)) first.are (offers_all e k run.gave));
+      few = omega (arith, offers_fewer e k run.gave, ap length first.are, length-append (run.offered k) first.rest, ap length at.is.order, length-append run.gave (after e.step), few);
+    })
+
+-- what a recorder that did not stop early offered to a store, and that none was refused
+whole_list : (e : RecordingContext) (before after : ℕ → List SpacePacket) (lines : List Line) (run : RecorderRun) (k : ℕ) → IsRunAt e before after lines run
+    → run.broken ≡ None → k < length e.ids → (asked lines k ≡ offers e k (before e.step)) × AreTaken (list_at lines k) × (after e.step ≡ [])
+whole_list e before after lines run k at none within = by_end run.broken none at.is.whole at.taken
   where
-    tail_of : {X : Type 0} → List X → List X
-    tail_of [] = []
-    tail_of (x ∷ xs) = xs
+    by_end : (broken : Option Fault) → broken ≡ None → IfNone broken ((after e.step ≡ []) × ((k : ℕ) → k < length e.ids → run.offered k ≡ offers e k run.gave))
+        → IfNone broken ((k : ℕ) → k < length e.ids → AreTaken (list_at lines k))
+        → (asked lines k ≡ offers e k (before e.step)) × AreTaken (list_at lines k) × (after e.step ≡ [])
+    by_end None is whole taken =
+        let all : before e.step ≡ run.gave = at.is.order ∙ ap (λ (x : List SpacePacket). run.gave ++ x) whole.0 ∙ append-nil run.gave in
+        (sym (at.offered k) ∙ whole.1 k within ∙ ap (offers e k) (sym all), taken k within, whole.0)
+    by_end (Some fault) is whole taken = cc
+
+none_left_of : (e : RecordingContext) (before after : ℕ → List SpacePacket) (run : RecorderRun) → IsRecorderRun e before after run → run.broken ≡ None → after e.step ≡ []
+none_left_of e before after run is none = by_end run.broken none is.whole
+  where
+    by_end : (broken : Option Fault) → broken ≡ None → IfNone broken ((after e.step ≡ []) × ((k : ℕ) → k < length e.ids → run.offered k ≡ offers e k run.gave)) → after e.step ≡ []
+    by_end None same whole = whole.0
+    by_end (Some fault) same whole = cc
+
+-- no recorder stopped early
+abbrev AreWhole : List RecorderRun → Type 0
+AreWhole runs = All (λ run. run.broken ≡ None) runs
+
+-- why it stopped is out of memory, where no offer of its was refused
+reason_of : (e : RecordingContext) (lines : List Line) (broken : Option Fault) → IfSome broken (IsReason (length e.ids) lines)
+    → ((k : ℕ) → k < length e.ids → AreTaken (list_at lines k)) → IfSome broken (λ fault. fault ≡ NoMemory)
+reason_of e lines None reason taken = tt
+reason_of e lines (Some fault) (inl lack) taken = lack
+reason_of e lines (Some fault) (inr refusal) taken = absurd (refusal.refused (taken refusal.index refusal.within))
+
+module _ {S : Type 0} (gives : S → ℕ → List SpacePacket) (e : RecordingContext) where
+  -- what recorders did, without their lines
+  are_runs : (ss ts : List S) (ws : List Lines) (runs : List RecorderRun) → AreRunsAt gives e ss ts ws runs → AreRecorderRuns gives e ss ts runs
+  unfolding AreRunsAt AreRecorderRuns
+  are_runs [] [] [] [] at = tt
+  are_runs [] [] [] (run ∷ runs) at = absurd at
+  are_runs [] [] (w ∷ ws) runs at = absurd at
+  are_runs [] (t ∷ ts) ws runs at = absurd at
+  are_runs (s ∷ ss) [] ws runs at = absurd at
+  are_runs (s ∷ ss) (t ∷ ts) [] runs at = absurd at
+  are_runs (s ∷ ss) (t ∷ ts) (w ∷ ws) [] at = absurd at
+  are_runs (s ∷ ss) (t ∷ ts) (w ∷ ws) (run ∷ runs) at = (at.0.is, are_runs ss ts ws runs at.1)
+
+  -- there are as many sources as before, and as many workers
+  as_many : (ss ts : List S) (ws : List Lines) (runs : List RecorderRun) → AreRunsAt gives e ss ts ws runs → (length ts ≡ length ss) × (length ws ≡ length ss)
+  unfolding AreRunsAt
+  as_many [] [] [] [] at = (refl, refl)
+  as_many [] [] [] (run ∷ runs) at = absurd at
+  as_many [] [] (w ∷ ws) runs at = absurd at
+  as_many [] (t ∷ ts) ws runs at = absurd at
+  as_many (s ∷ ss) [] ws runs at = absurd at
+  as_many (s ∷ ss) (t ∷ ts) [] runs at = absurd at
+  as_many (s ∷ ss) (t ∷ ts) (w ∷ ws) [] at = absurd at
+  as_many (s ∷ ss) (t ∷ ts) (w ∷ ws) (run ∷ runs) at = let rest = as_many ss ts ws runs at.1 in (ap suc rest.0, ap suc rest.1)
+
+  -- what recorders offered is what was asked through their lines
+  runs_offered : (ss ts : List S) (ws : List Lines) (runs : List RecorderRun) (k : ℕ) → AreRunsAt gives e ss ts ws runs
+      → map (λ run. run.offered k) runs ≡ map asked_in (lists_at k ws)
+  unfolding AreRunsAt
+  runs_offered [] [] [] [] k at = refl
+  runs_offered [] [] [] (run ∷ runs) k at = absurd at
+  runs_offered [] [] (w ∷ ws) runs k at = absurd at
+  runs_offered [] (t ∷ ts) ws runs k at = absurd at
+  runs_offered (s ∷ ss) [] ws runs k at = absurd at
+  runs_offered (s ∷ ss) (t ∷ ts) [] runs k at = absurd at
+  runs_offered (s ∷ ss) (t ∷ ts) (w ∷ ws) [] k at = absurd at
+  runs_offered (s ∷ ss) (t ∷ ts) (w ∷ ws) (run ∷ runs) k at =
+      let one = at.0.offered k in
+      let rest = runs_offered ss ts ws runs k at.1 in
+      λ i. one i ∷ rest i
+
+  -- in another step the sources give what they gave
+  others_same : (ss ts : List S) (ws : List Lines) (runs : List RecorderRun) (t : ℕ) → AreRunsAt gives e ss ts ws runs → t ≢ e.step → given_in gives t ts ≡ given_in gives t ss
+  unfolding AreRunsAt
+  others_same [] [] ws runs step at other = refl
+  others_same [] (t ∷ ts) ws runs step at other = absurd at
+  others_same (s ∷ ss) [] ws runs step at other = absurd at
+  others_same (s ∷ ss) (t ∷ ts) [] runs step at other = absurd at
+  others_same (s ∷ ss) (t ∷ ts) (w ∷ ws) [] step at other = absurd at
+  others_same (s ∷ ss) (t ∷ ts) (w ∷ ws) (run ∷ runs) step at other =
+      let one = at.0.is.others step other in
+      let rest = others_same ss ts ws runs step at.1 other in
+      λ i. one i ∷ rest i
+
+  -- nothing is left for the step where no recorder stopped early
+  none_left : (ss ts : List S) (ws : List Lines) (runs : List RecorderRun) → AreRunsAt gives e ss ts ws runs → AreWhole runs → All (λ s. gives s e.step ≡ []) ts
+  unfolding AreRunsAt
+  none_left [] [] ws runs at whole = λ i d within. absurd (omega arith)
+  none_left [] (t ∷ ts) ws runs at whole = absurd at
+  none_left (s ∷ ss) [] ws runs at whole = absurd at
+  none_left (s ∷ ss) (t ∷ ts) [] runs at whole = absurd at
+  none_left (s ∷ ss) (t ∷ ts) (w ∷ ws) [] at whole = absurd at
+  none_left (s ∷ ss) (t ∷ ts) (w ∷ ws) (run ∷ runs) at whole =
+      all_more (λ s. gives s e.step ≡ []) t ts (none_left_of e (gives s) (gives t) run at.0.is (All-head (λ run. run.broken ≡ None) run runs whole))
+      (none_left ss ts ws runs at.1 (All-tail (λ run. run.broken ≡ None) run runs whole))
+
+  -- the lists of recorders that did not stop early: each with the offers of what its source gave, none refused
+  whole_lists : (ss ts : List S) (ws : List Lines) (runs : List RecorderRun) (k : ℕ) → AreRunsAt gives e ss ts ws runs → AreWhole runs → k < length e.ids
+      → (map asked_in (lists_at k ws) ≡ map (offers e k) (given_in gives e.step ss)) × All AreTaken (lists_at k ws)
+  unfolding AreRunsAt
+  whole_lists [] [] [] runs k at whole within = (refl, λ i d inside. absurd (omega arith))
+  whole_lists [] [] (w ∷ ws) runs k at whole within = absurd at
+  whole_lists [] (t ∷ ts) ws runs k at whole within = absurd at
+  whole_lists (s ∷ ss) [] ws runs k at whole within = absurd at
+  whole_lists (s ∷ ss) (t ∷ ts) [] runs k at whole within = absurd at
+  whole_lists (s ∷ ss) (t ∷ ts) (w ∷ ws) [] k at whole within = absurd at
+  whole_lists (s ∷ ss) (t ∷ ts) (w ∷ ws) (run ∷ runs) k at whole within =
+      let one = whole_list e (gives s) (gives t) w.lines.items run k at.0 (All-head (λ run. run.broken ≡ None) run runs whole) within in
+      let rest = whole_lists ss ts ws runs k at.1 (All-tail (λ run. run.broken ≡ None) run runs whole) within in
+      (λ i. one.0 i ∷ rest.0 i, all_more AreTaken (list_at w.lines.items k) (lists_at k ws) one.1 rest.1)
+
+  -- what was asked of a store is offers, and few of each recorder
+  lists_are_offers : (ss ts : List S) (ws : List Lines) (runs : List RecorderRun) (k : ℕ) → AreRunsAt gives e ss ts ws runs → AreFew gives e.step ss → k < length e.ids
+      → All (AreOffers e) (map asked_in (lists_at k ws))
+  unfolding AreRunsAt
+  lists_are_offers [] [] [] runs k at few within = λ i d inside. absurd (omega arith)
+  lists_are_offers [] [] (w ∷ ws) runs k at few within = absurd at
+  lists_are_offers [] (t ∷ ts) ws runs k at few within = absurd at
+  lists_are_offers (s ∷ ss) [] ws runs k at few within = absurd at
+  lists_are_offers (s ∷ ss) (t ∷ ts) [] runs k at few within = absurd at
+  lists_are_offers (s ∷ ss) (t ∷ ts) (w ∷ ws) [] k at few within = absurd at
+  lists_are_offers (s ∷ ss) (t ∷ ts) (w ∷ ws) (run ∷ runs) k at few within =
+      all_more (AreOffers e) (asked w.lines.items k) (map asked_in (lists_at k ws))
+      (are_offers e (gives s) (gives t) w.lines.items run k at.0 within (All-head (λ s. length (gives s e.step) ≤ 65535) s ss few))
+      (lists_are_offers ss ts ws runs k at.1 (All-tail (λ s. length (gives s e.step) ≤ 65535) s ss few) within)
+
+  -- where no offer was refused, recorders stopped early for want of memory alone
+  reasons_of : (ss ts : List S) (ws : List Lines) (runs : List RecorderRun) → AreRunsAt gives e ss ts ws runs
+      → ((k : ℕ) → k < length e.ids → All AreTaken (lists_at k ws)) → All (λ run. IfSome run.broken (λ fault. fault ≡ NoMemory)) runs
+  unfolding AreRunsAt
+  reasons_of [] [] [] [] at taken = λ i d within. absurd (omega arith)
+  reasons_of [] [] [] (run ∷ runs) at taken = absurd at
+  reasons_of [] [] (w ∷ ws) runs at taken = absurd at
+  reasons_of [] (t ∷ ts) ws runs at taken = absurd at
+  reasons_of (s ∷ ss) [] ws runs at taken = absurd at
+  reasons_of (s ∷ ss) (t ∷ ts) [] runs at taken = absurd at
+  reasons_of (s ∷ ss) (t ∷ ts) (w ∷ ws) [] at taken = absurd at
+  reasons_of (s ∷ ss) (t ∷ ts) (w ∷ ws) (run ∷ runs) at taken =
+      all_more (λ run. IfSome run.broken (λ fault. fault ≡ NoMemory)) run runs
+      (reason_of e w.lines.items run.broken at.0.reason (λ k within. All-head AreTaken (list_at w.lines.items k) (lists_at k ws) (taken k within)))
+      (reasons_of ss ts ws runs at.1 (λ k within. All-tail AreTaken (list_at w.lines.items k) (lists_at k ws) (taken k within)))
+
+-- the last storage time of a store that has recorded
+pub recorded_last : (e : RecordingContext) (gave : List (List SpacePacket)) (k : ℕ) (s t : State) → HasRecorded e gave k s t
+    → t.store.last ≤ max s.store.last e.now + count_of (map (offers e k) gave)
+recorded_last e gave k s t has =
+    shuffle_last e.now s t (map (offers e k) gave) has.log has.run has.shuffle
+    (All-map (λ es. All (IsOfferAt e.now) es) (offers e k) gave (λ i d within. offers_all e k (get_or gave i d)))
 
 -- what follows where there is nothing
-pub if_none : {A : Type 0} (P Q : Type 0) (o : Option A) → IfNone o P → (P → Q) → IfNone o Q
+if_none : {A : Type 0} (P Q : Type 0) (o : Option A) → IfNone o P → (P → Q) → IfNone o Q
 if_none P Q None p f = f p
 if_none P Q (Some x) p f = tt
 
--- the step's stores have recorded what its sources gave
-pub step_recorded : {N S : Type 0} (gives : S → ℕ → List SpacePacket) (step now : ℕ) (routes : List RouteRow) (stores after : List Held) (stations : List Standing)
-    → (rs qs : List (Worker N S Fault)) (sources : List S) (before : List State)
-    → ids_of stations ≡ map (λ h. h.id) stores → owns_of rs ≡ sources → before ≡ states_of stores → length after ≡ length stores
-    → AllRan gives (errand step now routes stations) rs qs → AllWentBy qs before (states_of after) → AreWhole qs
-    → AllRecorded (step_errand step now routes stores) (given_in gives step sources) (states_of stores) (states_of after)
-step_recorded gives step now routes stores after stations rs qs sources before ids same states many ran went whole =
-    let e = errand step now routes stations in
-    let fits : length (states_of after) ≤ length e.ids =
-    omega (arith, length-map after (λ (h : Held). h.state), many, length-map stores (λ (h : Held). h.id), ap length ids) in
-    let all = all_recorded gives e rs qs before (states_of after) ran whole went fits in
-    let errands : e ≡ step_errand step now routes stores = ap (λ (xs : List (List ℕ)). record { step = step; now = now; routes = routes; ids = xs }) ids in
-    subst (λ (f : Errand). AllRecorded f (given_in gives step sources) (states_of stores) (states_of after)) errands
-    (subst (λ (ss : List _). AllRecorded e (given_in gives step ss) (states_of stores) (states_of after)) same
-    (subst (λ (b : List State). AllRecorded e (given_in gives step (owns_of rs)) b (states_of after)) states all))
+-- no recorder stopped early where there is no fault
+whole_of : (runs : List RecorderRun) → All (λ f. f ≡ None) (map (λ run. run.broken) runs) → AreWhole runs
+whole_of runs all = all_unmapped (λ f. f ≡ None) (λ (run : RecorderRun). run.broken) runs all
 
--- the turns of recorders that ran
-unfoldable pub turns_of : {N S : Type 0} (gives : S → ℕ → List SpacePacket) (e : Errand) (rs qs : List (Worker N S Fault)) → AllRan gives e rs qs → List Turn
-unfolding AllRan
-turns_of gives e [] [] ran = []
-turns_of gives e [] (q ∷ qs) ran = absurd ran
-turns_of gives e (r ∷ rs) [] ran = absurd ran
-turns_of gives e (r ∷ rs) (q ∷ qs) ran =
-    record { gave = ran.0.gave; offered = asked q.seats.items; broken = q.broken } ∷ turns_of gives e rs qs ran.1
+-- the fault of one of the recorders is out of memory where that of each is
+why_lacks : (runs : List RecorderRun) (why : Option Fault) → IsWhy (map (λ run. run.broken) runs) why → All (λ run. IfSome run.broken (λ fault. fault ≡ NoMemory)) runs
+    → IfSome why (λ fault. fault ≡ NoMemory)
+why_lacks runs None is all = tt
+why_lacks runs (Some fault) is all =
+    let i = is.some.0 in
+    let each : All (λ f. IfSome f (λ g. g ≡ NoMemory)) (map (λ (run : RecorderRun). run.broken) runs) = All-map (λ f. IfSome f (λ g. g ≡ NoMemory)) (λ (run : RecorderRun). run.broken) runs all in
+    subst (λ f. IfSome f (λ g. g ≡ NoMemory)) is.some.2 (each i None is.some.1)
 
--- a recorder that ran had its turn
-had_turn : (e : Errand) (before after : ℕ → List SpacePacket) (broken : Option Fault) (seats : List Place) (ran : Ran e before after (is_some broken) seats)
-    → HadTurn e before after (record { gave = ran.gave; offered = asked seats; broken = broken })
-had_turn e before after None seats ran =
-    let whole = ran.whole refl in
-    record { order = ran.order; others = ran.others; whole = (whole.0, λ k within. (whole.1 k within).0); partly = tt }
-had_turn e before after (Some fault) seats ran = record { order = ran.order; others = ran.others; whole = tt; partly = ran.partly refl }
+-- the first of labels
+first_labels : (stores : List NamedStore) → ids_of stores ≡ map (λ (l : List ℕ × ℕ). l.0) (names_of stores)
+first_labels [] = refl
+first_labels (s ∷ stores) = ap (λ ids. s.id ∷ ids) (first_labels stores)
 
--- recorders that ran had their turns
-pub had_turns : {N S : Type 0} (gives : S → ℕ → List SpacePacket) (e : Errand) (rs qs : List (Worker N S Fault)) (ran : AllRan gives e rs qs)
-    → HadTurns gives e (owns_of rs) (owns_of qs) (turns_of gives e rs qs ran)
-unfolding AllRan HadTurns turns_of
-had_turns gives e [] [] ran = tt
-had_turns gives e [] (q ∷ qs) ran = absurd ran
-had_turns gives e (r ∷ rs) [] ran = absurd ran
-had_turns gives e (r ∷ rs) (q ∷ qs) ran =
-    (had_turn e (gives r.own) (gives q.own) q.broken q.seats.items ran.0, had_turns gives e rs qs ran.1)
+first_held : (stores : List Held) → map (λ h. h.id) stores ≡ map (λ (l : List ℕ × ℕ). l.0) (labels_of stores)
+first_held [] = refl
+first_held (h ∷ stores) = ap (λ ids. h.id ∷ ids) (first_held stores)
 
--- what recorders offered is what was asked through their seats
-turns_offered : {N S : Type 0} (gives : S → ℕ → List SpacePacket) (e : Errand) (rs qs : List (Worker N S Fault)) (ran : AllRan gives e rs qs) (k : ℕ)
-    → map (λ turn. turn.offered k) (turns_of gives e rs qs ran) ≡ map asked_in (lists_at k qs)
-unfolding AllRan turns_of
-turns_offered gives e [] [] ran k = refl
-turns_offered gives e [] (q ∷ qs) ran k = absurd ran
-turns_offered gives e (r ∷ rs) [] ran k = absurd ran
-turns_offered gives e (r ∷ rs) (q ∷ qs) ran k = ap (λ xs. asked q.seats.items k ∷ xs) (turns_offered gives e rs qs ran.1 k)
+-- the identifiers of stores that are open
+pub ids_open : (stores : List NamedStore) (before : List Held) → names_of stores ≡ labels_of before → ids_of stores ≡ map (λ h. h.id) before
+ids_open stores before same = first_labels stores ∙ ap (map (λ (l : List ℕ × ℕ). l.0)) same ∙ sym (first_held before)
 
--- they broke off where the recorders did
-pub turns_broken : {N S : Type 0} (gives : S → ℕ → List SpacePacket) (e : Errand) (rs qs : List (Worker N S Fault)) (ran : AllRan gives e rs qs)
-    → map (λ turn. turn.broken) (turns_of gives e rs qs ran) ≡ map (λ (q : Worker N S Fault). q.broken) qs
-unfolding AllRan turns_of
-turns_broken gives e [] [] ran = refl
-turns_broken gives e [] (q ∷ qs) ran = absurd ran
-turns_broken gives e (r ∷ rs) [] ran = absurd ran
-turns_broken gives e (r ∷ rs) (q ∷ qs) ran = ap (λ fs. q.broken ∷ fs) (turns_broken gives e rs qs ran.1)
+-- as many stores as labels
+pub same_many : (a b : List Held) → labels_of a ≡ labels_of b → length a ≡ length b
+same_many a b labels =
+    sym (length-map a (λ (h : Held). (h.id, h.channel))) ∙ ap length labels ∙ length-map b (λ (h : Held). (h.id, h.channel))
 
--- each store went by what the recorders offered
-pub turns_went : {N S : Type 0} (gives : S → ℕ → List SpacePacket) (e : Errand) (rs qs : List (Worker N S Fault)) (ran : AllRan gives e rs qs)
-    (before after : List State) → AllWentBy qs before after → AllWentByOffers (turns_of gives e rs qs ran) before after
-turns_went gives e rs qs ran before after went k within =
-    let store = went k within in
-    record {
-      log = store.log;
-      run = store.run;
-      shuffle = subst (λ (xs : List (List Event)). IsShuffleOfEvents xs store.log) (sym (turns_offered gives e rs qs ran k))
-          (asked_shuffled (lists_at k qs) store.log store.shuffle);
-    }
+module _ {S : Type 0} (gives : S → ℕ → List SpacePacket) (e : RecordingContext) (sources left : List S) (workers : List Lines) (why : Option Fault)
+    (before after : List State) (have : HaveRun gives e sources left workers why) (went : HaveLegalLogs workers before after) (many : length after ≤ length e.ids) where
+  -- each store went by what the recorders offered
+  went_offers : AllHaveLegalOffers have.runs before after
+  went_offers k within =
+      let store = went k within in
+      record {
+        log = store.log;
+        run = store.run;
+        shuffle = subst (λ (xs : List (List Event)). IsShuffleOfEvents xs store.log) (sym (runs_offered gives e sources left workers have.runs k have.are))
+            (asked_shuffled (lists_at k workers) store.log store.shuffle);
+      }
 
--- no recorder broke off where there is no fault
-pub whole_of : {N S : Type 0} (qs : List (Worker N S Fault)) → All (λ f. f ≡ None) (map (λ (q : Worker N S Fault). q.broken) qs) → AreWhole qs
-whole_of qs all i d within =
-    ap is_some (sym (at_map (λ (q : Worker _ _ Fault). q.broken) qs i d) ∙ all i d.broken (omega (arith, length-map qs (λ (q : Worker _ _ Fault). q.broken))))
+  -- each store has recorded what the sources gave
+  all_recorded : AreWhole have.runs → AllRecorded e (given_in gives e.step sources) before after
+  all_recorded whole k within =
+      let lists = whole_lists gives e sources left workers have.runs k have.are whole (omega (arith, many)) in
+      let store = went k within in
+      record {
+        log = store.log;
+        run = store.run;
+        shuffle = subst (λ (xs : List (List Event)). IsShuffleOfEvents xs store.log) lists.0 (asked_shuffled (lists_at k workers) store.log store.shuffle);
+        taken = shuffle_taken (lists_at k workers) store.log store.shuffle lists.1;
+      }
+
+  -- where there is time, no offer was refused
+  all_taken : length after ≡ length e.ids → length sources ≤ 16 → e.now ≤ latest → ((k : ℕ) → k < length after → IsOpen (opening_at before k)) → AreFew gives e.step sources
+      → (k : ℕ) → k < length e.ids → All AreTaken (lists_at k workers)
+  all_taken same few_sources moment are_open few k within =
+      let asks = map asked_in (lists_at k workers) in
+      let are = lists_are_offers gives e sources left workers have.runs k have.are few within in
+      let store = went k (omega (arith, same)) in
+      let state = are_open k (omega (arith, same)) in
+      let each : All (λ es. length es ≤ 65535) asks = λ i d inside. (are i d inside).few in
+      let total : count_of asks ≤ length asks * 65535 = sum_by-le (λ (es : List Event). length es) 65535 asks each in
+      let workers_many = (as_many gives e sources left workers have.runs have.are).1 in
+      let asks_many : length asks ≡ length workers = length-map (lists_at k workers) asked_in ∙ length-map workers (λ (w : Lines). list_at w.lines.items k) in
+      let most : length asks ≤ 16 = omega (arith, workers_many, asks_many, few_sources) in
+      let sum : count_of asks ≤ 1048560 = omega (arith, total, most) in
+      let time : HasTime e.now (count_of asks) (opening_at before k) = record {
+        storage = state.storage;
+        last = omega (arith, state.last, sum);
+        moment = omega (arith, moment, sum);
+        count = omega (arith, state.offered, sum);
+      } in
+      lists_taken (lists_at k workers) store.log store.shuffle
+      (shuffle_is_taken e.now (opening_at before k) (opening_at after k) asks store.log time store.run (asked_shuffled (lists_at k workers) store.log store.shuffle)
+      (λ i d inside. (are i d inside).offers_are))
+
+-- what a step of recorders leaves
+module _ {S : Type 0} (gives : S → ℕ → List SpacePacket) (step now : ℕ) (routes : List RouteRow) (before after : List Held) (stores : List NamedStore)
+    (sources left : List S) (workers : List Lines) (why : Option Fault) (names : names_of stores ≡ labels_of before) (openings : openings_of stores ≡ states_of before)
+    (labels : labels_of after ≡ names_of stores) (sound : All (λ h. IsState h.state) after) (logs : HaveLegalLogs workers (openings_of stores) (states_of after))
+    (ran : HaveRun gives (open_recording step now routes stores) sources left workers why) (few_sources : length sources ≤ 16) where
+  abbrev e : RecordingContext
+  e = recording step now routes before
+
+  have : HaveRun gives e sources left workers why
+  have =
+      subst (λ (ids : List (List ℕ)). HaveRun gives (record { step = step; now = now; routes = routes; ids = ids }) sources left workers why) (ids_open stores before names) ran
+
+  went : HaveLegalLogs workers (states_of before) (states_of after)
+  went = subst (λ (states : List State). HaveLegalLogs workers states (states_of after)) openings logs
+
+  many : length (states_of after) ≡ length e.ids
+  many =
+      length-map after (λ (h : Held). h.state) ∙ same_many after before (labels ∙ names) ∙ sym (length-map before (λ (h : Held). h.id))
+
+  inside : length (states_of after) ≤ length e.ids
+  inside = omega (arith, many)
+
+  state_open : All (λ h. IsOpen h.state) before → (k : ℕ) → k < length (states_of after) → IsOpen (opening_at (states_of before) k)
+  state_open are_open k within =
+      let here : k < length before = omega (arith, many, length-map before (λ (h : Held). h.id)) in
+      let all : All IsOpen (states_of before) = All-map IsOpen (λ (h : Held). h.state) before are_open in
+      all k blank (omega (arith, length-map before (λ (h : Held). h.state)))
+
+  pub records_of : Records gives e before after sources left why
+  records_of = record {
+    labels = labels ∙ names;
+    sound = sound;
+    many = (as_many gives e sources left workers have.runs have.are).0;
+    runs = have.runs;
+    are_runs = are_runs gives e sources left workers have.runs have.are;
+    why_is = have.why_is;
+    went = went_offers gives e sources left workers why (states_of before) (states_of after) have went inside;
+    others = λ t other. others_same gives e sources left workers have.runs t have.are other;
+    recorded = if_none _ _ why have.why_is.none
+        (λ none. all_recorded gives e sources left workers why (states_of before) (states_of after) have went inside (whole_of have.runs none));
+    nothing_left = if_none _ _ why have.why_is.none (λ none. none_left gives e sources left workers have.runs have.are (whole_of have.runs none));
+    none_refused = λ takes. why_lacks have.runs why have.why_is
+        (reasons_of gives e sources left workers have.runs have.are
+        (all_taken gives e sources left workers why (states_of before) (states_of after) have went inside many few_sources takes.moment
+        (state_open takes.stores_are) takes.few));
+  }

@@ -1,81 +1,77 @@
--- Why recorders broke off, looked for from the first on.
-use Rattle.std.proofs.Common.{◌≡◌, ◌≢◌, ◌⊎◌, inl, inr, ℕ, zero, suc, ◌+◌, ◌<◌, ◌≤◌, List, [], ◌∷◌, length, get_or, map, All, Option, Some, None, IfNone, IfSome, refl, sym, subst, ap, ◌∙◌, arith}
-use Rattle.std.proofs.lemmas.Bool.{cases_lt}
-use Rattle.std.proofs.lemmas.List.{get_or-map, length-map}
+-- Why recorders stopped early, of two groups of them.
+use Rattle.std.proofs.Common.{◌≡◌, ℕ, zero, suc, ◌+◌, ◌<◌, List, [], ◌∷◌, ◌++◌, length, get_or, All, Option, Some, None, IfSome, refl, ◌∙◌, length-append, arith}
+use Rattle.std.proofs.lemmas.List.{get_or_append_left, get_or-append-add}
+use Rattle.std.proofs.lemmas.List.Elements.{All-append}
 use Rattle.mm_desk.specs.declared.fault.Fault.{Fault}
-use Rattle.mm_desk.specs.declared.fault.Fault.TheVariants.{NoMemory}
-use Rattle.mm_crew.specs.declared.crew.Worker.{Worker}
+use Rattle.mm_desk.specs.declared.fault.Fault.TheVariants.{NoMemory, HoldsMore, Disabled, Busy, Idle, BadRange, ClockEnd, StorageOn}
+use Rattle.mm_record.specs.Recorders.{is_worse}
 use Rattle.mm_record.specs.Steps.{IsWhy}
 
--- no recorder so far broke off but for want of memory, and `lack` says whether one did
-pub record SoFar (faults : List (Option Fault)) (i : ℕ) (lack : Option Fault) : Type 0 where
-  pub none : IfNone lack ((j : ℕ) → j < i → get_or faults j None ≡ None)
-  pub some : IfSome lack (λ fault. (fault ≡ NoMemory) × (j : ℕ) × (j < length faults) × (get_or faults j None ≡ Some NoMemory))
-  pub each : (j : ℕ) → j < i → IfSome (get_or faults j None) (λ fault. fault ≡ NoMemory)
+-- no recorder
+pub why_none : IsWhy [] None
+why_none = record { none = λ i d within. absurd (omega arith); some = tt; lack = λ is i d within. absurd (omega arith) }
 
--- one place more
-up_to : (P : ℕ → Type 0) (i : ℕ) → ((j : ℕ) → j < i → P j) → P i → (j : ℕ) → j < i + 1 → P j
-up_to P i below here j within = by_order (cases_lt j i)
+-- one recorder
+pub why_one : (broken : Option Fault) → IsWhy (broken ∷ []) broken
+why_one None = record { none = none; some = tt; lack = λ is. cc }
   where
-    by_order : (j < i) ⊎ (i ≤ j) → P j
-    by_order (inl before) = below j before
-    by_order (inr from) = let at : i ≡ j = omega arith in subst P at here
+    none : All (λ (f : Option Fault). f ≡ None) (None ∷ [])
+    none zero d within = refl
+    none (suc i) d within = absurd (omega arith)
+why_one (Some fault) = record { none = tt; some = (0, omega arith, refl); lack = lack }
+  where
+    lack : Some fault ≡ Some NoMemory → All (λ (f : Option Fault). IfSome f (λ g. g ≡ NoMemory)) (Some fault ∷ [])
+    lack is zero d within = cc
+    lack is (suc i) d within = absurd (omega arith)
 
-pub so_far_start : (faults : List (Option Fault)) → SoFar faults 0 None
-so_far_start faults = record { none = λ j within. absurd (omega arith); some = tt; each = λ j within. absurd (omega arith) }
+-- the fault of one of the faults
+abbrev IsOne : List (Option Fault) → Fault → Type 0
+IsOne faults fault = (i : ℕ) × (i < length faults) × (get_or faults i None ≡ Some fault)
 
--- a recorder that did not break off
-pub so_far_whole : (faults : List (Option Fault)) (i : ℕ) (lack : Option Fault) → SoFar faults i lack → get_or faults i None ≡ None → SoFar faults (i + 1) lack
-so_far_whole faults i None far here = record {
-  none = up_to (λ j. get_or faults j None ≡ None) i far.none here;
+-- one of the first is one of all, and so is one of the second
+in_first : (fs gs : List (Option Fault)) (fault : Fault) → IsOne fs fault → IsOne (fs ++ gs) fault
+in_first fs gs fault (i, within, is) = (i, omega (arith, length-append fs gs), get_or_append_left fs gs None i within ∙ is)
+
+in_second : (fs gs : List (Option Fault)) (fault : Fault) → IsOne gs fault → IsOne (fs ++ gs) fault
+in_second fs gs fault (i, within, is) = (length fs + i, omega (arith, length-append fs gs), get_or-append-add fs gs i None ∙ is)
+
+-- out of memory is no reason for what is said where memory lacks
+abbrev Lacks : List (Option Fault) → Type 0
+Lacks faults = All (λ f. IfSome f (λ fault. fault ≡ NoMemory)) faults
+
+lacks_none : (fs : List (Option Fault)) → All (λ f. f ≡ None) fs → Lacks fs
+lacks_none fs none i d within = rw (none i d within) tt
+
+-- one of the first faults, which is not out of memory
+other_first : (fs gs : List (Option Fault)) (fault : Fault) → IsWhy fs (Some fault) → (Some fault ≡ Some NoMemory → ⊥) → IsWhy (fs ++ gs) (Some fault)
+other_first fs gs fault first other = record { none = tt; some = in_first fs gs fault first.some; lack = λ is. absurd (other is) }
+
+-- the worse reason of two groups is the reason of both
+pub why_both : (fs gs : List (Option Fault)) (first second : Option Fault) → IsWhy fs first → IsWhy gs second → IsWhy (fs ++ gs) (is_worse first second)
+why_both fs gs None None one two = record {
+  none = All-append (λ f. f ≡ None) fs gs one.none two.none;
   some = tt;
-  each = up_to (λ j. IfSome (get_or faults j None) (λ fault. fault ≡ NoMemory)) i far.each (rw here tt);
+  lack = λ is. cc;
 }
-so_far_whole faults i (Some fault) far here = record {
+why_both fs gs None (Some fault) one two = record {
   none = tt;
-  some = far.some;
-  each = up_to (λ j. IfSome (get_or faults j None) (λ fault. fault ≡ NoMemory)) i far.each (rw here tt);
+  some = in_second fs gs fault two.some;
+  lack = λ is. All-append (λ f. IfSome f (λ fault. fault ≡ NoMemory)) fs gs (lacks_none fs one.none) (two.lack is);
 }
-
--- one that broke off for want of memory
-pub so_far_lack : (faults : List (Option Fault)) (i : ℕ) (lack : Option Fault) → SoFar faults i lack → i < length faults
-    → get_or faults i None ≡ Some NoMemory → SoFar faults (i + 1) (Some NoMemory)
-so_far_lack faults i lack far within here = record {
+why_both fs gs (Some NoMemory) None one two = record {
   none = tt;
-  some = (refl, i, within, here);
-  each = up_to (λ j. IfSome (get_or faults j None) (λ fault. fault ≡ NoMemory)) i far.each (rw here refl);
+  some = in_first fs gs NoMemory one.some;
+  lack = λ is. All-append (λ f. IfSome f (λ fault. fault ≡ NoMemory)) fs gs (one.lack refl) (lacks_none gs two.none);
 }
-
--- an element of a list, whatever stands for one that is not there
-any_default : {X : Type 0} (xs : List X) (i : ℕ) (d e : X) → i < length xs → get_or xs i d ≡ get_or xs i e
-any_default [] i d e within = absurd (omega arith)
-any_default (x ∷ xs) zero d e within = refl
-any_default (x ∷ xs) (suc i) d e within = any_default xs i d e (omega arith)
-
-all_of : (P : Option Fault → Type 0) (faults : List (Option Fault)) (i : ℕ) → length faults ≤ i → ((j : ℕ) → j < i → P (get_or faults j None)) → All P faults
-all_of P faults i past each j d within = subst P (any_default faults j None d within) (each j (omega arith))
-
--- all were looked at
-pub why_of : (faults : List (Option Fault)) (i : ℕ) (lack : Option Fault) → SoFar faults i lack → length faults ≤ i → IsWhy faults lack
-why_of faults i None far past = record {
-  none = all_of (λ f. f ≡ None) faults i past far.none;
-  some = tt;
-  lack = λ is. all_of (λ f. IfSome f (λ fault. fault ≡ NoMemory)) faults i past far.each;
-}
-why_of faults i (Some fault) far past = record {
+why_both fs gs (Some NoMemory) (Some fault) one two = record {
   none = tt;
-  some = (far.some.1, far.some.2, far.some.3 ∙ ap Some (sym far.some.0));
-  lack = λ is. all_of (λ f. IfSome f (λ fault. fault ≡ NoMemory)) faults i past far.each;
+  some = in_second fs gs fault two.some;
+  lack = λ is. All-append (λ f. IfSome f (λ fault. fault ≡ NoMemory)) fs gs (one.lack refl) (two.lack is);
 }
-
--- one broke off for another reason
-pub why_other : (faults : List (Option Fault)) (i : ℕ) (fault : Fault) → i < length faults → get_or faults i None ≡ Some fault → Some fault ≢ Some NoMemory → IsWhy faults (Some fault)
-why_other faults i fault within here other = record { none = tt; some = (i, within, here); lack = λ is. absurd (other is) }
-
--- the fault of the recorder at a place
-pub fault_at : {N S : Type 0} (rs : List (Worker N S Fault)) (i : ℕ) (r : Worker N S Fault) → i < length rs → get_or rs i r ≡ r
-    → get_or (map (λ (r : Worker N S Fault). r.broken) rs) i None ≡ r.broken
-fault_at rs i r within is = get_or-map (λ (r : Worker _ _ Fault). r.broken) rs i r None within ∙ ap (λ (r : Worker _ _ Fault). r.broken) is
-
-pub faults_many : {N S : Type 0} (rs : List (Worker N S Fault)) → length (map (λ (r : Worker N S Fault). r.broken) rs) ≡ length rs
-faults_many rs = length-map rs (λ (r : Worker _ _ Fault). r.broken)
+why_both fs gs (Some HoldsMore) second one two = other_first fs gs HoldsMore one (λ is. cc)
+why_both fs gs (Some Disabled) second one two = other_first fs gs Disabled one (λ is. cc)
+why_both fs gs (Some Busy) second one two = other_first fs gs Busy one (λ is. cc)
+why_both fs gs (Some Idle) second one two = other_first fs gs Idle one (λ is. cc)
+why_both fs gs (Some BadRange) second one two = other_first fs gs BadRange one (λ is. cc)
+why_both fs gs (Some ClockEnd) second one two = other_first fs gs ClockEnd one (λ is. cc)
+why_both fs gs (Some StorageOn) second one two = other_first fs gs StorageOn one (λ is. cc)

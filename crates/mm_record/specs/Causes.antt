@@ -1,5 +1,5 @@
 -- Why a step is not begun or is ended.
-use Rattle.std.specs.Prelude.{ℕ, Bool, true, false, not, ◌&&◌, ◌||◌, nat_lt, if◌then◌else◌, List, find, Option, Some, None, is_some}
+use Rattle.std.specs.Prelude.{ℕ, Bool, not, ◌&&◌, ◌||◌, nat_lt, nat_le, if◌then◌else◌, List, find, Option, Some, None, is_some}
 use Rattle.std.specs.List.{list_any}
 use Rattle.mm_desk.specs.declared.fault.Fault.{Fault}
 use Rattle.mm_desk.specs.declared.fault.Fault.TheVariants as fault
@@ -16,25 +16,29 @@ is_ready h = h.state.storage && not (is_some h.state.retrieval)
 abbrev pub is_late : ℕ → Bool
 is_late moment = nat_lt LATEST_START moment
 
--- whether there are too few or too many sources
-abbrev pub is_miscounted : ℕ → Bool
-is_miscounted sources = nat_lt sources 1 || nat_lt MAX_SOURCES sources
+-- whether the moment before the first step, or the last storage time of a store, is too late for the start of a run
+abbrev pub is_clock_late : List Held → ℕ → Bool
+is_clock_late stores base = is_late base || list_any (λ h. is_late h.state.store.last) stores
 
--- why a step of recorders is not begun, the first reason first: a store that is not ready; a first moment or a last storage time that
--- is too late; too few or too many sources
+-- whether there is at least one, and no more than the most
+abbrev pub is_count : ℕ → ℕ → Bool
+is_count count most = nat_le 1 count && nat_le count most
+
+-- why a step is not begun, where this is the first store that is not ready: that store; or else a first moment or a last storage time
+-- that is too late; or else too few or too many sources
+abbrev pub cause_by : List Held → ℕ → ℕ → Option Held → Option Cause
+cause_by stores base sources (Some h) = Some (NotReady h.id)
+cause_by stores base sources None =
+    if is_clock_late stores base then Some ClockTooLate
+    else if is_count sources MAX_SOURCES then None
+    else Some Counts
+
+-- why a step of recorders is not begun
 abbrev pub cause_before : List Held → ℕ → ℕ → Option Cause
-cause_before stores base sources = by_store (find (λ h. not (is_ready h)) stores)
-  where
-    by_store : Option Held → Option Cause
-    by_store (Some h) = Some (NotReady h.id)
-    by_store None =
-        if is_late base || list_any (λ h. is_late h.state.store.last) stores then Some ClockTooLate
-        else if is_miscounted sources then Some Counts
-        else None
+cause_before stores base sources = cause_by stores base sources (find (λ h. not (is_ready h)) stores)
 
--- why a step of recorders is ended: logs and lists do not agree, or a store refused an offer; or else there was no memory
-abbrev pub cause_in : ℕ → Bool → Option Fault → Option Cause
-cause_in step false broken = Some (LogMismatch step)
-cause_in step true None = None
-cause_in step true (Some fault.NoMemory) = Some (NoMemory step)
-cause_in step true (Some other) = Some (LogMismatch step)
+-- why a step of recorders is ended: a store refused an offer; or else there was no memory
+abbrev pub cause_in : ℕ → Option Fault → Option Cause
+cause_in step None = None
+cause_in step (Some fault.NoMemory) = Some (NoMemory step)
+cause_in step (Some other) = Some (LogMismatch step)

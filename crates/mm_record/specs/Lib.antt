@@ -1,9 +1,8 @@
-pub use Rattle.mm_crew.specs.Closings
-pub use Rattle.mm_crew.specs.Stations
+pub use Rattle.mm_shared.specs.Stores
 pub mod Causes
+pub mod Counters
 pub mod Recorded
 pub mod Offering
-pub mod Recorders
 pub mod Steps
-pub mod Rows
+pub mod Recorders
 pub mod MemorySteps

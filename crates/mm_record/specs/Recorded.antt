@@ -7,14 +7,24 @@ use Rattle.mm_packet.specs.Packet.{SpacePacket}
 use Rattle.mm_control.specs.Routes.{has_row}
 use Rattle.mm_desk.specs.declared.event.Event.{Event}
 use Rattle.mm_desk.specs.declared.event.Event.TheVariants.{Offer}
-use Rattle.mm_crew.specs.Stations.{id_at}
+use Rattle.mm_desk.specs.declared.held.Held.{Held}
+use Rattle.mm_shared.specs.declared.stores.NamedStore.{NamedStore}
+use Rattle.mm_shared.specs.Stores.{ids_of, id_at}
 
--- what all recorders of a step share: the step, its moment, the routes, and the identifiers of the stores
-pub record Errand : Type 0 where
+-- what all recorders of a step share: the step, the moment of its offers, the routes, and the identifiers of the stores
+pub record RecordingContext : Type 0 where
   pub step : ℕ
   pub now : ℕ
   pub routes : List RouteRow
   pub ids : List (List ℕ)
+
+-- the step over these stores
+abbrev pub recording : ℕ → ℕ → List RouteRow → List Held → RecordingContext
+recording step now routes stores = record { step = step; now = now; routes = routes; ids = map (λ h. h.id) stores }
+
+-- the step over these stores, which are open
+abbrev pub open_recording : ℕ → ℕ → List RouteRow → List NamedStore → RecordingContext
+open_recording step now routes stores = record { step = step; now = now; routes = routes; ids = ids_of stores }
 
 -- whether a packet goes into the store with an identifier: telemetry where the table has that row, and a telecommand never
 abbrev pub is_routed : List RouteRow → List ℕ → SpacePacket → Bool
@@ -24,6 +34,6 @@ is_routed routes id p = by_kind p.kind where
   by_kind (Telemetry counter destination time) =
       has_row (record { apid = p.header.apid; service = p.header.service; subtype = p.header.subtype; store = id }) routes
 
--- the offers of packets to the store at a place, in the order of the packets
-abbrev pub offers : Errand → ℕ → List SpacePacket → List Event
+-- the offers of packets to the store at an index, in the order of the packets
+abbrev pub offers : RecordingContext → ℕ → List SpacePacket → List Event
 offers e k ps = map (λ p. Offer e.now p) (filter (is_routed e.routes (id_at e.ids k)) ps)

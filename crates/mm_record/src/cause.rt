@@ -5,14 +5,13 @@ ghost use Rattle.mm_record.specs.Causes.{cause_in};
 use mm_desk::Fault;
 use mm_report::Cause;
 
-/// Why a step of recorders is ended, where it is: logs and lists that do not agree, or a store that refused an offer, come
-/// before want of memory.
-pub fn cause_in(step: u32, agree: bool, broken: Option<Fault>) -> Option<Cause>
-    ensures cause { result ≡ cause_in step agree broken }
+/// Why a step of recorders is ended, where recorders stopped early: a store that refused an offer comes before out of memory.
+pub fn cause_in(step: u32, why: Option<Fault>) -> Option<Cause>
+    ensures cause { result ≡ cause_in step why }
 {
-    match (agree, broken) {
-        (true, None) => None,
-        (true, Some(Fault::NoMemory)) => Some(Cause::NoMemory { step }),
-        _ => Some(Cause::LogMismatch { step }),
+    match why {
+        None => None,
+        Some(Fault::NoMemory) => Some(Cause::NoMemory { step }),
+        Some(_) => Some(Cause::LogMismatch { step }),
     }
 }

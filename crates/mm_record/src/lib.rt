@@ -1,18 +1,20 @@
-//! One step of recorders: each takes what its source gives, and offers it to stores under locks, in a thread of its own.
+//! Recorders: each takes what its source gives in a step, and offers it to the packet stores, in a thread of its own.
 #![tactic(auto)]
 
 mod cause;
+mod context;
+mod counters;
 mod memory_step;
 mod offering;
 mod readiness;
 mod recorder;
-mod round;
 mod source;
 mod step;
 
 pub use cause::cause_in;
+pub use counters::Counters;
 pub use memory_step::{RecordHalted, Recorded, RecordedStep, record_step};
 pub use mm_report::{Cause, LATEST_START, MAX_SOURCES};
-pub use readiness::{cause_before, is_late, is_ready};
+pub use readiness::{cause_before, is_clock_late, is_count, is_ready};
 pub use source::Source;
-pub use step::{NotBegun, Recording, record};
+pub use step::{RecordingStep, record};

@@ -1,15 +1,18 @@
 //! A step of recorders over all stores of a memory.
-ghost use Rattle.std.specs.Prelude.{◌≡◌, ◌+◌, ◌≤◌, [], None, Some, length, map, All, IfOk, IfErr, OnOk, vec_len, vec_capacity};
+ghost use Rattle.std.specs.Prelude.{◌≡◌, ◌≢◌, ◌+◌, ◌≤◌, [], None, Some, length, map, All, IfOk, IfErr, OnOk, vec_len, vec_capacity};
 ghost use Rattle.mm_desk.specs.Machine.{IsState};
+ghost use Rattle.mm_report.specs.declared.cause.Cause.TheVariants.{LogMismatch};
 ghost use Rattle.mm_report.specs.declared.cause.TheConstants.{MAX_SOURCES};
 ghost use Rattle.mm_record.specs.Causes.{cause_before};
-ghost use Rattle.mm_record.specs.MemorySteps.{errand_of, IsRecorded, IsRefused, Halts};
-ghost use Rattle.mm_record.specs.Rows.{counters_of, told, AreRows};
+ghost use Rattle.mm_record.specs.Counters.{counters_of, told, AreRows};
+ghost use Rattle.mm_record.specs.MemorySteps.{recording_of, IsRecorded, IsRefused, Halts};
+ghost use Rattle.mm_record.specs.Steps.{IsWithinLimits, TakesAll};
 
 use crate::cause::cause_in;
+use crate::counters::Counters;
 use crate::readiness::cause_before;
 use crate::source::Source;
-use crate::step::record;
+use crate::step::{RecordingStep, record};
 use mm_base::{NoMemory, StoreId};
 use mm_desk::Held;
 use mm_desk::laws::any_order_loses_alike;
@@ -41,13 +44,6 @@ pub struct RecordHalted<S: Drop> {
     pub sources: Vec<S>,
 }
 
-// The counters of a store.
-#[derive(Clone, Copy)]
-struct Counters {
-    offered: u64,
-    lost: u64,
-}
-
 // The counters of stores before a step, and room for what will be told of each.
 #[derive(Drop)]
 struct Rows {
@@ -55,32 +51,21 @@ struct Rows {
     recorded: Vec<Recorded>,
 }
 
-fn counters_of(held: &Held) -> Counters
-    ensures counters { result ≡ counters_of held.now }
-    ensures sound { IsState held.now.state }
-{
-    let _store = held.state.store();
-    Counters {
-        offered: held.state.offered(),
-        lost: held.state.lost(),
-    }
-}
-
 // The counters of each store.
 fn all_counters(alloc: Global, stores: &[Held]) -> Result<Vec<Counters>, NoMemory>
-    ensures counters { IfOk result (λ counters. counters.items ≡ map counters_of stores.now) }
+    ensures counters { IfOk result (λ counters. counters.items ≡ map (λ h. counters_of h.state) stores.now) }
     ensures sound { OnOk result (All (λ h. IsState h.state) stores.now) }
 {
     let mut counters = Vec::new(alloc);
     for held in stores {
-        counters.push(counters_of(held))?;
+        counters.push(Counters::of(&held.state))?;
     }
     Ok(counters)
 }
 
 // The counters of stores, and room for a row for each.
 fn new_rows(alloc: Global, stores: &[Held]) -> Result<Rows, NoMemory>
-    ensures before { IfOk result (λ rows. rows.before.items ≡ map counters_of stores.now) }
+    ensures before { IfOk result (λ rows. rows.before.items ≡ map (λ h. counters_of h.state) stores.now) }
     ensures sound { OnOk result (All (λ h. IsState h.state) stores.now) }
     ensures recorded { IfOk result (λ rows. (rows.recorded.items ≡ []) × (length stores.now ≤ vec_capacity rows.recorded)) }
 {
@@ -89,15 +74,15 @@ fn new_rows(alloc: Global, stores: &[Held]) -> Result<Rows, NoMemory>
     Ok(Rows { before, recorded })
 }
 
-// What a step has recorded into a store with these counters before it. Counters never fall.
+// What a step has recorded into a store with these counters before it.
 fn told(before: Counters, held: &Held) -> Recorded
     ensures { result ≡ told before held.now }
 {
-    let after = counters_of(held);
+    let rise = Counters::of(&held.state).since(before);
     Recorded {
         store: held.id,
-        came: after.offered.saturating_sub(before.offered),
-        lost: after.lost.saturating_sub(before.lost),
+        came: rise.offered,
+        lost: rise.lost,
     }
 }
 
@@ -109,51 +94,52 @@ fn told_all(rows: Rows, stores: &[Held]) -> Vec<Recorded>
 {
     let Rows { before, recorded } = rows;
     let mut recorded = recorded;
-    for place in 0..stores.len() {
-        recorded.push_reserved(told(before[place], &stores[place]));
+    for index in 0..stores.len() {
+        recorded.push_reserved(told(before[index], &stores[index]));
     }
     recorded
 }
 
 // Records a step over the stores of a memory that can take part in it.
-fn record_ready<S: Source + Send + Drop, R: Threads + Wait + Sync>(
+fn record_ready<S: Source + Send, R: Threads + Wait + Sync>(
     rt: &R,
     alloc: Global,
     memory: &mut Memory,
     step: u32,
     now: u64,
-    sources: Vec<S>,
-) -> Result<RecordedStep<S>, RecordHalted<S>>
-    requires many { vec_len sources ≤ MAX_SOURCES }
-    ensures ok { IfOk result (λ done. IsRecorded S.gives (errand_of step now memory.old) memory.old memory.new sources.items done) }
-    ensures err { IfErr result (λ halted. Halts S.gives (errand_of step now memory.old) memory.old memory.new sources.items halted) }
+    sources: &mut [S],
+) -> Result<Vec<Recorded>, Cause>
+    requires many { length sources.old ≤ MAX_SOURCES }
+    ensures ok { IfOk result (λ told. IsRecorded S.gives (recording_of step now memory.old) memory.old memory.new sources.old sources.new told.items) }
+    ensures err { IfErr result (Halts S.gives (recording_of step now memory.old) memory.old memory.new sources.old sources.new) }
+    ensures none_refused { TakesAll S.gives (recording_of step now memory.old) memory.old.stores sources.old → IfErr result (λ cause. cause ≢ LogMismatch step) }
 {
     let Ok(rows) = new_rows(alloc, memory.stores()) else {
-        let cause = Cause::NoMemory { step };
-        return Err(RecordHalted { cause, sources });
+        return Err(Cause::NoMemory { step });
     };
-    let stores = memory.lift();
-    let left = match record(rt, alloc, memory.control(), step, now, stores, sources) {
-        Ok(left) => left,
-        Err(back) => {
-            memory.restore(back.stores);
-            let cause = Cause::NoMemory { step };
-            let sources = back.sources;
-            return Err(RecordHalted { cause, sources });
-        }
+    let mut stores = memory.lift();
+    let context = RecordingStep {
+        control: memory.control(),
+        step,
+        now,
     };
+    let done = record(rt, alloc, &context, &mut stores, sources);
     any_order_loses_alike();
-    let recorded = told_all(rows, &left.stores);
-    memory.restore(left.stores);
-    let sources = left.sources;
-    match cause_in(step, left.agree, left.broken) {
-        None => Ok(RecordedStep { recorded, sources }),
-        Some(cause) => Err(RecordHalted { cause, sources }),
+    let recorded = told_all(rows, &stores);
+    memory.restore(stores);
+    let Ok(why) = done else {
+        return Err(Cause::NoMemory { step });
+    };
+    match cause_in(step, why) {
+        None => Ok(recorded),
+        Some(cause) => Err(cause),
     }
 }
 
 /// Records a step over all stores of a memory: each source's packets of the step are taken by a recorder of its own, in a
 /// thread where one can be made, which offers a copy of each at `base + step` to the stores that its report type is routed to.
+/// Where each source gives at most 65,535 packets in the step and no store was offered more than 2^63 packets before, the cause
+/// of a halt is never `LogMismatch`.
 pub fn record_step<S: Source + Send + Drop, R: Threads + Wait + Sync>(
     rt: &R,
     alloc: Global,
@@ -164,12 +150,17 @@ pub fn record_step<S: Source + Send + Drop, R: Threads + Wait + Sync>(
 ) -> Result<RecordedStep<S>, RecordHalted<S>>
     ensures refused { (cause : Cause) → cause_before memory.old.stores base (vec_len sources) ≡ Some cause
         → IsRefused cause memory.old memory.new sources.items result }
-    ensures ok { IfOk result (λ done. IsRecorded S.gives (errand_of step (base + step) memory.old) memory.old memory.new sources.items done) }
+    ensures ok { IfOk result (λ done. IsRecorded S.gives (recording_of step (base + step) memory.old) memory.old memory.new sources.items done.sources.items done.recorded.items) }
     ensures err { cause_before memory.old.stores base (vec_len sources) ≡ None
-        → IfErr result (λ halted. Halts S.gives (errand_of step (base + step) memory.old) memory.old memory.new sources.items halted) }
+        → IfErr result (λ halted. Halts S.gives (recording_of step (base + step) memory.old) memory.old memory.new sources.items halted.sources.items halted.cause) }
+    ensures none_refused { IsWithinLimits S.gives step memory.old.stores sources.items → IfErr result (λ halted. halted.cause ≢ LogMismatch step) }
 {
+    let mut sources = sources;
     if let Some(cause) = cause_before(memory.stores(), base, sources.len()) {
         return Err(RecordHalted { cause, sources });
     }
-    record_ready(rt, alloc, memory, step, base + step as u64, sources)
+    match record_ready(rt, alloc, memory, step, base + step as u64, &mut sources) {
+        Ok(recorded) => Ok(RecordedStep { recorded, sources }),
+        Err(cause) => Err(RecordHalted { cause, sources }),
+    }
 }

@@ -1,8 +1,8 @@
-//! What is tested before a step of recorders is begun. Nothing here takes memory.
+//! What is tested before recorders begin. Nothing here takes memory.
 ghost use Rattle.std.specs.Prelude.{◌≡◌, not, find};
 ghost use Rattle.std.specs.List.{list_any};
 ghost use Rattle.std.specs.Option.{option_copied};
-ghost use Rattle.mm_record.specs.Causes.{is_ready, is_late, is_miscounted, cause_before};
+ghost use Rattle.mm_record.specs.Causes.{is_ready, is_late, is_clock_late, is_count, cause_before};
 
 use mm_desk::Held;
 use mm_report::{Cause, LATEST_START, MAX_SOURCES};
@@ -15,25 +15,11 @@ pub fn is_ready(held: &Held) -> bool
     held.state.storage() && held.state.retrieval().is_none()
 }
 
-/// Whether a moment is too late for the start of a run.
-pub fn is_late(moment: u64) -> bool
-    ensures late { result ≡ is_late moment }
+// Whether a moment is too late for the start of a run.
+fn is_late(moment: u64) -> bool
+    ensures { result ≡ is_late moment }
 {
     moment > LATEST_START
-}
-
-// Whether there are too few or too many sources.
-fn is_miscounted(sources: usize) -> bool
-    ensures { result ≡ is_miscounted sources }
-{
-    sources < 1 || sources > MAX_SOURCES
-}
-
-// The first store that cannot take part in a step.
-fn not_ready(stores: &[Held]) -> Option<&Held>
-    ensures { option_copied result ≡ find (λ h. not (is_ready h)) stores.now }
-{
-    stores.iter().find(|held| !is_ready(held))
 }
 
 // Whether the last storage time of a store is too late.
@@ -45,6 +31,27 @@ fn any_late(stores: &[Held]) -> bool
         .any(|held| is_late(held.state.store().last_time()))
 }
 
+/// Whether the moment before the first step of a run, or the last storage time of a store, is too late.
+pub fn is_clock_late(stores: &[Held], base: u64) -> bool
+    ensures late { result ≡ is_clock_late stores.now base }
+{
+    is_late(base) || any_late(stores)
+}
+
+/// Whether there is at least one, and no more than the most.
+pub fn is_count(count: usize, most: usize) -> bool
+    ensures count { result ≡ is_count count most }
+{
+    1 <= count && count <= most
+}
+
+// The first store that cannot take part in a step.
+fn not_ready(stores: &[Held]) -> Option<&Held>
+    ensures { option_copied result ≡ find (λ h. not (is_ready h)) stores.now }
+{
+    stores.iter().find(|held| !is_ready(held))
+}
+
 /// Why a step of recorders over these stores, with this many sources, is not begun.
 pub fn cause_before(stores: &[Held], base: u64, sources: usize) -> Option<Cause>
     ensures cause { result ≡ cause_before stores.now base sources }
@@ -52,10 +59,10 @@ pub fn cause_before(stores: &[Held], base: u64, sources: usize) -> Option<Cause>
     if let Some(held) = not_ready(stores) {
         return Some(Cause::NotReady { store: held.id });
     }
-    if is_late(base) || any_late(stores) {
+    if is_clock_late(stores, base) {
         return Some(Cause::ClockTooLate);
     }
-    if is_miscounted(sources) {
+    if !is_count(sources, MAX_SOURCES) {
         return Some(Cause::Counts);
     }
     None

@@ -1,77 +1,122 @@
 //! Recorders: each takes what its source gives in a step, and offers it.
-ghost use Rattle.std.specs.Prelude.{◌≡◌, is_err, is_some, is_none, vec_len, vec_capacity};
-ghost use Rattle.std.specs.Thread.{IsSync};
-ghost use Rattle.mm_crew.specs.Stations.{ids_of, AreNamed};
-ghost use Rattle.mm_record.specs.Recorders.{errand, AreFresh, Ran, AllFresh, AllRan};
+ghost use Rattle.std.specs.Prelude.{◌≡◌, ◌<◌, length};
+ghost use Rattle.std.specs.Result.{result_err};
+ghost use Rattle.std.specs.Thread.{IsSync, IsSend};
+ghost use Rattle.mm_shared.specs.Stores.{ids_of, ends_of, all_ends, AreNamed, IsFresh};
+ghost use Rattle.mm_record.specs.Offering.{AreAt};
+ghost use Rattle.mm_record.specs.Recorded.{open_recording};
+ghost use Rattle.mm_record.specs.Recorders.{HasRun, MayRecord, HaveRun, is_worse};
 
+use crate::context::StepContext;
 use crate::offering::offer_packet;
-use crate::round::Round;
 use crate::source::Source;
-use mm_crew::Worker;
-use mm_desk::{Fault, Opening, Seat};
+use mm_desk::Fault;
+use mm_shared::{Line, Lines};
 use std::sync::Wait;
-use std::thread::{Threads, join};
-
-// A recorder: a worker with a source of its own, which breaks off where a packet cannot be offered.
-pub(crate) type Recorder<N, S> = Worker<N, S, Fault>;
+use std::thread::{Threads, join_mut};
 
 // Records what a source gives in a step.
-fn record<N: Opening, S: Source, R: Wait>(
-    round: &Round<'_, N, R>,
+fn record_source<S: Source, R: Wait>(
+    context: &StepContext<'_, R>,
     source: &mut S,
-    seats: &mut [Seat<N>],
+    lines: &mut [Line],
 ) -> Result<(), Fault>
-    requires named { AreNamed (ids_of round.now.stations.now) }
-    requires fresh { AreFresh (errand round.now.step round.now.moment round.now.control.now round.now.stations.now) seats.old }
-    ensures ran { Ran (errand round.now.step round.now.moment round.now.control.now round.now.stations.now) (S.gives source.old) (S.gives source.new) (is_err result) seats.new }
+    requires named { AreNamed (ids_of context.now.stores.now) }
+    requires at { AreAt context.now.stores.now (ends_of lines.old) }
+    requires fresh { IsFresh lines.old }
+    ensures run { HasRun (open_recording context.now.step context.now.moment context.now.control.now context.now.stores.now) (S.gives source.old) (S.gives source.new) (result_err result) lines.new }
+    ensures ends { ends_of lines.new ≡ ends_of lines.old }
 {
-    while let Some(packet) = source.next(round.step) {
-        offer_packet(round, seats, packet)?;
+    while let Some(packet) = source.next(context.step) {
+        offer_packet(context, lines, packet)?;
     }
     Ok(())
 }
 
-// Lets a recorder run.
-fn run<N: Opening, S: Source + Drop, R: Wait>(
-    round: &Round<'_, N, R>,
-    recorder: Recorder<N, S>,
-) -> Recorder<N, S>
-    requires named { AreNamed (ids_of round.now.stations.now) }
-    requires fresh { AreFresh (errand round.now.step round.now.moment round.now.control.now round.now.stations.now) recorder.seats.items }
-    ensures ran { Ran (errand round.now.step round.now.moment round.now.control.now round.now.stations.now) (S.gives recorder.own) (S.gives result.own) (is_some result.broken) result.seats.items }
+// Why recorders stopped early, of two reasons: out of memory only where neither stopped for another reason.
+fn worse(first: Option<Fault>, second: Option<Fault>) -> Option<Fault>
+    ensures { result ≡ is_worse first second }
 {
-    let mut recorder = recorder;
-    recorder.broken = record(round, &mut recorder.own, &mut recorder.seats).err();
-    recorder
+    match first {
+        None => second,
+        Some(Fault::NoMemory) => second.or(first),
+        Some(_) => first,
+    }
 }
 
-// Lets recorders run, each in a thread of its own where one can be made.
-pub(crate) fn record_all<
-    N: Opening + Send + Sync,
-    S: Source + Send + Drop,
-    R: Threads + Wait + Sync,
->(round: &Round<'_, N, R>, recorders: Vec<Recorder<N, S>>) -> Vec<Recorder<N, S>>
-    requires named { AreNamed (ids_of round.now.stations.now) }
-    requires fresh { AllFresh (errand round.now.step round.now.moment round.now.control.now round.now.stations.now) recorders.items }
-    ensures ran { AllRan S.gives (errand round.now.step round.now.moment round.now.control.now round.now.stations.now) recorders.items result.items }
-    ensures len { vec_len result ≡ vec_len recorders }
-    ensures capacity { vec_capacity result ≡ vec_capacity recorders }
+// Lets the recorder of one source run.
+fn record_one<S: Source, R: Wait>(
+    context: &StepContext<'_, R>,
+    sources: &mut [S],
+    workers: &mut [Lines],
+) -> Option<Fault>
+    requires named { AreNamed (ids_of context.now.stores.now) }
+    requires may { MayRecord context.now.stores.now sources.old workers.old }
+    requires one { length sources.old ≡ 1 }
+    ensures run { HaveRun S.gives (open_recording context.now.step context.now.moment context.now.control.now context.now.stores.now) sources.old sources.new workers.new result }
+    ensures ends { all_ends workers.new ≡ all_ends workers.old }
 {
-    let mut recorders = recorders;
-    let Some(one) = recorders.pop() else {
-        return recorders;
-    };
-    let (one, mut all) = join(
-        round.rt,
-        move || -> Recorder<N, S>
-            requires { AreNamed (ids_of round.now.stations.now) × AreFresh (errand round.now.step round.now.moment round.now.control.now round.now.stations.now) one.seats.items }
-            ensures { Ran (errand round.entry.now.step round.entry.now.moment round.entry.now.control.now round.entry.now.stations.now) (S.gives one.own) (S.gives result.own) (is_some result.broken) result.seats.items }
-        { run(round, one) },
-        move || -> Vec<Recorder<N, S>>
-            requires { IsSync R.row × AreNamed (ids_of round.now.stations.now) × AllFresh (errand round.now.step round.now.moment round.now.control.now round.now.stations.now) recorders.items }
-            ensures { AllRan S.gives (errand round.entry.now.step round.entry.now.moment round.entry.now.control.now round.entry.now.stations.now) recorders.items result.items × (vec_len result ≡ vec_len recorders) × (vec_capacity result ≡ vec_capacity recorders) }
-        { record_all(round, recorders) },
+    record_source(context, &mut sources[0], &mut workers[0].lines).err()
+}
+
+// Lets recorders run, each in a thread of its own where one can be made, and tells why they stopped early, where some did.
+#[cycle(recorders)]
+pub(crate) fn record_all<S: Source + Send, R: Threads + Wait + Sync>(
+    context: &StepContext<'_, R>,
+    sources: &mut [S],
+    workers: &mut [Lines],
+) -> Option<Fault>
+    requires named { AreNamed (ids_of context.now.stores.now) }
+    requires may { MayRecord context.now.stores.now sources.old workers.old }
+    ensures run { HaveRun S.gives (open_recording context.now.step context.now.moment context.now.control.now context.now.stores.now) sources.old sources.new workers.new result }
+    ensures ends { all_ends workers.new ≡ all_ends workers.old }
+{
+    if sources.is_empty() {
+        return None;
+    }
+    if sources.len() == 1 {
+        return record_one(context, sources, workers);
+    }
+    let half = sources.len() / 2;
+    let (low_sources, high_sources) = sources.split_at_mut(half);
+    let (low_workers, high_workers) = workers.split_at_mut(half);
+    let (first, second) = record_halves(
+        context,
+        low_sources,
+        low_workers,
+        high_sources,
+        high_workers,
     );
-    all.push_reserved(one);
-    all
+    worse(first, second)
+}
+
+// Lets the recorders of two halves run, each half in a thread of its own where one can be made, and tells why some of each stopped
+// early.
+#[cycle(recorders)]
+fn record_halves<S: Source + Send, R: Threads + Wait + Sync>(
+    context: &StepContext<'_, R>,
+    low_sources: &mut [S],
+    low_workers: &mut [Lines],
+    high_sources: &mut [S],
+    high_workers: &mut [Lines],
+) -> (Option<Fault>, Option<Fault>)
+    requires named { AreNamed (ids_of context.now.stores.now) }
+    requires low { MayRecord context.now.stores.now low_sources.old low_workers.old }
+    requires high { MayRecord context.now.stores.now high_sources.old high_workers.old }
+    requires some_low { 0 < length low_sources.old }
+    requires some_high { 0 < length high_sources.old }
+    ensures low { HaveRun S.gives (open_recording context.now.step context.now.moment context.now.control.now context.now.stores.now) low_sources.old low_sources.new low_workers.new result.0 }
+    ensures high { HaveRun S.gives (open_recording context.now.step context.now.moment context.now.control.now context.now.stores.now) high_sources.old high_sources.new high_workers.new result.1 }
+    ensures low_ends { all_ends low_workers.new ≡ all_ends low_workers.old }
+    ensures high_ends { all_ends high_workers.new ≡ all_ends high_workers.old }
+{
+    let mut low = || -> Option<Fault>
+        requires { IsSync R.row × IsSend S.row × AreNamed (ids_of context.now.stores.now) × MayRecord context.now.stores.now low_sources.now low_workers.now }
+        ensures { HaveRun S.gives (open_recording context.entry.now.step context.entry.now.moment context.entry.now.control.now context.entry.now.stores.now) low_sources.entry.now low_sources.exit.now low_workers.exit.now result × (all_ends low_workers.exit.now ≡ all_ends low_workers.entry.now) }
+    { record_all(context, low_sources, low_workers) };
+    let mut high = || -> Option<Fault>
+        requires { IsSync R.row × IsSend S.row × AreNamed (ids_of context.now.stores.now) × MayRecord context.now.stores.now high_sources.now high_workers.now }
+        ensures { HaveRun S.gives (open_recording context.entry.now.step context.entry.now.moment context.entry.now.control.now context.entry.now.stores.now) high_sources.entry.now high_sources.exit.now high_workers.exit.now result × (all_ends high_workers.exit.now ≡ all_ends high_workers.entry.now) }
+    { record_all(context, high_sources, high_workers) };
+    join_mut(context.rt, &mut low, &mut high)
 }

@@ -1,149 +1,59 @@
 //! A step of recorders: each in a thread of its own where one can be made, over any number of stores.
-ghost use Rattle.std.specs.Prelude.{◌≡◌, ◌≤◌, [], map, IfOk, IfErr, vec_len, vec_capacity};
+ghost use Rattle.std.specs.Prelude.{◌≡◌, ◌≤◌, length, IfOk, OnErr, vec_len};
 ghost use Rattle.mm_base.specs.declared.limits.TheConstants.{MAX_STORES};
 ghost use Rattle.mm_desk.specs.declared.desk.TheConstants.{MAX_SEATS};
-ghost use Rattle.mm_crew.specs.Closings.{states_of};
-ghost use Rattle.mm_crew.specs.Crews.{AreSeatings};
-ghost use Rattle.mm_crew.specs.Stations.{AreNamed};
-ghost use Rattle.mm_record.specs.Steps.{step_errand, IsWhy, Records};
+ghost use Rattle.mm_shared.specs.Stores.{labels_of, AreNamed};
+ghost use Rattle.mm_record.specs.Recorded.{recording};
+ghost use Rattle.mm_record.specs.Steps.{Records};
 
-use crate::recorder::{Recorder, record_all};
-use crate::round::{Round, Task};
+use crate::context::StepContext;
+use crate::recorder::record_all;
 use crate::source::Source;
+use mm_base::NoMemory;
 use mm_control::ControlTable;
-use mm_crew::{Rooms, close_all, new_rooms, open_all, pair_all, part_all};
-use mm_desk::{Fault, Held, Opening};
+use mm_desk::{Fault, Held};
+use mm_shared::{close_all, open_all};
 use std::alloc::Global;
-use std::marker::Brand;
 use std::sync::Wait;
 use std::thread::Threads;
 
-/// What a step of recorders leaves: its stores and its sources, why recorders broke off where some did (want of memory only
-/// where none broke off for another reason), and whether each store's log is a shuffle of the lists that the recorders kept.
+/// A step of recorders: by which routes packets go, which step it is, and the moment at which all is offered, in ticks.
 #[derive(Drop)]
-pub struct Recording<S: Drop> {
-    pub stores: Vec<Held>,
-    pub sources: Vec<S>,
-    pub broken: Option<Fault>,
-    pub agree: bool,
+pub struct RecordingStep<'a> {
+    pub control: &'a ControlTable,
+    pub step: u32,
+    pub now: u64,
 }
 
-/// The stores and the sources of a step for which there was no memory, as they were.
-#[derive(Drop)]
-pub struct NotBegun<S: Drop> {
-    pub stores: Vec<Held>,
-    pub sources: Vec<S>,
-}
-
-// Why recorders broke off: want of memory only where none broke off for another reason.
-fn why_broken<N: Opening, S: Drop>(recorders: &[Recorder<N, S>]) -> Option<Fault>
-    ensures why { IsWhy (map (λ r. r.broken) recorders.now) result }
-{
-    let mut lack = None;
-    for recorder in recorders {
-        match recorder.broken {
-            None => {}
-            Some(Fault::NoMemory) => lack = Some(Fault::NoMemory),
-            Some(fault) => return Some(fault),
-        }
-    }
-    lack
-}
-
-// Records a step in rooms made for it.
-fn record_in<N: Opening + Send + Sync, S: Source + Send + Drop, R: Threads + Wait + Sync>(
-    rooms: Rooms<N, S, Fault>,
+/// Records a step: each source's packets of the step are taken by a recorder of its own, which offers a copy of each, at the
+/// step's moment, to the stores that its report type is routed to. The answer is why recorders stopped early, where some did: out
+/// of memory only where none stopped for another reason. Where there is no memory to begin, stores and sources are as before.
+pub fn record<S: Source + Send, R: Threads + Wait + Sync>(
     rt: &R,
     alloc: Global,
-    task: &Task<'_>,
-    stores: Vec<Held>,
-    sources: Vec<S>,
-) -> Recording<S>
-    requires few { vec_len stores ≤ MAX_STORES }
-    requires many { vec_len sources ≤ MAX_SEATS }
-    requires named { AreNamed (step_errand task.now.step task.now.moment task.now.control.now stores.items).ids }
-    requires states { N.states ≡ states_of stores.items }
-    requires seated { vec_len rooms.seatings ≡ vec_len sources }
-    requires seats { AreSeatings (vec_len stores) rooms.seatings.items }
-    requires recorders { (rooms.workers.items ≡ []) × (vec_len sources ≤ vec_capacity rooms.workers) }
-    requires stations { (rooms.stations.items ≡ []) × (vec_len stores ≤ vec_capacity rooms.stations) }
-    ensures records { Records S.gives (step_errand task.now.step task.now.moment task.now.control.now stores.items) stores.items sources.items result }
+    step: &RecordingStep<'_>,
+    stores: &mut Vec<Held>,
+    sources: &mut [S],
+) -> Result<Option<Fault>, NoMemory>
+    requires few { vec_len stores.old ≤ MAX_STORES }
+    requires many { length sources.old ≤ MAX_SEATS }
+    requires named { AreNamed (recording step.now.step step.now.now step.now.control.now stores.old.items).ids }
+    ensures records { IfOk result (Records S.gives (recording step.entry.now.step step.entry.now.now step.entry.now.control.now stores.old.items)
+        stores.old.items stores.new.items sources.old sources.new) }
+    ensures labels { labels_of stores.new.items ≡ labels_of stores.old.items }
+    ensures stores { OnErr result (stores.new.items ≡ stores.old.items) }
+    ensures sources { OnErr result (sources.new ≡ sources.old) }
 {
-    let Rooms {
-        seatings,
-        workers,
-        stations,
-    } = rooms;
-    let seats = sources.len() as u32;
-    let (stations, stores) = open_all(alloc, stores, stations, seats);
-    let (recorders, sources) = pair_all(sources, seatings, workers);
-    let recorders = record_all(
-        &Round {
-            rt,
-            alloc,
-            stations: &stations,
-            control: task.control,
-            step: task.step,
-            moment: task.moment,
-        },
-        recorders,
-    );
-    let (stores, agree) = close_all(stations, &recorders, stores);
-    let broken = why_broken(&recorders);
-    let sources = part_all(recorders, sources);
-    Recording {
-        stores,
-        sources,
-        broken,
-        agree,
-    }
-}
-
-// Records a step, where there is memory for it.
-fn record_as<N: Opening + Send + Sync, S: Source + Send + Drop, R: Threads + Wait + Sync>(
-    rt: &R,
-    alloc: Global,
-    task: &Task<'_>,
-    stores: Vec<Held>,
-    sources: Vec<S>,
-) -> Result<Recording<S>, NotBegun<S>>
-    requires few { vec_len stores ≤ MAX_STORES }
-    requires many { vec_len sources ≤ MAX_SEATS }
-    requires named { AreNamed (step_errand task.now.step task.now.moment task.now.control.now stores.items).ids }
-    requires states { N.states ≡ states_of stores.items }
-    ensures records { IfOk result
-        (λ left. Records S.gives (step_errand task.now.step task.now.moment task.now.control.now stores.items) stores.items sources.items left) }
-    ensures err { IfErr result (λ back. (back.stores ≡ stores) × (back.sources ≡ sources)) }
-{
-    match new_rooms(alloc, stores.len() as u32, sources.len() as u32) {
-        Ok(rooms) => Ok(record_in::<N, S, R>(rooms, rt, alloc, task, stores, sources)),
-        Err(_) => Err(NotBegun { stores, sources }),
-    }
-}
-
-/// Records a step: each source's packets of the step are taken by a recorder of its own, which offers a copy of each, at this
-/// moment, to the stores that its report type is routed to. Where there is no memory for seats, recorders and desks, nothing
-/// is begun.
-pub fn record<S: Source + Send + Drop, R: Threads + Wait + Sync>(
-    rt: &R,
-    alloc: Global,
-    control: &ControlTable,
-    step: u32,
-    now: u64,
-    stores: Vec<Held>,
-    sources: Vec<S>,
-) -> Result<Recording<S>, NotBegun<S>>
-    requires few { vec_len stores ≤ MAX_STORES }
-    requires many { vec_len sources ≤ MAX_SEATS }
-    requires named { AreNamed (step_errand step now control.now stores.items).ids }
-    ensures records { IfOk result
-        (λ left. Records S.gives (step_errand step now control.now stores.items) stores.items sources.items left) }
-    ensures err { IfErr result (λ back. (back.stores ≡ stores) × (back.sources ≡ sources)) }
-{
-    let task = Task {
-        control,
-        step,
-        moment: now,
+    let mut open = open_all(alloc, stores, sources.len() as u32)?;
+    let context = StepContext {
+        rt,
+        alloc,
+        stores: &open.stores,
+        control: step.control,
+        step: step.step,
+        moment: step.now,
     };
-    record_as::<Brand, S, R>(rt, alloc, &task, stores, sources)
+    let why = record_all(&context, sources, &mut open.workers);
+    close_all(open, stores);
+    Ok(why)
 }

@@ -60,9 +60,13 @@ All-parts P seats (e ∷ es) below parts =
     rest seat (inl mine) all = All-tail P e (part seat es) (rw mine.0 at all)
     rest seat (inr other) all = rw other.0 at all
 
--- a log that is a shuffle of offers whose moments fit has moments that fit
+-- what holds of each event of some lists holds of a log that is a shuffle of them
+pub shuffled : (P : Event → Type 0) (lists : List (List Event)) (log : List Entry) → IsShuffleOfEvents lists log → All (λ list. All P list) lists → All (λ e. P e.event) log
+shuffled P lists log shuffle all =
+    All-parts (λ (e : Entry). P e.event) (length lists) log shuffle.below
+    (λ seat within. All-unmapped P (λ (e : Entry). e.event) (part seat log)
+    (subst (All P) (sym (shuffle.parts seat within)) (all seat [] within)))
+
+-- so do moments that fit
 pub timed_log : (lists : List (List Event)) (log : List Entry) → IsShuffleOfEvents lists log → AreTimed lists → All (λ e. HasTimes e.event) log
-timed_log lists log shuffle timed =
-    All-parts (λ (e : Entry). HasTimes e.event) (length lists) log shuffle.below
-    (λ seat within. All-unmapped HasTimes (λ (e : Entry). e.event) (part seat log)
-    (subst (All HasTimes) (sym (shuffle.parts seat within)) (timed seat [] within)))
+timed_log lists log shuffle timed = shuffled HasTimes lists log shuffle timed

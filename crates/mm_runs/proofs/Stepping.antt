@@ -1,8 +1,8 @@
 -- What a step run leaves, and what a run over many steps does.
-use Rattle.std.proofs.Common.{◌≡◌, ◌⊎◌, inl, inr, ℕ, zero, suc, ◌+◌, ◌-◌, ◌<◌, ◌≤◌, ◌^◌, min, Bool, true, false, cond, ltb, List, [], ◌∷◌, ◌++◌, length, All, refl, sym, ap, subst, ◌∙◌, arith, length-append}
+use Rattle.std.proofs.Common.{◌≡◌, ◌⊎◌, inl, inr, ℕ, zero, suc, ◌+◌, ◌-◌, ◌<◌, ◌≤◌, ◌^◌, min, max, Bool, true, false, cond, ltb, List, [], ◌∷◌, ◌++◌, length, All, refl, sym, ap, subst, ◌∙◌, arith, length-append}
 use Rattle.std.specs.Prelude.{None, Ok, Some}
 use Rattle.std.proofs.lemmas.Bool.{cases_lt}
-use Rattle.std.proofs.lemmas.List.Elements.{All-nil, All-cons, All-head, All-tail, All-append}
+use Rattle.std.proofs.lemmas.List.Elements.{All-nil, All-cons, All-head, All-tail, All-append, All-weaker}
 use Rattle.mm_problem.specs.Dumping.{Dumping, size, arrivals}
 use Rattle.mm_plan.specs.Volumes.{Amounts, left, written, lost}
 use Rattle.mm_plan.proofs.Steps.{left_step, left_start}
@@ -10,17 +10,19 @@ use Rattle.mm_store.specs.declared.stored.Stored.{Stored}
 use Rattle.mm_store.specs.Content.{clock_end}
 use Rattle.mm_desk.specs.declared.entry.Entry.{Entry}
 use Rattle.mm_desk.specs.declared.event.Event.{Event}
-use Rattle.mm_desk.specs.declared.event.Event.TheVariants.{Next, Abort, Delete}
+use Rattle.mm_desk.specs.declared.event.Event.TheVariants.{Offer, Begin, Next, Abort, Delete, Enable, Disable}
 use Rattle.mm_desk.specs.declared.reply.Reply.TheVariants as reply
 use Rattle.mm_desk.specs.Laws.{HasTimes, ReplaysKeepStates, OffersLeave, OrdersDumpTheOldest}
 use Rattle.mm_desk.specs.Machine.{State, IsState}
 use Rattle.mm_desk.specs.Offers.{Leaves, count_of}
 use Rattle.mm_desk.specs.Orders.{begun, given, ended, last_time, removed, IsOrderOf, Dumps}
 use Rattle.mm_desk.specs.Runs.{IsRun, entry, replay}
-use Rattle.mm_runs.specs.StepRuns.{IsDumpOf, IsStepRun, AreTimed}
+use Rattle.mm_desk.proofs.Counting.{count_of_shuffle}
+use Rattle.mm_runs.specs.StepRuns.{IsDumpOf, IsStepRun, AreTimed, IsBy}
 use Rattle.mm_runs.specs.Numbers.{AtEach, AsPlanned}
-use Rattle.mm_runs.specs.Laws.{IsRunOf, StepRunsKeepStates}
-use Rattle.mm_runs.proofs.Replays.{IsLegal-parts, replay-append, All-front, timed_log}
+use Rattle.mm_runs.specs.Laws.{IsRunOf, StepRunsKeepStores}
+use Rattle.mm_runs.proofs.Replays.{IsLegal-parts, replay-append, All-front, shuffled, timed_log}
+use Rattle.mm_runs.proofs.Times.{log_last}
 
 -- the time of the packet given last is no later than that of any
 last_time_within : (end time : ℕ) (gave : List Stored) → time ≤ end → All (λ p. p.time ≤ end) gave → last_time time gave ≤ end
@@ -78,6 +80,7 @@ record StepLeaves (s t : State) (n wanted : ℕ) : Type 0 where
   loses : t.lost ≡ s.lost + (length s.store.content + n - filled s n)
   dumps : t.deleted ≡ s.deleted + min wanted (filled s n)
   retrieval : t.retrieval ≡ s.retrieval
+  storage : t.storage ≡ s.storage
 
 module _ (leave : OffersLeave) (keep : ReplaysKeepStates) (dump : OrdersDumpTheOldest) where
   -- a whole order after the offers
@@ -100,6 +103,7 @@ module _ (leave : OffersLeave) (keep : ReplaysKeepStates) (dump : OrdersDumpTheO
         loses = ap (λ (u : State). u.lost) dumps.others ∙ came.lost;
         dumps = ap (λ (u : State). u.deleted) dumps.others ∙ omega (arith, dumps.many, came.volume, came.deleted);
         retrieval = ap (λ (u : State). u.retrieval) dumps.others ∙ came.retrieval;
+        storage = ap (λ (u : State). u.storage) dumps.others ∙ came.storage;
       }
     where
       by_last : (last time : ℕ) → last < 2 ^ 64 → time ≤ last → time ≤ clock_end
@@ -126,6 +130,7 @@ module _ (leave : OffersLeave) (keep : ReplaysKeepStates) (dump : OrdersDumpTheO
             loses = came.lost;
             dumps = omega (arith, came.deleted);
             retrieval = came.retrieval;
+            storage = came.storage;
           })
 
   -- a step run
@@ -139,11 +144,50 @@ module _ (leave : OffersLeave) (keep : ReplaysKeepStates) (dump : OrdersDumpTheO
       let came = leave s mid offers is.recorded sound.store.within sound.store.has_room first is.shuffle is.taken in
       dump_leaves s mid t (count_of offers) wanted gave is.dumped (keep s is.recorded sound (timed_log offers is.recorded is.shuffle timed)) came is.dump second
 
-  -- a step run leaves a state, and the retrieval as it was
-  pub keeps_state : StepRunsKeepStates
-  keeps_state s t offers wanted gave sound timed is =
+  -- a dump leaves the last time
+  dump_last : (mid t : State) (wanted : ℕ) (gave : List Stored) (calls : List Entry) → IsState mid → IsDumpOf wanted gave calls → IsRun mid calls t → t.store.last ≡ mid.store.last
+  dump_last mid t wanted gave calls sound is run = by_wanted (cases_lt 0 wanted)
+    where
+      by_wanted : (0 < wanted) ⊎ (wanted ≤ 0) → t.store.last ≡ mid.store.last
+      by_wanted (inl some) =
+          let order = is.whole (omega arith) in
+          ap (λ (u : State). u.store.last) (dump mid t order.0 wanted gave calls sound order.1 run).others
+      by_wanted (inr none) =
+          let zero_wanted : wanted ≡ 0 = omega arith in
+          ap (λ (u : State). u.store.last) (run.leaves ∙ ap (replay mid) (is.none zero_wanted).1)
+
+  -- offers by a moment that fits have moments that fit
+  timed_by : (now : ℕ) (events : List Event) → now < 2 ^ 64 → All (IsBy now) events → All HasTimes events
+  timed_by now events fits by = All-weaker (IsBy now) HasTimes (one now fits) events by
+    where
+      one : (now : ℕ) → now < 2 ^ 64 → (e : Event) → IsBy now e → HasTimes e
+      one now fits (Offer at packet) by = omega arith
+      one now fits (Begin from to) by = absurd by
+      one now fits Next by = absurd by
+      one now fits Abort by = absurd by
+      one now fits (Delete limit) by = absurd by
+      one now fits Enable by = absurd by
+      one now fits Disable by = absurd by
+
+  -- a step run keeps a store sound and ready
+  pub keeps_store : StepRunsKeepStores
+  keeps_store now s t offers wanted gave fits sound by is =
+      let timed : AreTimed offers = All-weaker (λ (list : List Event). All (IsBy now) list) (λ (list : List Event). All HasTimes list) (λ list all. timed_by now list fits all) offers by in
       let leaves = run_leaves s t offers wanted gave sound timed is in
-      (leaves.sound, leaves.retrieval)
+      let mid = replay s is.recorded in
+      let legal = IsLegal-parts s is.recorded is.dumped is.run.legal in
+      let second : IsRun mid is.dumped t = record { legal = legal.1; leaves = is.run.leaves ∙ replay-append s is.recorded is.dumped } in
+      let stands : IsState mid = keep s is.recorded sound (timed_log offers is.recorded is.shuffle timed) in
+      let same = dump_last mid t wanted gave is.dumped stands is.dump second in
+      let moved = log_last now s is.recorded (max s.store.last now) (shuffled (IsBy now) offers is.recorded is.shuffle by) (omega arith) (omega arith) in
+      let many = count_of_shuffle offers is.recorded is.shuffle in
+      record {
+        sound = leaves.sound;
+        storage = leaves.storage;
+        retrieval = leaves.retrieval;
+        offered = leaves.takes;
+        last = omega (arith, same, moved, many);
+      }
 
   -- a store after some steps
   record Stands (q : Dumping) (x : Amounts) (s t : ℕ) (state : State) : Type 0 where

@@ -1,5 +1,5 @@
 -- Laws of whole runs.
-use Rattle.std.specs.Prelude.{◌≡◌, ℕ, ◌+◌, ◌-◌, ◌<◌, List, length}
+use Rattle.std.specs.Prelude.{◌≡◌, ℕ, ◌+◌, ◌-◌, ◌<◌, ◌^◌, List, length}
 use Rattle.std.specs.List.{sum_by}
 use Rattle.mm_problem.specs.Dumping.{Dumping, arrivals, window, stores}
 use Rattle.mm_plan.specs.Fit.{FitsAt}
@@ -10,7 +10,7 @@ use Rattle.mm_desk.specs.declared.event.Event.{Event}
 use Rattle.mm_desk.specs.Machine.{State, IsState}
 use Rattle.mm_desk.specs.Offers.{AreTaken, IsShuffleOfEvents, count_of}
 use Rattle.mm_desk.specs.Runs.{IsRun}
-use Rattle.mm_runs.specs.StepRuns.{IsDumpOf, IsStepRun, AreTimed}
+use Rattle.mm_runs.specs.StepRuns.{IsDumpOf, IsStepRun, AreTimed, AreBy, KeepsStore}
 use Rattle.mm_runs.specs.Numbers.{AtEach, IsReady, AsPlanned}
 use Rattle.mm_runs.specs.Draws.{AreDrawsOf, MeetNoRefusal}
 
@@ -28,10 +28,10 @@ HalvesMakeStepRuns = (offers : List (List Event)) (wanted : ℕ) (gave : List St
     → IsRun s recorded mid → IsShuffleOfEvents offers recorded → AreTaken recorded → IsRun mid dumped t → IsDumpOf wanted gave dumped
     → IsStepRun offers wanted gave s t
 
--- a step run whose moments fit leaves a state, with a retrieval on only where one was
-abbrev pub StepRunsKeepStates : Type 0
-StepRunsKeepStates = (s t : State) (offers : List (List Event)) (wanted : ℕ) (gave : List Stored) → IsState s → AreTimed offers → IsStepRun offers wanted gave s t
-    → IsState t × (t.retrieval ≡ s.retrieval)
+-- a step run whose offers are made by a moment that fits keeps a sound store sound and ready
+abbrev pub StepRunsKeepStores : Type 0
+StepRunsKeepStores = (now : ℕ) (s t : State) (offers : List (List Event)) (wanted : ℕ) (gave : List Stored) → now < 2 ^ 64 → IsState s → AreBy now offers
+    → IsStepRun offers wanted gave s t → KeepsStore now (count_of offers) s t
 
 -- in each store and step a run has the volumes, the losses and the dumps of its plan
 abbrev pub RunsLoseAsPlanned : Type 0

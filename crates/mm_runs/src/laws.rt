@@ -1,5 +1,5 @@
 //! Laws of whole runs, over the definitions alone.
-ghost use Rattle.mm_runs.specs.Laws.{RunsLoseAsPlanned, RunsLoseThePlansLoss, HalvesMakeStepRuns, StepRunsKeepStates, DrawsMeetNoRefusal};
+ghost use Rattle.mm_runs.specs.Laws.{RunsLoseAsPlanned, RunsLoseThePlansLoss, HalvesMakeStepRuns, StepRunsKeepStores, DrawsMeetNoRefusal};
 
 use mm_desk::laws::{any_order_loses_alike, events_keep_a_state, orders_dump_the_oldest};
 
@@ -20,9 +20,10 @@ pub fn halves_make_step_runs()
     ensures law { HalvesMakeStepRuns }
 {}
 
-/// A step run leaves a store in a state that a store may have, with a retrieval on only where one was on before it.
-pub fn step_runs_keep_states()
-    ensures law { StepRunsKeepStates }
+/// A step run leaves a sound store sound, with its storage and its retrieval as they were; its counter of offers and its last storage
+/// time move by no more than the offers made.
+pub fn step_runs_keep_stores()
+    ensures law { StepRunsKeepStores }
 {
     any_order_loses_alike();
     events_keep_a_state();

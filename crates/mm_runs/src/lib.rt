@@ -4,5 +4,5 @@
 mod laws;
 
 pub use laws::{
-    draws_meet_no_refusal, halves_make_step_runs, runs_lose_as_planned, step_runs_keep_states,
+    draws_meet_no_refusal, halves_make_step_runs, runs_lose_as_planned, step_runs_keep_stores,
 };

@@ -1,7 +1,7 @@
 -- A link that fails where lines say so.
 use Rattle.std.specs.Prelude.{ℕ, ◌+◌, ◌==◌, Bool, List, [], length}
 use Rattle.std.specs.List.{list_any}
-use Rattle.mm_order.specs.Sending.{Sent}
+use Rattle.mm_dump.specs.Sending.{Sent}
 use Rattle.mm_scripted.specs.declared.link.SentPacket.{SentPacket}
 
 -- which of its sends fail by the lines, counted from 1; what was sent over it; how many sends have failed

@@ -2,10 +2,10 @@
 ghost use Rattle.std.specs.Prelude.{◌≡◌, ◌+◌, ◌==◌, ◌∷◌, ◌++◌, [], length, OnOk, OnErr};
 ghost use Rattle.std.specs.List.{list_any};
 ghost use Rattle.mm_scripted.specs.Wire.{new_wire, fails_next};
-ghost use Rattle.mm_order.specs.Sending.{sent_at};
+ghost use Rattle.mm_dump.specs.Sending.{sent_at};
 
 use mm_base::{NoMemory, StoreId};
-use mm_order::{Link, SendFailed};
+use mm_dump::{Link, SendFailed};
 use mm_packet::BlockPacket;
 use mm_store::Stored;
 use std::alloc::Global;

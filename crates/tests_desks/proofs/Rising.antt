@@ -2,7 +2,7 @@
 use Rattle.std.proofs.Common.{◌≡◌, ◌≢◌, ℕ, zero, suc, ◌+◌, ◌<◌, List, [], ◌∷◌, ◌++◌, All, AllPairs, arith}
 use Rattle.std.proofs.lemmas.List.Elements.{All-push, All-weaker}
 use Rattle.mm_sums.proofs.Pairs.{AllPairs-append}
-use Rattle.mm_order.specs.declared.order.Order.{Order}
+use Rattle.mm_dump.specs.declared.order.Order.{Order}
 
 -- the order of a place after those of the places before it
 pub apart_more : (os : List Order) (o : Order) → All (λ (b : Order). b.place < o.place) os → AllPairs (λ (a b : Order). a.place ≢ b.place) os

@@ -1,11 +1,10 @@
-//! Steps of dump workers over links in memory, with what is sent, held and drawn by hand.
-ghost use Rattle.std.specs.Prelude.{◌≢◌, ◌+◌, ◌-◌, ◌<◌, ◌≤◌, ◌^◌, length, All, AllPairs, IsTrue, vec_len};
+//! Steps of dump workers over links in memory, with what is sent, held and spent by hand.
+ghost use Rattle.std.specs.Prelude.{◌≡◌, ◌≢◌, ◌+◌, ◌<◌, ◌≤◌, length, All, AllPairs, IsTrue, None, vec_len};
 ghost use Rattle.mm_base.specs.declared.limits.TheConstants.{MAX_STORES};
 
 use crate::samples::{is_named, new_held, store_with};
 use mm_desk::Held;
-use mm_dump::{Dumping, dump};
-use mm_order::{Link, Order, OrderBroken, Taken, Wire};
+use mm_dump::{Dumped, Link, MemoryLink, Order, OrderBroken, TakenPacket, dump, may_fail};
 use mm_store::PacketStore;
 use std::alloc::Global;
 use std::process::Abort;
@@ -15,13 +14,13 @@ use std::thread::Threads;
 mod links;
 
 // A packet that a link took has this store and this sequence count.
-fn is_taken(rt: &impl Abort, item: &Taken, name: &[u8; 3], count: u16) {
+fn is_taken(rt: &impl Abort, item: &TakenPacket, name: &[u8; 3], count: u16) {
     is_named(rt, &item.store, name);
     assert!(rt; item.stored.packet.packet().count() == count, "the packet");
 }
 
 // The link took these packets, by their stores and sequence counts.
-fn took(rt: &impl Abort, link: &Wire, sent: &[(&[u8; 3], u16)]) {
+fn took(rt: &impl Abort, link: &MemoryLink, sent: &[(&[u8; 3], u16)]) {
     assert!(rt; link.taken().len() == sent.len(), "as many packets");
     for (item, (name, count)) in link.taken().iter().zip(sent) {
         is_taken(rt, item, name, *count);
@@ -41,10 +40,10 @@ fn stores_with(rt: &impl Abort, alloc: Global, held: &[u16]) -> Vec<Held> {
 }
 
 // Links of which each fails once, after a number of sends, or never.
-fn wires(rt: &impl Abort, alloc: Global, until: &[Option<u64>]) -> Vec<Wire> {
+fn new_links(rt: &impl Abort, alloc: Global, until: &[Option<u64>]) -> Vec<MemoryLink> {
     let mut links = Vec::new(alloc);
     for until in until {
-        links.push(Wire::new(alloc, *until)).expect(rt, "memory");
+        links.push(MemoryLink::new(alloc, *until)).expect(rt, "memory");
     }
     links
 }
@@ -82,33 +81,30 @@ fn new_orders(rt: &impl Abort, alloc: Global, wanted: &[u32]) -> Vec<Order>
     orders
 }
 
-// Whether each link may fail once more.
-fn may_fail<L: Link>(links: &[L]) -> bool
-    ensures room { IsTrue result → All (λ l. L.failed l < 2 ^ 64 - 1) links.now }
+// Whether no retrieval is on at any store.
+fn are_idle(stores: &[Held]) -> bool
+    ensures idle { IsTrue result → All (λ h. h.state.retrieval ≡ None) stores.now }
 {
-    links.iter().all(|link| link.failures() < u64::MAX)
+    stores.iter().all(|store| store.state.retrieval().is_none())
 }
 
 // Dumps as many blocks as are wanted of each store.
-fn dumped<L: Link + Send + Drop, R: Threads + Wait + Sync + Abort>(
+fn dumped<L: Link + Send, R: Threads + Wait + Sync + Abort>(
     rt: &R,
     alloc: Global,
-    window: u64,
     wanted: &[u32],
-    stores: Vec<Held>,
-    links: Vec<L>,
-) -> Dumping<L> {
+    stores: &mut Vec<Held>,
+    links: &mut [L],
+) -> Dumped {
     assert!(rt;
         wanted.len() <= 4 && stores.len() == wanted.len(),
         "few stores"
     );
     assert!(rt; links.len() >= 1 && links.len() <= 4, "few links");
-    assert!(rt; may_fail(&links), "links that may fail");
+    assert!(rt; may_fail(links), "links that may fail");
+    assert!(rt; are_idle(stores), "no retrieval is on");
     let orders = new_orders(rt, alloc, wanted);
-    match dump(rt, alloc, window, &orders, stores, links) {
-        Ok(dumping) => dumping,
-        Err(_) => panic!(rt; "memory"),
-    }
+    dump(rt, alloc, &orders, stores, links).expect(rt, "memory")
 }
 
 // A store stands under its name and channel.
@@ -141,13 +137,12 @@ fn have(rt: &impl Abort, stores: &[Held], counts: &[(u32, u64)]) {
     }
 }
 
-// A step: what stores hold, how links fail, how much may be drawn and is wanted; and then why it ends, how much is drawn, what
-// stores hold and deleted, and what each link took and how often it failed.
+// A step: what stores hold, how links fail, and how much is wanted; and then why it ends, how much is spent, what stores hold and
+// deleted, and what each link took and how often it failed.
 #[derive(Clone, Copy)]
 struct Case {
     held: &'static [u16],
     until: &'static [Option<u64>],
-    window: u64,
     wanted: &'static [u32],
     broken: Option<OrderBroken>,
     spent: u64,
@@ -156,15 +151,8 @@ struct Case {
     failures: u64,
 }
 
-// How a step ended.
-fn ended<L: Drop>(rt: &impl Abort, left: &Dumping<L>, broken: Option<OrderBroken>, spent: u64) {
-    assert!(rt; left.agree, "all agrees");
-    assert!(rt; left.broken == broken, "the worst cause");
-    assert!(rt; left.spent == spent, "how much was drawn");
-}
-
 // What each link took, and how often it failed.
-fn all_took(rt: &impl Abort, links: &[Wire], case: &Case) {
+fn all_took(rt: &impl Abort, links: &[MemoryLink], case: &Case) {
     assert!(rt; links.len() == case.until.len(), "as many links");
     for link in links {
         took(rt, link, case.sent);
@@ -174,18 +162,18 @@ fn all_took(rt: &impl Abort, links: &[Wire], case: &Case) {
 
 // Carries out the step of a case, and compares.
 fn tried<R: Threads + Wait + Sync + Abort>(rt: &R, alloc: Global, case: &Case) {
-    let stores = stores_with(rt, alloc, case.held);
-    let links = wires(rt, alloc, case.until);
-    let left = dumped(rt, alloc, case.window, case.wanted, stores, links);
-    ended(rt, &left, case.broken, case.spent);
-    have(rt, &left.stores, case.counts);
-    all_took(rt, &left.links, case);
+    let mut stores = stores_with(rt, alloc, case.held);
+    let mut links = new_links(rt, alloc, case.until);
+    let Dumped { broken, spent } = dumped(rt, alloc, case.wanted, &mut stores, &mut links);
+    assert!(rt; broken == case.broken, "the worst cause");
+    assert!(rt; spent == case.spent, "how much was spent");
+    have(rt, &stores, case.counts);
+    all_took(rt, &links, case);
 }
 
 const OLDEST: Case = Case {
     held: &[3, 2, 0, 1],
     until: &[None],
-    window: 9,
     wanted: &[2, 0, 4, 3],
     broken: None,
     spent: 3,
@@ -197,7 +185,6 @@ const OLDEST: Case = Case {
 const NO_ORDERS: Case = Case {
     held: &[1],
     until: &[None, None],
-    window: 0,
     wanted: &[0],
     spent: 0,
     counts: &[(1, 0)],
@@ -205,16 +192,36 @@ const NO_ORDERS: Case = Case {
     ..OLDEST
 };
 
-const SECOND_SEND_FAILS: Case = Case {
+const ALL_HELD: Case = Case {
     held: &[3],
-    until: &[Some(1)],
-    window: 3,
     wanted: &[3],
+    counts: &[(0, 3)],
+    sent: &[(b"AAA", 1), (b"AAA", 2), (b"AAA", 3)],
+    ..OLDEST
+};
+
+const MORE_THAN_HELD: Case = Case {
+    wanted: &[5],
+    ..ALL_HELD
+};
+
+const FIRST_SEND_FAILS: Case = Case {
+    held: &[3],
+    until: &[Some(0)],
+    wanted: &[2],
     broken: Some(OrderBroken::LinkFailed),
-    spent: 2,
+    spent: 1,
     counts: &[(3, 0)],
-    sent: &[(b"AAA", 1)],
+    sent: &[],
     failures: 1,
+};
+
+const SECOND_SEND_FAILS: Case = Case {
+    until: &[Some(1)],
+    wanted: &[3],
+    spent: 2,
+    sent: &[(b"AAA", 1)],
+    ..FIRST_SEND_FAILS
 };
 
 const SECOND_ORDER_BREAKS: Case = Case {
@@ -222,17 +229,6 @@ const SECOND_ORDER_BREAKS: Case = Case {
     wanted: &[1, 1, 1],
     counts: &[(0, 1), (1, 0), (1, 0)],
     ..SECOND_SEND_FAILS
-};
-
-const SMALL_WINDOW: Case = Case {
-    held: &[2],
-    window: 1,
-    wanted: &[2],
-    broken: Some(OrderBroken::Refused),
-    spent: 1,
-    counts: &[(2, 0)],
-    sent: &[(b"AAA", 1)],
-    ..OLDEST
 };
 
 #[test]
@@ -256,8 +252,34 @@ fn a_worker_that_broke_off_takes_no_further_order(rt: HostRuntime) {
 }
 
 #[test]
-fn a_window_that_is_too_small_breaks_the_order(rt: HostRuntime) {
-    tried(&rt, rt.alloc(), &SMALL_WINDOW);
+fn all_that_is_held_goes(rt: HostRuntime) {
+    tried(&rt, rt.alloc(), &ALL_HELD);
+}
+
+#[test]
+fn an_order_for_more_than_is_held_takes_all(rt: HostRuntime) {
+    tried(&rt, rt.alloc(), &MORE_THAN_HELD);
+}
+
+#[test]
+fn a_failed_first_send_is_spent(rt: HostRuntime) {
+    tried(&rt, rt.alloc(), &FIRST_SEND_FAILS);
+}
+
+// What an order broke off stays in the store: the next dump sends it again.
+#[test]
+fn packets_of_a_broken_order_are_sent_again(rt: HostRuntime) {
+    let alloc = rt.alloc();
+    let mut stores = stores_with(&rt, alloc, &[3]);
+    let mut links = new_links(&rt, alloc, &[Some(1)]);
+    let first = dumped(&rt, alloc, &[2], &mut stores, &mut links);
+    assert!(rt; first.broken == Some(OrderBroken::LinkFailed), "it breaks");
+    let second = dumped(&rt, alloc, &[2], &mut stores, &mut links);
+    assert!(rt; second.broken.is_none() && second.spent == 2, "it goes");
+    have(&rt, &stores, &[(1, 2)]);
+    for link in &links {
+        took(&rt, link, &[(b"AAA", 1), (b"AAA", 1), (b"AAA", 2)]);
+    }
 }
 
 // How many packets stores hold together.
@@ -270,7 +292,7 @@ fn held_in_all(stores: &[Held]) -> u32 {
 }
 
 // Of three orders the link that fails broke one, or was given none; the other link carried out the rest.
-fn other_went_on(rt: &impl Abort, stores: &[Held], failing: &Wire, other: &Wire) {
+fn other_went_on(rt: &impl Abort, stores: &[Held], failing: &MemoryLink, other: &MemoryLink) {
     let kept = held_in_all(stores);
     assert!(rt; kept <= 1, "one order breaks at the most");
     assert!(rt;
@@ -290,12 +312,11 @@ fn other_went_on(rt: &impl Abort, stores: &[Held], failing: &Wire, other: &Wire)
 #[test]
 fn the_other_worker_goes_on_where_one_broke_off(rt: HostRuntime) {
     let alloc = rt.alloc();
-    let stores = stores_with(&rt, alloc, &[1, 1, 1]);
-    let links = wires(&rt, alloc, &[Some(0), None]);
-    let left = dumped(&rt, alloc, 3, &[1, 1, 1], stores, links);
-    assert!(rt; left.agree, "all agrees");
-    match left.links.as_slice() {
-        [failing, other] => other_went_on(&rt, &left.stores, failing, other),
+    let mut stores = stores_with(&rt, alloc, &[1, 1, 1]);
+    let mut links = new_links(&rt, alloc, &[Some(0), None]);
+    dumped(&rt, alloc, &[1, 1, 1], &mut stores, &mut links);
+    match links.as_slice() {
+        [failing, other] => other_went_on(&rt, &stores, failing, other),
         _ => assert!(rt; false, "two links"),
     }
 }

@@ -1,4 +1,4 @@
-//! Tests of mm_desk, mm_crew, mm_order and mm_dump.
+//! Tests of mm_desk, mm_crew, mm_shared and mm_dump.
 #![tactic(auto)]
 
 #[cfg(test)]
@@ -8,9 +8,9 @@ mod desks;
 #[cfg(test)]
 mod dumps;
 #[cfg(test)]
-mod orders;
-#[cfg(test)]
 mod samples;
+#[cfg(test)]
+mod shared;
 #[cfg(test)]
 mod states;
 #[cfg(test)]

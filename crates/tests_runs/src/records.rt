@@ -7,7 +7,8 @@ use mm_desk::{Fault, Held, StoreState};
 use mm_memory::Memory;
 use mm_packet::{BlockPacket, Header, Octets, Packet};
 use mm_record::{
-    Cause, RecordHalted, Recorded, RecordedStep, Recording, Source, cause_in, record, record_step,
+    Cause, RecordHalted, Recorded, RecordedStep, RecordingStep, Source, cause_in, record,
+    record_step,
 };
 use mm_store::PacketStore;
 use std::alloc::Global;
@@ -269,20 +270,29 @@ fn packets_of_other_steps_types_and_kinds_are_not_stored(rt: HostRuntime) {
     have_each(&rt, &step.sources, &[3, 0, 0]);
 }
 
-// The stores of a memory are lent to the recorders of three sources.
+// Stores and sources are lent to recorders; this is why some stopped early.
 fn lend_and_record<R: Threads + Wait + Sync + Abort>(
     rt: &R,
     alloc: Global,
     memory: &mut Memory,
-) -> Recording<Burst> {
-    let stores = memory.lift();
-    let sources = bursts(rt, alloc, 3);
+    sources: &mut [Burst],
+) -> Option<Fault> {
+    let mut stores = memory.lift();
     assert!(rt; sources.len() <= 16, "few sources");
-    let control = memory.control();
-    let Ok(left) = record(rt, alloc, control, 1, 0, stores, sources) else {
+    let step = RecordingStep {
+        control: memory.control(),
+        step: 1,
+        now: 0,
+    };
+    let Ok(why) = record(rt, alloc, &step, &mut stores, sources) else {
         panic!(rt; "memory");
     };
-    left
+    // B comes first in the table, so each recorder offered it one packet and then stopped at C.
+    assert!(rt; stores.len() == 2, "two stores");
+    for (store, (offered, lost)) in stores.iter().zip(&[(0, 0), (3, 1)]) {
+        was_offered(rt, store, *offered, *lost);
+    }
+    why
 }
 
 // A store was offered so many packets, and lost so many.
@@ -291,30 +301,19 @@ fn was_offered(rt: &impl Abort, store: &Held, offered: u64, lost: u64) {
     assert!(rt; store.state.lost() == lost, "how many were lost");
 }
 
-// Recorders broke off since storage was off, though the logs and the lists agree; this halts a run.
-fn broke_off(rt: &impl Abort, left: &Recording<Burst>) {
-    assert!(rt; left.agree, "honest desks agree");
-    assert!(rt; left.broken == Some(Fault::Disabled), "why they broke off");
-    let cause = cause_in(1, left.agree, left.broken);
-    let mismatch = Cause::LogMismatch { step: 1 };
-    assert!(rt; cause == Some(mismatch), "the cause");
-}
-
-// The store C has its storage off.
+// The store C has its storage off, so recorders stop there; this halts a run.
 #[test]
 fn a_store_that_is_off_breaks_recorders_off(rt: HostRuntime) {
     let alloc = rt.alloc();
     let mut memory = memory_of(&rt, alloc, TWO_STORES);
     let circular = store_id(&rt, b"C");
     memory.state_mut(&circular).expect(&rt, "a store").disable();
-    let left = lend_and_record(&rt, alloc, &mut memory);
-    broke_off(&rt, &left);
-    // B comes first in the table, so each recorder offered it one packet and then broke off at C.
-    assert!(rt; left.stores.len() == 2, "two stores");
-    for (store, (offered, lost)) in left.stores.iter().zip(&[(0, 0), (3, 1)]) {
-        was_offered(&rt, store, *offered, *lost);
-    }
-    have_left(&rt, &left.sources, 2);
+    let mut sources = bursts(&rt, alloc, 3);
+    let why = lend_and_record(&rt, alloc, &mut memory, &mut sources);
+    assert!(rt; why == Some(Fault::Disabled), "why they stopped early");
+    let mismatch = Cause::LogMismatch { step: 1 };
+    assert!(rt; cause_in(1, why) == Some(mismatch), "the cause");
+    have_left(&rt, &sources, 2);
 }
 
 fn shows(rt: &impl Abort, alloc: Global, cause: Cause, text: &str) {

@@ -1,8 +1,8 @@
 //! Several links at once: one queue of orders, a gate that opens once both links stand at it, and links that both fail.
 
-use super::{Case, dumped, ended, have, stores_with, tried};
+use super::{Case, dumped, have, stores_with, tried};
 use mm_base::StoreId;
-use mm_order::{Link, OrderBroken, SendFailed, Wire};
+use mm_dump::{Dumped, Link, MemoryLink, OrderBroken, SendFailed};
 use mm_packet::BlockPacket;
 use std::alloc::Global;
 use std::process::Abort;
@@ -24,7 +24,7 @@ fn comes_to(count: &AtomicU64, number: u64) -> bool {
 // A link whose send, where it is the first of all that begin, goes on only once the other link has finished so many sends.
 #[derive(Drop)]
 struct Watch {
-    wire: Wire,
+    wire: MemoryLink,
     begun: Arc<AtomicU64, Global>,
     mine: Arc<AtomicU64, Global>,
     others: Arc<AtomicU64, Global>,
@@ -67,7 +67,7 @@ fn watches(rt: &impl Abort, alloc: Global, awaited: u64) -> Vec<Watch> {
     let mut links = Vec::new(alloc);
     for (mine, others) in [(&one, &two), (&two, &one)] {
         let watch = Watch {
-            wire: Wire::new(alloc, None),
+            wire: MemoryLink::new(alloc, None),
             begun: shared(rt, &begun),
             mine: shared(rt, mine),
             others: shared(rt, others),
@@ -81,13 +81,13 @@ fn watches(rt: &impl Abort, alloc: Global, awaited: u64) -> Vec<Watch> {
 #[test]
 fn orders_from_one_queue(rt: HostRuntime) {
     let alloc = rt.alloc();
-    let stores = stores_with(&rt, alloc, &[1, 1, 1, 1]);
-    let links = watches(&rt, alloc, 3);
-    let left = dumped(&rt, alloc, 4, &[1, 1, 1, 1], stores, links);
-    ended(&rt, &left, None, 4);
-    have(&rt, &left.stores, &[(0, 1), (0, 1), (0, 1), (0, 1)]);
+    let mut stores = stores_with(&rt, alloc, &[1, 1, 1, 1]);
+    let mut links = watches(&rt, alloc, 3);
+    let Dumped { broken, spent } = dumped(&rt, alloc, &[1, 1, 1, 1], &mut stores, &mut links);
+    assert!(rt; broken.is_none() && spent == 4, "all went");
+    have(&rt, &stores, &[(0, 1), (0, 1), (0, 1), (0, 1)]);
     let mut sent = [0, 0];
-    for (sent, link) in sent.iter_mut().zip(&left.links) {
+    for (sent, link) in sent.iter_mut().zip(&links) {
         *sent = link.wire.taken().len();
     }
     assert!(rt;
@@ -99,7 +99,7 @@ fn orders_from_one_queue(rt: HostRuntime) {
 // A link whose sends go on only once sends of two links have begun.
 #[derive(Drop)]
 struct Gate {
-    wire: Wire,
+    wire: MemoryLink,
     raised: Arc<AtomicU64, Global>,
 }
 
@@ -124,20 +124,20 @@ impl Link for Gate {
 #[test]
 fn two_links_meet_at_a_gate(rt: HostRuntime) {
     let alloc = rt.alloc();
-    let stores = stores_with(&rt, alloc, &[1, 1]);
+    let mut stores = stores_with(&rt, alloc, &[1, 1]);
     let raised = counter(&rt, alloc);
     let mut links = Vec::new(alloc);
     for _ in 0..2 {
         let gate = Gate {
-            wire: Wire::new(alloc, None),
+            wire: MemoryLink::new(alloc, None),
             raised: shared(&rt, &raised),
         };
         links.push(gate).expect(&rt, "memory");
     }
-    let left = dumped(&rt, alloc, 2, &[1, 1], stores, links);
-    ended(&rt, &left, None, 2);
-    have(&rt, &left.stores, &[(0, 1), (0, 1)]);
-    for link in &left.links {
+    let Dumped { broken, spent } = dumped(&rt, alloc, &[1, 1], &mut stores, &mut links);
+    assert!(rt; broken.is_none() && spent == 2, "both went");
+    have(&rt, &stores, &[(0, 1), (0, 1)]);
+    for link in &links {
         assert!(rt; link.wire.taken().len() == 1, "one packet");
     }
 }
@@ -145,7 +145,6 @@ fn two_links_meet_at_a_gate(rt: HostRuntime) {
 const BOTH_FAIL: Case = Case {
     held: &[2, 2],
     until: &[Some(0), Some(0)],
-    window: 4,
     wanted: &[2, 2],
     broken: Some(OrderBroken::LinkFailed),
     spent: 2,

@@ -5,7 +5,7 @@ use crate::tests::trials::{Task, Trial, has_text, setup, task};
 use crate::tests::wires::{Wire, wires};
 use mm_base::StoreId;
 use mm_exec::Flight;
-use mm_order::{Link, SendFailed};
+use mm_dump::{Link, SendFailed};
 use mm_packet::BlockPacket;
 use mm_record::Source;
 use std::alloc::Global;

@@ -6,7 +6,7 @@ use mm_base::{MAX_BLOCKS, StoreId};
 use mm_desk::StoreState;
 use mm_exec::{Cause, Flight, Halted, carry_out};
 use mm_memory::Memory;
-use mm_order::Link;
+use mm_dump::Link;
 use mm_plan::Sheet;
 use mm_problem::{Problem, Setup};
 use mm_record::Source;

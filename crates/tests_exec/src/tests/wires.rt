@@ -2,7 +2,7 @@
 ghost use Rattle.std.specs.Prelude.{◌-◌, ◌<◌, ◌^◌, All, IsTrue};
 
 use mm_base::StoreId;
-use mm_order::{Link, SendFailed};
+use mm_dump::{Link, SendFailed};
 use mm_packet::BlockPacket;
 use mm_store::Stored;
 use std::alloc::Global;

@@ -1,48 +1,80 @@
-use Rattle.std.proofs.Common.{rules, ◌≡◌, ◌<◌, length, None, refl, sym, ap, ◌∙◌, arith}
+use Rattle.std.proofs.Common.{rules, ◌≡◌, ◌+◌, ◌<◌, ◌≤◌, true, [], ◌∷◌, length, refl, sym, ap, ◌∙◌, arith, length-append}
+use Rattle.std.specs.Prelude.{None, is_some}
 use Rattle.crossbeam_queue.specs.Passes.{view}
-use Rattle.mm_crew.specs.Stations.{ids_of}
-use Rattle.mm_dump.specs.declared.queue.Hand.{Hand}
-use Rattle.mm_dump.specs.Taken.{hand}
-use Rattle.mm_dump.specs.Workers.{gear}
-use Rattle.mm_dump.proofs.Moves.{takes, learns}
-use Rattle.mm_dump.proofs.Working.{worked_start, worked_more, worked_well}
+use Rattle.mm_shared.specs.Stores.{ids_of}
+use Rattle.mm_dump.specs.declared.queue.QueueView.{QueueView}
+use Rattle.mm_dump.specs.Queue.{queue_view}
+use Rattle.mm_dump.specs.Sending.{link_state}
+use Rattle.mm_dump.proofs.Working.{seen_more, still_lines, worked_start, worked_more, worked_well, worked_stopped}
 use Rattle.mm_dump.proofs.dumper.work.Goals as goal
 
 pub loop-init : goal.loop-init
 loop-init g c =
-    let none = ap (λ (h : Hand). h.taken) c.requires.first in
+    let none = ap (λ (v : QueueView). v.taken) c.requires.ready.first in
     record {
       can_next = tt;
       is_finite = tt;
-      pass = c.requires.pass;
-      hand = c.requires.first ∙ ap (hand 1 (length c.args.floor.now.orders.now)) (sym none);
-      worked = worked_start (ids_of c.args.floor.now.stations.now) c.args.floor.now.orders.now (view c.args.dumper.now.pass).taken
-          (gear c.args.seats.now (g.L.Link.sent c.args.dumper.now.link) (g.L.Link.failed c.args.dumper.now.link) c.args.dumper.now.page) none;
+      pass = c.requires.ready.pass;
+      seen = c.requires.ready.first ∙ ap (queue_view 1 (view c.args.worker.now.pass).pushed) (sym none);
+      few = omega (arith, ap length none);
+      spent = omega (arith, ap length none, c.requires.ready.spent);
+      has = c.requires.ready.lines;
+      worked = worked_start (ids_of c.args.context.now.stores.now) c.args.context.now.orders.now (view c.args.worker.now.pass).taken c.args.lines.now.items
+          (link_state (g.L.Link.sent c.args.link.now) (g.L.Link.failed c.args.link.now) c.args.worker.now.spent) none;
     }
 
-pub pop_as-requires-clause-rule : goal.pop_as-requires-clause-rule
-pop_as-requires-clause-rule g c =
-    (takes _ _ (omega (arith, ap (λ (h : Hand). h.parts) c.loop.invariant.hand)), learns _ _)
+pub carry_at-stop-requires-clause-room : goal.carry_at-stop-requires-clause-room
+carry_at-stop-requires-clause-room g c =
+    omega (arith, worked_well (ids_of c.args.context.now.stores.now) _ _ _ _ _ _ c.loop.invariant.worked, c.requires.ready.room)
 
-pub carry_at-why-requires-clause-room : goal.carry_at-why-requires-clause-room
-carry_at-why-requires-clause-room g c =
-    omega (arith, worked_well _ _ _ _ _ c.loop.invariant.worked, c.requires.room)
+pub carry_at-stop-requires-clause-blocks : goal.carry_at-stop-requires-clause-blocks
+carry_at-stop-requires-clause-blocks g c =
+    let bound : c.loop.worker.spent < 281474976710656 = omega (
+      arith,
+      c.loop.invariant.spent,
+      c.take_next-number.ensures.few,
+      ap (λ (v : QueueView). length v.taken) c.take_next-number.ensures.taken,
+      length-append (view c.loop.worker.pass).taken (c.take_next-number.result ∷ []),
+      ap (λ (v : QueueView). v.pushed) c.loop.invariant.seen,
+      c.requires.ready.few,
+    ) in
+    bound
+
+pub returns-then-is_some-clause-bound : goal.returns-then-is_some-clause-bound
+returns-then-is_some-clause-bound g c =
+    let more : c.carry_at-stop.new.spent ≤ c.loop.worker.spent + 4294967296 = c.carry_at-stop.ensures.few in
+    omega (
+      arith,
+      more,
+      c.loop.invariant.spent,
+      c.take_next-number.ensures.few,
+      ap (λ (v : QueueView). length v.taken) c.take_next-number.ensures.taken,
+      length-append (view c.loop.worker.pass).taken (c.take_next-number.result ∷ []),
+      ap (λ (v : QueueView). v.pushed) c.loop.invariant.seen,
+      c.requires.ready.few,
+    )
 
 pub returns-then-is_some-clause-worked : goal.returns-then-is_some-clause-worked
 returns-then-is_some-clause-worked g c =
-    let taken = ap (λ (h : Hand). h.taken) c.in-Some-pop_as.ensures.rule.1 in
-    let inside : c.in-Some-pop_as.number < length c.args.floor.now.orders.now = omega (arith, c.in-Some-pop_as.ensures.rule.0, ap (λ (h : Hand). h.pushed) c.loop.invariant.hand) in
-    worked_more (ids_of c.args.floor.now.stations.now) c.args.floor.now.orders.now (view c.loop.dumper.pass).taken (view c.pop_as.new.pass).taken c.in-Some-pop_as.number _ c.carry_at-why.result _ _ _ _ taken inside refl refl c.loop.invariant.worked c.carry_at-why.ensures.goes
+    let more = ap (λ (v : QueueView). v.taken) c.take_next-number.ensures.taken in
+    let stopped : is_some c.carry_at-stop.result ≡ true = search rules in
+    worked_stopped (ids_of c.args.context.now.stores.now) c.args.context.now.orders.now (view c.take_next-number.new.pass).taken c.carry_at-stop.result _ _ _ _ stopped
+    (worked_more (ids_of c.args.context.now.stores.now) c.args.context.now.orders.now (view c.loop.worker.pass).taken (view c.take_next-number.new.pass).taken c.take_next-number.result _
+    c.carry_at-stop.result c.carry_at-stop.result _ _ _ _ _ _ more c.if-number-context.false refl refl c.loop.invariant.worked c.carry_at-stop.ensures.carried)
 
 pub loop-preserved : goal.loop-preserved
 loop-preserved g c =
-    let taken = ap (λ (h : Hand). h.taken) c.in-Some-pop_as.ensures.rule.1 in
-    let inside : c.in-Some-pop_as.number < length c.args.floor.now.orders.now = omega (arith, c.in-Some-pop_as.ensures.rule.0, ap (λ (h : Hand). h.pushed) c.loop.invariant.hand) in
-    let none : c.carry_at-why.result ≡ None = search rules in
+    let more = ap (λ (v : QueueView). v.taken) c.take_next-number.ensures.taken in
+    let none : c.carry_at-stop.result ≡ None = search rules in
+    let spent : c.carry_at-stop.new.spent ≤ c.loop.worker.spent + 4294967296 = c.carry_at-stop.ensures.few in
     record {
       can_next = tt;
       is_finite = tt;
       pass = search rules;
-      hand = search rules;
-      worked = worked_more (ids_of c.args.floor.now.stations.now) c.args.floor.now.orders.now (view c.loop.dumper.pass).taken (view c.pop_as.new.pass).taken c.in-Some-pop_as.number _ c.carry_at-why.result _ _ _ _ taken inside none refl c.loop.invariant.worked c.carry_at-why.ensures.goes;
+      seen = seen_more (view c.loop.worker.pass) (view c.take_next-number.new.pass) (view c.args.worker.now.pass).pushed _ c.loop.invariant.seen c.take_next-number.ensures.taken;
+      few = omega (arith, c.take_next-number.ensures.few, ap (λ (v : QueueView). v.pushed) c.loop.invariant.seen);
+      spent = omega (arith, spent, c.loop.invariant.spent, ap (λ (v : QueueView). length v.taken) c.take_next-number.ensures.taken, length-append (view c.loop.worker.pass).taken (c.take_next-number.result ∷ []));
+      has = still_lines c.args.context.now.stores.now c.loop.lines.items c.carry_at-stop.new.lines.items c.carry_at-stop.ensures.carried.shown.ends c.loop.invariant.has;
+      worked = worked_more (ids_of c.args.context.now.stores.now) c.args.context.now.orders.now (view c.loop.worker.pass).taken (view c.take_next-number.new.pass).taken c.take_next-number.result _
+          None c.carry_at-stop.result _ _ _ _ _ _ more c.if-number-context.false refl none c.loop.invariant.worked c.carry_at-stop.ensures.carried;
     }

@@ -1,17 +1,21 @@
-use Rattle.std.proofs.Common.{◌≡◌, length, None}
+use Rattle.std.proofs.Common.{◌≡◌, ◌*◌, ◌^◌, ◌≤◌, length, None}
 use Rattle.crossbeam_queue.specs.Passes.{view, IsPassOf}
-use Rattle.mm_crew.specs.Stations.{ids_of}
-use Rattle.mm_dump.specs.Taken.{hand}
-use Rattle.mm_dump.specs.Workers.{gear, Worked}
+use Rattle.mm_shared.specs.Stores.{ids_of}
+use Rattle.mm_dump.specs.Queue.{queue_view}
+use Rattle.mm_dump.specs.Sending.{link_state}
+use Rattle.mm_dump.specs.Workers.{HasLines, HasWorkedOn}
 use Rattle.mm_dump.proofs.dumper.work.Given as goal
 
 abbrev pub invariant-loop : goal.invariant-loop
 invariant-loop g l = record {
   can_next : (goal.iterator-loop g).can_next l.iterator';
   is_finite : (goal.iterator-loop g).is_finite l.iterator';
-  pass : IsPassOf l.floor.queue.now l.dumper.pass;
-  hand : view l.dumper.pass ≡ hand 1 (length l.floor.orders.now) (view l.dumper.pass).taken;
-  worked : Worked (ids_of l.floor.stations.now) l.floor.orders.now (view l.dumper.pass).taken None
-      (gear l.initial.seats (g.L.Link.sent l.initial.dumper.link) (g.L.Link.failed l.initial.dumper.link) l.initial.dumper.page)
-      (gear l.seats (g.L.Link.sent l.dumper.link) (g.L.Link.failed l.dumper.link) l.dumper.page);
+  pass : IsPassOf l.context.queue.now l.worker.pass;
+  seen : view l.worker.pass ≡ queue_view 1 (view l.initial.worker.pass).pushed (view l.worker.pass).taken;
+  few : length (view l.worker.pass).taken ≤ (view l.initial.worker.pass).pushed;
+  spent : l.worker.spent ≤ length (view l.worker.pass).taken * 2 ^ 32;
+  has : HasLines l.context.stores.now l.lines.items;
+  worked : HasWorkedOn (ids_of l.context.stores.now) l.context.orders.now (view l.worker.pass).taken None l.initial.lines.items l.lines.items
+      (link_state (g.L.Link.sent l.initial.link) (g.L.Link.failed l.initial.link) l.initial.worker.spent)
+      (link_state (g.L.Link.sent l.link) (g.L.Link.failed l.link) l.worker.spent);
 }

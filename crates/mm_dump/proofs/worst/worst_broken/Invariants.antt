@@ -1,7 +1,7 @@
 use Rattle.std.proofs.Common.{◌≡◌, take}
 use Rattle.mm_dump.specs.Courses.{worst_of}
-use Rattle.mm_dump.specs.Crews.{causes_of}
+use Rattle.mm_dump.specs.Workers.{causes_of}
 use Rattle.mm_dump.proofs.worst.worst_broken.Given as goal
 
 abbrev pub invariant-loop-worker : goal.invariant-loop-worker
-invariant-loop-worker g l = l.worst ≡ worst_of (causes_of (take l.worker-index l.workers))
+invariant-loop-worker l = l.worst ≡ worst_of (causes_of (take l.worker-index l.workers))

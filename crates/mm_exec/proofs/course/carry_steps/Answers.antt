@@ -1,147 +1,171 @@
-use Rattle.std.proofs.Common.{ap, ◌∙◌, rules, ◌≡◌, ℕ, ◌+◌, ◌-◌, ◌<◌, ◌≤◌, length, take, sym, subst, arith, vec_len}
-use Rattle.std.proofs.lemmas.List.{length-take-le}
+use Rattle.std.proofs.Common.{◌≡◌, ℕ, ◌+◌, ◌-◌, ◌<◌, ◌≤◌, List, length, take, All, refl, sym, subst, arith}
 use Rattle.mm_memory.specs.Holdings.{Holdings}
+use Rattle.mm_record.specs.Recorded.{recording}
+use Rattle.mm_dump.specs.declared.order.Order.{Order}
 use Rattle.mm_report.specs.Report.{Reported}
-use Rattle.mm_plan.specs.Table.{amount}
 use Rattle.mm_ready.specs.Ready.{outset}
-use Rattle.mm_exec.specs.Mission.{mission}
-use Rattle.mm_exec.specs.Going.{HasGone}
-use Rattle.mm_dump.specs.Dumped.{wanted}
-use Rattle.mm_exec.specs.Numbers.{orders_of}
-use Rattle.mm_exec.proofs.Ordered.{wanted_is, amounts_some, places_apart}
-use Rattle.mm_exec.proofs.Starting.{begun_of, footing_by, gone_first, gone_at, places_there, in_hand, still_named, still_room}
+use Rattle.mm_exec.specs.RunInput.{run_input, step_orders}
+use Rattle.mm_exec.specs.Step.{run_state, StepBroke}
+use Rattle.mm_exec.specs.Steps.{StepsDone}
+use Rattle.mm_exec.proofs.Ordered.{orders_are}
+use Rattle.mm_exec.proofs.Parts.{stopped_of}
+use Rattle.mm_exec.proofs.Ready.{AllFar, far_after, takes_all}
+use Rattle.mm_exec.proofs.Starting.{begun_of, footing_here, places_many, all_ready, done_first, done_at, may_report, in_hand, bound_at, bound_more, bound_within, early_at, far_first, still_few}
 use Rattle.mm_exec.proofs.course.carry_steps.Goals as goal
 
 pub loop-step-init : goal.loop-step-init
 loop-step-init g c =
-    let memory : Holdings = record { stores = c.args.cargo.stores.items; routes = c.args.control.now } in
-    let m = mission g.S.Source.gives c.args.problem.now c.args.plan.now c.args.base memory c.args.cargo.sources.items in
+    let memory : Holdings = record { stores = c.args.stores.now.items; routes = c.args.run.now.control.now } in
+    let q = c.args.run.now.problem.now in
+    let plan = c.args.run.now.plan.now in
+    let base = c.args.run.now.base in
+    let gives = g.S.Source.gives in
+    let begun = begun_of (outset q plan c.args.stores.now.items base (length c.args.sources.now) (length c.args.links.now)) c.requires.may.begins in
     record {
-      gone = gone_first g.S.Source.gives g.L.Link.sent g.L.Link.failed m c.args.cargo.sources.items c.args.cargo.links.items c.args.room.report c.requires.report;
-      room = c.requires.orders;
+      done =
+          done_first gives g.L.Link.sent g.L.Link.failed (run_input gives q plan base memory c.args.sources.now)
+          (run_state c.args.stores.now c.args.sources.now c.args.links.now) c.args.buffers.report refl c.requires.may.report;
+      ready = all_ready q c.args.stores.now.items c.requires.may.held begun.standing begun.none_strange c.requires.may.sound;
+      far = λ limits. far_first gives c.args.sources.now c.args.stores.now.items base begun.early limits;
+      room = c.requires.may.orders;
     }
 
-pub report_step-requires-clause-within : goal.report_step-requires-clause-within
-report_step-requires-clause-within g c κs inside =
-    let sources : vec_len c.args.cargo.sources ≡ length c.args.cargo.sources.items = search rules in
-    let footing = footing_by g.S.Source.gives c.args.problem.now c.args.plan.now c.args.base (record { stores = c.args.cargo.stores.items; routes = c.args.control.now })
-    c.args.cargo.sources.items (vec_len c.args.cargo.links) c.places_of-all.result c.places_of-all.ensures.problem sources c.requires.begins c.deref.ensures.value c.places_of-all.ensures.places c.places_of-all.ensures.sound c.stores.ensures.stores in
-    let hand = in_hand _ _ _ _ _ _ _ _ _ _ _ c.loop-step.invariant.gone in
-    let counted : vec_len c.loop-step.cargo.stores ≡ length c.loop-step.cargo.stores.items = search rules in
-    let many : length (take c.stores.result c.places_of-all.result) ≡ length c.args.problem.now.rows =
-    length-take-le c.stores.result c.places_of-all.result (omega (arith, c.stores.ensures.stores, c.places_of-all.ensures.len, c.places_of-all.ensures.problem.stores.at_most))
-    ∙ c.stores.ensures.stores in
-    places_there _ _ _ _ (vec_len c.loop-step.cargo.stores) footing many (counted ∙ hand.stores)
-
-pub report_step-requires-clause-apart : goal.report_step-requires-clause-apart
-report_step-requires-clause-apart g c κs inside =
-    let sources : vec_len c.args.cargo.sources ≡ length c.args.cargo.sources.items = search rules in
-    let footing = footing_by g.S.Source.gives c.args.problem.now c.args.plan.now c.args.base (record { stores = c.args.cargo.stores.items; routes = c.args.control.now })
-    c.args.cargo.sources.items (vec_len c.args.cargo.links) c.places_of-all.result c.places_of-all.ensures.problem sources c.requires.begins c.deref.ensures.value c.places_of-all.ensures.places c.places_of-all.ensures.sound c.stores.ensures.stores in
-    footing.apart
-
-pub report_step-requires-clause-few : goal.report_step-requires-clause-few
-report_step-requires-clause-few g c κs inside =
-    let hand = in_hand _ _ _ _ _ _ _ _ _ _ _ c.loop-step.invariant.gone in
-    let counted : vec_len c.loop-step.cargo.stores ≡ length c.loop-step.cargo.stores.items = search rules in
-    omega (arith, counted, hand.stores, c.requires.held.at_most)
-
-pub report_step-requires-clause-named : goal.report_step-requires-clause-named
-report_step-requires-clause-named g c κs inside =
-    let hand = in_hand _ _ _ _ _ _ _ _ _ _ _ c.loop-step.invariant.gone in
-    still_named c.args.cargo.stores.items c.loop-step.cargo.stores.items c.requires.held hand.ids
-
-pub report_step-requires-clause-many : goal.report_step-requires-clause-many
-report_step-requires-clause-many g c κs inside =
-    let hand = in_hand _ _ _ _ _ _ _ _ _ _ _ c.loop-step.invariant.gone in
-    let begun = begun_of (outset c.args.problem.now c.args.plan.now c.args.cargo.stores.items c.args.base (vec_len c.args.cargo.sources) (vec_len c.args.cargo.links)) c.requires.begins in
-    let now : vec_len c.loop-step.cargo.sources ≡ length c.loop-step.cargo.sources.items = search rules in
-    let first : vec_len c.args.cargo.sources ≡ length c.args.cargo.sources.items = search rules in
-    omega (arith, now, first, hand.sources_many, begun.counts.few_sources)
-
-pub report_step-requires-clause-some_link : goal.report_step-requires-clause-some_link
-report_step-requires-clause-some_link g c κs inside =
-    let hand = in_hand _ _ _ _ _ _ _ _ _ _ _ c.loop-step.invariant.gone in
-    let begun = begun_of (outset c.args.problem.now c.args.plan.now c.args.cargo.stores.items c.args.base (vec_len c.args.cargo.sources) (vec_len c.args.cargo.links)) c.requires.begins in
-    let now : vec_len c.loop-step.cargo.links ≡ length c.loop-step.cargo.links.items = search rules in
-    let first : vec_len c.args.cargo.links ≡ length c.args.cargo.links.items = search rules in
-    omega (arith, now, first, hand.links_many, begun.counts.some_link)
-
-pub report_step-requires-clause-few_links : goal.report_step-requires-clause-few_links
-report_step-requires-clause-few_links g c κs inside =
-    let hand = in_hand _ _ _ _ _ _ _ _ _ _ _ c.loop-step.invariant.gone in
-    let begun = begun_of (outset c.args.problem.now c.args.plan.now c.args.cargo.stores.items c.args.base (vec_len c.args.cargo.sources) (vec_len c.args.cargo.links)) c.requires.begins in
-    let now : vec_len c.loop-step.cargo.links ≡ length c.loop-step.cargo.links.items = search rules in
-    let first : vec_len c.args.cargo.links ≡ length c.args.cargo.links.items = search rules in
-    omega (arith, now, first, hand.links_many, begun.counts.few_links)
-
-pub report_step-requires-clause-links : goal.report_step-requires-clause-links
-report_step-requires-clause-links g c κs inside =
-    let hand = in_hand _ _ _ _ _ _ _ _ _ _ _ c.loop-step.invariant.gone in
-    still_room g.L.Link.failed c.args.cargo.links.items c.loop-step.cargo.links.items hand.failures c.requires.links
-
-pub report_step-requires-clause-ids : goal.report_step-requires-clause-ids
-report_step-requires-clause-ids g c κs inside =
-    let hand = in_hand _ _ _ _ _ _ _ _ _ _ _ c.loop-step.invariant.gone in
-    hand.report_ids
-
-pub report_step-requires-clause-report : goal.report_step-requires-clause-report
-report_step-requires-clause-report g c κs inside =
-    let hand = in_hand _ _ _ _ _ _ _ _ _ _ _ c.loop-step.invariant.gone in
-    let last : c.loop-step.step < c.steps-step-end.result + 1 = c.loop-step-test.true in
-    let first : 1 ≤ c.loop-step.step = c.loop-step.auto.step in
-    omega (arith, hand.report_steps, hand.report_most, c.steps-step-end.ensures.steps, last, first)
+pub report_step-requires-clause-may : goal.report_step-requires-clause-may
+report_step-requires-clause-may g c κs within =
+    let memory : Holdings = record { stores = c.args.stores.now.items; routes = c.args.run.now.control.now } in
+    let q = c.args.run.now.problem.now in
+    let plan = c.args.run.now.plan.now in
+    let base = c.args.run.now.base in
+    let gives = g.S.Source.gives in
+    let begun = begun_of (outset q plan c.args.stores.now.items base (length c.args.sources.now) (length c.args.links.now)) c.requires.may.begins in
+    let places = take c.stores.result c.places_of-all.result in
+    let footing = footing_here gives q plan base memory c.args.sources.now (length c.args.links.now) c.places_of-all.result c.places_of-all.ensures.problem
+    c.requires.may.begins c.requires.may.sound c.deref.ensures.value c.places_of-all.ensures.places c.stores.ensures.stores in
+    let many = places_many (length q.rows) c.stores.result c.places_of-all.result c.stores.ensures.stores c.places_of-all.ensures.problem.stores.at_most c.places_of-all.ensures.len in
+    let now = run_state c.loop-step.stores c.loop-step.sources c.loop-step.links in
+    let t = c.loop-step.step in
+    let first : 1 ≤ t = c.loop-step.auto.step in
+    let inside : t < c.steps-step-end.result + 1 = c.loop-step-test.true in
+    let last : t ≤ length q.windows = omega (arith, c.steps-step-end.ensures.steps, inside) in
+    let may = may_report gives g.L.Link.sent g.L.Link.failed q plan base memory c.args.sources.now c.args.links.now places t now c.loop-step.buffers
+    c.places_of-all.ensures.problem begun c.requires.may.held c.requires.may.links footing many first last c.loop-step.invariant.done c.loop-step.invariant.ready c.loop-step.invariant.room in
+    may
 
 pub loop-step-preserved : goal.loop-step-preserved
 loop-step-preserved g c =
-    let sources : vec_len c.args.cargo.sources ≡ length c.args.cargo.sources.items = search rules in
-    let footing = footing_by g.S.Source.gives c.args.problem.now c.args.plan.now c.args.base (record { stores = c.args.cargo.stores.items; routes = c.args.control.now })
-    c.args.cargo.sources.items (vec_len c.args.cargo.links) c.places_of-all.result c.places_of-all.ensures.problem sources c.requires.begins c.deref.ensures.value c.places_of-all.ensures.places c.places_of-all.ensures.sound c.stores.ensures.stores in
-    let last : c.loop-step.step < c.steps-step-end.result + 1 = c.loop-step-test.true in
-    let first : 1 ≤ c.loop-step.step = c.loop-step.auto.step in
-    record {
-      gone =
-          gone_at g.S.Source.gives g.L.Link.sent g.L.Link.failed _ c.args.cargo.sources.items c.args.cargo.links.items _ footing c.runs_lose_as_planned.ensures.each
-          c.loop-step.step first (omega (arith, c.steps-step-end.ensures.steps, last)) c.loop-step.cargo c.in-Ok.after c.loop-step.room.report c.report_step.new.room.report
-          c.loop-step.invariant.gone c.in-Ok.ensures.ok c.in-Ok.ensures.row;
-      room = omega (arith, c.loop-step.invariant.room, c.report_step.ensures.capacity);
-    }
-
-pub returns-clause-ok : goal.returns-clause-ok
-returns-clause-ok g c =
-    let memory : Holdings = record { stores = c.args.cargo.stores.items; routes = c.args.control.now } in
-    let m = mission g.S.Source.gives c.args.problem.now c.args.plan.now c.args.base memory c.args.cargo.sources.items in
-    let over : c.steps-step-end.result + 1 ≤ c.loop-step.step = c.loop-step-test.false in
-    let all : c.loop-step.step - 1 ≡ length c.args.problem.now.windows = omega (arith, over, c.steps-step-end.ensures.steps, c.loop-step.auto.step-end) in
-    subst (λ (t : ℕ). HasGone g.S.Source.gives g.L.Link.sent g.L.Link.failed m c.args.cargo.sources.items c.args.cargo.links.items t
-    c.loop-step.cargo.stores.items c.loop-step.cargo.sources.items c.loop-step.cargo.links.items c.loop-step.room.report) all c.loop-step.invariant.gone
-
-pub returns-in-Err-clause-err : goal.returns-in-Err-clause-err
-returns-in-Err-clause-err g c =
-    let sources : vec_len c.args.cargo.sources ≡ length c.args.cargo.sources.items = search rules in
-    let footing = footing_by g.S.Source.gives c.args.problem.now c.args.plan.now c.args.base (record { stores = c.args.cargo.stores.items; routes = c.args.control.now })
-    c.args.cargo.sources.items (vec_len c.args.cargo.links) c.places_of-all.result c.places_of-all.ensures.problem sources c.requires.begins c.deref.ensures.value c.places_of-all.ensures.places c.places_of-all.ensures.sound c.stores.ensures.stores in
-    let memory : Holdings = record { stores = c.args.cargo.stores.items; routes = c.args.control.now } in
-    let m = mission g.S.Source.gives c.args.problem.now c.args.plan.now c.args.base memory c.args.cargo.sources.items in
-    let inside : c.loop-step.step < c.steps-step-end.result + 1 = c.loop-step-test.true in
+    let memory : Holdings = record { stores = c.args.stores.now.items; routes = c.args.run.now.control.now } in
+    let q = c.args.run.now.problem.now in
+    let plan = c.args.run.now.plan.now in
+    let base = c.args.run.now.base in
+    let gives = g.S.Source.gives in
+    let begun = begun_of (outset q plan c.args.stores.now.items base (length c.args.sources.now) (length c.args.links.now)) c.requires.may.begins in
     let places = take c.stores.result c.places_of-all.result in
-    let n = length c.args.problem.now.rows in
-    let orders = orders_of (amount c.args.plan.now) places c.loop-step.step n in
+    let footing = footing_here gives q plan base memory c.args.sources.now (length c.args.links.now) c.places_of-all.result c.places_of-all.ensures.problem
+    c.requires.may.begins c.requires.may.sound c.deref.ensures.value c.places_of-all.ensures.places c.stores.ensures.stores in
+    let many = places_many (length q.rows) c.stores.result c.places_of-all.result c.stores.ensures.stores c.places_of-all.ensures.problem.stores.at_most c.places_of-all.ensures.len in
+    let now = run_state c.loop-step.stores c.loop-step.sources c.loop-step.links in
+    let t = c.loop-step.step in
+    let first : 1 ≤ t = c.loop-step.auto.step in
+    let inside : t < c.steps-step-end.result + 1 = c.loop-step-test.true in
+    let last : t ≤ length q.windows = omega (arith, c.steps-step-end.ensures.steps, inside) in
+    let may = may_report gives g.L.Link.sent g.L.Link.failed q plan base memory c.args.sources.now c.args.links.now places t now c.loop-step.buffers
+    c.places_of-all.ensures.problem begun c.requires.may.held c.requires.may.links footing many first last c.loop-step.invariant.done c.loop-step.invariant.ready c.loop-step.invariant.room in
+    let m = run_input gives q plan base memory c.args.sources.now in
+    let e = recording t (base + t) c.args.run.now.control.now c.loop-step.stores.items in
+    let new = run_state c.report_step.new.stores c.report_step.new.sources c.report_step.new.links in
+    let hand = in_hand gives g.L.Link.sent g.L.Link.failed m c.args.sources.now c.args.links.now (t - 1) now c.loop-step.buffers.report c.loop-step.invariant.done in
+    let same = c.loop-step.invariant.done.sources_are.others t (λ from to. absurd (omega (arith, first, to))) in
+    let early : base + t ≤ bound_at (t - 1) = early_at base t (length q.windows) begun.early.first last c.places_of-all.ensures.problem.steps.at_most in
     record {
-      step = c.loop-step.step;
-      first = c.loop-step.auto.step;
-      last = omega (arith, c.steps-step-end.ensures.steps, inside);
-      before = c.loop-step.cargo;
-      gone =
-          subst (λ (r : Reported). HasGone g.S.Source.gives g.L.Link.sent g.L.Link.failed m c.args.cargo.sources.items c.args.cargo.links.items (c.loop-step.step - 1)
-          c.loop-step.cargo.stores.items c.loop-step.cargo.sources.items c.loop-step.cargo.links.items r) (sym c.in-Err.ensures.unreported) c.loop-step.invariant.gone;
-      off = c.in-Err.ensures.err;
-      orders = orders;
-      orders_are = record {
-        amounts = λ s store.
-            ap (wanted orders) (sym (footing.stand_at s store).is) ∙ wanted_is (amount c.args.plan.now) places c.loop-step.step n s footing.apart store;
-        apart = places_apart (amount c.args.plan.now) places c.loop-step.step n footing.apart;
-        some = amounts_some (amount c.args.plan.now) places c.loop-step.step n;
-      };
-      how = c.in-Err.ensures.how;
+      done =
+          done_at gives g.L.Link.sent g.L.Link.failed m c.args.sources.now c.args.links.now places footing c.runs_lose_as_planned.ensures.each t first last now new
+          c.loop-step.buffers.report c.report_step.new.buffers.report c.loop-step.invariant.done c.in_default.ensures.ok c.in_default.ensures.row;
+      ready = c.in_default.ensures.ready;
+      far = λ limits.
+          subst (λ (b : ℕ). AllFar b c.report_step.new.stores.items) (bound_more t first)
+          (far_after gives g.L.Link.sent g.L.Link.failed c.step_runs_keep_stores.ensures.law e _ now new may.carry.early c.loop-step.invariant.ready c.in_default.ensures.ok
+          (bound_at (t - 1)) (omega (arith, hand.sources_many, begun.counts.few_sources))
+          (still_few gives t c.args.sources.now c.loop-step.sources same (limits t).few) early (c.loop-step.invariant.far limits));
+      room = omega (arith, c.loop-step.invariant.room, c.in_default.ensures.capacity);
     }
+
+pub returns-clause-done : goal.returns-clause-done
+returns-clause-done g c =
+    let memory : Holdings = record { stores = c.args.stores.now.items; routes = c.args.run.now.control.now } in
+    let m = run_input g.S.Source.gives c.args.run.now.problem.now c.args.run.now.plan.now c.args.run.now.base memory c.args.sources.now in
+    let over : c.steps-step-end.result + 1 ≤ c.loop-step.step = c.loop-step-test.false in
+    let all : c.loop-step.step - 1 ≡ length c.args.run.now.problem.now.windows = omega (arith, over, c.steps-step-end.ensures.steps, c.loop-step.auto.step-end) in
+    record {
+      done =
+          subst (λ (t : ℕ). StepsDone g.S.Source.gives g.L.Link.sent g.L.Link.failed m c.args.sources.now c.args.links.now t
+          (run_state c.loop-step.stores c.loop-step.sources c.loop-step.links) c.loop-step.buffers.report) all c.loop-step.invariant.done;
+      ready = c.loop-step.invariant.ready;
+    }
+
+pub returns-in-Err-clause-halted : goal.returns-in-Err-clause-halted
+returns-in-Err-clause-halted g c =
+    let memory : Holdings = record { stores = c.args.stores.now.items; routes = c.args.run.now.control.now } in
+    let q = c.args.run.now.problem.now in
+    let plan = c.args.run.now.plan.now in
+    let base = c.args.run.now.base in
+    let gives = g.S.Source.gives in
+    let begun = begun_of (outset q plan c.args.stores.now.items base (length c.args.sources.now) (length c.args.links.now)) c.requires.may.begins in
+    let places = take c.stores.result c.places_of-all.result in
+    let footing = footing_here gives q plan base memory c.args.sources.now (length c.args.links.now) c.places_of-all.result c.places_of-all.ensures.problem
+    c.requires.may.begins c.requires.may.sound c.deref.ensures.value c.places_of-all.ensures.places c.stores.ensures.stores in
+    let many = places_many (length q.rows) c.stores.result c.places_of-all.result c.stores.ensures.stores c.places_of-all.ensures.problem.stores.at_most c.places_of-all.ensures.len in
+    let now = run_state c.loop-step.stores c.loop-step.sources c.loop-step.links in
+    let t = c.loop-step.step in
+    let first : 1 ≤ t = c.loop-step.auto.step in
+    let inside : t < c.steps-step-end.result + 1 = c.loop-step-test.true in
+    let last : t ≤ length q.windows = omega (arith, c.steps-step-end.ensures.steps, inside) in
+    let may = may_report gives g.L.Link.sent g.L.Link.failed q plan base memory c.args.sources.now c.args.links.now places t now c.loop-step.buffers
+    c.places_of-all.ensures.problem begun c.requires.may.held c.requires.may.links footing many first last c.loop-step.invariant.done c.loop-step.invariant.ready c.loop-step.invariant.room in
+    let m = run_input gives q plan base memory c.args.sources.now in
+    let e = recording t (base + t) c.args.run.now.control.now c.loop-step.stores.items in
+    let new = run_state c.report_step.new.stores c.report_step.new.sources c.report_step.new.links in
+    let are = orders_are m places t (λ s store. (footing.stand_at s store).is) in
+    let how = subst (λ (orders : List Order). StepBroke gives g.L.Link.sent g.L.Link.failed e orders now new c.in-Err.broken.cause c.in-Err.broken.spent) are c.in-Err.ensures.how in
+    record {
+      step = t;
+      from_one = first;
+      last = last;
+      before = now;
+      ready = c.loop-step.invariant.ready;
+      left = c.in-Err.ensures.ready;
+      there = subst (All (λ (o : Order). o.place < length c.loop-step.stores.items)) are may.carry.orders_may.places;
+      done =
+          subst (λ (r : Reported). StepsDone gives g.L.Link.sent g.L.Link.failed m c.args.sources.now c.args.links.now (t - 1) now r) (sym c.in-Err.ensures.unreported)
+          c.loop-step.invariant.done;
+      stops = stopped_of gives g.L.Link.sent g.L.Link.failed e (step_orders m t) now new c.in-Err.broken.cause c.in-Err.broken.spent how;
+      within = c.in-Err.ensures.within;
+      how = how;
+    }
+
+pub returns-in-Err-clause-far : goal.returns-in-Err-clause-far
+returns-in-Err-clause-far g c = λ limits.
+    let memory : Holdings = record { stores = c.args.stores.now.items; routes = c.args.run.now.control.now } in
+    let q = c.args.run.now.problem.now in
+    let plan = c.args.run.now.plan.now in
+    let base = c.args.run.now.base in
+    let gives = g.S.Source.gives in
+    let begun = begun_of (outset q plan c.args.stores.now.items base (length c.args.sources.now) (length c.args.links.now)) c.requires.may.begins in
+    let places = take c.stores.result c.places_of-all.result in
+    let footing = footing_here gives q plan base memory c.args.sources.now (length c.args.links.now) c.places_of-all.result c.places_of-all.ensures.problem
+    c.requires.may.begins c.requires.may.sound c.deref.ensures.value c.places_of-all.ensures.places c.stores.ensures.stores in
+    let many = places_many (length q.rows) c.stores.result c.places_of-all.result c.stores.ensures.stores c.places_of-all.ensures.problem.stores.at_most c.places_of-all.ensures.len in
+    let now = run_state c.loop-step.stores c.loop-step.sources c.loop-step.links in
+    let t = c.loop-step.step in
+    let first : 1 ≤ t = c.loop-step.auto.step in
+    let inside : t < c.steps-step-end.result + 1 = c.loop-step-test.true in
+    let last : t ≤ length q.windows = omega (arith, c.steps-step-end.ensures.steps, inside) in
+    let may = may_report gives g.L.Link.sent g.L.Link.failed q plan base memory c.args.sources.now c.args.links.now places t now c.loop-step.buffers
+    c.places_of-all.ensures.problem begun c.requires.may.held c.requires.may.links footing many first last c.loop-step.invariant.done c.loop-step.invariant.ready c.loop-step.invariant.room in
+    let m = run_input gives q plan base memory c.args.sources.now in
+    let e = recording t (base + t) c.args.run.now.control.now c.loop-step.stores.items in
+    let new = run_state c.report_step.new.stores c.report_step.new.sources c.report_step.new.links in
+    let same = c.loop-step.invariant.done.sources_are.others t (λ from to. absurd (omega (arith, first, to))) in
+    let early : base + t ≤ bound_at (t - 1) = early_at base t (length q.windows) begun.early.first last c.places_of-all.ensures.problem.steps.at_most in
+    c.in-Err.ensures.far
+    (takes_all gives e c.loop-step.stores.items c.loop-step.sources (bound_at (t - 1)) (bound_within t (length q.windows) last c.places_of-all.ensures.problem.steps.at_most)
+    c.loop-step.invariant.ready (c.loop-step.invariant.far limits) early (still_few gives t c.args.sources.now c.loop-step.sources same (limits t).few))

@@ -1,6 +1,6 @@
 use Rattle.std.proofs.Common.{◌∙◌, inl, refl, subst}
 use Rattle.mm_plan.specs.Table.{Table}
-use Rattle.mm_exec.specs.Mission.{mission}
+use Rattle.mm_exec.specs.RunInput.{run_input}
 use Rattle.mm_exec.specs.Ending.{IsCarriedOut, IsHalted}
 use Rattle.mm_exec.proofs.Headline.{headline_of}
 use Rattle.mm_exec.proofs.flying.fly.Goals as goal
@@ -10,14 +10,14 @@ returns-in-Ok-carry_out-clause-flown g c =
     let p = c.in-Ok.ensures in
     let plan = c.plan.ensures ∙ p.plan_is in
     let carried = subst (λ (x : Table). IsCarriedOut g.S.Source.gives g.L.Link.sent g.L.Link.failed
-    (mission g.S.Source.gives c.args.problem.now x c.args.base c.args.memory.now c.args.sources.items) x c.args.sources.items c.args.links.items
+    (run_input g.S.Source.gives c.args.problem.now x c.args.base c.args.memory.now c.args.sources.items) x c.args.sources.items c.args.links.items
     c.carry_out.new.memory c.in-Ok-carry_out.field-0) plan c.in-Ok-carry_out.ensures.carried_out in
     record {
       sheet = p.sheet;
       plans = p.plans;
       carried_out = carried;
       headline =
-          headline_of (mission g.S.Source.gives c.args.problem.now p.sheet.plan c.args.base c.args.memory.now c.args.sources.items) _ p.sheet c.in-Ok-carry_out.field-0.report
+          headline_of (run_input g.S.Source.gives c.args.problem.now p.sheet.plan c.args.base c.args.memory.now c.args.sources.items) _ p.sheet c.in-Ok-carry_out.field-0.report
           refl p.plans carried.total_lost;
     }
 
@@ -29,6 +29,6 @@ returns-clause-not_flown g c =
       sheet = p.sheet;
       plans = p.plans;
       halted = subst (λ (x : Table). IsHalted g.S.Source.gives g.L.Link.sent g.L.Link.failed
-          (mission g.S.Source.gives c.args.problem.now x c.args.base c.args.memory.now c.args.sources.items) x c.args.sources.items c.args.links.items
+          (run_input g.S.Source.gives c.args.problem.now x c.args.base c.args.memory.now c.args.sources.items) x c.args.sources.items c.args.links.items
           c.carry_out.new.memory c.in-Err.halted) plan c.in-Err.ensures.halted;
     })

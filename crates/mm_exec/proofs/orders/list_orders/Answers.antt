@@ -1,6 +1,6 @@
 use Rattle.std.proofs.Common.{◌≡◌, ◌∙◌, ◌<◌, ◌≤◌, ℕ, List, ◌∷◌, [], ◌++◌, ap, sym, subst, arith, vec_len, vec_capacity}
 use Rattle.std.specs.Prelude.{slice_index}
-use Rattle.mm_order.specs.declared.order.Order.{Order}
+use Rattle.mm_dump.specs.declared.order.Order.{Order}
 use Rattle.mm_plan.specs.Table.{amount}
 use Rattle.mm_exec.specs.Numbers.{orders_of}
 use Rattle.mm_exec.proofs.Listing.{order_more, order_none}

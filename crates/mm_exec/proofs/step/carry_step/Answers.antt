@@ -1,47 +1,60 @@
-use Rattle.std.proofs.Common.{rules, ◌≡◌, inl, inr, length, vec_len, arith}
-use Rattle.std.proofs.lemmas.Result.{err_from_is_err_and}
-use Rattle.mm_record.specs.Steps.{step_errand}
-use Rattle.mm_exec.specs.Step.{HasDumped, HasStepped, HasBrokenOff, BrokeRecording, BrokeOrders, BrokeStep}
-use Rattle.mm_exec.proofs.Parts.{both_parts, broken_after, same_ids, as_many, if_ok, if_err}
+use Rattle.std.proofs.Common.{◌⊎◌, inl, inr, refl}
+use Rattle.mm_record.specs.Recorded.{recording}
+use Rattle.mm_exec.specs.declared.step.StepBroken.{StepBroken}
+use Rattle.mm_exec.specs.Step.{run_state, AreReady, StepDumped, StepDone, StepBroke, OutOfMemory, OrdersBroke}
+use Rattle.mm_exec.proofs.Parts.{as_many, both_parts, ok_follows, err_follows, both_follow}
+use Rattle.mm_exec.proofs.Ready.{may_dump, ready_after, ready_left, ready_recorded}
 use Rattle.mm_exec.proofs.step.carry_step.Goals as goal
+
+pub returns-in_err-record_part-clause-ready : goal.returns-in_err-record_part-clause-ready
+returns-in_err-record_part-clause-ready g c =
+    let e = recording c.args.step.now.step c.args.step.now.now c.args.step.now.control.now c.args.stores.now.items in
+    ready_left g.S.Source.gives g.L.Link.sent g.L.Link.failed e c.args.orders.now (run_state c.args.stores.now c.args.sources.now c.args.links.now)
+    (run_state c.record_part.new.stores c.record_part.new.sources c.args.links.now) c.in_err-record_part.field-0.0.cause c.in_err-record_part.field-0.0.spent
+    c.orders_dump_the_oldest.ensures.law c.broken_orders_change_nothing.ensures.law refl c.requires.may.ready
+    (inl (record { links = refl; how = c.in_err-record_part.ensures.how }))
+
+pub dump_part-requires-clause-may : goal.dump_part-requires-clause-may
+dump_part-requires-clause-may g c κs within =
+    let e = recording c.args.step.now.step c.args.step.now.now c.args.step.now.control.now c.args.stores.now.items in
+    let recorded = c.in_ok-record_part.ensures.ok in
+    may_dump g.L.Link.failed c.args.step.now.now c.args.orders.now (run_state c.args.stores.now c.args.sources.now c.args.links.now) c.record_part.new.stores.items
+    c.requires.may (as_many c.record_part.new.stores.items c.args.stores.now.items recorded.labels)
+    (ready_recorded g.S.Source.gives e c.args.stores.now.items c.args.sources.now c.record_part.new.stores.items c.record_part.new.sources c.requires.may.ready recorded)
 
 pub returns-clause-ok : goal.returns-clause-ok
 returns-clause-ok g c =
-    let recorded = c.in_ok-recorded.ensures.ok in
-    let e = step_errand c.args.step c.args.now c.args.control.now c.args.cargo.stores.items in
-    let ids = same_ids c.in_ok-recorded.recorded.stores.items c.args.cargo.stores.items recorded.labels in
-    if_ok (HasDumped g.L.Link.sent g.L.Link.failed c.args.orders.now c.in_ok-recorded.recorded)
-    (HasStepped g.S.Source.gives g.L.Link.sent g.L.Link.failed e c.args.orders.now c.args.cargo) c.dump_part.result c.dump_part.ensures.ok
-    (λ after dumped. both_parts g.S.Source.gives g.L.Link.sent g.L.Link.failed e c.args.orders.now c.args.cargo c.in_ok-recorded.recorded recorded
-    c.halves_make_step_runs.ensures.law after ids dumped)
-
-pub returns-clause-err : goal.returns-clause-err
-returns-clause-err g c =
-    let recorded = c.in_ok-recorded.ensures.ok in
-    let e = step_errand c.args.step c.args.now c.args.control.now c.args.cargo.stores.items in
-    if_err (HasBrokenOff g.S.Source.gives c.args.step c.args.window c.in_ok-recorded.recorded)
-    (HasBrokenOff g.S.Source.gives c.args.step c.args.window c.args.cargo) c.dump_part.result c.dump_part.ensures.err
-    (broken_after g.S.Source.gives g.L.Link.sent g.L.Link.failed e c.args.orders.now c.args.cargo c.in_ok-recorded.recorded recorded c.args.window)
-
-pub dump_part-requires-clause-places : goal.dump_part-requires-clause-places
-dump_part-requires-clause-places g c κs within k d inside =
-    let here = c.requires.places k d inside in
-    let many : length c.in_ok-recorded.recorded.stores.items ≡ length c.args.cargo.stores.items = as_many _ _ c.in_ok-recorded.ensures.ok.labels in
-    let first : vec_len c.args.cargo.stores ≡ length c.args.cargo.stores.items = search rules in
-    let then : vec_len c.in_ok-recorded.recorded.stores ≡ length c.in_ok-recorded.recorded.stores.items = search rules in
-    omega (arith, here, many, first, then)
-
-pub returns-in_err-recorded-clause-how : goal.returns-in_err-recorded-clause-how
-returns-in_err-recorded-clause-how g c =
-    let e = step_errand c.args.step c.args.now c.args.control.now c.args.cargo.stores.items in
-    let how : BrokeRecording g.S.Source.gives e c.args.cargo c.in_err-recorded.field-0.0 = c.in_err-recorded.ensures.how in
-    let broke : BrokeStep g.S.Source.gives g.L.Link.sent g.L.Link.failed e c.args.orders.now c.args.cargo c.in_err-recorded.field-0.0 = inl how in
-    let p = err_from_is_err_and c.from_residual.result c.from_residual.ensures.1 in
-    rw (p.1, p.2) broke
+    let e = recording c.args.step.now.step c.args.step.now.now c.args.step.now.control.now c.args.stores.now.items in
+    let before = run_state c.args.stores.now c.args.sources.now c.args.links.now in
+    let after = run_state c.dump_part.new.stores c.record_part.new.sources c.dump_part.new.links in
+    ok_follows (StepDumped g.L.Link.sent g.L.Link.failed c.args.orders.now c.record_part.new.stores.items c.args.links.now c.dump_part.new.stores.items c.dump_part.new.links)
+    (StepDone g.S.Source.gives g.L.Link.sent g.L.Link.failed e c.args.orders.now before after) c.dump_part.result c.dump_part.ensures.ok
+    (λ dumped. both_parts g.S.Source.gives g.L.Link.sent g.L.Link.failed e c.args.orders.now before after c.record_part.new.stores.items
+    c.halves_make_step_runs.ensures.law refl c.in_ok-record_part.ensures.ok dumped)
 
 pub returns-clause-how : goal.returns-clause-how
 returns-clause-how g c =
-    let e = step_errand c.args.step c.args.now c.args.control.now c.args.cargo.stores.items in
-    if_err (BrokeOrders g.L.Link.sent g.L.Link.failed c.args.step c.args.orders.now c.in_ok-recorded.recorded)
-    (BrokeStep g.S.Source.gives g.L.Link.sent g.L.Link.failed e c.args.orders.now c.args.cargo) c.dump_part.result c.dump_part.ensures.how
-    (λ off broke. inr (record { mid = c.in_ok-recorded.recorded; recorded = c.in_ok-recorded.ensures.ok; broke = broke }))
+    let e = recording c.args.step.now.step c.args.step.now.now c.args.step.now.control.now c.args.stores.now.items in
+    let before = run_state c.args.stores.now c.args.sources.now c.args.links.now in
+    let after = run_state c.dump_part.new.stores c.record_part.new.sources c.dump_part.new.links in
+    err_follows (λ (broken : StepBroken). OutOfMemory c.args.step.now.step c.record_part.new.stores.items c.args.links.now c.dump_part.new.stores.items c.dump_part.new.links broken.cause broken.spent
+    ⊎ OrdersBroke g.L.Link.sent g.L.Link.failed c.args.step.now.step c.args.orders.now c.record_part.new.stores.items c.args.links.now c.dump_part.new.stores.items c.dump_part.new.links broken.cause broken.spent)
+    (λ (broken : StepBroken). StepBroke g.S.Source.gives g.L.Link.sent g.L.Link.failed e c.args.orders.now before after broken.cause broken.spent) c.dump_part.result c.dump_part.ensures.how
+    (λ broken how. inr (record { mid = c.record_part.new.stores.items; recorded = c.in_ok-record_part.ensures.ok; how = how }))
+
+pub returns-clause-ready : goal.returns-clause-ready
+returns-clause-ready g c =
+    let e = recording c.args.step.now.step c.args.step.now.now c.args.step.now.control.now c.args.stores.now.items in
+    let before = run_state c.args.stores.now c.args.sources.now c.args.links.now in
+    let after = run_state c.dump_part.new.stores c.record_part.new.sources c.dump_part.new.links in
+    both_follow (StepDumped g.L.Link.sent g.L.Link.failed c.args.orders.now c.record_part.new.stores.items c.args.links.now c.dump_part.new.stores.items c.dump_part.new.links)
+    (AreReady c.dump_part.new.stores.items)
+    (λ (broken : StepBroken). OutOfMemory c.args.step.now.step c.record_part.new.stores.items c.args.links.now c.dump_part.new.stores.items c.dump_part.new.links broken.cause broken.spent
+    ⊎ OrdersBroke g.L.Link.sent g.L.Link.failed c.args.step.now.step c.args.orders.now c.record_part.new.stores.items c.args.links.now c.dump_part.new.stores.items c.dump_part.new.links broken.cause broken.spent)
+    c.dump_part.result c.dump_part.ensures.ok c.dump_part.ensures.how
+    (λ dumped. ready_after g.S.Source.gives g.L.Link.sent g.L.Link.failed c.step_runs_keep_stores.ensures.law e c.args.orders.now before after c.requires.may.early c.requires.may.ready
+    (both_parts g.S.Source.gives g.L.Link.sent g.L.Link.failed e c.args.orders.now before after c.record_part.new.stores.items
+    c.halves_make_step_runs.ensures.law refl c.in_ok-record_part.ensures.ok dumped))
+    (λ broken how. ready_left g.S.Source.gives g.L.Link.sent g.L.Link.failed e c.args.orders.now before after broken.cause broken.spent
+    c.orders_dump_the_oldest.ensures.law c.broken_orders_change_nothing.ensures.law refl c.requires.may.ready
+    (inr (record { mid = c.record_part.new.stores.items; recorded = c.in_ok-record_part.ensures.ok; how = how })))

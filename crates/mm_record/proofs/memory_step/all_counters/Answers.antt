@@ -1,6 +1,6 @@
 use Rattle.std.proofs.Common.{rules, ◌≡◌, ◌<◌, [], ◌∷◌, ◌++◌, length, get_or, sym, ap, ◌∙◌}
 use Rattle.mm_desk.specs.Machine.{IsState}
-use Rattle.mm_record.specs.Rows.{counters_of}
+use Rattle.mm_record.specs.Counters.{counters_of}
 use Rattle.mm_record.proofs.Memories.{all_more, map_more}
 use Rattle.mm_record.proofs.memory_step.all_counters.Goals as goal
 
@@ -11,8 +11,8 @@ loop-held-preserved c =
     let h = c.held-item.result in
     let within : i < length stores = search rules in
     let at : get_or stores i h ≡ h = search rules in
-    let pushed : c.push.new.self.items ≡ c.loop-held.counters.items ++ counters_of h ∷ [] = search rules in
+    let pushed : c.push.new.self.items ≡ c.loop-held.counters.items ++ counters_of h.state ∷ [] = search rules in
     record {
-      counters = pushed ∙ ap (λ cs. cs ++ counters_of h ∷ []) c.loop-held.invariant.counters ∙ sym (map_more counters_of stores i h within at);
-      sound = all_more (λ h. IsState h.state) stores i h within at c.loop-held.invariant.sound c.counters_of.ensures.sound;
+      counters = pushed ∙ ap (λ cs. cs ++ counters_of h.state ∷ []) c.loop-held.invariant.counters ∙ sym (map_more (λ h. counters_of h.state) stores i h within at);
+      sound = all_more (λ h. IsState h.state) stores i h within at c.loop-held.invariant.sound c.of.ensures.sound;
     }

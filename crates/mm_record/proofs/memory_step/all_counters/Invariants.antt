@@ -1,10 +1,10 @@
 use Rattle.std.proofs.Common.{◌≡◌, map, take, All}
 use Rattle.mm_desk.specs.Machine.{IsState}
-use Rattle.mm_record.specs.Rows.{counters_of}
+use Rattle.mm_record.specs.Counters.{counters_of}
 use Rattle.mm_record.proofs.memory_step.all_counters.Given as goal
 
 abbrev pub invariant-loop-held : goal.invariant-loop-held
 invariant-loop-held l = record {
-  counters : l.counters.items ≡ map counters_of (take l.held-index l.stores);
+  counters : l.counters.items ≡ map (λ h. counters_of h.state) (take l.held-index l.stores);
   sound : All (λ h. IsState h.state) (take l.held-index l.stores);
 }

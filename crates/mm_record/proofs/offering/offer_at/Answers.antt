@@ -1,12 +1,24 @@
-use Rattle.mm_record.proofs.Going.{adds_at, adds_partly_at, offer_taken, offer_refused}
+use Rattle.std.proofs.Common.{get_or}
+use Rattle.mm_record.proofs.Going.{adds_at, adds_partly_at, offer_taken, offer_refused, port_at, reason_at, same_end}
 use Rattle.mm_record.proofs.offering.offer_at.Goals as goal
+
+pub offer-requires : goal.offer-requires
+offer-requires g c = record { of = port_at c.args.context.now.stores.now c.args.lines.now c.args.index _ _ c.requires.at c.requires.within }
 
 pub returns-in-Ok-clause-ok : goal.returns-in-Ok-clause-ok
 returns-in-Ok-clause-ok g c =
-    adds_at _ _ c.args.seats.now c.args.place _ c.index-seats-place.result c.offer.new.seat c.requires.seated c.requires.within
-    (offer_taken _ _ _ _ _ c.in-Ok.ensures.tells)
+    let line = get_or c.args.lines.now c.args.index c.index-lines-index.result in
+    adds_at c.args.context.now.moment c.args.packet c.args.context.now.stores.now c.args.lines.now c.args.index c.index-lines-index.result _ c.requires.at c.requires.within
+    (same_end line _ _ _ c.in-Ok.ensures.called) (offer_taken line.port _ _ _ _ c.in-Ok.ensures.called)
 
 pub returns-clause-err : goal.returns-clause-err
 returns-clause-err g c =
-    adds_partly_at _ _ c.args.seats.now c.args.place _ c.index-seats-place.result c.offer.new.seat c.requires.seated c.requires.within
-    (offer_refused _ _ _ _ _ c.in-Err.ensures.tells c.in-Err.ensures.back)
+    let line = get_or c.args.lines.now c.args.index c.index-lines-index.result in
+    adds_partly_at c.args.context.now.moment c.args.packet c.args.context.now.stores.now c.args.lines.now c.args.index c.index-lines-index.result _ c.requires.at c.requires.within
+    (same_end line _ _ _ c.in-Err.ensures.called) (offer_refused line.port _ _ _ _ c.in-Err.ensures.called)
+
+pub returns-clause-why : goal.returns-clause-why
+returns-clause-why g c =
+    let line = get_or c.args.lines.now c.args.index c.index-lines-index.result in
+    reason_at c.args.context.now.moment c.args.packet c.args.context.now.stores.now c.args.lines.now c.args.index c.index-lines-index.result _ c.requires.at c.requires.within
+    (same_end line _ _ _ c.in-Err.ensures.called) line.port c.in-Err.back c.in-Err.ensures.called

@@ -1,0 +1,16 @@
+use Rattle.std.proofs.Common.{◌≡◌, ℕ}
+use Rattle.mm_exec.proofs.Parts.{err_follows}
+use Rattle.mm_exec.specs.declared.flight.Halted.{Halted}
+use Rattle.mm_report.specs.declared.cause.Cause.TheVariants.{LinkFailed}
+use Rattle.callers.specs.Again.{GoesOutAgain}
+use Rattle.callers.specs.declared.ends.Burst.{Burst}
+use Rattle.callers.specs.declared.ends.Downlink.{Downlink}
+use Rattle.callers.proofs.Resending.{goes_again}
+use Rattle.callers.proofs.halt.carry_out_or_tell.Goals as goal
+
+pub returns : goal.returns
+returns c = record {
+  again = err_follows _
+      (λ (halted : Halted Burst Downlink). (step : ℕ) → halted.cause ≡ LinkFailed step → GoesOutAgain c.args.links.items halted.links.items c.carry_out.new.memory)
+      c.carry_out.result c.carry_out.ensures.halted (λ halted was step is. goes_again _ _ _ _ _ _ halted step is was);
+}

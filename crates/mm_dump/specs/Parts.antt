@@ -1,0 +1,101 @@
+-- The parts of an order. No public clause cites this module.
+use Rattle.std.specs.Prelude.{◌≡◌, ℕ, ◌+◌, ◌≤◌, Bool, true, false, nat_lt, is_some, if◌then◌else◌, List, [], ◌∷◌, ◌++◌, length, Option, Some, None, Ok}
+use Rattle.std.specs.Option.{option_to_list}
+use Rattle.mm_store.specs.declared.stored.Stored.{Stored}
+use Rattle.mm_desk.specs.declared.entry.Entry.{Entry}
+use Rattle.mm_desk.specs.declared.event.Event.TheVariants.{Next, Delete}
+use Rattle.mm_desk.specs.declared.reply.Reply.TheVariants as reply
+use Rattle.mm_desk.specs.Machine.{State}
+use Rattle.mm_desk.specs.Orders.{given, last_time, IsOrderOf}
+use Rattle.mm_desk.specs.Runs.{entry, IsRun}
+use Rattle.mm_shared.specs.Views.{PortView}
+use Rattle.mm_dump.specs.declared.order.OrderBroken.{OrderBroken}
+use Rattle.mm_dump.specs.declared.stop.Stop.{Stop}
+use Rattle.mm_dump.specs.declared.stop.Stop.TheVariants.{Broken, Refused}
+use Rattle.mm_dump.specs.Broken.{aborted, unsent_at, IsBrokenOrder}
+use Rattle.mm_dump.specs.Sending.{LinkState, all_sent}
+
+-- no store answers these calls so: one at which a retrieval is on, or one at which none is
+pub record IsRefused (on : Bool) (calls : List Entry) : Type 0 where
+  pub never : (s t : State) → is_some s.retrieval ≡ on → IsRun s calls t → ⊥
+
+-- a port with these calls more in its list
+abbrev pub with_calls : PortView → List Entry → PortView
+with_calls port calls = record port { list = port.list ++ calls }
+
+-- through a port calls were made that no store answers so
+abbrev pub WasRefused : Bool → PortView → PortView → Type 0
+WasRefused on old new = (calls : List Entry) × (new ≡ with_calls old calls) × IsRefused on calls
+
+-- through a port these calls were made; of the packets that they gave the link took these and did not take those, and a block of
+-- the window was spent for each
+pub record HasSent (id : List ℕ) (calls : List Entry) (sent unsent : List Stored) (old new : PortView) (before after : LinkState) : Type 0 where
+  pub port : new ≡ with_calls old calls
+  pub all : after.sent ≡ before.sent ++ all_sent id sent
+  pub failures : after.failed ≡ before.failed + length unsent
+  pub blocks : after.spent ≡ before.spent + length sent + length unsent
+
+-- a next was answered with this packet, which was sent, or with the end of the retrieval
+abbrev pub SentNext : List ℕ → Option Stored → PortView → PortView → LinkState → LinkState → Type 0
+SentNext id next old new before after =
+    HasSent id (entry old.number Next (reply.Given (Ok next)) ∷ []) (option_to_list next) [] old new before after
+
+-- the retrieval was aborted after an order broke, or the abort was refused
+abbrev pub AbortsAs : OrderBroken → Stop → PortView → PortView → Type 0
+AbortsAs why (Broken other) old new = (other ≡ why) × (new ≡ with_calls old (aborted old.number ∷ []))
+AbortsAs why Refused old new = WasRefused true old new
+
+-- the calls of an order that stops in its retrieval: it was aborted, or a call was refused
+abbrev pub StopsAs : Stop → ℕ → List Stored → List Stored → List Entry → Type 0
+StopsAs (Broken why) seat sent unsent calls = (calls ≡ given seat (sent ++ unsent) ++ aborted seat ∷ []) × (length unsent ≡ unsent_at why)
+StopsAs Refused seat sent unsent calls = IsRefused true calls
+
+-- an order stopped in its retrieval, after at most this many packets
+pub record HasStopped (id : List ℕ) (wanted : ℕ) (stop : Stop) (old new : PortView) (before after : LinkState) : Type 0 where
+  pub sent : List Stored
+  pub unsent : List Stored
+  pub calls : List Entry
+  pub most : length (sent ++ unsent) ≤ wanted
+  pub has_sent : HasSent id calls sent unsent old new before after
+  pub stops : StopsAs stop old.number sent unsent calls
+
+-- the time of the packet given last
+abbrev pub last_of : List Stored → Option ℕ
+last_of [] = None
+last_of (stored ∷ gave) = Some (last_time stored.time gave)
+
+-- the entry of the end of a retrieval, where it came to its end
+abbrev pub end_where : ℕ → Bool → List Entry
+end_where seat over = if over then entry seat Next (reply.Given (Ok None)) ∷ [] else []
+
+-- the entry of an abort, where the retrieval did not come to its end
+abbrev pub abort_where : ℕ → Bool → List Entry
+abort_where seat over = if over then [] else aborted seat ∷ []
+
+-- packets were given and sent, this many or fewer; where fewer, the retrieval came to its end
+pub record SentAll (id : List ℕ) (wanted : ℕ) (last : Option ℕ) (over : Bool) (old new : PortView) (before after : LinkState) : Type 0 where
+  pub gave : List Stored
+  pub most : length gave ≤ wanted
+  pub fewer : over ≡ nat_lt (length gave) wanted
+  pub last_is : last ≡ last_of gave
+  pub has_sent : HasSent id (given old.number gave ++ end_where old.number over) gave [] old new before after
+
+-- the entry of the deletion up to the packet given last, where one was given
+abbrev pub deletion : ℕ → Option ℕ → ℕ → List Entry
+deletion seat None count = []
+deletion seat (Some limit) count = entry seat (Delete limit) (reply.Deleted (Ok count)) ∷ []
+
+-- how an order ended: it is whole, or it broke, or a call was refused
+abbrev pub EndsAs : Option Stop → ℕ → ℕ → List Stored → List Stored → List Entry → Type 0
+EndsAs None seat wanted sent unsent calls = IsOrderOf seat wanted sent calls × (unsent ≡ [])
+EndsAs (Some (Broken why)) seat wanted sent unsent calls = IsBrokenOrder seat wanted (sent ++ unsent) calls × (length unsent ≡ unsent_at why)
+EndsAs (Some Refused) seat wanted sent unsent calls = IsRefused false calls
+
+-- an order ended, after at most this many packets
+pub record HasEnded (id : List ℕ) (wanted : ℕ) (stop : Option Stop) (old new : PortView) (before after : LinkState) : Type 0 where
+  pub sent : List Stored
+  pub unsent : List Stored
+  pub calls : List Entry
+  pub most : length (sent ++ unsent) ≤ wanted
+  pub has_sent : HasSent id calls sent unsent old new before after
+  pub ends : EndsAs stop old.number wanted sent unsent calls

@@ -1,0 +1,37 @@
+-- What a step's dump takes beside its stores and its links, and what its passes know when they are back. No public clause cites
+-- this module.
+use Rattle.std.specs.Prelude.{◌≡◌, ℕ, ◌+◌, List, [], length, sum_by, All, vec_len}
+use Rattle.crossbeam_queue.specs.Passes.{view, IsPassOf}
+use Rattle.mm_dump.specs.declared.dumper.DumpWorker.{DumpWorker}
+use Rattle.mm_dump.specs.declared.queue.QueueView.{QueueView}
+use Rattle.mm_dump.specs.declared.step.DumpBuffers.{DumpBuffers}
+use Rattle.mm_dump.specs.Queue.{queue_view}
+use Rattle.crossbeam_queue.specs.declared.array_queue.Doing.{Doing}
+use Rattle.crossbeam_queue.specs.declared.array_queue.Slotted.{Slotted}
+use Rattle.std.specs.Prelude.{Option}
+
+-- a worker that has a pass of the queue with one part, which knows that this many numbers were pushed, and has done nothing
+pub record IsHired {Q A : Type 0} (queue : Slotted (Option ℕ) (Doing ℕ QueueView) Q A) (pushed : ℕ) (w : DumpWorker) : Type 0 where
+  pub pass : IsPassOf queue w.pass
+  pub first : view w.pass ≡ queue_view 1 pushed []
+  pub spent : w.spent ≡ 0
+
+-- this many workers are hired, this many numbers are pushed, and the pass with the other parts has taken none
+pub record AreBuffers (links numbers : ℕ) (buffers : DumpBuffers) : Type 0 where
+  pub count : vec_len buffers.workers ≡ links
+  pub pass : IsPassOf buffers.queue buffers.pass
+  pub parts : (view buffers.pass).parts + links ≡ 1024
+  pub pushed : (view buffers.pass).pushed ≡ numbers
+  pub none : (view buffers.pass).taken ≡ []
+  pub hired : All (IsHired buffers.queue numbers) buffers.workers.items
+
+-- the pass of a worker has one part
+pub record HasPart {Q A : Type 0} (queue : Slotted (Option ℕ) (Doing ℕ QueueView) Q A) (w : DumpWorker) : Type 0 where
+  pub pass : IsPassOf queue w.pass
+  pub part : (view w.pass).parts ≡ 1
+
+-- the passes of workers were joined to a pass: their parts, and what they took, however it is weighed
+pub record AreBack (workers : List DumpWorker) (old new : QueueView) : Type 0 where
+  pub parts : new.parts ≡ old.parts + length workers
+  pub pushed : new.pushed ≡ old.pushed
+  pub taken : (weight : ℕ → ℕ) → sum_by weight new.taken ≡ sum_by weight old.taken + sum_by (λ (w : DumpWorker). sum_by weight (view w.pass).taken) workers

@@ -1,0 +1,235 @@
+-- What each link did in a step that a failed link halted.
+use Rattle.std.proofs.Common.{◌≡◌, ◌≢◌, ◌⊎◌, inl, inr, ℕ, zero, suc, ◌+◌, ◌<◌, Bool, true, false, cond, eqb, List, [], ◌∷◌, ◌++◌, length, map, All, refl, sym, ap, subst, ◌∙◌, arith}
+use Rattle.std.specs.Prelude.{Option, Some, None, slice_index_or, sum_by}
+use Rattle.std.proofs.lemmas.Bool.{eq-eqb}
+use Rattle.std.proofs.lemmas.Bool.Decides.{eqb_tells}
+use Rattle.std.proofs.lemmas.List.Elements.{All-nil, All-cons, All-head, All-tail}
+use Rattle.std.proofs.lemmas.List.Sums.{sum_by-cons, sum_by-append}
+use Rattle.mm_desk.specs.Machine.{State, IsState}
+use Rattle.mm_desk.specs.Runs.{opening_at, IsLegal}
+use Rattle.mm_dump.specs.Broken.{aborted}
+use Rattle.mm_desk.proofs.Ordering.{given_oldest}
+use Rattle.mm_dump.specs.declared.order.Order.{Order}
+use Rattle.mm_dump.specs.declared.order.OrderBroken.{OrderBroken}
+use Rattle.mm_dump.specs.declared.order.OrderBroken.TheVariants as broken
+use Rattle.mm_dump.specs.Laws.{BrokenOrdersChangeNothing}
+use Rattle.mm_dump.specs.Sending.{Sent}
+use Rattle.mm_dump.specs.Courses.{Course, EndedAs, IsWhole, IsBroken, IsCourse, worse, worst_of, failed_by, sent_by}
+use Rattle.mm_dump.specs.Dumped.{times, places_of, AllTried, AllSettled}
+use Rattle.mm_exec.specs.Failure.{NoneBroke, LastBroke, LinksFailed}
+use Rattle.mm_exec.proofs.Mild.{IsMild, mild_both}
+
+-- the causes for which orders of some stores broke
+abbrev whys : (ℕ → Course) → List ℕ → List (Option OrderBroken)
+whys course places = map (λ c. c.why) (map course places)
+
+-- none of the orders of these stores broke
+record AllWhole (course : ℕ → Course) (places : List ℕ) : Type 0 where
+  whole : All (λ k. IsWhole (course k)) places
+  fails : failed_by (map course places) ≡ 0
+  none : worst_of (whys course places) ≡ None
+
+-- the last of the orders of these stores broke for its link
+record LastMild (course : ℕ → Course) (places : List ℕ) : Type 0 where
+  early : List ℕ
+  last : ℕ
+  are : places ≡ early ++ last ∷ []
+  whole : All (λ k. IsWhole (course k)) early
+  why : (course last).why ≡ Some broken.LinkFailed
+  broke : IsBroken broken.LinkFailed (course last)
+  fails : failed_by (map course places) ≡ 1
+
+-- of the orders the last alone may have broken
+abbrev AreEarly : List Course → Type 0
+AreEarly courses = (i : ℕ) (d : Course) → suc i < length courses → (slice_index_or courses i d).why ≡ None
+
+-- one order
+one_course : (course : ℕ → Course) (k : ℕ) (why : Option OrderBroken) → (course k).why ≡ why → EndedAs why (course k) → IsMild why → AllWhole course (k ∷ []) ⊎ LastMild course (k ∷ [])
+one_course course k None is went mild = inl (record {
+  whole = All-cons (λ k. IsWhole (course k)) k [] went (All-nil (λ k. IsWhole (course k)));
+  fails = omega (arith, ap length went.all);
+  none = ap (λ (w : Option OrderBroken). worse w None) is;
+})
+one_course course k (Some broken.LinkFailed) is went mild = inr (record {
+  early = [];
+  last = k;
+  are = refl;
+  whole = All-nil (λ k. IsWhole (course k));
+  why = is;
+  broke = went;
+  fails = omega (arith, went.last);
+})
+one_course course k (Some broken.NoMemory) is went mild = absurd mild
+
+-- one link's orders
+all_courses : (course : ℕ → Course) (places : List ℕ) → All IsCourse (map course places) → AreEarly (map course places) → IsMild (worst_of (whys course places))
+    → AllWhole course places ⊎ LastMild course places
+all_courses course [] are early mild = inl (record { whole = All-nil (λ k. IsWhole (course k)); fails = refl; none = refl })
+all_courses course (k ∷ []) are early mild = one_course course k (course k).why refl (All-head IsCourse (course k) [] are) (mild_both (course k).why None mild).0
+all_courses course (k ∷ j ∷ ks) are early mild =
+    let first : (course k).why ≡ None = early 0 (course k) (omega arith) in
+    let whole : IsWhole (course k) = subst (λ (w : Option OrderBroken). EndedAs w (course k)) first (All-head IsCourse (course k) (map course (j ∷ ks)) are) in
+    by_rest first whole
+    (all_courses course (j ∷ ks) (All-tail IsCourse (course k) (map course (j ∷ ks)) are) (λ i d within. early (suc i) d (omega arith))
+    (mild_both (course k).why (worst_of (whys course (j ∷ ks))) mild).1)
+  where
+    none_more : {fails : ℕ} → failed_by (map course (j ∷ ks)) ≡ fails → IsWhole (course k) → failed_by (map course (k ∷ j ∷ ks)) ≡ fails
+    none_more {fails = fails} rest whole =
+        let here : length (course k).unsent ≡ 0 = ap length whole.all in
+        let more : failed_by (map course (k ∷ j ∷ ks)) ≡ length (course k).unsent + failed_by (map course (j ∷ ks)) =
+        sum_by-cons (λ (c : Course). length c.unsent) (course k) (map course (j ∷ ks)) in
+        omega (arith, here, more, rest)
+
+    by_rest : (course k).why ≡ None → IsWhole (course k) → AllWhole course (j ∷ ks) ⊎ LastMild course (j ∷ ks) → AllWhole course (k ∷ j ∷ ks) ⊎ LastMild course (k ∷ j ∷ ks)
+    by_rest first whole (inl rest) = inl (record {
+      whole = All-cons (λ k. IsWhole (course k)) k (j ∷ ks) whole rest.whole;
+      fails = none_more rest.fails whole;
+      none = ap (λ (w : Option OrderBroken). worse w (worst_of (whys course (j ∷ ks)))) first ∙ rest.none;
+    })
+    by_rest first whole (inr rest) = inr (record {
+      early = k ∷ rest.early;
+      last = rest.last;
+      are = ap (λ (xs : List ℕ). k ∷ xs) rest.are;
+      whole = All-cons (λ k. IsWhole (course k)) k rest.early whole rest.whole;
+      why = rest.why;
+      broke = rest.broke;
+      fails = none_more rest.fails whole;
+    })
+
+-- the worst cause of orders of links
+abbrev worst_at : (ℕ → Course) → List (List ℕ) → Option OrderBroken
+worst_at course places = worst_of (map (λ ks. worst_of (map (λ c. c.why) (map course ks))) places)
+
+-- a number at the end of a list is in it
+times_last : (early : List ℕ) (k : ℕ) → 0 < times k (early ++ k ∷ [])
+times_last early k =
+    let here : cond {A = ℕ} (eqb k k) 1 0 ≡ 1 = ap (λ (b : Bool). cond {A = ℕ} b 1 0) (eq-eqb k k refl) in
+    omega (arith, sum_by-append (λ (y : ℕ). cond {A = ℕ} (eqb y k) 1 0) early (k ∷ []), here)
+
+-- and so it is in lists of which that is one
+times_among : (lists : List (List ℕ)) (l k : ℕ) → l < length lists → 0 < times k (slice_index_or lists l []) → 0 < sum_by (times k) lists
+times_among [] l k within some = absurd (omega arith)
+times_among (x ∷ xs) zero k within some = omega (arith, sum_by-cons (times k) x xs, some)
+times_among (x ∷ xs) (suc l) k within some =
+    let rest = times_among xs l k (omega arith) some in
+    omega (arith, sum_by-cons (times k) x xs, rest)
+
+-- a store that orders name is there
+named_there : (n k : ℕ) (orders : List Order) → All (λ o. o.place < n) orders → 0 < times k (places_of orders) → k < n
+named_there n k [] all some = absurd (omega (arith, some))
+named_there n k (o ∷ os) all some = by_test (named_there n k os (All-tail (λ (o : Order). o.place < n) o os all)) (eqb_tells o.place k)
+  where
+    by_test : (0 < times k (places_of os) → k < n) → ((eqb o.place k ≡ true) × (o.place ≡ k)) ⊎ ((eqb o.place k ≡ false) × (o.place ≢ k)) → k < n
+    by_test rest (inl same) = subst (λ (j : ℕ). j < n) same.1 (All-head (λ (o : Order). o.place < n) o os all)
+    by_test rest (inr other) =
+        let none_here : cond {A = ℕ} (eqb o.place k) 1 0 ≡ 0 = ap (λ (b : Bool). cond {A = ℕ} b 1 0) other.0 in
+        rest (omega (arith, some, none_here, sum_by-cons (λ (y : ℕ). cond {A = ℕ} (eqb y k) 1 0) o.place (places_of os)))
+
+module _ {L : Type 0} (sent : L → List Sent) (failed : L → ℕ) (ids : List (List ℕ)) (course : ℕ → Course) where
+  -- each link has its places
+  tried_many : (places : List (List ℕ)) (olds news : List L) → AllTried sent failed ids course places olds news → length places ≡ length olds
+  unfolding AllTried
+  tried_many [] [] [] tried = refl
+  tried_many [] [] (n ∷ ns) tried = absurd tried
+  tried_many [] (o ∷ os) ns tried = absurd tried
+  tried_many (p ∷ ps) [] ns tried = absurd tried
+  tried_many (p ∷ ps) (o ∷ os) [] tried = absurd tried
+  tried_many (p ∷ ps) (o ∷ os) (n ∷ ns) tried = ap suc (tried_many ps os ns tried.1)
+
+  -- what is known of one link
+  record OneLink (places : List ℕ) (old new : List Sent) (before after : ℕ) : Type 0 where
+    grew : new ≡ old ++ sent_by ids (map course places)
+    failures : after ≡ before + failed_by (map course places)
+    how : AllWhole course places ⊎ LastMild course places
+
+  one_link : (places : List (List ℕ)) (olds news : List L) → AllTried sent failed ids course places olds news → IsMild (worst_at course places) → (l : ℕ) → l < length olds
+      → OneLink (slice_index_or places l []) (slice_index_or (map sent olds) l []) (slice_index_or (map sent news) l []) (slice_index_or (map failed olds) l 0) (slice_index_or (map failed news) l 0)
+  unfolding AllTried
+  one_link [] [] [] tried mild l within = absurd (omega arith)
+  one_link [] [] (n ∷ ns) tried mild l within = absurd tried
+  one_link [] (o ∷ os) ns tried mild l within = absurd tried
+  one_link (p ∷ ps) [] ns tried mild l within = absurd tried
+  one_link (p ∷ ps) (o ∷ os) [] tried mild l within = absurd tried
+  one_link (p ∷ ps) (o ∷ os) (n ∷ ns) tried mild zero within = record {
+    grew = tried.0.all;
+    failures = tried.0.failures;
+    how = all_courses course p tried.0.are.each tried.0.are.early (mild_both (worst_of (whys course p)) (worst_at course ps) mild).0;
+  }
+  one_link (p ∷ ps) (o ∷ os) (n ∷ ns) tried mild (suc l) within =
+      one_link ps os ns tried.1 (mild_both (worst_of (whys course p)) (worst_at course ps) mild).1 l (omega arith)
+
+  -- the last order of some link broke
+  some_broke : (places : List (List ℕ)) (olds news : List L) → AllTried sent failed ids course places olds news → worst_at course places ≡ Some broken.LinkFailed
+      → (l : ℕ) × (l < length olds) × LastMild course (slice_index_or places l [])
+  unfolding AllTried
+  some_broke [] [] [] tried is = absurd (cc is)
+  some_broke [] [] (n ∷ ns) tried is = absurd tried
+  some_broke [] (o ∷ os) ns tried is = absurd tried
+  some_broke (p ∷ ps) [] ns tried is = absurd tried
+  some_broke (p ∷ ps) (o ∷ os) [] tried is = absurd tried
+  some_broke (p ∷ ps) (o ∷ os) (n ∷ ns) tried is =
+      let mild : IsMild (worst_at course (p ∷ ps)) = subst IsMild (sym is) tt in
+      by_first (some_broke ps os ns tried.1) (all_courses course p tried.0.are.each tried.0.are.early (mild_both (worst_of (whys course p)) (worst_at course ps) mild).0)
+    where
+      by_first : (worst_at course ps ≡ Some broken.LinkFailed → (l : ℕ) × (l < length os) × LastMild course (slice_index_or ps l []))
+          → AllWhole course p ⊎ LastMild course p → (l : ℕ) × (l < suc (length os)) × LastMild course (slice_index_or (p ∷ ps) l [])
+      by_first rest (inr last) = (0, omega arith, last)
+      by_first rest (inl all) =
+          let found = rest (sym (ap (λ (w : Option OrderBroken). worse w (worst_at course ps)) all.none) ∙ is) in
+          (suc found.0, omega (arith, found.1), found.2)
+
+-- a step that a failed link halted
+pub links_failed : {L : Type 0} (sent : L → List Sent) (failed : L → ℕ) (ids : List (List ℕ)) (orders : List Order) (before after : List State) (olds news : List L)
+    → BrokenOrdersChangeNothing → All (λ o. o.place < length after) orders → ((k : ℕ) → k < length after → IsState (opening_at before k))
+    → AllSettled sent failed ids orders (Some broken.LinkFailed) before after olds news → LinksFailed sent failed ids orders before after olds news
+links_failed sent failed ids orders before after olds news changes there sound settled =
+    record {
+      settled = settled;
+      many = many;
+      links = λ l within.
+          let link = one_link sent failed ids settled.course settled.places olds news settled.links mild l within in
+          record { grew = link.grew; how = of_link l within _ _ link.failures link.how };
+      some =
+          let found = some_broke sent failed ids settled.course settled.places olds news settled.links settled.cause in
+          let link = one_link sent failed ids settled.course settled.places olds news settled.links mild found.0 found.1 in
+          (found.0, found.1, last_broke found.0 found.1 _ _ link.failures found.2);
+    }
+  where
+    mild : IsMild (worst_at settled.course settled.places)
+    mild = subst IsMild (sym settled.cause) tt
+
+    many : length settled.places ≡ length olds
+    many = tried_many sent failed ids settled.course settled.places olds news settled.links
+
+    last_broke : (l : ℕ) → l < length olds → (was is : ℕ) → is ≡ was + failed_by (map settled.course (slice_index_or settled.places l []))
+        → LastMild settled.course (slice_index_or settled.places l [])
+        → LastBroke settled.course (slice_index_or settled.places l []) before after was is
+    last_broke l within was is rose last =
+        let k = last.last in
+        let c = settled.course k in
+        let in_list : 0 < times k (slice_index_or settled.places l []) = subst (λ (xs : List ℕ). 0 < times k xs) (sym last.are) (times_last last.early k) in
+        let taken : 0 < sum_by (times k) settled.places = times_among settled.places l k (omega (arith, many, within)) in_list in
+        let inside : k < length after = named_there (length after) k orders there (omega (arith, taken, settled.once k)) in
+        let tried = settled.stores k inside in
+        let order = last.broke.order in
+        let kept = changes (opening_at before k) (opening_at after k) c.seat c.order.amount (c.sent ++ c.unsent) c.calls order tried.run in
+        let legal = subst (IsLegal (opening_at before k)) order.are tried.run.legal in
+        let oldest = given_oldest (opening_at before k) c.seat (c.sent ++ c.unsent) (aborted c.seat ∷ []) (sound k inside) legal in
+        record {
+          early = last.early;
+          last = k;
+          are = last.are;
+          whole = last.whole;
+          broke = last.broke;
+          of = (tried.some taken).0;
+          failures = omega (arith, rose, last.fails);
+          same = kept.0;
+          newer = oldest.0;
+          oldest = ap (λ (s : State). s.store.content) kept.0 ∙ oldest.1;
+        }
+
+    of_link : (l : ℕ) → l < length olds → (was is : ℕ) → is ≡ was + failed_by (map settled.course (slice_index_or settled.places l []))
+        → AllWhole settled.course (slice_index_or settled.places l []) ⊎ LastMild settled.course (slice_index_or settled.places l [])
+        → NoneBroke settled.course (slice_index_or settled.places l []) was is ⊎ LastBroke settled.course (slice_index_or settled.places l []) before after was is
+    of_link l within was is rose (inl all) = inl (record { whole = all.whole; failures = omega (arith, rose, all.fails) })
+    of_link l within was is rose (inr last) = inr (last_broke l within was is rose last)

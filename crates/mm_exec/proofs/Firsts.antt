@@ -1,0 +1,70 @@
+-- The first offers of what sources give.
+use Rattle.std.proofs.Common.{◌≡◌, ℕ, zero, suc, ◌<◌, List, [], ◌∷◌, ◌++◌, length, map, filter, refl, sym, ap, ◌∙◌, append_assoc}
+use Rattle.std.specs.Prelude.{Option, Some, None, IfSome, IfNone, slice_index_or}
+use Rattle.std.specs.List.{AllZip}
+use Rattle.std.proofs.lemmas.List.{map-append, append-nil}
+use Rattle.std.proofs.lemmas.List.Elements.{filter-append}
+use Rattle.mm_packet.specs.Packet.{SpacePacket}
+use Rattle.mm_desk.specs.declared.event.Event.{Event}
+use Rattle.mm_desk.specs.declared.event.Event.TheVariants.{Offer}
+use Rattle.mm_desk.specs.declared.fault.Fault.{Fault}
+use Rattle.mm_shared.specs.Stores.{id_at}
+use Rattle.mm_record.specs.Recorded.{RecordingContext, offers, is_routed}
+use Rattle.mm_record.specs.Steps.{given_in, RecorderRun, StoppedEarly, IsRecorderRun, AreRecorderRuns}
+use Rattle.mm_exec.specs.Halts.{AreFirstOffers}
+
+-- offers of more packets
+offers-append : (e : RecordingContext) (k : ℕ) (ps qs : List SpacePacket) → offers e k (ps ++ qs) ≡ offers e k ps ++ offers e k qs
+offers-append e k ps qs =
+    ap (map (λ (p : SpacePacket). Offer e.now p)) (filter-append (is_routed e.routes (id_at e.ids k)) ps qs)
+    ∙ map-append (λ (p : SpacePacket). Offer e.now p) (filter (is_routed e.routes (id_at e.ids k)) ps) (filter (is_routed e.routes (id_at e.ids k)) qs)
+
+-- no offer was made of what sources gave
+pub none_first : (e : RecordingContext) (k : ℕ) (gives : List (List SpacePacket)) → AllZip (AreFirstOffers e k) gives (map {B = List Event} (λ g. []) gives)
+none_first e k [] = tt
+none_first e k (g ∷ gives) = ((offers e k g, refl), none_first e k gives)
+
+pub none_listed : (gives : List (List SpacePacket)) (seat : ℕ) → [] ≡ slice_index_or (map {B = List Event} (λ g. []) gives) seat []
+none_listed [] zero = refl
+none_listed [] (suc seat) = refl
+none_listed (g ∷ gives) zero = refl
+none_listed (g ∷ gives) (suc seat) = none_listed gives seat
+
+-- all offers were made of what sources gave
+pub all_first : (e : RecordingContext) (k : ℕ) (gives : List (List SpacePacket)) → AllZip (AreFirstOffers e k) gives (map (offers e k) gives)
+all_first e k [] = tt
+all_first e k (g ∷ gives) = (([], sym (append-nil (offers e k g))), all_first e k gives)
+
+-- a recorder makes first offers of what its source gives
+first_turn : (e : RecordingContext) (before after : ℕ → List SpacePacket) (turn : RecorderRun) (k : ℕ) → IsRecorderRun e before after turn → k < length e.ids
+    → AreFirstOffers e k (before e.step) (turn.offered k)
+first_turn e before after turn k had within = by_broken turn.broken had.whole had.partly
+  where
+    gave_first : offers e k (before e.step) ≡ offers e k turn.gave ++ offers e k (after e.step)
+    gave_first = ap (offers e k) had.order ∙ offers-append e k turn.gave (after e.step)
+
+    by_broken : (why : Option Fault) → IfNone why ((after e.step ≡ []) × ((k : ℕ) → k < length e.ids → turn.offered k ≡ offers e k turn.gave))
+        → IfSome why (λ fault. StoppedEarly e turn.gave turn.offered) → AreFirstOffers e k (before e.step) (turn.offered k)
+    by_broken None whole partly =
+        ([], gave_first ∙ ap (λ ps. offers e k turn.gave ++ offers e k ps) whole.0 ∙ ap (λ (es : List Event). es ++ []) (sym (whole.1 k within)))
+    by_broken (Some why) whole partly =
+        let began = partly.began k within in
+        let there : offers e k turn.gave ≡ turn.offered k ++ began.rest =
+        ap (offers e k) partly.are ∙ offers-append e k partly.before (partly.last ∷ [])
+        ∙ ap (λ (es : List Event). offers e k partly.before ++ es) began.are
+        ∙ sym (append_assoc (offers e k partly.before) began.did began.rest)
+        ∙ ap (λ (es : List Event). es ++ began.rest) (sym began.asks_are) in (
+          began.rest ++ offers e k (after e.step),
+          gave_first ∙ ap (λ (es : List Event). es ++ offers e k (after e.step)) there ∙ append_assoc (turn.offered k) began.rest (offers e k (after e.step)),
+        )
+
+pub first_turns : {S : Type 0} (gives : S → ℕ → List SpacePacket) (e : RecordingContext) (xs ys : List S) (turns : List RecorderRun) (k : ℕ) → AreRecorderRuns gives e xs ys turns → k < length e.ids
+    → AllZip (AreFirstOffers e k) (given_in gives e.step xs) (map (λ turn. turn.offered k) turns)
+unfolding AreRecorderRuns
+first_turns gives e [] [] [] k had within = tt
+first_turns gives e [] [] (turn ∷ turns) k had within = absurd had
+first_turns gives e [] (y ∷ ys) turns k had within = absurd had
+first_turns gives e (x ∷ xs) [] turns k had within = absurd had
+first_turns gives e (x ∷ xs) (y ∷ ys) [] k had within = absurd had
+first_turns gives e (x ∷ xs) (y ∷ ys) (turn ∷ turns) k had within =
+    (first_turn e (gives x) (gives y) turn k had.0 within, first_turns gives e xs ys turns k had.1 within)

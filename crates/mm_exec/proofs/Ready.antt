@@ -1,0 +1,279 @@
+-- Stores that are ready, and counts that are far from their end, from step to step.
+use Rattle.std.proofs.Common.{◌≡◌, ◌⊎◌, inl, inr, ℕ, ◌+◌, ◌*◌, ◌<◌, ◌≤◌, ◌^◌, List, [], ◌∷◌, ◌++◌, length, map, get_or, All, refl, sym, ap, subst, ◌∙◌, arith}
+use Rattle.std.specs.Prelude.{IsTrue, Option, Some, None, Result, not, ◌==◌, ◌||◌, filter}
+use Rattle.std.specs.List.{AllZip}
+use Rattle.std.proofs.lemmas.Bool.{cases_lt, cond_both}
+use Rattle.std.proofs.lemmas.List.{length-map, get_or-map}
+use Rattle.std.proofs.lemmas.List.Elements.{All-nil, All-cons, All-head, All-tail, All-map}
+use Rattle.std.proofs.lemmas.List.Sums.{length-filter, count_by-le-length, sum_by-cons}
+use Rattle.mm_packet.specs.Packet.{SpacePacket}
+use Rattle.mm_store.specs.Content.{clock_end}
+use Rattle.mm_desk.specs.declared.entry.Entry.{Entry}
+use Rattle.mm_desk.specs.declared.event.Event.{Event}
+use Rattle.mm_desk.specs.declared.event.Event.TheVariants.{Offer, Begin, Next, Abort, Delete, Enable, Disable}
+use Rattle.mm_desk.specs.declared.fault.Fault.{Fault}
+use Rattle.mm_desk.specs.declared.held.Held.{Held}
+use Rattle.mm_desk.specs.declared.reply.Offered.{Offered}
+use Rattle.mm_desk.specs.declared.reply.Returned.{Returned}
+use Rattle.mm_desk.specs.Laws.{OrdersDumpTheOldest}
+use Rattle.mm_desk.specs.Machine.{State, IsState, offer, step}
+use Rattle.mm_desk.specs.Offers.{IsShuffleOfEvents, count_of}
+use Rattle.mm_desk.specs.Runs.{blank, opening_at, replay, IsRun}
+use Rattle.mm_shared.specs.Stores.{states_of, id_at}
+use Rattle.mm_memory.specs.Laws.{ids_of}
+use Rattle.mm_record.specs.Recorded.{RecordingContext, offers, is_routed}
+use Rattle.mm_record.specs.Steps.{given_in, Records, latest, AreFew, TakesAll}
+use Rattle.mm_dump.specs.declared.order.Order.{Order}
+use Rattle.mm_dump.specs.declared.order.OrderBroken.{OrderBroken}
+use Rattle.mm_dump.specs.Courses.{Course, EndedAs}
+use Rattle.mm_dump.specs.Dumped.{HasTried, MayDump}
+use Rattle.mm_dump.specs.Laws.{BrokenOrdersChangeNothing}
+use Rattle.mm_dump.specs.Sending.{Sent}
+use Rattle.mm_report.specs.declared.cause.Cause.{Cause}
+use Rattle.mm_runs.specs.Laws.{StepRunsKeepStores}
+use Rattle.mm_runs.specs.StepRuns.{IsBy, AreBy, KeepsStore}
+use Rattle.mm_runs.proofs.Replays.{All-front, shuffled}
+use Rattle.mm_exec.specs.Halts.{AreFirstOffers}
+use Rattle.mm_exec.specs.Step.{RunState, AreReady, MayCarry, StepRecorded, StepDone, OutOfMemory, RecordersBroke, OrdersBroke, StepBroke}
+use Rattle.mm_exec.proofs.Firsts.{first_turns}
+use Rattle.mm_exec.proofs.Parts.{as_many}
+
+-- the state at a place is that of the store there
+state_there : (held : List Held) (k : ℕ) (d : Held) → k < length held → opening_at (states_of held) k ≡ (get_or held k d).state
+state_there held k d within = get_or-map (λ (h : Held). h.state) held k d blank within
+
+-- what holds of each state holds of each store
+pub all_states : (P : State → Type 0) (held : List Held) → ((k : ℕ) → k < length held → P (opening_at (states_of held) k)) → All (λ h. P h.state) held
+all_states P held each k d within = subst P (state_there held k d within) (each k within)
+
+-- no store
+abbrev nothing_held : Held
+nothing_held = record { id = []; channel = 0; state = blank }
+
+pub state_holds : (P : State → Type 0) (held : List Held) → All (λ h. P h.state) held → (k : ℕ) → k < length held → P (opening_at (states_of held) k)
+state_holds P held all k within = subst P (sym (state_there held k nothing_held within)) (all k nothing_held within)
+
+-- offers of a step are made at its moment
+offers_by : (now : ℕ) (ps : List SpacePacket) → All (IsBy now) (map (λ p. Offer now p) ps)
+offers_by now [] = All-nil (IsBy now)
+offers_by now (p ∷ ps) = All-cons (IsBy now) (Offer now p) (map (λ p. Offer now p) ps) (omega arith) (offers_by now ps)
+
+all_by : (e : RecordingContext) (k : ℕ) (gave : List (List SpacePacket)) → AreBy e.now (map (offers e k) gave)
+all_by e k [] = All-nil (λ (list : List Event). All (IsBy e.now) list)
+all_by e k (g ∷ gave) =
+    All-cons (λ (list : List Event). All (IsBy e.now) list) (offers e k g) (map (offers e k) gave) (offers_by e.now (filter (is_routed e.routes (id_at e.ids k)) g)) (all_by e k gave)
+
+-- an offer leaves the storage switch and the retrieval
+pub record KeepsSwitches (s t : State) : Type 0 where
+  pub storage : t.storage ≡ s.storage
+  pub retrieval : t.retrieval ≡ s.retrieval
+
+offer_keeps : (s : State) (now : ℕ) (packet : SpacePacket) → KeepsSwitches s (offer s now packet).1
+offer_keeps s now packet =
+    cond_both (not s.storage) _ _ (λ (r : Result Offered Returned × State). KeepsSwitches s r.1) (λ off. record { storage = refl; retrieval = refl })
+    (λ on. cond_both ((s.store.last == clock_end) || (s.offered == clock_end)) _ _ (λ (r : Result Offered Returned × State). KeepsSwitches s r.1)
+    (λ late. record { storage = refl; retrieval = refl }) (λ early. record { storage = refl; retrieval = refl }))
+
+event_keeps : (s : State) (event : Event) (now : ℕ) → IsBy now event → KeepsSwitches s (step s event).1
+event_keeps s (Offer at packet) now by = offer_keeps s at packet
+event_keeps s (Begin from to) now by = absurd by
+event_keeps s Next now by = absurd by
+event_keeps s Abort now by = absurd by
+event_keeps s (Delete limit) now by = absurd by
+event_keeps s Enable now by = absurd by
+event_keeps s Disable now by = absurd by
+
+log_keeps : (now : ℕ) (s : State) (log : List Entry) → All (λ e. IsBy now e.event) log → KeepsSwitches s (replay s log)
+log_keeps now s [] by = record { storage = refl; retrieval = refl }
+log_keeps now s (e ∷ es) by =
+    let first = event_keeps s e.event now (All-head (λ (e : Entry). IsBy now e.event) e es by) in
+    let rest = log_keeps now (step s e.event).1 es (All-tail (λ (e : Entry). IsBy now e.event) e es by) in
+    record { storage = rest.storage ∙ first.storage; retrieval = rest.retrieval ∙ first.retrieval }
+
+-- so do the offers of a log that is a shuffle of them
+run_keeps : (now : ℕ) (lists : List (List Event)) (log : List Entry) (s t : State) → IsRun s log t → IsShuffleOfEvents lists log → AreBy now lists → KeepsSwitches s t
+run_keeps now lists log s t run shuffle by =
+    subst (λ (u : State). KeepsSwitches s u) (sym run.leaves) (log_keeps now s log (shuffled (IsBy now) lists log shuffle by))
+
+-- stores that are sound, and whose switches are as they were, are ready where they were
+pub ready_kept : (stores left : List Held) → length left ≡ length stores → All (λ h. IsState h.state) left
+    → ((k : ℕ) → k < length left → KeepsSwitches (opening_at (states_of stores) k) (opening_at (states_of left) k)) → AreReady stores → AreReady left
+ready_kept stores left many sound at ready = record {
+  sound = sound;
+  storage = all_states (λ (s : State). IsTrue s.storage) left (λ k within.
+      (at k within).storage ∙ state_holds (λ (s : State). IsTrue s.storage) stores ready.storage k (omega (arith, many, within)));
+  idle = all_states (λ (s : State). s.retrieval ≡ None) left (λ k within.
+      (at k within).retrieval ∙ state_holds (λ (s : State). s.retrieval ≡ None) stores ready.idle k (omega (arith, many, within)));
+}
+
+-- stores that have recorded are ready
+pub ready_recorded : {S : Type 0} (gives : S → ℕ → List SpacePacket) (e : RecordingContext) (stores : List Held) (sources : List S) (mid : List Held) (left : List S)
+    → AreReady stores → StepRecorded gives e stores sources mid left → AreReady mid
+ready_recorded gives e stores sources mid left ready recorded =
+    ready_kept stores mid (as_many mid stores recorded.labels) recorded.sound
+    (λ k within.
+    let has = recorded.stores_are k (omega (arith, within, length-map mid (λ (h : Held). h.state))) in
+    run_keeps e.now (map (offers e k) (given_in gives e.step sources)) has.log _ _ has.run has.shuffle (all_by e k (given_in gives e.step sources))) ready
+
+-- the first of the offers of sources are offers at the moment
+firsts_by : (e : RecordingContext) (k : ℕ) (gives : List (List SpacePacket)) (firsts : List (List Event)) → AllZip (AreFirstOffers e k) gives firsts → AreBy e.now firsts
+firsts_by e k [] [] are = All-nil (λ (list : List Event). All (IsBy e.now) list)
+firsts_by e k [] (f ∷ fs) are = absurd are
+firsts_by e k (g ∷ gs) [] are = absurd are
+firsts_by e k (g ∷ gs) (f ∷ fs) are =
+    All-cons (λ (list : List Event). All (IsBy e.now) list) f fs
+    (All-front (IsBy e.now) f are.0.0 (subst (All (IsBy e.now)) are.0.1 (offers_by e.now (filter (is_routed e.routes (id_at e.ids k)) g)))) (firsts_by e k gs fs are.1)
+
+-- stores at which recorders stopped early are ready
+ready_stopped : {S : Type 0} (gives : S → ℕ → List SpacePacket) (e : RecordingContext) (stores left : List Held) (sources sources_left : List S) (why : Option Fault)
+    → length e.ids ≡ length stores → AreReady stores → Records gives e stores left sources sources_left why → AreReady left
+ready_stopped gives e stores left sources sources_left why ids ready records =
+    ready_kept stores left (as_many left stores records.labels) records.sound
+    (λ k within.
+    let went = records.went k (omega (arith, within, length-map left (λ (h : Held). h.state))) in
+    let many = as_many left stores records.labels in
+    run_keeps e.now (map (λ run. run.offered k) records.runs) went.log _ _ went.run went.shuffle
+    (firsts_by e k (given_in gives e.step sources) (map (λ run. run.offered k) records.runs)
+    (first_turns gives e sources sources_left records.runs k records.are_runs (omega (arith, within, many, ids))))) ready
+
+-- an order leaves the switches
+tried_keeps : OrdersDumpTheOldest → BrokenOrdersChangeNothing → (k : ℕ) (s t : State) (taken : ℕ) (c : Course) → IsState s → HasTried taken k c s t → KeepsSwitches s t
+tried_keeps dump changes k s t taken c sound tried = by_count (cases_lt 0 taken)
+  where
+    by_why : (why : Option OrderBroken) → EndedAs why c → KeepsSwitches s t
+    by_why None whole =
+        let others = (dump s t c.seat c.order.amount c.sent c.calls sound whole.order tried.run).others in
+        record { storage = ap (λ (u : State). u.storage) others; retrieval = ap (λ (u : State). u.retrieval) others }
+    by_why (Some why) broke =
+        let same = (changes s t c.seat c.order.amount (c.sent ++ c.unsent) c.calls broke.order tried.run).0 in
+        record { storage = ap (λ (u : State). u.storage) same; retrieval = ap (λ (u : State). u.retrieval) same }
+
+    by_count : (0 < taken) ⊎ (taken ≤ 0) → KeepsSwitches s t
+    by_count (inl some) = by_why c.why (tried.some some).1
+    by_count (inr none) =
+        let zero_taken : taken ≡ 0 = omega arith in
+        let same : t ≡ s = tried.run.leaves ∙ ap (replay s) (tried.none zero_taken).0 in
+        record { storage = ap (λ (u : State). u.storage) same; retrieval = ap (λ (u : State). u.retrieval) same }
+
+-- stores of a dump of which orders broke are ready
+ready_broken : {L : Type 0} (sent : L → List Sent) (failed : L → ℕ) (step : ℕ) (orders : List Order) (stores left : List Held) (links links_left : List L)
+    (cause : Cause) (spent : ℕ) → OrdersDumpTheOldest → BrokenOrdersChangeNothing → AreReady stores
+    → OrdersBroke sent failed step orders stores links left links_left cause spent → AreReady left
+ready_broken sent failed step orders stores left links links_left cause spent dump changes ready broke =
+    let many = as_many left stores broke.labels in
+    ready_kept stores left many broke.sound
+    (λ k within.
+    tried_keeps dump changes k _ _ _ (broke.settled.course k) (state_holds IsState stores ready.sound k (omega (arith, within, many)))
+    (broke.settled.stores k (omega (arith, within, length-map left (λ (h : Held). h.state))))) ready
+
+-- stores of a step that was broken off are ready for more
+pub ready_left : {S L : Type 0} (gives : S → ℕ → List SpacePacket) (sent : L → List Sent) (failed : L → ℕ) (e : RecordingContext) (orders : List Order)
+    (before after : RunState S L) (cause : Cause) (spent : ℕ) → OrdersDumpTheOldest → BrokenOrdersChangeNothing → ids_of before.stores ≡ e.ids → AreReady before.stores
+    → StepBroke gives sent failed e orders before after cause spent → AreReady after.stores
+ready_left {S = S} {L = L} gives sent failed e orders before after cause spent dump changes ids ready (inl recording) = by_how recording.how
+  where
+    by_how : OutOfMemory e.step before.stores before.sources after.stores after.sources cause spent
+        ⊎ RecordersBroke gives e before.stores before.sources after.stores after.sources cause spent → AreReady after.stores
+    by_how (inl lack) = subst AreReady (sym lack.stores_same) ready
+    by_how (inr broke) =
+        ready_stopped gives e before.stores after.stores before.sources after.sources broke.why
+        (ap length (sym ids) ∙ length-map before.stores (λ (h : Held). h.id)) ready broke.records
+ready_left {S = S} {L = L} gives sent failed e orders before after cause spent dump changes ids ready (inr dumping) = by_how dumping.how
+  where
+    stands : AreReady dumping.mid
+    stands = ready_recorded gives e before.stores before.sources dumping.mid after.sources ready dumping.recorded
+
+    by_how : OutOfMemory e.step dumping.mid before.links after.stores after.links cause spent
+        ⊎ OrdersBroke sent failed e.step orders dumping.mid before.links after.stores after.links cause spent → AreReady after.stores
+    by_how (inl lack) = subst AreReady (sym lack.stores_same) stands
+    by_how (inr broke) = ready_broken sent failed e.step orders dumping.mid after.stores before.links after.links cause spent dump changes stands broke
+
+-- a step's dump may be carried out after what came is recorded
+pub may_dump : {S L : Type 0} (failed : L → ℕ) (moment : ℕ) (orders : List Order) (before : RunState S L) (mid : List Held) → MayCarry failed moment orders before
+    → length mid ≡ length before.stores → AreReady mid → MayDump failed orders mid before.links
+may_dump failed moment orders before mid may many ready =
+    let there = subst (λ (n : ℕ). All (λ (o : Order). o.place < n) orders) (sym many) may.orders_may.places in
+    record {
+      lowest = may.some_link;
+      highest = may.few_links;
+      few = omega (arith, many, may.record_may.few);
+      few_orders = may.orders_may.few;
+      places = there;
+      amounts = may.orders_may.some;
+      distinct = may.orders_may.apart;
+      idle = λ i d inside. state_holds (λ (s : State). s.retrieval ≡ None) mid ready.idle (get_or orders i d).place (there i d inside);
+      room = may.links;
+    }
+
+-- a store that was offered at most this many packets, and whose last storage time is no later
+pub record IsFar (bound : ℕ) (s : State) : Type 0 where
+  pub offered : s.offered ≤ bound
+  pub last : s.store.last ≤ bound
+
+abbrev pub AllFar : ℕ → List Held → Type 0
+AllFar bound stores = All (λ h. IsFar bound h.state) stores
+
+-- no more packets are offered than are given
+offers_few : (e : RecordingContext) (k most : ℕ) (gave : List (List SpacePacket)) → All (λ ps. length ps ≤ most) gave → count_of (map (offers e k) gave) ≤ length gave * most
+offers_few e k most [] all = omega arith
+offers_few e k most (g ∷ gave) all =
+    let here : length g ≤ most = All-head (λ (ps : List SpacePacket). length ps ≤ most) g gave all in
+    let rest = offers_few e k most gave (All-tail (λ (ps : List SpacePacket). length ps ≤ most) g gave all) in
+    let kept = filter (is_routed e.routes (id_at e.ids k)) g in
+    let one : length (offers e k g) ≡ length kept = length-map kept (λ (p : SpacePacket). Offer e.now p) in
+    let few : length kept ≤ length g =
+    subst (λ (n : ℕ). n ≤ length g) (sym (length-filter (is_routed e.routes (id_at e.ids k)) g)) (count_by-le-length (is_routed e.routes (id_at e.ids k)) g) in
+    let all_of : count_of (map (offers e k) (g ∷ gave)) ≡ length (offers e k g) + count_of (map (offers e k) gave) = sum_by-cons (λ (events : List Event). length events) (offers e k g) (map (offers e k) gave) in
+    grind (arith, here, rest, one, few, all_of)
+
+-- what a step keeps of each store
+module _ {S L : Type 0} (gives : S → ℕ → List SpacePacket) (sent : L → List Sent) (failed : L → ℕ) (law : StepRunsKeepStores) (e : RecordingContext) (orders : List Order)
+    (before after : RunState S L) (fits : e.now < 2 ^ 64) (ready : AreReady before.stores) (done : StepDone gives sent failed e orders before after) where
+  many : length after.stores ≡ length before.stores
+  many = as_many after.stores before.stores done.labels
+
+  abbrev came_at_most : ℕ → ℕ
+  came_at_most k = count_of (map (offers e k) (given_in gives e.step before.sources))
+
+  kept_at : (k : ℕ) → k < length after.stores → KeepsStore e.now (came_at_most k) (opening_at (states_of before.stores) k) (opening_at (states_of after.stores) k)
+  kept_at k within =
+      law e.now _ _ (map (offers e k) (given_in gives e.step before.sources)) _ _ fits (state_holds IsState before.stores ready.sound k (omega (arith, many)))
+      (all_by e k (given_in gives e.step before.sources)) (done.runs k within)
+
+  -- the stores are ready for the next step
+  pub ready_after : AreReady after.stores
+  ready_after = record {
+    sound = all_states IsState after.stores (λ k within. (kept_at k within).sound);
+    storage = all_states (λ (s : State). IsTrue s.storage) after.stores (λ k within.
+        (kept_at k within).storage ∙ state_holds (λ (s : State). IsTrue s.storage) before.stores ready.storage k (omega (arith, many)));
+    idle = all_states (λ (s : State). s.retrieval ≡ None) after.stores (λ k within.
+        (kept_at k within).retrieval ∙ state_holds (λ (s : State). s.retrieval ≡ None) before.stores ready.idle k (omega (arith, many)));
+  }
+
+  -- counts move by less than 2^20
+  pub far_after : (bound : ℕ) → length before.sources ≤ 8 → All (λ s. length (gives s e.step) ≤ 65535) before.sources → e.now ≤ bound → AllFar bound before.stores
+      → AllFar (bound + 2 ^ 20) after.stores
+  far_after bound few_sources few early far =
+      all_states (IsFar (bound + 2 ^ 20)) after.stores
+      (λ k within.
+      let kept = kept_at k within in
+      let was = state_holds (IsFar bound) before.stores far k (omega (arith, many)) in
+      let given = given_in gives e.step before.sources in
+      let each : All (λ (ps : List SpacePacket). length ps ≤ 65535) given = All-map (λ (ps : List SpacePacket). length ps ≤ 65535) (λ s. gives s e.step) before.sources few in
+      let number = offers_few e k 65535 given each in
+      let as_many_given : length given ≡ length before.sources = length-map before.sources (λ s. gives s e.step) in
+      record {
+        offered = omega (arith, kept.offered, was.offered, number, as_many_given, few_sources);
+        last = omega (arith, kept.last, was.last, number, as_many_given, few_sources, early);
+      })
+
+-- each store surely takes what the sources give
+pub takes_all : {S : Type 0} (gives : S → ℕ → List SpacePacket) (e : RecordingContext) (stores : List Held) (sources : List S) (bound : ℕ) → bound ≤ latest
+    → AreReady stores → AllFar bound stores → e.now ≤ bound → AreFew gives e.step sources → TakesAll gives e stores sources
+takes_all gives e stores sources bound within ready far early few = record {
+  moment = omega (arith, early, within);
+  stores_are = λ k d inside.
+      let here = far k d inside in
+      record { storage = ready.storage k d inside; last = omega (arith, here.last, within); offered = omega (arith, here.offered, within) };
+  few = few;
+}

@@ -1,0 +1,388 @@
+-- One step more of a run.
+use Rattle.std.proofs.Common.{◌≡◌, ◌≢◌, ◌⊎◌, inl, inr, ℕ, zero, suc, ◌+◌, ◌-◌, ◌<◌, ◌≤◌, ◌^◌, Bool, cond, eqb, List, [], ◌∷◌, ◌++◌, length, map, All, refl, sym, subst, ap, ◌∙◌, arith, append_assoc}
+use Rattle.std.specs.Prelude.{flat_map, slice_index, slice_index_or, sum_by, filter}
+use Rattle.std.specs.List.{range_with_len}
+use Rattle.std.proofs.lemmas.Bool.{cases_lt, eq-eqb, ne_eqb}
+use Rattle.std.proofs.lemmas.List.{map-append, append-nil, length-map, get_or-map}
+use Rattle.std.proofs.lemmas.List.Elements.{All-map}
+use Rattle.std.proofs.lemmas.Grind.{flat_map-append}
+use Rattle.mm_sums.proofs.Ranges.{range_with_len_more}
+use Rattle.mm_base.specs.declared.rows.RouteRow.{RouteRow}
+use Rattle.mm_base.specs.declared.rows.StoreRow.{StoreRow}
+use Rattle.mm_packet.specs.Packet.{SpacePacket}
+use Rattle.mm_problem.specs.Dumping.{row, no_row, arrivals, stores}
+use Rattle.mm_store.specs.declared.stored.Stored.{Stored}
+use Rattle.mm_desk.specs.declared.event.Event.{Event}
+use Rattle.mm_desk.specs.declared.event.Event.TheVariants.{Offer}
+use Rattle.mm_desk.specs.declared.held.Held.{Held}
+use Rattle.mm_desk.specs.Machine.{State}
+use Rattle.mm_desk.specs.Runs.{opening_at}
+use Rattle.mm_shared.specs.Stores.{labels_of, states_of}
+use Rattle.mm_shared.specs.Stores.{id_at}
+use Rattle.mm_record.specs.Recorded.{RecordingContext, offers, is_routed}
+use Rattle.mm_record.specs.Recorded.{recording}
+use Rattle.mm_record.specs.Steps.{given_in}
+use Rattle.mm_dump.specs.declared.order.Order.{Order}
+use Rattle.mm_dump.specs.Sending.{Sent, all_sent}
+use Rattle.mm_dump.specs.Dumped.{times, places_of, AllTook}
+use Rattle.mm_report.specs.declared.tally.Tally.{Tally}
+use Rattle.mm_report.specs.Report.{Reported}
+use Rattle.mm_runs.proofs.Replays.{All-unmapped}
+use Rattle.mm_runs.specs.StepRuns.{IsStepRun}
+use Rattle.mm_runs.specs.Numbers.{IsReady, AsPlanned}
+use Rattle.mm_runs.specs.Laws.{IsRunOf, RunsLoseAsPlanned}
+use Rattle.mm_exec.specs.Places.{ArePlaces, AreApart}
+use Rattle.mm_exec.specs.RunInput.{RunInput, step_of, offered, as_came, place_in_memory, state_in, step_orders}
+use Rattle.mm_exec.specs.Numbers.{counters_of, tally_from, tally_of, rows_of, row_from, orders_of, counted, AreByCounters}
+use Rattle.mm_exec.specs.Step.{RunState, StepDone}
+use Rattle.mm_exec.specs.Steps.{AreStepRuns, SourcesGave, LinksSent, StepsDone, sent_in}
+use Rattle.mm_exec.proofs.Coming.{came_at, timed_offers, map_range_same}
+use Rattle.mm_exec.proofs.Counters.{counted_more}
+use Rattle.mm_exec.proofs.Ordered.{wanted_is, orders_are}
+use Rattle.mm_exec.proofs.Parts.{as_many, same_ids}
+use Rattle.mm_exec.proofs.Placing.{id_there}
+use Rattle.mm_exec.proofs.Sending.{took_many, took_lists, took_failed}
+
+-- a function that is changed at one number
+abbrev extend : {X : Type 0} → ℕ → X → (ℕ → X) → ℕ → X
+extend k x f t = cond (eqb t k) x (f t)
+
+extend-here : {X : Type 0} (k : ℕ) (x : X) (f : ℕ → X) → extend k x f k ≡ x
+extend-here k x f = rw (eq-eqb k k refl) refl
+
+extend-other : {X : Type 0} (k : ℕ) (x : X) (f : ℕ → X) (t : ℕ) → t ≢ k → extend k x f t ≡ f t
+extend-other k x f t other = rw (ne_eqb t k other) refl
+
+-- a step run, with equal parts
+run_as : (os ps : List (List Event)) (w x : ℕ) (gs hs : List Stored) (s u t v : State) → os ≡ ps → w ≡ x → gs ≡ hs → s ≡ u → t ≡ v → IsStepRun os w gs s t → IsStepRun ps x hs u v
+run_as os ps w x gs hs s u t v offers wants gave before after run =
+    subst (λ o. IsStepRun o x hs u v) offers
+    (subst (λ n. IsStepRun os n hs u v) wants
+    (subst (λ g. IsStepRun os w g u v) gave
+    (subst (λ b. IsStepRun os w gs b v) before
+    (subst (λ a. IsStepRun os w gs s a) after run))))
+
+-- offers of two errands that share the moment, the routes and the store
+offers_same : (e f : RecordingContext) (j k : ℕ) → e.now ≡ f.now → e.routes ≡ f.routes → id_at e.ids j ≡ id_at f.ids k → (ps : List SpacePacket) → offers e j ps ≡ offers f k ps
+offers_same e f j k now routes ids ps =
+    ap (λ (id : List ℕ). map (λ p. Offer e.now p) (filter (is_routed e.routes id) ps)) ids
+    ∙ ap (λ (rs : List RouteRow). map (λ p. Offer e.now p) (filter (is_routed rs (id_at f.ids k)) ps)) routes
+    ∙ ap (λ (n : ℕ). map (λ p. Offer n p) (filter (is_routed f.routes (id_at f.ids k)) ps)) now
+
+given_offers : {S : Type 0} (gives : S → ℕ → List SpacePacket) (e f : RecordingContext) (j k t : ℕ) → e.now ≡ f.now → e.routes ≡ f.routes → id_at e.ids j ≡ id_at f.ids k
+    → (xs : List S) → map (offers e j) (given_in gives t xs) ≡ map (λ g. offers f k (g t)) (map gives xs)
+given_offers gives e f j k t now routes ids [] = refl
+given_offers gives e f j k t now routes ids (x ∷ xs) =
+    let one = offers_same e f j k now routes ids (gives x t) in
+    let rest = given_offers gives e f j k t now routes ids xs in
+    λ i. one i ∷ rest i
+
+-- nothing left of what is the same
+none_same : {S : Type 0} (gives : S → ℕ → List SpacePacket) (t : ℕ) (xs ys : List S) → given_in gives t ys ≡ given_in gives t xs → All (λ s. gives s t ≡ []) xs → All (λ s. gives s t ≡ []) ys
+none_same gives t xs ys same none =
+    let mapped : All (λ (ps : List SpacePacket). ps ≡ []) (given_in gives t xs) = All-map (λ (ps : List SpacePacket). ps ≡ []) (λ s. gives s t) xs none in
+    All-unmapped (λ (ps : List SpacePacket). ps ≡ []) (λ s. gives s t) ys (subst (All (λ (ps : List SpacePacket). ps ≡ [])) (sym same) mapped)
+
+-- pieces over a range are equal where each is
+flat_map_range_same : {X : Type 0} (f g : ℕ → List X) (a n : ℕ) → ((t : ℕ) → a ≤ t → t < a + n → f t ≡ g t) → flat_map f (range_with_len a n) ≡ flat_map g (range_with_len a n)
+flat_map_range_same f g a zero same = refl
+flat_map_range_same f g a (suc n) same =
+    let here = same a (omega arith) (omega arith) in
+    let rest = flat_map_range_same f g (a + 1) n (λ t from to. same t (omega arith) (omega arith)) in
+    ap (λ xs. xs ++ flat_map f (range_with_len (a + 1) n)) here ∙ ap (λ xs. g a ++ xs) rest
+
+-- pieces over a range with one number more
+flat_map_range_more : {X : Type 0} (f : ℕ → List X) (k : ℕ) → flat_map f (range_with_len 1 (suc k)) ≡ flat_map f (range_with_len 1 k) ++ f (suc k)
+flat_map_range_more f k =
+    ap (flat_map f) (range_with_len_more 1 k (suc k) (omega arith)) ∙ flat_map-append f (range_with_len 1 k) (suc k ∷ [])
+    ∙ ap (λ xs. flat_map f (range_with_len 1 k) ++ xs) (append-nil (f (suc k)))
+
+-- what a counter rose by
+less_of : (after before rose : ℕ) → after ≡ before + rose → after - before ≡ rose
+less_of after before rose same = omega arith
+
+-- what holds through a whole run: what the sources gave as it began, where the stores stand, that they are ready, and that the clock has
+-- room
+pub record Footing {S : Type 0} (gives : S → ℕ → List SpacePacket) (m : RunInput) (sources : List S) (places : List ℕ) : Type 0 where
+  pub gives_are : m.gives ≡ map gives sources
+  pub stand_at : ArePlaces m.problem m.memory.stores (length m.problem.rows) places
+  pub apart : AreApart places (length m.problem.rows)
+  pub ready : (s : ℕ) → s < length m.problem.rows → IsReady m.problem s (state_in m m.memory.stores s)
+  pub early : m.base + length m.problem.windows < 2 ^ 64
+
+module _ {S L : Type 0} (gives : S → ℕ → List SpacePacket) (sent : L → List Sent) (failed : L → ℕ) (m : RunInput) (sources : List S) (links : List L) (places : List ℕ)
+    (footing : Footing gives m sources places) (k : ℕ) (before after : RunState S L) (report : Reported) where
+  abbrev n : ℕ
+  n = length m.problem.rows
+
+  abbrev e : RecordingContext
+  e = recording (suc k) (m.base + suc k) m.memory.routes before.stores
+
+  abbrev orders : List Order
+  orders = orders_of m.amounts places (suc k) n
+
+  module _ (done : StepsDone gives sent failed m sources links k before report)
+      (stepped : StepDone gives sent failed e orders before after) where
+    abbrev stores_after : ℕ → List Held
+    stores_after = extend (suc k) after.stores done.stores
+
+    abbrev gave_after : ℕ → ℕ → List Stored
+    gave_after j t = cond (eqb t (suc k)) (stepped.gave j) (done.gave j t)
+
+    abbrev took_after : ℕ → List (List ℕ)
+    took_after = extend (suc k) stepped.places done.links_are.took
+
+    labels_before : labels_of before.stores ≡ labels_of m.memory.stores
+    labels_before = ap labels_of done.stores_are ∙ done.runs.labels k (omega arith)
+
+    -- the stores before the step, and after it
+    at_last : stores_after (suc k - 1) ≡ before.stores
+    at_last =
+        let back : suc k - 1 ≡ k = omega arith in
+        ap stores_after back ∙ extend-other (suc k) after.stores done.stores k (λ same. omega (arith, same)) ∙ sym done.stores_are
+
+    at_new : stores_after (suc k) ≡ after.stores
+    at_new = extend-here (suc k) after.stores done.stores
+
+    at_old : (t : ℕ) → t ≤ k → stores_after t ≡ done.stores t
+    at_old t within = extend-other (suc k) after.stores done.stores t (λ same. omega (arith, same))
+
+    -- the state of a store before the step and after it
+    state_before : (s : ℕ) → s < n → opening_at (states_of before.stores) (slice_index places s) ≡ state_in m (stores_after (suc k - 1)) s
+    state_before s store =
+        ap (λ (j : ℕ). opening_at (states_of before.stores) j) (footing.stand_at s store).is
+        ∙ ap (λ (held : List Held). opening_at (states_of held) (place_in_memory m s)) (sym at_last)
+
+    state_after : (s : ℕ) → s < n → opening_at (states_of after.stores) (slice_index places s) ≡ state_in m (stores_after (suc k)) s
+    state_after s store =
+        ap (λ (j : ℕ). opening_at (states_of after.stores) j) (footing.stand_at s store).is
+        ∙ ap (λ (held : List Held). opening_at (states_of held) (place_in_memory m s)) (sym at_new)
+
+    -- the identifiers at the places
+    ids_before : e.ids ≡ map (λ h. h.id) m.memory.stores
+    ids_before = same_ids before.stores m.memory.stores labels_before
+
+    id_here : (s : ℕ) → s < n → id_at e.ids (slice_index places s) ≡ id_at (step_of m (suc k)).ids s
+    id_here s store =
+        ap (λ (ids : List (List ℕ)). id_at ids (slice_index places s)) ids_before
+        ∙ id_there (row m.problem s).id m.memory.stores (slice_index places s) (footing.stand_at s store)
+        ∙ sym (get_or-map (λ (r : StoreRow). r.id) m.problem.rows s no_row [] store)
+
+    -- what was offered in the step
+    offered_here : (s : ℕ) → s < n → map (offers e (slice_index places s)) (given_in gives (suc k) before.sources) ≡ offered m s (suc k)
+    offered_here s store =
+        ap (map (offers e (slice_index places s))) (done.sources_are.others (suc k) (λ first last. omega arith))
+        ∙ given_offers gives e (step_of m (suc k)) (slice_index places s) s (suc k) refl refl (id_here s store) sources
+        ∙ ap (λ gs. map (λ g. offers (step_of m (suc k)) s (g (suc k))) gs) (sym footing.gives_are)
+
+    -- the step run of a store
+    step_run : (s : ℕ) → s < n
+        → IsStepRun (offered m s (suc k)) (m.amounts s (suc k)) (gave_after (place_in_memory m s) (suc k)) (state_in m (stores_after (suc k - 1)) s) (state_in m (stores_after (suc k)) s)
+    step_run s store =
+        let p = slice_index places s in
+        let many : length after.stores ≡ length m.memory.stores = as_many after.stores m.memory.stores (stepped.labels ∙ labels_before) in
+        let there : p < length m.memory.stores = (footing.stand_at s store).within in
+        let within : p < length after.stores = omega arith in
+        let gave : stepped.gave p ≡ gave_after (place_in_memory m s) (suc k) =
+        ap stepped.gave (footing.stand_at s store).is ∙ ap (λ (b : Bool). cond b (stepped.gave (place_in_memory m s)) (done.gave (place_in_memory m s) (suc k))) (sym (eq-eqb (suc k) (suc k) refl)) in
+        run_as _ _ _ _ _ _ _ _ _ _ (offered_here s store) (wanted_is m.amounts places (suc k) n s footing.apart store) gave (state_before s store) (state_after s store)
+        (stepped.runs p within)
+
+    -- what an earlier order was given
+    gave_old : (j t : ℕ) → t ≢ suc k → gave_after j t ≡ done.gave j t
+    gave_old j t other = ap (λ (b : Bool). cond b (stepped.gave j) (done.gave j t)) (ne_eqb t (suc k) other)
+
+    -- each step, this one or an earlier one
+    each_run : (s t : ℕ) → s < n → 1 ≤ t → t ≤ suc k
+        → IsStepRun (offered m s t) (m.amounts s t) (gave_after (place_in_memory m s) t) (state_in m (stores_after (t - 1)) s) (state_in m (stores_after t) s)
+    each_run s t store first last = by_step (cases_lt t (suc k))
+      where
+        by_step : (t < suc k) ⊎ (suc k ≤ t)
+            → IsStepRun (offered m s t) (m.amounts s t) (gave_after (place_in_memory m s) t) (state_in m (stores_after (t - 1)) s) (state_in m (stores_after t) s)
+        by_step (inl earlier) =
+            run_as _ _ _ _ _ _ _ _ _ _ refl refl (sym (gave_old (place_in_memory m s) t (λ same. omega (arith, same))))
+            (ap (λ (held : List Held). state_in m held s) (sym (at_old (t - 1) (omega arith))))
+            (ap (λ (held : List Held). state_in m held s) (sym (at_old t (omega arith))))
+            (done.runs.runs s t store first (omega arith))
+        by_step (inr now) =
+            let same : suc k ≡ t = omega arith in
+            subst (λ (u : ℕ). IsStepRun (offered m s u) (m.amounts s u) (gave_after (place_in_memory m s) u) (state_in m (stores_after (u - 1)) s) (state_in m (stores_after u) s)) same
+            (step_run s store)
+
+    -- the stores went by one step more
+    ran_on : AreStepRuns m (suc k) stores_after gave_after
+    ran_on = record {
+      first = at_old 0 (omega arith) ∙ done.runs.first;
+      labels = λ t last. each_label t last (cases_lt t (suc k));
+      runs = each_run;
+    }
+      where
+        each_label : (t : ℕ) → t ≤ suc k → (t < suc k) ⊎ (suc k ≤ t) → labels_of (stores_after t) ≡ labels_of m.memory.stores
+        each_label t last (inl earlier) = ap labels_of (at_old t (omega arith)) ∙ done.runs.labels t (omega arith)
+        each_label t last (inr now) =
+            let same : t ≡ suc k = omega arith in
+            ap (λ (u : ℕ). labels_of (stores_after u)) same ∙ ap labels_of at_new ∙ stepped.labels ∙ labels_before
+
+    -- the sources gave one step more
+    given_on : SourcesGave gives (suc k) sources after.sources
+    given_on = record {
+      nothing_left = λ t first last. each_none t first last (cases_lt t (suc k));
+      others = λ t outside.
+          stepped.others t (λ same. outside (omega (arith, same)) (omega (arith, same))) ∙ done.sources_are.others t (λ first last. outside first (omega arith));
+    }
+      where
+        each_none : (t : ℕ) → 1 ≤ t → t ≤ suc k → (t < suc k) ⊎ (suc k ≤ t) → All (λ s. gives s t ≡ []) after.sources
+        each_none t first last (inl earlier) =
+            none_same gives t before.sources after.sources (stepped.others t (λ same. omega (arith, same))) (done.sources_are.nothing_left t first (omega arith))
+        each_none t first last (inr now) =
+            let same : suc k ≡ t = omega arith in
+            subst (λ (u : ℕ). All (λ s. gives s u ≡ []) after.sources) same stepped.nothing_left
+
+    -- what a link sent in a step, this one or an earlier one
+    abbrev pieces : ℕ → ℕ → List Sent
+    pieces l t = sent_in m gave_after t (slice_index_or (took_after t) l [])
+
+    abbrev old_pieces : ℕ → ℕ → List Sent
+    old_pieces l t = sent_in m done.gave t (slice_index_or (done.links_are.took t) l [])
+
+    abbrev by_test : ℕ → ℕ → Bool → List Sent
+    by_test l t b =
+        flat_map (λ j. all_sent (id_at (map (λ h. h.id) m.memory.stores) j) (cond b (stepped.gave j) (done.gave j t)))
+        (slice_index_or (cond b stepped.places (done.links_are.took t)) l [])
+
+    piece_old : (l t : ℕ) → t ≢ suc k → pieces l t ≡ old_pieces l t
+    piece_old l t other = ap (by_test l t) (ne_eqb t (suc k) other)
+
+    piece_new : (l : ℕ) → pieces l (suc k) ≡ flat_map (λ j. all_sent (id_at (map (λ h. h.id) m.memory.stores) j) (stepped.gave j)) (slice_index_or stepped.places l [])
+    piece_new l = ap (by_test l (suc k)) (eq-eqb (suc k) (suc k) refl)
+
+    -- the links before the step are as many as at first
+    links_many : length before.links ≡ length links
+    links_many = sym (length-map before.links failed) ∙ ap length done.links_are.no_failure ∙ length-map links failed
+
+    -- the links took what the orders of the step were given
+    took_now : AllTook sent failed (map (λ h. h.id) m.memory.stores) stepped.gave stepped.places before.links after.links
+    took_now =
+        subst (λ (ids : List (List ℕ)). AllTook sent failed ids stepped.gave stepped.places before.links after.links) ids_before stepped.links
+
+    -- the links sent one step more
+    sent_on : LinksSent sent failed m (suc k) gave_after links after.links
+    sent_on = record {
+      took = took_after;
+      once = λ j t first last. each_once j t first last (cases_lt t (suc k));
+      links = λ t first last. each_link t first last (cases_lt t (suc k));
+      lists = λ l within.
+          let inside : l < length before.links = omega (arith, links_many) in
+          let now = took_lists sent failed (map (λ h. h.id) m.memory.stores) stepped.gave stepped.places before.links after.links took_now l inside in
+          let same = flat_map_range_same (pieces l) (old_pieces l) 1 k (λ t from to. piece_old l t (λ equal. omega (arith, equal))) in
+          let all : flat_map (pieces l) (range_with_len 1 (suc k)) ≡ flat_map (old_pieces l) (range_with_len 1 k)
+          ++ flat_map (λ j. all_sent (id_at (map (λ h. h.id) m.memory.stores) j) (stepped.gave j)) (slice_index_or stepped.places l []) =
+          flat_map_range_more (pieces l) k ∙ ap (λ xs. xs ++ pieces l (suc k)) same ∙ ap (λ xs. flat_map (old_pieces l) (range_with_len 1 k) ++ xs) (piece_new l) in
+          now
+          ∙ ap (λ xs. xs ++ flat_map (λ j. all_sent (id_at (map (λ h. h.id) m.memory.stores) j) (stepped.gave j)) (slice_index_or stepped.places l [])) (done.links_are.lists l within)
+          ∙ append_assoc (slice_index_or (map sent links) l []) (flat_map (old_pieces l) (range_with_len 1 k)) _
+          ∙ ap (λ xs. slice_index_or (map sent links) l [] ++ xs) (sym all);
+      no_failure =
+          took_failed sent failed (map (λ h. h.id) m.memory.stores) stepped.gave stepped.places before.links after.links took_now ∙ done.links_are.no_failure;
+    }
+      where
+        each_once : (j t : ℕ) → 1 ≤ t → t ≤ suc k → (t < suc k) ⊎ (suc k ≤ t) → sum_by (times j) (took_after t) ≡ times j (places_of (step_orders m t))
+        each_once j t first last (inl earlier) =
+            ap (sum_by (times j)) (extend-other (suc k) stepped.places done.links_are.took t (λ same. omega (arith, same)))
+            ∙ done.links_are.once j t first (omega arith)
+        each_once j t first last (inr now) =
+            let same : suc k ≡ t = omega arith in
+            let here : sum_by (times j) (took_after (suc k)) ≡ times j (places_of (step_orders m (suc k))) =
+            ap (sum_by (times j)) (extend-here (suc k) stepped.places done.links_are.took) ∙ stepped.once j
+            ∙ ap (λ (os : List Order). times j (places_of os)) (orders_are m places (suc k) (λ s store. (footing.stand_at s store).is)) in
+            subst (λ (u : ℕ). sum_by (times j) (took_after u) ≡ times j (places_of (step_orders m u))) same here
+
+        each_link : (t : ℕ) → 1 ≤ t → t ≤ suc k → (t < suc k) ⊎ (suc k ≤ t) → length (took_after t) ≡ length links
+        each_link t first last (inl earlier) =
+            ap length (extend-other (suc k) stepped.places done.links_are.took t (λ same. omega (arith, same))) ∙ done.links_are.links t first (omega arith)
+        each_link t first last (inr now) =
+            let same : t ≡ suc k = omega arith in
+            ap (λ (u : ℕ). length (took_after u)) same ∙ ap length (extend-here (suc k) stepped.places done.links_are.took)
+            ∙ (took_many sent failed (map (λ h. h.id) m.memory.stores) stepped.gave stepped.places before.links after.links took_now).0 ∙ links_many
+
+    module _ (law : RunsLoseAsPlanned) (within : suc k ≤ length m.problem.windows) where
+      -- the steps so far are a run of the plan, with what came in place of the forecast
+      run_of : IsRunOf (as_came m) m.amounts (suc k) (offered m) (λ s t. gave_after (place_in_memory m s) t) (λ s t. state_in m (stores_after t) s)
+      run_of = record {
+        ready = λ s store.
+            let first : stores_after 0 ≡ m.memory.stores = ran_on.first in
+            let as_first : IsReady m.problem s (state_in m (stores_after 0) s) =
+            subst (λ (held : List Held). IsReady m.problem s (state_in m held s)) (sym first) (footing.ready s store) in
+            record { sound = as_first.sound; sized = as_first.sized; holds = as_first.holds };
+        timed = λ s t store first last. timed_offers m s t (omega (arith, footing.early));
+        runs = each_run;
+        came = λ s t store first last. came_at m s t store first (omega arith);
+      }
+
+      -- a store's tally is that of the plan
+      tally_is : (s : ℕ) → s < n
+          → tally_from m.problem s (suc k) (counters_of (opening_at (states_of before.stores) (slice_index places s))) (opening_at (states_of after.stores) (slice_index places s))
+          ≡ tally_of m.problem (as_came m) m.amounts s (suc k)
+      tally_is s store =
+          let raw = law (as_came m) m.amounts (suc k) (offered m) (λ s t. gave_after (place_in_memory m s) t) (λ s t. state_in m (stores_after t) s) run_of s (suc k) store (omega arith) (omega arith) in
+          let first = subst (λ (u : State). AsPlanned (as_came m) m.amounts s (suc k) u (state_in m (stores_after (suc k)) s)) (sym (state_before s store)) raw in
+          let planned = subst (λ (u : State). AsPlanned (as_came m) m.amounts s (suc k) (opening_at (states_of before.stores) (slice_index places s)) u) (sym (state_after s store)) first in
+          let arrived = less_of _ _ _ planned.takes in
+          let lost_is = less_of _ _ _ planned.loses in
+          let dumped = less_of _ _ _ planned.dumps in
+          let held = planned.holds in
+          λ i. record { forecast = arrivals m.problem s (suc k); arrived = arrived i; lost = lost_is i; dumped = dumped i; held = held i }
+
+      -- the row of the step is that of the plan
+      row_is : row_from m.problem (suc k) places before.stores after.stores n ≡ map (λ s. tally_of m.problem (as_came m) m.amounts s (suc k)) (stores m.problem)
+      row_is = map_range_same _ _ 0 n (λ s from to. tally_is s (omega arith))
+
+      -- the rows of one step more
+      rows_more : rows_of m.problem (as_came m) m.amounts k ++ row_from m.problem (suc k) places before.stores after.stores n ∷ []
+          ≡ rows_of m.problem (as_came m) m.amounts (suc k)
+      rows_more =
+          let row = λ (t : ℕ). map (λ s. tally_of m.problem (as_came m) m.amounts s t) (stores m.problem) in
+          let more : rows_of m.problem (as_came m) m.amounts (suc k) ≡ rows_of m.problem (as_came m) m.amounts k ++ row (suc k) ∷ [] =
+          ap (map row) (range_with_len_more 1 k (suc k) (omega arith)) ∙ map-append row (range_with_len 1 k) (suc k ∷ []) in
+          ap (λ (r : List Tally). rows_of m.problem (as_came m) m.amounts k ++ r ∷ []) row_is ∙ sym more
+
+      -- the counters of each store rise
+      planned_at : (s : ℕ) → s < n → AsPlanned (as_came m) m.amounts s (suc k) (state_in m before.stores s) (state_in m after.stores s)
+      planned_at s store =
+          let raw = law (as_came m) m.amounts (suc k) (offered m) (λ s t. gave_after (place_in_memory m s) t) (λ s t. state_in m (stores_after t) s) run_of s (suc k) store (omega arith) (omega arith) in
+          let first = subst (λ (held : List Held). AsPlanned (as_came m) m.amounts s (suc k) (state_in m held s) (state_in m (stores_after (suc k)) s)) at_last raw in
+          subst (λ (held : List Held). AsPlanned (as_came m) m.amounts s (suc k) (state_in m before.stores s) (state_in m held s)) at_new first
+
+      counted_on : AreByCounters m after.stores (report.steps ++ row_from m.problem (suc k) places before.stores after.stores n ∷ [])
+      counted_on =
+          let stands = λ (s : ℕ) (store : s < n). (footing.stand_at s store).is in
+          record {
+            arrived =
+                counted_more m places (suc k) before.stores after.stores (λ u. u.offered) (λ x. x.arrived) (λ s u v. refl) stands
+                (λ s store. rises _ _ _ (planned_at s store).takes) (counted m (λ u. u.offered) m.memory.stores) report.steps done.counted.arrived;
+            lost =
+                counted_more m places (suc k) before.stores after.stores (λ u. u.lost) (λ x. x.lost) (λ s u v. refl) stands
+                (λ s store. rises _ _ _ (planned_at s store).loses) (counted m (λ u. u.lost) m.memory.stores) report.steps done.counted.lost;
+            dumped =
+                counted_more m places (suc k) before.stores after.stores (λ u. u.deleted) (λ x. x.dumped) (λ s u v. refl) stands
+                (λ s store. rises _ _ _ (planned_at s store).dumps) (counted m (λ u. u.deleted) m.memory.stores) report.steps done.counted.dumped;
+          }
+        where
+          rises : (after before rose : ℕ) → after ≡ before + rose → before ≤ after
+          rises after before rose same = omega arith
+
+      -- one step more of a run
+      pub done_on : (new : Reported) → new ≡ record report { steps = report.steps ++ row_from m.problem (suc k) places before.stores after.stores n ∷ [] }
+          → StepsDone gives sent failed m sources links (suc k) after new
+      done_on new is = record {
+        stores = stores_after;
+        gave = gave_after;
+        runs = ran_on;
+        stores_are = sym at_new;
+        sources_are = given_on;
+        links_are = sent_on;
+        report_is =
+            is ∙ ap (λ (r : Reported). record r { steps = r.steps ++ row_from m.problem (suc k) places before.stores after.stores n ∷ [] }) done.report_is
+            ∙ ap (λ (rows : List (List Tally)). record { ids = map (λ r. r.id) m.problem.rows; most = length m.problem.windows; steps = rows }) rows_more;
+        counted = subst (λ (r : Reported). AreByCounters m after.stores r.steps) (sym is) counted_on;
+      }

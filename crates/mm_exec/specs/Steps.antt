@@ -1,0 +1,57 @@
+-- The first steps of a run, carried out whole.
+use Rattle.std.specs.Prelude.{◌≡◌, ℕ, ◌-◌, ◌<◌, ◌≤◌, List, [], ◌++◌, length, map, flat_map, sum_by, slice_index_or, All}
+use Rattle.std.specs.List.{range_with_len}
+use Rattle.mm_packet.specs.Packet.{SpacePacket}
+use Rattle.mm_store.specs.declared.stored.Stored.{Stored}
+use Rattle.mm_desk.specs.declared.held.Held.{Held}
+use Rattle.mm_shared.specs.Stores.{labels_of, id_at}
+use Rattle.mm_record.specs.Steps.{given_in}
+use Rattle.mm_dump.specs.Sending.{Sent, all_sent}
+use Rattle.mm_dump.specs.Dumped.{times, places_of}
+use Rattle.mm_report.specs.Report.{Reported}
+use Rattle.mm_runs.specs.StepRuns.{IsStepRun}
+use Rattle.mm_runs.specs.Numbers.{AtEach}
+use Rattle.mm_exec.specs.RunInput.{RunInput, offered, as_came, place_in_memory, state_in, step_orders}
+use Rattle.mm_exec.specs.Numbers.{report_of, AreByCounters}
+use Rattle.mm_exec.specs.Step.{RunState}
+
+-- the stores after each of the first steps: those of the memory before the first, and then in each step and store a step run leads from
+-- the state that the step before left to the next. What an order was given stands by its store's place in the memory, and its step
+pub record AreStepRuns (m : RunInput) (steps : ℕ) (stores : ℕ → List Held) (gave : ℕ → ℕ → List Stored) : Type 0 where
+  pub first : stores 0 ≡ m.memory.stores
+  pub labels : (t : ℕ) → t ≤ steps → labels_of (stores t) ≡ labels_of m.memory.stores
+  pub runs : AtEach (length m.problem.rows) steps
+      (λ s t. IsStepRun (offered m s t) (m.amounts s t) (gave (place_in_memory m s) t) (state_in m (stores (t - 1)) s) (state_in m (stores t) s))
+
+-- of the first steps the sources have nothing left, and what they give in other steps is untouched
+pub record SourcesGave {S : Type 0} (gives : S → ℕ → List SpacePacket) (steps : ℕ) (before after : List S) : Type 0 where
+  pub nothing_left : (t : ℕ) → 1 ≤ t → t ≤ steps → All (λ s. gives s t ≡ []) after
+  pub others : (t : ℕ) → (1 ≤ t → t ≤ steps → ⊥) → given_in gives t after ≡ given_in gives t before
+
+-- what the orders of these stores were given in a step, order after order, each whole
+abbrev pub sent_in : RunInput → (ℕ → ℕ → List Stored) → ℕ → List ℕ → List Sent
+sent_in m gave t places = flat_map (λ k. all_sent (id_at (map (λ h. h.id) m.memory.stores) k) (gave k t)) places
+
+-- the links have sent, step by step, what the orders that each of them took were given, and each order was one link's, once; no send
+-- failed. Orders stand by their stores' places in the memory
+pub record LinksSent {L : Type 0} (sent : L → List Sent) (failed : L → ℕ) (m : RunInput) (steps : ℕ) (gave : ℕ → ℕ → List Stored) (before after : List L) : Type 0 where
+  pub took : ℕ → List (List ℕ)
+  pub once : (k t : ℕ) → 1 ≤ t → t ≤ steps → sum_by (times k) (took t) ≡ times k (places_of (step_orders m t))
+  pub links : (t : ℕ) → 1 ≤ t → t ≤ steps → length (took t) ≡ length before
+  pub lists : (l : ℕ) → l < length before → slice_index_or (map sent after) l []
+      ≡ slice_index_or (map sent before) l [] ++ flat_map (λ t. sent_in m gave t (slice_index_or (took t) l [])) (range_with_len 1 steps)
+  pub no_failure : map failed after ≡ map failed before
+
+-- the first steps of a run are carried out: the stores, the sources and the links are as they leave them, and the report has the numbers
+-- of the plan, with what came in place of the forecast, and those of the stores' counters
+pub record StepsDone {S L : Type 0} (gives : S → ℕ → List SpacePacket) (sent : L → List Sent) (failed : L → ℕ) (m : RunInput) (sources : List S) (links : List L)
+    (steps : ℕ) (after : RunState S L) (report : Reported) : Type 0 where
+  -- the stores after each step, and what each order was given
+  pub stores : ℕ → List Held
+  pub gave : ℕ → ℕ → List Stored
+  pub runs : AreStepRuns m steps stores gave
+  pub stores_are : after.stores ≡ stores steps
+  pub sources_are : SourcesGave gives steps sources after.sources
+  pub links_are : LinksSent sent failed m steps gave links after.links
+  pub report_is : report ≡ report_of m.problem (as_came m) m.amounts steps
+  pub counted : AreByCounters m after.stores report.steps

@@ -1,0 +1,107 @@
+-- Recorders of two groups, one after the other.
+use Rattle.std.proofs.Common.{◌≡◌, ℕ, ◌+◌, ◌<◌, List, [], ◌∷◌, ◌++◌, length, get_or, map, All, Option, None, sym, subst, ap, ◌∙◌, length-append, arith}
+use Rattle.std.proofs.Math.ListN.{set}
+use Rattle.std.proofs.lemmas.List.{get_or-map, get_or_append_left, get_or-append-add, length-map, map-append}
+use Rattle.atomic_table.specs.Seated.{TableId}
+use Rattle.mm_packet.specs.Packet.{SpacePacket}
+use Rattle.mm_desk.specs.declared.fault.Fault.{Fault}
+use Rattle.mm_shared.specs.declared.lines.Line.{Line}
+use Rattle.mm_shared.specs.declared.lines.Lines.{Lines}
+use Rattle.mm_shared.specs.declared.stores.NamedStore.{NamedStore}
+use Rattle.mm_shared.specs.Stores.{ends_of, AreWorkers, IsFresh, IsWorker}
+use Rattle.mm_record.specs.Offering.{AreAt}
+use Rattle.mm_record.specs.Recorded.{RecordingContext}
+use Rattle.mm_record.specs.Recorders.{HasRun, HaveRun, IsRunAt, AreRunsAt, MayRecord, is_worse}
+use Rattle.mm_record.specs.Steps.{RecorderRun, IsWhy}
+use Rattle.mm_record.proofs.Going.{end_of}
+use Rattle.mm_record.proofs.Whys.{why_none, why_one, why_both}
+
+-- what holds of all of two lists holds of all of each
+pub all_first : {X : Type 0} (P : X → Type 0) (xs ys : List X) → All P (xs ++ ys) → All P xs
+all_first P xs ys all i d within = subst P (get_or_append_left xs ys d i within) (all i d (omega (arith, length-append xs ys)))
+
+pub all_second : {X : Type 0} (P : X → Type 0) (xs ys : List X) → All P (xs ++ ys) → All P ys
+all_second P xs ys all i d within = subst P (get_or-append-add xs ys i d) (all (length xs + i) d (omega (arith, length-append xs ys)))
+
+-- two groups of recorders may record where both together may
+pub may_both : {S : Type 0} (stores : List NamedStore) (ss us : List S) (ws xs : List Lines) → length ss ≡ length ws
+    → MayRecord stores (ss ++ us) (ws ++ xs) → MayRecord stores ss ws × MayRecord stores us xs
+may_both stores ss us ws xs same may = (
+  record {
+    same = sym same;
+    at = all_first (λ w. AreAt stores (ends_of w.lines.items)) ws xs may.at;
+    fresh = all_first (λ w. IsFresh w.lines.items) ws xs may.fresh;
+  },
+  record {
+    same = omega (arith, may.same, length-append ss us, length-append ws xs, same);
+    at = all_second (λ w. AreAt stores (ends_of w.lines.items)) ws xs may.at;
+    fresh = all_second (λ w. IsFresh w.lines.items) ws xs may.fresh;
+  },
+)
+
+-- a line among lines
+end_at : (lines : List Line) (k : ℕ) (end : ℕ × TableId × ℕ) (id : TableId) → k < length lines → ((l : Line) → (get_or lines k l).port.of ≡ id)
+    → (get_or (ends_of lines) k end).1 ≡ id
+end_at [] k end id within at = absurd (omega arith)
+end_at (l ∷ ls) k end id within at = ap (λ (x : ℕ × TableId × ℕ). x.1) (get_or-map end_of (l ∷ ls) k l end within) ∙ at l
+
+-- a worker has its lines at the stores
+at_of : (stores : List NamedStore) (number : ℕ) (lines : List Line) → IsWorker stores number lines → AreAt stores (ends_of lines)
+at_of stores number lines worker = record {
+  count = length-map lines end_of ∙ worker.count;
+  of = λ k s end within. end_at lines k end (get_or stores k s).store.id (omega (arith, worker.count)) (λ l. (worker.at k s l within).of);
+}
+
+-- workers of new stores, one for each source, may record
+pub may_of : {S : Type 0} (stores : List NamedStore) (sources : List S) (workers : List Lines) → length workers ≡ length sources
+    → AreWorkers stores 0 workers → All (λ w. IsFresh w.lines.items) workers → MayRecord stores sources workers
+may_of stores sources workers same are fresh = record {
+  same = same;
+  at = λ i d within. at_of stores (0 + i) (get_or workers i d).lines.items (are i d within);
+  fresh = fresh;
+}
+
+module _ {S : Type 0} (gives : S → ℕ → List SpacePacket) (e : RecordingContext) where
+  -- no recorder
+  pub none_run : (sources : List S) (workers : List Lines) → length sources ≡ 0 → length workers ≡ length sources → HaveRun gives e sources sources workers None
+  unfolding AreRunsAt
+  none_run [] [] none same = record { runs = []; are = tt; why_is = why_none }
+  none_run [] (w ∷ ws) none same = absurd (omega arith)
+  none_run (s ∷ ss) workers none same = absurd (omega arith)
+
+  -- the recorder of one source
+  pub one_run : (sources : List S) (workers : List Lines) (s t : S) (w : Lines) (broken : Option Fault) → length sources ≡ 1 → length workers ≡ length sources
+      → get_or sources 0 s ≡ s → HasRun e (gives s) (gives t) broken w.lines.items → HaveRun gives e sources (set sources 0 t) (set workers 0 w) broken
+  unfolding AreRunsAt
+  one_run [] workers s t w broken one same at has = absurd (omega arith)
+  one_run (x ∷ y ∷ xs) workers s t w broken one same at has = absurd (omega arith)
+  one_run (x ∷ []) [] s t w broken one same at has = absurd (omega arith)
+  one_run (x ∷ []) (v ∷ u ∷ ws) s t w broken one same at has = absurd (omega arith)
+  one_run (x ∷ []) (v ∷ []) s t w broken one same at has = record {
+    runs = has.run ∷ [];
+    are = (subst (λ (y : S). IsRunAt e (gives y) (gives t) w.lines.items has.run) (sym at) has.is, tt);
+    why_is = subst (λ (b : Option Fault). IsWhy (b ∷ []) broken) (sym has.ended) (why_one broken);
+  }
+
+  -- the runs of two groups
+  both_at : (ss ts us vs : List S) (ws xs : List Lines) (runs more : List RecorderRun) → AreRunsAt gives e ss ts ws runs → AreRunsAt gives e us vs xs more
+      → AreRunsAt gives e (ss ++ us) (ts ++ vs) (ws ++ xs) (runs ++ more)
+  unfolding AreRunsAt
+  both_at [] [] us vs [] xs [] more one two = two
+  both_at [] [] us vs [] xs (r ∷ runs) more one two = absurd one
+  both_at [] [] us vs (w ∷ ws) xs runs more one two = absurd one
+  both_at [] (t ∷ ts) us vs ws xs runs more one two = absurd one
+  both_at (s ∷ ss) [] us vs ws xs runs more one two = absurd one
+  both_at (s ∷ ss) (t ∷ ts) us vs [] xs runs more one two = absurd one
+  both_at (s ∷ ss) (t ∷ ts) us vs (w ∷ ws) xs [] more one two = absurd one
+  both_at (s ∷ ss) (t ∷ ts) us vs (w ∷ ws) xs (r ∷ runs) more one two = (one.0, both_at ss ts us vs ws xs runs more one.1 two)
+
+  -- two groups
+  pub both_run : (ss ts us vs : List S) (ws xs : List Lines) (first second : Option Fault) → HaveRun gives e ss ts ws first → HaveRun gives e us vs xs second
+      → HaveRun gives e (ss ++ us) (ts ++ vs) (ws ++ xs) (is_worse first second)
+  both_run ss ts us vs ws xs first second one two = record {
+    runs = one.runs ++ two.runs;
+    are = both_at ss ts us vs ws xs one.runs two.runs one.are two.are;
+    why_is = subst (λ (fs : List (Option Fault)). IsWhy fs (is_worse first second)) (sym (map-append (λ (run : RecorderRun). run.broken) one.runs two.runs))
+        (why_both (map (λ (run : RecorderRun). run.broken) one.runs) (map (λ (run : RecorderRun). run.broken) two.runs) first second one.why_is two.why_is);
+  }

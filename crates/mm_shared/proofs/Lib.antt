@@ -1,0 +1,12 @@
+pub mod Lists
+pub mod Parts
+pub mod Keeping
+pub mod Giving
+pub mod Parting
+pub mod Ending
+pub mod Defaults
+pub mod Places
+pub mod Handing
+pub mod Workers
+pub mod Closing
+pub mod StillOpen

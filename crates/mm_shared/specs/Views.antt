@@ -1,0 +1,57 @@
+-- What contracts see of a shared store and of its ports, and of what became of a store.
+use Rattle.std.specs.Prelude.{ℕ, ◌+◌, List, [], ◌∷◌, ◌++◌, slice_index_or, drop, replicate}
+use Rattle.atomic_table.specs.Seated.{TableId}
+use Rattle.mm_desk.specs.declared.entry.Entry.{Entry}
+use Rattle.mm_desk.specs.declared.event.Event.{Event}
+use Rattle.mm_desk.specs.declared.reply.Reply.{Reply}
+use Rattle.mm_desk.specs.Machine.{State}
+use Rattle.mm_desk.specs.Runs.{entry, IsRun}
+use Rattle.mm_desk.specs.Shuffles.{IsShuffle}
+
+-- a shared store: which one it is, the state that it was opened with, and how many seats it has
+pub record StoreView : Type 0 where
+  pub id : TableId
+  pub opening : State
+  pub seats : ℕ
+
+-- a port: which store it is of, the number of its seat there, and the list of the calls made through it
+pub record PortView : Type 0 where
+  pub of : TableId
+  pub number : ℕ
+  pub list : List Entry
+
+-- ports that are still together: which store they are of, the first seat's number, and the list of calls of each
+pub record PortsView : Type 0 where
+  pub of : TableId
+  pub first : ℕ
+  pub lists : List (List Entry)
+
+-- a port through which no call was made
+abbrev pub new_port : TableId → ℕ → PortView
+new_port id number = record { of = id; number = number; list = [] }
+
+-- a port with one call more in its list
+abbrev pub with_call : PortView → Event → Reply → PortView
+with_call port event reply = record port { list = port.list ++ entry port.number event reply ∷ [] }
+
+-- all ports of a store with this many seats, through which no call was made
+abbrev pub new_ports : TableId → ℕ → PortsView
+new_ports id seats = record { of = id; first = 0; lists = replicate seats [] }
+
+-- the first of the ports
+abbrev pub first_port : PortsView → PortView
+first_port ports = record { of = ports.of; number = ports.first; list = slice_index_or ports.lists 0 [] }
+
+-- the ports without the first
+abbrev pub other_ports : PortsView → PortsView
+other_ports ports = record ports { first = ports.first + 1; lists = drop 1 ports.lists }
+
+-- the ports with this one before them
+abbrev pub with_port : PortView → PortsView → PortsView
+with_port port ports = record ports { first = port.number; lists = port.list ∷ ports.lists }
+
+-- there is a legal log from the first state to the second that is a shuffle of these lists, one for each seat
+pub record HasLegalLog (lists : List (List Entry)) (s t : State) : Type 0 where
+  pub log : List Entry
+  pub run : IsRun s log t
+  pub shuffle : IsShuffle lists log

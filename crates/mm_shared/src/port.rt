@@ -1,0 +1,41 @@
+//! Ports of a shared store: the right to make calls on it. A port has no bytes, and may go to another thread.
+
+use crate::rule::StoreSeat;
+use std::marker::Model;
+
+/// A port of a shared store: one seat there, through which calls are made. Contracts see which store it is of, the number of its
+/// seat and the list of the calls made through it.
+#[derive(Drop)]
+pub struct Port {
+    pub(crate) seat: StoreSeat,
+}
+
+impl Model for Port {
+    ghost use Rattle.std.specs.Prelude.{◌≡◌, ◌∷◌, [], length, slice_index_or};
+    ghost use Rattle.mm_shared.specs.Steps.{IsAtRest};
+    ghost use Rattle.mm_shared.specs.Views.{PortView};
+
+    ghost Value = { PortView };
+
+    ghost view = { λ p. record { of = p.seat.table_id; number = p.seat.me.0.first; list = slice_index_or p.seat.me.0.lists 0 [] } };
+
+    ghost invariant = { λ p. IsAtRest p.seat.me × (length p.seat.me.0.lists ≡ 1) };
+}
+
+/// Ports of a shared store that are still together. Contracts see which store they are of, the number of the first seat and the
+/// list of the calls made through each.
+#[derive(Drop)]
+pub struct Ports {
+    pub(crate) seat: StoreSeat,
+}
+
+impl Model for Ports {
+    ghost use Rattle.mm_shared.specs.Steps.{IsAtRest};
+    ghost use Rattle.mm_shared.specs.Views.{PortsView};
+
+    ghost Value = { PortsView };
+
+    ghost view = { λ p. record { of = p.seat.table_id; first = p.seat.me.0.first; lists = p.seat.me.0.lists } };
+
+    ghost invariant = { λ p. IsAtRest p.seat.me };
+}

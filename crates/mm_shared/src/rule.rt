@@ -1,0 +1,98 @@
+//! What is known of a shared store, in the proofs alone, and the rule that all its steps keep.
+ghost use Rattle.mm_shared.specs.Rule.{Keeps, knows, all_seats};
+ghost use Rattle.mm_shared.specs.Steps.{tried, called, at_rest, first_of, others_of, joined};
+ghost use Rattle.std.specs.Prelude.{◌≡◌, [], None, Ok};
+ghost use Rattle.mm_desk.specs.declared.event.Event.{Event as Asked};
+ghost use Rattle.mm_desk.specs.declared.event.Event.TheVariants.{Enable};
+ghost use Rattle.mm_desk.specs.declared.reply.Reply.{Reply as Answered};
+
+use atomic_table::{Join, Play, Split, TableRule};
+use mm_desk::{Entry, StoreState};
+use std::collections::LinkedList;
+use std::marker::{Brand, PhantomData};
+use std::snapshot::Snapshot;
+
+/// What is known with seats: the number of the first, the calls made through each from it on, and the state that it holds. No
+/// value of it is made.
+pub struct Knows {
+    pub first: u64,
+    pub lists: LinkedList<LinkedList<Entry>>,
+    pub held: Option<StoreState>,
+}
+
+/// What a shared store was opened with: the state, for the proofs alone, and how many seats.
+#[derive(Drop)]
+pub struct Opened {
+    pub state: Snapshot<StoreState>,
+    pub seats: u32,
+}
+
+/// The rule of a shared store.
+#[derive(Clone, Copy)]
+pub struct Ruled;
+
+impl TableRule<StoreState, Knows, Opened> for Ruled {
+    ghost holds = { λ key. Keeps key.state.value key.seats };
+
+    ghost first = { λ key. all_seats key.seats };
+}
+
+/// A seat of a shared store.
+pub type StoreSeat = atomic_table::Seat<StoreState, Knows>;
+
+/// What threads share of a shared store.
+pub type StoreTable = atomic_table::Shared<StoreState, Knows, Opened, Ruled>;
+
+/// A try of the lock.
+pub struct Take;
+
+impl Play<StoreState, Knows> for Take {
+    ghost then = { tried };
+}
+
+/// The call that was made on a state that is held, with its answer.
+pub trait Call {
+    ghost event: { Asked };
+
+    ghost reply: { Answered };
+}
+
+impl Call for Brand {
+    ghost event = { Enable };
+
+    ghost reply = { Answered.Done (Ok tt) };
+}
+
+/// The state is given back after a call.
+pub struct Give<T: Call> {
+    of: PhantomData<T>,
+}
+
+impl<T: Call> Play<StoreState, Knows> for Give<T> {
+    ghost then = { λ st m r n. n ≡ called m T.event T.reply };
+}
+
+/// The state is given back as it was.
+pub struct Restore;
+
+impl Play<StoreState, Knows> for Restore {
+    ghost then = { λ st m r n. n ≡ at_rest m };
+}
+
+/// The first seat is parted from the others.
+pub struct First;
+
+impl Split<Knows> for First {
+    ghost left = { others_of };
+
+    ghost right = { first_of };
+}
+
+/// Seats are put before others.
+pub struct Before;
+
+impl Join<Knows> for Before {
+    ghost both = { joined };
+
+    ghost spent = { knows 0 [] None };
+}
