@@ -2,7 +2,7 @@
 ghost use Rattle.std.specs.Prelude.{◌≡◌};
 ghost use Rattle.mm_desk.specs.Runs.{opening_at};
 
-use crate::samples::{counts, is_told, packet, store_of, store_with};
+use crate::samples::{counts, is_told, packet, store_with};
 use crate::told::{Told, answers, told_of, told_of_delete, told_of_given, told_of_offer};
 use mm_base::Kind;
 use mm_desk::agree::{agrees, is_below, is_part};
@@ -148,12 +148,16 @@ fn close_exchanged<N: Opening, R: Wait + Abort>(rt: &R, alloc: Global, state: St
 
 #[test]
 fn two_seats_one_desk(rt: HostRuntime) {
-    close_in_order::<Brand, HostRuntime>(&rt, rt.alloc(), store_with(&rt, rt.alloc(), 0));
+    close_in_order::<Brand, HostRuntime>(
+        &rt,
+        rt.alloc(),
+        store_with(&rt, rt.alloc(), Kind::Bounded, 0),
+    );
 }
 
 #[test]
 fn two_seats_one_desk_of_a_circular_store(rt: HostRuntime) {
-    let state = store_of(&rt, rt.alloc(), Kind::Circular, 0);
+    let state = store_with(&rt, rt.alloc(), Kind::Circular, 0);
     close_in_order::<Brand, HostRuntime>(&rt, rt.alloc(), state);
 }
 
@@ -178,19 +182,23 @@ fn offers_a_fifth<N: Opening, R: Wait + Abort>(rt: &R, alloc: Global, state: Sto
 
 #[test]
 fn a_full_bounded_store_loses_the_new_packet(rt: HostRuntime) {
-    let state = store_of(&rt, rt.alloc(), Kind::Bounded, 4);
+    let state = store_with(&rt, rt.alloc(), Kind::Bounded, 4);
     offers_a_fifth::<Brand, HostRuntime>(&rt, rt.alloc(), state, Told::Lost(5));
 }
 
 #[test]
 fn a_full_circular_store_loses_its_oldest_packet(rt: HostRuntime) {
-    let state = store_of(&rt, rt.alloc(), Kind::Circular, 4);
+    let state = store_with(&rt, rt.alloc(), Kind::Circular, 4);
     offers_a_fifth::<Brand, HostRuntime>(&rt, rt.alloc(), state, Told::KeptOver(11, 1));
 }
 
 #[test]
 fn exchanged_seats_do_not_agree(rt: HostRuntime) {
-    close_exchanged::<Brand, HostRuntime>(&rt, rt.alloc(), store_with(&rt, rt.alloc(), 0));
+    close_exchanged::<Brand, HostRuntime>(
+        &rt,
+        rt.alloc(),
+        store_with(&rt, rt.alloc(), Kind::Bounded, 0),
+    );
 }
 
 // A log agrees with the lists of its two seats, and with no more.
@@ -242,7 +250,11 @@ fn compare_lists<N: Opening, R: Wait + Abort>(rt: &R, alloc: Global, state: Stor
 
 #[test]
 fn a_log_beside_other_lists_does_not_agree(rt: HostRuntime) {
-    compare_lists::<Brand, HostRuntime>(&rt, rt.alloc(), store_with(&rt, rt.alloc(), 0));
+    compare_lists::<Brand, HostRuntime>(
+        &rt,
+        rt.alloc(),
+        store_with(&rt, rt.alloc(), Kind::Bounded, 0),
+    );
 }
 
 // The calls that the worked example lacks, and refused ones.
@@ -296,7 +308,11 @@ fn switch_and_delete<N: Opening, R: Wait + Abort>(rt: &R, alloc: Global, state: 
 
 #[test]
 fn refused_calls_are_logged(rt: HostRuntime) {
-    switch_and_delete::<Brand, HostRuntime>(&rt, rt.alloc(), store_with(&rt, rt.alloc(), 0));
+    switch_and_delete::<Brand, HostRuntime>(
+        &rt,
+        rt.alloc(),
+        store_with(&rt, rt.alloc(), Kind::Bounded, 0),
+    );
 }
 
 // A draw answers this.

@@ -3,6 +3,7 @@ ghost use Rattle.std.specs.Prelude.{◌≡◌, ◌≢◌, ◌+◌, ◌<◌, ◌�
 ghost use Rattle.mm_base.specs.declared.limits.TheConstants.{MAX_STORES};
 
 use crate::samples::{is_named, new_held, store_with};
+use mm_base::Kind;
 use mm_desk::Held;
 use mm_dump::{Dumped, Link, MemoryLink, Order, OrderBroken, TakenPacket, dump, may_fail};
 use mm_store::PacketStore;
@@ -29,12 +30,14 @@ fn took(rt: &impl Abort, link: &MemoryLink, sent: &[(&[u8; 3], u16)]) {
 
 const NAMES: [&[u8; 3]; 4] = [b"AAA", b"BBB", b"CCC", b"DDD"];
 
-// Stores that hold the packets 1, 2, .. up to a number each.
+const KINDS: [Kind; 4] = [Kind::Bounded, Kind::Circular, Kind::Bounded, Kind::Circular];
+
+// Stores of both kinds that hold the packets 1, 2, .. up to a number each.
 fn stores_with(rt: &impl Abort, alloc: Global, held: &[u16]) -> Vec<Held> {
     let mut stores = Vec::new(alloc);
-    for (text, held) in NAMES.iter().zip(held) {
-        let store = new_held(rt, *text, store_with(rt, alloc, *held));
-        stores.push(store).expect(rt, "memory");
+    for ((text, kind), held) in NAMES.iter().zip(&KINDS).zip(held) {
+        let state = store_with(rt, alloc, *kind, *held);
+        stores.push(new_held(rt, *text, state)).expect(rt, "memory");
     }
     stores
 }
@@ -43,7 +46,9 @@ fn stores_with(rt: &impl Abort, alloc: Global, held: &[u16]) -> Vec<Held> {
 fn new_links(rt: &impl Abort, alloc: Global, until: &[Option<u64>]) -> Vec<MemoryLink> {
     let mut links = Vec::new(alloc);
     for until in until {
-        links.push(MemoryLink::new(alloc, *until)).expect(rt, "memory");
+        links
+            .push(MemoryLink::new(alloc, *until))
+            .expect(rt, "memory");
     }
     links
 }

@@ -1,12 +1,12 @@
-//! Tests of mm_desk, mm_crew, mm_shared and mm_dump.
+//! Tests of mm_desk, mm_shared and mm_dump.
 #![tactic(auto)]
 
-#[cfg(test)]
-mod crews;
 #[cfg(test)]
 mod desks;
 #[cfg(test)]
 mod dumps;
+#[cfg(test)]
+mod gates;
 #[cfg(test)]
 mod samples;
 #[cfg(test)]

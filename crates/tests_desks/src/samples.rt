@@ -30,13 +30,8 @@ pub fn new_state(rt: &impl Abort, alloc: Global, kind: Kind) -> StoreState {
     StoreState::of(AnyStore::new(alloc, kind, 4).expect(rt, "memory"))
 }
 
-/// A bounded store of four blocks, with its storage on and the packets 1, 2, .. up to a number at the times 7, 8, ..
-pub fn store_with(rt: &impl Abort, alloc: Global, held: u16) -> StoreState {
-    store_of(rt, alloc, Kind::Bounded, held)
-}
-
-/// The same of a store of this kind.
-pub fn store_of(rt: &impl Abort, alloc: Global, kind: Kind, held: u16) -> StoreState {
+/// A store of this kind, of four blocks, with its storage on and the packets 1, 2, .. up to a number at the times 7, 8, ..
+pub fn store_with(rt: &impl Abort, alloc: Global, kind: Kind, held: u16) -> StoreState {
     let mut state = new_state(rt, alloc, kind);
     state.enable();
     for count in 0..held {

@@ -1,6 +1,7 @@
 //! Several links at once: one queue of orders, a gate that opens once both links stand at it, and links that both fail.
 
 use super::{Case, dumped, have, stores_with, tried};
+use crate::gates::comes_to;
 use mm_base::StoreId;
 use mm_dump::{Dumped, Link, MemoryLink, OrderBroken, SendFailed};
 use mm_packet::BlockPacket;
@@ -8,18 +9,6 @@ use std::alloc::Global;
 use std::process::Abort;
 use std::sync::Arc;
 use std::sync::atomic::{AtomicU64, Ordering};
-use std::thread;
-
-// The turns for which a link looks for the other.
-const TURNS: u32 = 1_000_000;
-
-// Whether a count comes up to a number before the turns are used up.
-fn comes_to(count: &AtomicU64, number: u64) -> bool {
-    (0..TURNS).any(|_| {
-        thread::yield_now();
-        count.load(Ordering::SeqCst) >= number
-    })
-}
 
 // A link whose send, where it is the first of all that begin, goes on only once the other link has finished so many sends.
 #[derive(Drop)]
