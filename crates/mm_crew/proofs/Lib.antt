@@ -1,4 +1,0 @@
-pub mod Places
-pub mod Leaving
-pub mod Seated
-pub mod Walks
