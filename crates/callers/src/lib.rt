@@ -13,3 +13,4 @@ pub mod service;
 pub mod stores;
 #[cfg(test)]
 mod tests;
+pub mod used;

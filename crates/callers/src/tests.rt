@@ -5,18 +5,22 @@ use crate::checker::least_loss;
 use crate::ends::{Burst, Downlink};
 use crate::flight::{Told, plan_and_fly};
 use crate::flow::{greatest_value, in_a_row};
+use crate::halt::carry_out_or_tell;
 use crate::memory::with_one_off;
 use crate::packets::again;
 use crate::requests::enable_again;
 use crate::service::carried_out;
 use crate::stores::third_of_two;
+use crate::used::carry_out_over_used;
 use mm_base::{Kind, StoreId};
+use mm_desk::StoreState;
 use mm_memory::{Answer, Memory};
 use mm_packet::{BlockPacket, Header, Octets, Packet};
+use mm_plan::Sheet;
 use mm_problem::{Problem, Setup};
 use mm_ready::Cause;
 use mm_st15::{Request, Target};
-use mm_store::Put;
+use mm_store::{PacketStore, Put};
 use std::alloc::Global;
 use std::collections::VecDeque;
 use std::process::Abort;
@@ -146,6 +150,16 @@ fn burst(rt: &impl Abort, alloc: Global, step: u32, many: u16) -> Burst {
     Burst { step, packets }
 }
 
+// The sources of the first run: three, three and this many packets.
+fn three_bursts(rt: &impl Abort, alloc: Global, third: u16) -> Vec<Burst> {
+    let mut sources = Vec::new(alloc);
+    for (step, many) in [(1, 3), (2, 3), (3, third)] {
+        let source = burst(rt, alloc, step, many);
+        sources.push(source).expect(rt, "memory");
+    }
+    sources
+}
+
 // One link, which takes this many packets.
 fn one_link(rt: &impl Abort, alloc: Global, most: usize) -> Vec<Downlink>
     ensures unfailed { All (λ l. l.failed < 2 ^ 64 - 1) result.items }
@@ -168,12 +182,7 @@ fn first_run<R: Threads + Wait + Sync + Abort>(
 ) -> Result<Told, Cause> {
     let setup = Setup::read(alloc, SETUP).expect(rt, "a setup");
     let problem = Problem::read(alloc, &setup, FORECAST).expect(rt, "a forecast");
-    let mut sources = Vec::new(alloc);
-    for (step, many) in [(1, 3), (2, 3), (3, third)] {
-        sources
-            .push(burst(rt, alloc, step, many))
-            .expect(rt, "memory");
-    }
+    let sources = three_bursts(rt, alloc, third);
     let links = one_link(rt, alloc, most);
     plan_and_fly(rt, alloc, &setup, &problem, sources, links)
 }
@@ -200,4 +209,65 @@ fn a_link_that_fails_halts_the_run(rt: HostRuntime) {
         panic!(&rt; "the run is halted");
     };
     assert_eq!(rt; cause, Cause::LinkFailed { step: 2 });
+}
+
+// What a store holds as its oldest packet is the last one that the link took, which goes out again.
+fn is_held_again(rt: &impl Abort, state: &StoreState, link: &Downlink) {
+    assert!(rt; (link.taken.len(), link.failed) == (3, 1), "three packets, and then one failure");
+    let Some((_, taken)) = link.taken.last() else {
+        panic!(rt; "a packet was taken");
+    };
+    let Some((time, packet)) = state.store().first_in(0, u64::MAX, 0) else {
+        panic!(rt; "a packet is held");
+    };
+    assert!(rt; time == taken.time && packet.is(&taken.packet), "the same packet at the same time");
+}
+
+// Of the four blocks that leave by the plan, the link takes three: the third is still stored.
+#[test]
+fn the_last_packet_of_a_failed_link_is_still_stored(rt: HostRuntime) {
+    let alloc = rt.alloc();
+    let setup = Setup::read(alloc, SETUP).expect(&rt, "a setup");
+    let problem = Problem::read(alloc, &setup, FORECAST).expect(&rt, "a forecast");
+    let mut memory = Memory::of_setup(alloc, &setup).expect(&rt, "memory");
+    let (text, _loss) = PLANS[0];
+    let sheet = Sheet::parse(alloc, text).expect(&rt, "a plan");
+    let sources = three_bursts(&rt, alloc, 4);
+    let links = one_link(&rt, alloc, 3);
+    let plan = sheet.plan();
+    let Err(halted) = carry_out_or_tell(&rt, alloc, &mut memory, &problem, plan, sources, links) else {
+        panic!(&rt; "the run is halted");
+    };
+    assert_eq!(rt; halted.cause, Cause::LinkFailed { step: 2 });
+    let id = StoreId::of_text(b"SCI").expect(&rt, "an identifier");
+    let state = memory.state(&id).expect(&rt, "a store");
+    for link in &halted.links {
+        is_held_again(&rt, state, link);
+    }
+}
+
+// Whether the first plan is carried out over a link that has failed this often.
+fn is_carried_out<R: Threads + Wait + Sync + Abort>(rt: &R, alloc: Global, failed: u64) -> bool {
+    let setup = Setup::read(alloc, SETUP).expect(rt, "a setup");
+    let problem = Problem::read(alloc, &setup, FORECAST).expect(rt, "a forecast");
+    let mut memory = Memory::of_setup(alloc, &setup).expect(rt, "memory");
+    let (text, _loss) = PLANS[0];
+    let sheet = Sheet::parse(alloc, text).expect(rt, "a plan");
+    let sources = three_bursts(rt, alloc, 4);
+    let mut links = one_link(rt, alloc, 9);
+    for link in &mut links {
+        link.failed = failed;
+    }
+    let plan = sheet.plan();
+    match carry_out_over_used(rt, alloc, &mut memory, &problem, plan, sources, links) {
+        Some(Ok(flight)) => flight.links.iter().all(|link| link.failed == failed),
+        Some(Err(_)) => panic!(rt; "no run is halted"),
+        None => false,
+    }
+}
+
+#[test]
+fn one_more_failure_of_a_link_can_be_counted(rt: HostRuntime) {
+    assert!(rt; is_carried_out(&rt, rt.alloc(), u64::MAX - 1), "one more");
+    assert!(rt; !is_carried_out(&rt, rt.alloc(), u64::MAX), "no more");
 }
