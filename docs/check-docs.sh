@@ -12,6 +12,7 @@
 #   crates has those of crates.txt; and each promise of docs/PROMISES.md names something of its crates;
 # - each must-fail edit is named in docs/PROMISES.md in a sentence that begins with 'Refused:', each edit named there is there, each promise
 #   names one, and there are at most as many as the gate has time for;
+# - each function of a picture of docs/TOUR.md stands in the file that stands beside it;
 # - each refusal of mm_base's table has one row in the tables of refusals of docs/FORMATS.md, with its number, its name and the
 #   words of mm_words; 'Where each refusal is met' has a row for each, and the test and the crate that it names are there.
 # The commands of one document are run one after another in one new folder, in which the top of the repository is seen, but not its
@@ -270,6 +271,17 @@ check_edits() {
   [ "$edits" -le "$most" ] || fail "$edits must-fail edits, and the gate has time for $most: move some to wrong-bodies"
 }
 
+# The pictures of docs/TOUR.md: a function, and beside it its file below crates/.
+check_tour() {
+  local name file
+  while read -r name file; do
+    grep -qE "fn ${name##*::}[<(]" "$top/crates/$file" || fail "docs/TOUR.md: crates/$file has no function ${name##*::}"
+  done < <(sed -nE 's|^ *([A-Za-z_:]+) +(mm_[a-z0-9_]+/src/[a-z_]+\.rt) .*|\1 \2|p' "$top/docs/TOUR.md")
+  while IFS= read -r file; do
+    [ -f "$top/crates/$file" ] || fail "docs/TOUR.md: there is no crates/$file"
+  done < <(grep -oE 'mm_[a-z0-9_]+/(src|specs)/[A-Za-z_]+\.(rt|antt)' "$top/docs/TOUR.md" | sort -u)
+}
+
 # The table of mm_base: number, name and case of each refusal.
 refusals() {
   sed -nE 's/^ *Refusal::([A-Za-z0-9]+) => \(([0-9]+), "([A-Za-z0-9]+)"\),$/\2 \3 \1/p' "$top/crates/mm_base/src/refusal.rt"
@@ -329,6 +341,7 @@ done
 check_crate_rows
 check_promises
 check_edits
+check_tour
 check_refusals
 check_refusal_tests
 while IFS= read -r document; do
