@@ -12,6 +12,7 @@
 #   crates has those of crates.txt; and each promise of docs/PROMISES.md names something of its crates;
 # - each must-fail edit is named in docs/PROMISES.md in a sentence that begins with 'Refused:', each edit named there is there, each promise
 #   names one, and there are at most as many as the gate has time for;
+# - docs/DEFINITIONS.md and docs/EXAMPLES.md are what docs/definitions makes of the sources;
 # - each function of a picture of docs/TOUR.md stands in the file that stands beside it;
 # - each refusal of mm_base's table has one row in the tables of refusals of docs/FORMATS.md, with its number, its name and the
 #   words of mm_words; 'Where each refusal is met' has a row for each, and the test and the crate that it names are there.
@@ -271,6 +272,17 @@ check_edits() {
   [ "$edits" -le "$most" ] || fail "$edits must-fail edits, and the gate has time for $most: move some to wrong-bodies"
 }
 
+# The pages that docs/definitions makes.
+check_made_pages() {
+  local page
+  mkdir "$work/made"
+  "$top/docs/definitions" "$work/made" 2>"$work/errors" || fail "$(head -n 1 "$work/errors")"
+  for page in DEFINITIONS EXAMPLES; do
+    [ ! -f "$work/made/$page.md" ] || diff -u "$top/docs/$page.md" "$work/made/$page.md" >"$work/differs" ||
+      { fail "docs/$page.md is not what the sources say: docs/definitions makes it"; head -n 20 "$work/differs"; }
+  done
+}
+
 # The pictures of docs/TOUR.md: a function, and beside it its file below crates/.
 check_tour() {
   local name file
@@ -341,6 +353,7 @@ done
 check_crate_rows
 check_promises
 check_edits
+check_made_pages
 check_tour
 check_refusals
 check_refusal_tests
