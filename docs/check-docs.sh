@@ -8,6 +8,7 @@
 # - the commands of a fenced block in which a line begins with `./mm_tool ` are run, and each must end with status 0, or with N
 #   under `<!-- status N -->`;
 # - each file that a link or a path of any document names is there;
+# - each heading of a page of docs/ that a document cites (docs/PAGE.md, 'Heading') is there;
 # - each name in code style in a crate's README stands in the sources of that crate, or of another that it names; README's table of
 #   crates has those of crates.txt; and each promise of docs/PROMISES.md names something of its crates;
 # - each must-fail edit is named in docs/PROMISES.md in a sentence that begins with 'Refused:', each edit named there is there, each promise
@@ -173,6 +174,17 @@ check_paths() {
     [ -e "$top/$path" ] || fail "$document: there is no $path"
   done < <(grep -oE '(^|[ `(])(docs|examples|bench|bindings|crates)/[A-Za-z0-9_./-]+' "$top/$document" |
     sed -E 's/^[ `(]//; s/[./]+$//' | grep -vE '/(NAME|THING|out)(/|$)' | sort -u)
+}
+
+# The headings that the document cites, as docs/PAGE.md, 'Heading' or 'Heading' and 'Heading'.
+check_headings() {
+  local cited page heading
+  while IFS= read -r cited; do
+    page=${cited%%,*}
+    while IFS= read -r heading; do
+      grep -qE "^#+ $heading( \\(.*\\))?\$" "$top/docs/${page#docs/}" || fail "$document: $page has no heading '$heading'"
+    done < <(grep -oE "'[^']+'" <<<"${cited#*,}" | tr -d "'")
+  done < <(tr -s '\n ' ' ' <"$top/$document" | grep -oE "docs/[A-Z]+\.md, '[^']+'((,| and|, and) '[^']+')*")
 }
 
 # The names in code style of standard input: of two letters or more, without path and parentheses.
@@ -359,6 +371,7 @@ check_refusals
 check_refusal_tests
 while IFS= read -r document; do
   check_paths
+  check_headings
   case $document in
     README.md | docs/* | examples/*)
       room=$work/$(printf '%s' "$document" | tr / _)
