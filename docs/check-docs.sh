@@ -13,6 +13,7 @@
 #   crates has those of crates.txt; and each promise of docs/PROMISES.md names something of its crates;
 # - each must-fail edit is named in docs/PROMISES.md in a sentence that begins with 'Refused:', each edit named there is there, each promise
 #   names one, and there are at most as many as the gate has time for;
+# - each name in code style in docs/TOUR.md, docs/READING.md and docs/LAYERS.md stands in some source;
 # - docs/DEFINITIONS.md and docs/EXAMPLES.md are what docs/definitions makes of the sources;
 # - each function of a picture of docs/TOUR.md stands in the file that stands beside it;
 # - each refusal of mm_base's table has one row in the tables of refusals of docs/FORMATS.md, with its number, its name and the
@@ -216,6 +217,18 @@ check_crate_names() {
   done < <(names <"$top/crates/$crate/README.md")
 }
 
+# The names of the pages that lead through the sources.
+check_page_names() {
+  local page name
+  { ls "$top/crates" && grep -rhowE --include='*.rt' --include='*.antt' --exclude-dir=out '[A-Za-z_][A-Za-z_0-9]+' "$top/crates"; } |
+    sort -u >"$work/known"
+  for page in TOUR READING LAYERS; do
+    while IFS= read -r name; do
+      fail "docs/$page.md: $name stands in no source"
+    done < <(names <"$top/docs/$page.md" | comm -23 - "$work/known")
+  done
+}
+
 # README's table of crates: first a row for each crate that stands above the line `# Tools` of crates.txt, in that order.
 check_crate_rows() {
   sed '/^# Tools/q' "$top/crates.txt" | grep -oE '^[a-z_0-9]+' >"$work/crates"
@@ -363,6 +376,7 @@ for readme in "$top"/crates/*/README.md; do
   check_crate_names "$(basename "$(dirname "$readme")")"
 done
 check_crate_rows
+check_page_names
 check_promises
 check_edits
 check_made_pages
