@@ -8,10 +8,14 @@
 # - the commands of a fenced block in which a line begins with `./mm_tool ` are run, and each must end with status 0, or with N
 #   under `<!-- status N -->`;
 # - each file that a link or a path of any document names is there;
+# - each heading of a page of docs/ that a document cites (docs/PAGE.md, 'Heading') is there;
 # - each name in code style in a crate's README stands in the sources of that crate, or of another that it names; README's table of
 #   crates has those of crates.txt; and each promise of docs/PROMISES.md names something of its crates;
 # - each must-fail edit is named in docs/PROMISES.md in a sentence that begins with 'Refused:', each edit named there is there, each promise
 #   names one, and there are at most as many as the gate has time for;
+# - each name in code style in docs/TOUR.md, docs/READING.md and docs/LAYERS.md stands in some source;
+# - docs/DEFINITIONS.md and docs/EXAMPLES.md are what docs/definitions makes of the sources;
+# - each function of a picture of docs/TOUR.md stands in the file that stands beside it;
 # - each refusal of mm_base's table has one row in the tables of refusals of docs/FORMATS.md, with its number, its name and the
 #   words of mm_words; 'Where each refusal is met' has a row for each, and the test and the crate that it names are there.
 # The commands of one document are run one after another in one new folder, in which the top of the repository is seen, but not its
@@ -173,6 +177,17 @@ check_paths() {
     sed -E 's/^[ `(]//; s/[./]+$//' | grep -vE '/(NAME|THING|out)(/|$)' | sort -u)
 }
 
+# The headings that the document cites, as docs/PAGE.md, 'Heading' or 'Heading' and 'Heading'.
+check_headings() {
+  local cited page heading
+  while IFS= read -r cited; do
+    page=${cited%%,*}
+    while IFS= read -r heading; do
+      grep -qE "^#+ $heading( \\(.*\\))?\$" "$top/docs/${page#docs/}" || fail "$document: $page has no heading '$heading'"
+    done < <(grep -oE "'[^']+'" <<<"${cited#*,}" | tr -d "'")
+  done < <(tr -s '\n ' ' ' <"$top/$document" | grep -oE "docs/[A-Z]+\.md, '[^']+'((,| and|, and) '[^']+')*")
+}
+
 # The names in code style of standard input: of two letters or more, without path and parentheses.
 names() {
   grep -oE '`([A-Za-z_0-9]+::)*[A-Za-z_][A-Za-z_0-9]+(\(\))?`' | tr -d '`()' | sed 's/.*:://' | sort -u
@@ -200,6 +215,18 @@ check_crate_names() {
     stands_in "$name" "$top/crates/$crate" "${folders[@]}" ||
       fail "crates/$crate/README.md: $name stands in no source of the crates that it names"
   done < <(names <"$top/crates/$crate/README.md")
+}
+
+# The names of the pages that lead through the sources.
+check_page_names() {
+  local page name
+  { ls "$top/crates" && grep -rhowE --include='*.rt' --include='*.antt' --exclude-dir=out '[A-Za-z_][A-Za-z_0-9]+' "$top/crates"; } |
+    sort -u >"$work/known"
+  for page in TOUR READING LAYERS; do
+    while IFS= read -r name; do
+      fail "docs/$page.md: $name stands in no source"
+    done < <(names <"$top/docs/$page.md" | comm -23 - "$work/known")
+  done
 }
 
 # README's table of crates: first a row for each crate that stands above the line `# Tools` of crates.txt, in that order.
@@ -270,6 +297,28 @@ check_edits() {
   [ "$edits" -le "$most" ] || fail "$edits must-fail edits, and the gate has time for $most: move some to wrong-bodies"
 }
 
+# The pages that docs/definitions makes.
+check_made_pages() {
+  local page
+  mkdir "$work/made"
+  "$top/docs/definitions" "$work/made" 2>"$work/errors" || fail "$(head -n 1 "$work/errors")"
+  for page in DEFINITIONS EXAMPLES; do
+    [ ! -f "$work/made/$page.md" ] || diff -u "$top/docs/$page.md" "$work/made/$page.md" >"$work/differs" ||
+      { fail "docs/$page.md is not what the sources say: docs/definitions makes it"; head -n 20 "$work/differs"; }
+  done
+}
+
+# The pictures of docs/TOUR.md: a function, and beside it its file below crates/.
+check_tour() {
+  local name file
+  while read -r name file; do
+    grep -qE "fn ${name##*::}[<(]" "$top/crates/$file" || fail "docs/TOUR.md: crates/$file has no function ${name##*::}"
+  done < <(sed -nE 's|^ *([A-Za-z_:]+) +(mm_[a-z0-9_]+/src/[a-z_]+\.rt) .*|\1 \2|p' "$top/docs/TOUR.md")
+  while IFS= read -r file; do
+    [ -f "$top/crates/$file" ] || fail "docs/TOUR.md: there is no crates/$file"
+  done < <(grep -oE 'mm_[a-z0-9_]+/(src|specs)/[A-Za-z_]+\.(rt|antt)' "$top/docs/TOUR.md" | sort -u)
+}
+
 # The table of mm_base: number, name and case of each refusal.
 refusals() {
   sed -nE 's/^ *Refusal::([A-Za-z0-9]+) => \(([0-9]+), "([A-Za-z0-9]+)"\),$/\2 \3 \1/p' "$top/crates/mm_base/src/refusal.rt"
@@ -327,12 +376,16 @@ for readme in "$top"/crates/*/README.md; do
   check_crate_names "$(basename "$(dirname "$readme")")"
 done
 check_crate_rows
+check_page_names
 check_promises
 check_edits
+check_made_pages
+check_tour
 check_refusals
 check_refusal_tests
 while IFS= read -r document; do
   check_paths
+  check_headings
   case $document in
     README.md | docs/* | examples/*)
       room=$work/$(printf '%s' "$document" | tr / _)
