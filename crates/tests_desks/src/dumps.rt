@@ -101,11 +101,10 @@ fn dumped<L: Link + Send, R: Threads + Wait + Sync + Abort>(
     stores: &mut Vec<Held>,
     links: &mut [L],
 ) -> Dumped {
-    assert!(rt;
-        wanted.len() <= 4 && stores.len() == wanted.len(),
-        "few stores"
-    );
-    assert!(rt; links.len() >= 1 && links.len() <= 4, "few links");
+    assert!(rt; wanted.len() <= 4, "few stores");
+    assert!(rt; stores.len() == wanted.len(), "an amount for each store");
+    assert!(rt; !links.is_empty(), "a link");
+    assert!(rt; links.len() <= 4, "few links");
     assert!(rt; may_fail(links), "links that may fail");
     assert!(rt; are_idle(stores), "no retrieval is on");
     let orders = new_orders(rt, alloc, wanted);
