@@ -10,4 +10,3 @@ mod rows;
 mod scripts;
 mod standing;
 mod trials;
-

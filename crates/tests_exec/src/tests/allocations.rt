@@ -86,15 +86,16 @@ fn is_halted(rt: &impl Abort, trial: &Trial, halted: &Halted<Script, MemoryLink>
 fn is_carried_out(rt: &impl Abort, trial: &Trial, flight: &Flight<Script, MemoryLink>) {
     has(rt, trial, &flight.sources, &flight.links, (0, &DUMPED, 0));
     let totals = flight.report.totals();
-    assert!(rt; totals.arrived == 9 && totals.dumped == 3, "{NAME}: the report");
+    assert!(rt;
+        totals.arrived == 9 && totals.dumped == 3,
+        "{NAME}: the report"
+    );
 }
 
 // A source that gives three packets in step 1, where there is room for it.
 fn source_in_room(alloc: Global) -> Option<Vec<Script>> {
     let mut sources = Vec::new(alloc);
-    sources
-        .push(script_in_room(alloc, 100, [3, 0, 0])?)
-        .ok()?;
+    sources.push(script_in_room(alloc, 100, [3, 0, 0])?).ok()?;
     Some(sources)
 }
 

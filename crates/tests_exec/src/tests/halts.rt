@@ -222,7 +222,12 @@ static GO_ON: [GoesOn; 2] = [
             name: "halted in step 2",
             until: &[Some(3)],
             spent: 2,
-            stores: &[left!("SCI", [6, 0, 2], [(3, 3), (4, 4), (5, 5), (6, 6)], [1, 2, 3])],
+            stores: &[left!(
+                "SCI",
+                [6, 0, 2],
+                [(3, 3), (4, 4), (5, 5), (6, 6)],
+                [1, 2, 3]
+            )],
             ..THIRD_SEND_FAILS
         },
         then: run! {

@@ -41,13 +41,7 @@ pub(crate) fn has_taken(
 }
 
 // A link took this many packets, and this many of its sends failed.
-pub(crate) fn has_sent(
-    rt: &impl Abort,
-    name: &str,
-    link: &MemoryLink,
-    many: usize,
-    failures: u64,
-) {
+pub(crate) fn has_sent(rt: &impl Abort, name: &str, link: &MemoryLink, many: usize, failures: u64) {
     let is_sent = link.taken().len() == many && link.failures() == failures;
     assert!(rt; is_sent, "{name}: {many} packets sent, {failures} failures");
 }
