@@ -1,11 +1,12 @@
 //! Tests of mm_exec.
 
+mod allocations;
 mod crowds;
 mod flights;
 mod halts;
+mod links;
 mod refusals;
 mod rows;
 mod scripts;
 mod standing;
 mod trials;
-mod wires;

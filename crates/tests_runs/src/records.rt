@@ -1,7 +1,7 @@
 //! Steps of recorders, with counts by hand.
 ghost use Rattle.std.specs.Prelude.{◌<◌, ◌^◌, vec_len};
 
-use crate::samples::{memory_of, store_id};
+use crate::samples::{memory_in_room, memory_of, store_id};
 use mm_base::StoreId;
 use mm_desk::{Fault, Held, StoreState};
 use mm_memory::Memory;
@@ -52,12 +52,16 @@ impl Source for Burst {
     }
 }
 
-// Telemetry of this APID with this sequence count.
-fn telemetry(rt: &impl Abort, alloc: Global, apid: u16, count: u16) -> BlockPacket {
+// Telemetry of this APID with this sequence count, where there is room for it.
+fn telemetry_in_room(alloc: Global, apid: u16, count: u16) -> Option<BlockPacket> {
     let header = Header::new(apid % 1000, count % 1000, 3, 25);
-    let data = Octets::new(Vec::new(alloc)).expect(rt, "memory");
+    let data = Octets::new(Vec::new(alloc)).ok()?;
     let packet = Packet::tm(header, 0, 0, 0, data);
-    BlockPacket::of(packet).expect(rt, "a short packet")
+    BlockPacket::of(packet).ok()
+}
+
+fn telemetry(rt: &impl Abort, alloc: Global, apid: u16, count: u16) -> BlockPacket {
+    telemetry_in_room(alloc, apid, count).expect(rt, "a short packet")
 }
 
 // A telecommand of APID 100 with the service and subtype of that telemetry.
@@ -67,30 +71,41 @@ fn telecommand(rt: &impl Abort, alloc: Global) -> BlockPacket {
     BlockPacket::of(packet).expect(rt, "a short packet")
 }
 
-// Gives these packets in this step.
-fn burst_of(rt: &impl Abort, step: u32, packets: Vec<BlockPacket>) -> Burst {
-    assert!(rt; packets.len() < 65536, "few packets");
-    Burst { step, packets }
+// Gives these packets in this step, which are few.
+fn burst_of(step: u32, packets: Vec<BlockPacket>) -> Option<Burst> {
+    if packets.len() < 65536 {
+        Some(Burst { step, packets })
+    } else {
+        None
+    }
 }
 
-// Gives telemetry of an APID, with the sequence counts from 1 on, in this step.
-fn new_burst(rt: &impl Abort, alloc: Global, step: u32, apid: u16, many: u16) -> Burst {
+// Gives telemetry of an APID, with the sequence counts from 1 on, in this step; where there is room for it.
+fn burst_in_room(alloc: Global, step: u32, apid: u16, many: u16) -> Option<Burst> {
     let mut packets = Vec::new(alloc);
     for count in 0..many {
-        let packet = telemetry(rt, alloc, apid, count.saturating_add(1));
-        packets.push(packet).expect(rt, "memory");
+        let packet = telemetry_in_room(alloc, apid, count.saturating_add(1))?;
+        packets.push(packet).ok()?;
     }
-    burst_of(rt, step, packets)
+    burst_of(step, packets)
 }
 
-// This many sources of three packets each of APID 100 in step 1.
-fn bursts(rt: &impl Abort, alloc: Global, many: u32) -> Vec<Burst> {
+fn new_burst(rt: &impl Abort, alloc: Global, step: u32, apid: u16, many: u16) -> Burst {
+    burst_in_room(alloc, step, apid, many).expect(rt, "a source")
+}
+
+// This many sources of three packets each of APID 100 in step 1, where there is room for them.
+fn bursts_in_room(alloc: Global, many: u32) -> Option<Vec<Burst>> {
     let mut sources = Vec::new(alloc);
     for _ in 0..many {
-        let burst = new_burst(rt, alloc, 1, 100, 3);
-        sources.push(burst).expect(rt, "memory");
+        let burst = burst_in_room(alloc, 1, 100, 3)?;
+        sources.push(burst).ok()?;
     }
-    sources
+    Some(sources)
+}
+
+fn bursts(rt: &impl Abort, alloc: Global, many: u32) -> Vec<Burst> {
+    bursts_in_room(alloc, many).expect(rt, "sources")
 }
 
 // Each of these sources has so many packets left.
@@ -173,6 +188,7 @@ fn record_one_step(rt: HostRuntime) {
     assert!(rt; memory.entry(0) == Some((circular, 3)), "the first store");
     assert!(rt; memory.entry(1) == Some((bounded, 0)), "the second store");
 }
+
 // How many packets were offered to each store of a memory, lost and deleted, and how many it holds.
 fn counts_of_both(rt: &impl Abort, memory: &Memory) -> [[u64; 4]; 2] {
     let (circular, bounded) = (store_id(rt, b"C"), store_id(rt, b"B"));
@@ -242,7 +258,7 @@ fn sources_of_others(rt: &impl Abort, alloc: Global) -> Vec<Burst> {
     let other = new_burst(rt, alloc, 1, 101, 3);
     let mut commands = Vec::new(alloc);
     commands.push(telecommand(rt, alloc)).expect(rt, "memory");
-    let command = burst_of(rt, 1, commands);
+    let command = burst_of(1, commands).expect(rt, "a source");
     let mut sources = Vec::new(alloc);
     for source in [later, other, command] {
         sources.push(source).expect(rt, "memory");
@@ -314,6 +330,40 @@ fn a_store_that_is_off_breaks_recorders_off(rt: HostRuntime) {
     let mismatch = Cause::LogMismatch { step: 1 };
     assert!(rt; cause_in(1, why) == Some(mismatch), "the cause");
     have_left(&rt, &sources, 2);
+}
+
+// A step of three sources that had memory to begin has recorded all. One that had none has changed nothing, also where some of the stores
+// had been opened.
+fn is_whole_or_nothing(
+    rt: &impl Abort,
+    memory: &Memory,
+    answer: Result<RecordedStep<Burst>, RecordHalted<Burst>>,
+) {
+    let counts = counts_of_both(rt, memory);
+    match answer {
+        Ok(step) => {
+            have_each(rt, &step.sources, &[0, 0, 0]);
+            assert!(rt; counts == [[9, 7, 0, 2]; 2], "all is recorded");
+        }
+        Err(halted) => {
+            refuses(rt, &halted, 3, Cause::NoMemory { step: 1 });
+            assert!(rt; counts == [[0; 4]; 2], "nothing has changed");
+        }
+    }
+}
+
+// It holds as well where one allocation is refused, whichever it is: `rt try --test --fail-alloc N` refuses the N-th of each test.
+#[test]
+fn a_step_records_all_or_changes_nothing(rt: HostRuntime) {
+    let alloc = rt.alloc();
+    let Some(mut memory) = memory_in_room(alloc, TWO_STORES) else {
+        return;
+    };
+    let Some(sources) = bursts_in_room(alloc, 3) else {
+        return;
+    };
+    let answer = record_step(&rt, alloc, &mut memory, 1, 0, sources);
+    is_whole_or_nothing(&rt, &memory, answer);
 }
 
 fn shows(rt: &impl Abort, alloc: Global, cause: Cause, text: &str) {

@@ -10,8 +10,12 @@ pub fn store_id(rt: &impl Abort, text: &[u8]) -> StoreId {
     StoreId::of_text(text).expect(rt, "an identifier")
 }
 
-/// The memory of a setup text.
+/// The memory of a setup text, where there is room for it.
+pub fn memory_in_room(alloc: Global, setup: &str) -> Option<Memory> {
+    let setup = Setup::read(alloc, setup.as_bytes()).ok()?;
+    Memory::of_setup(alloc, &setup).ok()
+}
+
 pub fn memory_of(rt: &impl Abort, alloc: Global, setup: &str) -> Memory {
-    let setup = Setup::read(alloc, setup.as_bytes()).expect(rt, "a setup");
-    Memory::of_setup(alloc, &setup).expect(rt, "memory")
+    memory_in_room(alloc, setup).expect(rt, "a setup and memory")
 }

@@ -1,7 +1,7 @@
 //! Texts of sources and of links: what they give and take, and the first line that is refused.
 
 use crate::samples::store_id;
-use mm_order::Link;
+use mm_dump::Link;
 use mm_packet::BlockPacket;
 use mm_record::Source;
 use mm_scripted::{

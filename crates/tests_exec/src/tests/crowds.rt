@@ -1,11 +1,11 @@
 //! Several sources and links at once: gates that open once all stand at them, one queue of orders, and a hundred runs.
 
+use crate::tests::links::{has_sent, has_taken, new_links};
 use crate::tests::scripts::{Script, new_script, scripts};
-use crate::tests::trials::{Task, Trial, has_text, setup, task};
-use crate::tests::wires::{Wire, wires};
+use crate::tests::trials::{Left, Task, Trial, has_cause, has_text, id, left, setup, task};
 use mm_base::StoreId;
-use mm_exec::Flight;
-use mm_dump::{Link, SendFailed};
+use mm_dump::{Link, MemoryLink, SendFailed};
+use mm_exec::{Cause, Flight, Halted};
 use mm_packet::BlockPacket;
 use mm_record::Source;
 use std::alloc::Global;
@@ -74,7 +74,7 @@ enum Awaits {
 // A link whose sends wait for those of other links, and fail where these do not come.
 #[derive(Drop)]
 struct GatedLink {
-    wire: Wire,
+    link: MemoryLink,
     begun: Arc<AtomicU64, Global>,
     ended: Arc<AtomicU64, Global>,
     awaits: Awaits,
@@ -92,34 +92,37 @@ impl GatedLink {
 }
 
 impl Link for GatedLink {
-    ghost use Rattle.std.specs.Prelude.{map};
+    ghost sent = { λ g. g.link.sent };
 
-    ghost sent = { λ g. map (λ i. record { store = i.store; stored = i.stored }) g.wire.items.items };
-
-    ghost failed = { λ g. g.wire.failed };
+    ghost failed = { λ g. g.link.failed };
 
     fn send(&mut self, store: &StoreId, time: u64, packet: &BlockPacket) -> Result<(), SendFailed> {
         if !self.begins() {
-            self.wire.failed += 1;
-            return Err(SendFailed);
+            return Err(self.link.refuse());
         }
-        self.wire.send(store, time, packet)?;
+        self.link.send(store, time, packet)?;
         self.ended.fetch_add(1, Ordering::SeqCst);
         Ok(())
     }
 
     fn failures(&self) -> u64 {
-        self.wire.failed
+        self.link.failures()
     }
 }
 
-fn gated_links(rt: &impl Abort, alloc: Global, many: u32, awaits: Awaits) -> Vec<GatedLink> {
+// Links of which each fails once, after a number of sends, or never.
+fn gated_links(
+    rt: &impl Abort,
+    alloc: Global,
+    until: &[Option<u64>],
+    awaits: Awaits,
+) -> Vec<GatedLink> {
     let begun = counter(rt, alloc);
     let ended = counter(rt, alloc);
     let mut list = Vec::new(alloc);
-    for _ in 0..many {
+    for link in new_links(rt, alloc, until) {
         let link = GatedLink {
-            wire: Wire::new(alloc, None),
+            link,
             begun: shared(rt, &begun),
             ended: shared(rt, &ended),
             awaits,
@@ -154,7 +157,7 @@ struct Meeting {
     task: Task,
     apids: &'static [u16],
     each: u32,
-    links: u32,
+    links: &'static [Option<u64>],
 }
 
 static MEETINGS: [Meeting; 2] = [
@@ -165,7 +168,7 @@ static MEETINGS: [Meeting; 2] = [
         },
         apids: &[1, 2],
         each: 1,
-        links: 2,
+        links: &[None, None],
     },
     Meeting {
         task: task! {
@@ -177,7 +180,7 @@ static MEETINGS: [Meeting; 2] = [
         },
         apids: &[1, 2, 3, 4],
         each: 2,
-        links: 4,
+        links: &[None, None, None, None],
     },
 ];
 
@@ -190,7 +193,7 @@ fn have_met(rt: &impl Abort, sources: &[GatedSource]) {
 
 fn have_sent(rt: &impl Abort, links: &[GatedLink], each: u32) {
     for link in links {
-        link.wire.has_sent(rt, "a meeting", each as usize, 0);
+        has_sent(rt, "a meeting", &link.link, each as usize, 0);
     }
 }
 
@@ -213,14 +216,14 @@ fn all_meet<R: Threads + Wait + Sync + Abort>(rt: &R, alloc: Global, meeting: &M
         task,
         apids,
         each,
-        links,
+        links: until,
     } = meeting;
     let mut trial = Trial::new(rt, alloc, task);
     let sources = gated_sources(rt, alloc, apids, *each);
-    let links = gated_links(rt, alloc, *links, Awaits::Begun(u64::from(*links)));
+    let links = gated_links(rt, alloc, until, Awaits::Begun(until.len() as u64));
     let flight = flown(rt, &mut trial, sources, links);
     let many = apids.len().saturating_mul(*each as usize);
-    let is_whole = flight.sources.len() == many && flight.links.len() == meeting.links as usize;
+    let is_whole = flight.sources.len() == many && flight.links.len() == until.len();
     assert!(rt; is_whole, "all sources and links come back");
     have_met(rt, &flight.sources);
     have_sent(rt, &flight.links, *each);
@@ -242,12 +245,12 @@ static FOUR_ORDERS: Task = task! {
     "step,window,A,B,C,D\n1,4,1,1,1,1\n" "mmplan 1\nstores A B C D\ndump 1 1 1 1 1\nloss 0\nbound 0\nend\n"
 };
 
-// A source of one packet for each of the APIDs 1 to 4.
-fn four_sources(rt: &impl Abort, alloc: Global) -> Vec<Script> {
+// A source for each of these APIDs, which gives so many packets in step 1.
+fn sources_by_apid(rt: &impl Abort, alloc: Global, apids: &[u16], many: u16) -> Vec<Script> {
     let mut sources = Vec::new(alloc);
-    for apid in 1..5 {
+    for apid in apids {
         sources
-            .push(new_script(rt, alloc, apid, [1, 0, 0]))
+            .push(new_script(rt, alloc, *apid, [many, 0, 0]))
             .expect(rt, "memory");
     }
     sources
@@ -258,7 +261,7 @@ fn most_sent(rt: &impl Abort, links: &[GatedLink]) -> usize {
     let mut most = 0;
     for link in links {
         assert!(rt; link.failures() == 0, "no send failed");
-        most = most.max(link.wire.items.len());
+        most = most.max(link.link.taken().len());
     }
     most
 }
@@ -268,8 +271,8 @@ fn most_sent(rt: &impl Abort, links: &[GatedLink]) -> usize {
 fn orders_from_one_queue(rt: HostRuntime) {
     let alloc = rt.alloc();
     let mut trial = Trial::new(&rt, alloc, &FOUR_ORDERS);
-    let sources = four_sources(&rt, alloc);
-    let links = gated_links(&rt, alloc, 2, Awaits::Ended(3));
+    let sources = sources_by_apid(&rt, alloc, &[1, 2, 3, 4], 1);
+    let links = gated_links(&rt, alloc, &[None, None], Awaits::Ended(3));
     let flight = flown(&rt, &mut trial, sources, links);
     assert!(rt;
         flight.links.len() == 2 && flight.sources.len() == 4,
@@ -278,6 +281,58 @@ fn orders_from_one_queue(rt: HostRuntime) {
     assert!(rt; flight.report.totals().dumped == 4, "all are dumped");
     let most = most_sent(&rt, &flight.links);
     assert!(rt; most == 3, "three orders of one link");
+}
+
+static TWO_ORDERS: Task = task! {
+    {
+        store "A", apid 1, size 2, type "bounded", channel 0; store "B", apid 2, size 2, type "bounded", channel 0;
+    }
+    "step,window,A,B\n1,4,2,2\n" "mmplan 1\nstores A B\ndump 1 2 2\nloss 0\nbound 0\nend\n"
+};
+
+// What is left of the stores, by which of them was the failing link's.
+static A_BROKE: [Left; 2] = [
+    left!("A", [2, 0, 0], [(1, 1), (2, 2)], []),
+    left!("B", [2, 0, 2], [], [1, 2]),
+];
+
+static B_BROKE: [Left; 2] = [
+    left!("A", [2, 0, 2], [], [1, 2]),
+    left!("B", [2, 0, 0], [(1, 1), (2, 2)], []),
+];
+
+// Of two links the first has failed once and sent nothing, and the second has sent what was sent of these stores.
+fn one_has_failed(rt: &impl Abort, halted: &Halted<Script, GatedLink>, stores: &[Left]) {
+    let name = "one of two links fails";
+    has_cause(rt, name, halted.cause, Cause::LinkFailed { step: 1 });
+    assert!(rt; halted.spent == 3, "{name}: two sent and one failed");
+    let [bad, good] = halted.links.as_slice() else {
+        panic!(rt; "{name}: both links");
+    };
+    has_sent(rt, name, &bad.link, 0, 1);
+    has_sent(rt, name, &good.link, 2, 0);
+    for left in stores {
+        has_taken(rt, name, &good.link, &id(rt, left.store), left.sent);
+    }
+}
+
+// Each of two links takes an order, and one fails at its first send: the other's order is whole, and the store of the broken one is as
+// it was after the packets came.
+#[test]
+fn one_of_two_links_fails(rt: HostRuntime) {
+    let alloc = rt.alloc();
+    let mut trial = Trial::new(&rt, alloc, &TWO_ORDERS);
+    let sources = sources_by_apid(&rt, alloc, &[1, 2], 2);
+    let links = gated_links(&rt, alloc, &[Some(0), None], Awaits::Begun(2));
+    let Err(halted) = trial.run(&rt, sources, links, 0) else {
+        panic!(&rt; "the run is halted");
+    };
+    let stores = match trial.deleted(&rt, "A") {
+        0 => &A_BROKE,
+        _ => &B_BROKE,
+    };
+    one_has_failed(&rt, &halted, stores);
+    trial.leaves(&rt, "one of two links fails", stores);
 }
 
 static EIGHT_EACH: Task = task! {
@@ -312,7 +367,7 @@ fn a_hundred_runs_report_the_same(rt: HostRuntime) {
     for _ in 0..100 {
         let mut trial = Trial::new(&rt, alloc, &EIGHT_EACH);
         let sources = scripts(&rt, alloc, 8, [1, 0, 1]);
-        let links = wires(&rt, alloc, &[None, None, None, None]);
+        let links = new_links(&rt, alloc, &[None, None, None, None]);
         let flight = trial.flown(&rt, sources, links, 0);
         has_text(&rt, alloc, "eight sources", &flight.report, EIGHT_SOURCES);
     }

@@ -1,10 +1,11 @@
 //! Runs that begin with their plan.
 
 use crate::tests::halts::{Broken, FIRST_SEND_FAILS, has_broken};
+use crate::tests::links::new_links;
 use crate::tests::rows::{Run, has_ended, run};
 use crate::tests::scripts::{Script, has_left, scripts};
 use crate::tests::trials::{FIRST_RUN, Left, TWO_PASSES, Trial, has_cause, left};
-use crate::tests::wires::{Wire, may_fail, wires};
+use mm_dump::{MemoryLink, may_fail};
 use mm_exec::{Cause, Flight, Flown, Halted, NotFlown, fly};
 use std::process::Abort;
 use std::sync::Wait;
@@ -14,11 +15,11 @@ use std::thread::Threads;
 fn fly_first<R: Threads + Wait + Sync + Abort>(
     rt: &R,
     trial: &mut Trial,
-    good: &[Option<u64>],
-) -> Result<Flown<Script, Wire>, NotFlown<Script, Wire>> {
+    until: &[Option<u64>],
+) -> Result<Flown<Script, MemoryLink>, NotFlown<Script, MemoryLink>> {
     let alloc = trial.alloc;
     let sources = scripts(rt, alloc, 1, [3, 3, 4]);
-    let links = wires(rt, alloc, good);
+    let links = new_links(rt, alloc, until);
     assert!(rt; may_fail(&links), "links that may fail");
     fly(
         rt,
@@ -40,9 +41,9 @@ fn has_sheet(rt: &impl Abort, sheet: &[u8]) {
 fn not_flown<R: Threads + Wait + Sync + Abort>(
     rt: &R,
     trial: &mut Trial,
-    good: &[Option<u64>],
-) -> Halted<Script, Wire> {
-    let Err(NotFlown { sheet, halted }) = fly_first(rt, trial, good) else {
+    until: &[Option<u64>],
+) -> Halted<Script, MemoryLink> {
+    let Err(NotFlown { sheet, halted }) = fly_first(rt, trial, until) else {
         panic!(rt; "the run is not carried out");
     };
     has_sheet(rt, &sheet);
@@ -75,7 +76,7 @@ fn fly_first_run(rt: HostRuntime) {
         sources,
         links,
     };
-    has_ended(&rt, &trial, &flight, &AS_FORECAST);
+    has_ended(&rt, &trial, &flight, &AS_FORECAST, 0);
 }
 
 static HALTED: Broken = Broken {
@@ -88,7 +89,7 @@ static HALTED: Broken = Broken {
 #[test]
 fn a_halted_flight_has_its_sheet(rt: HostRuntime) {
     let mut trial = Trial::new(&rt, rt.alloc(), &HALTED.task);
-    let halted = not_flown(&rt, &mut trial, HALTED.good);
+    let halted = not_flown(&rt, &mut trial, HALTED.until);
     let cause = Cause::LinkFailed { step: 1 };
     has_cause(&rt, HALTED.name, halted.cause, cause);
     has_broken(&rt, &trial, &halted, &HALTED);

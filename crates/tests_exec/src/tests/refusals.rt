@@ -1,5 +1,6 @@
 //! Runs that are refused before they begin: each cause, and which of several comes first. Nothing has changed.
 
+use crate::tests::links::{has_sent, new_links};
 use crate::tests::rows::{Run, carries_out, run};
 use crate::tests::scripts::{Script, has_left, scripts};
 use crate::tests::standing::standing;
@@ -7,7 +8,7 @@ use crate::tests::trials::{
     Change, FIRST_RUN, Left, NO_STEP, ONE_STORE, TOO_LATE, TWO_PASSES, Task, Trial, has_text, id,
     left, memory_of, setup,
 };
-use crate::tests::wires::{Wire, wires};
+use mm_dump::MemoryLink;
 use mm_exec::{Cause, Halted};
 use mm_memory::Answer;
 use mm_st15::{Channel, Entries, Request};
@@ -17,13 +18,13 @@ use std::sync::Wait;
 use std::thread::Threads;
 
 // Nothing was drawn, nothing was taken from the sources, and nothing was sent.
-fn is_untouched(rt: &impl Abort, name: &str, halted: &Halted<Script, Wire>) {
+fn is_untouched(rt: &impl Abort, name: &str, halted: &Halted<Script, MemoryLink>) {
     assert!(rt; halted.spent == 0, "{name}: nothing drawn");
     for source in &halted.sources {
         has_left(rt, source, [3, 3, 4]);
     }
     for link in &halted.links {
-        link.has_sent(rt, name, 0, 0);
+        has_sent(rt, name, link, 0, 0);
     }
 }
 
@@ -95,7 +96,7 @@ fn refuses<R: Threads + Wait + Sync + Abort>(rt: &R, trial: &mut Trial, run: &Re
     let (alloc, name) = (trial.alloc, run.name);
     let before = standing(rt, trial);
     let given = scripts(rt, alloc, run.sources, [3, 3, 4]);
-    let links = wires(rt, alloc, run.links);
+    let links = new_links(rt, alloc, run.links);
     let want = (name, cause_of(rt, &run.why));
     let halted = trial.halted(rt, given, links, run.base, want);
     has_text(rt, alloc, name, &halted.report, NO_STEP);
@@ -124,6 +125,9 @@ const ONE_STORE_MORE: &str = setup! {
     store "HK", apid 100, size 4, type "bounded", channel 0; store "SCI", apid 100, size 4, type "bounded", channel 0;
 };
 
+const OF_TWO_STORES: &str =
+    "mmplan 1\nstores HK SCI\ndump 1 0 2\ndump 2 0 2\ndump 3 0 0\nloss 2\nbound 2\nend\n";
+
 const TWO_STEPS: &str = "mmplan 1\nstores SCI\ndump 1 2\ndump 2 2\nloss 2\nbound 2\nend\n";
 
 const THREE_IN_STEP_1: &str =
@@ -131,7 +135,7 @@ const THREE_IN_STEP_1: &str =
 
 // Of a store that is missing and one that is none of the problem's, the missing one is told. A store whose last storage time is late
 // refuses a run, also when the packet has been deleted.
-static REFUSED: [Refused; 14] = refused! {
+static REFUSED: [Refused; 15] = refused! {
     "a late moment", TWO_PASSES, ONE_STORE, [], 1, [None], TOO_LATE => Why::ClockTooLate;
     "no link", TWO_PASSES, ONE_STORE, [], 1, [], 0 => Why::Counts;
     "five links", TWO_PASSES, ONE_STORE, [], 1, [None, None, None, None, None], 0 => Why::Counts;
@@ -139,6 +143,7 @@ static REFUSED: [Refused; 14] = refused! {
     "nine sources", TWO_PASSES, ONE_STORE, [], 9, [None], 0 => Why::Counts;
 
     "a plan of two steps", TWO_STEPS, ONE_STORE, [], 1, [None], 0 => Why::PlanShape;
+    "a plan of two stores", OF_TWO_STORES, ONE_STORE, [], 1, [None], 0 => Why::PlanShape;
     "a plan above its window", THREE_IN_STEP_1, ONE_STORE, [], 1, [None], 0 => Why::PlanDoesNotFit(1);
     "another size", TWO_PASSES, ONE_STORE, [Change::Off, Change::Resize(5), Change::On], 1, [None], 0 => Why::SizeDiffers("SCI");
     "a packet", TWO_PASSES, ONE_STORE, [Change::Offer(0, 900)], 1, [None], 0 => Why::OpeningDiffers("SCI");

@@ -1,10 +1,11 @@
 //! Runs that are carried out: their reports, and what they leave in the stores and on the links.
 
+use crate::tests::links::{has_sent, new_links};
 use crate::tests::scripts::{Script, has_left, scripts};
 use crate::tests::trials::{
     Change, FIRST_RUN, Left, ONE_STORE, Task, Trial, each_took, has_text, id, left, setup, task,
 };
-use crate::tests::wires::{Wire, wires};
+use mm_dump::MemoryLink;
 use mm_exec::{Cause, Flight};
 use mm_report::{Report, Tally};
 use std::alloc::Global;
@@ -30,8 +31,14 @@ macro_rules! run {
 
 pub(crate) use run;
 
-// The run has ended well and left this; the source has nothing left.
-pub(crate) fn has_ended(rt: &impl Abort, trial: &Trial, flight: &Flight<Script, Wire>, run: &Run) {
+// The run has ended well and left this; the source has nothing left, and this many sends of the link have failed.
+pub(crate) fn has_ended(
+    rt: &impl Abort,
+    trial: &Trial,
+    flight: &Flight<Script, MemoryLink>,
+    run: &Run,
+    failures: u64,
+) {
     let name = run.name;
     has_text(rt, trial.alloc, name, &flight.report, run.report);
     trial.leaves(rt, name, run.stores);
@@ -40,20 +47,20 @@ pub(crate) fn has_ended(rt: &impl Abort, trial: &Trial, flight: &Flight<Script, 
     for source in &flight.sources {
         has_left(rt, source, [0, 0, 0]);
     }
-    each_took(rt, name, &flight.links, run.stores, 0);
+    each_took(rt, name, &flight.links, run.stores, failures);
 }
 
 // Carries out a run, over a link that fails after that many sends, if at all; returns the report.
 pub(crate) fn carries_out<R: Threads + Wait + Sync + Abort>(
     rt: &R,
     trial: &mut Trial,
-    good: Option<u64>,
+    until: Option<u64>,
     run: &Run,
 ) -> Report {
     let alloc = trial.alloc;
     let sources = scripts(rt, alloc, 1, run.many);
-    let flight = trial.flown(rt, sources, wires(rt, alloc, &[good]), 0);
-    has_ended(rt, trial, &flight, run);
+    let flight = trial.flown(rt, sources, new_links(rt, alloc, &[until]), 0);
+    has_ended(rt, trial, &flight, run, 0);
     flight.report
 }
 
@@ -61,11 +68,11 @@ pub(crate) fn carries_out<R: Threads + Wait + Sync + Abort>(
 pub(crate) fn carried_out<R: Threads + Wait + Sync + Abort>(
     rt: &R,
     alloc: Global,
-    good: Option<u64>,
+    until: Option<u64>,
     run: &Run,
 ) -> Report {
     let mut trial = Trial::new(rt, alloc, &run.task);
-    carries_out(rt, &mut trial, good, run)
+    carries_out(rt, &mut trial, until, run)
 }
 
 static RUNS: [Run; 3] = [
@@ -157,19 +164,43 @@ fn opening_contents_run(rt: HostRuntime) {
     let mut trial = Trial::new(&rt, alloc, &FROM_TWO_HELD.task);
     let store = id(&rt, "SCI");
     let sources = scripts(&rt, alloc, 1, FROM_TWO_HELD.many);
-    let links = wires(&rt, alloc, &[None]);
+    let links = new_links(&rt, alloc, &[None]);
     let want = ("not yet offered", Cause::OpeningDiffers { store });
     let halted = trial.halted(&rt, sources, links, 0, want);
     trial.change(&rt, &TWO_OFFERED);
     let flight = trial.flown(&rt, halted.sources, halted.links, 0);
-    has_ended(&rt, &trial, &flight, &FROM_TWO_HELD);
+    has_ended(&rt, &trial, &flight, &FROM_TWO_HELD, 0);
+}
+
+// Eight sources of three packets each in step 1, after the latest storage time, at the latest start.
+static AT_THE_LATEST_TIMES: &str = "step 1 SCI arrived 24 lost 20 dumped 2 held 2\n\
+    step 2 SCI arrived 0 lost 0 dumped 2 held 0\nstep 3 SCI arrived 0 lost 0 dumped 0 held 0\n\
+    differs step 1 SCI forecast 3 came 24\ndiffers step 2 SCI forecast 3 came 0\n\
+    differs step 3 SCI forecast 4 came 0\ntotal arrived 24 lost 20 dumped 4 held 0\n";
+
+static LATEST_TIME: [Change; 2] = [Change::Offer(1 << 63, 900), Change::Delete(u64::MAX, 1)];
+
+// No store refuses a packet, so the run is not halted by `47 LogMismatch`.
+#[test]
+fn no_packet_is_refused_at_the_latest_times(rt: HostRuntime) {
+    let alloc = rt.alloc();
+    let mut trial = Trial::new(&rt, alloc, &FIRST_RUN);
+    trial.change(&rt, &LATEST_TIME);
+    let sources = scripts(&rt, alloc, 8, [3, 0, 0]);
+    let links = new_links(&rt, alloc, &[None]);
+    let flight = trial.flown(&rt, sources, links, 1 << 63);
+    let name = "the latest times";
+    has_text(&rt, alloc, name, &flight.report, AT_THE_LATEST_TIMES);
+    for link in &flight.links {
+        has_sent(&rt, name, link, 4, 0);
+    }
 }
 
 // The link took one packet, which was stored at this time.
-fn took_one_at(rt: &impl Abort, link: &Wire, time: u64) {
-    link.has_sent(rt, "the latest start", 1, 0);
-    for item in &link.items {
-        assert!(rt; item.stored.time == time, "its time");
+fn took_one_at(rt: &impl Abort, link: &MemoryLink, time: u64) {
+    has_sent(rt, "the latest start", link, 1, 0);
+    for taken in link.taken() {
+        assert!(rt; taken.stored.time == time, "its time");
     }
 }
 
@@ -179,7 +210,7 @@ fn a_run_at_the_latest_start(rt: HostRuntime) {
     let alloc = rt.alloc();
     let mut trial = Trial::new(&rt, alloc, &FIRST_RUN);
     let sources = scripts(&rt, alloc, 1, [1, 0, 0]);
-    let flight = trial.flown(&rt, sources, wires(&rt, alloc, &[None]), 1 << 63);
+    let flight = trial.flown(&rt, sources, new_links(&rt, alloc, &[None]), 1 << 63);
     for link in &flight.links {
         took_one_at(&rt, link, (1 << 63) + 1);
     }

@@ -55,38 +55,44 @@ impl Source for Script {
     }
 }
 
-// Telemetry with this sequence count, by which the tests know it again.
-pub(crate) fn packet(rt: &impl Abort, alloc: Global, apid: u16, count: u16) -> BlockPacket {
+// Telemetry with this sequence count, by which the tests know it again, where there is room for it.
+fn packet_in_room(alloc: Global, apid: u16, count: u16) -> Option<BlockPacket> {
     let header = Header::new(apid % 2000, count % 1000, 3, 25);
-    let data = Octets::new(Vec::new(alloc)).expect(rt, "memory");
+    let data = Octets::new(Vec::new(alloc)).ok()?;
     let packet = Packet::tm(header, 0, 0, 0, data);
-    BlockPacket::of(packet).expect(rt, "a short packet")
+    BlockPacket::of(packet).ok()
+}
+
+pub(crate) fn packet(rt: &impl Abort, alloc: Global, apid: u16, count: u16) -> BlockPacket {
+    packet_in_room(alloc, apid, count).expect(rt, "a short packet")
 }
 
 // This many packets, with the sequence counts after another one.
-fn packets(rt: &impl Abort, alloc: Global, apid: u16, after: u16, many: u16) -> Vec<BlockPacket> {
+fn packets_in_room(alloc: Global, apid: u16, after: u16, many: u16) -> Option<Vec<BlockPacket>> {
     let mut packets = Vec::new(alloc);
     for count in 0..many {
         let count = after.saturating_add(count).saturating_add(1);
-        packets
-            .push(packet(rt, alloc, apid, count))
-            .expect(rt, "memory");
+        let packet = packet_in_room(alloc, apid, count)?;
+        packets.push(packet).ok()?;
     }
-    assert!(rt; packets.len() < 65536, "few packets");
-    packets
+    Some(packets)
 }
 
 // A source that gives this many packets of an APID in each of three steps, with sequence counts from 1 on.
-pub(crate) fn new_script(rt: &impl Abort, alloc: Global, apid: u16, many: [u16; 3]) -> Script {
+pub(crate) fn script_in_room(alloc: Global, apid: u16, many: [u16; 3]) -> Option<Script> {
     let [first, second, third] = many;
-    let one = packets(rt, alloc, apid, 0, first);
-    let two = packets(rt, alloc, apid, first, second);
-    let three = packets(rt, alloc, apid, first.saturating_add(second), third);
-    assert!(rt;
-        one.len() < 65536 && two.len() < 65536 && three.len() < 65536,
-        "few packets"
-    );
-    Script { one, two, three }
+    let one = packets_in_room(alloc, apid, 0, first)?;
+    let two = packets_in_room(alloc, apid, first, second)?;
+    let three = packets_in_room(alloc, apid, first.saturating_add(second), third)?;
+    if one.len() < 65536 && two.len() < 65536 && three.len() < 65536 {
+        Some(Script { one, two, three })
+    } else {
+        None
+    }
+}
+
+pub(crate) fn new_script(rt: &impl Abort, alloc: Global, apid: u16, many: [u16; 3]) -> Script {
+    script_in_room(alloc, apid, many).expect(rt, "a source")
 }
 
 // This many sources of APID 100 that give the same.

@@ -1,12 +1,12 @@
 //! Runs of small problems: what they are given, and what they leave.
 
+use crate::tests::links::{has_sent, has_taken};
 use crate::tests::scripts::{Script, packet};
-use crate::tests::wires::{Wire, may_fail};
 use mm_base::{MAX_BLOCKS, StoreId};
 use mm_desk::StoreState;
+use mm_dump::{Link, MemoryLink, may_fail};
 use mm_exec::{Cause, Flight, Halted, carry_out};
 use mm_memory::Memory;
-use mm_dump::Link;
 use mm_plan::Sheet;
 use mm_problem::{Problem, Setup};
 use mm_record::Source;
@@ -131,18 +131,18 @@ pub(crate) fn id(rt: &impl Abort, text: &str) -> StoreId {
     StoreId::of_text(text.as_bytes()).expect(rt, "an identifier")
 }
 
+fn memory_in_room(alloc: Global, setup: &str) -> Option<Memory> {
+    let setup = Setup::read(alloc, setup.as_bytes()).ok()?;
+    Memory::of_setup(alloc, &setup).ok()
+}
+
 pub(crate) fn memory_of(rt: &impl Abort, alloc: Global, setup: &str) -> Memory {
-    let setup = Setup::read(alloc, setup.as_bytes()).expect(rt, "a setup");
-    Memory::of_setup(alloc, &setup).expect(rt, "memory")
+    memory_in_room(alloc, setup).expect(rt, "a setup and memory")
 }
 
-fn problem_of(rt: &impl Abort, alloc: Global, task: &Task) -> Problem {
-    let setup = Setup::read(alloc, task.setup.as_bytes()).expect(rt, "a setup");
-    Problem::read(alloc, &setup, task.forecast.as_bytes()).expect(rt, "a forecast")
-}
-
-pub(crate) fn sheet_of(rt: &impl Abort, alloc: Global, plan: &str) -> Sheet {
-    Sheet::parse(alloc, plan.as_bytes()).expect(rt, "a plan text")
+fn problem_in_room(alloc: Global, task: &Task) -> Option<Problem> {
+    let setup = Setup::read(alloc, task.setup.as_bytes()).ok()?;
+    Problem::read(alloc, &setup, task.forecast.as_bytes()).ok()
 }
 
 fn same(rt: &impl Abort, name: &str, found: u64, want: u64) {
@@ -193,14 +193,18 @@ pub(crate) struct Trial {
 }
 
 impl Trial {
-    // Over an empty memory of the problem's setup.
-    pub(crate) fn new(rt: &impl Abort, alloc: Global, task: &Task) -> Trial {
-        Trial {
+    // Over an empty memory of the problem's setup, where there is room for it.
+    pub(crate) fn in_room(alloc: Global, task: &Task) -> Option<Trial> {
+        Some(Trial {
             alloc,
-            memory: memory_of(rt, alloc, task.setup),
-            problem: problem_of(rt, alloc, task),
-            sheet: sheet_of(rt, alloc, task.plan),
-        }
+            memory: memory_in_room(alloc, task.setup)?,
+            problem: problem_in_room(alloc, task)?,
+            sheet: Sheet::parse(alloc, task.plan.as_bytes()).ok()?,
+        })
+    }
+
+    pub(crate) fn new(rt: &impl Abort, alloc: Global, task: &Task) -> Trial {
+        Trial::in_room(alloc, task).expect(rt, "the texts of a task")
     }
 
     // Carries out the plan.
@@ -234,9 +238,9 @@ impl Trial {
         &mut self,
         rt: &R,
         sources: Vec<Script>,
-        links: Vec<Wire>,
+        links: Vec<MemoryLink>,
         base: u64,
-    ) -> Flight<Script, Wire> {
+    ) -> Flight<Script, MemoryLink> {
         let Ok(flight) = self.run(rt, sources, links, base) else {
             panic!(rt; "the plan is carried out");
         };
@@ -248,10 +252,10 @@ impl Trial {
         &mut self,
         rt: &R,
         sources: Vec<Script>,
-        links: Vec<Wire>,
+        links: Vec<MemoryLink>,
         base: u64,
         want: (&str, Cause),
-    ) -> Halted<Script, Wire> {
+    ) -> Halted<Script, MemoryLink> {
         let (name, cause) = want;
         let Err(halted) = self.run(rt, sources, links, base) else {
             panic!(rt; "{name}: the run is halted");
@@ -274,6 +278,12 @@ impl Trial {
         }
     }
 
+    // How many packets of a store were deleted.
+    pub(crate) fn deleted(&self, rt: &impl Abort, store: &str) -> u64 {
+        let state = self.memory.state(&id(rt, store)).expect(rt, "a store");
+        state.deleted()
+    }
+
     // What is left of a store.
     fn has(&self, rt: &impl Abort, name: &str, left: &Left) {
         let state = self.memory.state(&id(rt, left.store)).expect(rt, "a store");
@@ -293,16 +303,16 @@ impl Trial {
 pub(crate) fn each_took(
     rt: &impl Abort,
     name: &str,
-    links: &[Wire],
+    links: &[MemoryLink],
     stores: &[Left],
     failures: u64,
 ) {
     for link in links {
         let mut many = 0;
         for left in stores {
-            link.took(rt, name, &id(rt, left.store), left.sent);
+            has_taken(rt, name, link, &id(rt, left.store), left.sent);
             many = left.sent.len().saturating_add(many);
         }
-        link.has_sent(rt, name, many, failures);
+        has_sent(rt, name, link, many, failures);
     }
 }
