@@ -13,6 +13,7 @@
 void *__libc_malloc(size_t size);
 void *__libc_calloc(size_t count, size_t size);
 void *__libc_realloc(void *block, size_t size);
+void *__libc_memalign(size_t alignment, size_t size);
 
 static atomic_long met;
 static long refused;
@@ -36,6 +37,16 @@ void *malloc(size_t size) { return is_refused() ? NULL : __libc_malloc(size); }
 void *calloc(size_t count, size_t size) { return is_refused() ? NULL : __libc_calloc(count, size); }
 
 void *realloc(void *block, size_t size) { return is_refused() ? NULL : __libc_realloc(block, size); }
+
+void *aligned_alloc(size_t alignment, size_t size) { return is_refused() ? NULL : __libc_memalign(alignment, size); }
+
+int posix_memalign(void **block, size_t alignment, size_t size) {
+    void *found = is_refused() ? NULL : __libc_memalign(alignment, size);
+    if (found) {
+        *block = found;
+    }
+    return found ? 0 : ENOMEM;
+}
 
 __attribute__((destructor)) static void end(void) {
     const char *name = getenv("GROWTHS_MET");

@@ -2,11 +2,15 @@
 #![tactic(auto)]
 
 mod applied;
+mod calls;
 mod created;
+mod dumps;
 mod met;
 mod parts;
+mod records;
 mod runs;
 mod seats;
+mod shared;
 mod texts;
 mod traces;
 mod wire;

@@ -14,8 +14,6 @@ pub enum Met {
     Unplanned,
     /// A run was halted for want of memory in this step, or before the first one, in step 0.
     Halted(u32),
-    /// The same, and a retrieval was on, which ended by `abort`.
-    HaltedOn(u32),
     /// All is as with ample memory.
     Whole,
     /// What none of the calls may answer or leave.
@@ -52,7 +50,6 @@ impl fmt::Display for Met {
             Met::Refused => write!(f, "an instruction found no memory"),
             Met::Unplanned => write!(f, "there was no memory to plan"),
             Met::Halted(step) => write!(f, "halted in step {step}"),
-            Met::HaltedOn(step) => write!(f, "halted in step {step}, and a retrieval was on"),
             Met::Whole => write!(f, "all was as with ample memory"),
             Met::Wrong(told) => write!(f, "wrong: {told}"),
         }

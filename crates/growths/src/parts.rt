@@ -1,9 +1,12 @@
 //! The parts by their names.
 use crate::applied::deleted;
 use crate::created::created;
+use crate::dumps::dumps;
 use crate::met::Met;
+use crate::records::record;
 use crate::runs::{crowd, flight, run};
 use crate::seats::desk;
+use crate::shared::shared;
 use crate::texts::{checked, planned};
 use std::alloc::Global;
 use std::sync::Wait;
@@ -17,6 +20,9 @@ pub fn part_named<R: Threads + Wait + Sync>(rt: &R, alloc: Global, name: &[u8]) 
         b"apply" => deleted(alloc),
         b"create" => created(alloc),
         b"seats" => desk(rt, alloc),
+        b"shared" => shared(rt, alloc),
+        b"record" => record(rt, alloc),
+        b"dump" => dumps(rt, alloc),
         b"carry_out" => run(rt, alloc),
         b"crowd" => crowd(rt, alloc),
         b"fly" => flight(rt, alloc),

@@ -118,21 +118,29 @@ fn told(alloc: Global, report: &Report, want: &[u8]) -> Met {
 // What a run left that went through, of this many packets.
 fn whole(alloc: Global, left: &Traces, packets: u32, report: &Report, want: &[u8]) -> Met {
     told(alloc, report, want)
-        .provided(left.is_kept(packets, 0), "a packet lost or invented")
+        .provided(left.is_kept(packets), "a packet lost or invented")
         .provided(left.given(packets) == packets, "a packet left in a source")
         .provided(
             (left.sent, left.deleted) == (4, 4),
             "another number sent or deleted",
         )
-        .provided(!left.retrieval, "a retrieval is on")
 }
 
-// What a run left that was halted. Each of its sources may lack one packet, which its recorder had in hand.
+// How many of this many packets are given before a step, and up to its end.
+fn given_around(step: u32, packets: u32) -> [u32; 2] {
+    match step {
+        0 => [0, 0],
+        1 => [0, 3],
+        2 => [3, 6],
+        _ => [6, packets],
+    }
+}
+
+// What a run left that was halted. Nothing of its last step was recorded or all of it, and nothing of it was dumped.
 fn halted_for_want_of_memory(
     alloc: Global,
     left: &Traces,
     packets: u32,
-    sources: u32,
     end: &Halted<ScriptedSource, Wire>,
 ) -> Met {
     let Cause::NoMemory { step } = end.cause else {
@@ -141,37 +149,25 @@ fn halted_for_want_of_memory(
     let Some(want) = HALTED.get(step.saturating_sub(1) as usize) else {
         return Met::Wrong("halted in another step");
     };
-    let met = if left.retrieval {
-        Met::HaltedOn(step)
-    } else {
-        Met::Halted(step)
-    };
-    let before = end.report.totals().dumped;
-    let sent = u128::from(left.sent);
-    let spent = u128::from(end.spent);
-    met.provided(left.is_kept(packets, sources), "a packet lost or invented")
+    let report = told(alloc, &end.report, want);
+    Met::Halted(step)
+        .provided(left.is_kept(packets), "a packet lost or invented")
+        .provided(matches!(report, Met::Whole), "another report")
+        .provided(end.spent == 0, "drawn from the window of a step that was not dumped")
         .provided(
-            matches!(told(alloc, &end.report, want), Met::Whole),
-            "another report",
+            u128::from(left.sent) == end.report.totals().dumped,
+            "another number sent",
         )
         .provided(
-            spent <= 2 && sent == before.saturating_add(spent),
-            "another number drawn",
-        )
-        .provided(
-            spent == 0 || left.unoffered(packets) == 0,
-            "dumped before all was recorded",
-        )
-        .provided(
-            step > 0 || left.given(packets) == 0,
-            "recorded before the run",
+            given_around(step, packets).contains(&left.given(packets)),
+            "a step recorded in part",
         )
 }
 
 // What a run has left in its one store, its sources and its links.
-fn left_by(memory: &mut Memory, sources: &mut [ScriptedSource], links: &[Wire]) -> Option<Traces> {
+fn left_by(memory: &Memory, sources: &mut [ScriptedSource], links: &[Wire]) -> Option<Traces> {
     let id = StoreId::of_text(b"SCI").ok()?;
-    traces_of(memory.state_mut(&id)?, sources, links)
+    traces_of(memory.state(&id)?, sources, links)
 }
 
 // What came of a run of the first plan, with eleven packets in place of ten.
@@ -180,7 +176,6 @@ fn carried<R: Threads + Wait + Sync>(
     alloc: Global,
     stage: Stage,
     sheet: &Sheet,
-    many: u32,
 ) -> Met {
     let Stage {
         mut memory,
@@ -193,13 +188,13 @@ fn carried<R: Threads + Wait + Sync>(
     }
     let plan = sheet.plan();
     match carry_out(rt, alloc, &mut memory, &problem, plan, sources, links, 0) {
-        Ok(mut flight) => match left_by(&mut memory, &mut flight.sources, &flight.links) {
+        Ok(mut flight) => match left_by(&memory, &mut flight.sources, &flight.links) {
             Some(left) => whole(alloc, &left, 11, &flight.report, ELEVEN_CAME),
-            None => Met::Wrong("a packet found twice"),
+            None => Met::Wrong("what a run may not leave"),
         },
-        Err(mut end) => match left_by(&mut memory, &mut end.sources, &end.links) {
-            Some(left) => halted_for_want_of_memory(alloc, &left, 11, many, &end),
-            None => Met::Wrong("a packet found twice after a halt"),
+        Err(mut end) => match left_by(&memory, &mut end.sources, &end.links) {
+            Some(left) => halted_for_want_of_memory(alloc, &left, 11, &end),
+            None => Met::Wrong("what a run may not leave after a halt"),
         },
     }
 }
@@ -210,7 +205,7 @@ pub(crate) fn run<R: Threads + Wait + Sync>(rt: &R, alloc: Global) -> Met {
         return Met::Unready;
     };
     match Sheet::parse(alloc, PLAN) {
-        Ok(sheet) => carried(rt, alloc, stage, &sheet, 1),
+        Ok(sheet) => carried(rt, alloc, stage, &sheet),
         Err(_) => Met::Unready,
     }
 }
@@ -221,7 +216,7 @@ pub(crate) fn crowd<R: Threads + Wait + Sync>(rt: &R, alloc: Global) -> Met {
         return Met::Unready;
     };
     match Sheet::parse(alloc, PLAN) {
-        Ok(sheet) => carried(rt, alloc, stage, &sheet, 2),
+        Ok(sheet) => carried(rt, alloc, stage, &sheet),
         Err(_) => Met::Unready,
     }
 }
@@ -233,7 +228,7 @@ fn unplanned(left: &Traces, end: &NotFlown<ScriptedSource, Wire>) -> Met {
             end.halted.cause == Cause::NoMemory { step: 0 },
             "no plan for another cause",
         )
-        .provided(left.is_kept(10, 0), "a packet lost or invented")
+        .provided(left.is_kept(10), "a packet lost or invented")
         .provided(left.given(10) == 0, "recorded without a plan")
 }
 
@@ -252,23 +247,20 @@ pub(crate) fn flight<R: Threads + Wait + Sync>(rt: &R, alloc: Global) -> Met {
         return Met::Unready;
     }
     match fly(rt, alloc, &mut memory, &problem, sources, links, 0) {
-        Ok(mut flown) => match left_by(&mut memory, &mut flown.sources, &flown.links) {
+        Ok(mut flown) => match left_by(&memory, &mut flown.sources, &flown.links) {
             Some(left) => whole(alloc, &left, 10, &flown.report, TEN_CAME).provided(
                 flown.sheet.as_slice() == PLAN,
                 "another plan",
             ),
-            None => Met::Wrong("a packet found twice"),
+            None => Met::Wrong("what a run may not leave"),
         },
-        Err(mut end) => {
-            let memory = &mut memory;
-            match left_by(memory, &mut end.halted.sources, &end.halted.links) {
-                Some(left) if end.sheet.is_empty() => unplanned(&left, &end),
-                Some(left) => halted_for_want_of_memory(alloc, &left, 10, 1, &end.halted).provided(
-                    end.sheet.as_slice() == PLAN,
-                    "another plan",
-                ),
-                None => Met::Wrong("a packet found twice after a halt"),
-            }
-        }
+        Err(mut end) => match left_by(&memory, &mut end.halted.sources, &end.halted.links) {
+            Some(left) if end.sheet.is_empty() => unplanned(&left, &end),
+            Some(left) => halted_for_want_of_memory(alloc, &left, 10, &end.halted).provided(
+                end.sheet.as_slice() == PLAN,
+                "another plan",
+            ),
+            None => Met::Wrong("what a run may not leave after a halt"),
+        },
     }
 }

@@ -2,100 +2,17 @@
 ghost use Rattle.std.specs.Prelude.{◌≡◌};
 ghost use Rattle.mm_desk.specs.Runs.{opening_at};
 
+use crate::calls::{
+    Ask, CALLS, Told, new_state, packet_for, told_of, told_of_delete, told_of_next, told_of_offer,
+};
 use crate::met::Met;
-use mm_base::{Kind, NoMemory};
-use mm_desk::{Closed, Desk, Fault, Offered, Opening, Returned, Seat, StoreState};
-use mm_packet::{BlockPacket, Header, Octets, Packet};
-use mm_store::{AnyStore, PacketStore, Stored};
+use mm_base::NoMemory;
+use mm_desk::{Closed, Desk, Opening, Seat, StoreState};
+use mm_packet::BlockPacket;
+use mm_store::PacketStore;
 use std::alloc::Global;
 use std::marker::Brand;
 use std::sync::Wait;
-
-// What is asked through a seat, with a packet by its sequence count.
-#[derive(Clone, Copy)]
-enum Ask {
-    Offer(u64, u16),
-    Begin(u64, u64),
-    Next,
-    Abort,
-    Delete(u64),
-    Disable,
-    Enable,
-}
-
-// What it answers, with a packet by its sequence count.
-#[derive(Clone, Copy, PartialEq, Eq)]
-enum Told {
-    Kept(u64),
-    Given(u64, u16),
-    Deleted(u32),
-    Done,
-    // No memory, and a packet that was offered is handed back.
-    NoMemory,
-    // Any other answer.
-    Other,
-}
-
-// Telemetry with this sequence count and three octets of data.
-fn packet(alloc: Global, count: u16) -> Result<BlockPacket, NoMemory> {
-    let mut octets = Vec::new(alloc);
-    octets.extend_from_slice(&[1, 2, 3])?;
-    let header = Header::new(100, count % 1000, 3, 25);
-    let body = Octets::new(octets)?;
-    match BlockPacket::of(Packet::tm(header, 0, 0, 0, body)) {
-        Ok(packet) => Ok(packet),
-        Err(_) => Err(NoMemory),
-    }
-}
-
-// What an offer is answered. The packet that comes back is put where it was taken from.
-fn told_of_offer(
-    answer: Result<Offered, Returned>,
-    count: u16,
-    packet: &mut Option<BlockPacket>,
-) -> Told {
-    match answer {
-        Ok(Offered::Kept(time)) => Told::Kept(time),
-        Ok(_) => Told::Other,
-        Err(back) => {
-            let lacks = back.fault == Fault::NoMemory && back.packet.packet().count() == count;
-            *packet = Some(back.packet);
-            if lacks { Told::NoMemory } else { Told::Other }
-        }
-    }
-}
-
-fn told_of_next(answer: Result<Option<Stored>, Fault>) -> Told {
-    match answer {
-        Ok(Some(stored)) => Told::Given(stored.time, stored.packet.packet().count()),
-        Err(Fault::NoMemory) => Told::NoMemory,
-        _ => Told::Other,
-    }
-}
-
-fn told_of_delete(answer: Result<u32, Fault>) -> Told {
-    match answer {
-        Ok(count) => Told::Deleted(count),
-        Err(Fault::NoMemory) => Told::NoMemory,
-        Err(_) => Told::Other,
-    }
-}
-
-fn told_of(answer: Result<(), Fault>) -> Told {
-    match answer {
-        Ok(()) => Told::Done,
-        Err(Fault::NoMemory) => Told::NoMemory,
-        Err(_) => Told::Other,
-    }
-}
-
-// The packet of an offer, and none for another call.
-fn packet_for(alloc: Global, ask: Ask) -> Result<Option<BlockPacket>, NoMemory> {
-    match ask {
-        Ask::Offer(_, count) => Ok(Some(packet(alloc, count)?)),
-        _ => Ok(None),
-    }
-}
 
 // What a call answers, which offers the packet that was made for it.
 fn answer<N: Opening, R: Wait>(
@@ -151,22 +68,6 @@ fn called<N: Opening, R: Wait>(
         .provided(second == want, "another answer after want of memory")
 }
 
-// The first seat offers, then the second; the first takes a copy of its packet back, and aborts.
-const FIRST: [(usize, Ask, Told); 5] = [
-    (0, Ask::Offer(7, 1), Told::Kept(7)),
-    (1, Ask::Offer(7, 2), Told::Kept(8)),
-    (0, Ask::Begin(1, u64::MAX), Told::Done),
-    (0, Ask::Next, Told::Given(7, 1)),
-    (0, Ask::Abort, Told::Done),
-];
-
-// The calls that the example lacks.
-const REST: [(usize, Ask, Told); 3] = [
-    (1, Ask::Delete(7), Told::Deleted(1)),
-    (1, Ask::Disable, Told::Done),
-    (0, Ask::Enable, Told::Done),
-];
-
 // What the calls leave: a log of eight entries that agrees with the lists, and one packet of two.
 fn left<N: Opening>(closed: &Closed<N>) -> Met {
     let state = &closed.state;
@@ -191,10 +92,7 @@ fn seated<N: Opening, R: Wait>(rt: &R, alloc: Global, state: StoreState) -> Met
         }
     };
     let mut met = Met::Whole;
-    for (number, ask, want) in FIRST {
-        met = met.and(called(rt, alloc, &desk, seats.get_mut(number), ask, want));
-    }
-    for (number, ask, want) in REST {
+    for (number, ask, want) in CALLS {
         met = met.and(called(rt, alloc, &desk, seats.get_mut(number), ask, want));
     }
     met.and(left(&desk.close(seats)))
@@ -202,10 +100,8 @@ fn seated<N: Opening, R: Wait>(rt: &R, alloc: Global, state: StoreState) -> Met
 
 /// What came of the calls of two seats at one desk.
 pub(crate) fn desk<R: Wait>(rt: &R, alloc: Global) -> Met {
-    let Ok(store) = AnyStore::new(alloc, Kind::Bounded, 4) else {
-        return Met::Unready;
-    };
-    let mut state = StoreState::of(store);
-    state.enable();
-    seated::<Brand, R>(rt, alloc, state)
+    match new_state(alloc) {
+        Ok(state) => seated::<Brand, R>(rt, alloc, state),
+        Err(_) => Met::Unready,
+    }
 }

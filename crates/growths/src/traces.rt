@@ -21,8 +21,6 @@ pub(crate) struct Traces {
     pub(crate) deleted: u64,
     /// How many packets were sent.
     pub(crate) sent: u32,
-    /// Whether a retrieval was on, which has been aborted.
-    pub(crate) retrieval: bool,
 }
 
 // A set with one packet more. Nothing where it has it already, or its count is none of a run.
@@ -53,8 +51,8 @@ fn held_by(state: &StoreState) -> Option<Packets> {
     }
 }
 
-// The packets that links have sent, each of them once.
-fn sent_over(links: &[Wire]) -> Option<Packets> {
+/// The packets that links have sent, a bit for each sequence count. Nothing where one of them was sent twice.
+pub(crate) fn sent_over(links: &[Wire]) -> Option<u32> {
     let mut packets = 0;
     for link in links {
         for place in 0..link.sent() {
@@ -79,19 +77,18 @@ fn left_in<S: Source>(sources: &mut [S]) -> Option<Packets> {
     Some(packets)
 }
 
-/// What a run has left. A retrieval that is on is aborted. Nothing where a packet is found twice, or a store's times do not rise.
+/// What a run has left. Nothing where a packet is found twice, a store's times do not rise, its storage is off, or a retrieval is on.
 pub(crate) fn traces_of<S: Source>(
-    state: &mut StoreState,
+    state: &StoreState,
     sources: &mut [S],
     links: &[Wire],
 ) -> Option<Traces> {
+    if !state.storage() || state.retrieval().is_some() {
+        return None;
+    }
     let held = held_by(state)?;
     let sent_ones = sent_over(links)?;
     let left = left_in(sources)?;
-    let retrieval = state.retrieval().is_some();
-    if state.abort().is_ok() != retrieval || state.retrieval().is_some() || !state.storage() {
-        return None;
-    }
     Some(Traces {
         held,
         sent_ones,
@@ -101,7 +98,6 @@ pub(crate) fn traces_of<S: Source>(
         size: state.store().size(),
         deleted: state.deleted(),
         sent: sent_ones.count_ones(),
-        retrieval,
     })
 }
 
@@ -111,11 +107,6 @@ impl Traces {
         packets.saturating_sub(self.left.count_ones())
     }
 
-    /// How many of the packets given were not offered.
-    pub(crate) fn unoffered(&self, packets: u32) -> u64 {
-        u64::from(self.given(packets)).saturating_sub(self.offered)
-    }
-
     // Whether what was offered is lost, deleted or held, and no more is held than there is room for.
     fn is_sound(&self) -> bool {
         let held = self.held.count_ones();
@@ -123,16 +114,15 @@ impl Traces {
         held <= self.size && self.offered == known.saturating_add(u64::from(held))
     }
 
-    /// Whether each of this many packets is in one place alone: still in a source, in the store, sent and deleted, counted as lost,
-    /// or, of at most so many, in the hand of a recorder that was broken off.
-    pub(crate) fn is_kept(&self, packets: u32, in_hand: u32) -> bool {
-        let gone = self.sent_ones & !self.held;
+    /// Whether each of this many packets is in one place alone: still in a source, in the store, sent and deleted, or counted as lost.
+    pub(crate) fn is_kept(&self, packets: u32) -> bool {
         let found = self.held | self.sent_ones | self.left;
         let missing = u64::from(packets.saturating_sub(found.count_ones()));
         self.is_sound()
+            && self.held & self.sent_ones == 0
             && (self.held | self.sent_ones) & self.left == 0
-            && u64::from(gone.count_ones()) == self.deleted
-            && self.unoffered(packets) <= u64::from(in_hand)
-            && missing == self.lost.saturating_add(self.unoffered(packets))
+            && u64::from(self.sent) == self.deleted
+            && u64::from(self.given(packets)) == self.offered
+            && missing == self.lost
     }
 }
