@@ -2,7 +2,7 @@
 ghost use Rattle.std.specs.Prelude.{◌≡◌, ◌<◌, length, MatchBool};
 ghost use Rattle.mm_shared.specs.Steps.{HasOneSlot, IsAtRest, Holds, HasCalled, IsAsTaken, called, at_rest};
 
-use crate::rule::{Give, Restore, StoreSeat, StoreTable, Take, Call};
+use crate::rule::{Call, Give, Restore, StoreSeat, StoreTable, Take};
 use std::hint::spin_loop;
 use std::sync::Wait;
 
