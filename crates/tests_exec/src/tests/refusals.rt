@@ -211,13 +211,15 @@ const A_PACKET: &[Change] = &[Change::Offer(0, 900)];
 
 const A_LATE_TIME: &[Change] = &[Change::Offer(TOO_LATE, 900), Change::Delete(u64::MAX, 1)];
 
+const TASK_OF_TWO: Task = Task {
+    setup: TWO_STORES,
+    forecast: "step,window,HK,SCI\n1,12,3,3\n",
+    plan: "mmplan 1\nstores HK SCI\ndump 1 1 1\nloss 0\nbound 0\nend\n",
+};
+
 const OF_TWO: Refused = Refused {
     name: "both stores are off",
-    task: Task {
-        setup: TWO_STORES,
-        forecast: "step,window,HK,SCI\n1,2,3,3\n",
-        plan: "mmplan 1\nstores HK SCI\ndump 1 1 1\nloss 0\nbound 0\nend\n",
-    },
+    task: TASK_OF_TWO,
     memory: TWO_STORES,
     others: &[Change::Off],
     changes: &[Change::Off],
@@ -229,7 +231,16 @@ const OF_TWO: Refused = Refused {
 
 // Each cause is looked for in all stores, in their order, before the next one: where the first store has a later cause than the second,
 // the second is told, and where both have one, the first.
-static OF_SEVERAL_STORES: [Refused; 9] = [
+static OF_SEVERAL_STORES: [Refused; 13] = [
+    Refused {
+        name: "the plan is of two steps, both stores are off",
+        task: Task {
+            plan: "mmplan 1\nstores HK SCI\ndump 1 1 1\ndump 2 0 0\nloss 0\nbound 0\nend\n",
+            ..TASK_OF_TWO
+        },
+        why: Why::PlanShape,
+        ..OF_TWO
+    },
     OF_TWO,
     Refused {
         name: "the first is larger, the second is off",
@@ -290,6 +301,38 @@ static OF_SEVERAL_STORES: [Refused; 9] = [
         others: &[],
         changes: A_LATE_TIME,
         why: Why::ClockTooLate,
+        ..OF_TWO
+    },
+    Refused {
+        name: "the amounts of both are above the window, no link",
+        task: Task {
+            plan: "mmplan 1\nstores HK SCI\ndump 1 9 4\nloss 0\nbound 0\nend\n",
+            ..TASK_OF_TWO
+        },
+        others: &[],
+        changes: &[],
+        links: &[],
+        why: Why::PlanDoesNotFit(1),
+        ..OF_TWO
+    },
+    Refused {
+        name: "the first is above the limit of its channel, no link",
+        task: Task {
+            plan: "mmplan 1\nstores HK SCI\ndump 1 10 2\nloss 0\nbound 0\nend\n",
+            ..TASK_OF_TWO
+        },
+        others: &[],
+        changes: &[],
+        links: &[],
+        why: Why::PlanDoesNotFit(1),
+        ..OF_TWO
+    },
+    Refused {
+        name: "no link",
+        others: &[],
+        changes: &[],
+        links: &[],
+        why: Why::Counts,
         ..OF_TWO
     },
 ];
