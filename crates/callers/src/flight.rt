@@ -10,9 +10,9 @@ ghost use Rattle.callers.specs.declared.ends.Burst.{Burst};
 ghost use Rattle.callers.specs.declared.ends.Downlink.{Downlink};
 
 use crate::ends::{Burst, Downlink};
+use mm_dump::Link;
 use mm_exec::{Flown, NotFlown, fly};
 use mm_memory::Memory;
-use mm_dump::Link;
 use mm_problem::{Problem, Setup};
 use mm_ready::Cause;
 use mm_record::Source;

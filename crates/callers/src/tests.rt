@@ -213,14 +213,20 @@ fn a_link_that_fails_halts_the_run(rt: HostRuntime) {
 
 // What a store holds as its oldest packet is the last one that the link took, which goes out again.
 fn is_held_again(rt: &impl Abort, state: &StoreState, link: &Downlink) {
-    assert!(rt; (link.taken.len(), link.failed) == (3, 1), "three packets, and then one failure");
+    assert!(rt;
+        (link.taken.len(), link.failed) == (3, 1),
+        "three packets, and then one failure"
+    );
     let Some((_, taken)) = link.taken.last() else {
         panic!(rt; "a packet was taken");
     };
     let Some((time, packet)) = state.store().first_in(0, u64::MAX, 0) else {
         panic!(rt; "a packet is held");
     };
-    assert!(rt; time == taken.time && packet.is(&taken.packet), "the same packet at the same time");
+    assert!(rt;
+        time == taken.time && packet.is(&taken.packet),
+        "the same packet at the same time"
+    );
 }
 
 // Of the four blocks that leave by the plan, the link takes three: the third is still stored.
@@ -235,7 +241,8 @@ fn the_last_packet_of_a_failed_link_is_still_stored(rt: HostRuntime) {
     let sources = three_bursts(&rt, alloc, 4);
     let links = one_link(&rt, alloc, 3);
     let plan = sheet.plan();
-    let Err(halted) = carry_out_or_tell(&rt, alloc, &mut memory, &problem, plan, sources, links) else {
+    let Err(halted) = carry_out_or_tell(&rt, alloc, &mut memory, &problem, plan, sources, links)
+    else {
         panic!(&rt; "the run is halted");
     };
     assert_eq!(rt; halted.cause, Cause::LinkFailed { step: 2 });
