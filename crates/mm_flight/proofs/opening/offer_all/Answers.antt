@@ -1,4 +1,4 @@
-use Rattle.std.proofs.Common.{◌≡◌, ◌+◌, ◌<◌, rules, ◌∙◌, length, take, sym, ap, arith}
+use Rattle.std.proofs.Common.{◌+◌, ◌<◌, rules, ◌∙◌, length, take, sym, ap, arith}
 use Rattle.mm_memory.specs.Holdings.{Holdings}
 use Rattle.mm_flight.specs.Opening.{offered, opened_with}
 use Rattle.mm_flight.proofs.Offered.{opened_more}
