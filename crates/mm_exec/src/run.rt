@@ -13,10 +13,10 @@ use crate::room::reserve_run;
 use crate::step::StepBroken;
 use crate::tallies::read_states;
 use mm_desk::Held;
-use mm_memory::Memory;
-use mm_memory::laws::identifiers_decide_what_is_restored;
 use mm_dump::Link;
 use mm_dump::laws::broken_orders_change_nothing;
+use mm_memory::Memory;
+use mm_memory::laws::identifiers_decide_what_is_restored;
 use mm_plan::Plan;
 use mm_problem::Problem;
 use mm_ready::{Cause, ready};
@@ -61,7 +61,14 @@ fn carry_plan<S: Source + Send, L: Link + Send, R: Threads + Wait + Sync>(
 {
     let many_sources = sources.len();
     let many_links = links.len();
-    if let Err(cause) = ready(run.problem, run.plan, stores, run.base, many_sources, many_links) {
+    if let Err(cause) = ready(
+        run.problem,
+        run.plan,
+        stores,
+        run.base,
+        many_sources,
+        many_links,
+    ) {
         return Err(never_began(alloc, cause));
     }
     read_states(stores);

@@ -5,8 +5,8 @@ ghost use Rattle.mm_record.specs.Steps.{TakesAll};
 ghost use Rattle.mm_record.specs.Recorded.{recording};
 ghost use Rattle.mm_dump.specs.Dumped.{MayDump, amount_of};
 
-use mm_desk::laws::{any_order_loses_alike, orders_dump_the_oldest};
 use mm_desk::Held;
+use mm_desk::laws::{any_order_loses_alike, orders_dump_the_oldest};
 use mm_dump::laws::broken_orders_change_nothing;
 use mm_dump::{Dumped, Link, Order, OrderBroken, dump};
 use mm_ready::Cause;

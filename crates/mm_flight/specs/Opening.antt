@@ -1,11 +1,12 @@
 -- The packets of step 0: they are offered before a run, at the moment 0.
-use Rattle.std.specs.Prelude.{ℕ, List, [], fold, Option, Some, None}
+use Rattle.std.specs.Prelude.{ℕ, ◌+◌, ◌≤◌, List, [], length, filter, fold, bytes_eq, All, Option, Some, None}
 use Rattle.mm_base.specs.declared.rows.RouteRow.{RouteRow}
 use Rattle.mm_packet.specs.declared.header.PacketType.{PacketType}
 use Rattle.mm_packet.specs.declared.header.PacketType.TheVariants.{Telecommand, Telemetry}
 use Rattle.mm_packet.specs.Packet.{SpacePacket}
 use Rattle.mm_control.specs.Routes.{stores_for}
 use Rattle.mm_desk.specs.declared.event.Event.TheVariants.{Offer}
+use Rattle.mm_desk.specs.declared.held.Held.{Held}
 use Rattle.mm_desk.specs.Machine.{State, step}
 use Rattle.mm_memory.specs.Holdings.{Holdings, state_of}
 use Rattle.mm_memory.specs.Lending.{with_state}
@@ -33,3 +34,15 @@ offered memory packet = fold (offered_to packet) memory (goes_to memory.routes p
 -- packets are offered, in order
 abbrev pub opened_with : Holdings → List SpacePacket → Holdings
 opened_with memory packets = fold offered memory packets
+
+-- each of these stores is named once
+abbrev pub AreNamedOnce : List (List ℕ) → Type 0
+AreNamedOnce ids = (id : List ℕ) → length (filter (bytes_eq id) ids) ≤ 1
+
+-- each store was offered at most this many packets
+abbrev pub AreOffered : ℕ → List Held → Type 0
+AreOffered most stores = All (λ h. h.state.offered ≤ most) stores
+
+-- each store was offered at most this many packets more
+abbrev pub OffersAtMost : ℕ → Holdings → Holdings → Type 0
+OffersAtMost more old new = (most : ℕ) → AreOffered most old.stores → AreOffered (most + more) new.stores

@@ -14,6 +14,7 @@ use Rattle.mm_exec.specs.declared.flight.Flown.{Flown}
 use Rattle.mm_exec.specs.declared.flight.Halted.{Halted}
 use Rattle.mm_exec.specs.declared.flight.NotFlown.{NotFlown}
 use Rattle.mm_exec.specs.RunInput.{RunInput, run_input}
+use Rattle.mm_exec.specs.Step.{NeverRefused}
 use Rattle.mm_exec.specs.Ending.{IsCarriedOut, IsHalted}
 use Rattle.mm_exec.specs.Flying.{Flies, FliesNot, HasNoPlan}
 use Rattle.mm_flight.specs.declared.printed.Printed.{Printed}
@@ -42,11 +43,12 @@ pub record EndsWhole (problem : Dumping) (plan : Table) (memory : Holdings) (sou
   pub carried_out : IsCarriedOut gives sent failed (scripted problem plan memory sources) plan sources links left flight
   pub tells : TellsAll sheet flight.report p
 
--- the run did not begin, or was halted, and this is printed
+-- the run did not begin, or was halted, though never since a store refused a packet, and this is printed
 pub record EndsEarly (problem : Dumping) (plan : Table) (memory : Holdings) (sources : List ScriptedSource) (links : List ScriptedLink) (sheet : List ℕ) (p : Printed) : Type 0 where
   pub left : Holdings
   pub halted : Halted ScriptedSource ScriptedLink
   pub was_halted : IsHalted gives sent failed (scripted problem plan memory sources) plan sources links left halted
+  pub never_refused : NeverRefused halted.cause
   pub tells : TellsEnd sheet halted.cause halted.report p
 
 -- what is printed of the run that the five texts say
@@ -70,11 +72,12 @@ pub record FliesWhole (problem : Dumping) (memory : Holdings) (sources : List Sc
   pub flies : Flies gives sent failed problem 0 memory sources links left flown
   pub tells : TellsAll flown.sheet.items flown.report p
 
--- the plan's run did not begin, or was halted, or there was no memory to plan, and this is printed
+-- the plan's run did not begin, or was halted, though never since a store refused a packet, or there was no memory to plan, and this is printed
 pub record FliesEarly (problem : Dumping) (memory : Holdings) (sources : List ScriptedSource) (links : List ScriptedLink) (p : Printed) : Type 0 where
   pub left : Holdings
   pub ended : NotFlown ScriptedSource ScriptedLink
   pub flies_not : FliesNot gives sent failed problem 0 memory sources links left ended ⊎ HasNoPlan memory sources links left ended
+  pub never_refused : NeverRefused ended.halted.cause
   pub tells : TellsEnd ended.sheet.items ended.halted.cause ended.halted.report p
 
 -- what is printed of the plan for the first two of four texts, and of its run

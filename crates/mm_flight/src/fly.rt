@@ -2,7 +2,8 @@
 ghost use Rattle.std.specs.Prelude.{◌⊎◌, ◌<◌, ◌-◌, ◌^◌, All, IfOk};
 ghost use Rattle.mm_base.specs.Reading.{IfRefused};
 ghost use Rattle.mm_flight.specs.Judging.{IsFlyFault};
-ghost use Rattle.mm_flight.specs.Opening.{opened_with};
+ghost use Rattle.mm_scripted.specs.Sources.{AreFew};
+ghost use Rattle.mm_flight.specs.Opening.{opened_with, AreOffered};
 ghost use Rattle.mm_flight.specs.Runs.{FliesBy, FliesEarly, FliesWhole};
 
 use crate::fault::Fault;
@@ -11,6 +12,7 @@ use crate::printed::{Printed, Spare};
 use crate::texts::{Ends, FlightTexts, Ground, read_ends, read_ground};
 use mm_base::NoMemory;
 use mm_exec::{Flown, Halted, NotFlown, fly};
+use mm_scripted::laws::constants_are;
 use std::alloc::Global;
 use std::sync::Wait;
 use std::thread::Threads;
@@ -22,6 +24,8 @@ fn plan_and_carry<R: Threads + Wait + Sync>(
     ground: Ground,
     ends: Ends,
 ) -> Result<Printed, NoMemory>
+    requires opened { AreOffered 0 ground.memory.stores }
+    requires few { AreFew ends.sources.items }
     requires unfailed { All (λ l. l.failed < 2 ^ 64 - 1) ends.links.items }
     ensures { IfOk result (λ p. FliesWhole ground.problem (opened_with ground.memory ends.opening.items) ends.sources.items ends.links.items p
         ⊎ FliesEarly ground.problem (opened_with ground.memory ends.opening.items) ends.sources.items ends.links.items p) }
@@ -35,6 +39,7 @@ fn plan_and_carry<R: Threads + Wait + Sync>(
         sources,
         links,
     } = ends;
+    constants_are();
     offer_all(alloc, &mut memory, opening.as_slice())?;
     let spare = Spare::new(alloc)?;
     match fly(rt, alloc, &mut memory, &problem, sources, links, 0) {

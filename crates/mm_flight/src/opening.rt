@@ -1,7 +1,7 @@
 //! The packets of step 0, which are offered before a run.
-ghost use Rattle.std.specs.Prelude.{◌≡◌, OnOk, IfOk, fold};
+ghost use Rattle.std.specs.Prelude.{◌≡◌, OnOk, IfOk, length, fold};
 ghost use Rattle.mm_memory.specs.Lending.{with_state};
-ghost use Rattle.mm_flight.specs.Opening.{offered_to, goes_to, offered, opened_with};
+ghost use Rattle.mm_flight.specs.Opening.{offered_to, goes_to, offered, opened_with, AreNamedOnce, OffersAtMost};
 
 use mm_base::{NoMemory, StoreId};
 use mm_control::ControlTable;
@@ -24,7 +24,8 @@ fn goes_to(
     control: &ControlTable,
     packet: &BlockPacket,
 ) -> Result<Vec<StoreId>, NoMemory>
-    ensures { IfOk result (λ ids. ids.items ≡ goes_to control.now packet.now) }
+    ensures ids { IfOk result (λ ids. ids.items ≡ goes_to control.now packet.now) }
+    ensures once { IfOk result (λ ids. AreNamedOnce ids.items) }
 {
     let packet = packet.packet();
     if packet.is_telecommand() {
@@ -52,7 +53,8 @@ fn offer_each(
 
 // Offers a packet to each store that it goes to.
 fn offer(alloc: Global, memory: &mut Memory, packet: &BlockPacket) -> Result<(), NoMemory>
-    ensures { OnOk result (memory.new ≡ offered memory.old packet.now) }
+    ensures after { OnOk result (memory.new ≡ offered memory.old packet.now) }
+    ensures most { OnOk result (OffersAtMost 1 memory.old memory.new) }
 {
     let ids = goes_to(alloc, memory.control(), packet)?;
     offer_each(alloc, memory, ids.as_slice(), packet)
@@ -64,12 +66,11 @@ pub(crate) fn offer_all(
     memory: &mut Memory,
     packets: &[BlockPacket],
 ) -> Result<(), NoMemory>
-    ensures { OnOk result (memory.new ≡ opened_with memory.old packets.now) }
+    ensures after { OnOk result (memory.new ≡ opened_with memory.old packets.now) }
+    ensures most { OnOk result (OffersAtMost (length packets.now) memory.old memory.new) }
 {
-    let mut rest = packets;
-    while let [packet, after @ ..] = rest {
+    for packet in packets {
         offer(alloc, memory, packet)?;
-        rest = after;
     }
     Ok(())
 }

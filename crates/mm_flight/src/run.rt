@@ -2,7 +2,8 @@
 ghost use Rattle.std.specs.Prelude.{◌≡◌, ◌⊎◌, ◌<◌, ◌-◌, ◌^◌, [], All, IfOk};
 ghost use Rattle.mm_base.specs.Reading.{IfRefused};
 ghost use Rattle.mm_flight.specs.Judging.{IsRunFault};
-ghost use Rattle.mm_flight.specs.Opening.{opened_with};
+ghost use Rattle.mm_scripted.specs.Sources.{AreFew};
+ghost use Rattle.mm_flight.specs.Opening.{opened_with, AreOffered};
 ghost use Rattle.mm_flight.specs.Runs.{EndsEarly, EndsWhole, Runs};
 
 use crate::fault::Fault;
@@ -13,6 +14,7 @@ use mm_base::NoMemory;
 use mm_check::read_sheet;
 use mm_exec::{Flight, Halted, carry_out};
 use mm_plan::Plan;
+use mm_scripted::laws::constants_are;
 use std::alloc::Global;
 use std::sync::Wait;
 use std::thread::Threads;
@@ -25,6 +27,8 @@ fn carry<R: Threads + Wait + Sync>(
     plan: &Plan,
     ends: Ends,
 ) -> Result<Printed, NoMemory>
+    requires opened { AreOffered 0 ground.memory.stores }
+    requires few { AreFew ends.sources.items }
     requires unfailed { All (λ l. l.failed < 2 ^ 64 - 1) ends.links.items }
     ensures { IfOk result (λ p. EndsWhole ground.problem plan.now (opened_with ground.memory ends.opening.items) ends.sources.items ends.links.items [] p
         ⊎ EndsEarly ground.problem plan.now (opened_with ground.memory ends.opening.items) ends.sources.items ends.links.items [] p) }
@@ -38,6 +42,7 @@ fn carry<R: Threads + Wait + Sync>(
         sources,
         links,
     } = ends;
+    constants_are();
     offer_all(alloc, &mut memory, opening.as_slice())?;
     let spare = Spare::new(alloc)?;
     let sheet = Vec::new(alloc);

@@ -4,6 +4,7 @@ ghost use Rattle.mm_base.specs.Reading.{IfRefused};
 ghost use Rattle.mm_problem.specs.declared.fault.Fault.TheVariants as problem;
 ghost use Rattle.mm_scripted.specs.Sources.{AreFew};
 ghost use Rattle.mm_scripted.specs.declared.fault.Fault.TheVariants as ends;
+ghost use Rattle.mm_flight.specs.Opening.{AreOffered};
 ghost use Rattle.mm_flight.specs.Texts.{SaysGround, SaysEnds, IsGroundFault, IsEndsFault};
 
 use mm_memory::Memory;
@@ -45,6 +46,7 @@ pub(crate) fn read_ground(
     forecast: &[u8],
 ) -> Result<Ground, mm_problem::Fault>
     ensures found { IfOk result (λ g. SaysGround setup.now forecast.now g.problem g.memory) }
+    ensures opened { IfOk result (λ g. AreOffered 0 g.memory.stores) }
     ensures refused { IfRefused problem.NoMemory result (IsGroundFault setup.now forecast.now) }
 {
     let setup = Setup::read(alloc, setup)?;
