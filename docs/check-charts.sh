@@ -83,8 +83,7 @@ leave_picture() {
     --screenshot="$pictures/$(basename "$1").png" "file://$1/chart.svg" >"$work/errors" 2>&1 || fail "$1: no picture"
 }
 
-if [ ! -x "$built" ] || [ -n "$(find "$top/crates" -path '*/out' -prune -o -type f -newer "$built" \
-  \( -name '*.rt' -o -name '*.antt' \) -print -quit)" ]; then
+if ! "$top/mm_tool" --is-built; then
   echo "charts: the program is not built from these sources: ./mm_tool --help builds it"
   exit 1
 fi

@@ -23,7 +23,6 @@
 # The program must be built from the sources that are there: `./mm_tool --help` builds it. Prints one line where all is well.
 set -u
 top=$(cd "$(dirname "${BASH_SOURCE[0]}")/.." && pwd)
-built=$top/crates/mm_tool/out/mm_tool
 work=$(mktemp -d)
 trap 'rm -rf "$work"' EXIT
 blocks=0 failures=0 unbuilt=0
@@ -31,11 +30,6 @@ blocks=0 failures=0 unbuilt=0
 fail() {
   printf 'docs: %s\n' "$*"
   failures=$((failures + 1))
-}
-
-is_built() {
-  [ -x "$built" ] && [ -z "$(find "$top/crates" -path '*/out' -prune -o -type f -newer "$built" \
-    \( -name '*.rt' -o -name '*.antt' \) -print -quit)" ]
 }
 
 # The lines of $work/wanted without notes, in `wanted`.
@@ -371,7 +365,7 @@ check_refusal_tests() {
   done <"$work/met"
 }
 
-if is_built; then is_ready=1; else is_ready=0; fi
+if "$top/mm_tool" --is-built; then is_ready=1; else is_ready=0; fi
 for readme in "$top"/crates/*/README.md; do
   check_crate_names "$(basename "$(dirname "$readme")")"
 done

@@ -5,7 +5,7 @@ use Rattle.clap.specs.Matches.{first_value}
 use Rattle.clap.specs.Walk.{Row, Text, first_of, rows_of}
 use Rattle.clap.specs.declared.parser.matches.Found.{Found}
 use Rattle.clap.proofs.WalkLemmas.{first_value-rows}
-use Rattle.mm_command_line.specs.Commands.{names_read}
+use Rattle.mm_command_line.specs.Commands.{Form, line_of, names_read}
 
 names_then : (id : Text) (ids : List Text) (rows : List Row) (first : Option Text) → first ≡ first_of id rows
     → names_read (id ∷ ids) rows ≡ option_and_then (λ name. option_map (λ names. name ∷ names) (names_read ids rows)) first
@@ -54,3 +54,11 @@ module _ {T : Type 0} (say : T → List Text) (r : Option T) where
   -- nothing is read where a word is missing
   pub unread : (names : Option (List Text)) → r ≡ None → names ≡ None → option_map say r ≡ names
   unread names is none = ap (option_map say) is ∙ sym none
+
+  -- and so no words of a command
+  pub unspelled : (form : Form) (rows : List Row) → r ≡ None → None ≡ names_read form.1 rows → option_map say r ≡ line_of form rows
+  unspelled form rows is none = ap (option_map say) is ∙ ap (option_map (λ names. form.0 ∷ names)) none
+
+-- the words of a command, where all its files are there
+pub all_spelled : (form : Form) (rows : List Row) (names : List Text) → Some names ≡ names_read form.1 rows → Some (form.0 ∷ names) ≡ line_of form rows
+all_spelled form rows names is = ap (option_map (λ names. form.0 ∷ names)) is

@@ -1,94 +1,100 @@
 -- What is read spells the words, without the first `--`.
-use Rattle.std.proofs.Common.{◌≡◌, ◌∙◌, ◌⊎◌, ◌||◌, Bool, cond, true, false, true≢false, refl, sym, ap, subst, inl, inr, List, [], ◌∷◌, Option, Some, None, is_some, codes}
-use Rattle.std.specs.List.{find, fold, list_any}
-use Rattle.std.specs.Option.{option_map_or, unwrap_or}
+use Rattle.std.proofs.Common.{◌≡◌, ◌∙◌, ◌||◌, ◌++◌, ℕ, Bool, cond, map, not, true, false, true≢false, refl, sym, ap, subst, List, [], ◌∷◌, Option, Some, None, is_some, codes}
+use Rattle.std.specs.List.{find, fold, list_all, list_any}
+use Rattle.std.specs.Option.{option_map, option_map_or, unwrap_or}
 use Rattle.std.specs.Str.{bytes_eq}
 use Rattle.std.proofs.lemmas.Slice.Eq.{bytes_eq-Decides}
 use Rattle.clap.specs.Faults.{entered_fault, fault_of, is_simple_and_free, level_fault, turn_fault, walk_fault}
-use Rattle.clap.specs.Walk.{Text, Walk, answers_to, finished, has_long, has_short, idle, nothing_held, rows_after, subcommand_met, trailing, walk, walk_from, walked}
-use Rattle.clap.specs.Simple.{App, HasMatchesOf, Shape, entered, is_simple, label_of, subcommand_of, subcommand_rows_of}
+use Rattle.clap.specs.Walk.{Names, Rule, Text, Walk, answers_to, arg_by_long, arg_by_short, finished, has_long, has_short, idle, nothing_held, rows_after, subcommand_met, trailing, walk, walk_from, walked}
+use Rattle.clap.specs.Simple.{App, HasMatchesOf, entered, filled, filled_from, help_rule, index_after, is_simple, subcommand_of, subcommand_rows_of}
 use Rattle.clap.specs.declared.parser.matches.ArgMatches.{ArgMatches}
-use Rattle.mm_command_line.specs.Commands.{Form, ask, chart, check, fly, line_found, line_read, plan, run, tool}
+use Rattle.mm_command_line.specs.Commands.{Form, ask, chart, check, file_rule, fly, line_found, line_read, names_read, plan, run, tool}
 use Rattle.mm_command_line.specs.Lines.{before_dashes, is_flag, without_dashes}
-use Rattle.mm_command_line.proofs.Entering.{IsMet, built_tool, meets, rules, tool_enters, tool_simple, walk_is, words_known}
-use Rattle.mm_command_line.proofs.Exact.{HasOnlyHelp, all_placed, dashes, help, if_help, name, no_fault, or_else_none, turn, turn_of, walk_ends, walked_met}
-use Rattle.mm_command_line.proofs.Taking.{leaf, line_at}
+use Rattle.mm_command_line.proofs.Entering.{built_tool, rules, tool_enters, tool_simple, walk_is, words_known}
+use Rattle.mm_command_line.proofs.Exact.{HasOnlyHelp, IsHelp, all_placed, dashes, help, if_help, name, no_fault, or_else_none, turn, turn_of, walk_ends, walked_met}
+use Rattle.mm_command_line.proofs.Taking.{IsCommandOf, has_ask, has_chart, has_check, has_fly, has_plan, has_run, leaf, line_known, reads_ask, reads_check, reads_fly, reads_plan, reads_run, rows_found}
 use Rattle.mm_command_line.proofs.Walking.{IsReady}
 
--- ---- one command
+-- ---- how many words a command takes
 
 not_found : {X : Type 0} (x : X) → None ≡ Some x → ⊥
 not_found x e = true≢false (sym (ap is_some e))
 
-same_line : (a b : List Text) → Some a ≡ Some b → b ≡ a
-same_line a b e = sym (ap (λ o. unwrap_or o a) e)
+same_names : (a b : List Text) → Some a ≡ Some b → b ≡ a
+same_names a b e = sym (ap (λ o. unwrap_or o a) e)
 
--- the names found for a command are as many as it takes
-abbrev IsCounted : Form → Type 0
-IsCounted form = (names line : List Text) → all_placed (leaf form).rules (walk_from nothing_held) names ≡ true → line_at (leaf form) names ≡ Some line → line ≡ form.0 ∷ names
+-- where each word has a file, and each file a word, the words that are found are those that were put
+IsCounted : List Text → Type 0
+IsCounted ids = (word : Text) (names found : List Text) → all_placed (leaf (word, ids)).rules (walk_from nothing_held) names ≡ true
+    → names_read ids (rows_found (word, ids) names) ≡ Some found → found ≡ names
 
-counts_plan : IsCounted plan
-counts_plan [] line all e = absurd (not_found line e)
-counts_plan (a ∷ []) line all e = absurd (not_found line e)
-counts_plan (a ∷ b ∷ []) line all e = same_line _ line e
-counts_plan (a ∷ b ∷ x ∷ rest) line all e = absurd (true≢false (sym all))
+counts_plan : IsCounted plan.1
+unfolding IsCounted
+counts_plan word [] found all e = absurd (not_found found e)
+counts_plan word (a ∷ []) found all e = absurd (not_found found e)
+counts_plan word (a ∷ b ∷ []) found all e = same_names _ found (sym (reads_plan word a b).found ∙ e)
+counts_plan word (a ∷ b ∷ x ∷ rest) found all e = absurd (true≢false (sym all))
 
-counts_ask : IsCounted ask
-counts_ask [] line all e = absurd (not_found line e)
-counts_ask (a ∷ []) line all e = absurd (not_found line e)
-counts_ask (a ∷ b ∷ []) line all e = same_line _ line e
-counts_ask (a ∷ b ∷ x ∷ rest) line all e = absurd (true≢false (sym all))
+counts_ask : IsCounted ask.1
+unfolding IsCounted
+counts_ask word [] found all e = absurd (not_found found e)
+counts_ask word (a ∷ []) found all e = absurd (not_found found e)
+counts_ask word (a ∷ b ∷ []) found all e = same_names _ found (sym (reads_ask word a b).found ∙ e)
+counts_ask word (a ∷ b ∷ x ∷ rest) found all e = absurd (true≢false (sym all))
 
-counts_check : IsCounted check
-counts_check [] line all e = absurd (not_found line e)
-counts_check (a ∷ []) line all e = absurd (not_found line e)
-counts_check (a ∷ b ∷ []) line all e = absurd (not_found line e)
-counts_check (a ∷ b ∷ c ∷ []) line all e = same_line _ line e
-counts_check (a ∷ b ∷ c ∷ x ∷ rest) line all e = absurd (true≢false (sym all))
+counts_check : IsCounted check.1
+unfolding IsCounted
+counts_check word [] found all e = absurd (not_found found e)
+counts_check word (a ∷ []) found all e = absurd (not_found found e)
+counts_check word (a ∷ b ∷ []) found all e = absurd (not_found found e)
+counts_check word (a ∷ b ∷ c ∷ []) found all e = same_names _ found (sym (reads_check word a b c).found ∙ e)
+counts_check word (a ∷ b ∷ c ∷ x ∷ rest) found all e = absurd (true≢false (sym all))
 
-counts_chart : IsCounted chart
-counts_chart [] line all e = absurd (not_found line e)
-counts_chart (a ∷ []) line all e = absurd (not_found line e)
-counts_chart (a ∷ b ∷ []) line all e = absurd (not_found line e)
-counts_chart (a ∷ b ∷ c ∷ []) line all e = same_line _ line e
-counts_chart (a ∷ b ∷ c ∷ x ∷ rest) line all e = absurd (true≢false (sym all))
+counts_fly : IsCounted fly.1
+unfolding IsCounted
+counts_fly word [] found all e = absurd (not_found found e)
+counts_fly word (a ∷ []) found all e = absurd (not_found found e)
+counts_fly word (a ∷ b ∷ []) found all e = absurd (not_found found e)
+counts_fly word (a ∷ b ∷ c ∷ []) found all e = absurd (not_found found e)
+counts_fly word (a ∷ b ∷ c ∷ d ∷ []) found all e = same_names _ found (sym (reads_fly word a b c d).found ∙ e)
+counts_fly word (a ∷ b ∷ c ∷ d ∷ x ∷ rest) found all e = absurd (true≢false (sym all))
 
-counts_fly : IsCounted fly
-counts_fly [] line all e = absurd (not_found line e)
-counts_fly (a ∷ []) line all e = absurd (not_found line e)
-counts_fly (a ∷ b ∷ []) line all e = absurd (not_found line e)
-counts_fly (a ∷ b ∷ c ∷ []) line all e = absurd (not_found line e)
-counts_fly (a ∷ b ∷ c ∷ d ∷ []) line all e = same_line _ line e
-counts_fly (a ∷ b ∷ c ∷ d ∷ x ∷ rest) line all e = absurd (true≢false (sym all))
+counts_run : IsCounted run.1
+unfolding IsCounted
+counts_run word [] found all e = absurd (not_found found e)
+counts_run word (a ∷ []) found all e = absurd (not_found found e)
+counts_run word (a ∷ b ∷ []) found all e = absurd (not_found found e)
+counts_run word (a ∷ b ∷ c ∷ []) found all e = absurd (not_found found e)
+counts_run word (a ∷ b ∷ c ∷ d ∷ []) found all e = absurd (not_found found e)
+counts_run word (a ∷ b ∷ c ∷ d ∷ f ∷ []) found all e = same_names _ found (sym (reads_run word a b c d f).found ∙ e)
+counts_run word (a ∷ b ∷ c ∷ d ∷ f ∷ x ∷ rest) found all e = absurd (true≢false (sym all))
 
-counts_run : IsCounted run
-counts_run [] line all e = absurd (not_found line e)
-counts_run (a ∷ []) line all e = absurd (not_found line e)
-counts_run (a ∷ b ∷ []) line all e = absurd (not_found line e)
-counts_run (a ∷ b ∷ c ∷ []) line all e = absurd (not_found line e)
-counts_run (a ∷ b ∷ c ∷ d ∷ []) line all e = absurd (not_found line e)
-counts_run (a ∷ b ∷ c ∷ d ∷ f ∷ []) line all e = same_line _ line e
-counts_run (a ∷ b ∷ c ∷ d ∷ f ∷ x ∷ rest) line all e = absurd (true≢false (sym all))
+-- a line that was read has the word, and the names that were found
+read_line : (word : Text) (names : Option (List Text)) (line : List Text) → option_map (λ names. word ∷ names) names ≡ Some line → (found : List Text) × (names ≡ Some found) × (line ≡ word ∷ found)
+read_line word None line e = absurd (not_found line e)
+read_line word (Some found) line e = (found, refl, same_names _ line e)
 
 -- ---- the flags of a command
 
-only_plan : HasOnlyHelp (leaf plan).rules
-only_plan = record { long = λ word. if_help (has_long help word); short = λ x. if_help (has_short help x); untrailing = refl }
+-- the rules of a command, its files numbered from i
+abbrev rules_from : ℕ → List Text → List Rule
+rules_from i ids = filled_from i (map file_rule ids ++ help_rule ∷ [])
 
-only_check : HasOnlyHelp (leaf check).rules
-only_check = record { long = λ word. if_help (has_long help word); short = λ x. if_help (has_short help x); untrailing = refl }
+only_long : (i : ℕ) (ids : List Text) (flag : Text) → IsHelp (arg_by_long (rules_from i ids) flag)
+only_long i [] flag = if_help (has_long help flag)
+only_long i (id ∷ ids) flag = only_long (index_after i (filled (file_rule id))) ids flag
 
-only_chart : HasOnlyHelp (leaf chart).rules
-only_chart = record { long = λ word. if_help (has_long help word); short = λ x. if_help (has_short help x); untrailing = refl }
+only_short : (i : ℕ) (ids : List Text) (x : ℕ) → IsHelp (arg_by_short (rules_from i ids) x)
+only_short i [] x = if_help (has_short help x)
+only_short i (id ∷ ids) x = only_short (index_after i (filled (file_rule id))) ids x
 
-only_run : HasOnlyHelp (leaf run).rules
-only_run = record { long = λ word. if_help (has_long help word); short = λ x. if_help (has_short help x); untrailing = refl }
+none_trails : (i : ℕ) (ids : List Text) → list_all (λ a. not a.trailing_var_arg) (rules_from i ids) ≡ true
+none_trails i [] = refl
+none_trails i (id ∷ ids) = none_trails (index_after i (filled (file_rule id))) ids
 
-only_fly : HasOnlyHelp (leaf fly).rules
-only_fly = record { long = λ word. if_help (has_long help word); short = λ x. if_help (has_short help x); untrailing = refl }
-
-only_ask : HasOnlyHelp (leaf ask).rules
-only_ask = record { long = λ word. if_help (has_long help word); short = λ x. if_help (has_short help x); untrailing = refl }
+-- the only flag of a command is its help
+only_help : (form : Form) → HasOnlyHelp (leaf form).rules
+only_help form = record { long = only_long 1 form.1; short = only_short 1 form.1; untrailing = none_trails 1 form.1 }
 
 only_top : HasOnlyHelp rules
 only_top = record { long = λ word. if_help (has_long help word); short = λ x. if_help (has_short help x); untrailing = refl }
@@ -112,30 +118,34 @@ pub record IsSpelled (words line : List Text) : Type 0 where
 IsExact : List Text → Text → Type 0
 IsExact files word = (line : List Text) → IsRead (word ∷ files) line → IsSpelled (word ∷ files) line
 
-module _ (form : Form) (met : IsMet form.0) (only : HasOnlyHelp (leaf form).rules) (counts : IsCounted form)
-    (is_sub : find (λ (s : Shape). answers_to form.0 (label_of s)) built_tool.subs ≡ Some (leaf form)) (named : (leaf form).name ≡ form.0)
-    (files line : List Text) (read : IsRead (form.0 ∷ files) line) where
+module _ (form : Form) (has : IsCommandOf form) (counts : IsCounted form.1) (files line : List Text) (read : IsRead (form.0 ∷ files) line) where
   no_fault_below : walk_fault (leaf form) [] (walk_from nothing_held) files ≡ []
   no_fault_below =
-      let at_stop : entered_fault built_tool (Some (form.0, files)) ≡ [] = sym (ap (λ (w : Walk). entered_fault built_tool w.stopped) (walk_is form.0 files met)) ∙ read.below in
-      let at_leaf : level_fault (leaf form) [] nothing_held files false [] ≡ [] = sym (ap (λ o. option_map_or (λ s. level_fault s [] nothing_held files false []) o []) is_sub) ∙ at_stop in
+      let at_stop : entered_fault built_tool (Some (form.0, files)) ≡ [] = sym (ap (λ (w : Walk). entered_fault built_tool w.stopped) (walk_is form.0 files has.met)) ∙ read.below in
+      let at_leaf : level_fault (leaf form) [] nothing_held files false [] ≡ [] = sym (ap (λ o. option_map_or (λ s. level_fault s [] nothing_held files false []) o []) has.entered) ∙ at_stop in
       (or_else_none (walk_fault (leaf form) [] (walk_from nothing_held) files) _ at_leaf).0
 
   line_of_form : (line ≡ form.0 ∷ without_dashes files) × (list_any is_flag (before_dashes files) ≡ false)
+  unfolding IsCounted
   line_of_form =
-      let ends = walk_ends (leaf form) only (walk_from nothing_held) files at_start refl no_fault_below in
-      let at_leaf : line_read (leaf form).name (rows_after (leaf form).rules [] files) ≡ Some line =
-      sym (ap line_found (tool_enters form.0 files (leaf form) met is_sub)) ∙ read.found in
-      let placed : line_at (leaf form) (without_dashes files) ≡ Some line =
-      sym (ap (λ h. line_read (leaf form).name (finished (leaf form).rules h)) ends.end) ∙ at_leaf in
-      (counts (without_dashes files) line ends.all placed, ends.unflagged)
+      let names = without_dashes files in
+      let ends = walk_ends (leaf form) (only_help form) (walk_from nothing_held) files at_start refl no_fault_below in
+      let at_leaf : line_read form.0 (rows_after (leaf form).rules [] files) ≡ Some line =
+      sym (ap line_found (tool_enters form.0 files (leaf form) has.met has.entered)) ∙ read.found in
+      let placed : line_read form.0 (rows_found form names) ≡ Some line = sym (ap (λ h. line_read form.0 (finished (leaf form).rules h)) ends.end) ∙ at_leaf in
+      let told = read_line form.0 (names_read form.1 (rows_found form names)) line (sym (line_known form (rows_found form names) has) ∙ placed) in
+      (told.2 ∙ ap (λ found. form.0 ∷ found) (counts form.0 names told.0 ends.all told.1), ends.unflagged)
 
   -- of a command, whose word is no `--`
-  spelled_by : bytes_eq form.0 (codes "--") ≡ false → is_flag form.0 ≡ false → IsSpelled (form.0 ∷ files) line
-  spelled_by plain unflagged = record {
-    same = line_of_form.0 ∙ sym (ap (λ b. cond b files (form.0 ∷ without_dashes files)) plain);
-    unflagged = ap (λ b. list_any is_flag (cond b [] (form.0 ∷ before_dashes files))) plain ∙ ap (λ b. b || list_any is_flag (before_dashes files)) unflagged ∙ line_of_form.1;
+  spelled_by : IsSpelled (form.0 ∷ files) line
+  spelled_by = record {
+    same = line_of_form.0 ∙ sym (ap (λ b. cond b files (form.0 ∷ without_dashes files)) has.plain);
+    unflagged = ap (λ b. list_any is_flag (cond b [] (form.0 ∷ before_dashes files))) has.plain ∙ ap (λ b. b || list_any is_flag (before_dashes files)) has.unflagged ∙ line_of_form.1;
   }
+
+exact_command : (form : Form) → IsCommandOf form → IsCounted form.1 → (files : List Text) → IsExact files form.0
+unfolding IsExact
+exact_command form has counts files line read = spelled_by form has counts files line read
 
 -- help is no task
 exact_help : (files : List Text) → IsExact files (codes "help")
@@ -179,33 +189,47 @@ exact_unknown word files none line read =
     let nowhere : line_found (subcommand_of tool (word ∷ files)) ≡ None = ap (λ stop. line_found (entered built_tool stop)) (stays_above word files none read.above) in
     absurd (not_found line (sym nowhere ∙ read.found))
 
--- a word is a name or another
-decide : (known word : Text) → (known ≡ word) ⊎ (bytes_eq known word ≡ false)
-decide known word = go (bytes_eq known word) refl
+-- what holds of each of some words, and of a word that is none of them, holds of any word
+abbrev Each : (Text → Type 0) → List Text → Type 0
+Each P [] = Unit {0}
+Each P (first ∷ rest) = P first × Each P rest
+
+abbrev labels : List Text → Names
+labels = map (λ known. (known, []))
+
+named_or_not : (P : Text → Type 0) (words : List Text) (word : Text) → Each P words → (find (answers_to word) (labels words) ≡ None → P word) → P word
+named_or_not P [] word each other = other refl
+named_or_not P (first ∷ rest) word each other = go (bytes_eq first word) refl (named_or_not P rest word each.1)
   where
-    go : (b : Bool) → bytes_eq known word ≡ b → (known ≡ word) ⊎ (bytes_eq known word ≡ false)
-    go true is = inl ((bytes_eq-Decides known word).0 is)
-    go false is = inr is
+    go : (b : Bool) → bytes_eq first word ≡ b → ((find (answers_to word) (labels rest) ≡ None → P word) → P word) → P word
+    go true is later = subst P ((bytes_eq-Decides first word).0 is) each.0
+    go false is later = later (λ none. other (ap (λ b. cond (b || false) (Some (first, [])) (find (answers_to word) (labels rest))) is ∙ none))
+
+known_names : List Text
+known_names = plan.0 ∷ check.0 ∷ chart.0 ∷ run.0 ∷ fly.0 ∷ ask.0 ∷ codes "help" ∷ []
 
 exact_word : (word : Text) (files : List Text) → IsExact files word
-unfolding IsExact
-exact_word word files =
-    go (decide plan.0 word) (decide check.0 word) (decide chart.0 word) (decide run.0 word) (decide fly.0 word) (decide ask.0 word) (decide (codes "help") word)
-  where
-    Is : Text → Type 0
-    Is known = (known ≡ word) ⊎ (bytes_eq known word ≡ false)
-
-    go : (plan.0 ≡ word) ⊎ (bytes_eq plan.0 word ≡ false) → (check.0 ≡ word) ⊎ (bytes_eq check.0 word ≡ false) → (chart.0 ≡ word) ⊎ (bytes_eq chart.0 word ≡ false)
-        → (run.0 ≡ word) ⊎ (bytes_eq run.0 word ≡ false) → (fly.0 ≡ word) ⊎ (bytes_eq fly.0 word ≡ false) → (ask.0 ≡ word) ⊎ (bytes_eq ask.0 word ≡ false)
-        → (codes "help" ≡ word) ⊎ (bytes_eq (codes "help") word ≡ false) → IsExact files word
-    go (inl is) b c d e f g = subst (IsExact files) is (λ line read. spelled_by plan meets.0 only_plan counts_plan refl refl files line read refl refl)
-    go (inr a) (inl is) c d e f g = subst (IsExact files) is (λ line read. spelled_by check meets.1 only_check counts_check refl refl files line read refl refl)
-    go (inr a) (inr b) (inl is) d e f g = subst (IsExact files) is (λ line read. spelled_by chart meets.2 only_chart counts_chart refl refl files line read refl refl)
-    go (inr a) (inr b) (inr c) (inl is) e f g = subst (IsExact files) is (λ line read. spelled_by run meets.3 only_run counts_run refl refl files line read refl refl)
-    go (inr a) (inr b) (inr c) (inr d) (inl is) f g = subst (IsExact files) is (λ line read. spelled_by fly meets.4 only_fly counts_fly refl refl files line read refl refl)
-    go (inr a) (inr b) (inr c) (inr d) (inr e) (inl is) g = subst (IsExact files) is (λ line read. spelled_by ask meets.5 only_ask counts_ask refl refl files line read refl refl)
-    go (inr a) (inr b) (inr c) (inr d) (inr e) (inr f) (inl is) = subst (IsExact files) is (exact_help files)
-    go (inr a) (inr b) (inr c) (inr d) (inr e) (inr f) (inr g) = exact_unknown word files (rw (a, b, c, d, e, f, g) refl)
+unfolding known_names
+exact_word word files = named_or_not (IsExact files) known_names word (
+  exact_command plan has_plan counts_plan files,
+  (
+    exact_command check has_check counts_check files,
+    (
+      exact_command chart has_chart counts_check files,
+      (
+        exact_command run has_run counts_run files,
+        (
+          exact_command fly has_fly counts_fly files,
+          (
+            exact_command ask has_ask counts_ask files,
+            (exact_help files, tt),
+          ),
+        ),
+      ),
+    ),
+  ),
+)
+    (λ none. exact_unknown word files (ap (option_map (λ (label : Text × List Text). label.0)) none))
 
 exact : (words line : List Text) → IsRead words line → IsSpelled words line
 unfolding IsExact

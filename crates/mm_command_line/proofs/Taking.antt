@@ -1,13 +1,15 @@
 -- Words that spell a task are taken, and what is found for them spells that task.
-use Rattle.std.proofs.Common.{◌≡◌, ◌∙◌, true, refl, sym, ap, subst, drop, List, [], ◌∷◌, Option, Some, None}
+use Rattle.std.proofs.Common.{◌≡◌, ◌∙◌, true, false, refl, sym, ap, subst, drop, List, [], ◌∷◌, Option, Some, None, codes}
 use Rattle.std.specs.Borrow.{Bor}
 use Rattle.std.specs.List.{All, find}
-use Rattle.clap.specs.Walk.{Text, answers_to, finished}
+use Rattle.std.specs.Option.{option_and_then, option_map}
+use Rattle.std.specs.Str.{bytes_eq}
+use Rattle.clap.specs.Walk.{Row, Text, answers_to, finished}
 use Rattle.clap.specs.Simple.{App, HasMatchesOf, Shape, is_simple, subcommand_rows_of, built_leaf, inherited, label_of, subcommand_of}
 use Rattle.clap.specs.Takes.{takes}
 use Rattle.clap.specs.declared.parser.matches.ArgMatches.{ArgMatches}
-use Rattle.mm_command_line.specs.Commands.{Form, app_by, ask, chart, check, fly, line_found, line_read, plan, run, tool}
-use Rattle.mm_command_line.specs.Lines.{IsFileName, IsTaskLine, flight_spelling, spelling}
+use Rattle.mm_command_line.specs.Commands.{Form, app_by, ask, chart, check, commands, fly, line_found, line_of, line_read, names_read, plan, run, tool}
+use Rattle.mm_command_line.specs.Lines.{IsFileName, IsTaskLine, flight_spelling, is_flag, spelling}
 use Rattle.mm_command_line.specs.declared.task.Task.{Task}
 use Rattle.mm_command_line.specs.declared.task.Task.TheVariants.{Plan, Check, Chart, Fly, Ask}
 use Rattle.mm_command_line.proofs.Entering.{IsMet, built_tool, meets, tool_enters, tool_simple, tool_takes}
@@ -22,49 +24,81 @@ pub record IsTaken (words : List Text) : Type 0 where
 abbrev pub leaf : Form → Shape
 leaf form = built_leaf (inherited built_tool.top (app_by form).top)
 
-abbrev pub line_at : Shape → List Text → Option (List Text)
-line_at s files = line_read s.name (finished s.rules (end_of s files))
+-- the program has the command, under a word that is no flag
+pub record IsCommandOf (form : Form) : Type 0 where
+  pub met : IsMet form.0
+  pub entered : find (λ (s : Shape). answers_to form.0 (label_of s)) built_tool.subs ≡ Some (leaf form)
+  pub known : find (λ (f : Form). bytes_eq f.0 form.0) commands ≡ Some form
+  pub plain : bytes_eq form.0 (codes "--") ≡ false
+  pub unflagged : is_flag form.0 ≡ false
 
--- a line of a command that is met
-line_taken : (word : Text) (files : List Text) (s : Shape) → IsMet word → find (λ (s : Shape). answers_to word (label_of s)) built_tool.subs ≡ Some s
-    → All IsFileName files → level_places s files ≡ true → line_at s files ≡ Some (word ∷ files) → IsTaken (word ∷ files)
-line_taken word files s met found names places line = record {
-  takes_all = tool_takes word files s met found (level_passing s files names ∙ places);
-  finds_all = ap line_found (tool_enters word files s met found)
-      ∙ ap (line_read s.name) (rows_placed s files names) ∙ line;
+pub has_plan : IsCommandOf plan
+has_plan = record { met = meets.0; entered = refl; known = refl; plain = refl; unflagged = refl }
+
+pub has_check : IsCommandOf check
+has_check = record { met = meets.1; entered = refl; known = refl; plain = refl; unflagged = refl }
+
+pub has_chart : IsCommandOf chart
+has_chart = record { met = meets.2; entered = refl; known = refl; plain = refl; unflagged = refl }
+
+pub has_run : IsCommandOf run
+has_run = record { met = meets.3; entered = refl; known = refl; plain = refl; unflagged = refl }
+
+pub has_fly : IsCommandOf fly
+has_fly = record { met = meets.4; entered = refl; known = refl; plain = refl; unflagged = refl }
+
+pub has_ask : IsCommandOf ask
+has_ask = record { met = meets.5; entered = refl; known = refl; plain = refl; unflagged = refl }
+
+-- what is found for words that are put to the files of a command
+abbrev pub rows_found : Form → List Text → List Row
+rows_found form files = finished (leaf form).rules (end_of (leaf form) files)
+
+-- what is read of it is the line of that command
+pub line_known : (form : Form) (rows : List Row) → IsCommandOf form → line_read form.0 rows ≡ line_of form rows
+line_known form rows has = ap (option_and_then (λ f. line_of f rows)) has.known
+
+-- a command takes as many words as it has files, and each is found for its file
+pub record Reads (form : Form) (files : List Text) : Type 0 where
+  pub passes : level_places (leaf form) files ≡ true
+  pub found : names_read form.1 (rows_found form files) ≡ Some files
+
+pub reads_plan : (word setup forecast : Text) → Reads (word, plan.1) (setup ∷ forecast ∷ [])
+reads_plan word setup forecast = record { passes = refl; found = refl }
+
+pub reads_check : (word setup forecast by : Text) → Reads (word, check.1) (setup ∷ forecast ∷ by ∷ [])
+reads_check word setup forecast by = record { passes = refl; found = refl }
+
+pub reads_run : (word setup forecast by sources links : Text) → Reads (word, run.1) (setup ∷ forecast ∷ by ∷ sources ∷ links ∷ [])
+reads_run word setup forecast by sources links = record { passes = refl; found = refl }
+
+pub reads_fly : (word setup forecast sources links : Text) → Reads (word, fly.1) (setup ∷ forecast ∷ sources ∷ links ∷ [])
+reads_fly word setup forecast sources links = record { passes = refl; found = refl }
+
+pub reads_ask : (word setup requests : Text) → Reads (word, ask.1) (setup ∷ requests ∷ [])
+reads_ask word setup requests = record { passes = refl; found = refl }
+
+-- a line of a command is taken
+line_taken : (form : Form) (files : List Text) → IsCommandOf form → Reads form files → All IsFileName files → IsTaken (form.0 ∷ files)
+line_taken form files has reads names = record {
+  takes_all = tool_takes form.0 files (leaf form) has.met has.entered (level_passing (leaf form) files names ∙ reads.passes);
+  finds_all = ap line_found (tool_enters form.0 files (leaf form) has.met has.entered)
+      ∙ ap (line_read form.0) (rows_placed (leaf form) files names)
+      ∙ line_known form (rows_found form files) has
+      ∙ ap (option_map (λ names. form.0 ∷ names)) reads.found;
 }
-
-taken_plan : (setup forecast : Text) → All IsFileName (setup ∷ forecast ∷ []) → IsTaken (plan.0 ∷ setup ∷ forecast ∷ [])
-taken_plan setup forecast names = line_taken plan.0 _ (leaf plan) meets.0 refl names refl refl
-
-taken_check : (setup forecast plan : Text) → All IsFileName (setup ∷ forecast ∷ plan ∷ []) → IsTaken (check.0 ∷ setup ∷ forecast ∷ plan ∷ [])
-taken_check setup forecast by names = line_taken check.0 _ (leaf check) meets.1 refl names refl refl
-
-taken_chart : (setup forecast plan : Text) → All IsFileName (setup ∷ forecast ∷ plan ∷ []) → IsTaken (chart.0 ∷ setup ∷ forecast ∷ plan ∷ [])
-taken_chart setup forecast by names = line_taken chart.0 _ (leaf chart) meets.2 refl names refl refl
-
-taken_run : (setup forecast plan sources links : Text) → All IsFileName (setup ∷ forecast ∷ plan ∷ sources ∷ links ∷ [])
-    → IsTaken (run.0 ∷ setup ∷ forecast ∷ plan ∷ sources ∷ links ∷ [])
-taken_run setup forecast by sources links names = line_taken run.0 _ (leaf run) meets.3 refl names refl refl
-
-taken_fly : (setup forecast sources links : Text) → All IsFileName (setup ∷ forecast ∷ sources ∷ links ∷ [])
-    → IsTaken (fly.0 ∷ setup ∷ forecast ∷ sources ∷ links ∷ [])
-taken_fly setup forecast sources links names = line_taken fly.0 _ (leaf fly) meets.4 refl names refl refl
-
-taken_ask : (setup requests : Text) → All IsFileName (setup ∷ requests ∷ []) → IsTaken (ask.0 ∷ setup ∷ requests ∷ [])
-taken_ask setup requests names = line_taken ask.0 _ (leaf ask) meets.5 refl names refl refl
 
 taken_flight : (setup forecast sources links : Text) (plan : Option (Bor Text)) → All IsFileName (drop 1 (flight_spelling setup forecast sources links plan))
     → IsTaken (flight_spelling setup forecast sources links plan)
-taken_flight setup forecast sources links None names = taken_fly setup forecast sources links names
-taken_flight setup forecast sources links (Some by) names = taken_run setup forecast by.now sources links names
+taken_flight setup forecast sources links None names = line_taken fly _ has_fly (reads_fly fly.0 setup forecast sources links) names
+taken_flight setup forecast sources links (Some by) names = line_taken run _ has_run (reads_run run.0 setup forecast by.now sources links) names
 
 taken_task : (task : Task) → All IsFileName (drop 1 (spelling task)) → IsTaken (spelling task)
-taken_task (Plan setup forecast) names = taken_plan setup.now forecast.now names
-taken_task (Check files) names = taken_check files.setup.now files.forecast.now files.plan.now names
-taken_task (Chart files) names = taken_chart files.setup.now files.forecast.now files.plan.now names
+taken_task (Plan setup forecast) names = line_taken plan _ has_plan (reads_plan plan.0 setup.now forecast.now) names
+taken_task (Check files) names = line_taken check _ has_check (reads_check check.0 files.setup.now files.forecast.now files.plan.now) names
+taken_task (Chart files) names = line_taken chart _ has_chart (reads_check chart.0 files.setup.now files.forecast.now files.plan.now) names
 taken_task (Fly files) names = taken_flight files.setup.now files.forecast.now files.sources.now files.links.now files.plan names
-taken_task (Ask setup requests) names = taken_ask setup.now requests.now names
+taken_task (Ask setup requests) names = line_taken ask _ has_ask (reads_ask ask.0 setup.now requests.now) names
 
 -- a line of a task is taken
 pub taken : (words : List Text) → IsTaskLine words → IsTaken words
