@@ -15,10 +15,12 @@ use std::thread::Threads;
 
 // The sets of packets sent, a bit for each sequence count: none, and packets 1, 2, 4 and 5.
 const NONE: u32 = 0;
+
 const SENT: u32 = 0b110110;
 
 // How many packets the stores hold, and how many of each were deleted: before the dump, and after it.
 const BEFORE: [(u32, u64); 2] = [(3, 0), (2, 0)];
+
 const AFTER: [(u32, u64); 2] = [(1, 2), (0, 2)];
 
 // A store that holds the packets of these sequence counts, where there is memory for them.
@@ -58,10 +60,10 @@ fn are_idle(stores: &[Held]) -> bool
 // Whether the stores hold this many packets, and this many of each were deleted.
 fn have(stores: &[Held], wanted: &[(u32, u64); 2]) -> bool {
     stores.len() == 2
-        && stores
-            .iter()
-            .zip(wanted)
-            .all(|(held, want)| (held.state.store().len(), held.state.deleted()) == *want)
+        && stores.iter().zip(wanted).all(|(held, want)| (
+            held.state.store().len(),
+            held.state.deleted(),
+        ) == *want)
 }
 
 // Whether the stores hold this many packets, nothing of them is lost, and the links have sent these packets, each once.

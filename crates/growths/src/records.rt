@@ -29,6 +29,7 @@ type Counts = (u64, u64, u32);
 
 // Before the step, and after it.
 const BEFORE: [Counts; 2] = [(0, 0, 0), (0, 0, 0)];
+
 const AFTER: [Counts; 2] = [(6, 4, 2), (6, 2, 4)];
 
 fn counts(held: &Held) -> Counts {
@@ -40,7 +41,10 @@ fn counts(held: &Held) -> Counts {
 fn have(memory: &Memory, wanted: &[Counts; 2]) -> bool {
     let stores = memory.stores();
     stores.len() == 2
-        && stores.iter().zip(wanted).all(|(held, want)| counts(held) == *want)
+        && stores
+            .iter()
+            .zip(wanted)
+            .all(|(held, want)| counts(held) == *want)
         && stores.iter().all(|held| held.state.storage() && held.state.retrieval().is_none())
 }
 
@@ -53,10 +57,8 @@ fn have_left(sources: &[ScriptedSource], left: u32) -> bool {
 fn is_told(step: &RecordedStep<ScriptedSource>) -> bool {
     let rows = step.recorded.as_slice();
     rows.len() == 2
-        && rows
-            .iter()
-            .zip(&AFTER)
-            .all(|(row, (came, lost, _))| row.came == *came && row.lost == *lost)
+        && rows.iter().zip(&AFTER).all(|(row, (came, lost, _))| row.came == *came
+            && row.lost == *lost)
 }
 
 // What a step left that was recorded.

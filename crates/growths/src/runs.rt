@@ -153,7 +153,10 @@ fn halted_for_want_of_memory(
     Met::Halted(step)
         .provided(left.is_kept(packets), "a packet lost or invented")
         .provided(matches!(report, Met::Whole), "another report")
-        .provided(end.spent == 0, "drawn from the window of a step that was not dumped")
+        .provided(
+            end.spent == 0,
+            "drawn from the window of a step that was not dumped",
+        )
         .provided(
             u128::from(left.sent) == end.report.totals().dumped,
             "another number sent",
@@ -171,12 +174,7 @@ fn left_by(memory: &Memory, sources: &mut [ScriptedSource], links: &[Wire]) -> O
 }
 
 // What came of a run of the first plan, with eleven packets in place of ten.
-fn carried<R: Threads + Wait + Sync>(
-    rt: &R,
-    alloc: Global,
-    stage: Stage,
-    sheet: &Sheet,
-) -> Met {
+fn carried<R: Threads + Wait + Sync>(rt: &R, alloc: Global, stage: Stage, sheet: &Sheet) -> Met {
     let Stage {
         mut memory,
         problem,

@@ -3,7 +3,8 @@ ghost use Rattle.std.specs.Prelude.{◌≡◌};
 ghost use Rattle.mm_shared.specs.Views.{new_ports};
 
 use crate::calls::{
-    Ask, CALLS, Call, Told, new_state, packet_for, told_of, told_of_delete, told_of_next, told_of_offer,
+    Ask, CALLS, Call, Told, new_state, packet_for, told_of, told_of_delete, told_of_next,
+    told_of_offer,
 };
 use crate::met::Met;
 use mm_base::NoMemory;

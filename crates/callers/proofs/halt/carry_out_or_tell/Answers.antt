@@ -9,8 +9,8 @@ use Rattle.callers.proofs.Resending.{goes_again}
 use Rattle.callers.proofs.halt.carry_out_or_tell.Goals as goal
 
 pub returns : goal.returns
-returns c = record {
+returns c after = record {
   again = err_follows _
-      (λ (halted : Halted Burst Downlink). (step : ℕ) → halted.cause ≡ LinkFailed step → GoesOutAgain c.args.links.items halted.links.items c.carry_out.new.memory)
-      c.carry_out.result c.carry_out.ensures.halted (λ halted was step is. goes_again _ _ _ _ _ _ halted step is was);
+      (λ (halted : Halted Burst Downlink). (step : ℕ) → halted.cause ≡ LinkFailed step → GoesOutAgain after.args.links.items halted.links.items after.carry_out.new.memory)
+      after.carry_out.result after.carry_out.ensures.halted (λ halted was step is. goes_again _ _ _ _ _ _ halted step is was);
 }
