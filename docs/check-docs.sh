@@ -17,7 +17,7 @@
 # - docs/DEFINITIONS.md and docs/EXAMPLES.md are what docs/definitions makes of the sources;
 # - each function of a picture of docs/TOUR.md stands in the file that stands beside it;
 # - each refusal of mm_base's table has one row in the tables of refusals of docs/FORMATS.md, with its number, its name and the
-#   words of mm_words; 'Where each refusal is met' has a row for each, and the test and the crate that it names are there.
+#   words of mm_words, and what `check` finds has a row with its words; 'Where each refusal is met' has a row for each, and the test and the crate that it names are there.
 # The commands of one document are run one after another in one new folder, in which the top of the repository is seen, but not its
 # folder out.
 # The program must be built from the sources that are there: `./mm_tool --help` builds it. Prints one line where all is well.
@@ -322,11 +322,11 @@ refusals() {
 words() {
   awk '
     /^fn / { table = $2; sub(/\(.*/, "", table); name = "" }
-    /^ *Refusal::[A-Za-z0-9]+ =>/ { name = $1; sub(/.*::/, "", name) }
+    /^ *(Refusal|Finding)::[A-Za-z0-9]+ =>/ { name = $1; sub(/.*::/, "", name) }
     name != "" && match($0, /".*"/) {
       printf "%s\t%s\t%s\n", table, name, substr($0, RSTART + 1, RLENGTH - 2)
       name = ""
-    }' "$top/crates/mm_words/src/words.rt"
+    }' "$top/crates/mm_words/src/words.rt" "$top/crates/mm_words/src/findings.rt"
 }
 
 # The words that a table of mm_words has for a refusal.
@@ -345,6 +345,15 @@ check_refusals() {
     [ "${row#*\` }" = "| $(words_of expected "$case") | $(words_of advice "$case") |" ] ||
       fail "docs/FORMATS.md: the row of $number $name has other words than mm_words"
   done < <(refusals)
+}
+
+# The table of what `check` finds in docs/FORMATS.md: a row with the words of each finding.
+check_findings() {
+  local case
+  while read -r case; do
+    grep -qF -- "| $(words_of found_expected "$case") | $(words_of found_advice "$case") |" "$top/docs/FORMATS.md" ||
+      fail "docs/FORMATS.md: no row has the words of mm_words for $case"
+  done < <(awk -F '\t' '$1 == "found_expected" { print $2 }' "$work/words")
 }
 
 # The tests that docs/FORMATS.md names for refusals: at least one for each, in a crate whose sources name the refusal.
@@ -376,6 +385,7 @@ check_edits
 check_made_pages
 check_tour
 check_refusals
+check_findings
 check_refusal_tests
 while IFS= read -r document; do
   check_paths

@@ -20,7 +20,7 @@ use Rattle.mm_system.specs.Contents.{Contents, MayBe}
 use Rattle.mm_system.specs.declared.status.Status.{Status}
 use Rattle.mm_system.specs.declared.status.Status.TheVariants.{Done, Refused}
 use Rattle.mm_tasks.specs.declared.answers.Answer.{Answer}
-use Rattle.mm_tasks.specs.declared.answers.Answer.TheVariants.{Text, Run}
+use Rattle.mm_tasks.specs.declared.answers.Answer.TheVariants.{Text, Lines, Line, Run}
 use Rattle.mm_command_line.specs.declared.task.PlanFiles.{PlanFiles}
 use Rattle.mm_command_line.specs.declared.task.FlightFiles.{FlightFiles}
 use Rattle.mm_command_line.specs.declared.task.Task.{Task}
@@ -117,10 +117,14 @@ AnswersTask contents (Ask setup requests) status text = Of contents setup.now (�
 -- the text of an answer, and the status
 abbrev pub text_in : Answer → List ℕ
 text_in (Text status text) = text.items
+text_in (Lines outcome lines) = lines.items
+text_in (Line verdict line) = line.items
 text_in (Run printed) = text_of printed
 
 abbrev pub status_in : Answer → Status
 status_in (Text status text) = status
+status_in (Lines outcome lines) = status_of_replies outcome
+status_in (Line verdict line) = status_of verdict
 status_in (Run printed) = status_of_run printed.outcome
 
 -- the answer is one to the task

@@ -20,6 +20,10 @@ use std::alloc::Global;
 #[derive(Drop)]
 pub(crate) enum Answer {
     Text { status: Status, text: Vec<u8> },
+    /// The lines that answer requests.
+    Lines { outcome: Outcome, lines: Vec<u8> },
+    /// The line of a verdict.
+    Line { verdict: Verdict, line: Vec<u8> },
     /// What the run of a plan prints.
     Run(Printed),
 }
@@ -61,7 +65,8 @@ pub fn plan<'a, F: Files>(
     })
 }
 
-fn status_of(verdict: Verdict) -> Status
+/// The status of a task that is answered by the verdict.
+pub fn status_of(verdict: Verdict) -> Status
     ensures { result ≡ status_of verdict }
 {
     match verdict {
@@ -109,10 +114,7 @@ pub fn check<'a, F: Files>(
 {
     let texts = PlanTexts::read(alloc, files, names)?;
     let (verdict, line) = check_bytes(alloc, &texts.setup, &texts.forecast, &texts.plan)?;
-    Ok(Answer::Text {
-        status: status_of(verdict),
-        text: line,
-    })
+    Ok(Answer::Line { verdict, line })
 }
 
 /// The chart of the plan in the files.
@@ -132,7 +134,8 @@ pub fn chart<'a, F: Files>(
     })
 }
 
-fn status_of_replies(outcome: Outcome) -> Status
+/// The status of a task that is answered by such lines.
+pub fn status_of_replies(outcome: Outcome) -> Status
     ensures { result ≡ status_of_replies outcome }
 {
     match outcome {
@@ -154,8 +157,5 @@ pub fn ask<'a, F: Files>(
     let setup = read_file(alloc, files, setup)?;
     let requests = read_file(alloc, files, requests)?;
     let (outcome, lines) = ask_bytes(alloc, &setup, &requests)?;
-    Ok(Answer::Text {
-        status: status_of_replies(outcome),
-        text: lines,
-    })
+    Ok(Answer::Lines { outcome, lines })
 }

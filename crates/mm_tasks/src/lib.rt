@@ -5,6 +5,7 @@ mod advice;
 mod answers;
 mod fault;
 mod flight;
+mod remark;
 mod run;
 mod spot;
 

@@ -7,9 +7,10 @@ ghost use Rattle.mm_tasks.specs.Faults.{refused_line};
 ghost use Rattle.mm_tasks.specs.Refusing.{IsFaultOf, Refuses, refused_input};
 
 use crate::advice::Advice;
-use crate::answers::{Answer, ask, chart, check, plan};
+use crate::answers::{Answer, ask, chart, check, plan, status_of, status_of_replies};
 use crate::fault::Fault;
 use crate::flight::fly;
+use crate::remark::{Remark, tell_refused};
 use mm_command_line::Task;
 use mm_flight::Outcome;
 use mm_system::files::{Files, ReadFault};
@@ -50,7 +51,7 @@ pub fn refuse_input<W: Write, E: Write>(
     refuse(None, fault, out, err)
 }
 
-// Prints the answer, and for a run that did not begin or was halted what that means.
+// Prints the answer, and what it means where something is refused, a verdict is not `Least`, or a run did not begin or was halted.
 fn print<W: Write, E: Write>(
     task: Task<'_>,
     answer: &Answer,
@@ -64,6 +65,18 @@ fn print<W: Write, E: Write>(
         Answer::Text { status, text } => {
             out.write_all(text).map_err(|_| Unwritten::Output)?;
             Ok(*status)
+        }
+        Answer::Lines { outcome, lines } => {
+            out.write_all(lines).map_err(|_| Unwritten::Output)?;
+            tell_refused(task, lines, err).map_err(|_| Unwritten::Messages)?;
+            Ok(status_of_replies(*outcome))
+        }
+        Answer::Line { verdict, line } => {
+            out.write_all(line).map_err(|_| Unwritten::Output)?;
+            if let Some(remark) = Remark::of(task, *verdict) {
+                writeln!(err, "{remark}").map_err(|_| Unwritten::Messages)?;
+            }
+            Ok(status_of(*verdict))
         }
         Answer::Run(printed) => {
             out.write_all(&printed.sheet)

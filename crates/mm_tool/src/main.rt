@@ -2,8 +2,10 @@
 #![tactic(auto)]
 
 use mm_commands::{Device, SystemFiles, read_to_end, refuse_input, run_script, run_tool};
-use std::io;
+use std::io::{self, IsTerminal, Write};
 use std::process::ExitCode;
+
+const WAITING: &str = "mm_tool: waiting for a script; `mm_tool --help` lists the commands";
 
 /// Runs the program on its words, or where it has none on the script that standard input holds.
 fn main(rt: HostRuntime) -> io::Result<ExitCode> {
@@ -11,7 +13,11 @@ fn main(rt: HostRuntime) -> io::Result<ExitCode> {
     let words: Vec<String> = std::env::args(&rt)?.skip(1).collect(alloc)?;
     let (mut out, mut err) = (rt.stdout(), rt.stderr());
     let status = if words.is_empty() {
-        match read_to_end(alloc, &mut Device::new(rt.reader())) {
+        let reader = rt.reader();
+        if reader.is_terminal() {
+            let _told = writeln!(err, "{WAITING}");
+        }
+        match read_to_end(alloc, &mut Device::new(reader)) {
             Ok(script) => run_script(&rt, alloc, &script, &mut out, &mut err),
             Err(fault) => refuse_input(fault, &mut out, &mut err),
         }

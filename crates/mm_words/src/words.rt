@@ -1,9 +1,67 @@
 //! The table of words: for each refusal what was expected, and what to do.
-ghost use Rattle.std.specs.Prelude.{IsTrue};
+ghost use Rattle.std.specs.Prelude.{IfSome, IsTrue};
 ghost use Rattle.mm_words.specs.Phrase.{is_phrase};
 
 use mm_base::Refusal;
 use std::fmt;
+
+// Each refusal.
+static REFUSALS: [Refusal; 54] = [
+    Refusal::NoMemory,
+    Refusal::Short,
+    Refusal::Version,
+    Refusal::NoSecondaryHeader,
+    Refusal::PusVersion,
+    Refusal::Segmented,
+    Refusal::IdlePacket,
+    Refusal::HeaderCut,
+    Refusal::TooLong,
+    Refusal::HoldsMore,
+    Refusal::NoSuchRoute,
+    Refusal::TableFull,
+    Refusal::NotSt15,
+    Refusal::UnknownSubtype,
+    Refusal::CountMismatch,
+    Refusal::BadId,
+    Refusal::BadEnum,
+    Refusal::Disabled,
+    Refusal::Busy,
+    Refusal::NoRetrieval,
+    Refusal::BadRange,
+    Refusal::ClockEnd,
+    Refusal::WindowFull,
+    Refusal::NoSuchStore,
+    Refusal::Exists,
+    Refusal::TooManyStores,
+    Refusal::StorageOn,
+    Refusal::SetupText,
+    Refusal::SetupField,
+    Refusal::ForecastText,
+    Refusal::Header,
+    Refusal::Cell,
+    Refusal::StepNumber,
+    Refusal::Limit,
+    Refusal::PlanText,
+    Refusal::Shape,
+    Refusal::Unbounded,
+    Refusal::SameEnds,
+    Refusal::PlanShape,
+    Refusal::NotReady,
+    Refusal::SizeDiffers,
+    Refusal::OpeningDiffers,
+    Refusal::ClockTooLate,
+    Refusal::PlanDoesNotFit,
+    Refusal::Counts,
+    Refusal::NoMemoryInStep,
+    Refusal::LinkFailed,
+    Refusal::LogMismatch,
+    Refusal::BadSize,
+    Refusal::HexLine,
+    Refusal::NotRead,
+    Refusal::SourcesText,
+    Refusal::LinksText,
+    Refusal::ChannelDiffers,
+];
 
 /// The words of a refusal, in plain English, without a full stop. They are shown as `expected ..; ..`. Where the fault is (the file,
 /// the row, the name) is not in them: whoever prints them says it first.
@@ -25,6 +83,19 @@ impl Words {
             expected: expected(refusal),
             advice: advice(refusal),
         }
+    }
+
+    /// The words of the refusal with this number, if there is one.
+    pub fn of_number(number: u8) -> Option<Words>
+        ensures expected { IfSome result (λ words. IsTrue (is_phrase words.expected.now)) }
+        ensures advice { IfSome result (λ words. IsTrue (is_phrase words.advice.now)) }
+    {
+        for refusal in &REFUSALS {
+            if refusal.number() == number {
+                return Some(Words::of(*refusal));
+            }
+        }
+        None
     }
 }
 

@@ -2,7 +2,6 @@
 #![tactic(auto)]
 
 mod causes;
-
 #[cfg(test)]
 mod tests;
 

@@ -1,6 +1,6 @@
 //! Each refusal as it is printed, and its words.
 use mm_base::Refusal;
-use mm_words::Words;
+use mm_words::{Finding, Words};
 use std::process::Abort;
 
 // Each refusal with its number and its name, by the tables of docs/FORMATS.md.
@@ -99,6 +99,35 @@ fn no_two_refusals_have_the_same_words(rt: HostRuntime) {
     for (i, (one, text)) in ALL.iter().enumerate() {
         for (other, _text) in &ALL[..i] {
             differ(&rt, Words::of(*one), Words::of(*other), text);
+        }
+    }
+}
+
+#[test]
+fn refusals_are_found_by_their_numbers(rt: HostRuntime) {
+    for (refusal, text) in &ALL {
+        let is_found = Words::of_number(refusal.number()) == Some(Words::of(*refusal));
+        assert!(rt; is_found, "{text}");
+    }
+    assert!(rt; Words::of_number(54).is_none(), "a number of no refusal");
+}
+
+static FINDINGS: [Finding; 6] = [
+    Finding::DoesNotFit,
+    Finding::LossIs,
+    Finding::BadStretch,
+    Finding::BadCount,
+    Finding::BoundIs,
+    Finding::NotShown,
+];
+
+#[test]
+fn findings_have_words_of_their_own(rt: HostRuntime) {
+    for (i, one) in FINDINGS.iter().enumerate() {
+        has_no_full_stop(&rt, one.words().expected);
+        has_no_full_stop(&rt, one.words().advice);
+        for other in &FINDINGS[..i] {
+            differ(&rt, one.words(), other.words(), "two findings");
         }
     }
 }

@@ -1,6 +1,6 @@
 //! What the program says of a refusal on standard error, in the words of docs/FORMATS.md.
 
-use crate::tests::samples::told;
+use crate::tests::samples::{A_WITH_LIMIT_1, SCI, TWO_STEPS_OF_A, told};
 
 // A script whose task is refused, and the line on standard error, or how it begins where a long list of ranges follows.
 static ADVICE: [(&str, &str); 18] = [
@@ -87,4 +87,67 @@ fn refusals_are_explained(rt: HostRuntime) {
             "for {script}"
         );
     }
+}
+
+// A plan for a store of 3 blocks, whose channel takes 1 block a step, and the line on standard error. The first plan is least, and nothing
+// is said of it.
+static FOUND: [(&str, &str); 7] = [
+    (
+        "mmplan 2\nstores A\ndump 1 1\ndump 2 0\nloss 2\nstretch A 1 2\ncount 1 channels\nbound 2\nend\n",
+        "",
+    ),
+    (
+        "mmplan 2\nstores A\ndump 1 2\ndump 2 0\nloss 2\nstretch A 1 2\ncount 1 channels\nbound 2\nend\n",
+        "P, step 1: expected amounts within the window and the channels' limits; dump less in that step, or plan again\n",
+    ),
+    (
+        "mmplan 2\nstores A\ndump 1 1\ndump 2 0\nloss 3\nstretch A 1 2\ncount 1 channels\nbound 2\nend\n",
+        "P: expected the loss that the plan has, which is the number printed; write that number after loss, or plan again\n",
+    ),
+    (
+        "mmplan 2\nstores A\ndump 1 1\ndump 2 0\nloss 2\nstretch A 2 1\ncount 1 channels\nbound 2\nend\n",
+        "P, stretch 1: expected stretches of stores of the setup, with steps in order and in range, that share no step; correct that stretch, counted from 1, or plan again\n",
+    ),
+    (
+        "mmplan 2\nstores A\ndump 1 1\ndump 2 0\nloss 2\nstretch A 1 2\ncount 2 channels\nbound 2\nend\n",
+        "P, count 1: expected counts of inner steps, each once, at which each inner store has a channel with a limit; take that count out, counted from 1, or plan again\n",
+    ),
+    (
+        "mmplan 2\nstores A\ndump 1 1\ndump 2 0\nloss 2\nstretch A 1 2\ncount 1 channels\nbound 1\nend\n",
+        "P: expected the bound that the cut has, which is the number printed; write that number after bound, or plan again\n",
+    ),
+    (
+        "mmplan 1\nstores A\ndump 1 1\ndump 2 0\nloss 2\nstretch A 1 2\nbound -2\nend\n",
+        "P: expected a cut whose bound is the loss of the plan; plan again; this plan fits, and loses at most the difference more than the best\n",
+    ),
+];
+
+#[test]
+fn verdicts_are_explained(rt: HostRuntime) {
+    for (plan, remark) in &FOUND {
+        let script = format!(in rt.alloc();
+            "check S F P\n=== S\n{A_WITH_LIMIT_1}=== F\n{TWO_STEPS_OF_A}=== P\n{plan}"
+        ).expect(&rt, "memory");
+        let (_, err, _) = told(&rt, script.as_bytes());
+        assert!(rt; err.as_slice() == remark.as_bytes(), "for {plan}");
+    }
+}
+
+// A line that is no packet, and a request to enable a store that is not there.
+const REFUSED_REQUESTS: &str = "zz\n1864C000000D200F01000001484B202020202020\n";
+
+const REFUSED_WORDS: &str = "\
+R, line 1: expected one telecommand in hexadecimal digits, two for each octet, and nothing after it; write one telecommand a line, and compare its packet data length with its octets
+R, line 2, instruction 1: expected the identifier of a store that is there; list the stores with subtype 22, or create this one with subtype 20
+";
+
+#[test]
+fn refused_lines_are_explained(rt: HostRuntime) {
+    let script = format!(in rt.alloc(); "ask S R\n=== S\n{SCI}=== R\n{REFUSED_REQUESTS}").expect(
+        &rt, "memory",
+    );
+    let (out, err, _) = told(&rt, script.as_bytes());
+    let is_refused = out.as_slice()
+        == b"1 refused 49 HexLine\n2.1 refused 23 NoSuchStore\n".as_slice();
+    assert!(rt; is_refused && err.as_slice() == REFUSED_WORDS.as_bytes());
 }

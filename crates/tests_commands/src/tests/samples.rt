@@ -37,12 +37,22 @@ bound 2
 end
 ";
 
-// Whether a line says that a task is refused, or that a run did not begin or was halted.
+// How the lines of verdicts begin that are not `least`.
+static VERDICTS: [&str; 6] = [
+    "does not fit, ",
+    "loss is ",
+    "bad stretch ",
+    "bad count ",
+    "bound is ",
+    "not shown, ",
+];
+
+// Whether a line says that something is refused, that a run did not begin or was halted, or that a plan is not shown to lose least.
 fn is_refused(printed: &str) -> bool {
-    printed.starts_with("refused ")
+    printed.contains("refused ")
         || printed.starts_with("halted ")
-        || printed.contains("\nrefused ")
         || printed.contains("\nhalted ")
+        || VERDICTS.iter().any(|verdict| printed.starts_with(verdict))
 }
 
 // What the program writes to standard output and to standard error for a script, and its status.
