@@ -122,7 +122,7 @@ void mm_ask(const uint8_t *setup, size_t setup_length, const uint8_t *requests, 
  * where no refusal has these codes. */
 void mm_words(const struct mm_refused *refused, uint8_t *out, size_t room, struct mm_answer *answer);
 
-/* The version of the library, as `0.1.0`. */
+/* The version of the library, as `0.3.0`. */
 void mm_version(uint8_t *out, size_t room, struct mm_answer *answer);
 
 #ifdef __cplusplus

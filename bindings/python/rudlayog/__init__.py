@@ -40,4 +40,4 @@ __all__ = [
     "plan",
     "version",
 ]
-__version__ = "0.1.0"
+__version__ = "0.3.0"

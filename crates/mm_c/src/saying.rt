@@ -7,7 +7,7 @@ use mm_told::{Answer, Reason, RefusedAt, tell_text, words_of};
 use std::alloc::Global;
 
 /// The version of the library: that of its calls and of the texts that they take and give.
-pub const VERSION: &[u8] = b"0.1.0";
+pub const VERSION: &[u8] = b"0.3.0";
 
 /// The words of a refusal for people, in one line without its end: its number, its name and its fields, what was expected, and what to
 /// do. There is no octet where no refusal has these codes.
