@@ -1,0 +1,8 @@
+use Rattle.std.proofs.Common.{◌≡◌}
+use Rattle.growths.proofs.shared.made.Given as goal
+
+abbrev pub invariant-loop-call : goal.invariant-loop-call
+invariant-loop-call g l = record {
+  first : (l.first.of ≡ l.store.id) × (l.first.number ≡ 0);
+  second : (l.second.of ≡ l.store.id) × (l.second.number ≡ 1);
+}
