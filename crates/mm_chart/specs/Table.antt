@@ -22,15 +22,14 @@ next_cell cell = comma ∷ cell
 unfoldable pub place_cells : Dumping → ℕ → ℕ → List ℕ
 place_cells q t s = decimal t ++ next_cell (decimal (window q t)) ++ next_cell (id_text (row q s).id)
 
+-- the cells that say what happens in the step, up to the end of the record
+unfoldable pub volume_cells : ℕ → ℕ → ℕ → ℕ → List ℕ
+volume_cells arrived lost dumped held =
+    next_cell (decimal arrived) ++ next_cell (decimal lost) ++ next_cell (decimal dumped) ++ next_cell (decimal held) ++ line_feed ∷ []
+
 -- what a step does to a store
 unfoldable pub record_of : Dumping → Amounts → ℕ → ℕ → List ℕ
-record_of q x t s =
-    place_cells q t s
-    ++ next_cell (decimal (arrivals q s t))
-    ++ next_cell (decimal (lost q x s t))
-    ++ next_cell (decimal (dumped q x s t))
-    ++ next_cell (decimal (left q x s t))
-    ++ line_feed ∷ []
+record_of q x t s = place_cells q t s ++ volume_cells (arrivals q s t) (lost q x s t) (dumped q x s t) (left q x s t)
 
 -- the records of a step, the stores in order
 unfoldable pub step_records : Dumping → Amounts → ℕ → List ℕ

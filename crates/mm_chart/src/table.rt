@@ -5,7 +5,7 @@ ghost use Rattle.mm_check.specs.declared.fault.Fault.TheVariants.{NoMemory};
 ghost use Rattle.mm_check.specs.Checking.{IsFaultOf};
 ghost use Rattle.mm_problem.specs.Dumping.{steps};
 ghost use Rattle.mm_plan.specs.Table.{amount, HasShape};
-ghost use Rattle.mm_chart.specs.Table.{dumped, next_cell, place_cells, record_of, step_records, table, IsTableOf, IsSimulation};
+ghost use Rattle.mm_chart.specs.Table.{dumped, next_cell, place_cells, volume_cells, record_of, step_records, table, IsTableOf, IsSimulation};
 
 use mm_base::numbers::push_number;
 use mm_check::{Fault, read_problem, read_sheet};
@@ -60,6 +60,25 @@ fn dumped(problem: &Problem, plan: &Plan, volumes: &Simulated, step: u32, store:
     plan.amount(store, step).min(volumes.written(store, step))
 }
 
+// The cells of a record that say what happens in the step.
+#[tactic(auto, using(std::proofs::Common::append_assoc), unfolding(crate::specs::Table::volume_cells))]
+fn push_volumes(
+    text: &mut Vec<u8>,
+    arrived: u32,
+    lost: u32,
+    dumped: u32,
+    held: u32,
+) -> Result<(), AllocError>
+    ensures { OnOk result (text.new.items ≡ text.old.items ++ volume_cells arrived lost dumped held) }
+{
+    push_next_number(text, arrived)?;
+    push_next_number(text, lost)?;
+    push_next_number(text, dumped)?;
+    push_next_number(text, held)?;
+    text.push(b'\n')?;
+    Ok(())
+}
+
 // What a step does to a store.
 #[tactic(auto, using(std::proofs::Common::append_assoc), unfolding(crate::specs::Table::record_of))]
 fn push_record(
@@ -79,11 +98,11 @@ fn push_record(
         ++ record_of problem.now (amount plan.now) step store) }
 {
     push_place(text, problem, step, store)?;
-    push_next_number(text, problem.arrivals(store, step))?;
-    push_next_number(text, volumes.lost(store, step))?;
-    push_next_number(text, dumped(problem, plan, volumes, step, store))?;
-    push_next_number(text, volumes.left(store, step))?;
-    text.push(b'\n')
+    let arrived = problem.arrivals(store, step);
+    let lost = volumes.lost(store, step);
+    let dumped = dumped(problem, plan, volumes, step, store);
+    let held = volumes.left(store, step);
+    push_volumes(text, arrived, lost, dumped, held)
 }
 
 // The records of a step.
