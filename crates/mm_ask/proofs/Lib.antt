@@ -1,4 +1,6 @@
 pub mod ConversationLemmas
 pub mod CountLemmas
 pub mod DigitLemmas
+pub mod HeaderLemmas
+pub mod ReadingLemmas
 pub mod TelemetryLemmas

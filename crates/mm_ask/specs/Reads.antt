@@ -80,8 +80,9 @@ abbrev pub ShowsResult : ℕ → Result SpacePacket LineFault → SoFar → SoFa
 ShowsResult number (Err fault) s t = t ≡ with_refused number fault s
 ShowsResult number (Ok packet) s t = ShowsPacket number packet s t
 
+-- what the digits of a number's packet leave
 abbrev pub ShowsDigits : ℕ × List ℕ → SoFar → SoFar → Type 0
-ShowsDigits (number, digits) s t = ShowsResult number (packet_of digits) s t
+ShowsDigits found s t = ShowsResult found.0 (packet_of found.1) s t
 
 -- an answer of `ask` is printed as it stands; any other line is read as a packet
 abbrev pub ShowsLine : Bool → ℕ → List ℕ → SoFar → SoFar → Type 0
@@ -103,3 +104,7 @@ pub record Reads (packets : List ℕ) (outcome : Outcome) (text : List ℕ) : Ty
   pub each : ShowsEach 1 (text_lines packets) nothing end
   pub ends : outcome ≡ end.outcome
   pub says_all : text ≡ end.text
+
+-- packets read as one text, with one outcome
+abbrev pub PacketsReadOneWay : Type 0
+PacketsReadOneWay = (packets : List ℕ) (a b : Outcome) (text other : List ℕ) → Reads packets a text → Reads packets b other → (a ≡ b) × (text ≡ other)

@@ -11,6 +11,7 @@ use mm_st15::{Entries, Report, Request};
 use std::alloc::{AllocError, Global};
 
 // The octets of the data field, less 1.
+#[tactic(auto, using(crate::proofs::HeaderLemmas::telecommand_length, crate::proofs::HeaderLemmas::telemetry_length))]
 fn data_length(packet: &Packet) -> u64
     ensures { result ≡ data_length packet.now }
 {
@@ -39,7 +40,7 @@ fn low_word(packet: &Packet) -> &'static [u8]
 }
 
 // Writes the fields that only packets of this type have.
-#[tactic(auto, using(std::proofs::Common::append_assoc))]
+#[tactic(auto, using(std::proofs::Common::append_assoc, crate::proofs::HeaderLemmas::telecommand_words, crate::proofs::HeaderLemmas::telemetry_words))]
 fn push_type_fields(text: &mut Vec<u8>, packet: &Packet) -> Result<(), AllocError>
     ensures { OnOk result (text.new.items ≡ text.old.items ++ type_fields packet.now.kind) }
 {
@@ -85,7 +86,8 @@ pub(crate) fn push_header_line(
     push_number(text, number)?;
     push_primary(text, packet)?;
     push_secondary(text, packet)?;
-    text.push(b'\n')
+    text.push(b'\n')?;
+    Ok(())
 }
 
 // Writes the line that says what a request asks, or what a report tells.
@@ -95,7 +97,8 @@ fn push_title(text: &mut Vec<u8>, title: &[u8]) -> Result<(), AllocError>
 {
     text.extend_from_slice(b"  ")?;
     text.extend_from_slice(title)?;
-    text.push(b'\n')
+    text.push(b'\n')?;
+    Ok(())
 }
 
 // Writes the line on an instruction.
@@ -114,7 +117,8 @@ fn push_instruction<E: InWords>(
     push_place(text, number, place)?;
     text.push(b' ')?;
     entry.push(alloc, text)?;
-    text.push(b'\n')
+    text.push(b'\n')?;
+    Ok(())
 }
 
 // Writes the lines on the instructions of a request, whose places count from 1.
@@ -191,7 +195,8 @@ fn push_entry<E: InWords>(alloc: Global, text: &mut Vec<u8>, entry: &E) -> Resul
 {
     text.extend_from_slice(b"    ")?;
     entry.push(alloc, text)?;
-    text.push(b'\n')
+    text.push(b'\n')?;
+    Ok(())
 }
 
 // Writes the lines on the entries of a report.
@@ -218,7 +223,8 @@ fn push_control(alloc: Global, text: &mut Vec<u8>, id: &[u8; 8]) -> Result<(), A
 {
     text.extend_from_slice(b"  storage control of ")?;
     push_id(alloc, text, id)?;
-    text.push(b'\n')
+    text.push(b'\n')?;
+    Ok(())
 }
 
 /// Writes the lines on a report.

@@ -43,13 +43,11 @@ impl Model for Reading {
 fn without_spaces(alloc: Global, digits: &[u8]) -> Result<Vec<u8>, AllocError>
     ensures { IfOk result (λ kept. kept.items ≡ without_spaces digits.now) }
 {
-    let mut kept = Vec::with_capacity(alloc, digits.len())?;
-    for digit in digits {
-        if *digit != b' ' {
-            kept.push(*digit)?;
-        }
-    }
-    Ok(kept)
+    digits
+        .iter()
+        .copied()
+        .filter(|digit| *digit != b' ')
+        .collect(alloc)
 }
 
 // The packet that the digits are.
