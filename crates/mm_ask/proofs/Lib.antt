@@ -4,3 +4,4 @@ pub mod DigitLemmas
 pub mod HeaderLemmas
 pub mod ReadingLemmas
 pub mod TelemetryLemmas
+pub mod WordLemmas

@@ -19,14 +19,14 @@ pub(crate) fn push_named(text: &mut Vec<u8>, word: &[u8], number: u64) -> Result
 }
 
 /// Writes the text of an identifier, or the hexadecimal digits of octets that are none.
-#[tactic(auto, using(mm_memory::proofs::IdLemmas::is_id-field, mm_memory::proofs::IdLemmas::is_id-other))]
+#[tactic(auto, using(crate::proofs::WordLemmas::words_of_id, crate::proofs::WordLemmas::words_of_other))]
 pub(crate) fn push_id(alloc: Global, text: &mut Vec<u8>, octets: &[u8; 8]) -> Result<(), AllocError>
     ensures { OnOk result (text.new.items ≡ text.old.items ++ id_words octets.now) }
 {
     match StoreId::of_field(*octets) {
         Ok(id) => text.extend_from_slice(id.text()),
         Err(_) => {
-            let digits = hex::encode_upper(alloc, octets)?;
+            let digits = hex::encode_upper(alloc, octets.as_slice())?;
             text.extend_from_slice(digits.as_bytes())
         }
     }

@@ -1,6 +1,7 @@
 //! Packets, requests and reports as lines of words and numbers.
-ghost use Rattle.std.specs.Prelude.{◌≡◌, ◌+◌, ◌<◌, ◌^◌, ◌++◌, length, OnOk};
+ghost use Rattle.std.specs.Prelude.{◌≡◌, ◌<◌, ◌++◌, length, OnOk};
 ghost use Rattle.mm_packet.specs.Spelling.{data_length};
+ghost use Rattle.mm_st15.specs.Request.{HasCount, kind_of, count_of};
 ghost use Rattle.mm_ask.specs.PacketWords.{type_word, low_word, type_fields, primary_words, secondary_words, header_line, title_line, instruction_line, instruction_lines, entry_line, entry_lines, titled_instructions, request_lines, control_line, report_lines};
 
 use crate::entry_words::{InWords, push_id, push_named};
@@ -23,9 +24,9 @@ fn type_word(packet: &Packet) -> &'static [u8]
     ensures { result.now ≡ type_word packet.now.kind }
 {
     if packet.is_telecommand() {
-        b" telecommand"
+        b" telecommand".as_slice()
     } else {
-        b" telemetry"
+        b" telemetry".as_slice()
     }
 }
 
@@ -33,9 +34,9 @@ fn low_word(packet: &Packet) -> &'static [u8]
     ensures { result.now ≡ low_word packet.now.kind }
 {
     if packet.is_telecommand() {
-        b" acknowledgement "
+        b" acknowledgement ".as_slice()
     } else {
-        b" reference "
+        b" reference ".as_slice()
     }
 }
 
@@ -129,6 +130,7 @@ fn push_instructions<E: InWords>(
     number: u64,
     entries: &[E],
 ) -> Result<(), AllocError>
+    requires { length entries.now < 256 }
     ensures { OnOk result (text.new.items
         ≡ text.old.items ++ instruction_lines E.words number 1 entries.now) }
 {
@@ -151,6 +153,7 @@ fn push_titled<E: InWords>(
     number: u64,
     entries: &Entries<E>,
 ) -> Result<(), AllocError>
+    requires { length entries.now < 256 }
     ensures { OnOk result (text.new.items
         ≡ text.old.items ++ titled_instructions title.now E.words number entries.now) }
 {
@@ -165,6 +168,7 @@ pub(crate) fn push_request(
     n: u64,
     request: &Request,
 ) -> Result<(), AllocError>
+    requires { HasCount (kind_of request.now) (count_of request.now) }
     ensures { OnOk result (text.new.items ≡ text.old.items ++ request_lines n request.now) }
 {
     match request {

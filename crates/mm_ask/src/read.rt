@@ -1,14 +1,10 @@
 //! Packets in hexadecimal digits, read in words and numbers.
-ghost use Rattle.std.specs.Prelude.{◌≡◌, ◌==◌, ◌∷◌, ◌++◌, [], not, filter, IfOk, IfErr, OnOk};
-ghost use Rattle.mm_base.specs.Characters.{line_feed, space};
+ghost use Rattle.std.specs.Prelude.{◌≡◌, ◌∷◌, ◌++◌, [], IfOk, OnOk};
+ghost use Rattle.mm_base.specs.Characters.{line_feed};
 ghost use Rattle.mm_base.specs.Lines.{text_lines};
 ghost use Rattle.mm_base.specs.Reading.{Gives};
-ghost use Rattle.mm_packet.specs.Packet.{IsTelecommand, IsTelemetry};
 ghost use Rattle.mm_st15.specs.Report.{report_fault};
 ghost use Rattle.mm_st15.specs.Request.{request_fault};
-ghost use Rattle.mm_ask.specs.declared.fault.LineFault.TheVariants.{NoMemory as lacks_memory};
-ghost use Rattle.mm_ask.specs.Line.{octets_in};
-ghost use Rattle.mm_ask.specs.PacketWords.{header_line, request_lines, report_lines};
 ghost use Rattle.mm_ask.specs.Reads.{ShowsEach, Reads, packet_of, without_spaces};
 
 use crate::answering::Outcome;
@@ -53,7 +49,7 @@ fn without_spaces(alloc: Global, digits: &[u8]) -> Result<Vec<u8>, AllocError>
 // The packet that the digits are.
 #[tactic(auto, unfolding(crate::specs::Reads::packet_of))]
 fn packet_of(alloc: Global, digits: &[u8]) -> Result<Packet, LineFault>
-    ensures { Gives lacks_memory (λ packet. packet) result (packet_of digits.now) }
+    ensures { Gives LineFault.NoMemory (λ packet. packet) result (packet_of digits.now) }
 {
     let Ok(digits) = without_spaces(alloc, digits) else {
         return Err(LineFault::NoMemory);
@@ -63,7 +59,7 @@ fn packet_of(alloc: Global, digits: &[u8]) -> Result<Packet, LineFault>
 }
 
 impl Reading {
-    ghost use Rattle.mm_ask.specs.Reads.{nothing, with_lines, with_refused, ShowsRequest, ShowsReport, ShowsOr, ShowsData, ShowsPacket, ShowsResult, ShowsLine, Shows};
+    ghost use Rattle.mm_ask.specs.Reads.{nothing, with_lines, with_refused, ShowsRequest, ShowsReport, ShowsOr, ShowsPacket, ShowsResult, Shows};
 
     fn new(alloc: Global) -> Reading
         ensures { result ≡ nothing }
