@@ -1,1 +1,3 @@
 pub mod Rooms
+pub mod Values
+pub mod Held

@@ -1,0 +1,3 @@
+pub mod OfferLemmas
+pub mod ReportLemmas
+pub mod SpellingLemmas
