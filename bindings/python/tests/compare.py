@@ -85,7 +85,8 @@ def main() -> int:
             for name, text in zip(names, given, strict=True):
                 Path(name).write_bytes(text)
             ran = subprocess.run([program, command, *names], capture_output=True, check=False)
-            words = ran.stderr.decode()
+            # of a verdict, and of a line that `ask` refuses, the program says more on standard error than the package keeps
+            words = ran.stderr.decode() if ran.stdout.startswith(b"refused ") else ""
             said = words[words.index("expected ") :].rstrip("\n") if words else ""
             if (ran.stdout, ran.returncode, said) != answered(command, given):
                 print(f"compare: call {call} of seed {seed}, {command}: the package and the program answer differently")
