@@ -1,5 +1,5 @@
 #!/usr/bin/env python3
-"""A planner's day: from lists of passes and observations to a plan with its certificate; then a pass is missed, and the rest is planned
+"""A planner's day: from lists of passes and observations to a plan with its cut; then a pass is missed, and the rest is planned
 again. Prints what README.md shows, and writes the charts into the folder that is named, if one is.
 
     PYTHONPATH=bindings/python examples/day/day.py [FOLDER]
@@ -121,7 +121,7 @@ def show_losses(setup: Setup, forecast: Forecast, made: Plan, before: int = 0) -
     print()
 
 
-def show_certificate(setup: Setup, forecast: Forecast, made: Plan, begin: int) -> None:
+def show_cut(setup: Setup, forecast: Forecast, made: Plan, begin: int) -> None:
     """The verdict of the checker, and the cut that shows that no plan loses less."""
     print(f"  verdict: {check(setup, forecast, made).line}")
     for stretch in made.cut.stretches:
@@ -138,7 +138,7 @@ def main() -> None:
     made = plan(setup, forecast)
     show_passes(made, 0)
     show_losses(setup, forecast, made)
-    show_certificate(setup, forecast, made, 0)
+    show_cut(setup, forecast, made, 0)
 
     # The station does not hear the spacecraft: nothing leaves in that pass.
     gone = next(steps(row) for row in rows("passes.csv") if row["station"] == MISSED)
@@ -156,7 +156,7 @@ def main() -> None:
     again = plan(start, rest)
     show_passes(again, now)
     show_losses(start, rest, again, before)
-    show_certificate(start, rest, again, now)
+    show_cut(start, rest, again, now)
 
     if charts is not None:
         chart(setup, forecast, made).save(charts / "plan.svg")
