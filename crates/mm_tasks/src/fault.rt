@@ -1,7 +1,7 @@
 //! Why a task is refused.
 ghost use Rattle.std.specs.Prelude.{◌≡◌, Some};
 ghost use Rattle.mm_tasks.specs.Faults.{refusal_of, spot_in_texts, spot_in_run, spot_of, fault_text};
-ghost use Rattle.mm_tasks.specs.declared.fault.Fault.TheVariants.{NoMemory as lacks_memory, Texts, Run, Setup};
+ghost use Rattle.mm_tasks.specs.declared.fault.Fault.TheVariants.{Texts, Run, Setup};
 
 use crate::spot::{Fields, Spot, spot_in_ends, spot_in_plan, spot_in_problem};
 use mm_base::{Refusal, Refused, refusals};
@@ -22,9 +22,11 @@ pub enum Fault<'a> {
 }
 
 impl From<mm_base::NoMemory> for Fault<'_> {
-    ghost from_gives = { λ fault e. e ≡ lacks_memory };
+    ghost use Rattle.mm_tasks.specs.declared.fault.Fault.TheVariants.{NoMemory};
 
-    fn from(_: mm_base::NoMemory) -> Self {
+    ghost from_gives = { λ _ e. e ≡ NoMemory };
+
+    fn from(_error: mm_base::NoMemory) -> Self {
         Fault::NoMemory
     }
 }
