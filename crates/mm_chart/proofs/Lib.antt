@@ -1,5 +1,6 @@
-pub mod Shown
-pub mod Ranges
-pub mod Names
+pub mod Balance
 pub mod Listing
 pub mod Mapped
+pub mod Names
+pub mod Ranges
+pub mod Shown

@@ -8,3 +8,4 @@ pub mod Charts
 pub mod Listed
 pub mod Shading
 pub mod Legend
+pub mod Table

@@ -1,7 +1,8 @@
-//! What the words of a chart show, over their definitions alone.
+//! What the words of a chart and the records of a table show, over their definitions alone.
 ghost use Rattle.std.specs.Prelude.{◌≡◌, codes};
 ghost use Rattle.mm_chart.specs.Listed.{SumsAddUp, OnlyListedHelps};
 ghost use Rattle.mm_chart.specs.Legend.{legend};
+ghost use Rattle.mm_chart.specs.Table.{RecordsBalance};
 ghost use Rattle.mm_chart.specs.declared.document.TheConstants.{LEGEND};
 ghost use Rattle.mm_chart.specs.declared.words.TheConstants.{AS_ENDS, AT_LEAST, BY_LIMITS, BY_WINDOWS, COME, FEWER, HELP, HIGHER, IN_STRETCHES, LARGER, MARKED, MARKED_LIMITS, MARKED_PASSES, MARKED_WINDOWS, NO_FEWER, NO_HIGHER, NO_LIMITS, NO_WIDER, NO_WINDOWS, ONLY_SHOWN, STAND, WHY, WIDER};
 
@@ -17,6 +18,12 @@ pub fn only_listed_helps()
 {
     mm_cut::only_counted_helps()
 }
+
+/// In each record of a table what stood in the store before the step and what arrives is what is lost, what is dumped
+/// and what is held.
+pub fn records_balance()
+    ensures { RecordsBalance }
+{}
 
 /// What the headline says of a cut, and what the colours mean.
 pub fn headline_words_are()

@@ -9,13 +9,15 @@ mod picture;
 mod rows;
 mod series;
 mod shades;
+mod table;
 mod words;
 
 pub use document::{chart_bytes, draw};
 pub use laws::{
-    headline_words_are, helping_words_are, marked_words_are, only_listed_helps, sum_words_are,
-    sums_add_up,
+    headline_words_are, helping_words_are, marked_words_are, only_listed_helps, records_balance,
+    sum_words_are, sums_add_up,
 };
 pub use mm_check::Fault;
 pub use picture::Picture;
 pub use series::Series;
+pub use table::table_bytes;

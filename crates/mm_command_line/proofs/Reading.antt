@@ -1,6 +1,8 @@
 -- What is read of the words that were found for a command.
-use Rattle.std.proofs.Common.{◌≡◌, ◌∙◌, refl, sym, ap, List, [], ◌∷◌, ◌++◌, Option, Some, None}
-use Rattle.std.specs.Option.{option_and_then, option_map}
+use Rattle.std.proofs.Common.{◌≡◌, ◌∙◌, Bool, true, false, true≢false, refl, sym, ap, ap₂, List, [], ◌∷◌, ◌++◌, Option, Some, None, is_some}
+use Rattle.std.specs.Option.{option_and_then, option_map, unwrap_or}
+use Rattle.std.specs.Str.{bytes_eq}
+use Rattle.std.proofs.lemmas.Slice.Eq.{bytes_eq-Decides}
 use Rattle.clap.specs.Matches.{first_value}
 use Rattle.clap.specs.Walk.{Row, Text, first_of, rows_of}
 use Rattle.clap.specs.declared.parser.matches.Found.{Found}
@@ -49,6 +51,20 @@ pub given_all : (xs ys : List Text) (rows : List Row) (front : List Text) (rest 
 given_all xs ys rows front rest is others =
     both xs ys rows ∙ ap (option_and_then (λ front. option_map (λ names. front ++ names) (names_read ys rows))) (sym is)
     ∙ ap (option_map (λ names. front ++ names)) others
+
+-- the name and the rows of a command that was entered
+pub entered : {X : Type 0} (f : X → Text × List Row) (sub : Option X) (name : Text) (rows : List Row) → Some name ≡ option_map (λ x. (f x).0) sub
+    → Some rows ≡ option_map (λ p. p.1) (option_map f sub) → option_map f sub ≡ Some (name, rows)
+entered f None name rows is at = absurd (true≢false (ap is_some is))
+entered f (Some x) name rows is at = ap₂ (λ n r. Some (n, r)) (sym (ap (λ o. unwrap_or o name) is)) (sym (ap (λ o. unwrap_or o rows) at))
+
+-- a word that is another than this one
+pub differs : (known word : Text) → (word ≡ known → ⊥) → bytes_eq known word ≡ false
+differs known word other = go (bytes_eq known word) refl
+  where
+    go : (b : Bool) → bytes_eq known word ≡ b → bytes_eq known word ≡ false
+    go true is = absurd (other (sym ((bytes_eq-Decides known word).0 is)))
+    go false is = is
 
 module _ {T : Type 0} (say : T → List Text) (r : Option T) where
   -- nothing is read where a word is missing

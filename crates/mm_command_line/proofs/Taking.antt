@@ -8,10 +8,10 @@ use Rattle.clap.specs.Walk.{Row, Text, answers_to, finished}
 use Rattle.clap.specs.Simple.{App, HasMatchesOf, Shape, is_simple, subcommand_rows_of, built_leaf, inherited, label_of, subcommand_of}
 use Rattle.clap.specs.Takes.{takes}
 use Rattle.clap.specs.declared.parser.matches.ArgMatches.{ArgMatches}
-use Rattle.mm_command_line.specs.Commands.{Form, app_by, ask, chart, check, commands, fly, line_found, line_of, line_read, names_read, plan, run, tool}
+use Rattle.mm_command_line.specs.Commands.{Form, app_by, ask, chart, check, commands, fly, line_found, line_of, line_read, names_read, plan, read, run, table, tool}
 use Rattle.mm_command_line.specs.Lines.{IsFileName, IsTaskLine, flight_spelling, is_flag, spelling}
 use Rattle.mm_command_line.specs.declared.task.Task.{Task}
-use Rattle.mm_command_line.specs.declared.task.Task.TheVariants.{Plan, Check, Chart, Fly, Ask}
+use Rattle.mm_command_line.specs.declared.task.Task.TheVariants.{Plan, Check, Chart, Table, Fly, Ask, Read}
 use Rattle.mm_command_line.proofs.Entering.{IsMet, built_tool, meets, tool_enters, tool_simple, tool_takes}
 use Rattle.mm_command_line.proofs.Walking.{end_of, level_passing, level_places, rows_placed}
 
@@ -50,6 +50,12 @@ has_fly = record { met = meets.4; entered = refl; known = refl; plain = refl; un
 pub has_ask : IsCommandOf ask
 has_ask = record { met = meets.5; entered = refl; known = refl; plain = refl; unflagged = refl }
 
+pub has_table : IsCommandOf table
+has_table = record { met = meets.6; entered = refl; known = refl; plain = refl; unflagged = refl }
+
+pub has_read : IsCommandOf read
+has_read = record { met = meets.7; entered = refl; known = refl; plain = refl; unflagged = refl }
+
 -- what is found for words that are put to the files of a command
 abbrev pub rows_found : Form → List Text → List Row
 rows_found form files = finished (leaf form).rules (end_of (leaf form) files)
@@ -78,6 +84,9 @@ reads_fly word setup forecast sources links = record { passes = refl; found = re
 pub reads_ask : (word setup requests : Text) → Reads (word, ask.1) (setup ∷ requests ∷ [])
 reads_ask word setup requests = record { passes = refl; found = refl }
 
+pub reads_read : (word packets : Text) → Reads (word, read.1) (packets ∷ [])
+reads_read word packets = record { passes = refl; found = refl }
+
 -- a line of a command is taken
 line_taken : (form : Form) (files : List Text) → IsCommandOf form → Reads form files → All IsFileName files → IsTaken (form.0 ∷ files)
 line_taken form files has reads names = record {
@@ -97,8 +106,10 @@ taken_task : (task : Task) → All IsFileName (drop 1 (spelling task)) → IsTak
 taken_task (Plan setup forecast) names = line_taken plan _ has_plan (reads_plan plan.0 setup.now forecast.now) names
 taken_task (Check files) names = line_taken check _ has_check (reads_check check.0 files.setup.now files.forecast.now files.plan.now) names
 taken_task (Chart files) names = line_taken chart _ has_chart (reads_check chart.0 files.setup.now files.forecast.now files.plan.now) names
+taken_task (Table files) names = line_taken table _ has_table (reads_check table.0 files.setup.now files.forecast.now files.plan.now) names
 taken_task (Fly files) names = taken_flight files.setup.now files.forecast.now files.sources.now files.links.now files.plan names
 taken_task (Ask setup requests) names = line_taken ask _ has_ask (reads_ask ask.0 setup.now requests.now) names
+taken_task (Read packets) names = line_taken read _ has_read (reads_read read.0 packets.now) names
 
 -- a line of a task is taken
 pub taken : (words : List Text) → IsTaskLine words → IsTaken words
@@ -106,9 +117,9 @@ taken words line =
     subst IsTaken line.spelled (taken_task line.task (subst (λ ws. All IsFileName (drop 1 ws)) (sym line.spelled) line.names))
 
 -- the task that is read of a parse of a line spells that line
-pub spells : (app : App) (words : List Text) (m : ArgMatches) (read : Option (List Text)) → app ≡ tool → HasMatchesOf app words m → read ≡ line_found (subcommand_rows_of m)
-    → IsTaskLine words → read ≡ Some words
-spells app words m read is matches found line =
+pub spells : (app : App) (words : List Text) (m : ArgMatches) (said : Option (List Text)) → app ≡ tool → HasMatchesOf app words m → said ≡ line_found (subcommand_rows_of m)
+    → IsTaskLine words → said ≡ Some words
+spells app words m said is matches found line =
     found ∙ ap line_found ((matches (ap is_simple is ∙ tool_simple)).1 ∙ ap (λ a. subcommand_of a words) is) ∙ (taken words line).finds_all
 
 -- and the parse is of words that the program takes

@@ -19,6 +19,9 @@ check = (codes "check", codes "SETUP" ∷ codes "FORECAST" ∷ codes "PLAN" ∷ 
 abbrev pub chart : Form
 chart = (codes "chart", check.1)
 
+abbrev pub table : Form
+table = (codes "table", check.1)
+
 abbrev pub run : Form
 run = (codes "run", check.1 ++ codes "SOURCES" ∷ codes "LINKS" ∷ [])
 
@@ -28,8 +31,11 @@ fly = (codes "fly", plan.1 ++ codes "SOURCES" ∷ codes "LINKS" ∷ [])
 abbrev pub ask : Form
 ask = (codes "ask", codes "SETUP" ∷ codes "REQUESTS" ∷ [])
 
+abbrev pub read : Form
+read = (codes "read", codes "PACKETS" ∷ [])
+
 abbrev pub commands : List Form
-commands = plan ∷ check ∷ chart ∷ run ∷ fly ∷ ask ∷ []
+commands = plan ∷ check ∷ chart ∷ table ∷ run ∷ fly ∷ ask ∷ read ∷ []
 
 -- ---- as clap reads them
 

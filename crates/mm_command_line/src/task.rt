@@ -51,10 +51,14 @@ pub enum Task<'a> {
     Check(PlanFiles<'a>),
     /// Draw the plan.
     Chart(PlanFiles<'a>),
+    /// Say what the plan does to each store in each step.
+    Table(PlanFiles<'a>),
     /// Carry out the plan, which is made first where there is no file of it.
     Fly(FlightFiles<'a>),
     /// Answer the requests of the storage service, one after another, in a memory of the setup.
     Ask { setup: &'a str, requests: &'a str },
+    /// Say what packets of the storage service hold.
+    Read { packets: &'a str },
 }
 
 impl<'a> Task<'a> {
@@ -66,7 +70,7 @@ impl<'a> Task<'a> {
                 Role::Forecast => Some(forecast),
                 _ => None,
             },
-            Task::Check(names) | Task::Chart(names) => match role {
+            Task::Check(names) | Task::Chart(names) | Task::Table(names) => match role {
                 Role::Setup => Some(names.setup),
                 Role::Forecast => Some(names.forecast),
                 Role::Plan => Some(names.plan),
@@ -77,6 +81,7 @@ impl<'a> Task<'a> {
                 Role::Setup => Some(setup),
                 _ => None,
             },
+            Task::Read { .. } => None,
         }
     }
 }

@@ -22,7 +22,7 @@ use Rattle.mm_tasks.specs.Faults.{refused_line}
 use Rattle.mm_tasks.specs.declared.fault.Fault.{Fault}
 use Rattle.mm_tasks.specs.declared.fault.Fault.TheVariants.{NoMemory, NotRead, Texts, Run, Setup}
 use Rattle.mm_command_line.specs.declared.task.Task.{Task}
-use Rattle.mm_command_line.specs.declared.task.Task.TheVariants.{Plan, Check, Chart, Fly, Ask}
+use Rattle.mm_command_line.specs.declared.task.Task.TheVariants.{Plan, Check, Chart, Table, Fly, Ask, Read}
 
 -- the name of a file, where one is named
 abbrev pub names_of : Option (Bor (List ℕ)) → List (List ℕ)
@@ -34,8 +34,10 @@ abbrev pub files_of : Task → List (List ℕ)
 files_of (Plan setup forecast) = setup.now ∷ forecast.now ∷ []
 files_of (Check names) = names.setup.now ∷ names.forecast.now ∷ names.plan.now ∷ []
 files_of (Chart names) = names.setup.now ∷ names.forecast.now ∷ names.plan.now ∷ []
+files_of (Table names) = names.setup.now ∷ names.forecast.now ∷ names.plan.now ∷ []
 files_of (Fly names) = names.setup.now ∷ names.forecast.now ∷ names_of names.plan ++ names.sources.now ∷ names.links.now ∷ []
 files_of (Ask setup requests) = setup.now ∷ requests.now ∷ []
+files_of (Read packets) = packets.now ∷ []
 
 -- the first fault of the texts of a run whose plan is given, or made
 abbrev pub IsFlightFault : Option (List ℕ) → FlightFault → List ℕ → List ℕ → List ℕ → List ℕ → Type 0
@@ -62,6 +64,7 @@ IsFaultOf contents (Plan setup forecast) (Texts e) =
     e ≢ check.NoMemory → Of contents setup.now (λ s. Of contents forecast.now (λ f. IsPlanningFault s f e))
 IsFaultOf contents (Check names) (Texts e) = e ≢ check.NoMemory → OfPlan contents names (λ s f p. IsCheckFault s f p e)
 IsFaultOf contents (Chart names) (Texts e) = e ≢ check.NoMemory → OfPlan contents names (λ s f p. IsCheckFault s f p e)
+IsFaultOf contents (Table names) (Texts e) = e ≢ check.NoMemory → OfPlan contents names (λ s f p. IsCheckFault s f p e)
 IsFaultOf contents (Fly names) (Run e) = e ≢ flight.NoMemory → OfFlight contents names (λ plan. IsFlightFault plan e)
 IsFaultOf contents (Ask setup requests) (Setup e) = Of contents setup.now (λ s. IsSetupFault s e)
 IsFaultOf contents task fault = ⊥

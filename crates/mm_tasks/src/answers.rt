@@ -1,12 +1,12 @@
-//! What answers the tasks that carry nothing out: plans, verdicts, charts, and the answers to requests.
+//! What answers the tasks that carry nothing out: plans, verdicts, charts, tables, answers to requests, and packets in words.
 ghost use Rattle.std.specs.Prelude.{◌≡◌, [], ◌∷◌, IfOk, IfErr};
 ghost use Rattle.mm_tasks.specs.Answers.{Holds, IsAnswerTo, status_of, status_of_replies};
 ghost use Rattle.mm_tasks.specs.Refusing.{IsUnread, IsFaultOf};
-ghost use Rattle.mm_command_line.specs.declared.task.Task.TheVariants.{Plan, Check, Chart, Ask};
+ghost use Rattle.mm_command_line.specs.declared.task.Task.TheVariants.{Plan, Check, Chart, Table, Ask, Read};
 
 use crate::fault::Fault;
-use mm_ask::{Outcome, ask_bytes};
-use mm_chart::chart_bytes;
+use mm_ask::{Outcome, ask_bytes, read_bytes};
+use mm_chart::{chart_bytes, table_bytes};
 use mm_check::check_bytes;
 use mm_command_line::PlanFiles;
 use mm_cut::Verdict;
@@ -20,7 +20,7 @@ use std::alloc::Global;
 #[derive(Drop)]
 pub(crate) enum Answer {
     Text { status: Status, text: Vec<u8> },
-    /// The lines that answer requests.
+    /// The lines that answer requests, or say what packets hold.
     Lines { outcome: Outcome, lines: Vec<u8> },
     /// The line of a verdict.
     Line { verdict: Verdict, line: Vec<u8> },
@@ -134,6 +134,23 @@ pub fn chart<'a, F: Files>(
     })
 }
 
+/// The table of the plan in the files.
+pub fn table<'a, F: Files>(
+    alloc: Global,
+    files: &mut F,
+    names: PlanFiles<'a>,
+) -> Result<Answer, Fault<'a>>
+    ensures tables { IfOk result (IsAnswerTo (F.content files.old) (Table names.entry)) }
+    ensures refused { IfErr result (IsFaultOf (F.content files.old) (Table names.entry)) }
+{
+    let texts = PlanTexts::read(alloc, files, names)?;
+    let text = table_bytes(alloc, &texts.setup, &texts.forecast, &texts.plan)?;
+    Ok(Answer::Text {
+        status: Status::Done,
+        text,
+    })
+}
+
 /// The status of a task that is answered by such lines.
 pub fn status_of_replies(outcome: Outcome) -> Status
     ensures { result ≡ status_of_replies outcome }
@@ -157,5 +174,19 @@ pub fn ask<'a, F: Files>(
     let setup = read_file(alloc, files, setup)?;
     let requests = read_file(alloc, files, requests)?;
     let (outcome, lines) = ask_bytes(alloc, &setup, &requests)?;
+    Ok(Answer::Lines { outcome, lines })
+}
+
+/// The lines that say what the packets in the file hold.
+pub fn read<'a, F: Files>(
+    alloc: Global,
+    files: &mut F,
+    packets: &'a str,
+) -> Result<Answer, Fault<'a>>
+    ensures reads { IfOk result (IsAnswerTo (F.content files.old) (Read packets.entry)) }
+    ensures refused { IfErr result (IsFaultOf (F.content files.old) (Read packets.entry)) }
+{
+    let packets = read_file(alloc, files, packets)?;
+    let (outcome, lines) = read_bytes(alloc, &packets)?;
     Ok(Answer::Lines { outcome, lines })
 }

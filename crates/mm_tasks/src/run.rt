@@ -7,7 +7,7 @@ ghost use Rattle.mm_tasks.specs.Faults.{refused_line};
 ghost use Rattle.mm_tasks.specs.Refusing.{IsFaultOf, Refuses, refused_input};
 
 use crate::advice::Advice;
-use crate::answers::{Answer, ask, chart, check, plan, status_of, status_of_replies};
+use crate::answers::{Answer, ask, chart, check, plan, read, status_of, status_of_replies, table};
 use crate::fault::Fault;
 use crate::flight::fly;
 use crate::remark::{Remark, tell_refused};
@@ -111,8 +111,10 @@ fn answer<'a, R: Threads + Wait + Sync, F: Files>(
         Task::Plan { setup, forecast } => plan(alloc, files, setup, forecast),
         Task::Check(names) => check(alloc, files, names),
         Task::Chart(names) => chart(alloc, files, names),
+        Task::Table(names) => table(alloc, files, names),
         Task::Fly(names) => fly(rt, alloc, files, names),
         Task::Ask { setup, requests } => ask(alloc, files, setup, requests),
+        Task::Read { packets } => read(alloc, files, packets),
     }
 }
 

@@ -5,3 +5,4 @@ mod numbers;
 mod pictures;
 mod samples;
 mod sizes;
+mod tables;

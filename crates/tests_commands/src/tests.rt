@@ -8,5 +8,7 @@ mod failing;
 mod flying;
 mod inputs;
 mod planning;
+mod reading;
 mod samples;
+mod tabling;
 mod words;

@@ -140,7 +140,7 @@ fn a_forged_text_has_the_headline_of_its_verdict(rt: HostRuntime) -> Result<(), 
 }
 
 // Texts of a setup, a forecast and a plan, and the fault that is told.
-static FAULTY: [(&str, &str, &str, &str); 4] = [
+pub(crate) static FAULTY: [(&str, &str, &str, &str); 4] = [
     ("store = 1", "", "", "28 SetupField row 0 name store"),
     (SETUP, "step,window,HK\n1,2,3\n", "", "30 Header"),
     (SETUP, FORECAST, "mmplan 3\n", "34 PlanText line 1"),

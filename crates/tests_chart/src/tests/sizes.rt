@@ -14,7 +14,7 @@ fn push_stores(setup: &mut String) -> Result<(), AllocError> {
 }
 
 // They, and a limit for each channel.
-fn most_stores(alloc: Global) -> Result<String, AllocError> {
+pub(crate) fn most_stores(alloc: Global) -> Result<String, AllocError> {
     let mut setup = String::new(alloc);
     push_stores(&mut setup)?;
     for channel in 0..8u32 {
@@ -28,7 +28,7 @@ const LARGEST: &str =
     ",0,1000000,1000000,1000000,1000000,1000000,1000000,1000000,1000000,1000000,1000000,1000000,1000000,1000000,1000000,1000000,1000000";
 
 // 256 steps without a window, in each of which a million blocks come to each store.
-fn most_steps(alloc: Global) -> Result<String, AllocError> {
+pub(crate) fn most_steps(alloc: Global) -> Result<String, AllocError> {
     let mut forecast = String::from_str(alloc, "step,window")?;
     push_each(&mut forecast, ",WIDE-_", 16, "")?;
     push_each(&mut forecast, "\n", 256, LARGEST)?;
@@ -39,7 +39,7 @@ fn most_steps(alloc: Global) -> Result<String, AllocError> {
 const NOTHING: &str = " 0 0 0 0 0 0 0 0 0 0 0 0 0 0 0 0";
 
 // Nothing leaves, and each step of each store is a stretch.
-fn most_lost(alloc: Global) -> Result<String, AllocError> {
+pub(crate) fn most_lost(alloc: Global) -> Result<String, AllocError> {
     let mut plan = String::from_str(alloc, "mmplan 1\nstores")?;
     push_each(&mut plan, " WIDE-_", 16, "")?;
     push_each(&mut plan, "\ndump ", 256, NOTHING)?;

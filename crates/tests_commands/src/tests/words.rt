@@ -4,7 +4,7 @@ use crate::tests::failing::{FailingWriter, UNWRITTEN};
 use crate::tests::samples::{FIRST_PLAN, SCI, THREE_STEPS, prints, told};
 use mm_commands::{ReadFault, refuse_input, run_script};
 
-static LINES: [&str; 22] = [
+static LINES: [&str; 27] = [
     "",
     "\n",
     "plan S\n",
@@ -17,12 +17,17 @@ static LINES: [&str; 22] = [
     "check S F P Q\n",
     "chart S F\n",
     "chart --help\n",
+    "table S F\n",
+    "table --help\n",
     "run S F P X\n",
     "run --help\n",
     "fly S F X\n",
     "fly --help\n",
     "ask S\n",
     "ask --help\n",
+    "read\n",
+    "read R R\n",
+    "read --help\n",
     "--help\n",
     "--version plan\n",
     "plan --version\n",

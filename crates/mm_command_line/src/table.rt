@@ -1,0 +1,30 @@
+//! The command `table`: what a dump plan does to each store, in numbers for a spreadsheet.
+ghost use Rattle.std.specs.Prelude.{IfOk};
+ghost use Rattle.mm_command_line.specs.Commands.{IsCommand, table};
+
+use crate::command::judging_command;
+use clap::Command;
+use std::alloc::{AllocError, Global};
+
+const ABOUT: &str = "Prints what a dump plan does to each store in each step, for a spreadsheet";
+
+const HELP: &str = "\
+Prints comma separated values: a header, and then a record for each step and store, with its cells in blocks:
+  step,window,store,arrived,lost,dumped,held
+The stores are in the order of the setup in each step. `held` is what the store holds as the step ends: it is
+the `start` of the store in the setup of a plan that goes on after that step. The plan's loss and its cut are
+not judged.
+Or one line:
+  refused NUMBER NAME ..      a file was not read, or is not what it should be
+
+Example:
+  mm_tool table setup.toml forecast.csv plan.txt > table.csv
+
+Exit status: 0 for a table, 1 for a refusal.";
+
+/// The command `table`, with its files.
+pub(crate) fn table_command<'a>(alloc: Global) -> Result<Command<'a>, AllocError>
+    ensures files { IfOk result (IsCommand table) }
+{
+    judging_command(alloc, "table", ABOUT, HELP)
+}
