@@ -1,7 +1,4 @@
 pub mod ConversationLemmas
 pub mod CountLemmas
 pub mod DigitLemmas
-pub mod HeaderLemmas
-pub mod ReadingLemmas
 pub mod TelemetryLemmas
-pub mod WordLemmas

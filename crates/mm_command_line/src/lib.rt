@@ -5,7 +5,6 @@ mod chart;
 mod command;
 mod flight;
 mod line;
-mod read;
 mod table;
 mod task;
 mod version;

@@ -57,8 +57,6 @@ pub enum Task<'a> {
     Fly(FlightFiles<'a>),
     /// Answer the requests of the storage service, one after another, in a memory of the setup.
     Ask { setup: &'a str, requests: &'a str },
-    /// Say what packets of the storage service hold.
-    Read { packets: &'a str },
 }
 
 impl<'a> Task<'a> {
@@ -81,7 +79,6 @@ impl<'a> Task<'a> {
                 Role::Setup => Some(setup),
                 _ => None,
             },
-            Task::Read { .. } => None,
         }
     }
 }

@@ -1,11 +1,11 @@
-//! What answers the tasks that carry nothing out: plans, verdicts, charts, tables, answers to requests, and packets in words.
+//! What answers the tasks that carry nothing out: plans, verdicts, charts, tables, and the answers to requests.
 ghost use Rattle.std.specs.Prelude.{◌≡◌, [], ◌∷◌, IfOk, IfErr};
 ghost use Rattle.mm_tasks.specs.Answers.{Holds, IsAnswerTo, status_of, status_of_replies};
 ghost use Rattle.mm_tasks.specs.Refusing.{IsUnread, IsFaultOf};
-ghost use Rattle.mm_command_line.specs.declared.task.Task.TheVariants.{Plan, Check, Chart, Table, Ask, Read};
+ghost use Rattle.mm_command_line.specs.declared.task.Task.TheVariants.{Plan, Check, Chart, Table, Ask};
 
 use crate::fault::Fault;
-use mm_ask::{Outcome, ask_bytes, read_bytes};
+use mm_ask::{Outcome, ask_bytes};
 use mm_chart::{chart_bytes, table_bytes};
 use mm_check::check_bytes;
 use mm_command_line::PlanFiles;
@@ -20,7 +20,7 @@ use std::alloc::Global;
 #[derive(Drop)]
 pub(crate) enum Answer {
     Text { status: Status, text: Vec<u8> },
-    /// The lines that answer requests, or say what packets hold.
+    /// The lines that answer requests.
     Lines { outcome: Outcome, lines: Vec<u8> },
     /// The line of a verdict.
     Line { verdict: Verdict, line: Vec<u8> },
@@ -174,19 +174,5 @@ pub fn ask<'a, F: Files>(
     let setup = read_file(alloc, files, setup)?;
     let requests = read_file(alloc, files, requests)?;
     let (outcome, lines) = ask_bytes(alloc, &setup, &requests)?;
-    Ok(Answer::Lines { outcome, lines })
-}
-
-/// The lines that say what the packets in the file hold.
-pub fn read<'a, F: Files>(
-    alloc: Global,
-    files: &mut F,
-    packets: &'a str,
-) -> Result<Answer, Fault<'a>>
-    ensures reads { IfOk result (IsAnswerTo (F.content files.old) (Read packets.entry)) }
-    ensures refused { IfErr result (IsFaultOf (F.content files.old) (Read packets.entry)) }
-{
-    let packets = read_file(alloc, files, packets)?;
-    let (outcome, lines) = read_bytes(alloc, &packets)?;
     Ok(Answer::Lines { outcome, lines })
 }

@@ -21,16 +21,6 @@ pub enum Fault<'a> {
     Setup(mm_problem::Fault),
 }
 
-impl From<mm_base::NoMemory> for Fault<'_> {
-    ghost use Rattle.mm_tasks.specs.declared.fault.Fault.TheVariants.{NoMemory};
-
-    ghost from_gives = { λ _ e. e ≡ NoMemory };
-
-    fn from(_error: mm_base::NoMemory) -> Self {
-        Fault::NoMemory
-    }
-}
-
 impl From<mm_check::Fault> for Fault<'_> {
     ghost from_gives = { λ fault e. e ≡ Texts fault };
 

@@ -89,18 +89,17 @@ impl fmt::Display for Refused<'_> {
     }
 }
 
-// The file whose packets a task reads, one a line.
-fn packets_of(task: Task<'_>) -> Option<&str> {
+// The file of requests that a task answers.
+fn requests_of(task: Task<'_>) -> Option<&str> {
     match task {
         Task::Ask { requests, .. } => Some(requests),
-        Task::Read { packets } => Some(packets),
         _ => None,
     }
 }
 
 /// Says what each line means that is refused.
 pub(crate) fn tell_refused<E: Write>(task: Task<'_>, lines: &[u8], err: &mut E) -> io::Result<()> {
-    let (Some(file), Ok(lines)) = (packets_of(task), std::str::from_utf8(lines)) else {
+    let (Some(file), Ok(lines)) = (requests_of(task), std::str::from_utf8(lines)) else {
         return Ok(());
     };
     for line in lines.lines() {

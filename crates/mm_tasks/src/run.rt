@@ -7,7 +7,7 @@ ghost use Rattle.mm_tasks.specs.Faults.{refused_line};
 ghost use Rattle.mm_tasks.specs.Refusing.{IsFaultOf, Refuses, refused_input};
 
 use crate::advice::Advice;
-use crate::answers::{Answer, ask, chart, check, plan, read, status_of, status_of_replies, table};
+use crate::answers::{Answer, ask, chart, check, plan, status_of, status_of_replies, table};
 use crate::fault::Fault;
 use crate::flight::fly;
 use crate::remark::{Remark, tell_refused};
@@ -114,7 +114,6 @@ fn answer<'a, R: Threads + Wait + Sync, F: Files>(
         Task::Table(names) => table(alloc, files, names),
         Task::Fly(names) => fly(rt, alloc, files, names),
         Task::Ask { setup, requests } => ask(alloc, files, setup, requests),
-        Task::Read { packets } => read(alloc, files, packets),
     }
 }
 

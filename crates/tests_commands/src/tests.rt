@@ -8,7 +8,6 @@ mod failing;
 mod flying;
 mod inputs;
 mod planning;
-mod reading;
 mod samples;
 mod tabling;
 mod words;

@@ -2,5 +2,4 @@
 
 mod lines;
 mod memories;
-mod reads;
 mod samples;
