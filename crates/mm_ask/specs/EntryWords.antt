@@ -19,19 +19,19 @@ unfoldable pub named : List ℕ → ℕ → List ℕ
 named word number = word ++ decimal number
 
 -- the text of an identifier, or the hexadecimal digits of octets that are none
-abbrev pub id_words : List ℕ → List ℕ
+unfoldable pub id_words : List ℕ → List ℕ
 id_words octets = if is_id octets then id_text octets else encode_upper octets
 
 -- the type of a store, or the number of a type that is not allowed
-abbrev pub type_words : ℕ → List ℕ
+unfoldable pub type_words : ℕ → List ℕ
 type_words kind = if kind == 0 then codes " type circular" else if kind == 1 then codes " type bounded" else named (codes " type ") kind
 
 -- whether storage is on, or the number of a status that is not allowed
-abbrev pub storage_words : ℕ → List ℕ
+unfoldable pub storage_words : ℕ → List ℕ
 storage_words status = if status == 0 then codes " storage off" else if status == 1 then codes " storage on" else named (codes " storage ") status
 
 -- whether a retrieval is on
-abbrev pub retrieval_words : ℕ → List ℕ
+unfoldable pub retrieval_words : ℕ → List ℕ
 retrieval_words status = if status == 0 then codes " retrieval off" else if status == 1 then codes " retrieval on" else named (codes " retrieval ") status
 
 -- a report type: the numbers of telemetry

@@ -27,7 +27,7 @@ says_answer None = false
 says_answer (Some parts) = bytes_eq parts.1 (codes "done") || is_first_word (codes "refused") (cut_word parts.1)
 
 -- whether a line is an answer of `ask`: after its first word stands `done`, or `refused` with more words
-abbrev pub is_answer : List ℕ → Bool
+unfoldable pub is_answer : List ℕ → Bool
 is_answer line = says_answer (cut_word line)
 
 -- a number before digits

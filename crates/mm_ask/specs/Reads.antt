@@ -1,5 +1,5 @@
 -- What the lines of packets read as.
-use Rattle.std.specs.Prelude.{◌≡◌, ℕ, ◌+◌, ◌==◌, Bool, not, List, [], ◌∷◌, ◌++◌, filter, Option, Some, None, Result, Ok, Err, if◌then◌else◌}
+use Rattle.std.specs.Prelude.{◌≡◌, ℕ, ◌+◌, ◌==◌, Bool, true, false, not, List, [], ◌∷◌, ◌++◌, filter, Option, Some, None, Result, Ok, Err}
 use Rattle.mm_base.specs.Characters.{line_feed, space}
 use Rattle.mm_base.specs.Lines.{text_lines}
 use Rattle.mm_base.specs.Reading.{◌>>=◌}
@@ -86,7 +86,8 @@ ShowsDigits found s t = ShowsResult found.0 (packet_of found.1) s t
 
 -- an answer of `ask` is printed as it stands; any other line is read as a packet
 abbrev pub ShowsLine : Bool → ℕ → List ℕ → SoFar → SoFar → Type 0
-ShowsLine answer line octets s t = if answer then t ≡ with_lines (octets ++ line_feed ∷ []) s else ShowsDigits (labelled line octets) s t
+ShowsLine true line octets s t = t ≡ with_lines (octets ++ line_feed ∷ []) s
+ShowsLine false line octets s t = ShowsDigits (labelled line octets) s t
 
 -- what a line leaves; an empty one is passed over
 abbrev pub Shows : ℕ → List ℕ → SoFar → SoFar → Type 0

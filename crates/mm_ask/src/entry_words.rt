@@ -33,6 +33,7 @@ pub(crate) fn push_id(alloc: Global, text: &mut Vec<u8>, octets: &[u8; 8]) -> Re
 }
 
 // Writes the type of a store.
+#[tactic(auto, unfolding(crate::specs::EntryWords::type_words))]
 fn push_type(text: &mut Vec<u8>, kind: u8) -> Result<(), AllocError>
     ensures { OnOk result (text.new.items ≡ text.old.items ++ type_words kind) }
 {
@@ -44,6 +45,7 @@ fn push_type(text: &mut Vec<u8>, kind: u8) -> Result<(), AllocError>
 }
 
 // Writes whether storage is on.
+#[tactic(auto, unfolding(crate::specs::EntryWords::storage_words))]
 fn push_storage(text: &mut Vec<u8>, status: u8) -> Result<(), AllocError>
     ensures { OnOk result (text.new.items ≡ text.old.items ++ storage_words status) }
 {
@@ -55,6 +57,7 @@ fn push_storage(text: &mut Vec<u8>, status: u8) -> Result<(), AllocError>
 }
 
 // Writes whether a retrieval is on.
+#[tactic(auto, unfolding(crate::specs::EntryWords::retrieval_words))]
 fn push_retrieval(text: &mut Vec<u8>, status: u8) -> Result<(), AllocError>
     ensures { OnOk result (text.new.items ≡ text.old.items ++ retrieval_words status) }
 {

@@ -33,6 +33,7 @@ fn says_refused(text: &[u8]) -> bool
 }
 
 /// Whether a line is an answer of `ask` to an instruction, or to a line that it refused.
+#[tactic(auto, unfolding(crate::specs::Label::is_answer))]
 pub(crate) fn is_answer(line: &[u8]) -> bool
     ensures { result ≡ is_answer line.now }
 {

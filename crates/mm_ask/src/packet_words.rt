@@ -12,7 +12,6 @@ use mm_st15::{Entries, Report, Request};
 use std::alloc::{AllocError, Global};
 
 // The octets of the data field, less 1.
-#[tactic(auto, using(crate::proofs::HeaderLemmas::telecommand_length, crate::proofs::HeaderLemmas::telemetry_length))]
 fn data_length(packet: &Packet) -> u64
     ensures { result ≡ data_length packet.now }
 {
@@ -41,7 +40,7 @@ fn low_word(packet: &Packet) -> &'static [u8]
 }
 
 // Writes the fields that only packets of this type have.
-#[tactic(auto, using(std::proofs::Common::append_assoc, crate::proofs::HeaderLemmas::telecommand_words, crate::proofs::HeaderLemmas::telemetry_words))]
+#[tactic(auto, using(std::proofs::Common::append_assoc, crate::proofs::HeaderLemmas::telecommand_words))]
 fn push_type_fields(text: &mut Vec<u8>, packet: &Packet) -> Result<(), AllocError>
     ensures { OnOk result (text.new.items ≡ text.old.items ++ type_fields packet.now.kind) }
 {

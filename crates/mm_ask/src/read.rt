@@ -4,7 +4,9 @@ ghost use Rattle.mm_base.specs.Characters.{line_feed};
 ghost use Rattle.mm_base.specs.Lines.{text_lines};
 ghost use Rattle.mm_base.specs.Reading.{Gives};
 ghost use Rattle.mm_st15.specs.Report.{report_fault};
-ghost use Rattle.mm_st15.specs.Request.{request_fault};
+ghost use Rattle.mm_st15.specs.Request.{HasCount, count_of, kind_of, request_fault};
+ghost use Rattle.mm_ask.specs.Label.{is_answer};
+ghost use Rattle.mm_ask.specs.PacketWords.{request_lines};
 ghost use Rattle.mm_ask.specs.Reads.{ShowsEach, Reads, packet_of, without_spaces};
 
 use crate::answering::Outcome;
@@ -59,7 +61,7 @@ fn packet_of(alloc: Global, digits: &[u8]) -> Result<Packet, LineFault>
 }
 
 impl Reading {
-    ghost use Rattle.mm_ask.specs.Reads.{nothing, with_lines, with_refused, ShowsRequest, ShowsReport, ShowsOr, ShowsPacket, ShowsResult, Shows};
+    ghost use Rattle.mm_ask.specs.Reads.{nothing, with_lines, with_refused, ShowsRequest, ShowsReport, ShowsOr, ShowsPacket, ShowsResult, ShowsLine, Shows};
 
     fn new(alloc: Global) -> Reading
         ensures { result ≡ nothing }
@@ -97,16 +99,27 @@ impl Reading {
         Ok(())
     }
 
+    // Prints a request.
+    fn print_request(
+        &mut self,
+        alloc: Global,
+        number: u64,
+        request: &Request,
+    ) -> Result<(), NoMemory>
+        requires { HasCount (kind_of request.now) (count_of request.now) }
+        ensures { OnOk result (self.new ≡ with_lines (request_lines number request.now) self.old) }
+    {
+        push_request(alloc, &mut self.text, number, request)?;
+        Ok(())
+    }
+
     // Prints the request that a telecommand spells.
     fn request(&mut self, alloc: Global, number: u64, packet: &Packet) -> Result<(), NoMemory>
         ensures { OnOk result (ShowsOr number (request_fault packet.now)
             (ShowsRequest number packet.now) self.old self.new) }
     {
         match Request::read(alloc, packet) {
-            Ok(request) => {
-                push_request(alloc, &mut self.text, number, &request)?;
-                Ok(())
-            }
+            Ok(request) => self.print_request(alloc, number, &request),
             Err(mm_st15::Fault::NoMemory) => Err(NoMemory),
             Err(fault) => self.refuse(number, LineFault::from(fault)),
         }
@@ -150,18 +163,27 @@ impl Reading {
         }
     }
 
-    // Reads a line, which has this number.
+    // Reads a line that is not empty.
+    fn filled_line(&mut self, alloc: Global, line: u64, octets: &[u8]) -> Result<(), NoMemory>
+        ensures { OnOk result (ShowsLine (is_answer octets.now) line octets.now self.old self.new) }
+    {
+        if is_answer(octets) {
+            self.repeat(octets)
+        } else {
+            let (number, digits) = labelled(line, octets);
+            self.digits(alloc, number, digits)
+        }
+    }
+
+    // Reads a line, which has this number; an empty one is passed over.
     fn line(&mut self, alloc: Global, line: u64, octets: &[u8]) -> Result<(), NoMemory>
         ensures { OnOk result (Shows line octets.now self.old self.new) }
     {
         if octets.is_empty() {
-            return Ok(());
+            Ok(())
+        } else {
+            self.filled_line(alloc, line, octets)
         }
-        if is_answer(octets) {
-            return self.repeat(octets);
-        }
-        let (number, digits) = labelled(line, octets);
-        self.digits(alloc, number, digits)
     }
 }
 

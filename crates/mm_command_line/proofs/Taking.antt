@@ -117,9 +117,9 @@ taken words line =
     subst IsTaken line.spelled (taken_task line.task (subst (λ ws. All IsFileName (drop 1 ws)) (sym line.spelled) line.names))
 
 -- the task that is read of a parse of a line spells that line
-pub spells : (app : App) (words : List Text) (m : ArgMatches) (said : Option (List Text)) → app ≡ tool → HasMatchesOf app words m → said ≡ line_found (subcommand_rows_of m)
-    → IsTaskLine words → said ≡ Some words
-spells app words m said is matches found line =
+pub spells : (app : App) (words : List Text) (m : ArgMatches) (read : Option (List Text)) → app ≡ tool → HasMatchesOf app words m → read ≡ line_found (subcommand_rows_of m)
+    → IsTaskLine words → read ≡ Some words
+spells app words m read is matches found line =
     found ∙ ap line_found ((matches (ap is_simple is ∙ tool_simple)).1 ∙ ap (λ a. subcommand_of a words) is) ∙ (taken words line).finds_all
 
 -- and the parse is of words that the program takes
