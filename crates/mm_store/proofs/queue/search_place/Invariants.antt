@@ -1,5 +1,5 @@
 use Rattle.std.proofs.Common.{◌-◌, ◌<◌, ◌≤◌, length, take, drop, All}
-use Rattle.mm_store.proofs.queue.first_place.Given as goal
+use Rattle.mm_store.proofs.queue.search_place.Given as goal
 
 -- the packets before `low` are too early, and those from `high` on are not
 abbrev pub invariant-loop-low : goal.invariant-loop-low
