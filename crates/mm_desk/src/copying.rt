@@ -20,9 +20,12 @@ impl StoreState {
         let Some(retrieval) = &mut self.retrieval else {
             return Err(Fault::Idle);
         };
-        let found = self
-            .store
-            .first_in(retrieval.from, retrieval.to, retrieval.after);
+        let found = self.store.first_near(
+            retrieval.from,
+            retrieval.to,
+            retrieval.after,
+            &mut self.place,
+        );
         let Some((time, packet)) = found else {
             self.retrieval = None;
             return Ok(None);

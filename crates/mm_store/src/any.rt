@@ -1,11 +1,12 @@
 //! Packet stores of either kind.
 ghost use Rattle.std.specs.Prelude.{◌≡◌, ◌<◌, ◌≤◌, ◌↔◌, length, Err, IfOk, IsOk, OnOk, OnErr};
-ghost use Rattle.mm_store.specs.Content.{empty_store};
+ghost use Rattle.mm_store.specs.Content.{empty_store, first_in, shown};
 ghost use Rattle.mm_store.specs.declared.fault.Fault.TheVariants.{HoldsMore};
 
 use crate::blocks::BlockStore;
 use crate::fault::Fault;
 use crate::put::Put;
+use crate::queue;
 use crate::ring::RingStore;
 use crate::store::PacketStore;
 use mm_base::{Kind, MAX_BLOCKS, NoMemory};
@@ -83,6 +84,23 @@ impl AnyStore {
             _ => {}
         }
         Ok(())
+    }
+
+    /// The oldest packet from `from` to `to` that is newer than `after`, as by `first_in`. It is found at once where it stands at
+    /// `place`, counted from the oldest, which is then the place after it. Any other `place` costs a search, and changes no answer.
+    pub fn first_near(
+        &self,
+        from: u64,
+        to: u64,
+        after: u64,
+        place: &mut usize,
+    ) -> Option<(u64, &BlockPacket)>
+        ensures found { shown result ≡ first_in from to after self.now.content }
+    {
+        match &self.form {
+            Form::Ring(ring) => queue::first_near(&ring.ring, from, to, after, place),
+            Form::Blocks(blocks) => queue::first_near(&blocks.table, from, to, after, place),
+        }
     }
 }
 
