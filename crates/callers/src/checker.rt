@@ -2,10 +2,9 @@
 ghost use Rattle.std.specs.Prelude.{◌≢◌, ℕ, IfOk, IfSome, IfNone};
 ghost use Rattle.mm_cut.specs.declared.verdict.Verdict.{Verdict};
 ghost use Rattle.mm_cut.specs.declared.verdict.Verdict.TheVariants.{Least};
-ghost use Rattle.mm_check.specs.Checking.{Checks, LosesLeast};
+ghost use Rattle.mm_cut.specs.Checking.{Checks, LosesLeast};
 
-use mm_check::{Fault, check_bytes};
-use mm_cut::Verdict;
+use mm_cut::{Fault, Verdict, check_bytes};
 use std::alloc::Global;
 
 /// How many blocks the plan loses, where its text shows that no plan that fits loses fewer.

@@ -1,7 +1,6 @@
 //! A plan and a verdict from texts: two stores of size 3, whose arrivals meet a window of 2 in the first step.
 use crate::met::Met;
-use mm_check::{Fault, check_bytes};
-use mm_cut::Verdict;
+use mm_cut::{Fault, Verdict, check_bytes};
 use mm_planner::plan_bytes;
 use std::alloc::Global;
 

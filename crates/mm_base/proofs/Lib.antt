@@ -2,3 +2,11 @@ pub mod IdFields
 pub mod NumberLaws
 pub mod NumberTexts
 mod LineLemmas
+pub mod Elements
+pub mod Tests
+pub mod Pairs
+pub mod Ranges
+pub mod Sums
+pub mod RangeSums
+pub mod Grids
+pub mod Groups

@@ -2,10 +2,10 @@
 use Rattle.std.specs.Prelude.{◌≡◌, ◌≢◌, ℕ, List}
 use Rattle.mm_cut.specs.declared.verdict.Verdict.{Verdict}
 use Rattle.mm_cut.specs.declared.verdict.Verdict.TheVariants.{Least}
-use Rattle.mm_check.specs.Checking.{Checks, LosesLeast, IsFaultOf}
-use Rattle.mm_check.specs.Lines.{line_of}
-use Rattle.mm_check.specs.declared.fault.Fault.{Fault}
-use Rattle.mm_check.specs.declared.fault.Fault.TheVariants.{NoMemory}
+use Rattle.mm_cut.specs.Checking.{Checks, LosesLeast, IsFaultOf}
+use Rattle.mm_cut.specs.Lines.{line_of}
+use Rattle.mm_cut.specs.declared.fault.Fault.{Fault}
+use Rattle.mm_cut.specs.declared.fault.Fault.TheVariants.{NoMemory}
 use Rattle.mm_problem.specs.declared.fault.Fault.{Fault as SetupFault}
 use Rattle.mm_planner.specs.PlanTexts.{IsPlanningFault}
 use Rattle.mm_ask.specs.declared.answering.Outcome.{Outcome}

@@ -6,7 +6,7 @@ ghost use Rattle.mm_told.specs.Telling.{Tells};
 ghost use Rattle.mm_c.specs.Telling.{IsWhyUnplanned, IsWhyUnjudged, Judges, LeavesUnjudged, IsNotTooSmall};
 
 use mm_chart::chart_bytes;
-use mm_check::check_bytes;
+use mm_cut::check_bytes;
 use mm_planner::plan_bytes;
 use mm_told::{Answer, PLAN_ROOM, Reason, VerdictTold, plan_texts_fit, tell_text};
 use std::alloc::Global;
@@ -40,7 +40,7 @@ pub extern "C" fn mm_plan(
     *answer = plan_told(alloc, setup, forecast, out);
 }
 
-/// The verdict on a plan text for a setup and a forecast, as `check_bytes` of `mm_check` gives it: in `verdict`, and as its line in
+/// The verdict on a plan text for a setup and a forecast, as `check_bytes` of `mm_cut` gives it: in `verdict`, and as its line in
 /// `out`. Where the call is refused each field of `verdict` is 0.
 #[unsafe(no_mangle)]
 pub extern "C" fn mm_check(

@@ -8,8 +8,8 @@ use Rattle.std.proofs.lemmas.List.Elements.{All-contains}
 use Rattle.std.proofs.lemmas.List.Sums.{passes_at_first}
 use Rattle.std.proofs.lemmas.Slice.Eq.{bytes_eq-Decides}
 use Rattle.std.specs.Str.{bytes_eq}
-use Rattle.mm_sums.proofs.RangeSums.{term-le-sum_by_range}
-use Rattle.mm_sums.proofs.Sums.{sum_by-filter_parts}
+use Rattle.mm_base.proofs.RangeSums.{term-le-sum_by_range}
+use Rattle.mm_base.proofs.Sums.{sum_by-filter_parts}
 use Rattle.mm_problem.specs.Dumping.{Dumping, no_row, row, place, size, start, channel, window, arrivals, steps}
 use Rattle.mm_plan.specs.Table.{amount}
 use Rattle.mm_plan.specs.declared.stretch.Stretch.{Stretch}

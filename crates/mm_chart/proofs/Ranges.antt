@@ -3,8 +3,8 @@ use Rattle.std.proofs.Common.{◌≡◌, ℕ, ◌+◌, ◌-◌, ◌≤◌, List,
 use Rattle.std.specs.Prelude.{flat_map}
 use Rattle.std.specs.List.{range_with_len, sum_by}
 use Rattle.std.proofs.lemmas.Grind.{flat_map-append}
-use Rattle.mm_sums.proofs.Ranges.{range_with_len_more}
-use Rattle.mm_sums.proofs.RangeSums.{sum_by_range_more}
+use Rattle.mm_base.proofs.Ranges.{range_with_len_more}
+use Rattle.mm_base.proofs.RangeSums.{sum_by_range_more}
 use Rattle.mm_chart.specs.Series.{largest}
 
 -- the texts of one number more

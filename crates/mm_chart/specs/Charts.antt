@@ -1,7 +1,8 @@
 -- The document of a chart, and the chart of three texts.
 use Rattle.std.specs.Prelude.{◌≡◌, ℕ, List, [], ◌∷◌, ◌++◌, codes, decimal}
 use Rattle.mm_base.specs.Characters.{line_feed}
-use Rattle.mm_check.specs.Checking.{SaysProblem, SaysSheet}
+use Rattle.mm_problem.specs.Texts.{SaysProblem}
+use Rattle.mm_cut.specs.Checking.{SaysSheet}
 use Rattle.mm_plan.specs.Table.{amount}
 use Rattle.mm_plan.specs.Sheet.{SheetRows}
 use Rattle.mm_problem.specs.Dumping.{Dumping}

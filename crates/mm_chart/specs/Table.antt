@@ -2,7 +2,8 @@
 use Rattle.std.specs.Prelude.{◌≡◌, ℕ, ◌+◌, ◌-◌, ◌≤◌, min, List, [], ◌∷◌, ◌++◌, codes, decimal, flat_map}
 use Rattle.mm_base.specs.Characters.{line_feed}
 use Rattle.mm_base.specs.Id.{id_text}
-use Rattle.mm_check.specs.Checking.{SaysProblem, SaysSheet}
+use Rattle.mm_problem.specs.Texts.{SaysProblem}
+use Rattle.mm_cut.specs.Checking.{SaysSheet}
 use Rattle.mm_plan.specs.Table.{amount}
 use Rattle.mm_plan.specs.Volumes.{Amounts, left, written, lost}
 use Rattle.mm_plan.specs.Simulated.{VolumeTables, written_in, left_in, lost_in, CoversProblem, AgreeEach}

@@ -1,8 +1,8 @@
 //! Charts of texts.
 ghost use Rattle.std.specs.Prelude.{◌≡◌, ◌++◌, ◌∷◌, [], IfOk, OnOk, decimal};
 ghost use Rattle.mm_base.specs.Reading.{IfRefused};
-ghost use Rattle.mm_check.specs.declared.fault.Fault.TheVariants.{NoMemory};
-ghost use Rattle.mm_check.specs.Checking.{IsFaultOf};
+ghost use Rattle.mm_cut.specs.declared.fault.Fault.TheVariants.{NoMemory};
+ghost use Rattle.mm_cut.specs.Checking.{IsFaultOf};
 ghost use Rattle.mm_chart.specs.Charts.{head, chart, Charts};
 
 use crate::layout::word_line;
@@ -10,7 +10,8 @@ use crate::pen::{push_said, push_value};
 use crate::picture::Picture;
 use crate::rows::push_rows;
 use crate::words::{push_headline, push_words, word_lines};
-use mm_check::{Fault, read_problem, read_sheet};
+use mm_cut::{Fault, read_sheet};
+use mm_problem::read_problem;
 use std::alloc::{AllocError, Global};
 
 /// The beginning of the document, up to its height.

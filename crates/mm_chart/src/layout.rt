@@ -87,7 +87,7 @@ pub(crate) fn has_limit(problem: &Problem, channel: u8) -> u32
 }
 
 // How many of the channels below this one have a limit.
-#[tactic(auto, using(mm_sums::proofs::RangeSums::sum_by_range_more))]
+#[tactic(auto, using(mm_base::proofs::RangeSums::sum_by_range_more))]
 fn limits_below(problem: &Problem, channel: u8) -> u32
     ensures count { result ≡ limits_below problem.now channel }
     ensures most { result ≤ channel }

@@ -17,7 +17,7 @@ pub use laws::{
     headline_words_are, helping_words_are, marked_words_are, only_listed_helps, records_balance,
     sum_words_are, sums_add_up,
 };
-pub use mm_check::Fault;
+pub use mm_cut::Fault;
 pub use picture::Picture;
 pub use series::Series;
 pub use table::table_bytes;

@@ -224,7 +224,7 @@ impl Picture {
     }
 
     // What leaves all stores in a step.
-    #[tactic(auto, using(mm_sums::proofs::RangeSums::sum_by_range_more))]
+    #[tactic(auto, using(mm_base::proofs::RangeSums::sum_by_range_more))]
     fn used(&self, step: u32) -> u64
         requires first { 1 ≤ step }
         requires last { step ≤ length self.now.problem.windows }
@@ -239,7 +239,7 @@ impl Picture {
     }
 
     // What leaves the stores of a channel in a step.
-    #[tactic(auto, using(mm_sums::proofs::RangeSums::sum_by_filter_range_more))]
+    #[tactic(auto, using(mm_base::proofs::RangeSums::sum_by_filter_range_more))]
     fn sent_on(&self, channel: u8, step: u32) -> u64
         requires first { 1 ≤ step }
         requires last { step ≤ length self.now.problem.windows }

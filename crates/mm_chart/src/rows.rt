@@ -190,7 +190,7 @@ fn coming_to(picture: &Picture, store: usize) -> u64
 }
 
 // What comes to all stores.
-#[tactic(auto, using(mm_sums::proofs::RangeSums::sum_by_range_more))]
+#[tactic(auto, using(mm_base::proofs::RangeSums::sum_by_range_more))]
 pub(crate) fn all_coming(picture: &Picture) -> u64
     ensures { result ≡ all_coming picture.now }
 {

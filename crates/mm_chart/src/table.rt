@@ -1,16 +1,16 @@
 //! Tables of plans: what each step does to each store, as comma separated values.
 ghost use Rattle.std.specs.Prelude.{◌≡◌, ◌<◌, ◌≤◌, ◌++◌, length, decimal, flat_map, IfOk, OnOk};
 ghost use Rattle.mm_base.specs.Reading.{IfRefused};
-ghost use Rattle.mm_check.specs.declared.fault.Fault.TheVariants.{NoMemory};
-ghost use Rattle.mm_check.specs.Checking.{IsFaultOf};
+ghost use Rattle.mm_cut.specs.declared.fault.Fault.TheVariants.{NoMemory};
+ghost use Rattle.mm_cut.specs.Checking.{IsFaultOf};
 ghost use Rattle.mm_problem.specs.Dumping.{steps};
 ghost use Rattle.mm_plan.specs.Table.{amount, HasShape};
 ghost use Rattle.mm_chart.specs.Table.{dumped, next_cell, place_cells, volume_cells, record_of, step_records, table, IsTableOf, IsSimulation};
 
 use mm_base::numbers::push_number;
-use mm_check::{Fault, read_problem, read_sheet};
+use mm_cut::{Fault, read_sheet};
 use mm_plan::{Plan, Simulated, simulate};
-use mm_problem::Problem;
+use mm_problem::{Problem, read_problem};
 use std::alloc::{AllocError, Global};
 
 // A cell after another of its record.

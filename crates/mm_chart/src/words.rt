@@ -16,8 +16,7 @@ use crate::picture::Picture;
 use crate::rows::{all_coming, push_counted, push_name};
 use crate::series::Series;
 use mm_base::NoMemory;
-use mm_check::verdict_line;
-use mm_cut::Verdict;
+use mm_cut::{Verdict, verdict_line};
 use std::alloc::{AllocError, Global};
 
 /// The most ranges that are listed.

@@ -7,8 +7,8 @@ use Rattle.std.proofs.lemmas.List.Folds.{Any-from_list_any}
 use Rattle.std.proofs.lemmas.List.FromFn.{length-range_with_len, get_or-range_with_len}
 use Rattle.std.proofs.lemmas.List.Sums.{sum_by-le, get_or-le-sum_by}
 use Rattle.mm_base.specs.declared.limits.TheConstants.{MAX_STORES, MAX_STEPS}
-use Rattle.mm_sums.proofs.Sums.{sum_by-le_each, sum_by-swap, sum_by_ones}
-use Rattle.mm_sums.proofs.Groups.{sum_by-le_places}
+use Rattle.mm_base.proofs.Sums.{sum_by-le_each, sum_by-swap, sum_by_ones}
+use Rattle.mm_base.proofs.Groups.{sum_by-le_places}
 use Rattle.mm_problem.specs.Dumping.{Dumping, stores, steps, IsDumping}
 use Rattle.mm_plan.specs.declared.stretch.Stretch.{Stretch}
 use Rattle.mm_cut.specs.Stretches.{covers, goes_past, IsStretch, AreStretches}

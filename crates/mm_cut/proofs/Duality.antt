@@ -8,7 +8,7 @@ use Rattle.mm_plan.specs.Fit.{Fits}
 use Rattle.mm_plan.specs.Least.{IsLeast}
 use Rattle.mm_plan.specs.declared.stretch.Stretch.{Stretch}
 use Rattle.mm_cut.specs.Cuts.{IsCut, coming, held, leaving_sum, bound, CutsBoundLosses}
-use Rattle.mm_sums.proofs.Sums.{sum_by-le_each, sum_by-add}
+use Rattle.mm_base.proofs.Sums.{sum_by-le_each, sum_by-add}
 use Rattle.mm_cut.proofs.StretchLosses.{lost_in, leaves_in, coming-le}
 use Rattle.mm_cut.proofs.Exchange.{lost_in_all, leaves_in_all}
 

@@ -10,10 +10,10 @@ use Rattle.std.proofs.lemmas.List.Elements.{All-contains}
 use Rattle.std.proofs.lemmas.List.Folds.{Any-from_list_any, list_any_at}
 use Rattle.std.proofs.lemmas.List.Sums.{passes_at_first}
 use Rattle.std.proofs.lemmas.Slice.Eq.{bytes_eq-Decides}
-use Rattle.mm_sums.proofs.Tests.{true-from_cond}
-use Rattle.mm_sums.proofs.Sums.{sum_by-le_each, sum_by-filter, sum_by_zeros, sum_by-swap}
-use Rattle.mm_sums.proofs.RangeSums.{sum_by_range-le}
-use Rattle.mm_sums.proofs.Groups.{sum_by-le_groups, sum_by-le_places}
+use Rattle.mm_base.proofs.Tests.{true-from_cond}
+use Rattle.mm_base.proofs.Sums.{sum_by-le_each, sum_by-filter, sum_by_zeros, sum_by-swap}
+use Rattle.mm_base.proofs.RangeSums.{sum_by_range-le}
+use Rattle.mm_base.proofs.Groups.{sum_by-le_groups, sum_by-le_places}
 use Rattle.mm_problem.specs.Dumping.{Dumping, no_row, place, limit, window, is_of, stores, stores_of, channels, steps}
 use Rattle.mm_plan.specs.Volumes.{Amounts, lost, loss}
 use Rattle.mm_plan.specs.Fit.{in_step, FitsAt, Fits}

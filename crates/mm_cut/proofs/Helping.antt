@@ -7,8 +7,8 @@ use Rattle.std.proofs.lemmas.Bool.Decides.{nat_tests}
 use Rattle.std.proofs.lemmas.Int.{ints}
 use Rattle.std.proofs.lemmas.List.Folds.{Any-from_list_any, list_any_at}
 use Rattle.std.proofs.lemmas.List.Elements.{All-contains}
-use Rattle.mm_sums.proofs.Sums.{sum_by-le_each, sum_by-filter}
-use Rattle.mm_sums.proofs.RangeSums.{sum_by_range-le}
+use Rattle.mm_base.proofs.Sums.{sum_by-le_each, sum_by-filter}
+use Rattle.mm_base.proofs.RangeSums.{sum_by_range-le}
 use Rattle.mm_problem.specs.Dumping.{Dumping, start, limit, arrivals, channels}
 use Rattle.mm_plan.specs.declared.stretch.Stretch.{Stretch}
 use Rattle.mm_cut.specs.Stretches.{store_of, channel_of, covers, goes_past, goes_past_on, is_inner, is_inner_on, IsStretch}

@@ -6,4 +6,5 @@ pub mod Counting
 pub mod Prefixes
 pub mod Exclusion
 pub mod Helping
+mod Refusals
 mod WorkedExamples

@@ -1,6 +1,6 @@
 -- The sums that a bound is made of.
 use Rattle.std.proofs.Common.{◌≡◌, ℕ, ◌+◌, List}
-use Rattle.mm_sums.proofs.Sums.{sum_by-filter_parts}
+use Rattle.mm_base.proofs.Sums.{sum_by-filter_parts}
 use Rattle.mm_problem.specs.Dumping.{Dumping, window, steps}
 use Rattle.mm_plan.specs.declared.stretch.Stretch.{Stretch}
 use Rattle.mm_cut.specs.Stretches.{is_inner}

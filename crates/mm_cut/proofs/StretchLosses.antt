@@ -8,7 +8,7 @@ use Rattle.mm_plan.specs.Volumes.{Amounts, left, written, lost}
 use Rattle.mm_plan.specs.declared.stretch.Stretch.{Stretch}
 use Rattle.mm_cut.specs.Stretches.{store_of, covers, goes_past, IsStretch}
 use Rattle.mm_cut.specs.Cuts.{opening, coming, held}
-use Rattle.mm_sums.proofs.Sums.{sum_by-filter}
+use Rattle.mm_base.proofs.Sums.{sum_by-filter}
 
 -- what arrives at the store of a stretch in a step, where the step is one of the stretch's
 abbrev arrives_in : Dumping → Stretch → ℕ → ℕ

@@ -4,3 +4,6 @@ pub mod Cuts
 pub mod Changes
 pub mod FirstBad
 pub mod Verdicts
+pub mod Fault
+pub mod Checking
+pub mod Lines

@@ -25,7 +25,7 @@ fn opening(problem: &Problem, stretch: &Stretch) -> u32
 }
 
 // What it holds before and what arrives in the stretch's steps.
-#[tactic(auto, using(mm_sums::proofs::RangeSums::sum_by_filter_range_next))]
+#[tactic(auto, using(mm_base::proofs::RangeSums::sum_by_filter_range_next))]
 fn coming(problem: &Problem, stretch: &Stretch) -> u64
     requires { IsStretch problem.now stretch.now }
     ensures coming { result ≡ coming problem.now stretch.now }
@@ -67,7 +67,7 @@ fn inner_channels(problem: &Problem, stretches: &[Stretch], step: u32) -> [bool;
 }
 
 // The limits of the channels of the stores that are inner in the step, each channel once.
-#[tactic(auto, using(mm_sums::proofs::RangeSums::sum_by_filter_range_more))]
+#[tactic(auto, using(mm_base::proofs::RangeSums::sum_by_filter_range_more))]
 fn limit_sum(problem: &Problem, stretches: &[Stretch], step: u32) -> u64
     requires is_dumping { IsDumping problem.now }
     requires stretches { All (IsStretch problem.now) stretches.now }
@@ -99,7 +99,7 @@ pub fn counts_limits(stretches: &[Stretch], counts: &[u32], step: u32) -> bool
 }
 
 // What may leave in the steps that count by their windows.
-#[tactic(auto, using(mm_sums::proofs::RangeSums::sum_by_filter_range_next))]
+#[tactic(auto, using(mm_base::proofs::RangeSums::sum_by_filter_range_next))]
 fn windows_sum(problem: &Problem, stretches: &[Stretch], counts: &[u32]) -> u64
     ensures sum { result ≡ windows_sum problem.now stretches.now counts.now }
     ensures most { result ≤ MAX_STEPS * MAX_BLOCKS }
@@ -114,7 +114,7 @@ fn windows_sum(problem: &Problem, stretches: &[Stretch], counts: &[u32]) -> u64
 }
 
 // What may leave in the steps that count by the limits of channels.
-#[tactic(auto, using(mm_sums::proofs::RangeSums::sum_by_filter_range_next))]
+#[tactic(auto, using(mm_base::proofs::RangeSums::sum_by_filter_range_next))]
 fn limits_sum(problem: &Problem, stretches: &[Stretch], counts: &[u32]) -> u64
     requires { All (IsStretch problem.now) stretches.now }
     ensures sum { result ≡ limits_sum problem.now stretches.now counts.now }

@@ -1,16 +1,22 @@
-//! Cuts and verdicts: what shows that a dump plan loses least, whoever made it.
+//! Cuts, verdicts and the checker: what shows that a dump plan loses least, whoever made it. It stands on no planner and no solver.
 #![tactic(auto)]
 
 mod bounds;
+mod check;
 mod counts;
+mod fault;
 mod laws;
+mod lines;
 mod stretches;
 mod verdict;
 
 pub use bounds::{Parts, bound, counts_limits, counts_window, parts_of};
+pub use check::{check_bytes, read_sheet};
 pub use counts::first_bad_count;
+pub use fault::Fault;
 pub use laws::{
     cuts_are_few, cuts_bound_losses, cuts_count_alike, only_counted_helps, verdicts_exclude,
 };
+pub use lines::verdict_line;
 pub use stretches::{first_bad, store_of};
 pub use verdict::{Verdict, verify};

@@ -8,7 +8,7 @@ use Rattle.std.proofs.lemmas.List.Sums.{sum_by-cons, sum_by-append}
 use Rattle.crossbeam_queue.specs.declared.array_queue.Doing.{Doing}
 use Rattle.crossbeam_queue.specs.declared.array_queue.Slotted.{Slotted}
 use Rattle.crossbeam_queue.specs.Passes.{view}
-use Rattle.mm_sums.proofs.Sums.{sum_by-map}
+use Rattle.mm_base.proofs.Sums.{sum_by-map}
 use Rattle.mm_desk.specs.declared.entry.Entry.{Entry}
 use Rattle.mm_store.specs.declared.stored.Stored.{Stored}
 use Rattle.mm_shared.specs.Stores.{id_at, list_at}

@@ -7,8 +7,8 @@ use mathlib.Core.Option.{some, some-injective, some-ne-none}
 use lib.ListN.{get_elem?}
 use Rattle.crossbeam_queue.specs.Fifo.{Pushes, Pops, Forks, Merges, Learns}
 use Rattle.crossbeam_queue.proofs.Lists.{at_set, at_snoc}
-use Rattle.mm_sums.proofs.Ranges.{range_with_len_more}
-use Rattle.mm_sums.proofs.RangeSums.{sum_by_range_more}
+use Rattle.mm_base.proofs.Ranges.{range_with_len_more}
+use Rattle.mm_base.proofs.RangeSums.{sum_by_range_more}
 use Rattle.mm_dump.specs.declared.queue.QueueView.{QueueView}
 use Rattle.mm_dump.specs.Queue.{queue_view, Knows, AreTakenOnce, Takes, HasRoom, Tells}
 

@@ -5,8 +5,8 @@ use Rattle.std.proofs.lemmas.Bool.{eq-eqb, ne_eqb}
 use Rattle.std.proofs.lemmas.Bool.Decides.{eqb_tells}
 use Rattle.std.proofs.lemmas.List.Elements.{All-head, All-tail, All-get_or}
 use Rattle.std.proofs.lemmas.List.Sums.{sum_by-cons}
-use Rattle.mm_sums.proofs.Pairs.{AllPairs-head, AllPairs-tail}
-use Rattle.mm_sums.proofs.RangeSums.{sum_by_range_shift, sum_by_range_same}
+use Rattle.mm_base.proofs.Pairs.{AllPairs-head, AllPairs-tail}
+use Rattle.mm_base.proofs.RangeSums.{sum_by_range_shift, sum_by_range_same}
 use Rattle.mm_dump.specs.declared.order.Order.{Order}
 use Rattle.mm_dump.specs.Workers.{order_at}
 use Rattle.mm_dump.specs.Dumped.{wanted, times, places_of}

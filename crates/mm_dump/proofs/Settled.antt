@@ -8,7 +8,7 @@ use Rattle.std.proofs.lemmas.List.Sums.{sum_by-cons}
 use Rattle.crossbeam_queue.specs.declared.array_queue.Doing.{Doing}
 use Rattle.crossbeam_queue.specs.declared.array_queue.Slotted.{Slotted}
 use Rattle.crossbeam_queue.specs.Passes.{view}
-use Rattle.mm_sums.proofs.Sums.{sum_by-flat_map}
+use Rattle.mm_base.proofs.Sums.{sum_by-flat_map}
 use Rattle.mm_desk.specs.Laws.{LoneSeatsAreLogs}
 use Rattle.mm_desk.specs.Machine.{State}
 use Rattle.mm_desk.specs.Runs.{IsRun, opening_at}

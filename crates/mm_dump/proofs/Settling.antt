@@ -4,7 +4,7 @@ use Rattle.std.specs.List.{flat_map, sum_by}
 use Rattle.std.specs.Prelude.{Option, None}
 use Rattle.std.proofs.lemmas.Bool.{cases_lt}
 use Rattle.std.proofs.lemmas.List.Elements.{All-nil, All-cons, All-head, All-tail}
-use Rattle.mm_sums.proofs.Sums.{sum_by-same, sum_by-map, sum_by-flat_map}
+use Rattle.mm_base.proofs.Sums.{sum_by-same, sum_by-map, sum_by-flat_map}
 use Rattle.mm_desk.specs.declared.entry.Entry.{Entry}
 use Rattle.mm_desk.specs.Laws.{LoneSeatsAreLogs}
 use Rattle.mm_desk.specs.Machine.{State}

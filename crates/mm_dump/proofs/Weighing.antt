@@ -4,7 +4,7 @@ use Rattle.std.specs.List.{sum_by, range_with_len}
 use Rattle.std.proofs.lemmas.Bool.{cases_lt, lt-ltb, le-ltb, eq-eqb, ne_eqb}
 use Rattle.std.proofs.lemmas.List.Elements.{All-head, All-tail}
 use Rattle.std.proofs.lemmas.List.Sums.{sum_by-cons, sum_by-append}
-use Rattle.mm_sums.proofs.RangeSums.{sum_by_range_more, sum_by_range_zeros}
+use Rattle.mm_base.proofs.RangeSums.{sum_by_range_more, sum_by_range_zeros}
 
 -- a weight below a number
 abbrev pub below : ℕ → (ℕ → ℕ) → ℕ → ℕ

@@ -3,8 +3,8 @@ use Rattle.std.proofs.Common.{◌≡◌, ℕ, ◌+◌, ◌-◌, ◌<◌, ◌≤�
 use Rattle.std.specs.Prelude.{sum_by, slice_index}
 use Rattle.std.specs.List.{range_with_len}
 use Rattle.std.proofs.lemmas.List.Sums.{sum_by-append}
-use Rattle.mm_sums.proofs.Sums.{sum_by-add, sum_by-map}
-use Rattle.mm_sums.proofs.RangeSums.{sum_by_range_same}
+use Rattle.mm_base.proofs.Sums.{sum_by-add, sum_by-map}
+use Rattle.mm_base.proofs.RangeSums.{sum_by_range_same}
 use Rattle.mm_problem.specs.Dumping.{stores}
 use Rattle.mm_desk.specs.declared.held.Held.{Held}
 use Rattle.mm_desk.specs.Machine.{State}

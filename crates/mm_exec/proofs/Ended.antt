@@ -1,7 +1,7 @@
 -- How a run ends.
 use Rattle.std.proofs.Common.{refl, ◌≡◌, inl, inr, ℕ, ◌+◌, ◌-◌, ◌≤◌, List, length, map, get_or, sym, ap, subst, ◌∙◌, arith}
 use Rattle.std.specs.Prelude.{Result, Ok, Err, IfOk, IfErr, sum_by}
-use Rattle.mm_sums.proofs.Sums.{sum_by-same, sum_by-map, sum_by-swap}
+use Rattle.mm_base.proofs.Sums.{sum_by-same, sum_by-map, sum_by-swap}
 use Rattle.mm_base.specs.declared.rows.RouteRow.{RouteRow}
 use Rattle.mm_packet.specs.Packet.{SpacePacket}
 use Rattle.mm_problem.specs.Dumping.{Dumping, stores, steps, window}

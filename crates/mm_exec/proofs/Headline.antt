@@ -2,7 +2,7 @@
 use Rattle.std.proofs.Common.{◌≡◌, ℕ, zero, suc, ◌+◌, ◌-◌, ◌<◌, ◌≤◌, min, List, length, sym, ap, subst, ◌∙◌, arith}
 use Rattle.std.specs.Prelude.{pos}
 use Rattle.std.specs.List.Sorted.{IsSortedByKey}
-use Rattle.mm_sums.proofs.RangeSums.{sum_by_range_same}
+use Rattle.mm_base.proofs.RangeSums.{sum_by_range_same}
 use Rattle.mm_problem.specs.Dumping.{Dumping, size, arrivals}
 use Rattle.mm_plan.specs.Table.{amount}
 use Rattle.mm_plan.specs.Volumes.{Amounts, left, written, lost, store_loss, loss}

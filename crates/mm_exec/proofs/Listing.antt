@@ -5,7 +5,7 @@ use Rattle.std.specs.List.{range_with_len}
 use Rattle.std.proofs.lemmas.Bool.{lt-ltb, le-ltb, cases_lt}
 use Rattle.std.proofs.lemmas.List.{map-append, append-nil}
 use Rattle.std.proofs.lemmas.List.Elements.{filter-append}
-use Rattle.mm_sums.proofs.Ranges.{range_with_len_more}
+use Rattle.mm_base.proofs.Ranges.{range_with_len_more}
 use Rattle.mm_plan.specs.Volumes.{Amounts}
 use Rattle.mm_dump.specs.declared.order.Order.{Order}
 use Rattle.mm_exec.specs.Numbers.{orders_of}

@@ -4,10 +4,10 @@ use Rattle.std.specs.Prelude.{filter, slice_index, AllPairs}
 use Rattle.std.specs.List.{sum_by, range_with_len}
 use Rattle.std.proofs.lemmas.Bool.{lt-ltb, le-ltb, ltb-true, ne_eqb, eq-eqb, cases_lt}
 use Rattle.std.proofs.lemmas.List.Elements.{All-map, All-head, All-tail}
-use Rattle.mm_sums.proofs.Pairs.{AllPairs-map}
-use Rattle.mm_sums.proofs.Ranges.{All-filter-range_with_len, AllPairs-filter-range_with_len}
-use Rattle.mm_sums.proofs.RangeSums.{sum_by_range_one, sum_by_range_same}
-use Rattle.mm_sums.proofs.Sums.{sum_by-filter, sum_by-map-filter}
+use Rattle.mm_base.proofs.Pairs.{AllPairs-map}
+use Rattle.mm_base.proofs.Ranges.{All-filter-range_with_len, AllPairs-filter-range_with_len}
+use Rattle.mm_base.proofs.RangeSums.{sum_by_range_one, sum_by_range_same}
+use Rattle.mm_base.proofs.Sums.{sum_by-filter, sum_by-map-filter}
 use Rattle.mm_plan.specs.Fit.{in_step}
 use Rattle.mm_plan.specs.Volumes.{Amounts}
 use Rattle.mm_dump.specs.declared.order.Order.{Order}

@@ -5,8 +5,8 @@ use Rattle.mm_problem.specs.Dumping.{Dumping, stores, stores_of, steps, is_of}
 use Rattle.mm_plan.specs.Volumes.{Amounts, left, lost, store_loss, loss}
 use Rattle.mm_plan.specs.Fit.{in_step, FitsAt, Fits}
 use Rattle.mm_exhaustive.specs.Agreement.{AgreesThroughout}
-use Rattle.mm_sums.proofs.Ranges.{All-range_with_len}
-use Rattle.mm_sums.proofs.Sums.{sum_by-same}
+use Rattle.mm_base.proofs.Ranges.{All-range_with_len}
+use Rattle.mm_base.proofs.Sums.{sum_by-same}
 
 module _ (q : Dumping) (x y : Amounts) (same : AgreesThroughout q x y) where
   -- in each step the same is to leave each store

@@ -8,8 +8,8 @@ use Rattle.mm_flow.specs.declared.limits.TheConstants.{MAX_CAPACITY}
 use Rattle.mm_flow.specs.Graph.{Graph, arc, places, IsNetwork}
 use Rattle.mm_flow.specs.Cut.{Side, IsCut, leaves, capacity_of, limit_of}
 use Rattle.mm_exhaustive.specs.LeastCut.{AgreesBelow, IsLeastOver, IsLeastCut, IsCutCapacity, least_of}
-use Rattle.mm_sums.proofs.Sums.{sum_by-filter}
-use Rattle.mm_sums.proofs.RangeSums.{sum_by_filter_range_more, sum_by_range_same}
+use Rattle.mm_base.proofs.Sums.{sum_by-filter}
+use Rattle.mm_base.proofs.RangeSums.{sum_by_filter_range_more, sum_by_range_same}
 
 -- what an arc adds to a side's capacity, where it adds a number
 pub added_some : (b : Bool) (most : Option ℕ) (c : ℕ) → cond b most (Some 0) ≡ Some c → (c ≡ cond b (unwrap_or most 0) 0) × (b ≡ true → IsSome most)

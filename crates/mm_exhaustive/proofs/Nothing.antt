@@ -5,7 +5,7 @@ use Rattle.std.proofs.lemmas.Bool.Decides.{leb_tells}
 use Rattle.mm_problem.specs.Dumping.{Dumping, stores, stores_of}
 use Rattle.mm_plan.specs.Table.{Table, amount}
 use Rattle.mm_plan.specs.Fit.{in_step, Fits}
-use Rattle.mm_sums.proofs.Sums.{sum_by_zeros}
+use Rattle.mm_base.proofs.Sums.{sum_by_zeros}
 
 no_element : (xs : List ℕ) → All (λ n. n ≡ 0) xs → (k : ℕ) → get_or xs k 0 ≡ 0
 no_element xs zero k = elim (leb_tells (length xs) k) [

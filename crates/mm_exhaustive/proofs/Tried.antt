@@ -7,7 +7,7 @@ use Rattle.mm_plan.specs.Fit.{in_step, Fits}
 use Rattle.mm_exhaustive.specs.Agreement.{AgreesBefore, AgreesThroughout}
 use Rattle.mm_exhaustive.specs.Best.{IsLeastOf}
 use Rattle.mm_exhaustive.proofs.Alike.{fits-same, loss-same}
-use Rattle.mm_sums.proofs.RangeSums.{term-le-sum_by_range}
+use Rattle.mm_base.proofs.RangeSums.{term-le-sum_by_range}
 
 -- a plan that fits asks for no more than the window
 pub within_window : (q : Dumping) (y : Amounts) → Fits q y → (s t : ℕ) → s < length q.rows → 1 ≤ t → t ≤ length q.windows → y s t ≤ window q t

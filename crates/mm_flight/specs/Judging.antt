@@ -3,7 +3,7 @@ use Rattle.std.specs.Prelude.{List, ℕ}
 use Rattle.mm_problem.specs.Dumping.{Dumping}
 use Rattle.mm_memory.specs.Holdings.{Holdings}
 use Rattle.mm_plan.specs.Sheet.{SheetRows}
-use Rattle.mm_check.specs.Checking.{SaysSheet, IsPlanFault}
+use Rattle.mm_cut.specs.Checking.{SaysSheet, IsPlanFault}
 use Rattle.mm_plan.specs.declared.fault.Fault.{Fault as PlanFault}
 use Rattle.mm_scripted.specs.declared.fault.Fault.{Fault as EndsFault}
 use Rattle.mm_flight.specs.declared.fault.Fault.{Fault}

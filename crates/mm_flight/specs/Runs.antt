@@ -4,7 +4,7 @@ use Rattle.mm_problem.specs.Dumping.{Dumping}
 use Rattle.mm_packet.specs.Packet.{SpacePacket}
 use Rattle.mm_plan.specs.Sheet.{SheetRows}
 use Rattle.mm_plan.specs.Table.{Table}
-use Rattle.mm_check.specs.Checking.{SaysSheet}
+use Rattle.mm_cut.specs.Checking.{SaysSheet}
 use Rattle.mm_memory.specs.Holdings.{Holdings}
 use Rattle.mm_dump.specs.Sending.{Sent}
 use Rattle.mm_scripted.specs.declared.link.ScriptedLink.{ScriptedLink}

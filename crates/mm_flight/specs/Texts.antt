@@ -7,7 +7,7 @@ use Rattle.mm_problem.specs.Setup.{SetupRows}
 use Rattle.mm_problem.specs.declared.fault.Fault.{Fault as ProblemFault}
 use Rattle.mm_problem.specs.declared.fault.Fault.TheVariants as problem
 use Rattle.mm_packet.specs.Packet.{SpacePacket}
-use Rattle.mm_check.specs.Checking.{problem_in}
+use Rattle.mm_problem.specs.Texts.{problem_in}
 use Rattle.mm_memory.specs.Holdings.{Holdings, memory_of}
 use Rattle.mm_scripted.specs.Links.{linked_of, SaysLinks}
 use Rattle.mm_scripted.specs.Sources.{deliveries_of, Says}

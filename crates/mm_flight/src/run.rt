@@ -11,7 +11,7 @@ use crate::opening::offer_all;
 use crate::printed::{Printed, Spare};
 use crate::texts::{Ends, FlightTexts, Ground, read_ends, read_ground};
 use mm_base::NoMemory;
-use mm_check::read_sheet;
+use mm_cut::read_sheet;
 use mm_exec::{Flight, Halted, carry_out};
 use mm_plan::Plan;
 use mm_scripted::laws::constants_are;

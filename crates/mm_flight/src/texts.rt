@@ -39,7 +39,7 @@ pub(crate) struct Ends {
 }
 
 /// Reads the setup and the forecast. Otherwise the first fault, of the setup and then of the forecast.
-#[tactic(auto, unfolding(mm_check::specs::Checking::problem_in))]
+#[tactic(auto, unfolding(mm_cut::specs::Checking::problem_in))]
 pub(crate) fn read_ground(
     alloc: Global,
     setup: &[u8],

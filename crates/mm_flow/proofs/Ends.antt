@@ -13,8 +13,8 @@ use Rattle.mm_flow.specs.Solution.{IsSolution, HasUnlimited, IsWalk, HasUnlimite
 use Rattle.mm_flow.specs.Residual.{entries, tail, head, residual, spare}
 use Rattle.mm_flow.specs.Balance.{IsBalanced, IsAugmented, IsBounded}
 use Rattle.mm_flow.specs.Marks.{mark, level, HasMark, IsMarking, IsSearched}
-use Rattle.mm_sums.proofs.Ranges.{All-range_with_len}
-use Rattle.mm_sums.proofs.RangeSums.{sum_by_range_same, sum_by_range_zeros}
+use Rattle.mm_base.proofs.Ranges.{All-range_with_len}
+use Rattle.mm_base.proofs.RangeSums.{sum_by_range_same, sum_by_range_zeros}
 use Rattle.mm_flow.proofs.Sides.{net_flow, value_within_cut, flow_out-sum_by, flow_in-sum_by, capacity_of-sum_by, entering-sum_by, leaving-sum_by}
 use Rattle.mm_flow.proofs.Entries.{tail-forward, tail-backward, head-forward, head-backward, residual-forward, residual-backward}
 

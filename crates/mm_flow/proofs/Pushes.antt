@@ -4,7 +4,7 @@ use Rattle.std.proofs.lemmas.Bool.{cases_eq}
 use Rattle.mm_flow.specs.Graph.{Graph, arc}
 use Rattle.mm_flow.specs.Flow.{Flow, entering, leaving}
 use Rattle.mm_flow.specs.Residual.{entries, place, residual, IsPushed}
-use Rattle.mm_sums.proofs.RangeSums.{sum_by_range_changed}
+use Rattle.mm_base.proofs.RangeSums.{sum_by_range_changed}
 use Rattle.mm_flow.proofs.Sides.{entering-sum_by, leaving-sum_by}
 use Rattle.mm_flow.proofs.Entries.{place-forward, place-backward, tail-forward, tail-backward, head-forward, head-backward, forward_within}
 

@@ -10,8 +10,8 @@ use Rattle.mm_flow.specs.Flow.{Flow, IsFlow, IsWithin, leaving, entering}
 use Rattle.mm_flow.specs.Cut.{Side, IsCut, leaves, enters, flow_out, flow_in, capacity_of, limit_of}
 use Rattle.mm_flow.specs.Solution.{IsSolution}
 use Rattle.mm_flow.specs.Laws.{IsBest}
-use Rattle.mm_sums.proofs.Sums.{sum_by-add, sum_by-swap, sum_by-filter, sum_by_zeros}
-use Rattle.mm_sums.proofs.RangeSums.{sum_by_range_same, sum_by_range-le, sum_by_range_one}
+use Rattle.mm_base.proofs.Sums.{sum_by-add, sum_by-swap, sum_by-filter, sum_by_zeros}
+use Rattle.mm_base.proofs.RangeSums.{sum_by_range_same, sum_by_range-le, sum_by_range_one}
 
 -- what leaves a node, as a sum over all arcs
 pub leaving-sum_by : (g : Graph) (f : Flow) (n : ℕ) → leaving g f n ≡ sum_by (λ k. cond (eqb (arc g k).from n) (f k) 0) (places g)

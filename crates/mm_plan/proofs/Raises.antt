@@ -13,8 +13,8 @@ use Rattle.mm_plan.specs.Fit.{in_step, FitsAt}
 use Rattle.mm_plan.specs.Filled.{IsWindowUsed, IsLimitUsed}
 use Rattle.mm_plan.specs.Filling.{IsRest, room_in}
 use Rattle.mm_plan.proofs.Options.{none_is_some}
-use Rattle.mm_sums.proofs.Elements.{within-get_or_Some}
-use Rattle.mm_sums.proofs.RangeSums.{sum_by_range-le, sum_by_filter_range-le, sum_by_range_changed, sum_by_filter_range_changed}
+use Rattle.mm_base.proofs.Elements.{within-get_or_Some}
+use Rattle.mm_base.proofs.RangeSums.{sum_by_range-le, sum_by_filter_range-le, sum_by_range_changed, sum_by_filter_range_changed}
 
 -- in the step d blocks more leave one store, and as many as before the others
 pub record IsRaised (q : Dumping) (x y : Amounts) (s t d : ℕ) : Type 0 where

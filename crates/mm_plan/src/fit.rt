@@ -10,7 +10,7 @@ use crate::plan::Plan;
 use mm_problem::{CHANNELS, Problem};
 
 // What is to leave all stores in a step.
-#[tactic(auto, using(mm_sums::proofs::RangeSums::sum_by_range_more))]
+#[tactic(auto, using(mm_base::proofs::RangeSums::sum_by_range_more))]
 pub(crate) fn step_amount(problem: &Problem, plan: &Plan, step: u32) -> u64
     requires shape { HasShape problem.now plan.now }
     requires first { 1 ≤ step }

@@ -4,9 +4,9 @@ use Rattle.std.specs.Prelude.{map}
 use Rattle.std.specs.List.{sum_by, range_with_len, flat_map}
 use Rattle.std.proofs.lemmas.List.Sums.{sum_by-cons}
 use Rattle.std.proofs.lemmas.List.FromFn.{length-map-range_with_len}
-use Rattle.mm_sums.proofs.Grids.{grid}
-use Rattle.mm_sums.proofs.RangeSums.{sum_by_range_shift}
-use Rattle.mm_sums.proofs.Sums.{sum_by-add, sum_by-same}
+use Rattle.mm_base.proofs.Grids.{grid}
+use Rattle.mm_base.proofs.RangeSums.{sum_by_range_shift}
+use Rattle.mm_base.proofs.Sums.{sum_by-add, sum_by-same}
 use Rattle.mm_problem.specs.Dumping.{Dumping, stores, channels}
 use Rattle.mm_flow.specs.declared.arc.Arc.{Arc}
 use Rattle.mm_flow.specs.Graph.{no_arc, arc, places}

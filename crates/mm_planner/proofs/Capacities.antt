@@ -3,9 +3,9 @@ use Rattle.std.proofs.Common.{◌≡◌, ℕ, ◌+◌, ◌-◌, ◌<◌, ◌≤�
 use Rattle.std.specs.Prelude.{is_some, unwrap_or, IsSome}
 use Rattle.std.specs.List.{sum_by, range_with_len}
 use Rattle.std.proofs.lemmas.Bool.{false≢true}
-use Rattle.mm_sums.proofs.Grids.{grid, grid-same, grid_zeros, term-le-grid}
-use Rattle.mm_sums.proofs.RangeSums.{sum_by_range_same, sum_by_range_zeros, term-le-sum_by_range}
-use Rattle.mm_sums.proofs.Sums.{sum_by-filter}
+use Rattle.mm_base.proofs.Grids.{grid, grid-same, grid_zeros, term-le-grid}
+use Rattle.mm_base.proofs.RangeSums.{sum_by_range_same, sum_by_range_zeros, term-le-sum_by_range}
+use Rattle.mm_base.proofs.Sums.{sum_by-filter}
 use Rattle.mm_problem.specs.Dumping.{Dumping, size, channel, limit, window}
 use Rattle.mm_cut.specs.Cuts.{limit_or_0}
 use Rattle.mm_flow.specs.declared.arc.Arc.{Arc}

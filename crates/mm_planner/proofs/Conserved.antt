@@ -3,9 +3,9 @@ use Rattle.std.proofs.Common.{◌≡◌, ℕ, zero, suc, ◌+◌, ◌<◌, ◌�
 use Rattle.std.specs.Prelude.{◌≢◌}
 use Rattle.std.specs.List.{sum_by, range_with_len}
 use Rattle.std.proofs.lemmas.Bool.{cond-true, cond-false, and_from, eq-eqb, ne_eqb, eqb-true, and_parts, false_from_ne_true}
-use Rattle.mm_sums.proofs.Grids.{grid, grid_zeros, grid-one, grid-row}
-use Rattle.mm_sums.proofs.RangeSums.{sum_by_range_zeros, sum_by_range_one, sum_by_range_same}
-use Rattle.mm_sums.proofs.Tests.{cond-eqb_same, cond-eqb_other}
+use Rattle.mm_base.proofs.Grids.{grid, grid_zeros, grid-one, grid-row}
+use Rattle.mm_base.proofs.RangeSums.{sum_by_range_zeros, sum_by_range_one, sum_by_range_same}
+use Rattle.mm_base.proofs.Tests.{cond-eqb_same, cond-eqb_other}
 use Rattle.mm_problem.specs.Dumping.{Dumping, IsDumping, channel}
 use Rattle.mm_flow.specs.Flow.{Flow, IsFlow, entering, leaving}
 use Rattle.mm_planner.specs.declared.nodes.Node.{Node}

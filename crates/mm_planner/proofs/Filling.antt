@@ -1,6 +1,6 @@
 -- A plan that loses no more than a planned one, and fits, is planned too.
 use Rattle.std.proofs.Common.{◌≡◌, ℕ, ◌≤◌, ◌<◌, List, length, pos, ap, ◌∙◌, arith}
-use Rattle.mm_sums.proofs.RangeSums.{sum_by_range-le}
+use Rattle.mm_base.proofs.RangeSums.{sum_by_range-le}
 use Rattle.mm_problem.specs.Dumping.{Dumping}
 use Rattle.mm_plan.specs.Volumes.{Amounts, lost, store_loss, loss}
 use Rattle.mm_plan.specs.Fit.{Fits}

@@ -2,12 +2,12 @@
 use Rattle.std.proofs.Common.{◌≡◌, ℕ, zero, suc, ◌+◌, ◌-◌, ◌<◌, ◌≤◌, min, cond, eqb, All, length, refl, sym, ap, ◌∙◌, arith, add-one}
 use Rattle.std.specs.List.{sum_by, range_with_len}
 use Rattle.std.proofs.lemmas.Bool.{cond-false, ne_eqb}
-use Rattle.mm_sums.proofs.Elements.{within-get_or_Some}
-use Rattle.mm_sums.proofs.Grids.{grid}
-use Rattle.mm_sums.proofs.Groups.{sum_by-le_groups}
-use Rattle.mm_sums.proofs.RangeSums.{sum_by_range_more, sum_by_range-le, sum_by_range_same}
-use Rattle.mm_sums.proofs.Ranges.{All-range_with_len}
-use Rattle.mm_sums.proofs.Sums.{sum_by-add, sum_by-filter, sum_by-swap}
+use Rattle.mm_base.proofs.Elements.{within-get_or_Some}
+use Rattle.mm_base.proofs.Grids.{grid}
+use Rattle.mm_base.proofs.Groups.{sum_by-le_groups}
+use Rattle.mm_base.proofs.RangeSums.{sum_by_range_more, sum_by_range-le, sum_by_range_same}
+use Rattle.mm_base.proofs.Ranges.{All-range_with_len}
+use Rattle.mm_base.proofs.Sums.{sum_by-add, sum_by-filter, sum_by-swap}
 use Rattle.mm_problem.specs.Dumping.{Dumping, IsDumping, start, channel, window, arrivals, is_of, stores, steps}
 use Rattle.mm_plan.specs.Volumes.{Amounts, left, written, lost, store_loss, loss}
 use Rattle.mm_plan.specs.Fit.{in_step, FitsLimit, Fits}

@@ -8,11 +8,11 @@ use Rattle.std.proofs.lemmas.List.Elements.{All-map}
 use Rattle.std.proofs.lemmas.List.Folds.{Any-from_list_any}
 use Rattle.std.proofs.lemmas.List.Sums.{position_or_len_is}
 use Rattle.std.proofs.lemmas.Slice.Eq.{bytes_eq-Decides}
-use Rattle.mm_sums.proofs.Grids.{grid, grid-add, grid-same}
-use Rattle.mm_sums.proofs.Pairs.{AllPairs-map}
-use Rattle.mm_sums.proofs.RangeSums.{sum_by_range-le, sum_by_range_same}
-use Rattle.mm_sums.proofs.Ranges.{All-filter-range_with_len, All-flat_map-range_with_len, AllPairs-filter-range_with_len, AllPairs-flat_map-range_with_len, is_listed-filter, not_listed-filter}
-use Rattle.mm_sums.proofs.Sums.{sum_by-add, sum_by-filter, sum_by-flat_map, sum_by-map-filter, sum_by-swap}
+use Rattle.mm_base.proofs.Grids.{grid, grid-add, grid-same}
+use Rattle.mm_base.proofs.Pairs.{AllPairs-map}
+use Rattle.mm_base.proofs.RangeSums.{sum_by_range-le, sum_by_range_same}
+use Rattle.mm_base.proofs.Ranges.{All-filter-range_with_len, All-flat_map-range_with_len, AllPairs-filter-range_with_len, AllPairs-flat_map-range_with_len, is_listed-filter, not_listed-filter}
+use Rattle.mm_base.proofs.Sums.{sum_by-add, sum_by-filter, sum_by-flat_map, sum_by-map-filter, sum_by-swap}
 use Rattle.mm_problem.specs.Dumping.{Dumping, IsDumping, no_row, row, place, size, start, window, arrivals, stores, channels, steps}
 use Rattle.mm_plan.specs.declared.stretch.Stretch.{Stretch}
 use Rattle.mm_cut.specs.Stretches.{store_of, channel_of, goes_past, goes_past_on, is_inner, is_inner_on, IsStretch, AreApart, AreStretches}

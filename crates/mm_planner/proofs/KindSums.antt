@@ -5,9 +5,9 @@ use Rattle.std.specs.List.{sum_by, range_with_len}
 use Rattle.std.proofs.lemmas.Bool.{cond-true, cond-false}
 use Rattle.std.proofs.lemmas.Bool.Decides.{eqb_tells}
 use Rattle.std.proofs.lemmas.List.Elements.{All-get_or}
-use Rattle.mm_sums.proofs.Grids.{grid, grid-same}
-use Rattle.mm_sums.proofs.RangeSums.{sum_by_range_same}
-use Rattle.mm_sums.proofs.Sums.{sum_by-filter}
+use Rattle.mm_base.proofs.Grids.{grid, grid-same}
+use Rattle.mm_base.proofs.RangeSums.{sum_by_range_same}
+use Rattle.mm_base.proofs.Sums.{sum_by-filter}
 use Rattle.mm_problem.specs.Setup.{IsStoreRow}
 use Rattle.mm_problem.specs.Dumping.{Dumping, IsDumping, no_row, channel}
 use Rattle.mm_flow.specs.declared.arc.Arc.{Arc}

@@ -2,9 +2,9 @@
 use Rattle.std.proofs.Common.{◌≡◌, ℕ, zero, suc, cond, eqb, Option, length, refl, ap, ◌∙◌, arith}
 use Rattle.std.specs.Prelude.{is_some}
 use Rattle.std.specs.List.{sum_by}
-use Rattle.mm_sums.proofs.Grids.{grid_zeros}
-use Rattle.mm_sums.proofs.RangeSums.{sum_by_range_zeros, term-le-sum_by_range}
-use Rattle.mm_sums.proofs.Tests.{cond-eqb_other, cond-eqb_same}
+use Rattle.mm_base.proofs.Grids.{grid_zeros}
+use Rattle.mm_base.proofs.RangeSums.{sum_by_range_zeros, term-le-sum_by_range}
+use Rattle.mm_base.proofs.Tests.{cond-eqb_other, cond-eqb_same}
 use Rattle.mm_problem.specs.Dumping.{Dumping}
 use Rattle.mm_flow.specs.declared.arc.Arc.{Arc}
 use Rattle.mm_flow.specs.Graph.{arc, places}

@@ -11,7 +11,7 @@ use Rattle.mm_plan.specs.Volumes.{loss}
 use Rattle.mm_plan.specs.Least.{IsLeast}
 use Rattle.mm_cut.specs.Verdicts.{VerdictsExclude, IsVerdict}
 use Rattle.mm_cut.specs.declared.verdict.Verdict.TheVariants.{Least}
-use Rattle.mm_check.specs.Checking.{SaysProblem}
+use Rattle.mm_problem.specs.Texts.{SaysProblem}
 use Rattle.mm_planner.specs.Planned.{SheetShows}
 use Rattle.mm_planner.specs.PlanTexts.{PlansLeast, PlansCheckLeast, ShowsInOrder}
 use Rattle.mm_planner.proofs.CutOrder.{cut_in_order, bound_in_order}

@@ -4,7 +4,7 @@ use Rattle.std.specs.Prelude.{map, filter}
 use Rattle.std.specs.List.{range_with_len, flat_map}
 use Rattle.std.proofs.lemmas.List.{map-append}
 use Rattle.std.proofs.lemmas.List.Concat.{flat_map-append}
-use Rattle.mm_sums.proofs.Ranges.{filter-range_with_len_next, range_with_len_more}
+use Rattle.mm_base.proofs.Ranges.{filter-range_with_len_next, range_with_len_more}
 use Rattle.mm_problem.specs.Dumping.{Dumping}
 use Rattle.mm_plan.specs.declared.stretch.Stretch.{Stretch}
 use Rattle.mm_flow.specs.Cut.{Side}

@@ -4,9 +4,9 @@ use Rattle.std.specs.Prelude.{filter}
 use Rattle.std.specs.List.{sum_by, range_with_len}
 use Rattle.std.proofs.lemmas.Bool.{cases_Bool, cases_lt, cond-true, cond-false, and_parts}
 use Rattle.std.proofs.lemmas.Bool.Decides.{nat_tests}
-use Rattle.mm_sums.proofs.RangeSums.{sum_by_range_one, sum_by_range_same, sum_by_range_zeros}
-use Rattle.mm_sums.proofs.Sums.{sum_by-add, sum_by-filter}
-use Rattle.mm_sums.proofs.Tests.{cond-eqb_other, cond-eqb_same}
+use Rattle.mm_base.proofs.RangeSums.{sum_by_range_one, sum_by_range_same, sum_by_range_zeros}
+use Rattle.mm_base.proofs.Sums.{sum_by-add, sum_by-filter}
+use Rattle.mm_base.proofs.Tests.{cond-eqb_other, cond-eqb_same}
 use Rattle.mm_problem.specs.Dumping.{Dumping, start, arrivals, steps}
 use Rattle.mm_flow.specs.Cut.{Side}
 use Rattle.mm_planner.specs.declared.nodes.Node.TheVariants.{In, Out}

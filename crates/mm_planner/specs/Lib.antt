@@ -1,5 +1,5 @@
-pub use Rattle.mm_check.specs.Checking
-pub use Rattle.mm_check.specs.Lines
+pub use Rattle.mm_cut.specs.Checking
+pub use Rattle.mm_cut.specs.Lines
 pub mod Nodes
 pub mod Network
 pub mod Links

@@ -9,9 +9,10 @@ use Rattle.mm_plan.specs.Sheet.{SheetRows}
 use Rattle.mm_plan.specs.Printing.{IsOrdered, stretch_key, key_cmp}
 use Rattle.mm_cut.specs.declared.verdict.Verdict.{Verdict}
 use Rattle.mm_cut.specs.declared.verdict.Verdict.TheVariants.{Least}
-use Rattle.mm_check.specs.declared.fault.Fault.{Fault}
-use Rattle.mm_check.specs.declared.fault.Fault.TheVariants.{NoMemory, Problem, Plan}
-use Rattle.mm_check.specs.Checking.{problem_in, SaysProblem, SaysSheet, Checks}
+use Rattle.mm_cut.specs.declared.fault.Fault.{Fault}
+use Rattle.mm_cut.specs.declared.fault.Fault.TheVariants.{NoMemory, Problem, Plan}
+use Rattle.mm_problem.specs.Texts.{problem_in, SaysProblem}
+use Rattle.mm_cut.specs.Checking.{SaysSheet, Checks}
 use Rattle.mm_planner.specs.Planned.{ShowsLeast, SheetShows}
 
 -- the stretches stand in store order, then by first and by last step, and the counted steps rise

@@ -14,7 +14,7 @@ mod way;
 
 pub use laws::{plans_check_least, sheets_show_in_order, solutions_plan};
 pub use mm_base::NoMemory;
-pub use mm_check::{Fault, check_bytes};
+pub use mm_cut::{Fault, check_bytes};
 pub use planner::{Planned, plan, plan_by_flow};
 pub use sheets::sheet;
 pub use texts::plan_bytes;

@@ -1,11 +1,12 @@
 //! From the bytes of a setup and a forecast to the text of a plan.
 ghost use Rattle.std.specs.Prelude.{IfOk};
 ghost use Rattle.mm_base.specs.Reading.{IfRefused};
-ghost use Rattle.mm_check.specs.declared.fault.Fault.TheVariants.{NoMemory};
+ghost use Rattle.mm_cut.specs.declared.fault.Fault.TheVariants.{NoMemory};
 ghost use Rattle.mm_planner.specs.PlanTexts.{PlansLeast, IsPlanningFault};
 
 use crate::sheets::sheet;
-use mm_check::{Fault, read_problem};
+use mm_cut::Fault;
+use mm_problem::read_problem;
 use std::alloc::Global;
 
 /// The text of a dump plan that loses least in the problem that the setup and the forecast say, with the cut that shows

@@ -11,5 +11,6 @@ pub mod Records
 pub mod Forecast
 pub mod StepLists
 pub mod Dumping
+pub mod Texts
 pub mod ReadableForecast
 pub mod Laws

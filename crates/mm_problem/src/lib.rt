@@ -12,6 +12,7 @@ mod records;
 mod setup;
 mod steps;
 mod tables;
+mod texts;
 
 pub use fault::{Fault, Name};
 pub use mm_base::{
@@ -20,3 +21,4 @@ pub use mm_base::{
 };
 pub use problem::Problem;
 pub use setup::Setup;
+pub use texts::read_problem;

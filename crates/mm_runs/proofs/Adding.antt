@@ -1,8 +1,8 @@
 -- What the stores lose over all steps.
 use Rattle.std.proofs.Common.{◌≡◌, ℕ, zero, suc, ◌+◌, ◌-◌, ◌<◌, ◌≤◌, length, ap, ◌∙◌, add-one, arith}
 use Rattle.std.specs.List.{sum_by, range_with_len}
-use Rattle.mm_sums.proofs.RangeSums.{sum_by_range_more, sum_by_range_same}
-use Rattle.mm_sums.proofs.Sums.{sum_by-add}
+use Rattle.mm_base.proofs.RangeSums.{sum_by_range_more, sum_by_range_same}
+use Rattle.mm_base.proofs.Sums.{sum_by-add}
 use Rattle.mm_problem.specs.Dumping.{Dumping, stores}
 use Rattle.mm_plan.specs.Volumes.{Amounts, lost, store_loss, loss}
 use Rattle.mm_desk.specs.Machine.{State}

@@ -2,9 +2,9 @@
 use Rattle.std.proofs.Common.{◌≡◌, ◌⊎◌, inl, inr, ℕ, ◌+◌, ◌<◌, ◌≤◌, cond, eqb, List, [], ◌∷◌, length, get_or, All, refl, sym, ap, ◌∙◌, arith}
 use Rattle.std.specs.List.{sum_by, count_by, range_with_len}
 use Rattle.std.proofs.lemmas.Bool.{cases_lt}
-use Rattle.mm_sums.proofs.Tests.{cond-eqb_same, cond-eqb_other}
-use Rattle.mm_sums.proofs.RangeSums.{sum_by_range_one, sum_by_range_same, sum_by_range-le}
-use Rattle.mm_sums.proofs.Sums.{sum_by-swap, sum_by-same, sum_by_ones}
+use Rattle.mm_base.proofs.Tests.{cond-eqb_same, cond-eqb_other}
+use Rattle.mm_base.proofs.RangeSums.{sum_by_range_one, sum_by_range_same, sum_by_range-le}
+use Rattle.mm_base.proofs.Sums.{sum_by-swap, sum_by-same, sum_by_ones}
 use Rattle.mm_problem.specs.Dumping.{Dumping, window}
 use Rattle.mm_plan.specs.Fit.{FitsAt, in_step}
 use Rattle.mm_plan.specs.Volumes.{Amounts}

@@ -1,7 +1,7 @@
 -- What a deletion, a search and a put do to a rising list of packets.
 use Rattle.std.proofs.Common.{◌≡◌, ◌⊎◌, ℕ, zero, suc, ◌+◌, ◌-◌, ◌<◌, ◌≤◌, Bool, true, false, ltb, leb, inl, inr, slice_get, List, [], ◌∷◌, length, get_or, take, drop, All, Some, None, max, refl, sym, ap, ◌∙◌, arith}
 use Rattle.std.specs.List.{find}
-use Rattle.std.proofs.lemmas.Bool.{lt-ltb, le-ltb, le-leb, lt-leb, leb-true, leb-false, cases_lt, and_left, and_right, and_from}
+use Rattle.std.proofs.lemmas.Bool.{lt-ltb, le-ltb, le-leb, lt-leb, leb-true, leb-false, ltb-true, cases_lt, and_left, and_right, and_from}
 use Rattle.std.proofs.lemmas.Bool.Decides.{nat_tests}
 use Rattle.std.proofs.lemmas.List.{drop_more, drop_all, get_or-take, get_or-drop, length-take, length-drop}
 use Rattle.std.proofs.lemmas.List.Elements.{All-filter, All-head, All-tail, All-weaker}
@@ -113,6 +113,28 @@ module _ (xs : List Stored) (place passed : ℕ) (x : Stored) (rising : IsRising
       by_order k d (inr same) below =
           let zero_more : place + k ≡ place = omega arith in
           rw (zero_more, here d) late
+
+  -- a packet is early exactly where all up to it are
+  pub early_where : (leb x.time passed ≡ true → All (λ p. p.time ≤ passed) (take (place + 1) xs)) × (All (λ p. p.time ≤ passed) (take (place + 1) xs) → leb x.time passed ≡ true)
+  early_where = (λ early. early_up_to (leb-true x.time passed early), λ early. le-leb x.time passed (last_early early))
+    where
+      last_early : All (λ p. p.time ≤ passed) (take (place + 1) xs) → x.time ≤ passed
+      last_early early =
+          let within = slice_get_within xs place x at in
+          let inside : place < length (take (place + 1) xs) = omega (arith, within, length-take (place + 1) xs) in
+          rw (get_or-take (place + 1) xs place x (omega arith), here x) at (early place x inside)
+
+  -- a packet is late exactly where all from it on are
+  pub late_where : (ltb passed x.time ≡ true → All (λ p. passed < p.time) (drop place xs)) × (All (λ p. passed < p.time) (drop place xs) → ltb passed x.time ≡ true)
+  late_where = (λ late. late_from (ltb-true passed x.time late), λ late. lt-ltb passed x.time (first_late late))
+    where
+      first_late : All (λ p. passed < p.time) (drop place xs) → passed < x.time
+      first_late late =
+          let within = slice_get_within xs place x at in
+          let inside : 0 < length (drop place xs) = omega (arith, within, length-drop place xs) in
+          let same : place + 0 ≡ place = omega arith in
+          let first = get_or-drop place xs 0 x ∙ ap (λ (k : ℕ). get_or xs k x) same ∙ here x in
+          rw first at (late 0 x inside)
 
 -- a search passes what fails its test
 find-drop : (test : Stored → Bool) (xs : List Stored) (n : ℕ) → All (λ p. test p ≡ false) (take n xs) → find test xs ≡ find test (drop n xs)

@@ -1,9 +1,9 @@
 //! Queues of packets, and the reading and deleting of packets that every queue serves alike.
-ghost use Rattle.std.specs.Prelude.{◌≡◌, ◌+◌, ◌<◌, ◌≤◌, [], ◌∷◌, ◌++◌, length, take, drop, slice_get, All};
+ghost use Rattle.std.specs.Prelude.{◌≡◌, ◌+◌, ◌<◌, ◌≤◌, ◌↔◌, [], ◌∷◌, ◌++◌, length, take, drop, slice_get, All, IsTrue};
 ghost use Rattle.circular_buffer.specs.Buffer.{Buffer, buffer};
 ghost use Rattle.mm_store.specs.declared.stored.Stored.{Stored};
 ghost use Rattle.mm_store.specs.Content.{IsRising, first_in, shown, kept_after, count_up_to, oldest, newest};
-ghost use Rattle.mm_store.specs.Queue.{begins_by};
+ghost use Rattle.mm_store.specs.Queue.{begins_by, IsPlaceAfter};
 
 use crate::stored::Stored;
 use circular_buffer::HeapCircularBuffer;
@@ -71,19 +71,46 @@ pub(crate) fn delete_up_to<Q: PacketQueue>(queue: &mut Q, limit: u64) -> usize
     held - queue.len()
 }
 
-// The place of the oldest packet with a time later than `passed`, or the number of packets.
-fn first_place<Q: PacketQueue>(queue: &Q, passed: u64) -> usize
+// Whether all packets before this place have times of at most `passed`.
+fn are_early_before<Q: PacketQueue>(queue: &Q, passed: u64, place: usize) -> bool
+    requires rising { IsRising (Q.held queue.now).items }
+    requires within { place ≤ length (Q.held queue.now).items }
+    ensures { IsTrue result ↔ All (λ p. p.time ≤ passed) (take place (Q.held queue.now).items) }
+{
+    place == 0 || queue.at(place - 1).time <= passed
+}
+
+// Whether all packets from this place on have times later than `passed`.
+fn are_late_from<Q: PacketQueue>(queue: &Q, passed: u64, place: usize) -> bool
+    requires rising { IsRising (Q.held queue.now).items }
+    requires within { place ≤ length (Q.held queue.now).items }
+    ensures { IsTrue result ↔ All (λ p. passed < p.time) (drop place (Q.held queue.now).items) }
+{
+    place == queue.len() || passed < queue.at(place).time
+}
+
+// Whether the oldest packet with a time later than `passed` stands at this place; the number of packets where there is none.
+fn is_place_after<Q: PacketQueue>(queue: &Q, passed: u64, place: usize) -> bool
     requires { IsRising (Q.held queue.now).items }
-    ensures within { result ≤ length (Q.held queue.now).items }
-    ensures before { All (λ p. p.time ≤ passed) (take result (Q.held queue.now).items) }
-    ensures from { All (λ p. passed < p.time) (drop result (Q.held queue.now).items) }
+    ensures { IsTrue result ↔ IsPlaceAfter passed place (Q.held queue.now).items }
+{
+    place <= queue.len()
+        && are_early_before(queue, passed, place)
+        && are_late_from(queue, passed, place)
+}
+
+// The place of the oldest packet with a time later than `passed`, where each tick from the oldest packet on has one.
+fn place_by_ticks<Q: PacketQueue>(queue: &Q, passed: u64) -> usize {
+    passed.saturating_add(1).saturating_sub(oldest(queue)) as usize
+}
+
+// The place of the oldest packet with a time later than `passed`, or the number of packets: a search by halves.
+fn search_place<Q: PacketQueue>(queue: &Q, passed: u64) -> usize
+    requires { IsRising (Q.held queue.now).items }
+    ensures { IsPlaceAfter passed result (Q.held queue.now).items }
 {
     let mut low = 0;
     let mut high = queue.len();
-    // The oldest packet is found at once.
-    if high > 0 && passed < queue.at(0).time {
-        return 0;
-    }
     while low < high {
         let middle = low + (high - low) / 2;
         if queue.at(middle).time <= passed {
@@ -93,6 +120,19 @@ fn first_place<Q: PacketQueue>(queue: &Q, passed: u64) -> usize
         }
     }
     low
+}
+
+// The place of the oldest packet with a time later than `passed`, or the number of packets. Where packets follow one another tick by
+// tick it is found at once.
+fn first_place<Q: PacketQueue>(queue: &Q, passed: u64) -> usize
+    requires { IsRising (Q.held queue.now).items }
+    ensures { IsPlaceAfter passed result (Q.held queue.now).items }
+{
+    let guess = place_by_ticks(queue, passed);
+    if is_place_after(queue, passed, guess) {
+        return guess;
+    }
+    search_place(queue, passed)
 }
 
 // The oldest packet from `from` to `to` that is newer than `after`, with its time.

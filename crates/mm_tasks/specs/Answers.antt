@@ -4,8 +4,8 @@ use Rattle.std.specs.Borrow.{Bor}
 use Rattle.std.specs.Io.KnownBytes.{Appends}
 use Rattle.mm_cut.specs.declared.verdict.Verdict.{Verdict}
 use Rattle.mm_cut.specs.declared.verdict.Verdict.TheVariants.{Least}
-use Rattle.mm_check.specs.Checking.{Checks, LosesLeast}
-use Rattle.mm_check.specs.Lines.{line_of}
+use Rattle.mm_cut.specs.Checking.{Checks, LosesLeast}
+use Rattle.mm_cut.specs.Lines.{line_of}
 use Rattle.mm_chart.specs.Charts.{Charts}
 use Rattle.mm_chart.specs.Table.{IsTableOf}
 use Rattle.mm_planner.specs.PlanTexts.{PlansLeast}

@@ -4,9 +4,9 @@ use Rattle.mm_base.specs.Characters.{line_feed}
 use Rattle.mm_base.specs.declared.refusal.Refusal.{Refusal}
 use Rattle.mm_base.specs.declared.refusal.Refusal.TheVariants as refusal
 use Rattle.mm_problem.specs.Fault.{refusal_of as problem_refusal}
-use Rattle.mm_check.specs.Fault.{refusal_of as check_refusal}
-use Rattle.mm_check.specs.declared.fault.Fault.{Fault as CheckFault}
-use Rattle.mm_check.specs.declared.fault.Fault.TheVariants as check
+use Rattle.mm_cut.specs.Fault.{refusal_of as check_refusal}
+use Rattle.mm_cut.specs.declared.fault.Fault.{Fault as CheckFault}
+use Rattle.mm_cut.specs.declared.fault.Fault.TheVariants as check
 use Rattle.mm_flight.specs.Ending.{refusal_text}
 use Rattle.mm_flight.specs.Fault.{refusal_of as flight_refusal}
 use Rattle.mm_flight.specs.declared.fault.Fault.{Fault as FlightFault}

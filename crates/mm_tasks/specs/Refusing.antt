@@ -4,8 +4,8 @@ use Rattle.std.specs.Borrow.{Bor}
 use Rattle.std.specs.Io.KnownBytes.{Appends}
 use Rattle.mm_base.specs.Characters.{line_feed}
 use Rattle.mm_base.specs.declared.refusal.Refusal.TheVariants as refusal
-use Rattle.mm_check.specs.Checking.{IsFaultOf as IsCheckFault}
-use Rattle.mm_check.specs.declared.fault.Fault.TheVariants as check
+use Rattle.mm_cut.specs.Checking.{IsFaultOf as IsCheckFault}
+use Rattle.mm_cut.specs.declared.fault.Fault.TheVariants as check
 use Rattle.mm_planner.specs.PlanTexts.{IsPlanningFault}
 use Rattle.mm_ask.specs.Asking.{IsSetupFault}
 use Rattle.mm_flight.specs.Ending.{refusal_text}

@@ -7,9 +7,8 @@ ghost use Rattle.mm_command_line.specs.declared.task.Task.TheVariants.{Plan, Che
 use crate::fault::Fault;
 use mm_ask::{Outcome, ask_bytes};
 use mm_chart::{chart_bytes, table_bytes};
-use mm_check::check_bytes;
 use mm_command_line::PlanFiles;
-use mm_cut::Verdict;
+use mm_cut::{Verdict, check_bytes};
 use mm_flight::Printed;
 use mm_planner::plan_bytes;
 use mm_system::Status;

@@ -14,17 +14,17 @@ pub enum Fault<'a> {
     /// The file of this name was not read.
     NotRead { name: &'a str },
     /// A fault of the texts of a plan or of a verdict on one.
-    Texts(mm_check::Fault),
+    Texts(mm_cut::Fault),
     /// A fault of the texts of a run.
     Run(mm_flight::Fault),
     /// A fault of the setup of a conversation.
     Setup(mm_problem::Fault),
 }
 
-impl From<mm_check::Fault> for Fault<'_> {
+impl From<mm_cut::Fault> for Fault<'_> {
     ghost from_gives = { λ fault e. e ≡ Texts fault };
 
-    fn from(fault: mm_check::Fault) -> Self {
+    fn from(fault: mm_cut::Fault) -> Self {
         Fault::Texts(fault)
     }
 }
@@ -53,13 +53,13 @@ impl Refused for Fault<'_> {
     ghost refusal_of = { refusal_of };
 }
 
-fn spot_in_texts(fault: mm_check::Fault) -> Spot
+fn spot_in_texts(fault: mm_cut::Fault) -> Spot
     ensures { result ≡ spot_in_texts fault }
 {
     match fault {
-        mm_check::Fault::NoMemory => Spot::Whole,
-        mm_check::Fault::Problem(fault) => spot_in_problem(fault),
-        mm_check::Fault::Plan(fault) => spot_in_plan(fault),
+        mm_cut::Fault::NoMemory => Spot::Whole,
+        mm_cut::Fault::Problem(fault) => spot_in_problem(fault),
+        mm_cut::Fault::Plan(fault) => spot_in_plan(fault),
     }
 }
 

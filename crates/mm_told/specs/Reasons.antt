@@ -4,8 +4,8 @@ use Rattle.mm_base.specs.Refusals.{number_of, name_of}
 use Rattle.mm_base.specs.declared.refusal.Refusal.TheVariants as refusal
 use Rattle.mm_problem.specs.Fault.{refusal_of as problem_refusal}
 use Rattle.mm_problem.specs.declared.fault.Fault.{Fault as ProblemFault}
-use Rattle.mm_check.specs.Fault.{refusal_of as check_refusal}
-use Rattle.mm_check.specs.declared.fault.Fault.{Fault as CheckFault}
+use Rattle.mm_cut.specs.Fault.{refusal_of as check_refusal}
+use Rattle.mm_cut.specs.declared.fault.Fault.{Fault as CheckFault}
 use Rattle.mm_told.specs.Spots.{spot_in_problem, spot_in_texts, fields_text}
 use Rattle.mm_told.specs.declared.reason.Reason.{Reason}
 use Rattle.mm_told.specs.declared.spot.Spot.TheVariants.{Whole}

@@ -5,8 +5,8 @@ use Rattle.mm_problem.specs.declared.fault.Fault.{Fault as ProblemFault}
 use Rattle.mm_problem.specs.declared.fault.Fault.TheVariants as problem
 use Rattle.mm_plan.specs.declared.fault.Fault.{Fault as PlanFault}
 use Rattle.mm_plan.specs.declared.fault.Fault.TheVariants as plan
-use Rattle.mm_check.specs.declared.fault.Fault.{Fault as CheckFault}
-use Rattle.mm_check.specs.declared.fault.Fault.TheVariants as check
+use Rattle.mm_cut.specs.declared.fault.Fault.{Fault as CheckFault}
+use Rattle.mm_cut.specs.declared.fault.Fault.TheVariants as check
 use Rattle.mm_told.specs.declared.spot.Spot.{Spot}
 use Rattle.mm_told.specs.declared.spot.Spot.TheVariants.{Whole, Line, Row, Cell, Key, Number}
 

@@ -25,7 +25,7 @@ impl Reason {
     }
 
     /// A fault of the texts of a plan or of a verdict on one.
-    pub fn of_texts(fault: mm_check::Fault) -> Reason
+    pub fn of_texts(fault: mm_cut::Fault) -> Reason
         ensures { result ≡ of_texts fault }
     {
         Reason {

@@ -61,12 +61,12 @@ fn spot_in_plan(fault: mm_plan::Fault) -> Spot
 }
 
 /// Where in the setup, the forecast or the plan text a fault is.
-pub(crate) fn spot_in_texts(fault: mm_check::Fault) -> Spot
+pub(crate) fn spot_in_texts(fault: mm_cut::Fault) -> Spot
     ensures { result ≡ spot_in_texts fault }
 {
     match fault {
-        mm_check::Fault::NoMemory => Spot::Whole,
-        mm_check::Fault::Problem(fault) => spot_in_problem(fault),
-        mm_check::Fault::Plan(fault) => spot_in_plan(fault),
+        mm_cut::Fault::NoMemory => Spot::Whole,
+        mm_cut::Fault::Problem(fault) => spot_in_problem(fault),
+        mm_cut::Fault::Plan(fault) => spot_in_plan(fault),
     }
 }

@@ -1,7 +1,7 @@
 -- Orders whose places rise.
 use Rattle.std.proofs.Common.{◌≡◌, ◌≢◌, ℕ, zero, suc, ◌+◌, ◌<◌, List, [], ◌∷◌, ◌++◌, All, AllPairs, arith}
 use Rattle.std.proofs.lemmas.List.Elements.{All-push, All-weaker}
-use Rattle.mm_sums.proofs.Pairs.{AllPairs-append}
+use Rattle.mm_base.proofs.Pairs.{AllPairs-append}
 use Rattle.mm_dump.specs.declared.order.Order.{Order}
 
 -- the order of a place after those of the places before it

@@ -5,9 +5,8 @@ ghost use Rattle.std.specs.Prelude.{◌≡◌, length};
 use crate::tests::charts::SHOWN;
 use crate::tests::samples::{FORECAST, PLAN, SETUP, has_lines};
 use mm_chart::{Picture, Series, draw};
-use mm_check::{read_problem, read_sheet};
-use mm_cut::{Parts, Verdict};
-use mm_problem::Problem;
+use mm_cut::{Parts, Verdict, read_sheet};
+use mm_problem::{Problem, read_problem};
 use std::alloc::Global;
 use std::process::Abort;
 

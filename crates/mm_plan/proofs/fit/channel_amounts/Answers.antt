@@ -7,7 +7,7 @@ use Rattle.mm_base.specs.declared.limits.TheConstants.{MAX_BLOCKS, CHANNELS}
 use Rattle.mm_problem.specs.Dumping.{Dumping, channel, is_of}
 use Rattle.mm_plan.specs.Table.{amount}
 use Rattle.mm_plan.specs.Fit.{in_step}
-use Rattle.mm_sums.proofs.RangeSums.{sum_by_filter_range_more}
+use Rattle.mm_base.proofs.RangeSums.{sum_by_filter_range_more}
 use Rattle.mm_plan.proofs.fit.channel_amounts.Goals as goal
 
 -- the sum of each channel once store s has been added to its own

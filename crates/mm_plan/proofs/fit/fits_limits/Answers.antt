@@ -1,5 +1,5 @@
 use Rattle.std.proofs.Common.{refl, arith}
-use Rattle.mm_sums.proofs.Elements.{within-get_or_Some}
+use Rattle.mm_base.proofs.Elements.{within-get_or_Some}
 use Rattle.mm_plan.proofs.fit.fits_limits.Goals as goal
 
 pub returns : goal.returns

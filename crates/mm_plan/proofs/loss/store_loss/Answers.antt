@@ -1,7 +1,7 @@
 use Rattle.std.proofs.Common.{◌≡◌, ◌+◌, ◌-◌, refl, sym, ◌∙◌, arith}
 use Rattle.mm_plan.specs.Table.{amount}
 use Rattle.mm_plan.specs.Volumes.{Amounts, lost}
-use Rattle.mm_sums.proofs.RangeSums.{sum_by_range_more}
+use Rattle.mm_base.proofs.RangeSums.{sum_by_range_more}
 use Rattle.mm_plan.proofs.Steps.{left_step, left_start}
 use Rattle.mm_plan.proofs.loss.store_loss.Goals as goal
 

@@ -1,8 +1,0 @@
-pub mod Elements
-pub mod Tests
-pub mod Pairs
-pub mod Ranges
-pub mod Sums
-pub mod RangeSums
-pub mod Grids
-pub mod Groups
