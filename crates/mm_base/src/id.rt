@@ -5,6 +5,7 @@ ghost use Rattle.mm_base.specs.declared.fault.Fault.TheVariants.{BadId};
 
 use crate::fault::Fault;
 use std::marker::Model;
+use std::str::FromStr;
 
 /// The identifier of a packet store: 1 to 8 of the characters `A-Z 0-9 _ -`. Contracts see it as its field of a
 /// telecommand, which has 8 octets, the text padded on the right with spaces.
@@ -106,5 +107,25 @@ impl StoreId {
         ensures is_field { IsIdField self.now }
     {
         self.0
+    }
+}
+
+impl FromStr for StoreId {
+    type Err = Fault;
+
+    ghost from_str_gives = { λ text r. (IsOk r ↔ IsIdText text) × IfOk r (λ id. id ≡ field_of text) × IfErr r (λ e. e ≡ BadId) };
+
+    fn from_str(text: &str) -> Result<StoreId, Fault> {
+        StoreId::of_text(text.as_bytes())
+    }
+}
+
+impl TryFrom<[u8; 8]> for StoreId {
+    type Error = Fault;
+
+    ghost try_from_gives = { λ field r. (IsOk r ↔ IsIdField field) × IfOk r (λ id. id ≡ field) × IfErr r (λ e. e ≡ BadId) };
+
+    fn try_from(field: [u8; 8]) -> Result<StoreId, Fault> {
+        StoreId::of_field(field)
     }
 }

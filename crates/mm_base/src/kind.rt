@@ -1,8 +1,9 @@
 //! Whether a packet store is circular or bounded.
-ghost use Rattle.std.specs.Prelude.{◌≡◌};
+ghost use Rattle.std.specs.Prelude.{◌≡◌, Some};
 ghost use Rattle.mm_base.specs.Kind.{code_of, word_of, DecodesKind};
 
 use crate::fault::Fault;
+use std::fmt;
 
 /// The kind of a packet store (ECSS-E-ST-70-41C, 6.15): a full circular store overwrites its oldest packet,
 /// a full bounded store keeps what it holds.
@@ -42,5 +43,24 @@ impl Kind {
             Kind::Circular => "circular",
             Kind::Bounded => "bounded",
         }
+    }
+}
+
+impl TryFrom<u8> for Kind {
+    type Error = Fault;
+
+    ghost try_from_gives = { λ code r. DecodesKind code r };
+
+    fn try_from(code: u8) -> Result<Kind, Fault> {
+        Kind::of_code(code)
+    }
+}
+
+/// The word for the kind in a setup.
+impl fmt::Display for Kind {
+    ghost output = { λ kind. Some (word_of kind) };
+
+    fn fmt<W: fmt::Write>(&self, f: &mut fmt::Formatter<W>) -> fmt::Result {
+        f.write_str(self.word())
     }
 }

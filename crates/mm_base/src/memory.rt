@@ -1,5 +1,6 @@
 //! Want of memory: an allocation was refused.
 use crate::refusal::Refusal;
+use crate::refused::Refused;
 use std::alloc::{AllocError, AllocFailed};
 use thiserror::Error;
 
@@ -7,6 +8,16 @@ use thiserror::Error;
 #[derive(Clone, Copy, Debug, PartialEq, Eq, Error)]
 #[error("{}", Refusal::NoMemory)]
 pub struct NoMemory;
+
+impl Refused for NoMemory {
+    fn refusal(self) -> Refusal {
+        Refusal::NoMemory
+    }
+
+    ghost use Rattle.mm_base.specs.declared.refusal.Refusal.TheVariants as refusal;
+
+    ghost refusal_of = { λ _. refusal.NoMemory };
+}
 
 impl From<AllocError> for NoMemory {
     fn from(_error: AllocError) -> NoMemory {

@@ -33,9 +33,13 @@ impl Model for ControlTable {
 fn type_cmp(row: &RouteRow, apid: u16, service: u8, subtype: u8) -> Ordering
     ensures { result ≡ type_cmp apid service subtype row.now }
 {
-    row.apid
-        .cmp(&apid)
-        .then(row.service.cmp(&service).then(row.subtype.cmp(&subtype)))
+    match row.apid.cmp(&apid) {
+        Ordering::Equal => match row.service.cmp(&service) {
+            Ordering::Equal => row.subtype.cmp(&subtype),
+            other => other,
+        },
+        other => other,
+    }
 }
 
 // The rows of a report type, which stand together.

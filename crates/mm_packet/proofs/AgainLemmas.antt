@@ -5,7 +5,7 @@ use Rattle.std.specs.Int.{w16, w64, to_be_bytes}
 use Rattle.std.proofs.lemmas.Bool.Decides.{nat_tests}
 use Rattle.std.proofs.lemmas.List.{take_at, drop_at}
 use Rattle.mm_packet.specs.declared.fault.Fault.{Fault}
-use Rattle.mm_packet.specs.declared.fault.Fault.TheVariants.{NoMemory, Short, Version, NoSecondaryHeader, PusVersion, Segmented, Idle, HeaderCut, TooLong}
+use Rattle.mm_packet.specs.declared.fault.Fault.TheVariants.{NoMemory, Short, Version, NoSecondaryHeader, PusVersion, Segmented, Idle, HeaderCut}
 use Rattle.mm_packet.specs.declared.header.PacketType.{PacketType}
 use Rattle.mm_packet.specs.declared.header.PacketType.TheVariants.{Telecommand, Telemetry}
 use Rattle.mm_packet.specs.declared.header.TheConstants.{IDLE_APID}
@@ -138,7 +138,6 @@ lacks_or_not PusVersion = inr (λ same. cc)
 lacks_or_not Segmented = inr (λ same. cc)
 lacks_or_not Idle = inr (λ same. cc)
 lacks_or_not HeaderCut = inr (λ same. cc)
-lacks_or_not TooLong = inr (λ same. cc)
 
 -- a packet that is read there is not refused
 not_refused : {X : Type 0} (fault : Fault) (x : X) (read : Result X Fault) → read ≡ Ok x → (fault ≢ NoMemory → read ≡ Err fault) → fault ≡ NoMemory

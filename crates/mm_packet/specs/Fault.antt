@@ -1,8 +1,8 @@
--- Refusals of packets and blocks.
+-- Refusals of packets.
 use Rattle.mm_base.specs.declared.refusal.Refusal.{Refusal}
 use Rattle.mm_base.specs.declared.refusal.Refusal.TheVariants as refusal
 use Rattle.mm_packet.specs.declared.fault.Fault.{Fault}
-use Rattle.mm_packet.specs.declared.fault.Fault.TheVariants.{NoMemory, Short, Version, NoSecondaryHeader, PusVersion, Segmented, Idle, HeaderCut, TooLong}
+use Rattle.mm_packet.specs.declared.fault.Fault.TheVariants.{NoMemory, Short, Version, NoSecondaryHeader, PusVersion, Segmented, Idle, HeaderCut}
 
 -- which refusal it is
 abbrev pub refusal_of : Fault → Refusal
@@ -15,5 +15,4 @@ refusal_of = elim [
   | Segmented ↦ refusal.Segmented
   | HeaderCut ↦ refusal.HeaderCut
   | PusVersion ↦ refusal.PusVersion
-  | TooLong ↦ refusal.TooLong
 ]

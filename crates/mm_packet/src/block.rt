@@ -3,7 +3,7 @@ ghost use Rattle.std.specs.Prelude.{◌≡◌, ◌≤◌, ◌↔◌, length, IsT
 ghost use Rattle.mm_packet.specs.Spelling.{spelling};
 
 use crate::packet::Packet;
-use mm_base::{NoMemory, Refusal};
+use mm_base::{NoMemory, Refusal, Refused};
 use std::alloc::Global;
 use std::marker::Model;
 use thiserror::Error;
@@ -35,6 +35,16 @@ impl Model for BlockPacket {
 #[error("{}", Refusal::TooLong)]
 pub struct TooLong {
     pub packet: Packet,
+}
+
+impl Refused for TooLong {
+    fn refusal(self) -> Refusal {
+        Refusal::TooLong
+    }
+
+    ghost use Rattle.mm_base.specs.declared.refusal.Refusal.TheVariants as refusal;
+
+    ghost refusal_of = { λ _. refusal.TooLong };
 }
 
 impl BlockPacket {

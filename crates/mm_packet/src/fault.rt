@@ -1,4 +1,4 @@
-//! Why octets are no packet, and why a packet does not go into a block.
+//! Why octets are no packet.
 ghost use Rattle.std.specs.Prelude.{◌≡◌};
 
 use mm_base::{Refusal, Refused, refusals};
@@ -25,15 +25,13 @@ pub enum Fault {
     HeaderCut,
     /// The PUS version number is not 2.
     PusVersion,
-    /// The packet is longer than a block.
-    TooLong,
 }
 
 impl Refused for Fault {
     fn refusal(self) -> Refusal {
         refusals!(
             self;
-            NoMemory, Short, Version, NoSecondaryHeader, Segmented, HeaderCut, PusVersion, TooLong;
+            NoMemory, Short, Version, NoSecondaryHeader, Segmented, HeaderCut, PusVersion;
             but Idle as IdlePacket
         )
     }
