@@ -7,7 +7,7 @@ use Rattle.mm_cut.specs.declared.verdict.Verdict.TheVariants.{NotShown, Least}
 use Rattle.mm_cut.specs.Cuts.{coming_sum, held_sum, windows_sum, limits_sum}
 use Rattle.mm_cut.specs.Lines.{line_of}
 use Rattle.mm_chart.specs.declared.layout.TheConstants.{MARGIN, HEADLINE_AT, LINE_PITCH}
-use Rattle.mm_chart.specs.declared.words.TheConstants.{MANY_RANGES, INDENT, NO_FEWER, ONLY_SHOWN, MARKED_WINDOWS, MARKED_PASSES, MARKED_LIMITS, MARKED, AT_LEAST, WHY, IN_STRETCHES, COME, AS_ENDS, STAND, BY_WINDOWS, NO_WINDOWS, BY_LIMITS, NO_LIMITS, HELP, WIDER, NO_WIDER, HIGHER, NO_HIGHER, LARGER, FEWER}
+use Rattle.mm_chart.specs.declared.phrases.TheConstants.{MANY_RANGES, INDENT, NO_FEWER, ONLY_SHOWN, MARKED_WINDOWS, MARKED_PASSES, MARKED_LIMITS, MARKED, AT_LEAST, WHY, IN_STRETCHES, COME, AS_ENDS, STAND, BY_WINDOWS, NO_WINDOWS, BY_LIMITS, NO_LIMITS, HELP, WIDER, NO_WIDER, HIGHER, NO_HIGHER, LARGER, FEWER}
 use Rattle.mm_chart.specs.declared.pen.Style.TheVariants as style
 use Rattle.mm_chart.specs.declared.series.Series.{Series}
 use Rattle.mm_chart.specs.declared.series.Series.TheVariants.{WindowCounts, CountedWindow, LimitsCount, Last}

@@ -5,11 +5,12 @@ ghost use Rattle.mm_cut.specs.declared.fault.Fault.TheVariants.{NoMemory};
 ghost use Rattle.mm_cut.specs.Checking.{IsFaultOf};
 ghost use Rattle.mm_chart.specs.Charts.{head, chart, Charts};
 
+use crate::headline::push_headline;
 use crate::layout::word_line;
 use crate::pen::{push_said, push_value};
 use crate::picture::Picture;
 use crate::rows::push_rows;
-use crate::words::{push_headline, push_words, word_lines};
+use crate::words::{push_words, word_lines};
 use mm_cut::{Fault, read_sheet};
 use mm_problem::read_problem;
 use std::alloc::{AllocError, Global};

@@ -4,7 +4,7 @@ ghost use Rattle.mm_chart.specs.Listed.{SumsAddUp, OnlyListedHelps};
 ghost use Rattle.mm_chart.specs.Legend.{legend};
 ghost use Rattle.mm_chart.specs.Table.{RecordsBalance};
 ghost use Rattle.mm_chart.specs.declared.document.TheConstants.{LEGEND};
-ghost use Rattle.mm_chart.specs.declared.words.TheConstants.{AS_ENDS, AT_LEAST, BY_LIMITS, BY_WINDOWS, COME, FEWER, HELP, HIGHER, IN_STRETCHES, LARGER, MARKED, MARKED_LIMITS, MARKED_PASSES, MARKED_WINDOWS, NO_FEWER, NO_HIGHER, NO_LIMITS, NO_WIDER, NO_WINDOWS, ONLY_SHOWN, STAND, WHY, WIDER};
+ghost use Rattle.mm_chart.specs.declared.phrases.TheConstants.{AS_ENDS, AT_LEAST, BY_LIMITS, BY_WINDOWS, COME, FEWER, HELP, HIGHER, IN_STRETCHES, LARGER, MARKED, MARKED_LIMITS, MARKED_PASSES, MARKED_WINDOWS, NO_FEWER, NO_HIGHER, NO_LIMITS, NO_WIDER, NO_WINDOWS, ONLY_SHOWN, STAND, WHY, WIDER};
 
 /// The four numbers of the sum give the number that follows it: the loss that no plan goes below, or the cut's bound.
 pub fn sums_add_up()

@@ -2,9 +2,12 @@
 #![tactic(auto)]
 
 mod document;
+mod headline;
 mod laws;
 mod layout;
+mod marked;
 mod pen;
+mod phrases;
 mod picture;
 mod rows;
 mod series;

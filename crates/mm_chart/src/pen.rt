@@ -105,6 +105,23 @@ pub(crate) fn push_value(text: &mut Vec<u8>, word: &[u8], number: u32) -> Result
     push_number(text, u64::from(number))
 }
 
+/// How a line of words looks, and where it begins.
+#[derive(Clone, Copy)]
+pub(crate) struct Line {
+    pub(crate) style: Style,
+    pub(crate) x: u32,
+    pub(crate) y: u32,
+}
+
+impl Style {
+    // A line in this style that begins there.
+    pub(crate) fn at(self, x: u32, y: u32) -> Line
+        ensures { result ≡ record { style = self; x = x; y = y } }
+    {
+        Line { style: self, x, y }
+    }
+}
+
 // Begins words at a place.
 #[tactic(auto, using(std::proofs::Common::append_assoc), unfolding(crate::specs::Svg::opened))]
 pub(crate) fn push_opened(

@@ -11,7 +11,7 @@ use crate::layout::{
     step_width, store_base, tick_every,
 };
 use crate::pen::{
-    Style, push_begun, push_closed, push_grouped, push_labelled, push_line, push_opened,
+    Line, Style, push_begun, push_closed, push_grouped, push_labelled, push_line, push_opened,
     push_profile, push_said, push_value,
 };
 use crate::picture::Picture;
@@ -31,16 +31,14 @@ fn right(problem: &Problem) -> u32
 #[tactic(auto, using(std::proofs::Common::append_assoc), unfolding(crate::specs::Rows::counted))]
 pub(crate) fn push_counted(
     text: &mut Vec<u8>,
-    style: Style,
-    x: u32,
-    y: u32,
+    line: Line,
     front: &[u8],
     number: u64,
     back: &[u8],
 ) -> Result<(), AllocError>
-    ensures { OnOk result (text.new.items ≡ text.old.items ++ counted style x y front.now number back.now) }
+    ensures { OnOk result (text.new.items ≡ text.old.items ++ counted line.style line.x line.y front.now number back.now) }
 {
-    push_opened(text, style, x, y)?;
+    push_opened(text, line.style, line.x, line.y)?;
     text.extend_from_slice(front)?;
     push_grouped(text, number)?;
     text.extend_from_slice(back)?;
@@ -89,9 +87,7 @@ fn push_windows_words(text: &mut Vec<u8>, picture: &Picture) -> Result<(), Alloc
     let most = picture.most(Series::Window);
     push_counted(
         text,
-        Style::Side,
-        NAME_AT,
-        WINDOW_BASE - 4,
+        Style::Side.at(NAME_AT, WINDOW_BASE - 4),
         b"up to ",
         most,
         b"",
@@ -99,9 +95,7 @@ fn push_windows_words(text: &mut Vec<u8>, picture: &Picture) -> Result<(), Alloc
     let used = picture.total(Series::Used);
     push_counted(
         text,
-        Style::Total,
-        right,
-        WINDOW_BASE - 18,
+        Style::Total.at(right, WINDOW_BASE - 18),
         b"",
         used,
         b" sent",
@@ -109,9 +103,7 @@ fn push_windows_words(text: &mut Vec<u8>, picture: &Picture) -> Result<(), Alloc
     let windows = picture.total(Series::Window);
     push_counted(
         text,
-        Style::Total,
-        right,
-        WINDOW_BASE - 4,
+        Style::Total.at(right, WINDOW_BASE - 4),
         b"of ",
         windows,
         b"",
@@ -155,7 +147,7 @@ fn push_channel_row(text: &mut Vec<u8>, picture: &Picture, channel: u8) -> Resul
     push_channel_side(text, picture, channel)?;
     let right = right(picture.problem());
     let sent = picture.total(Series::Sent(channel));
-    push_counted(text, Style::Total, right, base - 5, b"", sent, b" sent")
+    push_counted(text, Style::Total.at(right, base - 5), b"", sent, b" sent")
 }
 
 // Nothing for a channel without a limit.
@@ -228,7 +220,7 @@ fn push_store_loss(text: &mut Vec<u8>, picture: &Picture, store: usize) -> Resul
     if lost == 0 {
         return push_labelled(text, Style::Total, right, y, b"nothing lost");
     }
-    push_counted(text, Style::Loss, right, y, b"", lost, b" lost")
+    push_counted(text, Style::Loss.at(right, y), b"", lost, b" lost")
 }
 
 #[tactic(auto, using(std::proofs::Common::append_assoc), unfolding(crate::specs::Rows::store_words))]
@@ -247,9 +239,7 @@ fn push_store_words(text: &mut Vec<u8>, picture: &Picture, store: usize) -> Resu
     let coming = coming_to(picture, store);
     push_counted(
         text,
-        Style::Total,
-        right(problem),
-        base - 4,
+        Style::Total.at(right(problem), base - 4),
         b"of ",
         coming,
         b"",

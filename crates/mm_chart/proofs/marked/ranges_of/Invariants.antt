@@ -1,7 +1,7 @@
 use Rattle.std.proofs.Common.{◌≡◌, ◌-◌, ◌≤◌}
 use Rattle.std.specs.List.{sum_by, range_with_len}
 use Rattle.mm_chart.specs.Words.{begins}
-use Rattle.mm_chart.proofs.words.ranges_of.Given as goal
+use Rattle.mm_chart.proofs.marked.ranges_of.Given as goal
 
 abbrev pub invariant-loop-step : goal.invariant-loop-step
 invariant-loop-step l = record {

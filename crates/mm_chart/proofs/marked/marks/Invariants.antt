@@ -2,7 +2,7 @@ use Rattle.std.proofs.Common.{◌≡◌, ◌-◌, ◌≤◌}
 use Rattle.std.specs.List.{sum_by, range_with_len}
 use Rattle.mm_chart.specs.Series.{one_if}
 use Rattle.mm_chart.specs.Words.{is_marked}
-use Rattle.mm_chart.proofs.words.marks.Given as goal
+use Rattle.mm_chart.proofs.marked.marks.Given as goal
 
 abbrev pub invariant-loop-step : goal.invariant-loop-step
 invariant-loop-step l = record {

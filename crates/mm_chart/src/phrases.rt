@@ -1,0 +1,80 @@
+//! The words that a chart is made of.
+
+/// The most ranges that are listed.
+pub const MANY_RANGES: u64 = 6;
+
+/// Where the second line of a list of stores begins.
+pub const INDENT: u32 = 32;
+
+/// What is said of a plan that loses least.
+pub const NO_FEWER: &[u8] = b" blocks are lost, and no plan loses fewer";
+
+/// What is said of a cut that shows less.
+pub const ONLY_SHOWN: &[u8] =
+    b" blocks are lost; this cut shows only that no plan loses fewer than ";
+
+/// What follows the number of steps that are too many to list: of those that count by their windows,
+pub const MARKED_WINDOWS: &[u8] = b" steps marked in the row of the windows,";
+
+/// of those among them that have a window,
+pub const MARKED_PASSES: &[u8] = b" steps marked in the row of the windows that have one,";
+
+/// of those that count by the limits of channels,
+pub const MARKED_LIMITS: &[u8] = b" steps marked in the rows of the channels,";
+
+/// and of any others.
+pub const MARKED: &[u8] = b" steps,";
+
+/// What follows the sum.
+pub const AT_LEAST: &[u8] = b": at least that many blocks are lost, whatever is dumped.";
+
+/// The heading of the sum.
+pub const WHY: &[u8] = b"Why no plan loses fewer than ";
+
+/// What comes before the blocks that come.
+pub const IN_STRETCHES: &[u8] = b"In the shaded stretches ";
+
+/// What follows them.
+pub const COME: &[u8] = b" blocks come, or stand there as step 1 begins.";
+
+/// What comes before the sizes.
+pub const AS_ENDS: &[u8] = b"As each stretch ends, at most ";
+
+/// What follows them.
+pub const STAND: &[u8] = b" of them stand in the stores: the sizes of the stores.";
+
+/// What follows what the windows let leave.
+pub const BY_WINDOWS: &[u8] = b" leave by the windows.";
+
+/// What is said where no window that is open counts.
+pub const NO_WINDOWS: &[u8] = b"No open window counts.";
+
+/// What follows what the limits let leave.
+pub const BY_LIMITS: &[u8] = b" leave by the limits of the channels.";
+
+/// What is said where no limit counts.
+pub const NO_LIMITS: &[u8] = b"No limit of a channel counts.";
+
+/// The heading of what would help.
+pub const HELP: &[u8] =
+    b"What would help: only these changes can lower the loss, and no change anywhere else can";
+
+/// Windows that would help.
+pub const WIDER: &[u8] = b" a wider window.";
+
+/// What is said where no window would help.
+pub const NO_WIDER: &[u8] = b"No wider window.";
+
+/// Limits that would help.
+pub const HIGHER: &[u8] =
+    b" a higher limit of a channel marked there, or another channel for a store shaded there.";
+
+/// What is said where no limit would help.
+pub const NO_HIGHER: &[u8] = b"No higher limit, and no other channel for a store.";
+
+/// What comes before the stores that would help.
+pub const LARGER: &[u8] = b"Larger stores:";
+
+/// Arrivals that would help.
+pub const FEWER: &[u8] =
+    b"In the shaded stretches, fewer blocks that come, or stand there as step 1 begins.";
