@@ -6,8 +6,8 @@ use Rattle.mm_cut.specs.declared.verdict.Verdict.TheVariants.{DoesNotFit, LossIs
 use Rattle.mm_ask.specs.declared.answering.Outcome.{Outcome as Replied}
 use Rattle.mm_ask.specs.declared.answering.Outcome.TheVariants as replied
 use Rattle.mm_command_line.specs.declared.task.Task.TheVariants.{Plan, Check, Chart, Table, Fly, Ask}
-use Rattle.mm_flight.specs.declared.printed.Outcome.{Outcome as Ended}
-use Rattle.mm_flight.specs.declared.printed.Outcome.TheVariants as ended
+use Rattle.mm_run.specs.declared.printed.Outcome.{Outcome as Ended}
+use Rattle.mm_run.specs.declared.printed.Outcome.TheVariants as ended
 use Rattle.mm_system.specs.declared.status.Status.{Status}
 use Rattle.mm_system.specs.declared.status.Status.TheVariants.{BadCommandLine}
 use Rattle.mm_tasks.specs.declared.answers.Answer.{Answer}

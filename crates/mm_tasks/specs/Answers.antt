@@ -12,11 +12,11 @@ use Rattle.mm_planner.specs.PlanTexts.{PlansLeast}
 use Rattle.mm_ask.specs.declared.answering.Outcome.{Outcome as Replied}
 use Rattle.mm_ask.specs.declared.answering.Outcome.TheVariants as replied
 use Rattle.mm_ask.specs.Asking.{Answers}
-use Rattle.mm_flight.specs.declared.printed.Outcome.{Outcome as Ended}
-use Rattle.mm_flight.specs.declared.printed.Outcome.TheVariants as ended
-use Rattle.mm_flight.specs.declared.printed.Printed.{Printed}
-use Rattle.mm_flight.specs.Printed.{text_of}
-use Rattle.mm_flight.specs.Runs.{Runs, FliesBy}
+use Rattle.mm_run.specs.declared.printed.Outcome.{Outcome as Ended}
+use Rattle.mm_run.specs.declared.printed.Outcome.TheVariants as ended
+use Rattle.mm_run.specs.declared.printed.Printed.{Printed}
+use Rattle.mm_run.specs.Printed.{text_of}
+use Rattle.mm_run.specs.Runs.{Runs, FliesBy}
 use Rattle.mm_system.specs.Contents.{Contents, MayBe}
 use Rattle.mm_system.specs.declared.status.Status.{Status}
 use Rattle.mm_system.specs.declared.status.Status.TheVariants.{Done, Refused}

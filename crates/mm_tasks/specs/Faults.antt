@@ -7,11 +7,11 @@ use Rattle.mm_problem.specs.Fault.{refusal_of as problem_refusal}
 use Rattle.mm_cut.specs.Fault.{refusal_of as check_refusal}
 use Rattle.mm_cut.specs.declared.fault.Fault.{Fault as CheckFault}
 use Rattle.mm_cut.specs.declared.fault.Fault.TheVariants as check
-use Rattle.mm_flight.specs.Ending.{refusal_text}
-use Rattle.mm_flight.specs.Fault.{refusal_of as flight_refusal}
-use Rattle.mm_flight.specs.declared.fault.Fault.{Fault as FlightFault}
-use Rattle.mm_flight.specs.declared.fault.Fault.TheVariants as flight
-use Rattle.mm_tasks.specs.Spots.{spot_in_problem, spot_in_plan, spot_in_ends, fields_text}
+use Rattle.mm_run.specs.Ending.{refusal_text}
+use Rattle.mm_run.specs.Fault.{refusal_of as flight_refusal}
+use Rattle.mm_run.specs.declared.fault.Fault.{Fault as FlightFault}
+use Rattle.mm_run.specs.declared.fault.Fault.TheVariants as flight
+use Rattle.mm_tasks.specs.Spots.{spot_in_problem, spot_in_plan, spot_in_script, fields_text}
 use Rattle.mm_tasks.specs.declared.fault.Fault.{Fault}
 use Rattle.mm_tasks.specs.declared.fault.Fault.TheVariants.{NoMemory, NotRead, Texts, Run, Setup}
 use Rattle.mm_tasks.specs.declared.spot.Spot.{Spot}
@@ -36,7 +36,7 @@ abbrev pub spot_in_run : FlightFault → Spot
 spot_in_run flight.NoMemory = Whole
 spot_in_run (flight.Problem fault) = spot_in_problem fault
 spot_in_run (flight.Plan fault) = spot_in_plan fault
-spot_in_run (flight.Ends fault) = spot_in_ends fault
+spot_in_run (flight.Script fault) = spot_in_script fault
 
 -- where in its file it is
 abbrev pub spot_of : Fault → Spot

@@ -8,10 +8,10 @@ use Rattle.mm_cut.specs.Checking.{IsFaultOf as IsCheckFault}
 use Rattle.mm_cut.specs.declared.fault.Fault.TheVariants as check
 use Rattle.mm_planner.specs.PlanTexts.{IsPlanningFault}
 use Rattle.mm_ask.specs.Asking.{IsSetupFault}
-use Rattle.mm_flight.specs.Ending.{refusal_text}
-use Rattle.mm_flight.specs.Judging.{IsRunFault, IsFlyFault}
-use Rattle.mm_flight.specs.declared.fault.Fault.{Fault as FlightFault}
-use Rattle.mm_flight.specs.declared.fault.Fault.TheVariants as flight
+use Rattle.mm_run.specs.Ending.{refusal_text}
+use Rattle.mm_run.specs.Judging.{IsRunFault, IsFlyFault}
+use Rattle.mm_run.specs.declared.fault.Fault.{Fault as FlightFault}
+use Rattle.mm_run.specs.declared.fault.Fault.TheVariants as flight
 use Rattle.mm_system.specs.Contents.{Contents, MayBeUnread}
 use Rattle.mm_system.specs.declared.files.ReadFault.{ReadFault}
 use Rattle.mm_system.specs.declared.files.ReadFault.TheVariants as read

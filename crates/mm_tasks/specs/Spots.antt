@@ -5,8 +5,8 @@ use Rattle.mm_problem.specs.declared.fault.Fault.{Fault as ProblemFault}
 use Rattle.mm_problem.specs.declared.fault.Fault.TheVariants as problem
 use Rattle.mm_plan.specs.declared.fault.Fault.{Fault as PlanFault}
 use Rattle.mm_plan.specs.declared.fault.Fault.TheVariants as plan
-use Rattle.mm_scripted.specs.declared.fault.Fault.{Fault as EndsFault}
-use Rattle.mm_scripted.specs.declared.fault.Fault.TheVariants as ends
+use Rattle.mm_run.specs.declared.script_fault.ScriptFault.{ScriptFault}
+use Rattle.mm_run.specs.declared.script_fault.ScriptFault.TheVariants as script
 use Rattle.mm_tasks.specs.declared.spot.Spot.{Spot}
 use Rattle.mm_tasks.specs.declared.spot.Spot.TheVariants.{Whole, Line, Row, Cell, Key, Number}
 
@@ -24,10 +24,10 @@ spot_in_plan (plan.PlanText line) = Line line
 spot_in_plan fault = Whole
 
 -- a fault of the sources or the links
-abbrev pub spot_in_ends : EndsFault → Spot
-spot_in_ends (ends.SourcesText line) = Line line
-spot_in_ends (ends.LinksText line) = Line line
-spot_in_ends ends.NoMemory = Whole
+abbrev pub spot_in_script : ScriptFault → Spot
+spot_in_script (script.SourcesText line) = Line line
+spot_in_script (script.LinksText line) = Line line
+spot_in_script script.NoMemory = Whole
 
 -- the fields of a refusal's line
 abbrev pub fields_text : Spot → List ℕ

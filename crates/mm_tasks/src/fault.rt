@@ -3,7 +3,7 @@ ghost use Rattle.std.specs.Prelude.{◌≡◌, Some};
 ghost use Rattle.mm_tasks.specs.Faults.{refusal_of, spot_in_texts, spot_in_run, spot_of, fault_text};
 ghost use Rattle.mm_tasks.specs.declared.fault.Fault.TheVariants.{Texts, Run, Setup};
 
-use crate::spot::{Fields, Spot, spot_in_ends, spot_in_plan, spot_in_problem};
+use crate::spot::{Fields, Spot, spot_in_plan, spot_in_problem, spot_in_script};
 use mm_base::{Refusal, Refused, refusals};
 use std::fmt;
 
@@ -16,7 +16,7 @@ pub enum Fault<'a> {
     /// A fault of the texts of a plan or of a verdict on one.
     Texts(mm_cut::Fault),
     /// A fault of the texts of a run.
-    Run(mm_flight::Fault),
+    Run(mm_run::Fault),
     /// A fault of the setup of a conversation.
     Setup(mm_problem::Fault),
 }
@@ -29,10 +29,10 @@ impl From<mm_cut::Fault> for Fault<'_> {
     }
 }
 
-impl From<mm_flight::Fault> for Fault<'_> {
+impl From<mm_run::Fault> for Fault<'_> {
     ghost from_gives = { λ fault e. e ≡ Run fault };
 
-    fn from(fault: mm_flight::Fault) -> Self {
+    fn from(fault: mm_run::Fault) -> Self {
         Fault::Run(fault)
     }
 }
@@ -63,14 +63,14 @@ fn spot_in_texts(fault: mm_cut::Fault) -> Spot
     }
 }
 
-fn spot_in_run(fault: mm_flight::Fault) -> Spot
+fn spot_in_run(fault: mm_run::Fault) -> Spot
     ensures { result ≡ spot_in_run fault }
 {
     match fault {
-        mm_flight::Fault::NoMemory => Spot::Whole,
-        mm_flight::Fault::Problem(fault) => spot_in_problem(fault),
-        mm_flight::Fault::Plan(fault) => spot_in_plan(fault),
-        mm_flight::Fault::Ends(fault) => spot_in_ends(fault),
+        mm_run::Fault::NoMemory => Spot::Whole,
+        mm_run::Fault::Problem(fault) => spot_in_problem(fault),
+        mm_run::Fault::Plan(fault) => spot_in_plan(fault),
+        mm_run::Fault::Script(fault) => spot_in_script(fault),
     }
 }
 

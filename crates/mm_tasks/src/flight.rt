@@ -1,7 +1,7 @@
 //! What answers the tasks that carry a plan out, over the sources and the links of two texts.
 ghost use Rattle.std.specs.Prelude.{◌≡◌, ◌≢◌, IfOk, IfErr, option_map};
 ghost use Rattle.mm_base.specs.Reading.{IfRefused};
-ghost use Rattle.mm_flight.specs.declared.fault.Fault.TheVariants as flight_fault;
+ghost use Rattle.mm_run.specs.declared.fault.Fault.TheVariants as flight_fault;
 ghost use Rattle.mm_tasks.specs.Answers.{Holds, HoldsPlan, FliesBytes, IsAnswerTo};
 ghost use Rattle.mm_tasks.specs.Refusing.{IsUnread, IsFlightFault, IsFaultOf, files_of, names_of};
 ghost use Rattle.mm_command_line.specs.declared.task.Task.TheVariants.{Fly};
@@ -9,7 +9,7 @@ ghost use Rattle.mm_command_line.specs.declared.task.Task.TheVariants.{Fly};
 use crate::answers::{Answer, read_file};
 use crate::fault::Fault;
 use mm_command_line::FlightFiles;
-use mm_flight::{FlightTexts, Printed, fly_bytes, run_bytes};
+use mm_run::{Printed, RunTexts, fly_bytes, run_bytes};
 use mm_system::files::Files;
 use std::alloc::Global;
 use std::sync::Wait;
@@ -70,13 +70,13 @@ fn carry_out<R: Threads + Wait + Sync>(
     rt: &R,
     alloc: Global,
     bytes: &FlightBytes,
-) -> Result<Printed, mm_flight::Fault>
+) -> Result<Printed, mm_run::Fault>
     ensures flies { IfOk result (λ printed. FliesBytes (option_map (λ text. text.items) bytes.now.plan) printed
         bytes.now.setup.items bytes.now.forecast.items bytes.now.sources.items bytes.now.links.items) }
     ensures refused { IfRefused flight_fault.NoMemory result (λ e. IsFlightFault (option_map (λ text. text.items) bytes.now.plan) e
         bytes.now.setup.items bytes.now.forecast.items bytes.now.sources.items bytes.now.links.items) }
 {
-    let texts = FlightTexts {
+    let texts = RunTexts {
         setup: &bytes.setup,
         forecast: &bytes.forecast,
         sources: &bytes.sources,

@@ -12,7 +12,7 @@ use crate::fault::Fault;
 use crate::flight::fly;
 use crate::remark::{Remark, tell_refused};
 use mm_command_line::Task;
-use mm_flight::Outcome;
+use mm_run::Outcome;
 use mm_system::files::{Files, ReadFault};
 use mm_system::{Status, Unwritten};
 use std::alloc::Global;

@@ -1,6 +1,6 @@
 //! Where in its file a fault is.
 ghost use Rattle.std.specs.Prelude.{◌≡◌, Some};
-ghost use Rattle.mm_tasks.specs.Spots.{spot_in_problem, spot_in_plan, spot_in_ends, fields_text};
+ghost use Rattle.mm_tasks.specs.Spots.{spot_in_problem, spot_in_plan, spot_in_script, fields_text};
 
 use mm_problem::Name;
 use std::fmt;
@@ -93,13 +93,13 @@ pub(crate) fn spot_in_plan(fault: mm_plan::Fault) -> Spot
 }
 
 /// Where in the sources or the links a fault is.
-pub(crate) fn spot_in_ends(fault: mm_scripted::Fault) -> Spot
-    ensures { result ≡ spot_in_ends fault }
+pub(crate) fn spot_in_script(fault: mm_run::ScriptFault) -> Spot
+    ensures { result ≡ spot_in_script fault }
 {
     match fault {
-        mm_scripted::Fault::SourcesText { line } | mm_scripted::Fault::LinksText { line } => {
+        mm_run::ScriptFault::SourcesText { line } | mm_run::ScriptFault::LinksText { line } => {
             Spot::Line(line)
         }
-        mm_scripted::Fault::NoMemory => Spot::Whole,
+        mm_run::ScriptFault::NoMemory => Spot::Whole,
     }
 }
