@@ -3,18 +3,22 @@
 
 mod answer;
 mod codes;
+mod findings;
 mod reason;
 mod refused_at;
 mod room;
 mod spot;
 mod verdict;
+mod wording;
 mod words;
 
 pub use answer::{Answer, Status, tell_text};
 pub use codes::{NAMES, PLACES, Place, REFUSALS};
+pub use findings::Finding;
 pub use reason::Reason;
 pub use refused_at::RefusedAt;
 pub use room::{PLAN_ROOM, plan_texts_fit};
 pub use spot::Spot;
 pub use verdict::{VerdictKind, VerdictTold};
-pub use words::words_of;
+pub use wording::words_of;
+pub use words::Words;
