@@ -1,4 +1,4 @@
-//! What a call from C or Python is told: a text in a buffer of the caller's, or a refusal with its place.
+//! What people and callers are told: the words of each refusal, and for a call from C or Python a text or a refusal with its place.
 #![tactic(auto)]
 
 mod answer;
