@@ -10,7 +10,7 @@ use crate::answers::{Answer, read_file};
 use crate::fault::Fault;
 use crate::files::Files;
 use mm_command_line::FlightFiles;
-use mm_run::{RunTexts, Printed, fly_bytes, run_bytes};
+use mm_run::{Printed, RunTexts, fly_bytes, run_bytes};
 use std::alloc::Global;
 use std::sync::Wait;
 use std::thread::Threads;
