@@ -17,7 +17,7 @@
 # - docs/DEFINITIONS.md and docs/EXAMPLES.md are what docs/definitions makes of the sources;
 # - each function of a picture of docs/TOUR.md stands in the file that stands beside it;
 # - each refusal of mm_base's table has one row in the tables of refusals of docs/FORMATS.md, with its number, its name and the
-#   words of mm_words, and what `check` finds has a row with its words; 'Where each refusal is met' has a row for each, and the test and the crate that it names are there.
+#   words of mm_told, and what `check` finds has a row with its words; 'Where each refusal is met' has a row for each, and the test and the crate that it names are there.
 # The commands of one document are run one after another in one new folder, in which the top of the repository is seen, but not its
 # folder out.
 # The program must be built from the sources that are there: `./mm_tool --help` builds it. Prints one line where all is well.
@@ -318,7 +318,7 @@ refusals() {
   sed -nE 's/^ *Refusal::([A-Za-z0-9]+) => \(([0-9]+), "([A-Za-z0-9]+)"\),$/\2 \3 \1/p' "$top/crates/mm_base/src/refusal.rt"
 }
 
-# The tables of mm_words: the function, the case and its words, separated by tabs.
+# The tables of mm_told: the function, the case and its words, separated by tabs.
 words() {
   awk '
     /^fn / { table = $2; sub(/\(.*/, "", table); name = "" }
@@ -326,10 +326,10 @@ words() {
     name != "" && match($0, /".*"/) {
       printf "%s\t%s\t%s\n", table, name, substr($0, RSTART + 1, RLENGTH - 2)
       name = ""
-    }' "$top/crates/mm_words/src/words.rt" "$top/crates/mm_words/src/findings.rt"
+    }' "$top/crates/mm_told/src/words.rt" "$top/crates/mm_told/src/findings.rt"
 }
 
-# The words that a table of mm_words has for a refusal.
+# The words that a table of mm_told has for a refusal.
 words_of() {
   awk -F '\t' -v table="$1" -v name="$2" '$1 == table && $2 == name { print $3 }' "$work/words"
 }
@@ -343,7 +343,7 @@ check_refusals() {
   while read -r number name case; do
     row=$(grep -E "^\| \`$number ${name}[ \`]" "$work/rows")
     [ "${row#*\` }" = "| $(words_of expected "$case") | $(words_of advice "$case") |" ] ||
-      fail "docs/FORMATS.md: the row of $number $name has other words than mm_words"
+      fail "docs/FORMATS.md: the row of $number $name has other words than mm_told"
   done < <(refusals)
 }
 
@@ -352,7 +352,7 @@ check_findings() {
   local case
   while read -r case; do
     grep -qF -- "| $(words_of found_expected "$case") | $(words_of found_advice "$case") |" "$top/docs/FORMATS.md" ||
-      fail "docs/FORMATS.md: no row has the words of mm_words for $case"
+      fail "docs/FORMATS.md: no row has the words of mm_told for $case"
   done < <(awk -F '\t' '$1 == "found_expected" { print $2 }' "$work/words")
 }
 

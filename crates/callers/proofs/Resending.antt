@@ -12,7 +12,7 @@ use Rattle.mm_dump.specs.Courses.{Course, sent_by}
 use Rattle.mm_dump.specs.Sending.{Sent, all_sent}
 use Rattle.mm_report.specs.declared.cause.Cause.{Cause}
 use Rattle.mm_report.specs.declared.cause.Cause.TheVariants.{LinkFailed}
-use Rattle.mm_ready.specs.Ready.{Outset}
+use Rattle.mm_exec.specs.Readiness.{RunStart}
 use Rattle.mm_exec.specs.declared.flight.Halted.{Halted}
 use Rattle.mm_exec.specs.RunInput.{RunInput}
 use Rattle.mm_exec.specs.Step.{IsCauseIn}
@@ -68,7 +68,7 @@ module _ (gives : Burst → ℕ → List SpacePacket) (m : RunInput) (plan : Tab
         holds = broke.oldest;
       }
 
-  no_refusal : (o : Outset) (step : ℕ) → halted.cause ≡ LinkFailed step → IsRefusal o halted.cause → GoesOutAgain links halted.links.items memory
+  no_refusal : (o : RunStart) (step : ℕ) → halted.cause ≡ LinkFailed step → IsRefusal o halted.cause → GoesOutAgain links halted.links.items memory
   no_refusal o step is_link refused = let none = subst (IsRefusal o) is_link refused in absurd none
 
   pub goes_again : (step : ℕ) → halted.cause ≡ LinkFailed step → IsHalted gives sent_over failed_of m plan sources links memory halted → GoesOutAgain links halted.links.items memory

@@ -11,10 +11,9 @@ ghost use Rattle.callers.specs.declared.ends.Downlink.{Downlink};
 
 use crate::ends::{Burst, Downlink};
 use mm_dump::Link;
-use mm_exec::{Flown, NotFlown, fly};
+use mm_exec::{Cause, Flown, NotFlown, fly};
 use mm_memory::Memory;
 use mm_problem::{Problem, Setup};
-use mm_ready::Cause;
 use mm_record::Source;
 use std::alloc::Global;
 use std::sync::Wait;

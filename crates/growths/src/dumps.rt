@@ -2,9 +2,9 @@
 ghost use Rattle.std.specs.Prelude.{◌≡◌, All, None, IsTrue};
 
 use crate::calls::{new_state, packet};
+use crate::link::{TestLink, new_links};
 use crate::met::Met;
 use crate::traces::sent_over;
-use crate::wire::{Wire, new_wires};
 use mm_base::{NoMemory, StoreId};
 use mm_desk::{Held, StoreState};
 use mm_dump::{Dumped, Order, dump, may_fail};
@@ -67,7 +67,7 @@ fn have(stores: &[Held], wanted: &[(u32, u64); 2]) -> bool {
 }
 
 // Whether the stores hold this many packets, nothing of them is lost, and the links have sent these packets, each once.
-fn are_left(stores: &[Held], links: &[Wire], wanted: &[(u32, u64); 2], sent: u32) -> Met {
+fn are_left(stores: &[Held], links: &[TestLink], wanted: &[(u32, u64); 2], sent: u32) -> Met {
     Met::Whole
         .provided(have(stores, wanted), "another number held or deleted")
         .provided(are_idle(stores), "a retrieval is on")
@@ -79,7 +79,7 @@ fn dumped<R: Threads + Wait + Sync>(
     rt: &R,
     alloc: Global,
     stores: &mut Vec<Held>,
-    links: &mut Vec<Wire>,
+    links: &mut Vec<TestLink>,
 ) -> Option<Result<Dumped, NoMemory>> {
     if stores.len() != 2 || links.len() != 2 || !may_fail(links) || !are_idle(stores) {
         return None;
@@ -98,7 +98,7 @@ fn dumped<R: Threads + Wait + Sync>(
 }
 
 // What a dump left that answered so. Where there was no memory all is as before.
-fn left(answer: &Option<Result<Dumped, NoMemory>>, stores: &[Held], links: &[Wire]) -> Met {
+fn left(answer: &Option<Result<Dumped, NoMemory>>, stores: &[Held], links: &[TestLink]) -> Met {
     match answer {
         Some(Ok(done)) => are_left(stores, links, &AFTER, SENT)
             .provided(done.broken.is_none(), "an order broke")
@@ -113,7 +113,7 @@ pub(crate) fn dumps<R: Threads + Wait + Sync>(rt: &R, alloc: Global) -> Met {
     let Some(mut stores) = stores_in_room(alloc) else {
         return Met::Unready;
     };
-    let Ok(mut links) = new_wires(alloc, 2) else {
+    let Ok(mut links) = new_links(alloc, 2) else {
         return Met::Unready;
     };
     let first = dumped(rt, alloc, &mut stores, &mut links);

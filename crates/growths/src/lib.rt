@@ -5,6 +5,7 @@ mod applied;
 mod calls;
 mod created;
 mod dumps;
+mod link;
 mod met;
 mod parts;
 mod records;
@@ -13,7 +14,6 @@ mod seats;
 mod shared;
 mod texts;
 mod traces;
-mod wire;
 
 pub use met::Met;
 pub use parts::part_named;

@@ -5,7 +5,7 @@ use crate::met::Met;
 use mm_desk::Held;
 use mm_memory::Memory;
 use mm_record::{Cause, RecordHalted, RecordedStep, Source, record_step};
-use mm_scripted::{Deliveries, ScriptedSource};
+use mm_run::{ScriptedSource, SourceFile};
 use mm_store::PacketStore;
 use std::alloc::Global;
 use std::sync::Wait;
@@ -101,8 +101,8 @@ pub(crate) fn record<R: Threads + Wait + Sync>(rt: &R, alloc: Global) -> Met {
     let Some(mut memory) = memory_of_text(alloc, SETUP) else {
         return Met::Unready;
     };
-    match Deliveries::read(alloc, PACKETS) {
-        Ok(Deliveries { sources, .. }) => record_or_again(rt, alloc, &mut memory, sources),
+    match SourceFile::read(alloc, PACKETS) {
+        Ok(SourceFile { sources, .. }) => record_or_again(rt, alloc, &mut memory, sources),
         Err(_) => Met::Unready,
     }
 }

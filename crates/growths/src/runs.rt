@@ -1,8 +1,8 @@
 //! Runs of the first plan: one store of four blocks, three steps, and a window of two blocks in each of the first two.
 
+use crate::link::{TestLink, new_links};
 use crate::met::Met;
 use crate::traces::{Traces, traces_of};
-use crate::wire::{Wire, new_wires};
 use mm_base::StoreId;
 use mm_dump::may_fail;
 use mm_exec::{Cause, Halted, NotFlown, carry_out, fly};
@@ -10,7 +10,7 @@ use mm_memory::Memory;
 use mm_plan::Sheet;
 use mm_problem::{Problem, Setup};
 use mm_report::Report;
-use mm_scripted::{Deliveries, ScriptedSource};
+use mm_run::{ScriptedSource, SourceFile};
 use std::alloc::Global;
 use std::sync::Wait;
 use std::thread::Threads;
@@ -83,7 +83,7 @@ struct Stage {
     memory: Memory,
     problem: Problem,
     sources: Vec<ScriptedSource>,
-    links: Vec<Wire>,
+    links: Vec<TestLink>,
 }
 
 fn stage_in_room(alloc: Global, sources: &[&[u8]], links: usize) -> Option<Stage> {
@@ -94,8 +94,8 @@ fn stage_in_room(alloc: Global, sources: &[&[u8]], links: usize) -> Option<Stage
     for part in sources {
         text.extend_from_slice(part).ok()?;
     }
-    let Deliveries { sources, .. } = Deliveries::read(alloc, &text).ok()?;
-    let links = new_wires(alloc, links).ok()?;
+    let SourceFile { sources, .. } = SourceFile::read(alloc, &text).ok()?;
+    let links = new_links(alloc, links).ok()?;
     Some(Stage {
         memory,
         problem,
@@ -141,7 +141,7 @@ fn halted_for_want_of_memory(
     alloc: Global,
     left: &Traces,
     packets: u32,
-    end: &Halted<ScriptedSource, Wire>,
+    end: &Halted<ScriptedSource, TestLink>,
 ) -> Met {
     let Cause::NoMemory { step } = end.cause else {
         return Met::Wrong("halted for another cause");
@@ -168,7 +168,7 @@ fn halted_for_want_of_memory(
 }
 
 // What a run has left in its one store, its sources and its links.
-fn left_by(memory: &Memory, sources: &mut [ScriptedSource], links: &[Wire]) -> Option<Traces> {
+fn left_by(memory: &Memory, sources: &mut [ScriptedSource], links: &[TestLink]) -> Option<Traces> {
     let id = StoreId::of_text(b"SCI").ok()?;
     traces_of(memory.state(&id)?, sources, links)
 }
@@ -220,7 +220,7 @@ pub(crate) fn crowd<R: Threads + Wait + Sync>(rt: &R, alloc: Global) -> Met {
 }
 
 // What came of a run that has no plan: nothing was done, and for want of memory alone.
-fn unplanned(left: &Traces, end: &NotFlown<ScriptedSource, Wire>) -> Met {
+fn unplanned(left: &Traces, end: &NotFlown<ScriptedSource, TestLink>) -> Met {
     Met::Unplanned
         .provided(
             end.halted.cause == Cause::NoMemory { step: 0 },

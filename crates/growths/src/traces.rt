@@ -1,6 +1,6 @@
 //! Where the packets of a run are: each has a sequence count of its own, from 1 on.
 
-use crate::wire::Wire;
+use crate::link::TestLink;
 use mm_desk::StoreState;
 use mm_record::Source;
 use mm_store::PacketStore;
@@ -52,7 +52,7 @@ fn held_by(state: &StoreState) -> Option<Packets> {
 }
 
 /// The packets that links have sent, a bit for each sequence count. Nothing where one of them was sent twice.
-pub(crate) fn sent_over(links: &[Wire]) -> Option<u32> {
+pub(crate) fn sent_over(links: &[TestLink]) -> Option<u32> {
     let mut packets = 0;
     for link in links {
         for place in 0..link.sent() {
@@ -81,7 +81,7 @@ fn left_in<S: Source>(sources: &mut [S]) -> Option<Packets> {
 pub(crate) fn traces_of<S: Source>(
     state: &StoreState,
     sources: &mut [S],
-    links: &[Wire],
+    links: &[TestLink],
 ) -> Option<Traces> {
     if !state.storage() || state.retrieval().is_some() {
         return None;

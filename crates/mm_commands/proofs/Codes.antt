@@ -1,9 +1,9 @@
 -- What an exit status says of the words of a command line.
 use Rattle.std.proofs.Common.{◌≡◌, ◌≢◌, ◌≤◌, ◌⊎◌, ℕ, List, Option, Result, Ok, Err, IfOk, IfErr, inl, inr, refl, arith}
-use Rattle.mm_system.specs.Statuses.{exit_code}
-use Rattle.mm_system.specs.declared.status.Status.{Status}
-use Rattle.mm_system.specs.declared.status.Status.TheVariants.{Done, Refused, BadCommandLine}
-use Rattle.mm_system.specs.Contents.{Contents}
+use Rattle.mm_commands.specs.Statuses.{exit_code}
+use Rattle.mm_commands.specs.declared.status.Status.{Status}
+use Rattle.mm_commands.specs.declared.status.Status.TheVariants.{Done, Refused, BadCommandLine}
+use Rattle.mm_commands.specs.Contents.{Contents}
 use Rattle.mm_commands.specs.Doing.{Does, DoesTask, IsDone, TellsVersion}
 
 -- a task that was done is no refused one

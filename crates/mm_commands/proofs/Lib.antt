@@ -1,2 +1,5 @@
+pub mod ScriptLemmas
+mod Printing
+mod Refusals
 mod Codes
 mod Words

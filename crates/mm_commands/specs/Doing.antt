@@ -4,16 +4,16 @@ use Rattle.std.specs.List.{slice_split}
 use Rattle.std.specs.Str.{IsUtf8}
 use Rattle.std.specs.Io.KnownBytes.{Appends}
 use Rattle.mm_base.specs.Characters.{space}
-use Rattle.mm_system.specs.Contents.{Contents}
-use Rattle.mm_system.specs.Scripts.{IsFirstLine, script_contents}
-use Rattle.mm_system.specs.declared.files.ReadFault.TheVariants.{NoMemory}
-use Rattle.mm_system.specs.declared.status.Status.{Status}
-use Rattle.mm_system.specs.declared.status.Status.TheVariants.{Done, Refused, BadCommandLine}
+use Rattle.mm_commands.specs.Contents.{Contents}
+use Rattle.mm_commands.specs.Scripts.{IsFirstLine, script_contents}
+use Rattle.mm_commands.specs.declared.files.ReadFault.TheVariants.{NoMemory}
+use Rattle.mm_commands.specs.declared.status.Status.{Status}
+use Rattle.mm_commands.specs.declared.status.Status.TheVariants.{Done, Refused, BadCommandLine}
 use Rattle.mm_command_line.specs.Lines.{IsTaskLine, is_version_line, spelling, without_dashes}
 use Rattle.mm_command_line.specs.declared.version.TheConstants.{VERSION}
 use Rattle.mm_command_line.specs.declared.task.Task.{Task}
-use Rattle.mm_tasks.specs.Answers.{Prints}
-use Rattle.mm_tasks.specs.Refusing.{Refuses, refused_input}
+use Rattle.mm_commands.specs.Answers.{Prints}
+use Rattle.mm_commands.specs.Refusing.{Refuses, refused_input}
 
 -- the words of a line, separated by single spaces; an empty line has none
 abbrev pub words_in : List ℕ → List (List ℕ)

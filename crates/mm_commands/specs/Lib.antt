@@ -1,1 +1,10 @@
+pub mod Contents
+pub mod Inputs
+pub mod ReadFaults
+pub mod Scripts
+pub mod Statuses
+pub mod Answers
+pub mod Spots
+pub mod Faults
+pub mod Refusing
 pub mod Doing

@@ -1,8 +1,22 @@
-//! The program, over any files and any writers: `mm_command_line` reads its words as a task, which `mm_tasks` does.
+//! The program, over any files and any writers: its words are read as a task, the task's files are read, and what answers it is printed.
 #![tactic(auto)]
 
+mod advice;
+mod answers;
+mod fault;
+mod files;
+mod flight;
+pub mod laws;
+mod remark;
 mod run;
+mod script;
+mod spot;
+mod status;
+mod tasks;
 
-pub use mm_system::files::{Device, Files, ReadFault, SystemFiles, read_to_end};
-pub use mm_system::{Status, Unwritten};
+pub use fault::Fault;
+pub use files::{Device, Files, Input, MAX_READS, ReadFault, SystemFiles, read_to_end};
 pub use run::{refuse_input, run_script, run_tool, run_words};
+pub use script::{ScriptFiles, first_line};
+pub use status::{Status, Unwritten};
+pub use tasks::do_task;

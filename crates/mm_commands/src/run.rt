@@ -1,16 +1,16 @@
 //! The program, over any files and any writers.
 ghost use Rattle.std.specs.Prelude.{◌≡◌, ◌≢◌, ◌≤◌, ◌⊎◌, IfOk, IfErr, map};
-ghost use Rattle.mm_system.specs.Statuses.{exit_code};
-ghost use Rattle.mm_system.specs.declared.status.Status.TheVariants.{BadCommandLine};
+ghost use Rattle.mm_commands.specs.Statuses.{exit_code};
+ghost use Rattle.mm_commands.specs.declared.status.Status.TheVariants.{BadCommandLine};
 ghost use Rattle.mm_command_line.specs.Lines.{IsTaskLine};
 ghost use Rattle.mm_commands.specs.Doing.{Does, DoesScript, IsDone, IsTaskScript, TellsVersion, words_in};
 
+use crate::files::{Files, ReadFault};
+use crate::script::{ScriptFiles, first_line};
+use crate::status::{Status, Unwritten};
+use crate::tasks::{self, do_task};
 use clap::error::ErrorKind;
 use mm_command_line::{VERSION, asks_version, parse};
-use mm_system::files::{Files, ReadFault};
-use mm_system::script::{ScriptFiles, first_line};
-use mm_system::{Status, Unwritten};
-use mm_tasks::do_task;
 use std::alloc::{AllocError, Global};
 use std::convert::AsStr;
 use std::io::Write;
@@ -40,7 +40,7 @@ pub fn run_words<R: Threads + Wait + Sync, S: AsStr, F: Files, W: Write, E: Writ
     match parse(alloc, words) {
         Ok(task) => do_task(rt, alloc, task, files, out, err),
         Err(error) if error.kind() == ErrorKind::OutOfMemory => {
-            mm_tasks::refuse_input(ReadFault::NoMemory, out, err)
+            tasks::refuse_input(ReadFault::NoMemory, out, err)
         }
         Err(error) => {
             write!(err, "{error}").map_err(|_| Unwritten::Messages)?;
@@ -133,6 +133,6 @@ fn words_of(alloc: Global, line: &str) -> Result<Vec<&str>, AllocError>
 pub fn refuse_input<W: Write, E: Write>(fault: ReadFault, out: &mut W, err: &mut E) -> u8
     ensures status { result ≡ 1 }
 {
-    let run = mm_tasks::refuse_input(fault, out, err);
+    let run = tasks::refuse_input(fault, out, err);
     end(run, err)
 }

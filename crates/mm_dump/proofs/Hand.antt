@@ -15,7 +15,7 @@ use Rattle.mm_dump.specs.declared.order.OrderBroken.TheVariants.{NoMemory, LinkF
 use Rattle.mm_dump.specs.declared.stop.Stop.{Stop}
 use Rattle.mm_dump.specs.declared.stop.Stop.TheVariants.{Broken, Refused}
 use Rattle.mm_dump.specs.Broken.{aborted, unsent_at}
-use Rattle.mm_dump.specs.Parts.{HasSent, SentNext, AbortsAs, StopsAs, HasStopped, SentAll, last_of, end_where, with_calls}
+use Rattle.mm_dump.specs.Parts.{HasSent, SentNext, AbortsAs, StopsAs, OrderStopped, SentAll, last_of, end_where, with_calls}
 use Rattle.mm_dump.specs.Sending.{LinkState}
 use Rattle.mm_dump.proofs.Going.{went_on, called, number_stays, given_more, with_more}
 use Rattle.mm_dump.proofs.Refusing.{next_refused, after_given}
@@ -46,7 +46,7 @@ last_of_more [] p = refl
 last_of_more (q ∷ ps) p = ap (λ (time : ℕ). Some time) (last_time_of q.time ps p)
 
 -- an order stopped with no packet more: it was aborted where there was no memory
-pub no_memory_stops : (id : List ℕ) (stop : Stop) (a b : PortView) (l : LinkState) → AbortsAs NoMemory stop a b → HasStopped id 1 stop a b l l
+pub no_memory_stops : (id : List ℕ) (stop : Stop) (a b : PortView) (l : LinkState) → AbortsAs NoMemory stop a b → OrderStopped id 1 stop a b l l
 no_memory_stops id (Broken why) a b l aborts = record {
   sent = [];
   unsent = [];
@@ -65,7 +65,7 @@ no_memory_stops id Refused a b l aborts = record {
 }
 
 -- a next was refused
-pub refused_stops : (id : List ℕ) (fault : Fault) (a b : PortView) (l : LinkState) → b ≡ with_call a Next (reply.Given (Err fault)) → HasStopped id 1 Refused a b l l
+pub refused_stops : (id : List ℕ) (fault : Fault) (a b : PortView) (l : LinkState) → b ≡ with_call a Next (reply.Given (Err fault)) → OrderStopped id 1 Refused a b l l
 refused_stops id fault a b l port = record {
   sent = [];
   unsent = [];
@@ -86,7 +86,7 @@ module _ (id : List ℕ) (p : Stored) (a b c : PortView) (l m : LinkState) (gave
     blocks = omega (arith, spent);
   }
 
-  pub link_failed_stops : (stop : Stop) → AbortsAs LinkFailed stop b c → HasStopped id 1 stop a c l m
+  pub link_failed_stops : (stop : Stop) → AbortsAs LinkFailed stop b c → OrderStopped id 1 stop a c l m
   link_failed_stops (Broken why) aborts =
       let number : b.number ≡ a.number = ap (λ (q : PortView). q.number) gave in
       let port : c ≡ with_calls b (aborted a.number ∷ []) = aborts.1 ∙ ap (λ (n : ℕ). with_calls b (aborted n ∷ [])) number in
@@ -135,7 +135,7 @@ module _ (id : List ℕ) (many : ℕ) (last : Option ℕ) (a b c : PortView) (l 
       }
 
   -- the order stopped
-  pub in_hand_stopped : (wanted : ℕ) (stop : Stop) → many < wanted → HasStopped id 1 stop b c m n → HasStopped id wanted stop a c l n
+  pub in_hand_stopped : (wanted : ℕ) (stop : Stop) → many < wanted → OrderStopped id 1 stop b c m n → OrderStopped id wanted stop a c l n
   in_hand_stopped wanted stop fewer after =
       let P : ℕ → Type 0 = λ k. StopsAs stop k after.sent after.unsent after.calls in
       record {

@@ -16,7 +16,7 @@ use Rattle.mm_dump.specs.declared.stop.Stop.TheVariants.{Broken, Refused}
 use Rattle.mm_dump.specs.Courses.{Course, calls_at}
 use Rattle.mm_dump.specs.Parts.{HasSent, HasEnded}
 use Rattle.mm_dump.specs.Sending.{Sent, LinkState, all_sent}
-use Rattle.mm_dump.specs.Workers.{HasLines, Shows, HasCarried}
+use Rattle.mm_dump.specs.Workers.{HasLines, Shows, OrderCarriedOut}
 
 -- the calls of one order, at its place and at another
 calls_here : (place : ℕ) (c : Course) → c.order.place ≡ place → calls_at place (c ∷ []) ≡ c.calls
@@ -84,7 +84,7 @@ module _ (ids : List (List ℕ)) (id : List ℕ) (lines : List Line) (place : �
 
   -- an order that ended
   pub has_carried : (order : Order) (stop : Option Stop) (d : Line) → order.place ≡ place → place < length lines → old ≡ get_or lines place d → id ≡ id_at ids place → new.index ≡ old.index
-      → HasEnded id order.amount stop old.port new.port l m → HasCarried ids order stop lines (set lines place new) l m
+      → HasEnded id order.amount stop old.port new.port l m → OrderCarriedOut ids order stop lines (set lines place new) l m
   has_carried order None d here within at named index ended =
       let c : Course = record { order = order; seat = old.port.number; calls = ended.calls; sent = ended.sent; unsent = ended.unsent; why = None } in
       record {

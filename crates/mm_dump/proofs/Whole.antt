@@ -8,7 +8,7 @@ use Rattle.mm_desk.specs.Orders.{begun, given, ended, removed}
 use Rattle.mm_shared.specs.Views.{PortView}
 use Rattle.mm_dump.specs.declared.stop.Stop.{Stop}
 use Rattle.mm_dump.specs.declared.stop.Stop.TheVariants.{Broken, Refused}
-use Rattle.mm_dump.specs.Parts.{IsRefused, HasSent, WasRefused, StopsAs, HasStopped, SentAll, EndsAs, HasEnded, with_calls, last_of, end_where, abort_where, deletion}
+use Rattle.mm_dump.specs.Parts.{IsRefused, HasSent, WasRefused, StopsAs, OrderStopped, SentAll, EndsAs, HasEnded, with_calls, last_of, end_where, abort_where, deletion}
 use Rattle.mm_dump.specs.Sending.{LinkState}
 use Rattle.mm_dump.proofs.Going.{went_on, called, number_stays}
 use Rattle.mm_dump.proofs.Refusing.{after_begun, after_given, after_end, after_abort}
@@ -63,7 +63,7 @@ module _ (id : List ℕ) (wanted : ℕ) (a b : PortView) (l : LinkState) (port :
   number = number_stays id _ [] [] a b l l first
 
   -- it stopped in the retrieval
-  pub stopped : (stop : Stop) (c : PortView) (m : LinkState) → HasStopped id wanted stop b c l m → HasEnded id wanted (Some stop) a c l m
+  pub stopped : (stop : Stop) (c : PortView) (m : LinkState) → OrderStopped id wanted stop b c l m → HasEnded id wanted (Some stop) a c l m
   stopped stop c m stops = record {
     sent = stops.sent;
     unsent = stops.unsent;

@@ -17,7 +17,7 @@ use Rattle.mm_dump.specs.declared.stop.Stop.{Stop}
 use Rattle.mm_dump.specs.Courses.{Course, calls_at, sent_by, failed_by}
 use Rattle.mm_dump.specs.Queue.{queue_view}
 use Rattle.mm_dump.specs.Sending.{Sent, LinkState, all_sent}
-use Rattle.mm_dump.specs.Workers.{order_at, HasLines, IsTried, Shows, HasCarried, AreTried, HasWorkedOn, Worked}
+use Rattle.mm_dump.specs.Workers.{order_at, HasLines, IsTried, Shows, OrderCarriedOut, AreTried, HasWorkedOn, Worked}
 
 -- the calls of orders, one after another
 calls_more : (k : ℕ) (cs ds : List Course) → calls_at k (cs ++ ds) ≡ calls_at k cs ++ calls_at k ds
@@ -101,7 +101,7 @@ module _ (ids : List (List ℕ)) where
   -- one order more
   pub worked_more : (orders : List Order) (numbers all : List ℕ) (number : ℕ) (order : Order) (stop cause : Option Stop) (old mid new : List Line) (l m n : LinkState)
       → all ≡ numbers ++ number ∷ [] → number < length orders → order ≡ order_at orders number → cause ≡ stop
-      → HasWorkedOn ids orders numbers None old mid l m → HasCarried ids order cause mid new m n
+      → HasWorkedOn ids orders numbers None old mid l m → OrderCarriedOut ids order cause mid new m n
       → HasWorkedOn ids orders all stop old new l n
   worked_more orders numbers all number order stop cause old mid new l m n more inside at same worked carried = record {
     within = subst (λ (xs : List ℕ). All (λ (k : ℕ). k < length orders) xs) (sym more) (All-push (λ (k : ℕ). k < length orders) numbers number worked.within inside);
@@ -119,7 +119,7 @@ module _ (ids : List (List ℕ)) where
   worked_well orders numbers old new l m worked = omega (arith, worked.shown.failures, no_failures worked.courses (whole_all worked.courses worked.are))
 
   -- an order spends no more than its amount
-  pub carried_few : (order : Order) (stop : Option Stop) (old new : List Line) (l m : LinkState) → HasCarried ids order stop old new l m → m.spent ≤ l.spent + order.amount
+  pub carried_few : (order : Order) (stop : Option Stop) (old new : List Line) (l m : LinkState) → OrderCarriedOut ids order stop old new l m → m.spent ≤ l.spent + order.amount
   carried_few order stop old new l m carried =
       omega (arith, carried.shown.blocks, carried.few, sum_by-cons (λ (c : Course). length c.sent + length c.unsent) carried.course [])
 

@@ -51,7 +51,7 @@ StopsAs (Broken why) seat sent unsent calls = (calls ≡ given seat (sent ++ uns
 StopsAs Refused seat sent unsent calls = IsRefused true calls
 
 -- an order stopped in its retrieval, after at most this many packets
-pub record HasStopped (id : List ℕ) (wanted : ℕ) (stop : Stop) (old new : PortView) (before after : LinkState) : Type 0 where
+pub record OrderStopped (id : List ℕ) (wanted : ℕ) (stop : Stop) (old new : PortView) (before after : LinkState) : Type 0 where
   pub sent : List Stored
   pub unsent : List Stored
   pub calls : List Entry

@@ -43,7 +43,7 @@ pub record Shows (ids : List (List ℕ)) (courses : List Course) (old new : List
   pub blocks : after.spent ≡ before.spent + spent_by courses
 
 -- an order was carried out, and stopped so
-pub record HasCarried (ids : List (List ℕ)) (order : Order) (stop : Option Stop) (old new : List Line) (before after : LinkState) : Type 0 where
+pub record OrderCarriedOut (ids : List (List ℕ)) (order : Order) (stop : Option Stop) (old new : List Line) (before after : LinkState) : Type 0 where
   pub course : Course
   pub of : course.order ≡ order
   pub is : IsTried stop course

@@ -2,7 +2,7 @@
 ghost use Rattle.std.specs.Prelude.{◌≡◌, ℕ, ◌+◌, ◌-◌, ◌<◌, ◌^◌, [], ◌∷◌, not, false, Some, None, Ok, IfOk, IfErr, OnOk, OnErr};
 ghost use Rattle.mm_desk.specs.Orders.{begun};
 ghost use Rattle.mm_shared.specs.Views.{with_call};
-ghost use Rattle.mm_dump.specs.Parts.{with_calls, SentNext, AbortsAs, HasStopped, SentAll, WasRefused, HasEnded, abort_where, deletion};
+ghost use Rattle.mm_dump.specs.Parts.{with_calls, SentNext, AbortsAs, OrderStopped, SentAll, WasRefused, HasEnded, abort_where, deletion};
 ghost use Rattle.mm_dump.specs.Sending.{link_state};
 
 use crate::link::Link;
@@ -86,7 +86,7 @@ fn send_next<L: Link, R: Wait>(
     ensures of { port.new.of ≡ port.old.of }
     ensures ok { IfOk result (λ next. SentNext context.now.id.now next port.old port.new
         (link_state (L.sent link.old) (L.failed link.old) spent.old) (link_state (L.sent link.new) (L.failed link.new) spent.new)) }
-    ensures err { IfErr result (λ stop. HasStopped context.now.id.now 1 stop port.old port.new
+    ensures err { IfErr result (λ stop. OrderStopped context.now.id.now 1 stop port.old port.new
         (link_state (L.sent link.old) (L.failed link.old) spent.old) (link_state (L.sent link.new) (L.failed link.new) spent.new)) }
 {
     let Some(stored) = next(context, port)? else {
@@ -113,7 +113,7 @@ fn send_all<L: Link, R: Wait>(
     ensures of { port.new.of ≡ port.old.of }
     ensures ok { IfOk result (λ sending. SentAll context.now.id.now amount sending.last sending.over port.old port.new
         (link_state (L.sent link.old) (L.failed link.old) spent.old) (link_state (L.sent link.new) (L.failed link.new) spent.new)) }
-    ensures err { IfErr result (λ stop. HasStopped context.now.id.now amount stop port.old port.new
+    ensures err { IfErr result (λ stop. OrderStopped context.now.id.now amount stop port.old port.new
         (link_state (L.sent link.old) (L.failed link.old) spent.old) (link_state (L.sent link.new) (L.failed link.new) spent.new)) }
 {
     let mut last = None;

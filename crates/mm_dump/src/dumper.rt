@@ -4,7 +4,7 @@ ghost use Rattle.std.specs.Thread.{IsSync, IsSend};
 ghost use Rattle.crossbeam_queue.specs.Passes.{view, IsPassOf};
 ghost use Rattle.mm_shared.specs.Stores.{ids_of};
 ghost use Rattle.mm_dump.specs.Sending.{link_state};
-ghost use Rattle.mm_dump.specs.Workers.{HasLines, HasCarried, Worked, side, sided, IsReady, AreReady, AllWorked};
+ghost use Rattle.mm_dump.specs.Workers.{HasLines, OrderCarriedOut, Worked, side, sided, IsReady, AreReady, AllWorked};
 
 use crate::carrying::{OrderContext, carry};
 use crate::link::Link;
@@ -48,7 +48,7 @@ fn carry_at<L: Link, R: Wait>(
     requires room { L.failed link.old < 2 ^ 64 - 1 }
     requires blocks { spent.old < 2 ^ 48 }
     ensures few { spent.new ≤ spent.old + 2 ^ 32 }
-    ensures carried { HasCarried (ids_of context.now.stores.now) order result lines.old.items lines.new.items
+    ensures carried { OrderCarriedOut (ids_of context.now.stores.now) order result lines.old.items lines.new.items
         (link_state (L.sent link.old) (L.failed link.old) spent.old) (link_state (L.sent link.new) (L.failed link.new) spent.new) }
 {
     let place = order.place as usize;

@@ -12,7 +12,7 @@ use Rattle.mm_desk.specs.declared.event.Event.{Event}
 use Rattle.mm_desk.specs.declared.event.Event.TheVariants.{Offer}
 use Rattle.mm_desk.specs.Laws.{HasTimes}
 use Rattle.mm_record.specs.Recorded.{RecordingContext, offers}
-use Rattle.mm_runs.specs.StepRuns.{AreTimed}
+use Rattle.mm_exec.specs.StepRuns.{AreTimed}
 use Rattle.mm_exec.specs.RunInput.{RunInput, step_of, offered, came, as_came}
 
 -- rows of one length, one after another

@@ -12,7 +12,8 @@ use Rattle.mm_desk.specs.Runs.{opening_at}
 use Rattle.mm_shared.specs.Stores.{states_of}
 use Rattle.mm_report.specs.declared.tally.Tally.{Tally}
 use Rattle.mm_exec.specs.RunInput.{RunInput, place_in_memory, state_in}
-use Rattle.mm_exec.specs.Numbers.{counters_of, tally_from, row_from, counted}
+use Rattle.mm_record.specs.Counters.{counters_of}
+use Rattle.mm_exec.specs.Numbers.{tally_from, row_from, counted}
 
 -- sums whose terms rise, rise by the sum of what the terms rise by
 sums_rise : (f g : ℕ → ℕ) (n : ℕ) → ((s : ℕ) → s < n → f s ≤ g s)

@@ -17,7 +17,7 @@ use Rattle.mm_report.specs.declared.cause.Cause.{Cause}
 use Rattle.mm_report.specs.declared.cause.Cause.TheVariants.{PlanShape, NotReady, SizeDiffers, OpeningDiffers, ChannelDiffers, ClockTooLate, PlanDoesNotFit, Counts, NoMemory, LinkFailed, LogMismatch}
 use Rattle.mm_report.specs.declared.tally.Tally.{Tally}
 use Rattle.mm_report.specs.Report.{Reported, totals_of}
-use Rattle.mm_ready.specs.Ready.{Outset, outset, MayBegin, Stops}
+use Rattle.mm_exec.specs.Readiness.{RunStart, run_start, MayBegin, Stops}
 use Rattle.mm_exec.specs.declared.course.RunStopped.{RunStopped}
 use Rattle.mm_exec.specs.declared.flight.Halted.{Halted}
 use Rattle.mm_exec.specs.RunInput.{RunInput, as_came, step_orders}
@@ -25,18 +25,18 @@ use Rattle.mm_exec.specs.Numbers.{report_of, rows_of, tally_of}
 use Rattle.mm_memory.specs.Laws.{ids_of}
 use Rattle.mm_exec.specs.Step.{RunState, AreReady, StepBroke, StepStopped, NeverRefused}
 use Rattle.mm_exec.specs.Steps.{StepsDone}
-use Rattle.mm_exec.specs.Course.{RunDone, RunHalted, IsRefusal, IsEnded, outset_of}
+use Rattle.mm_exec.specs.Course.{RunDone, RunHalted, IsRefusal, IsEnded, run_start_of}
 use Rattle.mm_exec.specs.Ending.{IsHaltedIn, IsHalted, state_left}
 use Rattle.mm_exec.proofs.Halts.{failed_link}
 use Rattle.mm_exec.proofs.Parts.{same_ids}
 
--- what holds of an outset holds of the same one, by whatever names
-pub outset_by : (P : Outset → Type 0) (q : Dumping) (plan : Table) (base : ℕ) {held stores : List Held} {counted_sources counted_links sources links : ℕ}
-    → held ≡ stores → counted_sources ≡ sources → counted_links ≡ links → P (outset q plan held base counted_sources counted_links) → P (outset q plan stores base sources links)
-outset_by P q plan base read many_sources many_links holds = subst P (λ i. outset q plan (read i) base (many_sources i) (many_links i)) holds
+-- what holds of an run_start holds of the same one, by whatever names
+pub outset_by : (P : RunStart → Type 0) (q : Dumping) (plan : Table) (base : ℕ) {held stores : List Held} {counted_sources counted_links sources links : ℕ}
+    → held ≡ stores → counted_sources ≡ sources → counted_links ≡ links → P (run_start q plan held base counted_sources counted_links) → P (run_start q plan stores base sources links)
+outset_by P q plan base read many_sources many_links holds = subst P (λ i. run_start q plan (read i) base (many_sources i) (many_links i)) holds
 
 -- a test that fails is a refusal
-pub refused : (o : Outset) (cause : Cause) → Stops o cause → IsRefusal o cause
+pub refused : (o : RunStart) (cause : Cause) → Stops o cause → IsRefusal o cause
 refused o PlanShape stops = stops
 refused o (NotReady id) stops = stops
 refused o (SizeDiffers id) stops = stops
@@ -50,7 +50,7 @@ refused o (LinkFailed step) stops = stops
 refused o (LogMismatch step) stops = stops
 
 -- no test tells of a refusal
-pub refusals_are_none : (o : Outset) (cause : Cause) → Stops o cause → NeverRefused cause
+pub refusals_are_none : (o : RunStart) (cause : Cause) → Stops o cause → NeverRefused cause
 refusals_are_none o (LogMismatch step) stops = absurd stops
 refusals_are_none o PlanShape stops = λ t is. cc
 refusals_are_none o (NotReady id) stops = λ t is. cc
@@ -101,7 +101,7 @@ module _ {S L : Type 0} (gives : S → ℕ → List SpacePacket) (sent : L → L
     left = λ i. record { stores = sym stores_back i; sources = sym sources i; links = sym links i }
 
     module _ (changes : BrokenOrdersChangeNothing) where
-      halted_in : (h : RunHalted gives sent failed m before after stopped) → MayBegin (outset_of m plan before)
+      halted_in : (h : RunHalted gives sent failed m before after stopped) → MayBegin (run_start_of m plan before)
           → IsHaltedIn gives sent failed m plan before.sources before.links memory h.step halted
       halted_in h began =
           let e = recording h.step (m.base + h.step) m.memory.routes h.before.stores in
@@ -138,7 +138,7 @@ module _ {S L : Type 0} (gives : S → ℕ → List SpacePacket) (sent : L → L
           report_is = ap (λ (r : Reported). r.steps) report ∙ never.report_is;
           spent_is = spent ∙ never.spent_is;
         },
-        subst (IsRefusal (outset_of m plan before)) (sym cause) never.cause_is,
+        subst (IsRefusal (run_start_of m plan before)) (sym cause) never.cause_is,
       )
 
 -- in either case the stores have their identifiers, in order

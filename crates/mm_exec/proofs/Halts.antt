@@ -29,7 +29,7 @@ use Rattle.mm_dump.specs.Courses.{Course}
 use Rattle.mm_dump.specs.Dumped.{times, HasTried, AllSettled}
 use Rattle.mm_report.specs.declared.cause.Cause.{Cause}
 use Rattle.mm_report.specs.declared.cause.Cause.TheVariants.{LinkFailed}
-use Rattle.mm_runs.proofs.Replays.{IsRun-append}
+use Rattle.mm_exec.proofs.Replays.{IsRun-append}
 use Rattle.mm_exec.specs.Failure.{FailedLink}
 use Rattle.mm_exec.specs.Halts.{AreOneOrder, AreFirstOffers, IsByOneLog, BrokenStepsAreLogs}
 use Rattle.mm_memory.specs.Laws.{ids_of}

@@ -1,4 +1,9 @@
-pub mod Standing
+pub mod Replays
+pub mod Times
+pub mod Stepping
+pub mod Adding
+pub mod Drawing
+pub mod Found
 pub mod Placing
 pub mod Parts
 pub mod Firsts

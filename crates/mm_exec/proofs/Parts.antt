@@ -19,7 +19,7 @@ use Rattle.mm_dump.specs.declared.order.OrderBroken.TheVariants as broken
 use Rattle.mm_dump.specs.Sending.{Sent}
 use Rattle.mm_dump.specs.Dumped.{AllTook}
 use Rattle.mm_report.specs.declared.cause.Cause.{Cause}
-use Rattle.mm_runs.specs.Laws.{HalvesMakeStepRuns}
+use Rattle.mm_exec.specs.Laws.{HalvesMakeStepRuns}
 use Rattle.mm_memory.specs.Laws.{ids_of}
 use Rattle.mm_exec.specs.Step.{RunState, StepRecorded, StepDumped, StepDone, KeepsRest, IsCauseIn, dump_cause, OutOfMemory, RecordersBroke, OrdersBroke, StepBroke, StepStopped}
 

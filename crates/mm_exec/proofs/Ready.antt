@@ -30,9 +30,9 @@ use Rattle.mm_dump.specs.Dumped.{HasTried, MayDump}
 use Rattle.mm_dump.specs.Laws.{BrokenOrdersChangeNothing}
 use Rattle.mm_dump.specs.Sending.{Sent}
 use Rattle.mm_report.specs.declared.cause.Cause.{Cause}
-use Rattle.mm_runs.specs.Laws.{StepRunsKeepStores}
-use Rattle.mm_runs.specs.StepRuns.{IsBy, AreBy, KeepsStore}
-use Rattle.mm_runs.proofs.Replays.{All-front, shuffled}
+use Rattle.mm_exec.specs.Laws.{StepRunsKeepStores}
+use Rattle.mm_exec.specs.StepRuns.{IsBy, AreBy, KeepsStore}
+use Rattle.mm_exec.proofs.Replays.{All-front, shuffled}
 use Rattle.mm_exec.specs.Halts.{AreFirstOffers}
 use Rattle.mm_exec.specs.Step.{RunState, AreReady, MayCarry, StepRecorded, StepDone, OutOfMemory, RecordersBroke, OrdersBroke, StepBroke}
 use Rattle.mm_exec.proofs.Firsts.{first_turns}

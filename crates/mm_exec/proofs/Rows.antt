@@ -8,8 +8,9 @@ use Rattle.mm_desk.specs.declared.held.Held.{Held}
 use Rattle.mm_desk.specs.Runs.{opening_at}
 use Rattle.mm_shared.specs.Stores.{states_of}
 use Rattle.mm_report.specs.declared.tally.Tally.{Tally}
-use Rattle.mm_exec.specs.declared.tallies.Counters.{Counters}
-use Rattle.mm_exec.specs.Numbers.{AreCounters, AreTallies, tally_from, counters_of, row_from}
+use Rattle.mm_record.specs.declared.counters.Counters.{Counters}
+use Rattle.mm_record.specs.Counters.{counters_of}
+use Rattle.mm_exec.specs.Numbers.{AreCounters, AreTallies, tally_from, row_from}
 
 -- no counters
 abbrev no_mark : Counters

@@ -27,12 +27,12 @@ use Rattle.mm_record.specs.Steps.{given_in, latest}
 use Rattle.mm_dump.specs.Sending.{Sent}
 use Rattle.mm_report.specs.declared.cause.TheConstants.{LATEST_START}
 use Rattle.mm_report.specs.Report.{Reported}
-use Rattle.mm_ready.specs.declared.need.Need.{Need}
-use Rattle.mm_ready.specs.declared.need.Need.TheVariants.{Standing, Size, Opening}
-use Rattle.mm_ready.specs.Ready.{Outset, outset, MayBegin, AllMeet, NoneStrange, is_strange, meets, meets_at, IsEarly, AreCounts}
-use Rattle.mm_runs.proofs.Replays.{All-unmapped}
-use Rattle.mm_runs.specs.Laws.{RunsLoseAsPlanned}
-use Rattle.mm_runs.specs.Numbers.{IsReady}
+use Rattle.mm_exec.specs.declared.requirement.Requirement.{Requirement}
+use Rattle.mm_exec.specs.declared.requirement.Requirement.TheVariants.{Ready, Size, Opening}
+use Rattle.mm_exec.specs.Readiness.{RunStart, run_start, MayBegin, AllMeet, NoneUnknown, is_unknown, meets, meets_at, IsEarly, AreCounts}
+use Rattle.mm_exec.proofs.Replays.{All-unmapped}
+use Rattle.mm_exec.specs.Laws.{RunsLoseAsPlanned}
+use Rattle.mm_exec.specs.Planned.{IsReady}
 use Rattle.mm_exec.specs.declared.room.RunBuffers.{RunBuffers}
 use Rattle.mm_exec.specs.Places.{IsPlaceOf, ArePlaces}
 use Rattle.mm_exec.specs.RunInput.{RunInput, run_input}
@@ -49,17 +49,17 @@ use Rattle.mm_exec.proofs.Placing.{no_held, places_differ, places_cut}
 use Rattle.mm_exec.proofs.Ready.{AllFar, state_holds}
 
 -- what the tests before a run have shown
-pub record Begun (o : Outset) : Type 0 where
+pub record Begun (o : RunStart) : Type 0 where
   pub shape : HasShape o.problem o.plan
-  pub standing : AllMeet Standing o.problem o.stores
-  pub none_strange : NoneStrange o.problem o.stores
+  pub standing : AllMeet Ready o.problem o.stores
+  pub none_strange : NoneUnknown o.problem o.stores
   pub sizes : AllMeet Size o.problem o.stores
   pub openings : AllMeet Opening o.problem o.stores
   pub early : IsEarly o.stores o.base
   pub fits : Fits o.problem (amount o.plan)
   pub counts : AreCounts o.sources o.links
 
-pub begun_of : (o : Outset) → MayBegin o → Begun o
+pub begun_of : (o : RunStart) → MayBegin o → Begun o
 begun_of o begins = record {
   shape = begins.0.0.0.0.0.0.0;
   standing = begins.0.0.0.0.0.0.1;
@@ -72,9 +72,9 @@ begun_of o begins = record {
 }
 
 -- the store at its place meets what the store with its identifier meets
-meets_there : (need : Need) (q : Dumping) (stores : List Held) (s place : ℕ) → IsPlaceOf (row q s).id stores place → meets_at need q stores s ≡ true
-    → meets need (row q s) (Some (get_or stores place no_held)) ≡ true
-meets_there need q stores s place is shown =
+meets_there : (requirement : Requirement) (q : Dumping) (stores : List Held) (s place : ℕ) → IsPlaceOf (row q s).id stores place → meets_at requirement q stores s ≡ true
+    → meets requirement (row q s) (Some (get_or stores place no_held)) ≡ true
+meets_there requirement q stores s place is shown =
     let within : place < length stores = is.within in
     let found : store_of (row q s).id stores ≡ Some (get_or stores place no_held) =
     find_at (has_id (row q s).id) stores ∙ ap (λ (k : ℕ). slice_get stores k) (sym is.is) ∙ slice_get-get_or stores place no_held within in
@@ -98,7 +98,7 @@ standing_gives true (Some r) is = absurd (cc is)
 standing_gives false r is = absurd (cc is)
 
 -- a store of the problem stands where the row with its identifier is
-row_there : (q : Dumping) (h : Held) → is_strange q h ≡ false → (s : ℕ) × (s < length q.rows) × ((row q s).id ≡ h.id)
+row_there : (q : Dumping) (h : Held) → is_unknown q h ≡ false → (s : ℕ) × (s < length q.rows) × ((row q s).id ≡ h.id)
 row_there q h known = (place q h.id, within, same)
   where
     within : place q h.id < length q.rows
@@ -132,7 +132,7 @@ first_is stores held k id within same = by_order (cases_order (position_or_len (
         absurd (cc (fails, passes))
 
 -- where all tests passed, each store of the memory is ready
-pub all_ready : (q : Dumping) (stores : List Held) → AreHeld stores → AllMeet Standing q stores → NoneStrange q stores → All (λ h. IsState h.state) stores → AreReady stores
+pub all_ready : (q : Dumping) (stores : List Held) → AreHeld stores → AllMeet Ready q stores → NoneUnknown q stores → All (λ h. IsState h.state) stores → AreReady stores
 all_ready q stores held standing known sound = record {
   sound = sound;
   storage = λ k d inside. subst (λ (h : Held). IsTrue h.state.storage) (there k d inside) (each k inside).0;
@@ -149,7 +149,7 @@ all_ready q stores held standing known sound = record {
         let id = (row q found.0).id in
         let at : position_or_len (has_id id) stores ≡ k = first_is stores held k id inside (sym found.2) in
         let is : store_of id stores ≡ Some h = find_at (has_id id) stores ∙ ap (λ (j : ℕ). slice_get stores j) at ∙ slice_get-get_or stores k no_held inside in
-        let meets_it : meets Standing (row q found.0) (Some h) ≡ true = subst (λ (o : Option Held). meets Standing (row q found.0) o ≡ true) is (standing found.0 found.1) in
+        let meets_it : meets Ready (row q found.0) (Some h) ≡ true = subst (λ (o : Option Held). meets Ready (row q found.0) o ≡ true) is (standing found.0 found.1) in
         standing_gives h.state.storage h.state.retrieval meets_it
 
 -- what holds through a run that may begin
@@ -173,11 +173,11 @@ footing_of gives q plan base memory sources places is sizes openings early stand
 
 -- the same, where the stores were read, and the places cut down to those of the problem's stores
 pub footing_here : {S : Type 0} (gives : S → ℕ → List SpacePacket) (q : Dumping) (plan : Table) (base : ℕ) (memory : Holdings) (sources : List S) (links : ℕ) (all : List ℕ)
-    {many : ℕ} {held : List Held} → IsDumping q → MayBegin (outset q plan memory.stores base (length sources) links) → All (λ h. IsState h.state) memory.stores
+    {many : ℕ} {held : List Held} → IsDumping q → MayBegin (run_start q plan memory.stores base (length sources) links) → All (λ h. IsState h.state) memory.stores
     → held ≡ memory.stores → ArePlaces q held (length q.rows) all → many ≡ length q.rows
     → Footing gives (run_input gives q plan base memory sources) sources (take many all)
 footing_here gives q plan base memory sources links all is begins sound read there cut =
-    let begun = begun_of (outset q plan memory.stores base (length sources) links) begins in
+    let begun = begun_of (run_start q plan memory.stores base (length sources) links) begins in
     let places = subst (λ (xs : List Held). ArePlaces q xs (length q.rows) all) read there in
     subst (λ (n : ℕ). Footing gives (run_input gives q plan base memory sources) sources (take n all)) (sym cut)
     (footing_of gives q plan base memory sources (take (length q.rows) all) is begun.sizes begun.openings begun.early
@@ -290,7 +290,7 @@ done_at gives sent failed m sources links places footing law t first last before
 -- the next step may be carried out and reported
 pub may_report : {S L : Type 0} (gives : S → ℕ → List SpacePacket) (sent : L → List Sent) (failed : L → ℕ) (q : Dumping) (plan : Table) (base : ℕ) (memory : Holdings)
     (sources : List S) (links : List L) (places : List ℕ) (t : ℕ) (now : RunState S L) (buffers : RunBuffers)
-    → IsDumping q → Begun (outset q plan memory.stores base (length sources) (length links)) → AreHeld memory.stores → All (λ l. failed l < 2 ^ 64 - 1) links
+    → IsDumping q → Begun (run_start q plan memory.stores base (length sources) (length links)) → AreHeld memory.stores → All (λ l. failed l < 2 ^ 64 - 1) links
     → Footing gives (run_input gives q plan base memory sources) sources places → length places ≡ length q.rows → 1 ≤ t → t ≤ length q.windows
     → StepsDone gives sent failed (run_input gives q plan base memory sources) sources links (t - 1) now buffers.report → AreReady now.stores
     → MAX_STORES ≤ vec_capacity buffers.orders → MayReport failed q plan base places t buffers now

@@ -27,13 +27,14 @@ use Rattle.mm_dump.specs.Sending.{Sent, all_sent}
 use Rattle.mm_dump.specs.Dumped.{times, places_of, AllTook}
 use Rattle.mm_report.specs.declared.tally.Tally.{Tally}
 use Rattle.mm_report.specs.Report.{Reported}
-use Rattle.mm_runs.proofs.Replays.{All-unmapped}
-use Rattle.mm_runs.specs.StepRuns.{IsStepRun}
-use Rattle.mm_runs.specs.Numbers.{IsReady, AsPlanned}
-use Rattle.mm_runs.specs.Laws.{IsRunOf, RunsLoseAsPlanned}
+use Rattle.mm_exec.proofs.Replays.{All-unmapped}
+use Rattle.mm_exec.specs.StepRuns.{IsStepRun}
+use Rattle.mm_exec.specs.Planned.{IsReady, AsPlanned}
+use Rattle.mm_exec.specs.Laws.{IsRunOf, RunsLoseAsPlanned}
 use Rattle.mm_exec.specs.Places.{ArePlaces, AreApart}
 use Rattle.mm_exec.specs.RunInput.{RunInput, step_of, offered, as_came, place_in_memory, state_in, step_orders}
-use Rattle.mm_exec.specs.Numbers.{counters_of, tally_from, tally_of, rows_of, row_from, orders_of, counted, AreByCounters}
+use Rattle.mm_record.specs.Counters.{counters_of}
+use Rattle.mm_exec.specs.Numbers.{tally_from, tally_of, rows_of, row_from, orders_of, counted, AreByCounters}
 use Rattle.mm_exec.specs.Step.{RunState, StepDone}
 use Rattle.mm_exec.specs.Steps.{AreStepRuns, SourcesGave, LinksSent, StepsDone, sent_in}
 use Rattle.mm_exec.proofs.Coming.{came_at, timed_offers, map_range_same}

@@ -14,7 +14,7 @@ use Rattle.mm_dump.specs.Sending.{Sent}
 use Rattle.mm_report.specs.declared.cause.Cause.{Cause}
 use Rattle.mm_report.specs.declared.cause.Cause.TheVariants.{NoMemory}
 use Rattle.mm_report.specs.Report.{Reported}
-use Rattle.mm_ready.specs.Ready.{Outset, outset, MayBegin, Stops}
+use Rattle.mm_exec.specs.Readiness.{RunStart, run_start, MayBegin, Stops}
 use Rattle.mm_exec.specs.declared.course.RunStopped.{RunStopped}
 use Rattle.mm_exec.specs.declared.room.RunBuffers.{RunBuffers}
 use Rattle.mm_exec.specs.RunInput.{RunInput, step_orders}
@@ -41,7 +41,7 @@ pub record MayReport {S L : Type 0} (failed : L → ℕ) (q : Dumping) (plan : T
 -- all steps of a run may be carried out: its tests have passed, its stores are those of a memory and sound, each link may fail once more,
 -- and there is room for the report and for a step's orders
 pub record MayRun {S L : Type 0} (failed : L → ℕ) (q : Dumping) (plan : Table) (base : ℕ) (buffers : RunBuffers) (now : RunState S L) : Type 0 where
-  pub begins : MayBegin (outset q plan now.stores base (length now.sources) (length now.links))
+  pub begins : MayBegin (run_start q plan now.stores base (length now.sources) (length now.links))
   pub held : AreHeld now.stores
   pub sound : All (λ h. IsState h.state) now.stores
   pub links : All (λ l. failed l < 2 ^ 64 - 1) now.links
@@ -70,25 +70,25 @@ pub record RunHalted {S L : Type 0} (gives : S → ℕ → List SpacePacket) (se
   pub how : StepBroke gives sent failed (recording step (m.base + step) m.memory.routes before.stores) (step_orders m step) before after stopped.broken.cause stopped.broken.spent
 
 -- a cause before the first step: its test is the first that fails, or all tests passed and there was no memory
-abbrev pub IsRefusal : Outset → Cause → Type 0
+abbrev pub IsRefusal : RunStart → Cause → Type 0
 IsRefusal o (NoMemory step) = (step ≡ 0) × MayBegin o
 IsRefusal o cause = Stops o cause
 
 -- the run did not begin, and nothing was done
-pub record NeverBegan {S L : Type 0} (o : Outset) (before after : RunState S L) (stopped : RunStopped) : Type 0 where
+pub record NeverBegan {S L : Type 0} (o : RunStart) (before after : RunState S L) (stopped : RunStopped) : Type 0 where
   pub same : after ≡ before
   pub report_is : stopped.report.steps ≡ []
   pub spent_is : stopped.broken.spent ≡ 0
   pub cause_is : IsRefusal o stopped.broken.cause
 
 -- what a run would begin with
-abbrev pub outset_of : {S L : Type 0} → RunInput → Table → RunState S L → Outset
-outset_of m plan state = outset m.problem plan m.memory.stores m.base (length state.sources) (length state.links)
+abbrev pub run_start_of : {S L : Type 0} → RunInput → Table → RunState S L → RunStart
+run_start_of m plan state = run_start m.problem plan m.memory.stores m.base (length state.sources) (length state.links)
 
 -- how a run ended that was not carried out: in a step, where all tests before it passed; or before the first
 abbrev pub IsEnded : {S L : Type 0} → (S → ℕ → List SpacePacket) → (L → List Sent) → (L → ℕ) → RunInput → Table → RunState S L → RunState S L → RunStopped → Type 0
 IsEnded gives sent failed m plan before after stopped =
-    (RunHalted gives sent failed m before after stopped × MayBegin (outset_of m plan before)) ⊎ NeverBegan (outset_of m plan before) before after stopped
+    (RunHalted gives sent failed m before after stopped × MayBegin (run_start_of m plan before)) ⊎ NeverBegan (run_start_of m plan before) before after stopped
 
 -- in each step each source gives at most 65,535 packets, and no store was offered more than 2^63 packets before the run
 abbrev pub AreWithinLimits : {S : Type 0} → (S → ℕ → List SpacePacket) → List Held → List S → Type 0

@@ -10,7 +10,7 @@ use Rattle.mm_record.specs.Recorded.{recording}
 use Rattle.mm_dump.specs.Sending.{Sent}
 use Rattle.mm_report.specs.declared.cause.Cause.TheVariants.{LinkFailed}
 use Rattle.mm_report.specs.Report.{totals_of}
-use Rattle.mm_ready.specs.Ready.{outset, MayBegin}
+use Rattle.mm_exec.specs.Readiness.{run_start, MayBegin}
 use Rattle.mm_exec.specs.declared.flight.Flight.{Flight}
 use Rattle.mm_exec.specs.declared.flight.Halted.{Halted}
 use Rattle.mm_exec.specs.RunInput.{RunInput, as_came, step_orders}
@@ -23,7 +23,7 @@ use Rattle.mm_exec.specs.Failure.{FailedLink}
 -- packets of the report are as many as the plan loses of what came
 pub record IsCarriedOut {S L : Type 0} (gives : S → ℕ → List SpacePacket) (sent : L → List Sent) (failed : L → ℕ) (m : RunInput) (plan : Table) (sources : List S)
     (links : List L) (memory : Holdings) (flight : Flight S L) : Type 0 where
-  pub began : MayBegin (outset m.problem plan m.memory.stores m.base (length sources) (length links))
+  pub began : MayBegin (run_start m.problem plan m.memory.stores m.base (length sources) (length links))
   pub routes : memory.routes ≡ m.memory.routes
   pub done : StepsDone gives sent failed m sources links (length m.problem.windows)
       (record { stores = memory.stores; sources = flight.sources.items; links = flight.links.items }) flight.report
@@ -47,7 +47,7 @@ state_left memory halted = record { stores = memory.stores; sources = halted.sou
 -- in it than its window
 pub record IsHaltedIn {S L : Type 0} (gives : S → ℕ → List SpacePacket) (sent : L → List Sent) (failed : L → ℕ) (m : RunInput) (plan : Table) (sources : List S)
     (links : List L) (memory : Holdings) (step : ℕ) (halted : Halted S L) : Type 0 where
-  pub began : MayBegin (outset m.problem plan m.memory.stores m.base (length sources) (length links))
+  pub began : MayBegin (run_start m.problem plan m.memory.stores m.base (length sources) (length links))
   pub first : 1 ≤ step
   pub last : step ≤ length m.problem.windows
   -- what the step began with, and the report of the steps before it
@@ -71,4 +71,4 @@ abbrev pub IsHalted : {S L : Type 0} → (S → ℕ → List SpacePacket) → (L
 IsHalted gives sent failed m plan sources links memory halted =
     ((step : ℕ) × IsHaltedIn gives sent failed m plan sources links memory step halted)
     ⊎ (IsUntouched m sources links memory halted
-    × IsRefusal (outset m.problem plan m.memory.stores m.base (length sources) (length links)) halted.cause)
+    × IsRefusal (run_start m.problem plan m.memory.stores m.base (length sources) (length links)) halted.cause)

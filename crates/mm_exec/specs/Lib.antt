@@ -1,4 +1,9 @@
-pub use Rattle.mm_ready.specs.Ready
+pub use Rattle.mm_report.specs.Cause
+pub mod StepRuns
+pub mod Planned
+pub mod Draws
+pub mod Laws
+pub mod Readiness
 pub mod Places
 pub mod RunInput
 pub mod Numbers

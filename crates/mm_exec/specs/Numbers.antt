@@ -8,9 +8,10 @@ use Rattle.mm_desk.specs.Machine.{State}
 use Rattle.mm_desk.specs.Runs.{opening_at}
 use Rattle.mm_shared.specs.Stores.{states_of}
 use Rattle.mm_dump.specs.declared.order.Order.{Order}
+use Rattle.mm_record.specs.declared.counters.Counters.{Counters}
+use Rattle.mm_record.specs.Counters.{counters_of}
 use Rattle.mm_report.specs.declared.tally.Tally.{Tally}
 use Rattle.mm_report.specs.Report.{Reported, totals_of}
-use Rattle.mm_exec.specs.declared.tallies.Counters.{Counters}
 use Rattle.mm_exec.specs.RunInput.{RunInput, state_in}
 
 -- what a step brings to a store: what was forecast, what came, and what the plan loses, dumps and leaves of what came
@@ -31,10 +32,6 @@ rows_of forecast came x steps = map (λ t. map (λ s. tally_of forecast came x s
 abbrev pub report_of : Dumping → Dumping → Amounts → ℕ → Reported
 report_of forecast came x steps =
     record { ids = map (λ r. r.id) forecast.rows; most = length forecast.windows; steps = rows_of forecast came x steps }
-
--- the counters of a store as a step begins
-abbrev pub counters_of : State → Counters
-counters_of s = record { offered = s.offered; lost = s.lost; deleted = s.deleted }
 
 -- what a step brings to a store, by its counters as the step begins and its state as it ends
 abbrev pub tally_from : Dumping → ℕ → ℕ → Counters → State → Tally

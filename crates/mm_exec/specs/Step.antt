@@ -20,7 +20,7 @@ use Rattle.mm_dump.specs.declared.order.OrderBroken.{OrderBroken}
 use Rattle.mm_dump.specs.declared.order.OrderBroken.TheVariants as broken
 use Rattle.mm_dump.specs.Sending.{Sent}
 use Rattle.mm_dump.specs.Dumped.{wanted, times, places_of, AllTook, AllDumped, AllSettled, AllKept, used_by}
-use Rattle.mm_runs.specs.StepRuns.{IsStepRun}
+use Rattle.mm_exec.specs.StepRuns.{IsStepRun}
 use Rattle.mm_report.specs.declared.cause.Cause.{Cause}
 use Rattle.mm_report.specs.declared.cause.Cause.TheVariants.{NoMemory, LinkFailed, LogMismatch}
 

@@ -1,6 +1,6 @@
 //! What a run leaves.
 
-use mm_ready::Cause;
+use mm_exec::Cause;
 use mm_report::Report;
 
 /// What a run that was carried out leaves: its report, its sources and its links.

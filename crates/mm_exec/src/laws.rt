@@ -1,8 +1,50 @@
-//! A law of a halted run, over the definitions alone.
+//! Laws of runs, over the definitions alone, and the number of this crate's constant.
+ghost use Rattle.std.specs.Prelude.{◌≡◌};
+ghost use Rattle.mm_exec.specs.Laws.{RunsLoseAsPlanned, RunsLoseThePlansLoss, HalvesMakeStepRuns, StepRunsKeepStores, DrawsMeetNoRefusal};
 ghost use Rattle.mm_exec.specs.Halts.{BrokenStepsAreLogs};
+ghost use Rattle.mm_exec.specs.declared.readiness.TheConstants.{MAX_LINKS};
 
+use mm_desk::laws::{any_order_loses_alike, events_keep_a_state, orders_dump_the_oldest};
 use mm_dump::Link;
 use mm_record::Source;
+
+/// The most links of a run.
+pub fn constants_are()
+    ensures links { MAX_LINKS ≡ 4 }
+{}
+
+/// Step runs of whole orders, each from the state that the one before left, lose and leave what the plan says, in every store
+/// and step, whatever the order in which a step's offers were made, and whatever the kind of each store. What comes in the
+/// problem is what was offered.
+pub fn runs_lose_as_planned()
+    ensures each { RunsLoseAsPlanned }
+    ensures total { RunsLoseThePlansLoss }
+{
+    any_order_loses_alike();
+    events_keep_a_state();
+    orders_dump_the_oldest();
+}
+
+/// Offers that a store takes, in any order that keeps each recorder's own, and then a dump make a step run.
+pub fn halves_make_step_runs()
+    ensures law { HalvesMakeStepRuns }
+{}
+
+/// A step run leaves a sound store sound, with its storage and its retrieval as they were; its counter of offers and its last storage
+/// time move by no more than the offers made.
+pub fn step_runs_keep_stores()
+    ensures law { StepRunsKeepStores }
+{
+    any_order_loses_alike();
+    events_keep_a_state();
+    orders_dump_the_oldest();
+}
+
+/// Where the plan fits a step's window, none of the step's draws is refused, whatever their order: one draw of one block for each
+/// packet that an order was given.
+pub fn draws_meet_no_refusal()
+    ensures law { DrawsMeetNoRefusal }
+{}
 
 /// A step that was broken off took each store by one legal log: offers of what the sources gave, in an order that keeps each source's own,
 /// and then at most one dump order, whole or broken.

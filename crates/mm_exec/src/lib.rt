@@ -1,4 +1,5 @@
-//! The run of a dump plan: every step recorded and dumped, with the report of what came, was lost, dumped and is held.
+//! The run of a dump plan: what is tested before it, every step recorded and dumped, the report of what came, was lost, dumped and is held,
+//! and the laws of whole runs.
 #![tactic(auto)]
 
 mod course;
@@ -7,6 +8,8 @@ mod flying;
 pub mod laws;
 mod orders;
 mod places;
+mod readiness;
+mod requirement;
 mod room;
 mod run;
 mod step;
@@ -14,8 +17,13 @@ mod tallies;
 
 pub use flight::{Flight, Flown, Halted, NotFlown};
 pub use flying::fly;
+pub use laws::{
+    broken_steps_are_logs, draws_meet_no_refusal, halves_make_step_runs, runs_lose_as_planned,
+    step_runs_keep_stores,
+};
 pub use mm_dump::{Link, SendFailed};
-pub use mm_ready::Cause;
 pub use mm_record::{RecordHalted, Recorded, RecordedStep, Source, record_step};
-pub use mm_report::Report;
+pub use mm_report::{Cause, LATEST_START, MAX_SOURCES, Report};
+pub use readiness::{MAX_LINKS, ready};
+pub use requirement::Requirement;
 pub use run::carry_out;

@@ -3,8 +3,8 @@ ghost use Rattle.std.specs.Prelude.{◌≡◌, ◌<◌, ℕ, length, slice_index
 ghost use Rattle.std.specs.List.{position_or_len};
 ghost use Rattle.mm_problem.specs.Dumping.{row, IsDumping};
 ghost use Rattle.mm_memory.specs.Holdings.{has_id, store_of};
-ghost use Rattle.mm_ready.specs.declared.need.Need.TheVariants.{Standing};
-ghost use Rattle.mm_ready.specs.Ready.{AllMeet};
+ghost use Rattle.mm_exec.specs.declared.requirement.Requirement.TheVariants.{Ready};
+ghost use Rattle.mm_exec.specs.Readiness.{AllMeet};
 ghost use Rattle.mm_exec.specs.Places.{IsPlaceOf, ArePlaces};
 
 use mm_base::{MAX_STORES, StoreId};
@@ -20,7 +20,7 @@ fn place_of(stores: &[Held], id: &StoreId) -> Option<usize>
 
 // The place of each store of the problem among stores which have them all.
 pub(crate) fn places_of(problem: &Problem, stores: &[Held]) -> [usize; MAX_STORES]
-    requires { AllMeet Standing problem.now stores.now }
+    requires { AllMeet Ready problem.now stores.now }
     ensures places { ArePlaces problem.now stores.now (length problem.now.rows) result }
     ensures len { length result ≡ MAX_STORES }
     ensures problem { IsDumping problem.now }

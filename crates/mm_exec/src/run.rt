@@ -3,9 +3,9 @@ ghost use Rattle.std.specs.Prelude.{◌≡◌, ◌-◌, ◌<◌, ◌^◌, [], Al
 ghost use Rattle.mm_memory.specs.Holdings.{AreHeld};
 ghost use Rattle.mm_exec.specs.RunInput.{run_input};
 ghost use Rattle.mm_exec.specs.Step.{run_state, NeverRefused};
-ghost use Rattle.mm_exec.specs.Course.{RunDone, IsEnded, outset_of, AreWithinLimits};
+ghost use Rattle.mm_exec.specs.Course.{RunDone, IsEnded, run_start_of, AreWithinLimits};
 ghost use Rattle.mm_exec.specs.Ending.{IsCarriedOut, IsHalted};
-ghost use Rattle.mm_ready.specs.Ready.{MayBegin};
+ghost use Rattle.mm_exec.specs.Readiness.{MayBegin};
 
 use crate::course::{RunContext, RunStopped, carry_steps};
 use crate::flight::{Flight, Halted};
@@ -15,11 +15,11 @@ use crate::tallies::read_states;
 use mm_desk::Held;
 use mm_dump::Link;
 use mm_dump::laws::broken_orders_change_nothing;
+use mm_exec::{Cause, ready};
 use mm_memory::Memory;
 use mm_memory::laws::identifiers_decide_what_is_restored;
 use mm_plan::Plan;
 use mm_problem::Problem;
-use mm_ready::{Cause, ready};
 use mm_record::Source;
 use mm_report::Report;
 use std::alloc::Global;
@@ -51,7 +51,7 @@ fn carry_plan<S: Source + Send, L: Link + Send, R: Threads + Wait + Sync>(
     ensures done { IfOk result (RunDone S.gives L.sent L.failed
         (run_input S.gives run.now.problem.now run.now.plan.now run.now.base (record { stores = stores.old.items; routes = run.now.control.now }) sources.old)
         (run_state stores.old sources.old links.old) (run_state stores.new sources.new links.new)) }
-    ensures began { OnOk result (MayBegin (outset_of
+    ensures began { OnOk result (MayBegin (run_start_of
         (run_input S.gives run.now.problem.now run.now.plan.now run.now.base (record { stores = stores.old.items; routes = run.now.control.now }) sources.old)
         run.now.plan.now (run_state stores.old sources.old links.old))) }
     ensures ended { IfErr result (IsEnded S.gives L.sent L.failed
@@ -80,7 +80,7 @@ fn carry_plan<S: Source + Send, L: Link + Send, R: Threads + Wait + Sync>(
 
 /// Carries out a plan over a memory: in each step from 1 what the sources give is recorded, at the moment of the step, which is that
 /// many ticks after `base`, and then the plan's amounts are sent over the links and deleted. Before the first step it is tested whether
-/// the run may begin; the tests stand at `mm_ready::ready`, in their order, and where one fails nothing has been done.
+/// the run may begin; the tests stand at `mm_exec::ready`, in their order, and where one fails nothing has been done.
 pub fn carry_out<S: Source + Send + Drop, L: Link + Send + Drop, R: Threads + Wait + Sync>(
     rt: &R,
     alloc: Global,

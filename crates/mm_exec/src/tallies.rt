@@ -4,21 +4,14 @@ ghost use Rattle.mm_base.specs.declared.limits.TheConstants.{MAX_STORES};
 ghost use Rattle.mm_desk.specs.Machine.{IsState};
 ghost use Rattle.mm_desk.specs.Runs.{opening_at};
 ghost use Rattle.mm_shared.specs.Stores.{states_of};
-ghost use Rattle.mm_exec.specs.Numbers.{counters_of, tally_from, AreCounters, AreTallies};
+ghost use Rattle.mm_exec.specs.Numbers.{tally_from, AreCounters, AreTallies};
 
 use mm_base::MAX_STORES;
 use mm_desk::{Held, StoreState};
 use mm_problem::Problem;
+use mm_record::Counters;
 use mm_report::Tally;
 use mm_store::PacketStore;
-
-/// The counters of a store as a step begins.
-#[derive(Clone, Copy)]
-pub(crate) struct Counters {
-    offered: u64,
-    lost: u64,
-    deleted: u64,
-}
 
 // Reads each store, which shows that it is sound.
 pub(crate) fn read_states(stores: &[Held])
@@ -37,17 +30,6 @@ fn state_at(stores: &[Held], place: usize) -> &StoreState
     &stores[place].state
 }
 
-// The counters of a store.
-fn counters_of(state: &StoreState) -> Counters
-    ensures { result ≡ counters_of state.now }
-{
-    Counters {
-        offered: state.offered(),
-        lost: state.lost(),
-        deleted: state.deleted(),
-    }
-}
-
 // The counters of the stores at these places.
 pub(crate) fn all_counters(places: &[usize], stores: &[Held]) -> [Counters; MAX_STORES]
     requires few { length places.now ≤ MAX_STORES }
@@ -60,7 +42,7 @@ pub(crate) fn all_counters(places: &[usize], stores: &[Held]) -> [Counters; MAX_
         deleted: 0,
     }; MAX_STORES];
     for store in 0..places.len() {
-        counters[store] = counters_of(state_at(stores, places[store]));
+        counters[store] = Counters::of(state_at(stores, places[store]));
     }
     counters
 }
@@ -72,11 +54,12 @@ fn tally(problem: &Problem, store: usize, step: u32, before: Counters, state: &S
     requires last { step ≤ length problem.now.windows }
     ensures { result ≡ tally_from problem.now store step before state.now }
 {
+    let rise = Counters::of(state).since(before);
     Tally {
         forecast: u64::from(problem.arrivals(store, step)),
-        arrived: state.offered().saturating_sub(before.offered),
-        lost: state.lost().saturating_sub(before.lost),
-        dumped: state.deleted().saturating_sub(before.deleted),
+        arrived: rise.offered,
+        lost: rise.lost,
+        dumped: rise.deleted,
         held: u64::from(state.store().len()),
     }
 }

@@ -24,23 +24,23 @@ use Rattle.mm_shared.specs.declared.lines.Line.{Line}
 use Rattle.mm_shared.specs.declared.stores.NamedStore.{NamedStore}
 use Rattle.mm_shared.specs.Stores.{list_at, ends_of, id_at}
 use Rattle.mm_shared.specs.Views.{PortView, with_call}
-use Rattle.mm_record.specs.Offering.{offer_at, offers_by, AreAt, GoesBy, GoesPartly, Adds, AddsPartly, IsReason}
+use Rattle.mm_record.specs.Offering.{offer_at, offers_by, AreAt, ExtendsBy, ExtendsInPart, Adds, AddsPartly, IsReason}
 
 -- a list that stays goes on by nothing
-pub goes_nowhere : (xs : List Entry) → GoesBy [] xs xs
+pub goes_nowhere : (xs : List Entry) → ExtendsBy [] xs xs
 goes_nowhere xs = record { all = sym (append-nil (asked_in xs)); taken = λ t. t }
 
-pub partly_nowhere : (more : List Event) (xs : List Entry) → GoesPartly more xs xs
+pub partly_nowhere : (more : List Event) (xs : List Entry) → ExtendsInPart more xs xs
 partly_nowhere more xs = record { did = []; rest = more; are = refl; first = sym (append-nil (asked_in xs)) }
 
 -- one list of events after another
-pub goes_more : (f g : List Event) (a b c : List Entry) → GoesBy f a b → GoesBy g b c → GoesBy (f ++ g) a c
+pub goes_more : (f g : List Event) (a b c : List Entry) → ExtendsBy f a b → ExtendsBy g b c → ExtendsBy (f ++ g) a c
 goes_more f g a b c one two = record {
   all = two.all ∙ ap (λ (x : List Event). x ++ g) one.all ∙ append_assoc (asked_in a) f g;
   taken = λ t. two.taken (one.taken t);
 }
 
-pub partly_after : (f g : List Event) (a b c : List Entry) → GoesBy f a b → GoesPartly g b c → GoesPartly (f ++ g) a c
+pub partly_after : (f g : List Event) (a b c : List Entry) → ExtendsBy f a b → ExtendsInPart g b c → ExtendsInPart (f ++ g) a c
 partly_after f g a b c one two = record {
   did = f ++ two.did;
   rest = two.rest;
@@ -48,7 +48,7 @@ partly_after f g a b c one two = record {
   first = two.first ∙ ap (λ (x : List Event). x ++ two.did) one.all ∙ append_assoc (asked_in a) f two.did;
 }
 
-pub partly_before : (f g : List Event) (a b : List Entry) → GoesPartly f a b → GoesPartly (f ++ g) a b
+pub partly_before : (f g : List Event) (a b : List Entry) → ExtendsInPart f a b → ExtendsInPart (f ++ g) a b
 partly_before f g a b one = record {
   did = one.did;
   rest = one.rest ++ g;
@@ -62,7 +62,7 @@ asked_more es e = map-append (λ (e : Entry). e.event) es (e ∷ [])
 
 -- an offer that is not refused is one offer more
 pub offer_taken : (old new : PortView) (now : ℕ) (p : SpacePacket) (o : Offered) → new ≡ with_call old (Offer now p) (reply.Offered (Ok o))
-    → GoesBy (Offer now p ∷ []) old.list new.list
+    → ExtendsBy (Offer now p ∷ []) old.list new.list
 offer_taken old new now p o told =
     let e : Entry = entry old.number (Offer now p) (reply.Offered (Ok o)) in
     let list : new.list ≡ old.list ++ e ∷ [] = ap (λ (s : PortView). s.list) told in
@@ -77,7 +77,7 @@ offer_taken old new now p o told =
 
 -- an offer that is refused is in the list too
 pub offer_refused : (old new : PortView) (now : ℕ) (p : SpacePacket) (back : Returned) → new ≡ with_call old (Offer now p) (reply.Offered (Err back))
-    → GoesPartly (Offer now p ∷ []) old.list new.list
+    → ExtendsInPart (Offer now p ∷ []) old.list new.list
 offer_refused old new now p back told = record {
   did = Offer now p ∷ [];
   rest = [];
@@ -138,12 +138,12 @@ module _ (now : ℕ) (p : SpacePacket) (stores : List NamedStore) (lines : List 
   stays : ends_of (set lines index line) ≡ ends_of lines
   stays = map-set_same end_of lines index line d same
 
-  pub adds_at : GoesBy (Offer now p ∷ []) (get_or lines index d).port.list line.port.list → Adds (length stores) (offer_at now p index) lines (set lines index line)
-  adds_at goes = record { ends = stays; lists = each_at GoesBy goes_nowhere now p lines index (length stores) d line many within goes }
+  pub adds_at : ExtendsBy (Offer now p ∷ []) (get_or lines index d).port.list line.port.list → Adds (length stores) (offer_at now p index) lines (set lines index line)
+  adds_at goes = record { ends = stays; lists = each_at ExtendsBy goes_nowhere now p lines index (length stores) d line many within goes }
 
-  pub adds_partly_at : GoesPartly (Offer now p ∷ []) (get_or lines index d).port.list line.port.list
+  pub adds_partly_at : ExtendsInPart (Offer now p ∷ []) (get_or lines index d).port.list line.port.list
       → AddsPartly (length stores) (offer_at now p index) lines (set lines index line)
-  adds_partly_at goes = record { ends = stays; lists = each_at GoesPartly (partly_nowhere []) now p lines index (length stores) d line many within goes }
+  adds_partly_at goes = record { ends = stays; lists = each_at ExtendsInPart (partly_nowhere []) now p lines index (length stores) d line many within goes }
 
   -- an offer that was refused is the reason
   pub reason_at : (old : PortView) (back : Returned) → line.port ≡ with_call old (Offer now p) (reply.Offered (Err back)) → IsReason (length stores) (set lines index line) back.fault

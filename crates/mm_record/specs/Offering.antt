@@ -38,12 +38,12 @@ pub record AreAt (stores : List NamedStore) (ends : List (ℕ × TableId × ℕ)
       → (slice_index_or ends k end).1 ≡ (slice_index_or stores k s).store.id
 
 -- a list goes on by all of these events
-pub record GoesBy (more : List Event) (old new : List Entry) : Type 0 where
+pub record ExtendsBy (more : List Event) (old new : List Entry) : Type 0 where
   pub all : asked_in new ≡ asked_in old ++ more
   pub taken : AreTaken old → AreTaken new
 
 -- a list goes on by the first of these events, perhaps by none and perhaps by all
-pub record GoesPartly (more : List Event) (old new : List Entry) : Type 0 where
+pub record ExtendsInPart (more : List Event) (old new : List Entry) : Type 0 where
   pub did : List Event
   pub rest : List Event
   pub are : more ≡ did ++ rest
@@ -52,12 +52,12 @@ pub record GoesPartly (more : List Event) (old new : List Entry) : Type 0 where
 -- the list of each line goes on by the offers to its store, of which none is refused
 pub record Adds (count : ℕ) (more : ℕ → List Event) (old new : List Line) : Type 0 where
   pub ends : ends_of new ≡ ends_of old
-  pub lists : (k : ℕ) → k < count → GoesBy (more k) (list_at old k) (list_at new k)
+  pub lists : (k : ℕ) → k < count → ExtendsBy (more k) (list_at old k) (list_at new k)
 
 -- the list of each line goes on by the first of the offers to its store
 pub record AddsPartly (count : ℕ) (more : ℕ → List Event) (old new : List Line) : Type 0 where
   pub ends : ends_of new ≡ ends_of old
-  pub lists : (k : ℕ) → k < count → GoesPartly (more k) (list_at old k) (list_at new k)
+  pub lists : (k : ℕ) → k < count → ExtendsInPart (more k) (list_at old k) (list_at new k)
 
 -- an offer through one of these lines was refused
 pub record HasRefusal (count : ℕ) (lines : List Line) : Type 0 where

@@ -40,7 +40,7 @@ pub record RecorderRun : Type 0 where
   pub broken : Option Fault
 
 -- all of the first events were asked, and then the first of the others, perhaps none and perhaps all
-pub record Began (all more asks : List Event) : Type 0 where
+pub record OfferedInPart (all more asks : List Event) : Type 0 where
   pub did : List Event
   pub rest : List Event
   pub are : more ≡ did ++ rest
@@ -51,7 +51,7 @@ pub record StoppedEarly (e : RecordingContext) (gave : List SpacePacket) (offere
   pub before : List SpacePacket
   pub last : SpacePacket
   pub are : gave ≡ before ++ last ∷ []
-  pub began : (k : ℕ) → k < length e.ids → Began (offers e k before) (offers e k (last ∷ [])) (offered k)
+  pub began : (k : ℕ) → k < length e.ids → OfferedInPart (offers e k before) (offers e k (last ∷ [])) (offered k)
 
 -- a recorder had this run, and its source is now as the second: it keeps what it did not give, and its other steps. Where the recorder
 -- did not stop early nothing is left, and all offers were made

@@ -66,7 +66,7 @@ pub record HasCalled (event : Event) (reply : Reply) (m : Seated) : Type 0 where
   pub stepped : step taken event ≡ (reply, now)
 
 -- the state that is held goes by this event, with this reply
-pub record Goes (m : Seated) (event : Event) (reply : Reply) (n : Seated) : Type 0 where
+pub record HeldSteps (m : Seated) (event : Event) (reply : Reply) (n : Seated) : Type 0 where
   pub old : State
   pub new : State
   pub had : m.1 ≡ (0, old) ∷ []

@@ -1,7 +1,7 @@
 //! Calls on a state that a seat holds.
 ghost use Rattle.std.specs.Prelude.{◌≡◌, ◌≢◌, Ok, Err};
 ghost use Rattle.mm_desk.specs.declared.fault.Fault.TheVariants.{NoMemory};
-ghost use Rattle.mm_shared.specs.Steps.{Goes, HasState};
+ghost use Rattle.mm_shared.specs.Steps.{HeldSteps, HasState};
 
 use crate::rule::{StoreSeat, StoreTable};
 use mm_desk::{Event, Fault, Offered, Reply, Returned};
@@ -18,7 +18,7 @@ pub(crate) fn offer(
     requires of { seat.old.table_id ≡ table.now.table_id }
     requires held { HasState seat.old.me }
     ensures of { seat.new.table_id ≡ seat.old.table_id }
-    ensures goes { Goes seat.old.me (Event.Offer now packet) (Reply.Offered result) seat.new.me }
+    ensures steps { HeldSteps seat.old.me (Event.Offer now packet) (Reply.Offered result) seat.new.me }
 {
     seat.slot_mut(table, 0).offer(now, packet)
 }
@@ -32,7 +32,7 @@ pub(crate) fn begin(
     requires of { seat.old.table_id ≡ table.now.table_id }
     requires held { HasState seat.old.me }
     ensures of { seat.new.table_id ≡ seat.old.table_id }
-    ensures goes { Goes seat.old.me (Event.Begin from to) (Reply.Done result) seat.new.me }
+    ensures steps { HeldSteps seat.old.me (Event.Begin from to) (Reply.Done result) seat.new.me }
 {
     seat.slot_mut(table, 0).begin(from, to)
 }
@@ -45,7 +45,7 @@ pub(crate) fn next(
     requires of { seat.old.table_id ≡ table.now.table_id }
     requires held { HasState seat.old.me }
     ensures of { seat.new.table_id ≡ seat.old.table_id }
-    ensures goes { result ≢ Err NoMemory → Goes seat.old.me Event.Next (Reply.Given result) seat.new.me }
+    ensures steps { result ≢ Err NoMemory → HeldSteps seat.old.me Event.Next (Reply.Given result) seat.new.me }
     ensures lack { result ≡ Err NoMemory → seat.new.me ≡ seat.old.me }
 {
     seat.slot_mut(table, 0).next_copy(alloc)
@@ -55,7 +55,7 @@ pub(crate) fn abort(table: &StoreTable, seat: &mut StoreSeat) -> Result<(), Faul
     requires of { seat.old.table_id ≡ table.now.table_id }
     requires held { HasState seat.old.me }
     ensures of { seat.new.table_id ≡ seat.old.table_id }
-    ensures goes { Goes seat.old.me Event.Abort (Reply.Done result) seat.new.me }
+    ensures steps { HeldSteps seat.old.me Event.Abort (Reply.Done result) seat.new.me }
 {
     seat.slot_mut(table, 0).abort()
 }
@@ -64,7 +64,7 @@ pub(crate) fn delete(table: &StoreTable, seat: &mut StoreSeat, limit: u64) -> Re
     requires of { seat.old.table_id ≡ table.now.table_id }
     requires held { HasState seat.old.me }
     ensures of { seat.new.table_id ≡ seat.old.table_id }
-    ensures goes { Goes seat.old.me (Event.Delete limit) (Reply.Deleted result) seat.new.me }
+    ensures steps { HeldSteps seat.old.me (Event.Delete limit) (Reply.Deleted result) seat.new.me }
 {
     seat.slot_mut(table, 0).delete(limit)
 }
@@ -73,7 +73,7 @@ pub(crate) fn enable(table: &StoreTable, seat: &mut StoreSeat)
     requires of { seat.old.table_id ≡ table.now.table_id }
     requires held { HasState seat.old.me }
     ensures of { seat.new.table_id ≡ seat.old.table_id }
-    ensures goes { Goes seat.old.me Event.Enable (Reply.Done (Ok tt)) seat.new.me }
+    ensures steps { HeldSteps seat.old.me Event.Enable (Reply.Done (Ok tt)) seat.new.me }
 {
     seat.slot_mut(table, 0).enable();
 }
@@ -82,7 +82,7 @@ pub(crate) fn disable(table: &StoreTable, seat: &mut StoreSeat)
     requires of { seat.old.table_id ≡ table.now.table_id }
     requires held { HasState seat.old.me }
     ensures of { seat.new.table_id ≡ seat.old.table_id }
-    ensures goes { Goes seat.old.me Event.Disable (Reply.Done (Ok tt)) seat.new.me }
+    ensures steps { HeldSteps seat.old.me Event.Disable (Reply.Done (Ok tt)) seat.new.me }
 {
     seat.slot_mut(table, 0).disable();
 }

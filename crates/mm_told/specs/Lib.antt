@@ -1,3 +1,4 @@
+pub mod Phrase
 pub mod Codes
 pub mod Spots
 pub mod Reasons

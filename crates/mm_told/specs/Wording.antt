@@ -1,6 +1,6 @@
 -- The words of what is told.
 use Rattle.std.specs.Prelude.{◌≡◌, ℕ, IsTrue, List, [], ◌++◌, codes, MatchOption}
-use Rattle.mm_words.specs.Phrase.{is_phrase}
+use Rattle.mm_told.specs.Phrase.{is_phrase}
 use Rattle.mm_told.specs.RefusedAts.{reason_told}
 use Rattle.mm_told.specs.Reasons.{reason_text}
 use Rattle.mm_told.specs.declared.reason.Reason.{Reason}

@@ -1,20 +1,24 @@
-//! What a call from C or Python is told: a text in a buffer of the caller's, or a refusal with its place.
+//! What people and callers are told: the words of each refusal, and for a call from C or Python a text or a refusal with its place.
 #![tactic(auto)]
 
 mod answer;
 mod codes;
+mod findings;
 mod reason;
 mod refused_at;
 mod room;
 mod spot;
 mod verdict;
+mod wording;
 mod words;
 
 pub use answer::{Answer, Status, tell_text};
 pub use codes::{NAMES, PLACES, Place, REFUSALS};
+pub use findings::Finding;
 pub use reason::Reason;
 pub use refused_at::RefusedAt;
 pub use room::{PLAN_ROOM, plan_texts_fit};
 pub use spot::Spot;
 pub use verdict::{VerdictKind, VerdictTold};
-pub use words::words_of;
+pub use wording::words_of;
+pub use words::Words;

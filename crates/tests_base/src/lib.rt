@@ -1,4 +1,4 @@
-//! Tests of mm_base and mm_words.
+//! Tests of mm_base and mm_told.
 #![tactic(auto)]
 
 #[cfg(test)]

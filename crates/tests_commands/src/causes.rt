@@ -1,7 +1,7 @@
 //! The last line of a run for causes that no files of the program meet, compared in the proof.
 ghost use Rattle.std.specs.Prelude.{◌≡◌, ◌++◌, ◌∷◌, [], codes};
 ghost use Rattle.mm_base.specs.Characters.{line_feed};
-ghost use Rattle.mm_flight.specs.Ending.{end_line};
+ghost use Rattle.mm_run.specs.Ending.{end_line};
 ghost use Rattle.mm_report.specs.declared.cause.Cause.TheVariants.{PlanShape, NotReady, SizeDiffers, ClockTooLate, ChannelDiffers, NoMemory, LogMismatch};
 
 /// The lines of these causes: a run is proved to print `end_line` of its cause. The store is C, whose identifier is seen as its field of

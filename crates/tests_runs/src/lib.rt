@@ -1,4 +1,4 @@
-//! Tests of mm_record, mm_ready, mm_report and mm_scripted.
+//! Tests of mm_record, mm_report, the tests before a run of mm_exec, and the sources and links of mm_run.
 #![tactic(auto)]
 
 #[cfg(test)]

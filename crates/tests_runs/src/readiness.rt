@@ -1,9 +1,9 @@
 //! Each cause for which a run does not begin, over small memories.
 
 use crate::samples::{memory_of, store_id};
+use mm_exec::{Cause, LATEST_START, ready};
 use mm_plan::Sheet;
 use mm_problem::{Problem, Setup};
-use mm_ready::{Cause, LATEST_START, ready};
 use std::alloc::Global;
 use std::process::Abort;
 

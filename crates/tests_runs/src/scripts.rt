@@ -4,8 +4,8 @@ use crate::samples::store_id;
 use mm_dump::Link;
 use mm_packet::BlockPacket;
 use mm_record::Source;
-use mm_scripted::{
-    Deliveries, Fault, NoMemory, ScriptedLink, ScriptedSource, SentPacket, read_links,
+use mm_run::{
+    NoMemory, ScriptFault, ScriptedLink, ScriptedSource, SentPacket, SourceFile, read_links,
 };
 use std::alloc::Global;
 use std::process::Abort;
@@ -68,7 +68,7 @@ static LEFT: [(u32, u32, u32); 6] = [
 #[test]
 fn sources_give_their_packets_in_the_order_of_the_lines(rt: HostRuntime) -> Result<(), Fail> {
     let text = text_of(rt.alloc(), "1 1 P0Q\n2 1 P1Q\n1 3 P2Q\n1 1 P3Q")?;
-    let read = Deliveries::read(rt.alloc(), &text)?;
+    let read = SourceFile::read(rt.alloc(), &text)?;
     assert!(rt; read.opening.is_empty(), "no packets of step 0");
     assert!(rt; read.sources.len() == 2, "two sources");
     let mut sources = read.sources;
@@ -96,7 +96,7 @@ fn are_counts(rt: &impl Abort, packets: &[BlockPacket], counts: &[u16]) {
 #[test]
 fn packets_of_step_0_stand_in_the_order_of_the_lines(rt: HostRuntime) -> Result<(), Fail> {
     let text = text_of(rt.alloc(), "3 0 P0Q\n1 1 P1Q\n1 0 P2Q\n")?;
-    let read = Deliveries::read(rt.alloc(), &text)?;
+    let read = SourceFile::read(rt.alloc(), &text)?;
     assert!(rt; read.sources.len() == 3, "three sources");
     are_counts(&rt, read.opening.as_slice(), &[0, 2]);
     leaves(&rt, read.sources.as_slice(), 0, 0, 0);
@@ -106,7 +106,7 @@ fn packets_of_step_0_stand_in_the_order_of_the_lines(rt: HostRuntime) -> Result<
 
 #[test]
 fn an_empty_text_has_no_source(rt: HostRuntime) -> Result<(), Fail> {
-    let read = Deliveries::read(rt.alloc(), b"")?;
+    let read = SourceFile::read(rt.alloc(), b"")?;
     assert!(rt; read.sources.is_empty(), "no source");
     assert!(rt; read.opening.is_empty(), "no packets of step 0");
     Ok(())
@@ -116,7 +116,7 @@ fn an_empty_text_has_no_source(rt: HostRuntime) -> Result<(), Fail> {
 #[test]
 fn digits_of_either_case_and_telecommands_are_read(rt: HostRuntime) -> Result<(), Fail> {
     let text = b"8 256 0864c000000e200319000000000000000000000000\n1 1 1864C0000004200F160000\n";
-    let read = Deliveries::read(rt.alloc(), text)?;
+    let read = SourceFile::read(rt.alloc(), text)?;
     assert!(rt; read.sources.len() == 8, "eight sources");
     leaves(&rt, read.sources.as_slice(), 7, 256, 1);
     leaves(&rt, read.sources.as_slice(), 0, 1, 1);
@@ -157,9 +157,9 @@ static BAD_SOURCES: [(&str, u64); 22] = [
 
 // A text of sources is refused at this line.
 fn is_refused(rt: &impl Abort, alloc: Global, text: &[u8], line: u64) {
-    match Deliveries::read(alloc, text) {
+    match SourceFile::read(alloc, text) {
         Ok(_) => panic!(rt; "it is read, up to line {line}"),
-        Err(fault) => assert!(rt; fault == Fault::SourcesText { line }, "line {line}"),
+        Err(fault) => assert!(rt; fault == ScriptFault::SourcesText { line }, "line {line}"),
     }
 }
 
@@ -187,7 +187,7 @@ fn packet_text(alloc: Global, data: u16) -> Result<Vec<u8>, NoMemory> {
 #[test]
 fn a_packet_longer_than_a_block_is_refused(rt: HostRuntime) -> Result<(), Fail> {
     let longest = packet_text(rt.alloc(), 1003)?;
-    let read = Deliveries::read(rt.alloc(), &longest)?;
+    let read = SourceFile::read(rt.alloc(), &longest)?;
     assert!(rt; read.sources.len() == 1, "one source");
     leaves(&rt, read.sources.as_slice(), 0, 1, 1);
     let longer = packet_text(rt.alloc(), 1004)?;
@@ -207,7 +207,7 @@ fn repeated(alloc: Global, line: &[u8], times: u32) -> Result<Vec<u8>, NoMemory>
 #[test]
 fn the_65536th_line_of_a_source_and_step_is_refused(rt: HostRuntime) -> Result<(), Fail> {
     let most = repeated(rt.alloc(), b"1 0 1864C0000004200F160000\n", 65_535)?;
-    let read = Deliveries::read(rt.alloc(), &most)?;
+    let read = SourceFile::read(rt.alloc(), &most)?;
     assert!(rt; read.opening.len() == 65_535, "all packets");
     let opening = repeated(rt.alloc(), b"1 0 1864C0000004200F160000\n", 65_536)?;
     is_refused(&rt, rt.alloc(), &opening, 65_536);
@@ -267,7 +267,7 @@ fn has_sent(rt: &impl Abort, links: &[ScriptedLink], times: &[u64], packet: &Blo
 // The packet of the line `1 1 P0Q`.
 fn packet_of_a_line(rt: &impl Abort, alloc: Global) -> Result<BlockPacket, Fail> {
     let text = text_of(alloc, "1 1 P0Q\n")?;
-    let mut read = Deliveries::read(alloc, &text)?;
+    let mut read = SourceFile::read(alloc, &text)?;
     assert!(rt; read.sources.len() == 1, "one source");
     let Some(packet) = read.sources[0].next(1) else {
         panic!(rt; "a packet");
@@ -333,16 +333,19 @@ fn the_first_bad_line_of_links_is_told(rt: HostRuntime) {
     for (text, line) in &BAD_LINKS {
         match read_links(rt.alloc(), text.as_bytes()) {
             Ok(_) => panic!(rt; "read: {text}"),
-            Err(fault) => assert!(rt; fault == Fault::LinksText { line: *line }, "{text}"),
+            Err(fault) => assert!(rt; fault == ScriptFault::LinksText { line: *line }, "{text}"),
         }
     }
 }
 
 // Faults, and what is shown of them.
-static SHOWN: [(Fault, &str); 3] = [
-    (Fault::NoMemory, "0 NoMemory"),
-    (Fault::SourcesText { line: 3 }, "51 SourcesText line 3"),
-    (Fault::LinksText { line: 1 }, "52 LinksText line 1"),
+static SHOWN: [(ScriptFault, &str); 3] = [
+    (ScriptFault::NoMemory, "0 NoMemory"),
+    (
+        ScriptFault::SourcesText { line: 3 },
+        "51 SourcesText line 3",
+    ),
+    (ScriptFault::LinksText { line: 1 }, "52 LinksText line 1"),
 ];
 
 #[test]

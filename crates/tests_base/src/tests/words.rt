@@ -1,6 +1,6 @@
 //! Each refusal as it is printed, and its words.
 use mm_base::Refusal;
-use mm_words::{Finding, Words};
+use mm_told::{Finding, Words};
 use std::process::Abort;
 
 // Each refusal with its number and its name, by the tables of docs/FORMATS.md.

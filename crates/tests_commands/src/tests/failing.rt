@@ -1,5 +1,5 @@
 //! Files and writers that fail.
-ghost use Rattle.mm_system.specs.Contents.{unknown};
+ghost use Rattle.mm_commands.specs.Contents.{unknown};
 
 use crate::tests::samples::{FIRST_PLAN, SCI, THREE_STEPS};
 use mm_commands::{Files, ReadFault, run_tool};

@@ -1,5 +1,5 @@
 use Rattle.std.proofs.Common.{◌≡◌, ◌⊎◌, ℕ, List, map, rules, subst}
-use Rattle.mm_system.specs.Scripts.{script_contents}
+use Rattle.mm_commands.specs.Scripts.{script_contents}
 use Rattle.mm_commands.specs.Doing.{IsDone, TellsVersion, words_in}
 use Rattle.mm_commands.proofs.run.run_script.Goals as goal
 

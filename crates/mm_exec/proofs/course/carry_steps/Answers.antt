@@ -3,7 +3,7 @@ use Rattle.mm_memory.specs.Holdings.{Holdings}
 use Rattle.mm_record.specs.Recorded.{recording}
 use Rattle.mm_dump.specs.declared.order.Order.{Order}
 use Rattle.mm_report.specs.Report.{Reported}
-use Rattle.mm_ready.specs.Ready.{outset}
+use Rattle.mm_exec.specs.Readiness.{run_start}
 use Rattle.mm_exec.specs.RunInput.{run_input, step_orders}
 use Rattle.mm_exec.specs.Step.{run_state, StepBroke}
 use Rattle.mm_exec.specs.Steps.{StepsDone}
@@ -20,7 +20,7 @@ loop-step-init g c =
     let plan = c.args.run.now.plan.now in
     let base = c.args.run.now.base in
     let gives = g.S.Source.gives in
-    let begun = begun_of (outset q plan c.args.stores.now.items base (length c.args.sources.now) (length c.args.links.now)) c.requires.may.begins in
+    let begun = begun_of (run_start q plan c.args.stores.now.items base (length c.args.sources.now) (length c.args.links.now)) c.requires.may.begins in
     record {
       done =
           done_first gives g.L.Link.sent g.L.Link.failed (run_input gives q plan base memory c.args.sources.now)
@@ -37,7 +37,7 @@ report_step-requires-clause-may g c κs within =
     let plan = c.args.run.now.plan.now in
     let base = c.args.run.now.base in
     let gives = g.S.Source.gives in
-    let begun = begun_of (outset q plan c.args.stores.now.items base (length c.args.sources.now) (length c.args.links.now)) c.requires.may.begins in
+    let begun = begun_of (run_start q plan c.args.stores.now.items base (length c.args.sources.now) (length c.args.links.now)) c.requires.may.begins in
     let places = take c.stores.result c.places_of-all.result in
     let footing = footing_here gives q plan base memory c.args.sources.now (length c.args.links.now) c.places_of-all.result c.places_of-all.ensures.problem
     c.requires.may.begins c.requires.may.sound c.deref.ensures.value c.places_of-all.ensures.places c.stores.ensures.stores in
@@ -58,7 +58,7 @@ loop-step-preserved g c =
     let plan = c.args.run.now.plan.now in
     let base = c.args.run.now.base in
     let gives = g.S.Source.gives in
-    let begun = begun_of (outset q plan c.args.stores.now.items base (length c.args.sources.now) (length c.args.links.now)) c.requires.may.begins in
+    let begun = begun_of (run_start q plan c.args.stores.now.items base (length c.args.sources.now) (length c.args.links.now)) c.requires.may.begins in
     let places = take c.stores.result c.places_of-all.result in
     let footing = footing_here gives q plan base memory c.args.sources.now (length c.args.links.now) c.places_of-all.result c.places_of-all.ensures.problem
     c.requires.may.begins c.requires.may.sound c.deref.ensures.value c.places_of-all.ensures.places c.stores.ensures.stores in
@@ -109,7 +109,7 @@ returns-in-Err-clause-halted g c =
     let plan = c.args.run.now.plan.now in
     let base = c.args.run.now.base in
     let gives = g.S.Source.gives in
-    let begun = begun_of (outset q plan c.args.stores.now.items base (length c.args.sources.now) (length c.args.links.now)) c.requires.may.begins in
+    let begun = begun_of (run_start q plan c.args.stores.now.items base (length c.args.sources.now) (length c.args.links.now)) c.requires.may.begins in
     let places = take c.stores.result c.places_of-all.result in
     let footing = footing_here gives q plan base memory c.args.sources.now (length c.args.links.now) c.places_of-all.result c.places_of-all.ensures.problem
     c.requires.may.begins c.requires.may.sound c.deref.ensures.value c.places_of-all.ensures.places c.stores.ensures.stores in
@@ -149,7 +149,7 @@ returns-in-Err-clause-far g c = λ limits.
     let plan = c.args.run.now.plan.now in
     let base = c.args.run.now.base in
     let gives = g.S.Source.gives in
-    let begun = begun_of (outset q plan c.args.stores.now.items base (length c.args.sources.now) (length c.args.links.now)) c.requires.may.begins in
+    let begun = begun_of (run_start q plan c.args.stores.now.items base (length c.args.sources.now) (length c.args.links.now)) c.requires.may.begins in
     let places = take c.stores.result c.places_of-all.result in
     let footing = footing_here gives q plan base memory c.args.sources.now (length c.args.links.now) c.places_of-all.result c.places_of-all.ensures.problem
     c.requires.may.begins c.requires.may.sound c.deref.ensures.value c.places_of-all.ensures.places c.stores.ensures.stores in

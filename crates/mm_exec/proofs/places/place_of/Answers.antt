@@ -2,7 +2,7 @@ use Rattle.std.proofs.Common.{rules, tests}
 use Rattle.std.proofs.lemmas.Iterator.{YieldsList-from_slice}
 use Rattle.std.proofs.lemmas.Iterator.Search.{position_from_yields_List}
 use Rattle.mm_memory.specs.Holdings.{has_id}
-use Rattle.mm_exec.proofs.Standing.{place_found}
+use Rattle.mm_exec.proofs.Found.{place_found}
 use Rattle.mm_exec.proofs.places.place_of.Goals as goal
 
 pub returns : goal.returns

@@ -4,7 +4,7 @@ use Rattle.std.proofs.lemmas.List.{with_items_is}
 use Rattle.mm_desk.specs.declared.held.Held.{Held}
 use Rattle.mm_memory.specs.Holdings.{Holdings}
 use Rattle.mm_memory.specs.Laws.{ids_of}
-use Rattle.mm_ready.specs.Ready.{outset, MayBegin}
+use Rattle.mm_exec.specs.Readiness.{run_start, MayBegin}
 use Rattle.mm_exec.specs.RunInput.{run_input}
 use Rattle.mm_exec.specs.Step.{RunState, AreReady, run_state}
 use Rattle.mm_exec.specs.Steps.{StepsDone}
@@ -56,9 +56,9 @@ returns-in-Ok-clause-carried_out g c =
     (subst (λ (ss : List g.row.S.Denot). StepsDone gives sent failed (run_input gives q plan base memory ss) ss ys (length q.windows) after c.in-Ok.report) c.deref_mut.ensures.value done_at_first))) in
     record {
       began =
-          subst (λ (held : List Held). MayBegin (outset q plan held base (length c.args.sources.items) (length c.args.links.items))) c.lift-stores.ensures.stores
-          (subst (λ (ls : List g.row.L.Denot). MayBegin (outset q plan c.lift-stores.result.items base (length c.args.sources.items) (length ls))) c.deref_mut-2.ensures.value
-          (subst (λ (ss : List g.row.S.Denot). MayBegin (outset q plan c.lift-stores.result.items base (length ss) (length ys))) c.deref_mut.ensures.value c.in-Ok.ensures.began));
+          subst (λ (held : List Held). MayBegin (run_start q plan held base (length c.args.sources.items) (length c.args.links.items))) c.lift-stores.ensures.stores
+          (subst (λ (ls : List g.row.L.Denot). MayBegin (run_start q plan c.lift-stores.result.items base (length c.args.sources.items) (length ls))) c.deref_mut-2.ensures.value
+          (subst (λ (ss : List g.row.S.Denot). MayBegin (run_start q plan c.lift-stores.result.items base (length ss) (length ys))) c.deref_mut.ensures.value c.in-Ok.ensures.began));
       routes = ap (λ (h : Holdings). h.routes) c.restore.ensures.after ∙ ap (λ (h : Holdings). h.routes) c.lift-stores.ensures.left;
       done = done;
       ready = subst AreReady (sym stores) c.in-Ok.ensures.done.ready;

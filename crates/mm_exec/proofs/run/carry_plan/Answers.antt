@@ -2,7 +2,7 @@ use Rattle.std.proofs.Common.{refl, inl, inr, List, length, All, sym, ap, subst}
 use Rattle.mm_desk.specs.declared.held.Held.{Held}
 use Rattle.mm_desk.specs.Machine.{IsState}
 use Rattle.mm_memory.specs.Holdings.{Holdings}
-use Rattle.mm_ready.specs.Ready.{outset, Stops, MayBegin}
+use Rattle.mm_exec.specs.Readiness.{run_start, Stops, MayBegin}
 use Rattle.mm_exec.specs.declared.course.RunStopped.{RunStopped}
 use Rattle.mm_exec.specs.declared.step.StepBroken.{StepBroken}
 use Rattle.mm_exec.specs.RunInput.{run_input}
@@ -17,9 +17,9 @@ returns-in-Err-clause-ended g c =
     let q = c.args.run.now.problem.now in
     let plan = c.args.run.now.plan.now in
     let base = c.args.run.now.base in
-    let o = outset q plan c.args.stores.now.items base (length c.args.sources.now) (length c.args.links.now) in
+    let o = run_start q plan c.args.stores.now.items base (length c.args.sources.now) (length c.args.links.now) in
     let stops : Stops o c.in-Err.cause =
-    subst (λ (held : List Held). Stops (outset q plan held base (length c.args.sources.now) (length c.args.links.now)) c.in-Err.cause) c.deref.ensures.value c.in-Err.ensures.err in
+    subst (λ (held : List Held). Stops (run_start q plan held base (length c.args.sources.now) (length c.args.links.now)) c.in-Err.cause) c.deref.ensures.value c.in-Err.ensures.err in
     let broken = c.never_began.ensures.broken in
     inr (record {
       same = refl;
@@ -33,9 +33,9 @@ returns-in_default-reserve_run-clause-ended g c =
     let q = c.args.run.now.problem.now in
     let plan = c.args.run.now.plan.now in
     let base = c.args.run.now.base in
-    let o = outset q plan c.args.stores.now.items base (length c.args.sources.now) (length c.args.links.now) in
+    let o = run_start q plan c.args.stores.now.items base (length c.args.sources.now) (length c.args.links.now) in
     let begun : MayBegin o =
-    subst (λ (held : List Held). MayBegin (outset q plan held base (length c.args.sources.now) (length c.args.links.now))) c.deref.ensures.value c.in_default.ensures.ok in
+    subst (λ (held : List Held). MayBegin (run_start q plan held base (length c.args.sources.now) (length c.args.links.now))) c.deref.ensures.value c.in_default.ensures.ok in
     let broken = c.never_began-in_default-reserve_run.ensures.broken in
     inr (record {
       same = refl;
@@ -47,7 +47,7 @@ returns-in_default-reserve_run-clause-ended g c =
 pub carry_steps-requires-clause-may : goal.carry_steps-requires-clause-may
 carry_steps-requires-clause-may g c κs within = record {
   begins =
-      subst (λ (held : List Held). MayBegin (outset c.args.run.now.problem.now c.args.run.now.plan.now held c.args.run.now.base (length c.args.sources.now) (length c.args.links.now)))
+      subst (λ (held : List Held). MayBegin (run_start c.args.run.now.problem.now c.args.run.now.plan.now held c.args.run.now.base (length c.args.sources.now) (length c.args.links.now)))
       c.deref.ensures.value c.in_default.ensures.ok;
   held = c.requires.held;
   sound = subst (All (λ (h : Held). IsState h.state)) c.deref-2.ensures.value c.read_states.ensures;
@@ -58,9 +58,9 @@ carry_steps-requires-clause-may g c κs within = record {
 
 pub returns-clause-began : goal.returns-clause-began
 returns-clause-began g c =
-    on_ok (MayBegin (outset c.args.run.now.problem.now c.args.run.now.plan.now c.args.stores.now.items c.args.run.now.base (length c.args.sources.now) (length c.args.links.now)))
+    on_ok (MayBegin (run_start c.args.run.now.problem.now c.args.run.now.plan.now c.args.stores.now.items c.args.run.now.base (length c.args.sources.now) (length c.args.links.now)))
     c.carry_steps.result
-    (subst (λ (held : List Held). MayBegin (outset c.args.run.now.problem.now c.args.run.now.plan.now held c.args.run.now.base (length c.args.sources.now) (length c.args.links.now)))
+    (subst (λ (held : List Held). MayBegin (run_start c.args.run.now.problem.now c.args.run.now.plan.now held c.args.run.now.base (length c.args.sources.now) (length c.args.links.now)))
     c.deref.ensures.value c.in_default.ensures.ok)
 
 pub returns-clause-ended : goal.returns-clause-ended
@@ -69,7 +69,7 @@ returns-clause-ended g c =
     let m = run_input g.S.Source.gives c.args.run.now.problem.now c.args.run.now.plan.now c.args.run.now.base memory c.args.sources.now in
     let before = run_state c.args.stores.now c.args.sources.now c.args.links.now in
     let after = run_state c.carry_steps.new.stores c.carry_steps.new.sources c.carry_steps.new.links in
-    let begun = subst (λ (held : List Held). MayBegin (outset c.args.run.now.problem.now c.args.run.now.plan.now held c.args.run.now.base (length c.args.sources.now) (length c.args.links.now)))
+    let begun = subst (λ (held : List Held). MayBegin (run_start c.args.run.now.problem.now c.args.run.now.plan.now held c.args.run.now.base (length c.args.sources.now) (length c.args.links.now)))
     c.deref.ensures.value c.in_default.ensures.ok in
     err_follows (RunHalted g.S.Source.gives g.L.Link.sent g.L.Link.failed m before after)
     (IsEnded g.S.Source.gives g.L.Link.sent g.L.Link.failed m c.args.run.now.plan.now before after) c.carry_steps.result c.carry_steps.ensures.halted

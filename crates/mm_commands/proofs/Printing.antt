@@ -1,0 +1,56 @@
+-- What was printed of an answer.
+use Rattle.std.proofs.Common.{◌≡◌, ◌≢◌, ◌⊎◌, List, ℕ, Option, Result, Ok, Err, IfOk, sym, subst, inl, ◌∙◌}
+use Rattle.std.specs.Io.KnownBytes.{Appends}
+use Rattle.mm_cut.specs.declared.verdict.Verdict.{Verdict}
+use Rattle.mm_cut.specs.declared.verdict.Verdict.TheVariants.{DoesNotFit, LossIs, BadStretch, BadCount, BoundIs, NotShown, Least}
+use Rattle.mm_ask.specs.declared.answering.Outcome.{Outcome as Replied}
+use Rattle.mm_ask.specs.declared.answering.Outcome.TheVariants as replied
+use Rattle.mm_command_line.specs.declared.task.Task.TheVariants.{Plan, Check, Chart, Table, Fly, Ask}
+use Rattle.mm_run.specs.declared.printed.Outcome.{Outcome as Ended}
+use Rattle.mm_run.specs.declared.printed.Outcome.TheVariants as ended
+use Rattle.mm_commands.specs.declared.status.Status.{Status}
+use Rattle.mm_commands.specs.declared.status.Status.TheVariants.{BadCommandLine}
+use Rattle.mm_commands.specs.declared.answers.Answer.{Answer}
+use Rattle.mm_command_line.specs.declared.task.Task.{Task}
+use Rattle.mm_commands.specs.Contents.{Contents}
+use Rattle.mm_commands.specs.Answers.{AnswersTask, IsAnswerTo, Prints, text_in, status_in, status_of, status_of_replies, status_of_run}
+
+pub answer-prints : {E : Type 0} (R : Status → Type 0) (contents : Contents) (task : Task) (answer : Answer) (before after : Option (List ℕ)) (result : Result Status E)
+    → IfOk result (λ status. Appends before after (text_in answer)) → IfOk result (λ status. status ≡ status_in answer)
+    → IsAnswerTo contents task answer → IfOk result (λ status. Prints contents task status before after ⊎ R status)
+answer-prints R contents task answer before after (Ok status) text is answers =
+    inl (record { text = text_in answer; printed = text; answers = subst (λ s. AnswersTask contents task s (text_in answer)) (sym is) answers })
+answer-prints R contents task answer before after (Err e) text is answers = tt
+
+-- no verdict, no reply and no run ends as a bad command line
+no-bad-verdict : (v : Verdict) → BadCommandLine ≡ status_of v → ⊥
+no-bad-verdict (DoesNotFit step) e = absurd (cc)
+no-bad-verdict (LossIs loss) e = absurd (cc)
+no-bad-verdict (BadStretch k) e = absurd (cc)
+no-bad-verdict (BadCount k) e = absurd (cc)
+no-bad-verdict (BoundIs bound) e = absurd (cc)
+no-bad-verdict (NotShown loss bound) e = absurd (cc)
+no-bad-verdict (Least n) e = absurd (cc)
+
+no-bad-reply : (o : Replied) → BadCommandLine ≡ status_of_replies o → ⊥
+no-bad-reply replied.AllDone e = absurd (cc)
+no-bad-reply replied.SomeRefused e = absurd (cc)
+
+no-bad-run : (o : Ended) → BadCommandLine ≡ status_of_run o → ⊥
+no-bad-run ended.CarriedOut e = absurd (cc)
+no-bad-run (ended.Stopped refusal) e = absurd (cc)
+
+-- what answers a task is no bad command line
+no-bad-answer : (contents : Contents) (task : Task) (text : List ℕ) → AnswersTask contents task BadCommandLine text → ⊥
+no-bad-answer contents (Plan setup forecast) text answers = absurd (let is = answers.0 in cc)
+no-bad-answer contents (Check names) text (s, hs, (f, hf, (p, hp, judges))) = no-bad-verdict judges.verdict judges.status_is
+no-bad-answer contents (Chart names) text answers = absurd (let is = answers.0 in cc)
+no-bad-answer contents (Table names) text answers = absurd (let is = answers.0 in cc)
+no-bad-answer contents (Fly names) text flown = no-bad-run flown.printed.outcome flown.status_is
+no-bad-answer contents (Ask setup requests) text (s, hs, (r, hr, replies)) = no-bad-reply replies.outcome replies.status_is
+
+pub answers-well : {E : Type 0} (contents : Contents) (task : Task) (answer : Answer) (result : Result Status E)
+    → IfOk result (λ status. status ≡ status_in answer) → IsAnswerTo contents task answer → IfOk result (λ status. status ≢ BadCommandLine)
+answers-well contents task answer (Ok status) is answers =
+    λ bad. no-bad-answer contents task (text_in answer) (subst (λ s. AnswersTask contents task s (text_in answer)) (sym is ∙ bad) answers)
+answers-well contents task answer (Err e) is answers = tt

@@ -1,0 +1,140 @@
+-- What answers a task, by what its files hold.
+use Rattle.std.specs.Prelude.{◌≡◌, ℕ, List, Option, Some, None}
+use Rattle.std.specs.Borrow.{Bor}
+use Rattle.std.specs.Io.KnownBytes.{Appends}
+use Rattle.mm_cut.specs.declared.verdict.Verdict.{Verdict}
+use Rattle.mm_cut.specs.declared.verdict.Verdict.TheVariants.{Least}
+use Rattle.mm_cut.specs.Checking.{Checks, LosesLeast}
+use Rattle.mm_cut.specs.Lines.{line_of}
+use Rattle.mm_chart.specs.Charts.{Charts}
+use Rattle.mm_chart.specs.Table.{IsTableOf}
+use Rattle.mm_planner.specs.PlanTexts.{PlansLeast}
+use Rattle.mm_ask.specs.declared.answering.Outcome.{Outcome as Replied}
+use Rattle.mm_ask.specs.declared.answering.Outcome.TheVariants as replied
+use Rattle.mm_ask.specs.Asking.{Answers}
+use Rattle.mm_run.specs.declared.printed.Outcome.{Outcome as Ended}
+use Rattle.mm_run.specs.declared.printed.Outcome.TheVariants as ended
+use Rattle.mm_run.specs.declared.printed.Printed.{Printed}
+use Rattle.mm_run.specs.Printed.{text_of}
+use Rattle.mm_run.specs.Runs.{Runs, FliesBy}
+use Rattle.mm_commands.specs.Contents.{Contents, MayBe}
+use Rattle.mm_commands.specs.declared.status.Status.{Status}
+use Rattle.mm_commands.specs.declared.status.Status.TheVariants.{Done, Refused}
+use Rattle.mm_commands.specs.declared.answers.Answer.{Answer}
+use Rattle.mm_commands.specs.declared.answers.Answer.TheVariants.{Text, Lines, Line, Run}
+use Rattle.mm_command_line.specs.declared.task.PlanFiles.{PlanFiles}
+use Rattle.mm_command_line.specs.declared.task.FlightFiles.{FlightFiles}
+use Rattle.mm_command_line.specs.declared.task.Task.{Task}
+use Rattle.mm_command_line.specs.declared.task.Task.TheVariants.{Plan, Check, Chart, Table, Fly, Ask}
+
+-- the file of this name may have these bytes; a missing one has none
+abbrev pub Holds : Contents → List ℕ → List ℕ → Type 0
+Holds contents name octets = MayBe (contents name) octets
+
+-- the file of this name has bytes of which P holds
+abbrev pub Of : Contents → List ℕ → (List ℕ → Type 0) → Type 0
+Of contents name P = (octets : List ℕ) × Holds contents name octets × P octets
+
+-- the three files of a judged plan have bytes of which P holds
+abbrev pub OfPlan : Contents → PlanFiles → (List ℕ → List ℕ → List ℕ → Type 0) → Type 0
+OfPlan contents names P =
+    Of contents names.setup.now (λ setup. Of contents names.forecast.now (λ forecast. Of contents names.plan.now (P setup forecast)))
+
+-- ---- `plan`
+
+-- a plan text that loses least is printed
+abbrev pub Plans : Contents → List ℕ → List ℕ → List ℕ → Type 0
+Plans contents setup forecast text = Of contents setup (λ s. Of contents forecast (λ f. PlansLeast s f text))
+
+-- ---- `check`
+
+abbrev pub status_of : Verdict → Status
+status_of (Least n) = Done
+status_of verdict = Refused
+
+-- the line is that of the verdict on the plan, which is `Least` only where no plan that fits loses fewer blocks
+pub record Judges (status : Status) (line setup forecast plan : List ℕ) : Type 0 where
+  pub verdict : Verdict
+  pub checks : Checks setup forecast plan verdict
+  pub least : (n : ℕ) → verdict ≡ Least n → LosesLeast setup forecast plan n
+  pub line_is : line ≡ line_of verdict
+  pub status_is : status ≡ status_of verdict
+
+-- ---- `ask`
+
+abbrev pub status_of_replies : Replied → Status
+status_of_replies replied.AllDone = Done
+status_of_replies replied.SomeRefused = Refused
+
+-- the text answers the requests
+pub record Replies (status : Status) (text setup requests : List ℕ) : Type 0 where
+  pub outcome : Replied
+  pub answers : Answers setup requests outcome text
+  pub status_is : status ≡ status_of_replies outcome
+
+-- ---- `run` and `fly`
+
+abbrev pub status_of_run : Ended → Status
+status_of_run ended.CarriedOut = Done
+status_of_run (ended.Stopped refusal) = Refused
+
+-- the file of the plan has these bytes, where one is named
+abbrev pub HoldsPlan : Contents → Option (Bor (List ℕ)) → Option (List ℕ) → Type 0
+HoldsPlan contents (Some name) (Some octets) = Holds contents name.now octets
+HoldsPlan contents None None = Unit {0}
+HoldsPlan contents name octets = ⊥
+
+-- what is printed of the run of the plan that is given, and of one that is made where none is
+abbrev pub FliesBytes : Option (List ℕ) → Printed → List ℕ → List ℕ → List ℕ → List ℕ → Type 0
+FliesBytes (Some plan) printed setup forecast sources links = Runs setup forecast plan sources links printed
+FliesBytes None printed setup forecast sources links = FliesBy setup forecast sources links printed
+
+-- the files of a run have bytes of which P holds; those of the plan first, where one is named
+abbrev pub OfFlight : Contents → FlightFiles → (Option (List ℕ) → List ℕ → List ℕ → List ℕ → List ℕ → Type 0) → Type 0
+OfFlight contents names P = (plan : Option (List ℕ)) × HoldsPlan contents names.plan plan
+    × Of contents names.setup.now (λ setup. Of contents names.forecast.now (λ forecast.
+    Of contents names.sources.now (λ sources. Of contents names.links.now (P plan setup forecast sources))))
+
+abbrev pub FliesOf : Contents → FlightFiles → Printed → Type 0
+FliesOf contents names printed = OfFlight contents names (λ plan. FliesBytes plan printed)
+
+-- what is printed of a run, and the status
+pub record Flown (contents : Contents) (names : FlightFiles) (status : Status) (text : List ℕ) : Type 0 where
+  pub printed : Printed
+  pub flies : FliesOf contents names printed
+  pub text_is : text ≡ text_of printed
+  pub status_is : status ≡ status_of_run printed.outcome
+
+-- ---- all of them
+
+-- the task is done, or the answer says what is not well: this text answers it, and the run of the program ends in this status
+abbrev pub AnswersTask : Contents → Task → Status → List ℕ → Type 0
+AnswersTask contents (Plan setup forecast) status text = (status ≡ Done) × Plans contents setup.now forecast.now text
+AnswersTask contents (Check names) status text = OfPlan contents names (Judges status text)
+AnswersTask contents (Chart names) status text = (status ≡ Done) × OfPlan contents names (λ setup forecast plan. Charts setup forecast plan text)
+AnswersTask contents (Table names) status text = (status ≡ Done) × OfPlan contents names (λ setup forecast plan. IsTableOf setup forecast plan text)
+AnswersTask contents (Fly names) status text = Flown contents names status text
+AnswersTask contents (Ask setup requests) status text = Of contents setup.now (λ s. Of contents requests.now (Replies status text s))
+
+-- the text of an answer, and the status
+abbrev pub text_in : Answer → List ℕ
+text_in (Text status text) = text.items
+text_in (Lines outcome lines) = lines.items
+text_in (Line verdict line) = line.items
+text_in (Run printed) = text_of printed
+
+abbrev pub status_in : Answer → Status
+status_in (Text status text) = status
+status_in (Lines outcome lines) = status_of_replies outcome
+status_in (Line verdict line) = status_of verdict
+status_in (Run printed) = status_of_run printed.outcome
+
+-- the answer is one to the task
+abbrev pub IsAnswerTo : Contents → Task → Answer → Type 0
+IsAnswerTo contents task answer = AnswersTask contents task (status_in answer) (text_in answer)
+
+-- a writer had the first of these bytes, and then the second: what was written between answers the task
+pub record Prints (contents : Contents) (task : Task) (status : Status) (before after : Option (List ℕ)) : Type 0 where
+  pub text : List ℕ
+  pub printed : Appends before after text
+  pub answers : AnswersTask contents task status text

@@ -1,0 +1,60 @@
+-- Why a task is refused: which refusal each fault is, and its line.
+use Rattle.std.specs.Prelude.{ℕ, List, [], ◌∷◌, ◌++◌, codes}
+use Rattle.mm_base.specs.Characters.{line_feed}
+use Rattle.mm_base.specs.declared.refusal.Refusal.{Refusal}
+use Rattle.mm_base.specs.declared.refusal.Refusal.TheVariants as refusal
+use Rattle.mm_problem.specs.Fault.{refusal_of as problem_refusal}
+use Rattle.mm_cut.specs.Fault.{refusal_of as check_refusal}
+use Rattle.mm_cut.specs.declared.fault.Fault.{Fault as CheckFault}
+use Rattle.mm_cut.specs.declared.fault.Fault.TheVariants as check
+use Rattle.mm_run.specs.Ending.{refusal_text}
+use Rattle.mm_run.specs.Fault.{refusal_of as flight_refusal}
+use Rattle.mm_run.specs.declared.fault.Fault.{Fault as FlightFault}
+use Rattle.mm_run.specs.declared.fault.Fault.TheVariants as flight
+use Rattle.mm_commands.specs.Spots.{spot_in_problem, spot_in_plan, spot_in_script, fields_text}
+use Rattle.mm_commands.specs.declared.fault.Fault.{Fault}
+use Rattle.mm_commands.specs.declared.fault.Fault.TheVariants.{NoMemory, NotRead, Texts, Run, Setup}
+use Rattle.mm_commands.specs.declared.spot.Spot.{Spot}
+use Rattle.mm_commands.specs.declared.spot.Spot.TheVariants.{Whole}
+
+-- which refusal it is
+abbrev pub refusal_of : Fault → Refusal
+refusal_of NoMemory = refusal.NoMemory
+refusal_of (NotRead name) = refusal.NotRead
+refusal_of (Texts fault) = check_refusal fault
+refusal_of (Run fault) = flight_refusal fault
+refusal_of (Setup fault) = problem_refusal fault
+
+-- where in its file a fault of the texts of a plan is
+abbrev pub spot_in_texts : CheckFault → Spot
+spot_in_texts check.NoMemory = Whole
+spot_in_texts (check.Problem fault) = spot_in_problem fault
+spot_in_texts (check.Plan fault) = spot_in_plan fault
+
+-- where in its file a fault of the texts of a run is
+abbrev pub spot_in_run : FlightFault → Spot
+spot_in_run flight.NoMemory = Whole
+spot_in_run (flight.Problem fault) = spot_in_problem fault
+spot_in_run (flight.Plan fault) = spot_in_plan fault
+spot_in_run (flight.Script fault) = spot_in_script fault
+
+-- where in its file it is
+abbrev pub spot_of : Fault → Spot
+spot_of NoMemory = Whole
+spot_of (NotRead name) = Whole
+spot_of (Texts fault) = spot_in_texts fault
+spot_of (Run fault) = spot_in_run fault
+spot_of (Setup fault) = spot_in_problem fault
+
+-- its fields: the name of the file, or the place in it
+abbrev pub fields_of : Fault → List ℕ
+fields_of (NotRead name) = codes " name " ++ name.now
+fields_of fault = fields_text (spot_of fault)
+
+-- its number, its name and its fields
+abbrev pub fault_text : Fault → List ℕ
+fault_text fault = refusal_text (refusal_of fault) ++ fields_of fault
+
+-- the line that says why a task is refused
+abbrev pub refused_line : Fault → List ℕ
+refused_line fault = codes "refused " ++ fault_text fault ++ line_feed ∷ []

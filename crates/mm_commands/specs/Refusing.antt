@@ -1,0 +1,81 @@
+-- Which faults a task is refused for.
+use Rattle.std.specs.Prelude.{◌≡◌, ◌≢◌, ◌⊎◌, ℕ, List, [], ◌∷◌, ◌++◌, codes, Option, Some, None}
+use Rattle.std.specs.Borrow.{Bor}
+use Rattle.std.specs.Io.KnownBytes.{Appends}
+use Rattle.mm_base.specs.Characters.{line_feed}
+use Rattle.mm_base.specs.declared.refusal.Refusal.TheVariants as refusal
+use Rattle.mm_cut.specs.Checking.{IsFaultOf as IsCheckFault}
+use Rattle.mm_cut.specs.declared.fault.Fault.TheVariants as check
+use Rattle.mm_planner.specs.PlanTexts.{IsPlanningFault}
+use Rattle.mm_ask.specs.Asking.{IsSetupFault}
+use Rattle.mm_run.specs.Ending.{refusal_text}
+use Rattle.mm_run.specs.Judging.{IsRunFault, IsFlyFault}
+use Rattle.mm_run.specs.declared.fault.Fault.{Fault as FlightFault}
+use Rattle.mm_run.specs.declared.fault.Fault.TheVariants as flight
+use Rattle.mm_commands.specs.Contents.{Contents, MayBeUnread}
+use Rattle.mm_commands.specs.declared.files.ReadFault.{ReadFault}
+use Rattle.mm_commands.specs.declared.files.ReadFault.TheVariants as read
+use Rattle.mm_commands.specs.declared.status.Status.{Status}
+use Rattle.mm_commands.specs.declared.status.Status.TheVariants.{Refused}
+use Rattle.mm_commands.specs.Answers.{Holds, Of, OfPlan, OfFlight}
+use Rattle.mm_commands.specs.Faults.{refused_line}
+use Rattle.mm_commands.specs.declared.fault.Fault.{Fault}
+use Rattle.mm_commands.specs.declared.fault.Fault.TheVariants.{NoMemory, NotRead, Texts, Run, Setup}
+use Rattle.mm_command_line.specs.declared.task.Task.{Task}
+use Rattle.mm_command_line.specs.declared.task.Task.TheVariants.{Plan, Check, Chart, Table, Fly, Ask}
+
+-- the name of a file, where one is named
+abbrev pub names_of : Option (Bor (List ℕ)) → List (List ℕ)
+names_of (Some name) = name.now ∷ []
+names_of None = []
+
+-- the names of a task's files
+abbrev pub files_of : Task → List (List ℕ)
+files_of (Plan setup forecast) = setup.now ∷ forecast.now ∷ []
+files_of (Check names) = names.setup.now ∷ names.forecast.now ∷ names.plan.now ∷ []
+files_of (Chart names) = names.setup.now ∷ names.forecast.now ∷ names.plan.now ∷ []
+files_of (Table names) = names.setup.now ∷ names.forecast.now ∷ names.plan.now ∷ []
+files_of (Fly names) = names.setup.now ∷ names.forecast.now ∷ names_of names.plan ++ names.sources.now ∷ names.links.now ∷ []
+files_of (Ask setup requests) = setup.now ∷ requests.now ∷ []
+
+-- the first fault of the texts of a run whose plan is given, or made
+abbrev pub IsFlightFault : Option (List ℕ) → FlightFault → List ℕ → List ℕ → List ℕ → List ℕ → Type 0
+IsFlightFault (Some plan) e setup forecast sources links = IsRunFault setup forecast plan sources links e
+IsFlightFault None e setup forecast sources links = IsFlyFault setup forecast sources links e
+
+-- the file of this name was the first of these that was not read: those before it were, and its bytes are not known
+abbrev pub IsFirstUnread : Contents → List (List ℕ) → List ℕ → Type 0
+IsFirstUnread contents [] name = ⊥
+IsFirstUnread contents (first ∷ rest) name = ((name ≡ first) × MayBeUnread (contents first))
+    ⊎ (((octets : List ℕ) × Holds contents first octets) × IsFirstUnread contents rest name)
+
+-- the first of these files that was not read is told; want of memory may come at any time
+abbrev pub IsUnread : Contents → List (List ℕ) → Fault → Type 0
+IsUnread contents names NoMemory = Unit {0}
+IsUnread contents names (NotRead name) = IsFirstUnread contents names name.now
+IsUnread contents names fault = ⊥
+
+-- the task cannot be done: a file of it was not read, or this is the first fault of its texts; want of memory may come at any time
+abbrev pub IsFaultOf : Contents → Task → Fault → Type 0
+IsFaultOf contents task NoMemory = Unit {0}
+IsFaultOf contents task (NotRead name) = IsUnread contents (files_of task) (NotRead name)
+IsFaultOf contents (Plan setup forecast) (Texts e) =
+    e ≢ check.NoMemory → Of contents setup.now (λ s. Of contents forecast.now (λ f. IsPlanningFault s f e))
+IsFaultOf contents (Check names) (Texts e) = e ≢ check.NoMemory → OfPlan contents names (λ s f p. IsCheckFault s f p e)
+IsFaultOf contents (Chart names) (Texts e) = e ≢ check.NoMemory → OfPlan contents names (λ s f p. IsCheckFault s f p e)
+IsFaultOf contents (Table names) (Texts e) = e ≢ check.NoMemory → OfPlan contents names (λ s f p. IsCheckFault s f p e)
+IsFaultOf contents (Fly names) (Run e) = e ≢ flight.NoMemory → OfFlight contents names (λ plan. IsFlightFault plan e)
+IsFaultOf contents (Ask setup requests) (Setup e) = Of contents setup.now (λ s. IsSetupFault s e)
+IsFaultOf contents task fault = ⊥
+
+-- a writer had the first of these bytes, and then the second: what was written between says why the task is refused
+pub record Refuses (contents : Contents) (task : Task) (status : Status) (before after : Option (List ℕ)) : Type 0 where
+  pub fault : Fault
+  pub is : IsFaultOf contents task fault
+  pub printed : Appends before after (refused_line fault)
+  pub status_is : status ≡ Refused
+
+-- the line that says why the program's own input was not read
+abbrev pub refused_input : ReadFault → List ℕ
+refused_input read.NoMemory = codes "refused " ++ refusal_text refusal.NoMemory ++ line_feed ∷ []
+refused_input read.NotRead = codes "refused " ++ refusal_text refusal.NotRead ++ codes " name -" ++ line_feed ∷ []

@@ -1,0 +1,72 @@
+//! What the program says of a refusal on standard error: which file, where in it, what was expected, and what to do.
+
+use crate::fault::Fault;
+use crate::spot::Spot;
+use mm_base::{Refusal, Refused};
+use mm_command_line::{Role, Task};
+use mm_problem::Name;
+use mm_told::Words;
+use std::fmt;
+
+/// What is said of a refusal. It is shown in one line: the file with the place in it, and the words of the refusal.
+#[derive(Clone, Copy)]
+pub(crate) struct Advice<'a> {
+    file: Option<&'a str>,
+    spot: Spot,
+    refusal: Refusal,
+}
+
+impl<'a> Advice<'a> {
+    /// What is said where the fault keeps a task from being done, if the words asked for one.
+    pub(crate) fn of_fault(task: Option<Task<'a>>, fault: Fault<'a>) -> Advice<'a> {
+        let (refusal, spot) = (fault.refusal(), fault.spot());
+        let file = match fault {
+            Fault::NotRead { name } => Some(name),
+            _ => file_of(task, refusal, spot),
+        };
+        Advice {
+            file,
+            spot,
+            refusal,
+        }
+    }
+
+    /// What is said where a run did not begin or was halted.
+    pub(crate) fn of_run(task: Task<'a>, refusal: Refusal) -> Advice<'a> {
+        Advice {
+            file: file_of(Some(task), refusal, Spot::Whole),
+            spot: Spot::Whole,
+            refusal,
+        }
+    }
+}
+
+impl fmt::Display for Advice<'_> {
+    fn fmt<W: fmt::Write>(&self, f: &mut fmt::Formatter<W>) -> fmt::Result {
+        if let Some(file) = self.file {
+            write!(f, "{file}{}: ", self.spot)?;
+        }
+        write!(f, "{}", Words::of(self.refusal))
+    }
+}
+
+// The file of the task that a refusal is about, where it is about one.
+fn file_of<'a>(task: Option<Task<'a>>, refusal: Refusal, spot: Spot) -> Option<&'a str> {
+    task?.file(role_of(refusal, spot)?)
+}
+
+fn role_of(refusal: Refusal, spot: Spot) -> Option<Role> {
+    match (refusal, spot) {
+        (Refusal::Limit, Spot::Number(Name::Steps | Name::Window | Name::Arrivals)) => {
+            Some(Role::Forecast)
+        }
+        (Refusal::SetupText | Refusal::SetupField | Refusal::Limit, _) => Some(Role::Setup),
+        (Refusal::ForecastText | Refusal::Header | Refusal::Cell | Refusal::StepNumber, _) => {
+            Some(Role::Forecast)
+        }
+        (Refusal::PlanText | Refusal::Shape | Refusal::PlanDoesNotFit, _) => Some(Role::Plan),
+        (Refusal::SourcesText | Refusal::OpeningDiffers, _) => Some(Role::Sources),
+        (Refusal::LinksText | Refusal::LinkFailed, _) => Some(Role::Links),
+        _ => None,
+    }
+}

@@ -1,0 +1,102 @@
+//! Why a task is refused.
+ghost use Rattle.std.specs.Prelude.{◌≡◌, Some};
+ghost use Rattle.mm_commands.specs.Faults.{refusal_of, spot_in_texts, spot_in_run, spot_of, fault_text};
+ghost use Rattle.mm_commands.specs.declared.fault.Fault.TheVariants.{Texts, Run, Setup};
+
+use crate::spot::{Fields, Spot, spot_in_plan, spot_in_problem, spot_in_script};
+use mm_base::{Refusal, Refused, refusals};
+use std::fmt;
+
+/// Why a task is refused. It is shown as its number, its name and its fields.
+#[derive(Clone, Copy)]
+pub enum Fault<'a> {
+    NoMemory,
+    /// The file of this name was not read.
+    NotRead { name: &'a str },
+    /// A fault of the texts of a plan or of a verdict on one.
+    Texts(mm_cut::Fault),
+    /// A fault of the texts of a run.
+    Run(mm_run::Fault),
+    /// A fault of the setup of a conversation.
+    Setup(mm_problem::Fault),
+}
+
+impl From<mm_cut::Fault> for Fault<'_> {
+    ghost from_gives = { λ fault e. e ≡ Texts fault };
+
+    fn from(fault: mm_cut::Fault) -> Self {
+        Fault::Texts(fault)
+    }
+}
+
+impl From<mm_run::Fault> for Fault<'_> {
+    ghost from_gives = { λ fault e. e ≡ Run fault };
+
+    fn from(fault: mm_run::Fault) -> Self {
+        Fault::Run(fault)
+    }
+}
+
+impl From<mm_problem::Fault> for Fault<'_> {
+    ghost from_gives = { λ fault e. e ≡ Setup fault };
+
+    fn from(fault: mm_problem::Fault) -> Self {
+        Fault::Setup(fault)
+    }
+}
+
+impl Refused for Fault<'_> {
+    fn refusal(self) -> Refusal {
+        refusals!(self; NoMemory; with NotRead; below Texts, Run, Setup)
+    }
+
+    ghost refusal_of = { refusal_of };
+}
+
+fn spot_in_texts(fault: mm_cut::Fault) -> Spot
+    ensures { result ≡ spot_in_texts fault }
+{
+    match fault {
+        mm_cut::Fault::NoMemory => Spot::Whole,
+        mm_cut::Fault::Problem(fault) => spot_in_problem(fault),
+        mm_cut::Fault::Plan(fault) => spot_in_plan(fault),
+    }
+}
+
+fn spot_in_run(fault: mm_run::Fault) -> Spot
+    ensures { result ≡ spot_in_run fault }
+{
+    match fault {
+        mm_run::Fault::NoMemory => Spot::Whole,
+        mm_run::Fault::Problem(fault) => spot_in_problem(fault),
+        mm_run::Fault::Plan(fault) => spot_in_plan(fault),
+        mm_run::Fault::Script(fault) => spot_in_script(fault),
+    }
+}
+
+impl Fault<'_> {
+    /// Where in its file the fault is.
+    pub(crate) fn spot(self) -> Spot
+        ensures { result ≡ spot_of self.entry }
+    {
+        match self {
+            Fault::NoMemory | Fault::NotRead { .. } => Spot::Whole,
+            Fault::Texts(fault) => spot_in_texts(fault),
+            Fault::Run(fault) => spot_in_run(fault),
+            Fault::Setup(fault) => spot_in_problem(fault),
+        }
+    }
+}
+
+impl fmt::Display for Fault<'_> {
+    ghost output = { λ fault. Some (fault_text fault) };
+
+    fn fmt<W: fmt::Write>(&self, f: &mut fmt::Formatter<W>) -> fmt::Result {
+        let fault = *self;
+        write!(f, "{} {}", fault.number(), fault.name())?;
+        match fault {
+            Fault::NotRead { name } => write!(f, " name {name}"),
+            _ => write!(f, "{}", Fields(fault.spot())),
+        }
+    }
+}

@@ -1,0 +1,187 @@
+//! Where the program's files come from, and how they are read to their end.
+ghost use Rattle.std.specs.Prelude.{◌≡◌, ◌≤◌, ◌<◌, ℕ, List, Option, Some, Bool, true, false, length, IsOk, IfOk, IfErr, IfSome, IsTrue, IsFalse};
+ghost use Rattle.std.specs.Io.{ReadsAtMost};
+ghost use Rattle.std.specs.Io.KnownBytes.{ReadConsumes};
+ghost use Rattle.std.specs.IoError.{error_kind};
+ghost use Rattle.mm_commands.specs.Contents.{Content, MayBe, MayBeUnread, unknown};
+ghost use Rattle.mm_commands.specs.Inputs.{failed_after, is_interrupted};
+ghost use Rattle.mm_commands.specs.ReadFaults.{refusal_of};
+ghost use Rattle.mm_commands.specs.declared.files.ReadFault.TheVariants.{NoMemory, NotRead};
+ghost use Rattle.mm_commands.specs.declared.files.TheConstants.{MAX_READS};
+
+use mm_base::{Refusal, Refused, refusals};
+use std::alloc::Global;
+use std::io::{self, ErrorKind, Read};
+use std::rt;
+use thiserror::Error;
+
+/// The most reads of one file, and the most bytes that it may have.
+pub const MAX_READS: u64 = 1 << 30;
+
+/// How many bytes one read asks for.
+const PIECE: usize = 4096;
+
+/// Why the text of a file is not there.
+#[derive(Clone, Copy, Debug, PartialEq, Eq, Error)]
+pub enum ReadFault {
+    #[error("{}", Refusal::NoMemory)]
+    NoMemory,
+    #[error("{}", Refusal::NotRead)]
+    NotRead,
+}
+
+impl Refused for ReadFault {
+    fn refusal(self) -> Refusal {
+        refusals!(self; NoMemory, NotRead)
+    }
+
+    ghost refusal_of = { refusal_of };
+}
+
+/// Where the bytes of a file come from.
+pub trait Input {
+    /// The bytes that are still to come, where they are known.
+    ghost coming: { Self → Option (List ℕ) };
+
+    /// Whether no read fails.
+    ghost is_sure: { Self → Bool };
+
+    /// Whether a read has failed. One that was interrupted has not.
+    ghost has_failed: { Self → Bool };
+
+    /// Reads some bytes, and none only at the end.
+    fn read(&mut self, piece: &mut [u8]) -> io::Result<usize>
+        ensures bound { ReadsAtMost result piece.new }
+        ensures octets { ReadConsumes (coming self.old) (coming self.new) result piece.new }
+        ensures sure { IsTrue (is_sure self.old) → IsOk result }
+        ensures stays { is_sure self.new ≡ is_sure self.old }
+        ensures failed { has_failed self.new ≡ failed_after (has_failed self.old) result };
+}
+
+impl Input for &[u8] {
+    ghost coming = { λ s. Some s.now };
+
+    ghost is_sure = { λ _. true };
+
+    ghost has_failed = { λ _. false };
+
+    fn read(&mut self, piece: &mut [u8]) -> io::Result<usize> {
+        Read::read(self, piece)
+    }
+}
+
+/// A reader of the system, of which any read may fail.
+#[derive(Drop)]
+pub struct Device<R> {
+    pub reader: R,
+    /// Whether a read has failed. One that was interrupted has not.
+    pub has_failed: bool,
+}
+
+impl<R> Device<R> {
+    pub fn new(reader: R) -> Device<R>
+        ensures { result ≡ record { reader = reader; has_failed = false } }
+    {
+        Device {
+            reader,
+            has_failed: false,
+        }
+    }
+}
+
+impl<R: Read + Drop> Input for Device<R> {
+    ghost coming = { λ s. R.remaining s.reader };
+
+    ghost is_sure = { λ _. false };
+
+    ghost has_failed = { λ s. s.has_failed };
+
+    fn read(&mut self, piece: &mut [u8]) -> io::Result<usize> {
+        match self.reader.read(piece) {
+            Ok(count) => Ok(count),
+            Err(error) => {
+                self.has_failed = !is_interrupted(&error) || self.has_failed;
+                Err(error)
+            }
+        }
+    }
+}
+
+// Whether the read can be made again.
+fn is_interrupted(error: &io::Error) -> bool
+    ensures { result ≡ is_interrupted (error_kind error.now) }
+{
+    matches!(error.kind(), ErrorKind::Interrupted)
+}
+
+/// Files by name.
+pub trait Files {
+    /// What is known of the file of a name.
+    ghost content: { Self → List ℕ → Content };
+
+    /// The whole file; `NotRead` where there is none of this name, it fails, or it does not end in time.
+    fn read(&mut self, alloc: Global, name: &str) -> Result<Vec<u8>, ReadFault>
+        ensures whole { IfOk result (λ text. MayBe (content self.old name.now) text.items) }
+        ensures unread { IfErr result (λ fault. fault ≡ NotRead → MayBeUnread (content self.old name.now)) }
+        ensures stays { content self.new ≡ content self.old };
+}
+
+/// Reads to the end; `NotRead` where a read fails, or the end has not come after 2^30 reads or 2^30 bytes.
+pub fn read_to_end<I: Input>(alloc: Global, input: &mut I) -> Result<Vec<u8>, ReadFault>
+    ensures within { IfOk result (λ text. length text.items ≤ MAX_READS) }
+    ensures whole { IfOk result (λ text. IfSome (I.coming input.old) (λ octets. text.items ≡ octets)) }
+    ensures read { IsTrue (I.is_sure input.old) → IfSome (I.coming input.old)
+        (λ octets. length octets < MAX_READS → IfErr result (λ fault. fault ≡ NoMemory)) }
+    // A read that fails is told as `NotRead`, and as nothing else.
+    ensures failed { IsFalse (I.has_failed input.old) → IsTrue (I.has_failed input.new) → result ≡ Err NotRead }
+{
+    let mut text = Vec::new(alloc);
+    let mut piece = [0u8; PIECE];
+    for _turn in 0..MAX_READS {
+        let count = match input.read(&mut piece) {
+            Ok(count) => count,
+            Err(error) if is_interrupted(&error) => continue,
+            Err(_) => return Err(ReadFault::NotRead),
+        };
+        if count == 0 {
+            return Ok(text);
+        }
+        if count as u64 > MAX_READS - text.len() as u64 {
+            return Err(ReadFault::NotRead);
+        }
+        text.extend_from_slice(&piece[..count])
+            .map_err(|_| ReadFault::NoMemory)?;
+    }
+    Err(ReadFault::NotRead)
+}
+
+// Reads what was opened to its end.
+fn read_opened<R: Read + Drop>(alloc: Global, opened: io::Result<R>) -> Result<Vec<u8>, ReadFault>
+    ensures whole { IfOk opened (λ file. IfOk result (λ text. IfSome (R.remaining file) (λ octets. text.items ≡ octets))) }
+    ensures unopened { IfErr opened (λ error. result ≡ Err NotRead) }
+{
+    match opened {
+        Ok(file) => read_to_end(alloc, &mut Device::new(file)),
+        Err(_) => Err(ReadFault::NotRead),
+    }
+}
+
+/// The files of the system.
+#[derive(Drop)]
+pub struct SystemFiles<'a, R> {
+    runtime: &'a R,
+}
+
+impl<'a, R: rt::Files> SystemFiles<'a, R> {
+    pub fn new(runtime: &'a R) -> SystemFiles<'a, R> {
+        SystemFiles { runtime }
+    }
+}
+
+impl<R: rt::Files> Files for SystemFiles<'_, R> {
+    ghost content = { λ _ _. unknown };
+
+    fn read(&mut self, alloc: Global, name: &str) -> Result<Vec<u8>, ReadFault> {
+        read_opened(alloc, std::fs::open(self.runtime, name))
+    }
+}

@@ -1,0 +1,111 @@
+//! What the program says of an answer on standard error: of a verdict, and of each line that is refused.
+
+use mm_command_line::{Role, Task};
+use mm_cut::Verdict;
+use mm_told::{Finding, Words};
+use std::fmt;
+use std::io::{self, Write};
+
+/// What is said of a verdict that is not `Least`. It is shown in one line: the file of the plan with the place in it, and the words.
+#[derive(Clone, Copy)]
+pub(crate) struct Remark<'a> {
+    plan: &'a str,
+    verdict: Verdict,
+    finding: Finding,
+}
+
+impl<'a> Remark<'a> {
+    /// What is said of the verdict, where it is on a plan in a file and not `Least`.
+    pub(crate) fn of(task: Task<'a>, verdict: Verdict) -> Option<Remark<'a>> {
+        Some(Remark {
+            plan: task.file(Role::Plan)?,
+            verdict,
+            finding: finding_of(verdict)?,
+        })
+    }
+}
+
+impl fmt::Display for Remark<'_> {
+    fn fmt<W: fmt::Write>(&self, f: &mut fmt::Formatter<W>) -> fmt::Result {
+        write!(f, "{}", self.plan)?;
+        match self.verdict {
+            Verdict::DoesNotFit(step) => write!(f, ", step {step}")?,
+            Verdict::BadStretch(place) => write!(f, ", stretch {place}")?,
+            Verdict::BadCount(place) => write!(f, ", count {place}")?,
+            _ => {}
+        }
+        write!(f, ": {}", self.finding.words())
+    }
+}
+
+fn finding_of(verdict: Verdict) -> Option<Finding> {
+    match verdict {
+        Verdict::DoesNotFit(_) => Some(Finding::DoesNotFit),
+        Verdict::LossIs(_) => Some(Finding::LossIs),
+        Verdict::BadStretch(_) => Some(Finding::BadStretch),
+        Verdict::BadCount(_) => Some(Finding::BadCount),
+        Verdict::BoundIs(_) => Some(Finding::BoundIs),
+        Verdict::NotShown { .. } => Some(Finding::NotShown),
+        Verdict::Least(_) => None,
+    }
+}
+
+// The place in its file that a line of an answer tells as refused, with the words of the refusal.
+#[derive(Clone, Copy)]
+struct Refused<'a> {
+    line: &'a str,
+    instruction: Option<&'a str>,
+    words: Words,
+}
+
+impl<'a> Refused<'a> {
+    // What a line of an answer refuses, as `3 refused 49 HexLine` and `3.1 refused 24 Exists` do.
+    fn of(answer: &'a str) -> Option<Refused<'a>> {
+        let (place, refusal) = answer.split_once(" refused ")?;
+        let (number, _) = refusal.split_once(' ')?;
+        let words = Words::of_number(number.parse().ok()?)?;
+        Some(match place.split_once('.') {
+            Some((line, instruction)) => Refused {
+                line,
+                instruction: Some(instruction),
+                words,
+            },
+            None => Refused {
+                line: place,
+                instruction: None,
+                words,
+            },
+        })
+    }
+}
+
+impl fmt::Display for Refused<'_> {
+    fn fmt<W: fmt::Write>(&self, f: &mut fmt::Formatter<W>) -> fmt::Result {
+        write!(f, ", line {}", self.line)?;
+        if let Some(instruction) = self.instruction {
+            write!(f, ", instruction {instruction}")?;
+        }
+        write!(f, ": {}", self.words)
+    }
+}
+
+// The file of requests that a task answers.
+fn requests_of(task: Task<'_>) -> Option<&str> {
+    match task {
+        Task::Ask { requests, .. } => Some(requests),
+        _ => None,
+    }
+}
+
+/// Says what each line means that is refused.
+pub(crate) fn tell_refused<E: Write>(task: Task<'_>, lines: &[u8], err: &mut E) -> io::Result<()> {
+    let (Some(file), Ok(lines)) = (requests_of(task), std::str::from_utf8(lines)) else {
+        return Ok(());
+    };
+    for line in lines.lines() {
+        if let Some(refused) = Refused::of(line) {
+            writeln!(err, "{file}{refused}")?;
+        }
+    }
+    Ok(())
+}

@@ -1,0 +1,108 @@
+//! Scripts: the words of a command line, and then its files, in one text.
+ghost use Rattle.std.specs.Prelude.{◌≡◌, ◌<◌, ◌≤◌, length, bytes_eq, IfOk, IfErr, IfSome, IfNone};
+ghost use Rattle.std.specs.Option.{option_map};
+ghost use Rattle.mm_base.specs.Lines.{text_lines};
+ghost use Rattle.mm_commands.specs.Contents.{MayBe, MayBeUnread, content_of};
+ghost use Rattle.mm_commands.specs.Scripts.{IsFirstLine, is_heading, heading_of, before_heading, script_contents, script_file};
+ghost use Rattle.mm_commands.specs.declared.files.ReadFault.TheVariants.{NoMemory, NotRead};
+
+use crate::files::{Files, ReadFault};
+use mm_base::lines::split_line;
+use std::alloc::Global;
+use std::marker::Model;
+
+/// What the line that begins a file starts with; the rest of the line is the file's name.
+const HEADING: &[u8] = b"=== ";
+
+/// The first line of a text without its LF, and what follows it.
+pub fn first_line(text: &[u8]) -> (&[u8], &[u8])
+    ensures lines { IsFirstLine text.now result.0.now result.1.now }
+    ensures shorter { 1 ≤ length text.now → length result.1.now < length text.now }
+{
+    match split_line(text) {
+        Some(parts) => parts,
+        None => (text, &[]),
+    }
+}
+
+fn is_heading(line: &[u8]) -> bool
+    ensures { result ≡ is_heading line.now }
+{
+    line.starts_with(HEADING)
+}
+
+fn is_heading_of(line: &[u8], name: &[u8]) -> bool
+    ensures { result ≡ bytes_eq line.now (heading_of name.now) }
+{
+    line.strip_prefix(HEADING) == Some(name)
+}
+
+/// The octets before the next heading, or all.
+fn before_heading(text: &[u8]) -> &[u8]
+    ensures { result.now ≡ before_heading (text_lines text.now) }
+{
+    let mut rest = text;
+    while !rest.is_empty() {
+        let (line, after) = first_line(rest);
+        if is_heading(line) {
+            break;
+        }
+        rest = after;
+    }
+    &text[..text.len() - rest.len()]
+}
+
+/// The files of a script. Contracts see the text that they stand in.
+#[derive(Drop)]
+pub struct ScriptFiles<'a> {
+    text: &'a [u8],
+}
+
+impl<'a> Model for ScriptFiles<'a> {
+    ghost use Rattle.std.specs.Prelude.{ℕ, List};
+
+    ghost Value = { List ℕ };
+
+    ghost view = { λ s. s.text.now };
+}
+
+impl<'a> ScriptFiles<'a> {
+    /// The files of a script's text after its first line.
+    pub fn new(text: &'a [u8]) -> ScriptFiles<'a>
+        ensures text { result ≡ text.now }
+    {
+        ScriptFiles { text }
+    }
+
+    /// The first file of this name.
+    #[tactic(auto, using(crate::proofs::ScriptLemmas::found, crate::proofs::ScriptLemmas::not_found), unfolding(crate::specs::Scripts::script_file))]
+    fn find(&self, name: &[u8]) -> Option<&'a [u8]>
+        ensures { option_map (λ octets. octets.now) result ≡ script_file self.now name.now }
+    {
+        let mut rest = self.text;
+        while !rest.is_empty() {
+            let (line, after) = first_line(rest);
+            if is_heading_of(line, name) {
+                return Some(before_heading(after));
+            }
+            rest = after;
+        }
+        None
+    }
+}
+
+impl Files for ScriptFiles<'_> {
+    ghost content = { λ text. script_contents text };
+
+    #[tactic(auto, using(crate::proofs::ScriptLemmas::is_file, crate::proofs::ScriptLemmas::is_no_file))]
+    fn read(&mut self, alloc: Global, name: &str) -> Result<Vec<u8>, ReadFault>
+        ensures whole { IfOk result (λ text. MayBe (content_of (script_file self.old name.now)) text.items) }
+        ensures found { IfSome (script_file self.old name.now) (λ _. IfErr result (λ fault. fault ≡ NoMemory)) }
+        ensures none { IfNone (script_file self.old name.now) (result ≡ Err NotRead) }
+        ensures unread { IfErr result (λ fault. fault ≡ NotRead → MayBeUnread (content_of (script_file self.old name.now))) }
+        ensures stays { self.new ≡ self.old }
+    {
+        let text = self.find(name.as_bytes()).ok_or(ReadFault::NotRead)?;
+        Vec::from_slice(alloc, text).map_err(|_| ReadFault::NoMemory)
+    }
+}

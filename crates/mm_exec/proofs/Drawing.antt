@@ -1,0 +1,51 @@
+-- Draws from a window that is not passed.
+use Rattle.std.proofs.Common.{◌≡◌, ◌⊎◌, inl, inr, ℕ, ◌+◌, ◌<◌, ◌≤◌, cond, eqb, List, [], ◌∷◌, length, get_or, All, refl, sym, ap, ◌∙◌, arith}
+use Rattle.std.specs.List.{sum_by, count_by, range_with_len}
+use Rattle.std.proofs.lemmas.Bool.{cases_lt}
+use Rattle.mm_base.proofs.Tests.{cond-eqb_same, cond-eqb_other}
+use Rattle.mm_base.proofs.RangeSums.{sum_by_range_one, sum_by_range_same, sum_by_range-le}
+use Rattle.mm_base.proofs.Sums.{sum_by-swap, sum_by-same, sum_by_ones}
+use Rattle.mm_problem.specs.Dumping.{Dumping, window}
+use Rattle.mm_plan.specs.Fit.{FitsAt, in_step}
+use Rattle.mm_plan.specs.Volumes.{Amounts}
+use Rattle.mm_store.specs.declared.stored.Stored.{Stored}
+use Rattle.mm_desk.specs.declared.entry.Entry.{Entry}
+use Rattle.mm_exec.specs.StepRuns.{IsDumpOf}
+use Rattle.mm_exec.specs.Draws.{AreDrawsOf, MeetNoRefusal}
+
+-- draws that the window has room for meet no refusal
+with_room : (window drawn : ℕ) (draws : List ℕ) → drawn + length draws ≤ window → MeetNoRefusal window drawn draws
+with_room window drawn [] room = tt
+with_room window drawn (draw ∷ draws) room = (omega arith, with_room window (drawn + 1) draws (omega arith))
+
+-- there are as many draws as those of each store together
+by_store : (n : ℕ) (draws : List ℕ) → All (λ s. s < n) draws → sum_by (λ s. count_by (λ d. eqb d s) draws) (range_with_len 0 n) ≡ length draws
+by_store n draws known =
+    let swapped = sum_by-swap (λ (s d : ℕ). cond (eqb d s) 1 0) (range_with_len 0 n) draws in
+    let ones = sum_by-same (λ (d : ℕ). sum_by (λ (s : ℕ). cond (eqb d s) 1 0) (range_with_len 0 n)) (λ _. 1) draws
+    (λ k d within. one_store (get_or draws k d) (known k d within)) in
+    swapped ∙ ones ∙ sum_by_ones draws
+  where
+    one_store : (d : ℕ) → d < n → sum_by (λ (s : ℕ). cond (eqb d s) 1 0) (range_with_len 0 n) ≡ 1
+    one_store d within =
+        sum_by_range_one (λ (s : ℕ). cond (eqb d s) 1 0) 0 n d (omega arith) (omega arith) (λ s from to other. cond-eqb_other d s 1 (λ same. other (sym same)))
+        ∙ cond-eqb_same d d 1 refl
+
+-- an order is given no more than it wants
+given_within : (wanted : ℕ) (gave : List Stored) (calls : List Entry) → IsDumpOf wanted gave calls → length gave ≤ wanted
+given_within wanted gave calls is = by_wanted (cases_lt 0 wanted)
+  where
+    by_wanted : (0 < wanted) ⊎ (wanted ≤ 0) → length gave ≤ wanted
+    by_wanted (inl some) = (is.whole (omega arith)).1.most
+    by_wanted (inr none) = let nothing = ap length (is.none (omega arith)).0 in omega (arith, nothing)
+
+-- the draws of a step that a plan fits meet no refusal
+pub no_refusal : (q : Dumping) (x : Amounts) (t : ℕ) (gave : ℕ → List Stored) (calls : ℕ → List Entry) (draws : List ℕ)
+    → FitsAt q x t → ((s : ℕ) → s < length q.rows → IsDumpOf (x s t) (gave s) (calls s)) → AreDrawsOf (length q.rows) gave draws
+    → MeetNoRefusal (window q t) 0 draws
+no_refusal q x t gave calls draws fits orders are =
+    let n = length q.rows in
+    let many = by_store n draws are.known in
+    let one_each = sum_by_range_same (λ s. count_by (λ d. eqb d s) draws) (λ s. length (gave s)) 0 n (λ s from to. are.one_each s (omega arith)) in
+    let most = sum_by_range-le (λ s. length (gave s)) (in_step x t) 0 n (λ s from to. given_within (x s t) (gave s) (calls s) (orders s (omega arith))) in
+    with_room (window q t) 0 draws (omega (arith, many, one_each, most, fits.windowed))

@@ -1,0 +1,7 @@
+use Rattle.std.proofs.Common.{◌≡◌, ◌<◌, ℕ, false}
+use Rattle.std.specs.Prelude.{is_some}
+use Rattle.mm_problem.specs.Dumping.{limit}
+use Rattle.mm_exec.proofs.readiness.has_limit.Given as goal
+
+abbrev pub invariant-loop-channel : goal.invariant-loop-channel
+invariant-loop-channel l = (c : ℕ) → c < l.channel → is_some (limit l.problem c) ≡ false

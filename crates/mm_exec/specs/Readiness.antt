@@ -1,0 +1,127 @@
+-- What is tested before a run, in which order.
+use Rattle.std.specs.Prelude.{◌≡◌, ℕ, ◌<◌, ◌≤◌, Bool, true, false, not, ◌&&◌, ◌==◌, ◌⊎◌, List, length, slice_index_or, take, All, Option, Some, None, is_some}
+use Rattle.mm_base.specs.declared.rows.StoreRow.{StoreRow}
+use Rattle.mm_problem.specs.Dumping.{Dumping, row, place, limit}
+use Rattle.mm_plan.specs.Table.{Table, amount, HasShape}
+use Rattle.mm_plan.specs.Fit.{Fits, IsFirstMisfit}
+use Rattle.mm_desk.specs.declared.held.Held.{Held}
+use Rattle.mm_memory.specs.Holdings.{store_of}
+use Rattle.mm_report.specs.declared.cause.Cause.{Cause}
+use Rattle.mm_report.specs.declared.cause.Cause.TheVariants.{PlanShape, NotReady, SizeDiffers, OpeningDiffers, ChannelDiffers, ClockTooLate, PlanDoesNotFit, Counts, NoMemory, LinkFailed, LogMismatch}
+use Rattle.mm_exec.specs.declared.requirement.Requirement.{Requirement}
+use Rattle.mm_exec.specs.declared.requirement.Requirement.TheVariants.{Ready, Size, Opening, Channel}
+use Rattle.mm_report.specs.declared.cause.TheConstants.{LATEST_START, MAX_SOURCES}
+use Rattle.mm_exec.specs.declared.readiness.TheConstants.{MAX_LINKS}
+
+-- whether a store is as its row of the setup needs it: there, with its storage on and no retrieval on; of the row's size; holding the
+-- start volume; on the row's virtual channel
+abbrev pub meets : Requirement → StoreRow → Option Held → Bool
+meets requirement r None = false
+meets Ready r (Some h) = h.state.storage && not (is_some h.state.retrieval)
+meets Size r (Some h) = h.state.store.size == r.size
+meets Opening r (Some h) = length h.state.store.content == r.start
+meets Channel r (Some h) = h.channel == r.channel
+
+-- whether the store at a place of the problem is as it needs to be
+abbrev pub meets_at : Requirement → Dumping → List Held → ℕ → Bool
+meets_at requirement q stores s = meets requirement (row q s) (store_of (row q s).id stores)
+
+-- each store of the problem is as it needs to be
+abbrev pub AllMeet : Requirement → Dumping → List Held → Type 0
+AllMeet requirement q stores = (s : ℕ) → s < length q.rows → meets_at requirement q stores s ≡ true
+
+-- the first store of the problem that is not
+pub record IsFirstMismatch (requirement : Requirement) (q : Dumping) (stores : List Held) (id : List ℕ) : Type 0 where
+  pub place : ℕ
+  pub within : place < length q.rows
+  pub named : id ≡ (row q place).id
+  pub mismatch : meets_at requirement q stores place ≡ false
+  pub before : (s : ℕ) → s < place → meets_at requirement q stores s ≡ true
+
+-- whether a store is none of the problem's
+abbrev pub is_unknown : Dumping → Held → Bool
+is_unknown q h = place q h.id == length q.rows
+
+-- each store is one of the problem's
+abbrev pub NoneUnknown : Dumping → List Held → Type 0
+NoneUnknown q stores = All (λ h. is_unknown q h ≡ false) stores
+
+-- the first store that is none of the problem's
+pub record IsFirstUnknown (q : Dumping) (stores : List Held) (id : List ℕ) : Type 0 where
+  pub at : ℕ
+  pub store : Held
+  pub within : at < length stores
+  pub stands : slice_index_or stores at store ≡ store
+  pub named : id ≡ store.id
+  pub unknown : is_unknown q store ≡ true
+  pub before : All (λ h. is_unknown q h ≡ false) (take at stores)
+
+-- a channel of the problem has a limit
+abbrev pub HasLimit : Dumping → Type 0
+HasLimit q = (c : ℕ) × (c < length q.limits) × (is_some (limit q c) ≡ true)
+
+-- the clock has room for a run
+pub record IsEarly (stores : List Held) (base : ℕ) : Type 0 where
+  pub first : base ≤ LATEST_START
+  pub last_times : All (λ h. h.state.store.last ≤ LATEST_START) stores
+
+-- there are sources and links, and not too many
+pub record AreCounts (sources links : ℕ) : Type 0 where
+  pub some_source : 1 ≤ sources
+  pub few_sources : sources ≤ MAX_SOURCES
+  pub some_link : 1 ≤ links
+  pub few_links : links ≤ MAX_LINKS
+
+-- what a run would begin with: the problem and the plan, the stores, the moment before the first step, and how many sources and links
+-- there are
+pub record RunStart : Type 0 where
+  pub problem : Dumping
+  pub plan : Table
+  pub stores : List Held
+  pub base : ℕ
+  pub sources : ℕ
+  pub links : ℕ
+
+abbrev pub run_start : Dumping → Table → List Held → ℕ → ℕ → ℕ → RunStart
+run_start problem plan stores base sources links =
+    record { problem = problem; plan = plan; stores = stores; base = base; sources = sources; links = links }
+
+-- what holds where all tests up to one of them pass, in their order
+abbrev pub Shaped : RunStart → Type 0
+Shaped o = HasShape o.problem o.plan
+
+abbrev pub AllReady : RunStart → Type 0
+AllReady o = Shaped o × AllMeet Ready o.problem o.stores × NoneUnknown o.problem o.stores
+
+abbrev pub AllSized : RunStart → Type 0
+AllSized o = AllReady o × AllMeet Size o.problem o.stores
+
+abbrev pub AllOpen : RunStart → Type 0
+AllOpen o = AllSized o × AllMeet Opening o.problem o.stores
+
+abbrev pub AllOnChannels : RunStart → Type 0
+AllOnChannels o = AllOpen o × (HasLimit o.problem → AllMeet Channel o.problem o.stores)
+
+abbrev pub InTime : RunStart → Type 0
+InTime o = AllOnChannels o × IsEarly o.stores o.base
+
+abbrev pub Fitting : RunStart → Type 0
+Fitting o = InTime o × Fits o.problem (amount o.plan)
+
+-- all tests pass
+abbrev pub MayBegin : RunStart → Type 0
+MayBegin o = Fitting o × AreCounts o.sources o.links
+
+-- the test of a cause is the first that fails
+abbrev pub Stops : RunStart → Cause → Type 0
+Stops o PlanShape = ¬ Shaped o
+Stops o (NotReady id) = Shaped o × (IsFirstMismatch Ready o.problem o.stores id ⊎ (AllMeet Ready o.problem o.stores × IsFirstUnknown o.problem o.stores id))
+Stops o (SizeDiffers id) = AllReady o × IsFirstMismatch Size o.problem o.stores id
+Stops o (OpeningDiffers id) = AllSized o × IsFirstMismatch Opening o.problem o.stores id
+Stops o (ChannelDiffers id) = AllOpen o × HasLimit o.problem × IsFirstMismatch Channel o.problem o.stores id
+Stops o ClockTooLate = AllOnChannels o × (¬ IsEarly o.stores o.base)
+Stops o (PlanDoesNotFit step) = InTime o × IsFirstMisfit o.problem (amount o.plan) step
+Stops o Counts = Fitting o × (¬ AreCounts o.sources o.links)
+Stops o (NoMemory step) = ⊥
+Stops o (LinkFailed step) = ⊥
+Stops o (LogMismatch step) = ⊥

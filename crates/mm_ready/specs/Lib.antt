@@ -1,2 +1,0 @@
-pub use Rattle.mm_report.specs.Cause
-pub mod Ready

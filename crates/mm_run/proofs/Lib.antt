@@ -1,0 +1,9 @@
+pub mod DraftLemmas
+pub mod FewLemmas
+pub mod GivenLemmas
+pub mod LineLemmas
+pub mod LinkLemmas
+pub mod Picked
+pub mod Endings
+pub mod Offered
+pub mod Limits

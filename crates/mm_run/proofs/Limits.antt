@@ -1,0 +1,16 @@
+-- A run of scripted sources over stores that were offered few packets is within the limits in which no store refuses one.
+use Rattle.std.proofs.Common.{◌≡◌, ℕ, ◌≤◌, ◌^◌, List, arith}
+use Rattle.mm_desk.specs.declared.held.Held.{Held}
+use Rattle.mm_run.specs.Sources.{AreFew}
+use Rattle.mm_run.specs.declared.source.ScriptedSource.{ScriptedSource}
+use Rattle.mm_run.specs.declared.source.TheConstants.{MAX_PACKETS}
+use Rattle.mm_exec.specs.Course.{AreWithinLimits}
+use Rattle.mm_run.specs.Opening.{AreOffered}
+use Rattle.mm_run.specs.Runs.{gives}
+
+pub within_limits : (stores : List Held) (sources : List ScriptedSource) (most : ℕ) → most ≤ 2 ^ 63 → MAX_PACKETS ≡ 65535 → AreOffered most stores → AreFew sources
+    → AreWithinLimits gives stores sources
+within_limits stores sources most fits least offered few step = record {
+  few = λ k d within. let one = few k d within step in omega (arith, one, least);
+  offered = λ k d within. let one = offered k d within in omega (arith, one, fits);
+}

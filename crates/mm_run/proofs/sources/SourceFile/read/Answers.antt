@@ -1,0 +1,15 @@
+use Rattle.std.proofs.Common.{[], arith, refl, sym}
+use Rattle.mm_run.specs.Sources.{source_lines_of}
+use Rattle.mm_run.proofs.FewLemmas.{few_given}
+use Rattle.mm_run.proofs.sources.SourceFile.read.Goals as goal
+
+pub loop-front-init : goal.loop-front-init
+unfolding source_lines_of
+loop-front-init c = record { line = omega arith; earlier = []; read = c.new-draft.ensures; lines = refl }
+
+pub returns-clause-few : goal.returns-clause-few
+returns-clause-few c = few_given c.args.text.now c.loop-front.draft.opening.items c.loop-front.draft.sources.items (
+  c.loop-front.invariant.earlier,
+  sym (rw c.in_default.ensures.lines at c.loop-front.invariant.lines),
+  c.loop-front.invariant.read.lines,
+)

@@ -1,0 +1,17 @@
+use Rattle.std.proofs.Common.{◌≡◌, ◌+◌, ◌≤◌, List, length}
+use Rattle.mm_run.specs.declared.source_line.SourceLine.{SourceLine}
+use Rattle.mm_run.specs.Words.{file_lines}
+use Rattle.mm_run.specs.Sources.{with_lines, source_lines_of}
+use Rattle.mm_run.specs.Drafts.{IsRead}
+use Rattle.mm_run.proofs.sources.SourceFile.read.Given as goal
+
+abbrev pub invariant-loop-front : goal.invariant-loop-front
+invariant-loop-front l = record {
+  line : l.line + length l.rest ≤ 1 + length l.text;
+  earlier : List SourceLine;
+  read : IsRead earlier l.draft;
+  lines : with_lines l.line earlier (file_lines l.rest) ≡ source_lines_of l.text;
+}
+
+abbrev pub decreases-loop-front : goal.decreases-loop-front
+decreases-loop-front l = length l.rest

@@ -1,0 +1,15 @@
+pub mod ScriptFault
+pub mod Words
+pub mod SourceLine
+pub mod Given
+pub mod Sources
+pub mod Drafts
+pub mod LinkView
+pub mod Links
+pub mod Fault
+pub mod Texts
+pub mod Ending
+pub mod Opening
+pub mod Printed
+pub mod Runs
+pub mod Judging

@@ -1,0 +1,23 @@
+-- A link that fails where lines say so.
+use Rattle.std.specs.Prelude.{ℕ, ◌+◌, ◌==◌, Bool, List, [], length}
+use Rattle.std.specs.List.{list_any}
+use Rattle.mm_dump.specs.Sending.{Sent}
+use Rattle.mm_run.specs.declared.link.SentPacket.{SentPacket}
+
+-- which of its sends fail by the lines, counted from 1; what was sent over it; how many sends have failed
+pub record LinkView : Type 0 where
+  pub failing : List ℕ
+  pub sent : List Sent
+  pub failed : ℕ
+
+-- a packet that was sent
+abbrev pub sent_of : SentPacket → Sent
+sent_of x = record { store = x.store; stored = x.stored }
+
+-- nothing was sent, and no send fails
+abbrev pub new_link : LinkView
+new_link = record { failing = []; sent = []; failed = 0 }
+
+-- whether the next send fails by the lines; the number of a send counts those that failed too
+abbrev pub fails_next : LinkView → Bool
+fails_next w = list_any (λ send. send == length w.sent + w.failed + 1) w.failing

@@ -1,0 +1,37 @@
+-- What a run prints.
+use Rattle.std.specs.Prelude.{◌≡◌, ◌⊎◌, ℕ, List, [], ◌++◌, Option, Some, None}
+use Rattle.mm_base.specs.declared.refusal.Refusal.TheVariants as refusal
+use Rattle.mm_report.specs.Cause.{refusal_of}
+use Rattle.mm_report.specs.Report.{Reported}
+use Rattle.mm_report.specs.Text.{report_text}
+use Rattle.mm_report.specs.declared.cause.Cause.{Cause}
+use Rattle.mm_run.specs.declared.printed.Outcome.TheVariants.{CarriedOut, Stopped}
+use Rattle.mm_run.specs.declared.printed.Printed.{Printed}
+use Rattle.mm_run.specs.Ending.{step_of, end_line, lacking_line}
+
+-- the text that is printed: the plan text, where the plan was made here, then the report, then the last line
+abbrev pub text_of : Printed → List ℕ
+text_of p = p.sheet.items ++ p.report.items ++ p.end.items
+
+-- the report is printed, or stands for a report for whose text there is no memory
+abbrev pub TellsReport : Reported → List ℕ → Type 0
+TellsReport report text = (text ≡ report_text report) ⊎ (text ≡ lacking_line)
+
+-- a run that was carried out has its report printed, and nothing after it
+pub record TellsAll (sheet : List ℕ) (report : Reported) (p : Printed) : Type 0 where
+  pub sheet_is : p.sheet.items ≡ sheet
+  pub end_is : p.end.items ≡ []
+  pub report_is : ((p.report.items ≡ report_text report) × (p.outcome ≡ CarriedOut))
+      ⊎ ((p.report.items ≡ lacking_line) × (p.outcome ≡ Stopped refusal.NoMemory))
+
+-- a run that was halted has its report printed, and one that did not begin has none
+abbrev pub TellsOf : Option ℕ → Reported → List ℕ → Type 0
+TellsOf (Some step) report text = TellsReport report text
+TellsOf None report text = text ≡ []
+
+-- a run that was not carried out whole has the last line printed that says why
+pub record TellsEnd (sheet : List ℕ) (cause : Cause) (report : Reported) (p : Printed) : Type 0 where
+  pub sheet_is : p.sheet.items ≡ sheet
+  pub end_is : p.end.items ≡ end_line cause
+  pub report_is : TellsOf (step_of cause) report p.report.items
+  pub outcome_is : p.outcome ≡ Stopped (refusal_of cause)

@@ -1,0 +1,40 @@
+-- What the texts of a run say.
+use Rattle.std.specs.Prelude.{◌≡◌, ◌⊎◌, ℕ, List, Ok, Err}
+use Rattle.mm_problem.specs.Document.{setup_of}
+use Rattle.mm_problem.specs.Dumping.{Dumping}
+use Rattle.mm_problem.specs.Forecast.{problem_of}
+use Rattle.mm_problem.specs.Setup.{SetupRows}
+use Rattle.mm_problem.specs.declared.fault.Fault.{Fault as ProblemFault}
+use Rattle.mm_problem.specs.declared.fault.Fault.TheVariants as problem
+use Rattle.mm_packet.specs.Packet.{SpacePacket}
+use Rattle.mm_problem.specs.Texts.{problem_in}
+use Rattle.mm_memory.specs.Holdings.{Holdings, memory_of}
+use Rattle.mm_run.specs.Links.{linked_of, SaysLinks}
+use Rattle.mm_run.specs.Sources.{source_lines_of, Says}
+use Rattle.mm_run.specs.declared.source_line.SourceLine.{SourceLine}
+use Rattle.mm_run.specs.declared.script_fault.ScriptFault.{ScriptFault}
+use Rattle.mm_run.specs.declared.script_fault.ScriptFault.TheVariants as script
+use Rattle.mm_run.specs.declared.link.ScriptedLink.{ScriptedLink}
+use Rattle.mm_run.specs.declared.source.ScriptedSource.{ScriptedSource}
+
+-- the setup and the forecast say this problem, and this memory is the setup's
+pub record SaysProblemAndMemory (setup forecast : List ℕ) (problem : Dumping) (memory : Holdings) : Type 0 where
+  pub rows : SetupRows
+  pub setup_says : setup_of setup ≡ Ok rows
+  pub forecast_says : problem_of rows forecast ≡ Ok problem
+  pub memory_is : memory ≡ memory_of rows
+
+-- the sources and the links say these packets of step 0, these sources and these links
+pub record SaysSourcesAndLinks (sources_text links_text : List ℕ) (opening : List SpacePacket) (sources : List ScriptedSource) (links : List ScriptedLink) : Type 0 where
+  pub sources_say : Says sources_text opening sources
+  pub links_say : SaysLinks links_text links
+
+-- the first fault of the sources and then of the links; want of memory is none
+abbrev pub IsScriptFault : List ℕ → List ℕ → ScriptFault → Type 0
+IsScriptFault sources links script.NoMemory = ⊥
+IsScriptFault sources links e = (source_lines_of sources ≡ Err e) ⊎ ((source_lines : List SourceLine) × (source_lines_of sources ≡ Ok source_lines) × (linked_of links ≡ Err e))
+
+-- the first fault of the setup and then of the forecast; want of memory is none
+abbrev pub IsProblemFault : List ℕ → List ℕ → ProblemFault → Type 0
+IsProblemFault setup forecast problem.NoMemory = ⊥
+IsProblemFault setup forecast e = problem_in setup forecast ≡ Err e

@@ -1,0 +1,32 @@
+//! Runs from bytes to bytes: what the commands `run` and `fly` read and print, with sources and links that do what a text says.
+#![tactic(auto)]
+
+mod ending;
+mod fault;
+mod fly;
+pub mod laws;
+mod link;
+mod links;
+mod opening;
+mod packet;
+mod printed;
+mod run;
+mod script_fault;
+mod source;
+mod source_line;
+mod sources;
+mod texts;
+mod words;
+
+pub use fault::Fault;
+pub use fly::fly_bytes;
+pub use link::{ScriptedLink, SentPacket};
+pub use links::{Failing, MAX_SEND, MAX_WRITTEN, read_links};
+pub use mm_base::NoMemory;
+pub use printed::{Outcome, Printed};
+pub use run::run_bytes;
+pub use script_fault::ScriptFault;
+pub use source::{MAX_PACKETS, ScriptedSource};
+pub use source_line::{MAX_SOURCES, SourceLine};
+pub use sources::SourceFile;
+pub use texts::RunTexts;

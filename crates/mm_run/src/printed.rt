@@ -1,0 +1,119 @@
+//! What a run prints.
+ghost use Rattle.std.specs.Prelude.{◌≡◌, [], IfOk};
+ghost use Rattle.mm_report.specs.declared.cause.Cause.{Cause};
+
+use crate::ending::{push_end, push_lacking, step_of};
+use mm_base::{NoMemory, Refusal, Refused};
+use mm_report::{Cause, Report};
+use std::alloc::Global;
+
+/// Whether a run was carried out whole and its report printed.
+#[derive(Clone, Copy, Debug, PartialEq, Eq)]
+pub enum Outcome {
+    CarriedOut,
+    /// The run did not begin, or was halted, or there is no memory for the report.
+    Stopped(Refusal),
+}
+
+/// What a run prints: three texts, one after the other.
+#[derive(Debug, Drop)]
+pub struct Printed {
+    /// The plan text, where the plan was made here.
+    pub sheet: Vec<u8>,
+    /// The report, and nothing where the run did not begin.
+    pub report: Vec<u8>,
+    /// The line on why the run did not begin or was halted, where one of these is so.
+    pub end: Vec<u8>,
+    pub outcome: Outcome,
+}
+
+/// Room for the lines that are printed where there is no memory any more.
+#[derive(Drop)]
+pub(crate) struct ReservedLines {
+    report: Vec<u8>,
+    end: Vec<u8>,
+}
+
+// The longest of these lines have fewer octets.
+const LINE: usize = 64;
+
+impl ReservedLines {
+    pub(crate) fn new(alloc: Global) -> Result<ReservedLines, NoMemory>
+        ensures report { IfOk result (λ reserved. reserved.report.items ≡ []) }
+        ensures end { IfOk result (λ reserved. reserved.end.items ≡ []) }
+    {
+        Ok(ReservedLines {
+            report: Vec::with_capacity(alloc, LINE)?,
+            end: Vec::with_capacity(alloc, LINE)?,
+        })
+    }
+}
+
+impl Printed {
+    ghost use Rattle.mm_run.specs.Printed.{TellsAll, TellsEnd};
+
+    /// What a run prints that was carried out.
+    pub(crate) fn whole(
+        alloc: Global,
+        sheet: Vec<u8>,
+        reserved: ReservedLines,
+        report: &Report,
+    ) -> Result<Printed, NoMemory>
+        requires empty { reserved.report.items ≡ [] }
+        requires no_end { reserved.end.items ≡ [] }
+        ensures { IfOk result (TellsAll sheet.items report.now) }
+    {
+        let ReservedLines {
+            report: mut lacking,
+            end,
+        } = reserved;
+        match report.text(alloc) {
+            Ok(report) => Ok(Printed {
+                sheet,
+                report,
+                end,
+                outcome: Outcome::CarriedOut,
+            }),
+            Err(NoMemory) => {
+                push_lacking(&mut lacking)?;
+                Ok(Printed {
+                    sheet,
+                    report: lacking,
+                    end,
+                    outcome: Outcome::Stopped(Refusal::NoMemory),
+                })
+            }
+        }
+    }
+
+    /// What a run prints that did not begin, or was halted.
+    pub(crate) fn stopped(
+        alloc: Global,
+        sheet: Vec<u8>,
+        reserved: ReservedLines,
+        cause: &Cause,
+        report: &Report,
+    ) -> Result<Printed, NoMemory>
+        requires empty { reserved.report.items ≡ [] }
+        requires no_end { reserved.end.items ≡ [] }
+        ensures { IfOk result (TellsEnd sheet.items cause.now report.now) }
+    {
+        let ReservedLines {
+            report: mut told,
+            mut end,
+        } = reserved;
+        if step_of(cause).is_some() {
+            match report.text(alloc) {
+                Ok(text) => told = text,
+                Err(NoMemory) => push_lacking(&mut told)?,
+            }
+        }
+        push_end(&mut end, cause)?;
+        Ok(Printed {
+            sheet,
+            report: told,
+            end,
+            outcome: Outcome::Stopped(cause.refusal()),
+        })
+    }
+}

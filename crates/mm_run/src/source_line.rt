@@ -1,0 +1,46 @@
+//! The lines of a text of sources.
+ghost use Rattle.std.specs.Prelude.{◌≡◌, ◌≤◌, IfOk};
+ghost use Rattle.mm_base.specs.Reading.{Gives};
+ghost use Rattle.mm_run.specs.SourceLine.{source_line_at, IsSourceLine};
+ghost use Rattle.mm_run.specs.declared.script_fault.ScriptFault.TheVariants.{NoMemory};
+
+use crate::packet::packet_in;
+use crate::script_fault::ScriptFault;
+use crate::words::{cut_word, number_in};
+use mm_base::MAX_STEPS;
+use mm_packet::BlockPacket;
+use std::alloc::Global;
+
+/// The greatest number of a source.
+pub const MAX_SOURCES: u8 = 8;
+
+/// A packet that a source gives in a step: what a line says. Step 0 is before the run.
+#[derive(Debug, Drop)]
+pub struct SourceLine {
+    /// The number of the source, counted from 1.
+    pub source: u8,
+    pub step: u32,
+    pub packet: BlockPacket,
+}
+
+/// What a line `source step HEX` says.
+#[tactic(auto, unfolding(crate::specs::SourceLine::source_line_at))]
+pub(crate) fn source_line_at(
+    alloc: Global,
+    bad: ScriptFault,
+    line: &[u8],
+) -> Result<SourceLine, ScriptFault>
+    ensures source_line { Gives NoMemory (λ source_line. source_line) result (source_line_at bad line.now) }
+    ensures in_range { IfOk result IsSourceLine }
+{
+    let (source, rest) = cut_word(line).ok_or(bad)?;
+    let source = number_in(bad, 1, u64::from(MAX_SOURCES), source)?;
+    let (step, digits) = cut_word(rest).ok_or(bad)?;
+    let step = number_in(bad, 0, u64::from(MAX_STEPS), step)?;
+    let packet = packet_in(alloc, bad, digits)?;
+    Ok(SourceLine {
+        source: source as u8,
+        step: step as u32,
+        packet,
+    })
+}

@@ -1,0 +1,161 @@
+//! Texts of sources.
+ghost use Rattle.std.specs.Prelude.{◌≡◌, ◌≢◌, ◌+◌, ◌-◌, ◌≤◌, ◌<◌, ◌∷◌, ◌++◌, [], ℕ, List, length, max, slice_index_or, slice_set, IfOk, IfErr, OnOk, MatchResult};
+ghost use Rattle.mm_base.specs.Reading.{IfRefused};
+ghost use Rattle.mm_run.specs.declared.source_line.SourceLine.{SourceLine};
+ghost use Rattle.mm_base.specs.declared.limits.TheConstants.{MAX_STEPS};
+ghost use Rattle.mm_run.specs.declared.source.TheConstants.{MAX_PACKETS};
+ghost use Rattle.mm_run.specs.Sources.{given, Says, AreFew, source_lines_of};
+
+use crate::script_fault::ScriptFault;
+use crate::source::{MAX_PACKETS, ScriptedSource};
+use crate::source_line::{MAX_SOURCES, SourceLine, source_line_at};
+use crate::words::first_line;
+use mm_base::NoMemory;
+use mm_packet::BlockPacket;
+use std::alloc::Global;
+
+/// What a text of sources says.
+#[derive(Drop)]
+pub struct SourceFile {
+    /// The packets of step 0, before the run, in the order of the lines.
+    pub opening: Vec<BlockPacket>,
+    /// The sources, from number 1 to the greatest number of a line.
+    pub sources: Vec<ScriptedSource>,
+}
+
+// What the lines so far say, and how many of them are of step 0 for each source.
+#[derive(Drop)]
+struct Draft {
+    opening: Vec<BlockPacket>,
+    opened: [u32; MAX_SOURCES as usize],
+    sources: Vec<ScriptedSource>,
+}
+
+// Adds sources that give nothing until there are this many.
+fn reach(alloc: Global, sources: &mut Vec<ScriptedSource>, count: usize) -> Result<(), NoMemory>
+    ensures count { OnOk result (length sources.new.items ≡ max (length sources.old.items) count) }
+    ensures given { OnOk result ((s t : ℕ) → given sources.new.items s t ≡ given sources.old.items s t) }
+{
+    while sources.len() < count {
+        sources.push(ScriptedSource::new(alloc)?)?;
+    }
+    Ok(())
+}
+
+// Adds a packet of step 0 of a source, which had this many.
+fn open(
+    opening: &mut Vec<BlockPacket>,
+    opened: u32,
+    bad: ScriptFault,
+    packet: BlockPacket,
+) -> Result<(), ScriptFault>
+    ensures room { OnOk result (opened < MAX_PACKETS) }
+    ensures packet { OnOk result (opening.new.items ≡ opening.old.items ++ packet ∷ []) }
+    ensures full { IfErr result (λ e. e ≢ ScriptFault.NoMemory → (e ≡ bad) × (MAX_PACKETS ≤ opened)) }
+{
+    if opened >= MAX_PACKETS {
+        return Err(bad);
+    }
+    let Ok(()) = opening.push(packet) else {
+        return Err(ScriptFault::NoMemory);
+    };
+    Ok(())
+}
+
+// Adds a packet of a later step.
+fn give(
+    source: &mut ScriptedSource,
+    bad: ScriptFault,
+    step: u32,
+    packet: BlockPacket,
+) -> Result<(), ScriptFault>
+    requires { step ≤ MAX_STEPS }
+    ensures step { OnOk result (step < length source.old) }
+    ensures room { OnOk result (length (slice_index_or source.old step []) < MAX_PACKETS) }
+    ensures packet { OnOk result (source.new
+        ≡ slice_set source.old step (slice_index_or source.old step [] ++ packet ∷ [])) }
+    ensures full { IfErr result (λ e. e ≢ ScriptFault.NoMemory
+        → (e ≡ bad) × (MAX_PACKETS ≤ length (slice_index_or source.old step []))) }
+{
+    if source.count(step) >= MAX_PACKETS {
+        return Err(bad);
+    }
+    source.add(step, packet)?;
+    Ok(())
+}
+
+impl Draft {
+    ghost use Rattle.mm_run.specs.SourceLine.{IsSourceLine};
+    ghost use Rattle.mm_run.specs.Sources.{with_source_line, with_line};
+    ghost use Rattle.mm_run.specs.Drafts.{IsRead, Adds};
+
+    fn new(alloc: Global) -> Draft
+        ensures { IsRead [] result }
+    {
+        Draft {
+            opening: Vec::new(alloc),
+            opened: [0; MAX_SOURCES as usize],
+            sources: Vec::new(alloc),
+        }
+    }
+
+    // Adds what a line says, where there is room for it.
+    fn add(
+        &mut self,
+        alloc: Global,
+        bad: ScriptFault,
+        source_line: SourceLine,
+    ) -> Result<(), ScriptFault>
+        requires { IsSourceLine source_line }
+        ensures { (earlier : List SourceLine) → IsRead earlier self.old → Adds (with_source_line bad earlier source_line) self.new result }
+    {
+        let SourceLine {
+            source,
+            step,
+            packet,
+        } = source_line;
+        reach(alloc, &mut self.sources, usize::from(source))?;
+        let place = usize::from(source) - 1;
+        if step == 0 {
+            open(&mut self.opening, self.opened[place], bad, packet)?;
+            self.opened[place] += 1;
+        } else {
+            give(&mut self.sources[place], bad, step, packet)?;
+        }
+        Ok(())
+    }
+
+    // Adds a line, where it is what stands there.
+    fn take(&mut self, alloc: Global, bad: ScriptFault, line: &[u8]) -> Result<(), ScriptFault>
+        ensures { (earlier : List SourceLine) → IsRead earlier self.old → Adds (with_line bad earlier line.now) self.new result }
+    {
+        let source_line = source_line_at(alloc, bad, line)?;
+        self.add(alloc, bad, source_line)
+    }
+}
+
+impl SourceFile {
+    /// What a text says, of which each line is `source step HEX`. Otherwise `SourcesText` with the first line, from
+    /// 1, that is of another form, whose packet is refused, too long or followed by octets, or that is the 65,536th
+    /// of its source and step.
+    pub fn read(alloc: Global, text: &[u8]) -> Result<SourceFile, ScriptFault>
+        ensures found { IfOk result (λ read. Says text.now read.opening.items read.sources.items) }
+        ensures few { IfOk result (λ read. AreFew read.sources.items) }
+        ensures refused { IfRefused ScriptFault.NoMemory result (λ e. source_lines_of text.now ≡ Err e) }
+    {
+        let mut draft = Draft::new(alloc);
+        let mut rest = text;
+        let mut line: u64 = 1;
+        while let Some((front, after)) = first_line(rest) {
+            draft.take(alloc, ScriptFault::SourcesText { line }, front)?;
+            rest = after;
+            line += 1;
+        }
+        let Draft {
+            opening,
+            sources,
+            ..
+        } = draft;
+        Ok(SourceFile { opening, sources })
+    }
+}

@@ -1,5 +1,0 @@
-pub mod Replays
-pub mod Times
-pub mod Stepping
-pub mod Adding
-pub mod Drawing

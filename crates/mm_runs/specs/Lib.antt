@@ -1,4 +1,0 @@
-pub mod StepRuns
-pub mod Numbers
-pub mod Draws
-pub mod Laws

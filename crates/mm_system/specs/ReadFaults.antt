@@ -1,9 +1,0 @@
--- Which refusal each reason is for which a file is not read.
-use Rattle.mm_base.specs.declared.refusal.Refusal.{Refusal}
-use Rattle.mm_base.specs.declared.refusal.Refusal.TheVariants as refusal
-use Rattle.mm_system.specs.declared.files.ReadFault.{ReadFault}
-use Rattle.mm_system.specs.declared.files.ReadFault.TheVariants.{NoMemory, NotRead}
-
-abbrev pub refusal_of : ReadFault → Refusal
-refusal_of NoMemory = refusal.NoMemory
-refusal_of NotRead = refusal.NotRead

@@ -1,4 +1,0 @@
-pub mod Answers
-pub mod Spots
-pub mod Faults
-pub mod Refusing
