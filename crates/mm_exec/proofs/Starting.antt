@@ -32,7 +32,7 @@ use Rattle.mm_exec.specs.declared.requirement.Requirement.TheVariants.{Ready, Si
 use Rattle.mm_exec.specs.Readiness.{RunStart, run_start, MayBegin, AllMeet, NoneUnknown, is_unknown, meets, meets_at, IsEarly, AreCounts}
 use Rattle.mm_exec.proofs.Replays.{All-unmapped}
 use Rattle.mm_exec.specs.Laws.{RunsLoseAsPlanned}
-use Rattle.mm_exec.specs.Planned.{IsReady}
+use Rattle.mm_exec.specs.AsPlanned.{IsReady}
 use Rattle.mm_exec.specs.declared.room.RunBuffers.{RunBuffers}
 use Rattle.mm_exec.specs.Places.{IsPlaceOf, ArePlaces}
 use Rattle.mm_exec.specs.RunInput.{RunInput, run_input}
