@@ -46,7 +46,7 @@ use Rattle.mm_exec.proofs.Ordered.{may_order, wanted_in_all}
 use Rattle.mm_exec.proofs.StepMore.{Footing, done_on}
 use Rattle.mm_exec.proofs.Parts.{as_many, same_ids, as_many_sources}
 use Rattle.mm_exec.proofs.Placing.{no_held, places_differ, places_cut}
-use Rattle.mm_exec.proofs.Ready.{AllFar, state_holds}
+use Rattle.mm_exec.proofs.StoresReady.{AllFar, state_holds}
 
 -- what the tests before a run have shown
 pub record Begun (o : RunStart) : Type 0 where

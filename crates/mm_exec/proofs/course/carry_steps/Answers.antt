@@ -9,7 +9,7 @@ use Rattle.mm_exec.specs.Step.{run_state, StepBroke}
 use Rattle.mm_exec.specs.Steps.{StepsDone}
 use Rattle.mm_exec.proofs.Ordered.{orders_are}
 use Rattle.mm_exec.proofs.Parts.{stopped_of}
-use Rattle.mm_exec.proofs.Ready.{AllFar, far_after, takes_all}
+use Rattle.mm_exec.proofs.StoresReady.{AllFar, far_after, takes_all}
 use Rattle.mm_exec.proofs.Starting.{begun_of, footing_here, places_many, all_ready, done_first, done_at, may_report, in_hand, bound_at, bound_more, bound_within, early_at, far_first, still_few}
 use Rattle.mm_exec.proofs.course.carry_steps.Goals as goal
 
