@@ -10,3 +10,5 @@ pub mod ForecastCells
 pub mod ForecastRows
 pub mod ForecastLaws
 pub mod ForecastTexts
+pub mod DataLaws
+pub mod RestLaws

@@ -21,7 +21,7 @@ use Rattle.mm_base.specs.Kind.{word_of}
 use Rattle.mm_problem.specs.ReadableSetup.{SaysText, SaysNumberIfAny, SaysStore, SaysRoute, SaysLimit, IsTableOf}
 use Rattle.mm_problem.specs.Setup.{IsStoreRow, HaveOtherIds, IsRouteRow, IsLimitRow, HaveOtherChannels}
 use Rattle.mm_base.specs.SameRoutes.{same_route}
-use Rattle.mm_problem.specs.Tables.{store_keys, route_keys, limit_keys, kind_of, kind_at, start_from, store_at, next_store, route_at, next_route, limit_at, next_limit}
+use Rattle.mm_problem.specs.Tables.{store_keys, route_keys, limit_keys, kind_of, kind_at, start_from, store_at, new_store, next_store, route_at, next_route, limit_at, new_limit, next_limit}
 use Rattle.mm_problem.proofs.FieldLaws.{table_said, has_only_decides, found_decides, text_said, id_said, id_read, number_said, number_read}
 use Rattle.mm_problem.proofs.ReadingSteps.{bind_ok, test_ok, ok_or_ok, ok_same}
 use Rattle.mm_problem.proofs.RowLaws.{IsNext}
@@ -159,6 +159,10 @@ store_read row d r h fits =
       start_from_read row r.size h.members r.start (value_at name.Start h.members) refl says.start fits.start,
     ) refl
 
+-- a store that passes the test has an identifier of its own
+pub new_store_said : (earlier : List StoreRow) (row : StoreRow) (u : Unit {0}) → new_store earlier row ≡ Ok u → All (λ e. HaveOtherIds e row) earlier
+new_store_said earlier row u new = (none_decides (λ e. bytes_eq e.id row.id) (λ e. e.id ≡ row.id) (λ e. bytes_eq-Decides e.id row.id) earlier).0 (test_ok _ _ _ new)
+
 -- a store that is read next is new
 pub next_store_said : (earlier : List StoreRow) (d : Data) (r : StoreRow) → next_store earlier d ≡ Ok r → IsNext (IsTableOf SaysStore) IsStoreRow HaveOtherIds earlier d r
 unfolding next_store
@@ -170,7 +174,7 @@ next_store_said earlier d r h =
     subst (IsNext (IsTableOf SaysStore) IsStoreRow HaveOtherIds earlier d) same (record {
       says = facts.0;
       fits = facts.1;
-      new = (none_decides (λ e. bytes_eq e.id row.id) (λ e. e.id ≡ row.id) (λ e. bytes_eq-Decides e.id row.id) earlier).0 (test_ok _ _ _ new);
+      new = new_store_said earlier row u new;
     })
 
 -- a new store is read next
@@ -282,6 +286,10 @@ limit_read row d r h fits = rw (
   number_read row name.Blocks h.members 0 MAX_BLOCKS r.blocks h.says.blocks (omega arith) fits.blocks,
 ) refl
 
+-- a limit that passes the test is of a channel of its own
+pub new_limit_said : (earlier : List LimitRow) (row : LimitRow) (u : Unit {0}) → new_limit earlier row ≡ Ok u → All (λ e. HaveOtherChannels e row) earlier
+new_limit_said earlier row u new = (none_decides (λ e. e.channel == row.channel) (λ e. e.channel ≡ row.channel) (λ e. Decides-eqb e.channel row.channel) earlier).0 (test_ok _ _ _ new)
+
 -- a limit that is read next is of a new channel
 pub next_limit_said : (earlier : List LimitRow) (d : Data) (r : LimitRow) → next_limit earlier d ≡ Ok r → IsNext (IsTableOf SaysLimit) IsLimitRow HaveOtherChannels earlier d r
 unfolding next_limit
@@ -293,7 +301,7 @@ next_limit_said earlier d r h =
     subst (IsNext (IsTableOf SaysLimit) IsLimitRow HaveOtherChannels earlier d) same (record {
       says = facts.0;
       fits = facts.1;
-      new = (none_decides (λ e. e.channel == row.channel) (λ e. e.channel ≡ row.channel) (λ e. Decides-eqb e.channel row.channel) earlier).0 (test_ok _ _ _ new);
+      new = new_limit_said earlier row u new;
     })
 
 -- a limit of a new channel is read next

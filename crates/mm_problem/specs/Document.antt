@@ -40,12 +40,20 @@ pub record AreCounted (lists : Lists) : Type 0 where
   pub routes : length lists.routes ≤ MAX_ROUTES
   pub limits : length lists.limits ≤ CHANNELS
 
+-- the test of how many stores there are
+abbrev pub stores_counted : ℕ → Result (Unit {0}) Fault
+stores_counted n = test (nat_le 1 n && nat_le n MAX_STORES) (Limit name.Stores)
+
+-- the test of how many limits there are
+abbrev pub limits_counted : ℕ → Result (Unit {0}) Fault
+limits_counted n = test (nat_le n CHANNELS) (Limit name.Limits)
+
 -- the tests of these counts
 unfoldable pub counts_of : Lists → Result (Unit {0}) Fault
 counts_of lists = do
-  stores ← test (nat_le 1 (length lists.stores) && nat_le (length lists.stores) MAX_STORES) (Limit name.Stores)
+  stores ← stores_counted (length lists.stores)
   routes ← test (nat_le (length lists.routes) MAX_ROUTES) (Limit name.Routes)
-  test (nat_le (length lists.limits) CHANNELS) (Limit name.Limits)
+  limits_counted (length lists.limits)
 
 -- the rows of all tables
 unfoldable pub rows_of : Lists → Result SetupRows Fault

@@ -41,11 +41,19 @@ arrivals_in row earlier column (cell ∷ cells) = do
   amount ← amount_of row column name.Arrivals cell
   arrivals_in row (earlier ++ amount ∷ []) (column + 1) cells
 
+-- the test that a step may follow this many
+abbrev pub another_step : ℕ → Result (Unit {0}) Fault
+another_step earlier = test (nat_lt earlier MAX_STEPS) (Limit name.Steps)
+
+-- the test that there is a step
+abbrev pub some_step : ℕ → Result (Unit {0}) Fault
+some_step steps = test (nat_le 1 steps) (Limit name.Steps)
+
 -- these steps, and the one of the next record
 unfoldable pub next_step : ℕ → Steps → Fields → Result Steps Fault
 next_step stores earlier fields = do
   as_long ← test (length fields == stores + 2) ForecastText
-  not_too_many ← test (nat_lt (length earlier.windows) MAX_STEPS) (Limit name.Steps)
+  not_too_many ← another_step (length earlier.windows)
   numbered ← step_of (length earlier.windows + 1) (cell_of fields 0)
   window ← amount_of (length earlier.windows + 1) 2 name.Window (cell_of fields 1)
   arrived ← arrivals_in (length earlier.windows + 1) earlier.arrived 3 (drop 2 fields)
@@ -64,7 +72,7 @@ no_steps = record { windows = []; arrived = [] }
 -- these steps, of which there has to be one
 unfoldable pub some_steps : Steps → Result Steps Fault
 some_steps steps = do
-  some ← test (nat_le 1 (length steps.windows)) (Limit name.Steps)
+  some ← some_step (length steps.windows)
   Ok steps
 
 -- the steps that records say, of which the first is the header

@@ -11,6 +11,8 @@ pub mod Records
 pub mod Forecast
 pub mod StepLists
 pub mod Dumping
+pub mod Data
+pub mod Rest
 pub mod Texts
 pub mod ReadableForecast
 pub mod Laws

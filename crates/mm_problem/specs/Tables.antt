@@ -85,11 +85,15 @@ store_at row d = do
 abbrev pub has_store : List StoreRow → List ℕ → Bool
 has_store stores id = list_any (λ r. bytes_eq r.id id) stores
 
+-- the test that no store so far has the row's identifier
+abbrev pub new_store : List StoreRow → StoreRow → Result (Unit {0}) Fault
+new_store earlier row = test (not (has_store earlier row.id)) (SetupField (length earlier + 1) name.Repeated)
+
 -- the store after these earlier ones
 unfoldable pub next_store : List StoreRow → Data → Result StoreRow Fault
 next_store earlier d = do
   row ← store_at (length earlier + 1) d
-  new ← test (not (has_store earlier row.id)) (SetupField (length earlier + 1) name.Repeated)
+  new ← new_store earlier row
   Ok row
 
 -- the stores of these tables
@@ -128,11 +132,15 @@ limit_at row d = do
   blocks ← number_at row name.Blocks 0 MAX_BLOCKS ms
   Ok (record { channel = channel; blocks = blocks })
 
+-- the test that no limit so far is of the row's channel
+abbrev pub new_limit : List LimitRow → LimitRow → Result (Unit {0}) Fault
+new_limit earlier row = test (not (list_any (λ r. r.channel == row.channel) earlier)) (SetupField (length earlier + 1) name.Repeated)
+
 -- the limit after these earlier ones
 unfoldable pub next_limit : List LimitRow → Data → Result LimitRow Fault
 next_limit earlier d = do
   row ← limit_at (length earlier + 1) d
-  new ← test (not (list_any (λ r. r.channel == row.channel) earlier)) (SetupField (length earlier + 1) name.Repeated)
+  new ← new_limit earlier row
   Ok row
 
 -- the limits of these tables

@@ -4,7 +4,7 @@ ghost use Rattle.std.specs.Option.{ok_or};
 ghost use Rattle.toml.specs.Parse.{parse_document};
 ghost use Rattle.toml.specs.View.{table_view};
 ghost use Rattle.mm_problem.specs.Arrays.{lists_of};
-ghost use Rattle.mm_problem.specs.Document.{text_of, document_of, lists_at, counts_of, AreCounted};
+ghost use Rattle.mm_problem.specs.Document.{text_of, document_of, lists_at, stores_counted, limits_counted, counts_of, AreCounted};
 ghost use Rattle.mm_problem.specs.declared.fault.Fault.TheVariants.{NoMemory, SetupText};
 ghost use Rattle.mm_base.specs.Reading.{Gives};
 
@@ -79,23 +79,33 @@ pub(crate) fn arrays_at(document: &Table) -> Result<Arrays<'_>, Fault>
     })
 }
 
+// Tests how many stores there are.
+pub(crate) fn test_store_count(stores: usize) -> Result<(), Fault>
+    ensures { Gives NoMemory (λ x. x) result (stores_counted stores) }
+{
+    test(
+        1 <= stores && stores <= MAX_STORES,
+        Fault::Limit { name: Name::Stores },
+    )
+}
+
+// Tests how many limits there are.
+pub(crate) fn test_limit_count(limits: usize) -> Result<(), Fault>
+    ensures { Gives NoMemory (λ x. x) result (limits_counted limits) }
+{
+    test(limits <= CHANNELS, Fault::Limit { name: Name::Limits })
+}
+
 // Tests how many tables there are.
 #[tactic(auto, unfolding(crate::specs::Document::counts_of))]
 pub(crate) fn test_counts(arrays: Arrays<'_>) -> Result<(), Fault>
     ensures counts { Gives NoMemory (λ x. x) result (counts_of (lists_of arrays.entry)) }
     ensures counted { OnOk result (AreCounted (lists_of arrays.entry)) }
 {
-    let stores = arrays.stores.len();
-    test(
-        1 <= stores && stores <= MAX_STORES,
-        Fault::Limit { name: Name::Stores },
-    )?;
+    test_store_count(arrays.stores.len())?;
     test(
         arrays.routes.len() <= MAX_ROUTES,
         Fault::Limit { name: Name::Routes },
     )?;
-    test(
-        arrays.limits.len() <= CHANNELS,
-        Fault::Limit { name: Name::Limits },
-    )
+    test_limit_count(arrays.limits.len())
 }

@@ -65,7 +65,7 @@ fn integer_at(row: u32, name: Name, table: &Table) -> Result<i64, Fault>
 }
 
 // A whole number within its range.
-fn within(low: u32, high: u32, name: Name, number: i64) -> Result<u32, Fault>
+pub(crate) fn within(low: u32, high: u32, name: Name, number: i64) -> Result<u32, Fault>
     ensures { Gives NoMemory (λ n. n) result (within low high name number) }
 {
     if i64::from(low) <= number && number <= i64::from(high) {

@@ -1,15 +1,20 @@
 //! The dumping problem: what the setup and the forecast say together.
-ghost use Rattle.std.specs.Prelude.{◌≡◌, ℕ, ◌+◌, ◌-◌, ◌*◌, ◌<◌, ◌≤◌, length, IfSome, IfNone};
+ghost use Rattle.std.specs.Prelude.{◌≡◌, ℕ, ◌+◌, ◌-◌, ◌*◌, ◌<◌, ◌≤◌, length, IfOk, IfErr, IfSome, IfNone};
 ghost use Rattle.mm_base.specs.declared.limits.TheConstants.{MAX_STORES, MAX_STEPS, MAX_BLOCKS, MAX_CHANNEL, CHANNELS};
 ghost use Rattle.mm_base.specs.Id.{IsIdField};
 ghost use Rattle.mm_problem.specs.Dumping.{row, place_in, place, size, start, channel, limit, window, arrivals, IsDumping};
 ghost use Rattle.mm_problem.specs.Forecast.{limit_of, limits_of, problem_of};
+ghost use Rattle.mm_problem.specs.Data.{problem_from};
+ghost use Rattle.mm_problem.specs.Rest.{rows_from, starts_fit, rest_from};
 ghost use Rattle.mm_problem.specs.declared.fault.Fault.TheVariants.{NoMemory};
 ghost use Rattle.mm_base.specs.Reading.{Gives};
 
-use crate::fault::Fault;
+use crate::data::{test_limits, test_steps, test_stores};
+use crate::document::{test_limit_count, test_store_count};
+use crate::fault::{Fault, Name};
+use crate::reading::test;
 use crate::setup::Setup;
-use crate::steps::{StepTable, forecast_of};
+use crate::steps::{StepTable, forecast_of, test_some_step};
 use mm_base::grid::place;
 use mm_base::{CHANNELS, LimitRow, StoreId, StoreRow};
 use std::alloc::Global;
@@ -50,6 +55,33 @@ fn place_in(rows: &[StoreRow], id: &StoreId) -> usize
     rows.len()
 }
 
+// Whether each store has room for its start volume.
+fn starts_fit(rows: &[StoreRow], starts: &[u32]) -> bool
+    requires { length starts.now ≡ length rows.now }
+    ensures { result ≡ starts_fit rows.now starts.now }
+{
+    for (place, row) in rows.iter().enumerate() {
+        if row.size < starts[place] {
+            return false;
+        }
+    }
+    true
+}
+
+// The stores, with these start volumes.
+fn rows_from(alloc: Global, rows: &[StoreRow], starts: &[u32]) -> Result<Vec<StoreRow>, Fault>
+    requires { length starts.now ≡ length rows.now }
+    ensures rows { IfOk result (λ v. v.items ≡ rows_from rows.now starts.now) }
+    ensures memory { IfErr result (λ e. e ≡ NoMemory) }
+{
+    let mut started = Vec::new(alloc);
+    for (place, row) in rows.iter().enumerate() {
+        let start = starts[place];
+        started.push(StoreRow { start, ..*row })?;
+    }
+    Ok(started)
+}
+
 // The limit of a channel, where there is one.
 fn limit_of(limits: &[LimitRow], channel: u8) -> Option<u32>
     ensures { result ≡ limit_of limits.now channel }
@@ -72,6 +104,62 @@ fn limits_of(limits: &[LimitRow]) -> [Option<u32>; CHANNELS]
 }
 
 impl Problem {
+    /// The problem of these stores and limits of channels, windows of the steps, and arrivals step by step, in each the stores in
+    /// order. Otherwise the first fault, as the readers test what they read: 28 `SetupField` for a repeated store or channel, 29
+    /// `ForecastText` where there are not as many arrivals as stores in each step, or 33 `Limit`; or 0 `NoMemory`.
+    #[tactic(auto, unfolding(crate::specs::Data::problem_from))]
+    pub fn new(
+        alloc: Global,
+        rows: &[StoreRow],
+        limits: &[LimitRow],
+        windows: &[u32],
+        arrivals: &[u32],
+    ) -> Result<Problem, Fault>
+        ensures problem { Gives NoMemory (λ problem. problem) result
+            (problem_from rows.now limits.now windows.now arrivals.now) }
+    {
+        test_store_count(rows.len())?;
+        test_limit_count(limits.len())?;
+        test_stores(rows)?;
+        test_limits(limits)?;
+        test_steps(rows.len(), windows, arrivals)?;
+        test_some_step(windows.len())?;
+        let rows = Vec::from_slice(alloc, rows)?;
+        let limits = limits_of(limits);
+        let windows = Vec::from_slice(alloc, windows)?;
+        let arrived = Vec::from_slice(alloc, arrivals)?;
+        Ok(Problem {
+            rows,
+            limits,
+            windows,
+            arrived,
+        })
+    }
+
+    /// The problem of the steps after this one, where each store begins with this many blocks, in setup order. A start above its
+    /// store's size is 33 `Limit`; or 0 `NoMemory`.
+    #[tactic(auto, unfolding(crate::specs::Rest::rest_from))]
+    pub fn rest(&self, alloc: Global, step: u32, starts: &[u32]) -> Result<Problem, Fault>
+        requires before_last { step < length self.now.windows }
+        requires as_many { length starts.now ≡ length self.now.rows }
+        ensures rest { Gives NoMemory (λ problem. problem) result
+            (rest_from self.now step starts.now) }
+    {
+        let stores = self.rows.as_slice();
+        let fit = starts_fit(stores, starts);
+        test(fit, Fault::Limit { name: Name::Start })?;
+        let rows = rows_from(alloc, stores, starts)?;
+        let windows = Vec::from_slice(alloc, &self.windows[step as usize..])?;
+        let first = place(stores.len(), step + 1, 0);
+        let arrived = Vec::from_slice(alloc, &self.arrived[first..])?;
+        Ok(Problem {
+            rows,
+            limits: self.limits,
+            windows,
+            arrived,
+        })
+    }
+
     /// The problem that a setup and the CSV text of a forecast say. Otherwise the first fault of the forecast: 29
     /// `ForecastText`, 30 `Header`, 31 `Cell`, 32 `StepNumber` or 33 `Limit`; or 0 `NoMemory`.
     #[tactic(auto, unfolding(crate::specs::Forecast::problem_of))]

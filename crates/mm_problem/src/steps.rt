@@ -2,7 +2,7 @@
 ghost use Rattle.std.specs.Prelude.{◌≡◌, ◌+◌, ◌≤◌, length, drop, map, vec_len, IfOk};
 ghost use Rattle.csv.specs.Records.{fields_of};
 ghost use Rattle.mm_base.specs.declared.limits.TheConstants.{MAX_STORES, MAX_STEPS};
-ghost use Rattle.mm_problem.specs.Forecast.{cell_of, same_fields, header_of, arrivals_in, next_step, some_steps, forecast_in};
+ghost use Rattle.mm_problem.specs.Forecast.{cell_of, same_fields, header_of, arrivals_in, another_step, some_step, next_step, some_steps, forecast_in};
 ghost use Rattle.mm_base.specs.Id.{id_text};
 ghost use Rattle.mm_problem.specs.declared.fault.Fault.TheVariants.{NoMemory};
 ghost use Rattle.mm_base.specs.Reading.{Gives};
@@ -48,6 +48,23 @@ fn arrivals_of(number: u32, mut arrived: Vec<u32>, row: &ByteRecord) -> Result<V
     Ok(arrived)
 }
 
+// Tests that a step may follow this many.
+pub(crate) fn test_another_step(earlier: usize) -> Result<(), Fault>
+    ensures { Gives NoMemory (λ x. x) result (another_step earlier) }
+{
+    test(
+        earlier < MAX_STEPS as usize,
+        Fault::Limit { name: Name::Steps },
+    )
+}
+
+// Tests that there is a step.
+pub(crate) fn test_some_step(steps: usize) -> Result<(), Fault>
+    ensures { Gives NoMemory (λ x. x) result (some_step steps) }
+{
+    test(steps >= 1, Fault::Limit { name: Name::Steps })
+}
+
 // Adds the step of the next record.
 #[tactic(auto, unfolding(crate::specs::Forecast::next_step))]
 fn next_step(stores: usize, steps: StepTable, row: &ByteRecord) -> Result<StepTable, Fault>
@@ -61,10 +78,7 @@ fn next_step(stores: usize, steps: StepTable, row: &ByteRecord) -> Result<StepTa
         mut windows,
         arrived,
     } = steps;
-    test(
-        windows.len() < MAX_STEPS as usize,
-        Fault::Limit { name: Name::Steps },
-    )?;
+    test_another_step(windows.len())?;
     let number = windows.len() as u32 + 1;
     test_step(number, cell_of(row, 0))?;
     let window = amount_of(number, 2, Name::Window, cell_of(row, 1))?;
@@ -99,15 +113,12 @@ fn is_header(stores: &[StoreRow], row: &ByteRecord) -> bool
         && names_stores(stores, row)
 }
 
-// Tests that there is a step.
+// These steps, of which there has to be one.
 #[tactic(auto, unfolding(crate::specs::Forecast::some_steps))]
 fn some_steps(steps: StepTable) -> Result<StepTable, Fault>
     ensures { Gives NoMemory steps_of result (some_steps (steps_of steps)) }
 {
-    test(
-        !steps.windows.is_empty(),
-        Fault::Limit { name: Name::Steps },
-    )?;
+    test_some_step(steps.windows.len())?;
     Ok(steps)
 }
 

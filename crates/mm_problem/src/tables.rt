@@ -5,7 +5,7 @@ ghost use Rattle.toml.specs.View.{view, table_view};
 ghost use Rattle.mm_problem.specs.declared.fault.Fault.TheVariants.{NoMemory};
 ghost use Rattle.mm_base.specs.Reading.{Gives};
 ghost use Rattle.mm_base.specs.SameRoutes.{same_route};
-ghost use Rattle.mm_problem.specs.Tables.{table_at, id_at, kind_of, kind_at, start_at, store_at, has_store, next_store, stores_in, route_at, next_route, routes_in, limit_at, next_limit, limits_in};
+ghost use Rattle.mm_problem.specs.Tables.{table_at, id_at, kind_of, kind_at, start_at, store_at, has_store, new_store, next_store, stores_in, route_at, next_route, routes_in, limit_at, new_limit, next_limit, limits_in};
 
 use crate::fault::{Fault, Name};
 use crate::keys::{has_only, number_at, text_at, value_at};
@@ -92,6 +92,15 @@ fn has_store(stores: &[StoreRow], id: &StoreId) -> bool
     stores.iter().any(|row| row.id == *id)
 }
 
+// Tests that no store so far has the row's identifier.
+pub(crate) fn test_new_store(earlier: &[StoreRow], row: &StoreRow) -> Result<(), Fault>
+    requires { length earlier.now < 256 }
+    ensures { Gives NoMemory (λ x. x) result (new_store earlier.now row.now) }
+{
+    let number = earlier.len() as u32 + 1;
+    test_field(!has_store(earlier, &row.id), number, Name::Repeated)
+}
+
 #[tactic(auto, unfolding(crate::specs::Tables::next_store))]
 fn next_store(earlier: &[StoreRow], value: &Value) -> Result<StoreRow, Fault>
     requires { length earlier.now < 256 }
@@ -99,7 +108,7 @@ fn next_store(earlier: &[StoreRow], value: &Value) -> Result<StoreRow, Fault>
 {
     let number = earlier.len() as u32 + 1;
     let row = store_at(number, value)?;
-    test_field(!has_store(earlier, &row.id), number, Name::Repeated)?;
+    test_new_store(earlier, &row)?;
     Ok(row)
 }
 
@@ -196,6 +205,15 @@ fn has_limit(limits: &[LimitRow], channel: u8) -> bool
     limits.iter().any(|row| row.channel == channel)
 }
 
+// Tests that no limit so far is of the row's channel.
+pub(crate) fn test_new_limit(earlier: &[LimitRow], row: &LimitRow) -> Result<(), Fault>
+    requires { length earlier.now < 256 }
+    ensures { Gives NoMemory (λ x. x) result (new_limit earlier.now row.now) }
+{
+    let number = earlier.len() as u32 + 1;
+    test_field(!has_limit(earlier, row.channel), number, Name::Repeated)
+}
+
 #[tactic(auto, unfolding(crate::specs::Tables::next_limit))]
 fn next_limit(earlier: &[LimitRow], value: &Value) -> Result<LimitRow, Fault>
     requires { length earlier.now < 256 }
@@ -203,7 +221,7 @@ fn next_limit(earlier: &[LimitRow], value: &Value) -> Result<LimitRow, Fault>
 {
     let number = earlier.len() as u32 + 1;
     let row = limit_at(number, value)?;
-    test_field(!has_limit(earlier, row.channel), number, Name::Repeated)?;
+    test_new_limit(earlier, &row)?;
     Ok(row)
 }
 

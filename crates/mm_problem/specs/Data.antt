@@ -1,0 +1,70 @@
+-- The problem that data are, tested in the order in which the readers test what they read.
+use Rattle.std.specs.Prelude.{ℕ, ◌+◌, nat_le, ◌==◌, List, [], ◌∷◌, ◌++◌, length, take, drop, pos, Result, Ok}
+use Rattle.mm_problem.specs.declared.fault.Fault.{Fault}
+use Rattle.mm_problem.specs.declared.fault.Fault.TheVariants.{ForecastText}
+use Rattle.mm_problem.specs.declared.fault.Name.{Name}
+use Rattle.mm_problem.specs.declared.fault.Name.TheVariants as name
+use Rattle.mm_base.specs.declared.limits.TheConstants.{MAX_BLOCKS, MAX_CHANNEL}
+use Rattle.mm_base.specs.declared.rows.LimitRow.{LimitRow}
+use Rattle.mm_base.specs.declared.rows.StoreRow.{StoreRow}
+use Rattle.mm_base.specs.Reading.{◌>>=◌, test}
+use Rattle.mm_problem.specs.Document.{stores_counted, limits_counted}
+use Rattle.mm_problem.specs.Dumping.{Dumping}
+use Rattle.mm_problem.specs.Forecast.{another_step, some_step, limits_of}
+use Rattle.mm_problem.specs.Keys.{within}
+use Rattle.mm_problem.specs.Tables.{new_store, new_limit}
+
+-- the tests of a store after these earlier ones
+unfoldable pub store_fits : List StoreRow → StoreRow → Result (Unit {0}) Fault
+store_fits earlier row = do
+  size ← within 1 MAX_BLOCKS name.Size (pos row.size)
+  channel ← within 0 MAX_CHANNEL name.Channel (pos row.channel)
+  start ← within 0 row.size name.Start (pos row.start)
+  new_store earlier row
+
+-- the tests of a limit after these earlier ones
+unfoldable pub limit_fits : List LimitRow → LimitRow → Result (Unit {0}) Fault
+limit_fits earlier row = do
+  channel ← within 0 MAX_CHANNEL name.Channel (pos row.channel)
+  blocks ← within 0 MAX_BLOCKS name.Blocks (pos row.blocks)
+  new_limit earlier row
+
+-- the tests of rows after these earlier ones
+unfoldable pub rows_fit : {R : Type 0} → (List R → R → Result (Unit {0}) Fault) → List R → List R → Result (Unit {0}) Fault
+rows_fit fits earlier [] = Ok tt
+rows_fit fits earlier (row ∷ rows) = do
+  this ← fits earlier row
+  rows_fit fits (earlier ++ row ∷ []) rows
+
+-- the tests of amounts of blocks
+unfoldable pub amounts_fit : Name → List ℕ → Result (Unit {0}) Fault
+amounts_fit name [] = Ok tt
+amounts_fit name (amount ∷ amounts) = do
+  this ← within 0 MAX_BLOCKS name (pos amount)
+  amounts_fit name amounts
+
+-- the tests of a step after this many, from its window and what comes to each store
+unfoldable pub step_fits : ℕ → ℕ → List ℕ → Result (Unit {0}) Fault
+step_fits earlier window arrivals = do
+  not_too_many ← another_step earlier
+  window ← within 0 MAX_BLOCKS name.Window (pos window)
+  amounts_fit name.Arrivals arrivals
+
+-- the tests of the steps after this many, each of which has an arrival for each store
+unfoldable pub steps_fit : ℕ → ℕ → List ℕ → List ℕ → Result (Unit {0}) Fault
+steps_fit stores earlier [] arrived = test (length arrived == 0) ForecastText
+steps_fit stores earlier (window ∷ windows) arrived = do
+  as_long ← test (nat_le stores (length arrived)) ForecastText
+  step ← step_fits earlier window (take stores arrived)
+  steps_fit stores (earlier + 1) windows (drop stores arrived)
+
+-- the problem of these stores and limits, windows of the steps, and arrivals step by step, in each the stores in order
+unfoldable pub problem_from : List StoreRow → List LimitRow → List ℕ → List ℕ → Result Dumping Fault
+problem_from rows limits windows arrived = do
+  store_count ← stores_counted (length rows)
+  limit_count ← limits_counted (length limits)
+  stores ← rows_fit store_fits [] rows
+  by_channel ← rows_fit limit_fits [] limits
+  steps ← steps_fit (length rows) 0 windows arrived
+  some ← some_step (length windows)
+  Ok (record { rows = rows; limits = limits_of limits; windows = windows; arrived = arrived })

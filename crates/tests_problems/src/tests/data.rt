@@ -1,0 +1,191 @@
+//! Problems from data: each is what the texts of the same data say, or is refused with the fault that it must give.
+use crate::tests::samples::{id, problem_of};
+use mm_problem::{Kind, LimitRow, Problem, Setup, StoreRow};
+use std::alloc::Global;
+use std::process::Abort;
+
+const SETUP: &str = "[[store]]\nid = \"SCI\"\nsize = 4\ntype = \"bounded\"\nchannel = 0\n\
+    [[store]]\nid = \"HK\"\nsize = 9\ntype = \"circular\"\nchannel = 3\nstart = 2\n\
+    [[limit]]\nchannel = 3\nblocks = 5\n";
+
+const FORECAST: &str = "step,window,SCI,HK\n1,7,3,1\n2,0,0,8\n3,1000000,5,6\n";
+
+static WINDOWS: [u32; 3] = [7, 0, 1_000_000];
+
+static ARRIVALS: [u32; 6] = [3, 1, 0, 8, 5, 6];
+
+// What a problem is seen as, for a test.
+fn seen(rt: &impl Abort, alloc: Global, problem: &Problem) -> String {
+    format!(in alloc; "{problem:?}").expect(rt, "memory")
+}
+
+#[test]
+fn data_are_the_problem_of_their_texts(rt: HostRuntime) {
+    let alloc = rt.alloc();
+    let setup = Setup::read(alloc, SETUP.as_bytes()).expect(&rt, "a setup");
+    let problem = Problem::new(alloc, setup.stores(), setup.limits(), &WINDOWS, &ARRIVALS).expect(
+        &rt,
+        "a problem",
+    );
+    let read = problem_of(&rt, alloc, SETUP, FORECAST);
+    let wanted = seen(&rt, alloc, &read);
+    assert!(&rt; seen(&rt, alloc, &problem).as_str() == wanted.as_str());
+}
+
+// The data of a problem.
+#[derive(Clone, Copy)]
+struct Data<'a> {
+    rows: &'a [StoreRow],
+    limits: &'a [LimitRow],
+    windows: &'a [u32],
+    arrivals: &'a [u32],
+}
+
+// The data are refused with this fault.
+fn refused(rt: &impl Abort, alloc: Global, data: Data<'_>, fault: &str) {
+    let Data {
+        rows,
+        limits,
+        windows,
+        arrivals,
+    } = data;
+    let refusal = Problem::new(alloc, rows, limits, windows, arrivals).expect_err(rt, "no problem");
+    let shown = refusal.to_string(alloc).expect(rt, "memory");
+    assert!(rt; shown.as_str() == fault, "{fault}");
+}
+
+fn store(rt: &impl Abort, text: &str, size: u32, start: u32, channel: u8) -> StoreRow {
+    StoreRow {
+        id: id(rt, text),
+        size,
+        start,
+        kind: Kind::Bounded,
+        channel,
+    }
+}
+
+#[test]
+fn stores_as_data_refused(rt: HostRuntime) {
+    let alloc = rt.alloc();
+    let good = store(&rt, "SCI", 4, 4, 7);
+    let cases = [
+        (store(&rt, "HK", 0, 0, 0), "33 Limit name size"),
+        (store(&rt, "HK", 1_000_001, 0, 0), "33 Limit name size"),
+        (store(&rt, "HK", 4, 0, 8), "33 Limit name channel"),
+        (store(&rt, "HK", 4, 5, 0), "33 Limit name start"),
+        (store(&rt, "HK", 4, 5, 8), "33 Limit name channel"),
+        (
+            store(&rt, "SCI", 4, 0, 0),
+            "28 SetupField row 2 name repeated",
+        ),
+    ];
+    for (bad, fault) in cases.iter() {
+        let rows = [good, *bad];
+        let data = Data {
+            rows: &rows,
+            limits: &[],
+            windows: &[1],
+            arrivals: &[1, 1_000_001],
+        };
+        refused(&rt, alloc, data, fault);
+    }
+}
+
+#[test]
+fn counts_of_data_refused(rt: HostRuntime) {
+    let good = store(&rt, "SCI", 4, 4, 7);
+    let many = [good; 17];
+    let limits = [LimitRow {
+        channel: 0,
+        blocks: 1,
+    }; 9];
+    let data = Data {
+        rows: &[],
+        limits: &[],
+        windows: &[],
+        arrivals: &[],
+    };
+    refused(&rt, rt.alloc(), data, "33 Limit name stores");
+    let seventeen = Data {
+        rows: &many,
+        ..data
+    };
+    refused(&rt, rt.alloc(), seventeen, "33 Limit name stores");
+    let rows = [good];
+    let nine = Data {
+        rows: &rows,
+        limits: &limits,
+        ..data
+    };
+    refused(&rt, rt.alloc(), nine, "33 Limit name limits");
+    let stepless = Data {
+        rows: &rows,
+        ..data
+    };
+    refused(&rt, rt.alloc(), stepless, "33 Limit name steps");
+}
+
+#[test]
+fn limits_as_data_refused(rt: HostRuntime) {
+    let rows = [store(&rt, "SCI", 4, 4, 7)];
+    let cases = [
+        ([(0, 1), (8, 1)], "33 Limit name channel"),
+        ([(0, 1), (1, 1_000_001)], "33 Limit name blocks"),
+        ([(3, 1), (3, 2)], "28 SetupField row 2 name repeated"),
+    ];
+    for (limits, fault) in cases.iter() {
+        let limits = limits.map(|(channel, blocks)| LimitRow { channel, blocks });
+        let data = Data {
+            rows: &rows,
+            limits: &limits,
+            windows: &[1],
+            arrivals: &[1],
+        };
+        refused(&rt, rt.alloc(), data, fault);
+    }
+}
+
+static STEPS_REFUSED: [(&[u32], &[u32], &str); 7] = [
+    (&[1, 1], &[1, 1, 1], "29 ForecastText"),
+    (&[1, 1], &[1, 1, 1, 1, 1], "29 ForecastText"),
+    (&[], &[1, 1], "29 ForecastText"),
+    (&[1, 1_000_001], &[1, 1, 1, 1], "33 Limit name window"),
+    (&[1, 1], &[1, 1, 1, 1_000_001], "33 Limit name arrivals"),
+    (
+        &[1, 1_000_001],
+        &[1, 1_000_001, 1, 1],
+        "33 Limit name arrivals",
+    ),
+    (&[1; 257], &[1; 514], "33 Limit name steps"),
+];
+
+#[test]
+fn steps_as_data_refused(rt: HostRuntime) {
+    let rows = [store(&rt, "SCI", 4, 4, 7), store(&rt, "HK", 4, 4, 7)];
+    for (windows, arrivals, fault) in &STEPS_REFUSED {
+        let data = Data {
+            rows: &rows,
+            limits: &[],
+            windows,
+            arrivals,
+        };
+        refused(&rt, rt.alloc(), data, fault);
+    }
+}
+
+#[test]
+fn the_rest_is_the_problem_of_the_later_steps(rt: HostRuntime) {
+    let alloc = rt.alloc();
+    let problem = problem_of(&rt, alloc, SETUP, FORECAST);
+    let rest = problem.rest(alloc, 1, &[4, 0]).expect(&rt, "a problem");
+    let later = "step,window,SCI,HK\n1,0,0,8\n2,1000000,5,6\n";
+    let setup = "[[store]]\nid = \"SCI\"\nsize = 4\ntype = \"bounded\"\nchannel = 0\nstart = 4\n\
+        [[store]]\nid = \"HK\"\nsize = 9\ntype = \"circular\"\nchannel = 3\nstart = 0\n\
+        [[limit]]\nchannel = 3\nblocks = 5\n";
+    let read = problem_of(&rt, alloc, setup, later);
+    let wanted = seen(&rt, alloc, &read);
+    assert!(&rt; seen(&rt, alloc, &rest).as_str() == wanted.as_str());
+    let refusal = problem.rest(alloc, 1, &[5, 0]).expect_err(&rt, "no room");
+    let shown = refusal.to_string(alloc).expect(&rt, "memory");
+    assert!(&rt; shown.as_str() == "33 Limit name start");
+}
