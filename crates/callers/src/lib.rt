@@ -2,13 +2,16 @@
 #![tactic(auto)]
 
 pub mod checker;
+pub mod data;
 pub mod ends;
 pub mod flight;
 pub mod flow;
 pub mod halt;
 pub mod memory;
 pub mod packets;
+pub mod radio;
 pub mod requests;
+pub mod rest;
 pub mod service;
 pub mod stores;
 #[cfg(test)]

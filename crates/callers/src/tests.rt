@@ -1,6 +1,8 @@
 //! Each caller once, with what it must answer worked out by hand.
 ghost use Rattle.std.specs.Prelude.{◌<◌, ◌-◌, ◌^◌, All};
 
+mod rest;
+
 use crate::checker::least_loss;
 use crate::ends::{Burst, Downlink};
 use crate::flight::{Told, plan_and_fly};

@@ -4,6 +4,7 @@
 mod applied;
 mod calls;
 mod created;
+mod data;
 mod dumps;
 mod link;
 mod met;

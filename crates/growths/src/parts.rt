@@ -1,6 +1,7 @@
 //! The parts by their names.
 use crate::applied::deleted;
 use crate::created::created;
+use crate::data::{later, new, rest};
 use crate::dumps::dumps;
 use crate::met::Met;
 use crate::records::record;
@@ -15,6 +16,9 @@ use std::thread::Threads;
 /// What the calls of the part of this name answered.
 pub fn part_named<R: Threads + Wait + Sync>(rt: &R, alloc: Global, name: &[u8]) -> Met {
     match name {
+        b"new" => new(alloc),
+        b"rest" => rest(alloc),
+        b"later" => later(alloc),
         b"plan_bytes" => planned(alloc),
         b"check_bytes" => checked(alloc),
         b"apply" => deleted(alloc),

@@ -134,13 +134,24 @@ pub(crate) fn dump_all<L: Link + Send, R: Threads + Wait + Sync>(
     let (low_workers, high_workers) = workers.split_at_mut(middle);
     dump_halves(
         context,
-        low_links,
-        low_lines,
-        low_workers,
-        high_links,
-        high_lines,
-        high_workers,
+        HalfOfWorkers {
+            links: low_links,
+            lines: low_lines,
+            workers: low_workers,
+        },
+        HalfOfWorkers {
+            links: high_links,
+            lines: high_lines,
+            workers: high_workers,
+        },
     );
+}
+
+/// Half of a step's workers, with their links and their lines.
+struct HalfOfWorkers<'a, L> {
+    links: &'a mut [L],
+    lines: &'a mut [Lines],
+    workers: &'a mut [DumpWorker],
 }
 
 // Lets two halves of the workers carry out orders side by side. A function of its own, so that what the closures require is what it
@@ -148,20 +159,26 @@ pub(crate) fn dump_all<L: Link + Send, R: Threads + Wait + Sync>(
 #[cycle(halves)]
 fn dump_halves<L: Link + Send, R: Threads + Wait + Sync>(
     context: &DumpContext<'_, R>,
-    low_links: &mut [L],
-    low_lines: &mut [Lines],
-    low_workers: &mut [DumpWorker],
-    high_links: &mut [L],
-    high_lines: &mut [Lines],
-    high_workers: &mut [DumpWorker],
+    low: HalfOfWorkers<'_, L>,
+    high: HalfOfWorkers<'_, L>,
 )
-    requires low { AreReady L.sent L.failed context.now.queue.now context.now.stores.now context.now.orders.now low_links.old low_lines.old low_workers.old }
-    requires high { AreReady L.sent L.failed context.now.queue.now context.now.stores.now context.now.orders.now high_links.old high_lines.old high_workers.old }
+    requires low { AreReady L.sent L.failed context.now.queue.now context.now.stores.now context.now.orders.now low.links.now low.lines.now low.workers.now }
+    requires high { AreReady L.sent L.failed context.now.queue.now context.now.stores.now context.now.orders.now high.links.now high.lines.now high.workers.now }
     ensures low { AllWorked L.sent L.failed context.now.queue.now (ids_of context.now.stores.now) context.now.orders.now
-        (sided low_links.old low_lines.old low_workers.old) (sided low_links.new low_lines.new low_workers.new) }
+        (sided low.entry.links.now low.entry.lines.now low.entry.workers.now) (sided low.exit.0.now low.exit.1.0.now low.exit.1.1.0.now) }
     ensures high { AllWorked L.sent L.failed context.now.queue.now (ids_of context.now.stores.now) context.now.orders.now
-        (sided high_links.old high_lines.old high_workers.old) (sided high_links.new high_lines.new high_workers.new) }
+        (sided high.entry.links.now high.entry.lines.now high.entry.workers.now) (sided high.exit.0.now high.exit.1.0.now high.exit.1.1.0.now) }
 {
+    let HalfOfWorkers {
+        links: low_links,
+        lines: low_lines,
+        workers: low_workers,
+    } = low;
+    let HalfOfWorkers {
+        links: high_links,
+        lines: high_lines,
+        workers: high_workers,
+    } = high;
     let mut low = ||
         requires { IsSync R.row × IsSend L.row × AreReady L.sent L.failed context.now.queue.now context.now.stores.now context.now.orders.now low_links.now low_lines.now low_workers.now }
         ensures { AllWorked L.sent L.failed context.entry.now.queue.now (ids_of context.entry.now.stores.now) context.entry.now.orders.now (sided low_links.entry.now low_lines.entry.now low_workers.entry.now) (sided low_links.exit.now low_lines.exit.now low_workers.exit.now) }

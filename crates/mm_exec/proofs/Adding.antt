@@ -6,7 +6,7 @@ use Rattle.mm_base.proofs.Sums.{sum_by-add}
 use Rattle.mm_problem.specs.Dumping.{Dumping, stores}
 use Rattle.mm_plan.specs.Volumes.{Amounts, lost, store_loss, loss}
 use Rattle.mm_desk.specs.Machine.{State}
-use Rattle.mm_exec.specs.Planned.{AtEach, AsPlanned}
+use Rattle.mm_exec.specs.AsPlanned.{AtEach, AsPlanned}
 
 -- what one store loses up to a step
 up_to : (q : Dumping) (x : Amounts) (states : ℕ → ℕ → State) (steps : ℕ) → AtEach (length q.rows) steps (λ s t. AsPlanned q x s t (states s (t - 1)) (states s t))

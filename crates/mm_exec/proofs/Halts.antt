@@ -37,7 +37,7 @@ use Rattle.mm_exec.specs.Step.{RunState, AreReady, OutOfMemory, RecordersBroke, 
 use Rattle.mm_exec.proofs.Failing.{links_failed}
 use Rattle.mm_exec.proofs.Parts.{as_many, same_ids}
 use Rattle.mm_exec.proofs.Firsts.{none_first, none_listed, all_first, first_turns}
-use Rattle.mm_exec.proofs.Ready.{state_holds}
+use Rattle.mm_exec.proofs.StoresReady.{state_holds}
 
 -- recorders know nothing of links
 no_link : (step : ℕ) (why : Option Fault) → cause_in step why ≡ Some (LinkFailed step) → ⊥

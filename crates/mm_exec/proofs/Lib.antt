@@ -7,7 +7,7 @@ pub mod Found
 pub mod Placing
 pub mod Parts
 pub mod Firsts
-pub mod Ready
+pub mod StoresReady
 pub mod Listing
 pub mod Coming
 pub mod Ordered

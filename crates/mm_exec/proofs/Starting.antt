@@ -32,7 +32,7 @@ use Rattle.mm_exec.specs.declared.requirement.Requirement.TheVariants.{Ready, Si
 use Rattle.mm_exec.specs.Readiness.{RunStart, run_start, MayBegin, AllMeet, NoneUnknown, is_unknown, meets, meets_at, IsEarly, AreCounts}
 use Rattle.mm_exec.proofs.Replays.{All-unmapped}
 use Rattle.mm_exec.specs.Laws.{RunsLoseAsPlanned}
-use Rattle.mm_exec.specs.Planned.{IsReady}
+use Rattle.mm_exec.specs.AsPlanned.{IsReady}
 use Rattle.mm_exec.specs.declared.room.RunBuffers.{RunBuffers}
 use Rattle.mm_exec.specs.Places.{IsPlaceOf, ArePlaces}
 use Rattle.mm_exec.specs.RunInput.{RunInput, run_input}
@@ -46,13 +46,13 @@ use Rattle.mm_exec.proofs.Ordered.{may_order, wanted_in_all}
 use Rattle.mm_exec.proofs.StepMore.{Footing, done_on}
 use Rattle.mm_exec.proofs.Parts.{as_many, same_ids, as_many_sources}
 use Rattle.mm_exec.proofs.Placing.{no_held, places_differ, places_cut}
-use Rattle.mm_exec.proofs.Ready.{AllFar, state_holds}
+use Rattle.mm_exec.proofs.StoresReady.{AllFar, state_holds}
 
 -- what the tests before a run have shown
 pub record Begun (o : RunStart) : Type 0 where
   pub shape : HasShape o.problem o.plan
-  pub standing : AllMeet Ready o.problem o.stores
-  pub none_strange : NoneUnknown o.problem o.stores
+  pub stores_ready : AllMeet Ready o.problem o.stores
+  pub none_unknown : NoneUnknown o.problem o.stores
   pub sizes : AllMeet Size o.problem o.stores
   pub openings : AllMeet Opening o.problem o.stores
   pub early : IsEarly o.stores o.base
@@ -62,8 +62,8 @@ pub record Begun (o : RunStart) : Type 0 where
 pub begun_of : (o : RunStart) → MayBegin o → Begun o
 begun_of o begins = record {
   shape = begins.0.0.0.0.0.0.0;
-  standing = begins.0.0.0.0.0.0.1;
-  none_strange = begins.0.0.0.0.0.0.2;
+  stores_ready = begins.0.0.0.0.0.0.1;
+  none_unknown = begins.0.0.0.0.0.0.2;
   sizes = begins.0.0.0.0.0.1;
   openings = begins.0.0.0.0.1;
   early = begins.0.0.1;
@@ -133,7 +133,7 @@ first_is stores held k id within same = by_order (cases_order (position_or_len (
 
 -- where all tests passed, each store of the memory is ready
 pub all_ready : (q : Dumping) (stores : List Held) → AreHeld stores → AllMeet Ready q stores → NoneUnknown q stores → All (λ h. IsState h.state) stores → AreReady stores
-all_ready q stores held standing known sound = record {
+all_ready q stores held stores_ready known sound = record {
   sound = sound;
   storage = λ k d inside. subst (λ (h : Held). IsTrue h.state.storage) (there k d inside) (each k inside).0;
   idle = λ k d inside. subst (λ (h : Held). h.state.retrieval ≡ None) (there k d inside) (each k inside).1;
@@ -149,7 +149,7 @@ all_ready q stores held standing known sound = record {
         let id = (row q found.0).id in
         let at : position_or_len (has_id id) stores ≡ k = first_is stores held k id inside (sym found.2) in
         let is : store_of id stores ≡ Some h = find_at (has_id id) stores ∙ ap (λ (j : ℕ). slice_get stores j) at ∙ slice_get-get_or stores k no_held inside in
-        let meets_it : meets Ready (row q found.0) (Some h) ≡ true = subst (λ (o : Option Held). meets Ready (row q found.0) o ≡ true) is (standing found.0 found.1) in
+        let meets_it : meets Ready (row q found.0) (Some h) ≡ true = subst (λ (o : Option Held). meets Ready (row q found.0) o ≡ true) is (stores_ready found.0 found.1) in
         standing_gives h.state.storage h.state.retrieval meets_it
 
 -- what holds through a run that may begin

@@ -29,7 +29,7 @@ use Rattle.mm_report.specs.declared.tally.Tally.{Tally}
 use Rattle.mm_report.specs.Report.{Reported}
 use Rattle.mm_exec.proofs.Replays.{All-unmapped}
 use Rattle.mm_exec.specs.StepRuns.{IsStepRun}
-use Rattle.mm_exec.specs.Planned.{IsReady, AsPlanned}
+use Rattle.mm_exec.specs.AsPlanned.{IsReady, AsPlanned}
 use Rattle.mm_exec.specs.Laws.{IsRunOf, RunsLoseAsPlanned}
 use Rattle.mm_exec.specs.Places.{ArePlaces, AreApart}
 use Rattle.mm_exec.specs.RunInput.{RunInput, step_of, offered, as_came, place_in_memory, state_in, step_orders}

@@ -19,7 +19,7 @@ use Rattle.mm_desk.specs.Orders.{begun, given, ended, last_time, removed, IsOrde
 use Rattle.mm_desk.specs.Runs.{IsRun, entry, replay}
 use Rattle.mm_desk.proofs.Counting.{count_of_shuffle}
 use Rattle.mm_exec.specs.StepRuns.{IsDumpOf, IsStepRun, AreTimed, IsBy}
-use Rattle.mm_exec.specs.Planned.{AtEach, AsPlanned}
+use Rattle.mm_exec.specs.AsPlanned.{AtEach, AsPlanned}
 use Rattle.mm_exec.specs.Laws.{IsRunOf, StepRunsKeepStores}
 use Rattle.mm_exec.proofs.Replays.{IsLegal-parts, replay-append, All-front, shuffled, timed_log}
 use Rattle.mm_exec.proofs.Times.{log_last}

@@ -14,7 +14,7 @@ use Rattle.mm_memory.specs.Holdings.{Holdings}
 use Rattle.mm_dump.specs.Sending.{Sent}
 use Rattle.mm_report.specs.declared.cause.Cause.TheVariants.{NoMemory}
 use Rattle.mm_report.specs.Report.{Reported, totals_of}
-use Rattle.mm_exec.specs.Planned.{AtEach}
+use Rattle.mm_exec.specs.AsPlanned.{AtEach}
 use Rattle.mm_exec.specs.declared.flight.Flown.{Flown}
 use Rattle.mm_exec.specs.declared.flight.NotFlown.{NotFlown}
 use Rattle.mm_exec.specs.declared.flying.Printed.{Printed}

@@ -11,7 +11,7 @@ use Rattle.mm_desk.specs.Machine.{State, IsState}
 use Rattle.mm_desk.specs.Offers.{AreTaken, IsShuffleOfEvents, count_of}
 use Rattle.mm_desk.specs.Runs.{IsRun}
 use Rattle.mm_exec.specs.StepRuns.{IsDumpOf, IsStepRun, AreTimed, AreBy, KeepsStore}
-use Rattle.mm_exec.specs.Planned.{AtEach, IsReady, AsPlanned}
+use Rattle.mm_exec.specs.AsPlanned.{AtEach, IsReady, AsPlanned}
 use Rattle.mm_exec.specs.Draws.{AreDrawsOf, MeetNoRefusal}
 
 -- a run of a plan over its first steps: the stores begin ready, in each step a step run leads each store from the state that the

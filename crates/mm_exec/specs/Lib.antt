@@ -1,6 +1,6 @@
 pub use Rattle.mm_report.specs.Cause
 pub mod StepRuns
-pub mod Planned
+pub mod AsPlanned
 pub mod Draws
 pub mod Laws
 pub mod Readiness

@@ -10,7 +10,7 @@ use Rattle.mm_dump.specs.Sending.{Sent, all_sent}
 use Rattle.mm_dump.specs.Dumped.{times, places_of}
 use Rattle.mm_report.specs.Report.{Reported}
 use Rattle.mm_exec.specs.StepRuns.{IsStepRun}
-use Rattle.mm_exec.specs.Planned.{AtEach}
+use Rattle.mm_exec.specs.AsPlanned.{AtEach}
 use Rattle.mm_exec.specs.RunInput.{RunInput, offered, as_came, place_in_memory, state_in, step_orders}
 use Rattle.mm_exec.specs.Numbers.{report_of, AreByCounters}
 use Rattle.mm_exec.specs.Step.{RunState}

@@ -9,6 +9,7 @@ ghost use Rattle.mm_exec.specs.RunInput.{run_input};
 ghost use Rattle.mm_exec.specs.Step.{run_state, AreReady, StepDone, StepBroke, NeverRefused};
 ghost use Rattle.mm_exec.specs.Course.{MayReport, MayRun, RunDone, RunHalted, AreWithinLimits};
 
+use crate::laws::{runs_lose_as_planned, step_runs_keep_stores};
 use crate::orders::list_orders;
 use crate::places::places_of;
 use crate::room::RunBuffers;
@@ -17,7 +18,6 @@ use crate::tallies::{all_counters, tallies_of};
 use mm_control::ControlTable;
 use mm_desk::Held;
 use mm_dump::Link;
-use mm_exec::{runs_lose_as_planned, step_runs_keep_stores};
 use mm_plan::Plan;
 use mm_problem::Problem;
 use mm_record::{RecordingStep, Source};

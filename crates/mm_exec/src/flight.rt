@@ -1,7 +1,6 @@
 //! What a run leaves.
 
-use mm_exec::Cause;
-use mm_report::Report;
+use mm_report::{Cause, Report};
 
 /// What a run that was carried out leaves: its report, its sources and its links.
 #[derive(Drop)]

@@ -5,12 +5,13 @@ ghost use Rattle.mm_record.specs.Steps.{TakesAll};
 ghost use Rattle.mm_record.specs.Recorded.{recording};
 ghost use Rattle.mm_dump.specs.Dumped.{MayDump, amount_of};
 
+use crate::laws::{halves_make_step_runs, step_runs_keep_stores};
 use mm_desk::Held;
 use mm_desk::laws::{any_order_loses_alike, orders_dump_the_oldest};
 use mm_dump::laws::broken_orders_change_nothing;
 use mm_dump::{Dumped, Link, Order, OrderBroken, dump};
-use mm_exec::{Cause, halves_make_step_runs, step_runs_keep_stores};
 use mm_record::{RecordingStep, Source, cause_in, record};
+use mm_report::Cause;
 use std::alloc::Global;
 use std::sync::Wait;
 use std::thread::Threads;

@@ -6,3 +6,4 @@ pub mod Offering
 pub mod Steps
 pub mod Recorders
 pub mod MemorySteps
+pub mod Later

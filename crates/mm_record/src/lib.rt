@@ -4,6 +4,7 @@
 mod cause;
 mod context;
 mod counters;
+mod later;
 mod memory_step;
 mod offering;
 mod readiness;
@@ -13,6 +14,7 @@ mod step;
 
 pub use cause::cause_in;
 pub use counters::Counters;
+pub use later::{Later, later_sources};
 pub use memory_step::{RecordHalted, Recorded, RecordedStep, record_step};
 pub use mm_report::{Cause, LATEST_START, MAX_SOURCES};
 pub use readiness::{cause_before, is_clock_late, is_count, is_ready};

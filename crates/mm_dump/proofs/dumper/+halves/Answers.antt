@@ -28,7 +28,7 @@ dump_all-returns g t c = record {
       c.args.links.now _ _ _ _ c.args.lines.now _ _ _ _ c.args.workers.now _ _ _ _ c.split_at_mut-low_links.ensures.value c.split_at_mut-low_lines.ensures.value c.split_at_mut-low_workers.ensures.value
       (omega (arith, c.split_at_mut-low_links.ensures.front_len, c.split_at_mut-low_lines.ensures.front_len))
       (omega (arith, c.split_at_mut-low_links.ensures.front_len, c.split_at_mut-low_workers.ensures.front_len))
-      (omega (arith, c.dump_halves.auto.low_links, c.dump_halves.auto.low_lines, c.split_at_mut-low_links.ensures.front_len, c.split_at_mut-low_lines.ensures.front_len))
-      (omega (arith, c.dump_halves.auto.low_links, c.dump_halves.auto.low_workers, c.split_at_mut-low_links.ensures.front_len, c.split_at_mut-low_workers.ensures.front_len))
+      (omega (arith, c.dump_halves.auto.low.0, c.dump_halves.auto.low.1.0, c.split_at_mut-low_links.ensures.front_len, c.split_at_mut-low_lines.ensures.front_len))
+      (omega (arith, c.dump_halves.auto.low.0, c.dump_halves.auto.low.1.1.0, c.split_at_mut-low_links.ensures.front_len, c.split_at_mut-low_workers.ensures.front_len))
       c.dump_halves.ensures.low c.dump_halves.ensures.high;
 }

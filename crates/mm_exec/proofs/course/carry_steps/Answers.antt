@@ -9,7 +9,7 @@ use Rattle.mm_exec.specs.Step.{run_state, StepBroke}
 use Rattle.mm_exec.specs.Steps.{StepsDone}
 use Rattle.mm_exec.proofs.Ordered.{orders_are}
 use Rattle.mm_exec.proofs.Parts.{stopped_of}
-use Rattle.mm_exec.proofs.Ready.{AllFar, far_after, takes_all}
+use Rattle.mm_exec.proofs.StoresReady.{AllFar, far_after, takes_all}
 use Rattle.mm_exec.proofs.Starting.{begun_of, footing_here, places_many, all_ready, done_first, done_at, may_report, in_hand, bound_at, bound_more, bound_within, early_at, far_first, still_few}
 use Rattle.mm_exec.proofs.course.carry_steps.Goals as goal
 
@@ -25,7 +25,7 @@ loop-step-init g c =
       done =
           done_first gives g.L.Link.sent g.L.Link.failed (run_input gives q plan base memory c.args.sources.now)
           (run_state c.args.stores.now c.args.sources.now c.args.links.now) c.args.buffers.report refl c.requires.may.report;
-      ready = all_ready q c.args.stores.now.items c.requires.may.held begun.standing begun.none_strange c.requires.may.sound;
+      ready = all_ready q c.args.stores.now.items c.requires.may.held begun.stores_ready begun.none_unknown c.requires.may.sound;
       far = λ limits. far_first gives c.args.sources.now c.args.stores.now.items base begun.early limits;
       room = c.requires.may.orders;
     }

@@ -4,7 +4,7 @@ use Rattle.mm_exec.specs.RunInput.{run_input}
 use Rattle.mm_exec.specs.Step.{AreReady, run_state}
 use Rattle.mm_exec.specs.Steps.{StepsDone}
 use Rattle.mm_exec.specs.Course.{AreWithinLimits}
-use Rattle.mm_exec.proofs.Ready.{AllFar}
+use Rattle.mm_exec.proofs.StoresReady.{AllFar}
 use Rattle.mm_exec.proofs.Starting.{bound_at}
 use Rattle.mm_exec.proofs.course.carry_steps.Given as goal
 

@@ -3,7 +3,7 @@ use Rattle.mm_record.specs.Recorded.{recording}
 use Rattle.mm_exec.specs.declared.step.StepBroken.{StepBroken}
 use Rattle.mm_exec.specs.Step.{run_state, AreReady, StepDumped, StepDone, StepBroke, OutOfMemory, OrdersBroke}
 use Rattle.mm_exec.proofs.Parts.{as_many, both_parts, ok_follows, err_follows, both_follow}
-use Rattle.mm_exec.proofs.Ready.{may_dump, ready_after, ready_left, ready_recorded}
+use Rattle.mm_exec.proofs.StoresReady.{may_dump, ready_after, ready_left, ready_recorded}
 use Rattle.mm_exec.proofs.step.carry_step.Goals as goal
 
 pub returns-in_err-record_part-clause-ready : goal.returns-in_err-record_part-clause-ready

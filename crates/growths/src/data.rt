@@ -1,0 +1,84 @@
+//! A problem from data, its rest after a step, and a source from after that step on.
+use crate::met::Met;
+use mm_base::{Kind, StoreId, StoreRow};
+use mm_packet::BlockPacket;
+use mm_problem::{Fault, Problem};
+use mm_record::{Source, later_sources};
+use std::alloc::Global;
+
+// A problem of one store and two steps.
+fn new_problem(alloc: Global) -> Result<Problem, Fault> {
+    let Ok(id) = StoreId::of_text(b"SCI") else {
+        return Err(Fault::Header);
+    };
+    let row = StoreRow {
+        id,
+        size: 4,
+        start: 1,
+        kind: Kind::Bounded,
+        channel: 0,
+    };
+    Problem::new(alloc, &[row], &[], &[2, 1], &[3, 4])
+}
+
+/// What came of a problem from data.
+pub(crate) fn new(alloc: Global) -> Met {
+    match new_problem(alloc) {
+        Ok(problem) => Met::Whole.provided(
+            (problem.stores(), problem.steps()) == (1, 2),
+            "another problem",
+        ),
+        Err(Fault::NoMemory) => Met::Wanted,
+        Err(_) => Met::Wrong("another fault"),
+    }
+}
+
+/// What came of the rest of a problem after its first step.
+pub(crate) fn rest(alloc: Global) -> Met {
+    let Ok(problem) = new_problem(alloc) else {
+        return Met::Unready;
+    };
+    if (problem.stores(), problem.steps()) != (1, 2) {
+        return Met::Wrong("another problem");
+    }
+    match problem.rest(alloc, 1, &[3]) {
+        Ok(rest) => Met::Whole.provided(
+            rest.steps() == 1 && rest.stores() == 1 && rest.start(0) == 3,
+            "another rest",
+        ),
+        Err(Fault::NoMemory) => Met::Wanted,
+        Err(_) => Met::Wrong("another fault"),
+    }
+}
+
+// A source that gives nothing.
+#[derive(Drop)]
+struct Silence;
+
+impl Source for Silence {
+    ghost use Rattle.std.specs.Prelude.{[]};
+
+    ghost gives = { λ _ _. [] };
+
+    fn left(&self, _step: u32) -> u32 {
+        0
+    }
+
+    fn next(&mut self, _step: u32) -> Option<BlockPacket> {
+        None
+    }
+}
+
+/// What came of two sources from after a step on.
+pub(crate) fn later(alloc: Global) -> Met {
+    let mut sources = Vec::new(alloc);
+    for _ in 0..2 {
+        if sources.push(Silence).is_err() {
+            return Met::Unready;
+        }
+    }
+    match later_sources(alloc, sources, 7) {
+        Ok(later) => Met::Whole.provided(later.len() == 2, "another number of sources"),
+        Err((back, _)) => Met::Wanted.provided(back.len() == 2, "a source not handed back"),
+    }
+}
