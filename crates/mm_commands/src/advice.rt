@@ -1,11 +1,11 @@
 //! What the program says of a refusal on standard error: which file, where in it, what was expected, and what to do.
 
 use crate::fault::Fault;
-use crate::spot::Spot;
+use crate::spot::InFile;
 use mm_base::{Refusal, Refused};
 use mm_command_line::{Role, Task};
 use mm_problem::Name;
-use mm_told::Words;
+use mm_told::{Spot, Words};
 use std::fmt;
 
 /// What is said of a refusal. It is shown in one line: the file with the place in it, and the words of the refusal.
@@ -44,7 +44,7 @@ impl<'a> Advice<'a> {
 impl fmt::Display for Advice<'_> {
     fn fmt<W: fmt::Write>(&self, f: &mut fmt::Formatter<W>) -> fmt::Result {
         if let Some(file) = self.file {
-            write!(f, "{file}{}: ", self.spot)?;
+            write!(f, "{file}{}: ", InFile(self.spot))?;
         }
         write!(f, "{}", Words::of(self.refusal))
     }

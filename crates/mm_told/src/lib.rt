@@ -18,7 +18,7 @@ pub use findings::Finding;
 pub use reason::Reason;
 pub use refused_at::RefusedAt;
 pub use room::{PLAN_ROOM, plan_texts_fit};
-pub use spot::Spot;
+pub use spot::{Spot, spot_in_plan, spot_in_problem, spot_in_texts};
 pub use verdict::{VerdictKind, VerdictTold};
 pub use wording::words_of;
 pub use words::Words;
