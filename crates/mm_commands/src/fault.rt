@@ -5,7 +5,8 @@ ghost use Rattle.mm_commands.specs.declared.fault.Fault.TheVariants.{Texts, Run,
 
 use crate::spot::spot_in_script;
 use mm_base::{Refusal, Refused, refusals};
-use mm_told::{Spot, spot_in_plan, spot_in_problem, spot_in_texts};
+use mm_told::{Hint, Reason, Spot, Texts, hint_for, spot_in_plan, spot_in_problem, spot_in_texts};
+use std::alloc::Global;
 use std::fmt;
 
 /// Why a task is refused. It is shown as its number, its name and its fields.
@@ -76,6 +77,15 @@ impl Fault<'_> {
             Fault::Run(fault) => spot_in_run(fault),
             Fault::Setup(fault) => spot_in_problem(fault),
         }
+    }
+
+    /// What is found in these files, if more can be said of the fault.
+    pub(crate) fn hint(self, alloc: Global, texts: Texts<'_>) -> Option<Hint> {
+        let reason = Reason {
+            refusal: self.refusal(),
+            spot: self.spot(),
+        };
+        hint_for(alloc, reason, texts)
     }
 }
 
