@@ -13,6 +13,7 @@ use mm_chart::{chart_bytes, table_bytes};
 use mm_command_line::PlanFiles;
 use mm_cut::{Verdict, check_bytes};
 use mm_planner::plan_bytes;
+use mm_run::Printed;
 use std::alloc::Global;
 
 /// What answers a task.
