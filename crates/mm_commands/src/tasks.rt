@@ -143,7 +143,9 @@ pub fn do_task<R: Threads + Wait + Sync, F: Files, W: Write, E: Write>(
     match answer(rt, alloc, task, files, &mut kept) {
         Ok(answer) => {
             let status = print(alloc, task, &answer, &kept, out, err)?;
-            tell_notes(alloc, task, kept.texts(), err).map_err(|_| Unwritten::Messages)?;
+            if matches!(status, Status::Done) {
+                tell_notes(alloc, task, kept.texts(), err).map_err(|_| Unwritten::Messages)?;
+            }
             Ok(status)
         }
         Err(fault) => {

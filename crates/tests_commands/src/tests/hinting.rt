@@ -266,7 +266,7 @@ fn faults_of_packets_and_links_are_shown(rt: HostRuntime) {
 // A setup in UTF-16.
 #[test]
 fn a_file_in_utf16_is_shown(rt: HostRuntime) {
-    let (_, err, _) = told(&rt, b"plan S F\n=== S\n\xFF\xFE[\0[\0\n\0=== F\n");
+    let (_, err, _) = told(&rt, b"plan S F\n=== F\n=== S\n\xFF\xFE[\0[\0");
     let want = b"\nhint: the file is in UTF-16; save it in UTF-8\n";
     assert!(rt; err.ends_with(want));
 }
