@@ -5,17 +5,16 @@ use Rattle.mm_base.specs.declared.refusal.Refusal.{Refusal}
 use Rattle.mm_base.specs.declared.refusal.Refusal.TheVariants as refusal
 use Rattle.mm_problem.specs.Fault.{refusal_of as problem_refusal}
 use Rattle.mm_cut.specs.Fault.{refusal_of as check_refusal}
-use Rattle.mm_cut.specs.declared.fault.Fault.{Fault as CheckFault}
-use Rattle.mm_cut.specs.declared.fault.Fault.TheVariants as check
 use Rattle.mm_run.specs.Ending.{refusal_text}
 use Rattle.mm_run.specs.Fault.{refusal_of as flight_refusal}
 use Rattle.mm_run.specs.declared.fault.Fault.{Fault as FlightFault}
 use Rattle.mm_run.specs.declared.fault.Fault.TheVariants as flight
-use Rattle.mm_commands.specs.Spots.{spot_in_problem, spot_in_plan, spot_in_script, fields_text}
+use Rattle.mm_told.specs.Spots.{spot_in_problem, spot_in_plan, spot_in_texts, fields_text}
+use Rattle.mm_told.specs.declared.spot.Spot.{Spot}
+use Rattle.mm_told.specs.declared.spot.Spot.TheVariants.{Whole}
+use Rattle.mm_commands.specs.Spots.{spot_in_script}
 use Rattle.mm_commands.specs.declared.fault.Fault.{Fault}
 use Rattle.mm_commands.specs.declared.fault.Fault.TheVariants.{NoMemory, NotRead, Texts, Run, Setup}
-use Rattle.mm_commands.specs.declared.spot.Spot.{Spot}
-use Rattle.mm_commands.specs.declared.spot.Spot.TheVariants.{Whole}
 
 -- which refusal it is
 abbrev pub refusal_of : Fault → Refusal
@@ -24,12 +23,6 @@ refusal_of (NotRead name) = refusal.NotRead
 refusal_of (Texts fault) = check_refusal fault
 refusal_of (Run fault) = flight_refusal fault
 refusal_of (Setup fault) = problem_refusal fault
-
--- where in its file a fault of the texts of a plan is
-abbrev pub spot_in_texts : CheckFault → Spot
-spot_in_texts check.NoMemory = Whole
-spot_in_texts (check.Problem fault) = spot_in_problem fault
-spot_in_texts (check.Plan fault) = spot_in_plan fault
 
 -- where in its file a fault of the texts of a run is
 abbrev pub spot_in_run : FlightFault → Spot

@@ -1,11 +1,11 @@
 //! What the program says of a refusal on standard error: which file, where in it, what was expected, and what to do.
 
 use crate::fault::Fault;
-use crate::spot::Spot;
+use crate::spot::InFile;
 use mm_base::{Refusal, Refused};
 use mm_command_line::{Role, Task};
 use mm_problem::Name;
-use mm_told::Words;
+use mm_told::{EndsHint, Hint, Spot, Words};
 use std::fmt;
 
 /// What is said of a refusal. It is shown in one line: the file with the place in it, and the words of the refusal.
@@ -32,9 +32,13 @@ impl<'a> Advice<'a> {
     }
 
     /// What is said where a run did not begin or was halted.
-    pub(crate) fn of_run(task: Task<'a>, refusal: Refusal) -> Advice<'a> {
+    pub(crate) fn of_run(task: Task<'a>, refusal: Refusal, hint: Option<Hint>) -> Advice<'a> {
+        let file = match hint {
+            Some(Hint::Ends(EndsHint::Links { .. })) => task.file(Role::Links),
+            _ => file_of(Some(task), refusal, Spot::Whole),
+        };
         Advice {
-            file: file_of(Some(task), refusal, Spot::Whole),
+            file,
             spot: Spot::Whole,
             refusal,
         }
@@ -44,7 +48,7 @@ impl<'a> Advice<'a> {
 impl fmt::Display for Advice<'_> {
     fn fmt<W: fmt::Write>(&self, f: &mut fmt::Formatter<W>) -> fmt::Result {
         if let Some(file) = self.file {
-            write!(f, "{file}{}: ", self.spot)?;
+            write!(f, "{file}{}: ", InFile(self.spot))?;
         }
         write!(f, "{}", Words::of(self.refusal))
     }
@@ -61,11 +65,16 @@ fn role_of(refusal: Refusal, spot: Spot) -> Option<Role> {
             Some(Role::Forecast)
         }
         (Refusal::SetupText | Refusal::SetupField | Refusal::Limit, _) => Some(Role::Setup),
+        (Refusal::NotReady | Refusal::SizeDiffers | Refusal::ChannelDiffers, _) => {
+            Some(Role::Setup)
+        }
         (Refusal::ForecastText | Refusal::Header | Refusal::Cell | Refusal::StepNumber, _) => {
             Some(Role::Forecast)
         }
         (Refusal::PlanText | Refusal::Shape | Refusal::PlanDoesNotFit, _) => Some(Role::Plan),
-        (Refusal::SourcesText | Refusal::OpeningDiffers, _) => Some(Role::Sources),
+        (Refusal::SourcesText | Refusal::OpeningDiffers | Refusal::Counts, _) => Some(
+            Role::Sources,
+        ),
         (Refusal::LinksText | Refusal::LinkFailed, _) => Some(Role::Links),
         _ => None,
     }

@@ -6,12 +6,14 @@ ghost use Rattle.mm_command_line.specs.declared.task.Task.TheVariants.{Plan, Che
 
 use crate::fault::Fault;
 use crate::files::{Files, ReadFault};
+use crate::kept::Kept;
 use crate::status::Status;
 use mm_ask::{Outcome, ask_bytes};
 use mm_chart::{chart_bytes, table_bytes};
 use mm_command_line::PlanFiles;
 use mm_cut::{Verdict, check_bytes};
 use mm_planner::plan_bytes;
+use mm_run::Printed;
 use std::alloc::Global;
 
 /// What answers a task.
@@ -50,13 +52,17 @@ pub fn plan<'a, F: Files>(
     files: &mut F,
     setup: &'a str,
     forecast: &'a str,
+    kept: &mut Kept,
 ) -> Result<Answer, Fault<'a>>
     ensures plans { IfOk result (IsAnswerTo (F.content files.old) (Plan setup.entry forecast.entry)) }
     ensures refused { IfErr result (IsFaultOf (F.content files.old) (Plan setup.entry forecast.entry)) }
 {
     let setup = read_file(alloc, files, setup)?;
     let forecast = read_file(alloc, files, forecast)?;
-    let text = plan_bytes(alloc, &setup, &forecast)?;
+    let planned = plan_bytes(alloc, &setup, &forecast);
+    kept.setup = setup;
+    kept.forecast = forecast;
+    let text = planned?;
     Ok(Answer::Text {
         status: Status::Done,
         text,
@@ -99,6 +105,12 @@ impl PlanTexts {
             plan: read_file(alloc, files, names.plan)?,
         })
     }
+
+    fn keep(self, kept: &mut Kept) {
+        kept.setup = self.setup;
+        kept.forecast = self.forecast;
+        kept.plan = self.plan;
+    }
 }
 
 /// The line of the verdict on the plan in the files.
@@ -106,12 +118,15 @@ pub fn check<'a, F: Files>(
     alloc: Global,
     files: &mut F,
     names: PlanFiles<'a>,
+    kept: &mut Kept,
 ) -> Result<Answer, Fault<'a>>
     ensures judges { IfOk result (IsAnswerTo (F.content files.old) (Check names.entry)) }
     ensures refused { IfErr result (IsFaultOf (F.content files.old) (Check names.entry)) }
 {
     let texts = PlanTexts::read(alloc, files, names)?;
-    let (verdict, line) = check_bytes(alloc, &texts.setup, &texts.forecast, &texts.plan)?;
+    let checked = check_bytes(alloc, &texts.setup, &texts.forecast, &texts.plan);
+    texts.keep(kept);
+    let (verdict, line) = checked?;
     Ok(Answer::Line { verdict, line })
 }
 
@@ -120,12 +135,15 @@ pub fn chart<'a, F: Files>(
     alloc: Global,
     files: &mut F,
     names: PlanFiles<'a>,
+    kept: &mut Kept,
 ) -> Result<Answer, Fault<'a>>
     ensures charts { IfOk result (IsAnswerTo (F.content files.old) (Chart names.entry)) }
     ensures refused { IfErr result (IsFaultOf (F.content files.old) (Chart names.entry)) }
 {
     let texts = PlanTexts::read(alloc, files, names)?;
-    let text = chart_bytes(alloc, &texts.setup, &texts.forecast, &texts.plan)?;
+    let drawn = chart_bytes(alloc, &texts.setup, &texts.forecast, &texts.plan);
+    texts.keep(kept);
+    let text = drawn?;
     Ok(Answer::Text {
         status: Status::Done,
         text,
@@ -137,12 +155,15 @@ pub fn table<'a, F: Files>(
     alloc: Global,
     files: &mut F,
     names: PlanFiles<'a>,
+    kept: &mut Kept,
 ) -> Result<Answer, Fault<'a>>
     ensures tables { IfOk result (IsAnswerTo (F.content files.old) (Table names.entry)) }
     ensures refused { IfErr result (IsFaultOf (F.content files.old) (Table names.entry)) }
 {
     let texts = PlanTexts::read(alloc, files, names)?;
-    let text = table_bytes(alloc, &texts.setup, &texts.forecast, &texts.plan)?;
+    let listed = table_bytes(alloc, &texts.setup, &texts.forecast, &texts.plan);
+    texts.keep(kept);
+    let text = listed?;
     Ok(Answer::Text {
         status: Status::Done,
         text,
@@ -165,12 +186,16 @@ pub fn ask<'a, F: Files>(
     files: &mut F,
     setup: &'a str,
     requests: &'a str,
+    kept: &mut Kept,
 ) -> Result<Answer, Fault<'a>>
     ensures replies { IfOk result (IsAnswerTo (F.content files.old) (Ask setup.entry requests.entry)) }
     ensures refused { IfErr result (IsFaultOf (F.content files.old) (Ask setup.entry requests.entry)) }
 {
     let setup = read_file(alloc, files, setup)?;
     let requests = read_file(alloc, files, requests)?;
-    let (outcome, lines) = ask_bytes(alloc, &setup, &requests)?;
+    let asked = ask_bytes(alloc, &setup, &requests);
+    kept.setup = setup;
+    kept.requests = requests;
+    let (outcome, lines) = asked?;
     Ok(Answer::Lines { outcome, lines })
 }

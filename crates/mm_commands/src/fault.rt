@@ -1,10 +1,12 @@
 //! Why a task is refused.
 ghost use Rattle.std.specs.Prelude.{◌≡◌, Some};
-ghost use Rattle.mm_commands.specs.Faults.{refusal_of, spot_in_texts, spot_in_run, spot_of, fault_text};
+ghost use Rattle.mm_commands.specs.Faults.{refusal_of, spot_in_run, spot_of, fault_text};
 ghost use Rattle.mm_commands.specs.declared.fault.Fault.TheVariants.{Texts, Run, Setup};
 
-use crate::spot::{Fields, Spot, spot_in_plan, spot_in_problem, spot_in_script};
+use crate::spot::spot_in_script;
 use mm_base::{Refusal, Refused, refusals};
+use mm_told::{Hint, Reason, Spot, Texts, hint_for, spot_in_plan, spot_in_problem, spot_in_texts};
+use std::alloc::Global;
 use std::fmt;
 
 /// Why a task is refused. It is shown as its number, its name and its fields.
@@ -53,16 +55,6 @@ impl Refused for Fault<'_> {
     ghost refusal_of = { refusal_of };
 }
 
-fn spot_in_texts(fault: mm_cut::Fault) -> Spot
-    ensures { result ≡ spot_in_texts fault }
-{
-    match fault {
-        mm_cut::Fault::NoMemory => Spot::Whole,
-        mm_cut::Fault::Problem(fault) => spot_in_problem(fault),
-        mm_cut::Fault::Plan(fault) => spot_in_plan(fault),
-    }
-}
-
 fn spot_in_run(fault: mm_run::Fault) -> Spot
     ensures { result ≡ spot_in_run fault }
 {
@@ -86,6 +78,15 @@ impl Fault<'_> {
             Fault::Setup(fault) => spot_in_problem(fault),
         }
     }
+
+    /// What is found in these files, if more can be said of the fault.
+    pub(crate) fn hint(self, alloc: Global, texts: Texts<'_>) -> Option<Hint> {
+        let reason = Reason {
+            refusal: self.refusal(),
+            spot: self.spot(),
+        };
+        hint_for(alloc, reason, texts)
+    }
 }
 
 impl fmt::Display for Fault<'_> {
@@ -96,7 +97,7 @@ impl fmt::Display for Fault<'_> {
         write!(f, "{} {}", fault.number(), fault.name())?;
         match fault {
             Fault::NotRead { name } => write!(f, " name {name}"),
-            _ => write!(f, "{}", Fields(fault.spot())),
+            _ => write!(f, "{}", fault.spot()),
         }
     }
 }

@@ -9,6 +9,7 @@ ghost use Rattle.mm_command_line.specs.declared.task.Task.TheVariants.{Fly};
 use crate::answers::{Answer, read_file};
 use crate::fault::Fault;
 use crate::files::Files;
+use crate::kept::Kept;
 use mm_command_line::FlightFiles;
 use mm_run::{Printed, RunTexts, fly_bytes, run_bytes};
 use std::alloc::Global;
@@ -63,6 +64,16 @@ impl FlightBytes {
             links: read_file(alloc, files, names.links)?,
         })
     }
+
+    fn keep(self, kept: &mut Kept) {
+        kept.setup = self.setup;
+        kept.forecast = self.forecast;
+        if let Some(plan) = self.plan {
+            kept.plan = plan;
+        }
+        kept.sources = self.sources;
+        kept.links = self.links;
+    }
 }
 
 // What the run of the plan prints, which is made where none is given.
@@ -94,11 +105,14 @@ pub fn fly<'a, R: Threads + Wait + Sync, F: Files>(
     alloc: Global,
     files: &mut F,
     names: FlightFiles<'a>,
+    kept: &mut Kept,
 ) -> Result<Answer, Fault<'a>>
     ensures flies { IfOk result (IsAnswerTo (F.content files.old) (Fly names.entry)) }
     ensures refused { IfErr result (IsFaultOf (F.content files.old) (Fly names.entry)) }
 {
     let bytes = FlightBytes::read(alloc, files, names)?;
-    let printed = carry_out(rt, alloc, &bytes)?;
+    let run = carry_out(rt, alloc, &bytes);
+    bytes.keep(kept);
+    let printed = run?;
     Ok(Answer::Run(printed))
 }

@@ -6,6 +6,7 @@ mod answers;
 mod fault;
 mod files;
 mod flight;
+mod kept;
 pub mod laws;
 mod remark;
 mod run;

@@ -1,8 +1,14 @@
 //! What the program says of an answer on standard error: of a verdict, and of each line that is refused.
 
+use crate::advice::Advice;
+use mm_base::Refusal;
 use mm_command_line::{Role, Task};
 use mm_cut::Verdict;
-use mm_told::{Finding, Words};
+use mm_told::{
+    Finding, Hint, Reason, Spot, Texts, Words, hint_for, notes_on, opening_hint, refusal_numbered,
+    request_hint,
+};
+use std::alloc::Global;
 use std::fmt;
 use std::io::{self, Write};
 
@@ -50,12 +56,12 @@ fn finding_of(verdict: Verdict) -> Option<Finding> {
     }
 }
 
-// The place in its file that a line of an answer tells as refused, with the words of the refusal.
+// The place in its file that a line of an answer tells as refused, and the refusal.
 #[derive(Clone, Copy)]
 struct Refused<'a> {
     line: &'a str,
     instruction: Option<&'a str>,
-    words: Words,
+    refusal: Refusal,
 }
 
 impl<'a> Refused<'a> {
@@ -63,19 +69,24 @@ impl<'a> Refused<'a> {
     fn of(answer: &'a str) -> Option<Refused<'a>> {
         let (place, refusal) = answer.split_once(" refused ")?;
         let (number, _) = refusal.split_once(' ')?;
-        let words = Words::of_number(number.parse().ok()?)?;
+        let refusal = refusal_numbered(number.parse().ok()?)?;
         Some(match place.split_once('.') {
             Some((line, instruction)) => Refused {
                 line,
                 instruction: Some(instruction),
-                words,
+                refusal,
             },
             None => Refused {
                 line: place,
                 instruction: None,
-                words,
+                refusal,
             },
         })
+    }
+
+    // What is found in the line of the requests.
+    fn hint(&self, requests: &[u8]) -> Option<Hint> {
+        request_hint(self.refusal, requests, self.line.parse().ok()?)
     }
 }
 
@@ -85,7 +96,7 @@ impl fmt::Display for Refused<'_> {
         if let Some(instruction) = self.instruction {
             write!(f, ", instruction {instruction}")?;
         }
-        write!(f, ": {}", self.words)
+        write!(f, ": {}", Words::of(self.refusal))
     }
 }
 
@@ -97,14 +108,71 @@ fn requests_of(task: Task<'_>) -> Option<&str> {
     }
 }
 
+/// Says what is found, if anything is.
+pub(crate) fn tell_hint<E: Write>(hint: Option<Hint>, err: &mut E) -> io::Result<()> {
+    match hint {
+        Some(hint) => writeln!(err, "hint: {hint}"),
+        None => Ok(()),
+    }
+}
+
+/// Says why a run did not begin or was halted, of which `end` is the line.
+pub(crate) fn tell_stop<E: Write>(
+    alloc: Global,
+    task: Task<'_>,
+    refusal: Refusal,
+    end: &[u8],
+    texts: Texts<'_>,
+    err: &mut E,
+) -> io::Result<()> {
+    let hint = hint_of_run(alloc, refusal, end, texts);
+    writeln!(err, "{}", Advice::of_run(task, refusal, hint))?;
+    tell_hint(hint, err)
+}
+
+// What is found in the files of a run that did not begin, of which this is the line.
+fn hint_of_run(alloc: Global, refusal: Refusal, end: &[u8], texts: Texts<'_>) -> Option<Hint> {
+    if refusal == Refusal::OpeningDiffers {
+        let (_, store) = std::str::from_utf8(end).ok()?.split_once(" store ")?;
+        return opening_hint(alloc, texts, store.trim_end());
+    }
+    let spot = Spot::Whole;
+    hint_for(alloc, Reason { refusal, spot }, texts)
+}
+
+/// Says what in the files of a task has no effect.
+pub(crate) fn tell_notes<E: Write>(
+    alloc: Global,
+    task: Task<'_>,
+    texts: Texts<'_>,
+    err: &mut E,
+) -> io::Result<()> {
+    if requests_of(task).is_some() {
+        return Ok(());
+    }
+    let Ok(notes) = notes_on(alloc, task.file(Role::Links).is_some(), texts) else {
+        return Ok(());
+    };
+    for note in &notes {
+        writeln!(err, "note: {note}")?;
+    }
+    Ok(())
+}
+
 /// Says what each line means that is refused.
-pub(crate) fn tell_refused<E: Write>(task: Task<'_>, lines: &[u8], err: &mut E) -> io::Result<()> {
+pub(crate) fn tell_refused<E: Write>(
+    task: Task<'_>,
+    requests: &[u8],
+    lines: &[u8],
+    err: &mut E,
+) -> io::Result<()> {
     let (Some(file), Ok(lines)) = (requests_of(task), std::str::from_utf8(lines)) else {
         return Ok(());
     };
     for line in lines.lines() {
         if let Some(refused) = Refused::of(line) {
             writeln!(err, "{file}{refused}")?;
+            tell_hint(refused.hint(requests), err)?;
         }
     }
     Ok(())

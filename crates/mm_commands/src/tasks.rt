@@ -11,19 +11,22 @@ use crate::answers::{Answer, ask, chart, check, plan, status_of, status_of_repli
 use crate::fault::Fault;
 use crate::files::{Files, ReadFault};
 use crate::flight::fly;
-use crate::remark::{Remark, tell_refused};
+use crate::kept::Kept;
+use crate::remark::{Remark, tell_hint, tell_notes, tell_refused, tell_stop};
 use crate::status::{Status, Unwritten};
 use mm_command_line::Task;
 use mm_run::Outcome;
+use mm_told::Hint;
 use std::alloc::Global;
 use std::io::Write;
 use std::sync::Wait;
 use std::thread::Threads;
 
-// Says why a task is refused, and what that means.
+// Says why a task is refused, what that means, and what is found.
 fn refuse<W: Write, E: Write>(
     task: Option<Task<'_>>,
     fault: Fault<'_>,
+    hint: Option<Hint>,
     out: &mut W,
     err: &mut E,
 ) -> Result<Status, Unwritten>
@@ -32,6 +35,7 @@ fn refuse<W: Write, E: Write>(
 {
     writeln!(out, "refused {fault}").map_err(|_| Unwritten::Output)?;
     writeln!(err, "{}", Advice::of_fault(task, fault)).map_err(|_| Unwritten::Messages)?;
+    tell_hint(hint, err).map_err(|_| Unwritten::Messages)?;
     Ok(Status::Refused)
 }
 
@@ -48,13 +52,15 @@ pub fn refuse_input<W: Write, E: Write>(
         ReadFault::NoMemory => Fault::NoMemory,
         ReadFault::NotRead => Fault::NotRead { name: "-" },
     };
-    refuse(None, fault, out, err)
+    refuse(None, fault, None, out, err)
 }
 
 // Prints the answer, and what it means where something is refused, a verdict is not `Least`, or a run did not begin or was halted.
 fn print<W: Write, E: Write>(
+    alloc: Global,
     task: Task<'_>,
     answer: &Answer,
+    kept: &Kept,
     out: &mut W,
     err: &mut E,
 ) -> Result<Status, Unwritten>
@@ -68,7 +74,7 @@ fn print<W: Write, E: Write>(
         }
         Answer::Lines { outcome, lines } => {
             out.write_all(lines).map_err(|_| Unwritten::Output)?;
-            tell_refused(task, lines, err).map_err(|_| Unwritten::Messages)?;
+            tell_refused(task, &kept.requests, lines, err).map_err(|_| Unwritten::Messages)?;
             Ok(status_of_replies(*outcome))
         }
         Answer::Line { verdict, line } => {
@@ -87,7 +93,7 @@ fn print<W: Write, E: Write>(
             match printed.outcome {
                 Outcome::CarriedOut => Ok(Status::Done),
                 Outcome::Stopped(refusal) => {
-                    writeln!(err, "{}", Advice::of_run(task, refusal)).map_err(
+                    tell_stop(alloc, task, refusal, &printed.end, kept.texts(), err).map_err(
                         |_| Unwritten::Messages,
                     )?;
                     Ok(Status::Refused)
@@ -103,17 +109,18 @@ fn answer<'a, R: Threads + Wait + Sync, F: Files>(
     alloc: Global,
     task: Task<'a>,
     files: &mut F,
+    kept: &mut Kept,
 ) -> Result<Answer, Fault<'a>>
     ensures answers { IfOk result (IsAnswerTo (F.content files.old) task.entry) }
     ensures refused { IfErr result (IsFaultOf (F.content files.old) task.entry) }
 {
     match task {
-        Task::Plan { setup, forecast } => plan(alloc, files, setup, forecast),
-        Task::Check(names) => check(alloc, files, names),
-        Task::Chart(names) => chart(alloc, files, names),
-        Task::Table(names) => table(alloc, files, names),
-        Task::Fly(names) => fly(rt, alloc, files, names),
-        Task::Ask { setup, requests } => ask(alloc, files, setup, requests),
+        Task::Plan { setup, forecast } => plan(alloc, files, setup, forecast, kept),
+        Task::Check(names) => check(alloc, files, names, kept),
+        Task::Chart(names) => chart(alloc, files, names, kept),
+        Task::Table(names) => table(alloc, files, names, kept),
+        Task::Fly(names) => fly(rt, alloc, files, names, kept),
+        Task::Ask { setup, requests } => ask(alloc, files, setup, requests, kept),
     }
 }
 
@@ -132,8 +139,18 @@ pub fn do_task<R: Threads + Wait + Sync, F: Files, W: Write, E: Write>(
         ⊎ Refuses (F.content files.old) task.entry status (W.contents out.old) (W.contents out.new)) }
     ensures status { IfOk result (λ status. status ≢ BadCommandLine) }
 {
-    match answer(rt, alloc, task, files) {
-        Ok(answer) => print(task, &answer, out, err),
-        Err(fault) => refuse(Some(task), fault, out, err),
+    let mut kept = Kept::new(alloc);
+    match answer(rt, alloc, task, files, &mut kept) {
+        Ok(answer) => {
+            let status = print(alloc, task, &answer, &kept, out, err)?;
+            if matches!(status, Status::Done) {
+                tell_notes(alloc, task, kept.texts(), err).map_err(|_| Unwritten::Messages)?;
+            }
+            Ok(status)
+        }
+        Err(fault) => {
+            let hint = fault.hint(alloc, kept.texts());
+            refuse(Some(task), fault, hint, out, err)
+        }
     }
 }

@@ -152,7 +152,7 @@ pub(crate) fn name_coded(code: u32) -> Option<Name>
 }
 
 /// The refusal with this number.
-pub(crate) fn refusal_numbered(number: u32) -> Option<Refusal>
+pub fn refusal_numbered(number: u32) -> Option<Refusal>
     ensures { result ≡ slice_get REFUSALS number }
 {
     entry(&REFUSALS, number)

@@ -4,6 +4,7 @@
 mod answer;
 mod codes;
 mod findings;
+mod hints;
 mod reason;
 mod refused_at;
 mod room;
@@ -13,12 +14,13 @@ mod wording;
 mod words;
 
 pub use answer::{Answer, Status, tell_text};
-pub use codes::{NAMES, PLACES, Place, REFUSALS};
+pub use codes::{NAMES, PLACES, Place, REFUSALS, refusal_numbered};
 pub use findings::Finding;
+pub use hints::{EndsHint, Hint, Note, Texts, hint_for, notes_on, opening_hint, request_hint};
 pub use reason::Reason;
 pub use refused_at::RefusedAt;
 pub use room::{PLAN_ROOM, plan_texts_fit};
-pub use spot::Spot;
+pub use spot::{Spot, spot_in_plan, spot_in_problem, spot_in_texts};
 pub use verdict::{VerdictKind, VerdictTold};
 pub use wording::words_of;
 pub use words::Words;

@@ -38,7 +38,7 @@ impl fmt::Display for Spot {
 }
 
 /// Where in the setup or the forecast a fault is.
-pub(crate) fn spot_in_problem(fault: mm_problem::Fault) -> Spot
+pub fn spot_in_problem(fault: mm_problem::Fault) -> Spot
     ensures { result ≡ spot_in_problem fault }
 {
     match fault {
@@ -50,8 +50,8 @@ pub(crate) fn spot_in_problem(fault: mm_problem::Fault) -> Spot
     }
 }
 
-// Where in a plan text a fault is.
-fn spot_in_plan(fault: mm_plan::Fault) -> Spot
+/// Where in a plan text a fault is.
+pub fn spot_in_plan(fault: mm_plan::Fault) -> Spot
     ensures { result ≡ spot_in_plan fault }
 {
     match fault {
@@ -61,7 +61,7 @@ fn spot_in_plan(fault: mm_plan::Fault) -> Spot
 }
 
 /// Where in the setup, the forecast or the plan text a fault is.
-pub(crate) fn spot_in_texts(fault: mm_cut::Fault) -> Spot
+pub fn spot_in_texts(fault: mm_cut::Fault) -> Spot
     ensures { result ≡ spot_in_texts fault }
 {
     match fault {

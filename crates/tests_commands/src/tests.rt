@@ -6,6 +6,7 @@ mod charting;
 mod checking;
 mod failing;
 mod flying;
+mod hinting;
 mod inputs;
 mod planning;
 mod samples;

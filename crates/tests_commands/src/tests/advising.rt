@@ -62,7 +62,7 @@ static ADVICE: [(&str, &str); 18] = [
     ),
     (
         "fly S F X L\n=== S\n[[store]]\nid = \"A\"\nsize = 1\ntype = \"bounded\"\nchannel = 0\n=== F\nstep,window,A\n1,0,0\n=== X\n=== L\nlinks 1\n",
-        "expected 1 to 8 sources and 1 to 4 links; count them; a source needs a line in the file of sources\n",
+        "X: expected 1 to 8 sources and 1 to 4 links; count them; a source needs a line in the file of sources\n",
     ),
     (
         "run S F P X L\n=== S\n[[store]]\nid = \"A\"\nsize = 1\ntype = \"bounded\"\nchannel = 0\n=== F\nstep,window,A\n1,0,1\n=== P\nmmplan 1\nstores A\ndump 1 1\nloss 0\nbound 0\nend\n=== X\n1 1 0864C000000E200319000000000000000000000000\n=== L\nlinks 1\n",
@@ -138,6 +138,7 @@ const REFUSED_REQUESTS: &str = "zz\n1864C000000D200F01000001484B202020202020\n";
 
 const REFUSED_WORDS: &str = "\
 R, line 1: expected one telecommand in hexadecimal digits, two for each octet, and nothing after it; write one telecommand a line, and compare its packet data length with its octets
+hint: line 1 has \"z\", which is no hexadecimal digit
 R, line 2, instruction 1: expected the identifier of a store that is there; list the stores with subtype 22, or create this one with subtype 20
 ";
 

@@ -1,0 +1,97 @@
+//! What is found in the files of a task that is refused, for people: one line that says what to change.
+
+mod cells;
+mod ends;
+mod excerpt;
+mod forecast;
+mod form;
+mod lines;
+mod notes;
+mod packets;
+mod plan;
+mod setup;
+mod tables;
+
+use crate::reason::Reason;
+use crate::spot::Spot;
+pub use ends::{EndsHint, ReportType, opening_hint};
+use ends::{counts_hint, links_hint, sources_hint};
+pub use excerpt::Excerpt;
+pub use forecast::ForecastHint;
+use forecast::forecast_hint;
+pub use form::FormHint;
+use mm_base::Refusal;
+use mm_problem::Name;
+pub use notes::{Note, notes_on};
+pub use packets::{PacketHint, request_hint};
+pub use plan::PlanHint;
+use plan::{plan_hint, shape_hint};
+pub use setup::SetupHint;
+use setup::setup_hint;
+use std::alloc::Global;
+use std::fmt;
+pub use tables::TableAt;
+
+/// The bytes of a task's files; none for a file that the task does not have.
+#[derive(Clone, Copy)]
+pub struct Texts<'a> {
+    pub setup: &'a [u8],
+    pub forecast: &'a [u8],
+    pub plan: &'a [u8],
+    pub sources: &'a [u8],
+    pub links: &'a [u8],
+}
+
+/// What is found in a file that is refused. It is shown in one line without its end.
+#[derive(Clone, Copy)]
+pub enum Hint {
+    Form(FormHint),
+    Setup(SetupHint),
+    Forecast(ForecastHint),
+    Plan(PlanHint),
+    Packet(PacketHint),
+    Ends(EndsHint),
+}
+
+impl fmt::Display for Hint {
+    fn fmt<W: fmt::Write>(&self, f: &mut fmt::Formatter<W>) -> fmt::Result {
+        match self {
+            Hint::Form(hint) => write!(f, "{hint}"),
+            Hint::Setup(hint) => write!(f, "{hint}"),
+            Hint::Forecast(hint) => write!(f, "{hint}"),
+            Hint::Plan(hint) => write!(f, "{hint}"),
+            Hint::Packet(hint) => write!(f, "{hint}"),
+            Hint::Ends(hint) => write!(f, "{hint}"),
+        }
+    }
+}
+
+// Whether the refusal is one of the forecast.
+fn is_of_forecast(reason: Reason) -> bool {
+    match reason.refusal {
+        Refusal::ForecastText | Refusal::Header | Refusal::Cell | Refusal::StepNumber => true,
+        Refusal::Limit => matches!(
+            reason.spot,
+            Spot::Number(Name::Steps | Name::Window | Name::Arrivals)
+        ),
+        _ => false,
+    }
+}
+
+/// What is found in the files of a task that is refused for this reason, if more can be said of it.
+pub fn hint_for(alloc: Global, reason: Reason, texts: Texts<'_>) -> Option<Hint> {
+    if is_of_forecast(reason) {
+        return forecast_hint(alloc, reason, texts);
+    }
+    match (reason.refusal, reason.spot) {
+        (Refusal::SetupText | Refusal::SetupField | Refusal::Limit, _) => {
+            setup_hint(alloc, reason.spot, texts.setup)
+        }
+        (Refusal::PlanText, Spot::Line(line)) => Some(plan_hint(texts.plan, line)),
+        (Refusal::Shape, _) => shape_hint(alloc, texts),
+        (Refusal::SourcesText, Spot::Line(line)) => sources_hint(texts.sources, line),
+        (Refusal::LinksText, Spot::Line(line)) => links_hint(texts.links, line),
+        (Refusal::Counts, _) => counts_hint(texts),
+        _ => None,
+    }
+}

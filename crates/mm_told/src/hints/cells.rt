@@ -1,0 +1,154 @@
+//! Records and cells of a forecast, for hints: a record is a line that is not empty.
+ghost use Rattle.std.specs.Prelude.{◌<◌, length, IfSome};
+
+use crate::hints::lines::{after_mark, first_line};
+use mm_base::MAX_BLOCKS;
+use mm_base::numbers::Numeral;
+
+/// A record of a forecast: its row, from 1, where the header is row 0; the number of its line, from 1; and its text.
+#[derive(Clone, Copy)]
+pub(crate) struct Record<'a> {
+    pub(crate) row: u32,
+    pub(crate) line: u64,
+    pub(crate) text: &'a [u8],
+}
+
+/// Which record is looked for.
+#[derive(Clone, Copy)]
+pub(crate) enum Wanted {
+    /// The one in this row.
+    Row(u32),
+    /// The first with another number of cells than this, after the header.
+    Uneven { cells: u32 },
+    /// The first with a number above 1,000,000.
+    TooLarge,
+}
+
+// The line without the CR at its end.
+fn without_return(line: &[u8]) -> &[u8] {
+    match line {
+        [front @ .., b'\r'] => front,
+        _ => line,
+    }
+}
+
+// Whether a quoted cell goes on in the next line, or a CR stands in the line.
+fn is_odd(line: &[u8]) -> bool {
+    let mut is_quoted = false;
+    for byte in line {
+        if *byte == b'"' {
+            is_quoted = !is_quoted;
+        }
+    }
+    is_quoted || line.contains(&b'\r')
+}
+
+// The text up to the first comma outside quotes, and what follows it.
+fn cut_cell(text: &[u8]) -> Option<(&[u8], &[u8])>
+    ensures shorter { IfSome result (λ parts. length parts.1.now < length text.now) }
+{
+    let mut is_quoted = false;
+    for (i, byte) in text.iter().enumerate() {
+        if *byte == b'"' {
+            is_quoted = !is_quoted;
+        } else if *byte == b',' && !is_quoted {
+            return Some((&text[..i], &text[i + 1..]));
+        }
+    }
+    None
+}
+
+fn is_too_large(cell: &[u8]) -> bool {
+    matches!(
+        Numeral::read(cell, u64::from(MAX_BLOCKS)),
+        Numeral::TooLarge
+    )
+}
+
+impl<'a> Record<'a> {
+    /// How many cells the record has.
+    pub(crate) fn cells(&self) -> u32 {
+        let mut rest = self.text;
+        let mut cells: u32 = 1;
+        while let Some((_, after)) = cut_cell(rest) {
+            rest = after;
+            cells = cells.saturating_add(1);
+        }
+        cells
+    }
+
+    /// The cell in this column, from 1.
+    pub(crate) fn cell(&self, column: u32) -> Option<&'a [u8]> {
+        let mut rest = self.text;
+        let mut cell: u32 = 1;
+        while let Some((front, after)) = cut_cell(rest) {
+            if cell == column {
+                return Some(front);
+            }
+            rest = after;
+            cell = cell.saturating_add(1);
+        }
+        if cell == column { Some(rest) } else { None }
+    }
+
+    /// The first cell with a number above 1,000,000.
+    pub(crate) fn too_large(&self) -> Option<&'a [u8]> {
+        let mut rest = self.text;
+        while let Some((front, after)) = cut_cell(rest) {
+            if is_too_large(front) {
+                return Some(front);
+            }
+            rest = after;
+        }
+        if is_too_large(rest) { Some(rest) } else { None }
+    }
+
+    // Whether this is a record that is looked for.
+    fn is_wanted(&self, wanted: Wanted) -> bool {
+        match wanted {
+            Wanted::Row(row) => self.row == row,
+            Wanted::Uneven { cells } => self.row > 0 && self.cells() != cells,
+            Wanted::TooLarge => self.row > 0 && self.too_large().is_some(),
+        }
+    }
+}
+
+/// The record that is looked for; none where one up to it does not stand in a line of its own.
+pub(crate) fn record_in(text: &[u8], wanted: Wanted) -> Option<Record<'_>> {
+    let mut rest = after_mark(text);
+    let mut line: u64 = 1;
+    let mut row: u32 = 0;
+    while let Some((front, after)) = first_line(rest) {
+        let front = without_return(front);
+        if is_odd(front) {
+            return None;
+        }
+        if !front.is_empty() {
+            let record = Record {
+                row,
+                line,
+                text: front,
+            };
+            if record.is_wanted(wanted) {
+                return Some(record);
+            }
+            row = row.saturating_add(1);
+        }
+        rest = after;
+        line = line.saturating_add(1);
+    }
+    None
+}
+
+/// How many records come after the header.
+pub(crate) fn rows_in(text: &[u8]) -> u32 {
+    let mut rest = after_mark(text);
+    let mut records: u32 = 0;
+    while let Some((front, after)) = first_line(rest) {
+        if !without_return(front).is_empty() {
+            records = records.saturating_add(1);
+        }
+        rest = after;
+    }
+    records.saturating_sub(1)
+}

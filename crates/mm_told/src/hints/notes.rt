@@ -1,0 +1,103 @@
+//! Notes on the files of a task that is done: what in them has no effect.
+
+use crate::hints::Texts;
+use crate::hints::ends::{ReportType, digits_of, is_reached};
+use crate::hints::excerpt::Excerpt;
+use crate::hints::lines::first_line;
+use mm_base::{NoMemory, StoreId};
+use mm_problem::Setup;
+use std::alloc::Global;
+use std::fmt;
+
+/// What in the files of a task has no effect. It is shown in one line without its end.
+#[derive(Clone, Copy)]
+pub enum Note {
+    /// A limit is of a channel that no store has.
+    LimitOfNone { channel: u8 },
+    /// No route leads to a store.
+    Unreached { store: StoreId },
+    /// No route takes the telemetry of this line of the sources, which is the first of that kind.
+    Untaken { line: u64, report: ReportType },
+}
+
+impl fmt::Display for Note {
+    fn fmt<W: fmt::Write>(&self, f: &mut fmt::Formatter<W>) -> fmt::Result {
+        match self {
+            Note::LimitOfNone { channel } => write!(
+                f,
+                "the setup has a limit for channel {channel}, on which no store is"
+            ),
+            Note::Unreached { store } => write!(
+                f,
+                "no route of the setup leads to {}, so nothing arrives there",
+                Excerpt::of(store.text())
+            ),
+            Note::Untaken { line, report } => write!(
+                f,
+                "no route takes {report}, as line {line} of the sources has it; such packets go to no store"
+            ),
+        }
+    }
+}
+
+fn push_limits(notes: &mut Vec<Note>, setup: &Setup) -> Result<(), NoMemory> {
+    for limit in setup.limits() {
+        let channel = limit.channel;
+        if !setup.stores().iter().any(|row| row.channel == channel) {
+            notes.push(Note::LimitOfNone { channel })?;
+        }
+    }
+    Ok(())
+}
+
+fn push_stores(notes: &mut Vec<Note>, setup: &Setup) -> Result<(), NoMemory> {
+    for row in setup.stores() {
+        if !is_reached(setup.routes(), row.id) {
+            notes.push(Note::Unreached { store: row.id })?;
+        }
+    }
+    Ok(())
+}
+
+// Whether no route takes the telemetry of a line of sources.
+fn untaken(setup: &Setup, line: &[u8]) -> Option<ReportType> {
+    let report = ReportType::of(digits_of(line)?)?;
+    if setup.routes().iter().any(|route| report.is_taken(route)) {
+        None
+    } else {
+        Some(report)
+    }
+}
+
+// The first line of the sources that no route takes.
+fn first_untaken(setup: &Setup, sources: &[u8]) -> Option<Note> {
+    let mut rest = sources;
+    let mut number: u64 = 1;
+    while let Some((line, after)) = first_line(rest) {
+        if let Some(report) = untaken(setup, line) {
+            return Some(Note::Untaken {
+                line: number,
+                report,
+            });
+        }
+        rest = after;
+        number = number.saturating_add(1);
+    }
+    None
+}
+
+/// What in the files of a task that is done has no effect: limits, and in a run also routes and packets.
+pub fn notes_on(alloc: Global, is_run: bool, texts: Texts<'_>) -> Result<Vec<Note>, NoMemory> {
+    let mut notes = Vec::new(alloc);
+    let Ok(setup) = Setup::read(alloc, texts.setup) else {
+        return Ok(notes);
+    };
+    push_limits(&mut notes, &setup)?;
+    if is_run {
+        push_stores(&mut notes, &setup)?;
+        if let Some(note) = first_untaken(&setup, texts.sources) {
+            notes.push(note)?;
+        }
+    }
+    Ok(notes)
+}
