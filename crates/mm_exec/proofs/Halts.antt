@@ -26,12 +26,12 @@ use Rattle.mm_dump.specs.declared.order.OrderBroken.TheVariants as broken
 use Rattle.mm_dump.specs.Laws.{BrokenOrdersChangeNothing}
 use Rattle.mm_dump.specs.Sending.{Sent}
 use Rattle.mm_dump.specs.Courses.{Course}
-use Rattle.mm_dump.specs.Dumped.{times, HasTried, AllSettled}
+use Rattle.mm_dump.specs.Dumped.{times, wanted, HasTried, AllSettled}
 use Rattle.mm_report.specs.declared.cause.Cause.{Cause}
 use Rattle.mm_report.specs.declared.cause.Cause.TheVariants.{LinkFailed}
 use Rattle.mm_exec.proofs.Replays.{IsRun-append}
 use Rattle.mm_exec.specs.Failure.{FailedLink}
-use Rattle.mm_exec.specs.Halts.{AreOneOrder, AreFirstOffers, IsByOneLog, BrokenStepsAreLogs}
+use Rattle.mm_exec.specs.Halts.{AreOneOrder, IsOrderFor, AreFirstOffers, IsByOneLog, BrokenStepsAreLogs}
 use Rattle.mm_memory.specs.Laws.{ids_of}
 use Rattle.mm_exec.specs.Step.{RunState, AreReady, OutOfMemory, RecordersBroke, OrdersBroke, RecordingBroke, DumpBroke, StepBroke, dump_cause}
 use Rattle.mm_exec.proofs.Failing.{links_failed}
@@ -51,8 +51,8 @@ link_failed step broken.LinkFailed is = refl
 link_failed step broken.NoMemory is = absurd (cc is)
 
 -- a store that was left alone
-left_alone : (e : RecordingContext) (gives : List (List SpacePacket)) (k : ℕ) (s : State) → IsByOneLog e gives k s s
-left_alone e gives k s = record {
+left_alone : (e : RecordingContext) (gives : List (List SpacePacket)) (orders : List Order) (k : ℕ) (s : State) → IsByOneLog e gives orders k s s
+left_alone e gives orders k s = record {
   firsts = map {B = List Event} (λ g. []) gives;
   are = none_first e k gives;
   offered = [];
@@ -63,9 +63,9 @@ left_alone e gives k s = record {
 }
 
 -- a store at which all offers were made, and then the calls of one order
-then_tried : (e : RecordingContext) (gives : List (List SpacePacket)) (k : ℕ) (s mid t : State) → HasRecorded e gives k s mid → (taken : ℕ) (c : Course) → HasTried taken k c mid t
-    → IsByOneLog e gives k s t
-then_tried e gives k s mid t first taken c tried = record {
+then_tried : (e : RecordingContext) (gives : List (List SpacePacket)) (orders : List Order) (k : ℕ) (s mid t : State) → HasRecorded e gives k s mid
+    → (taken : ℕ) (c : Course) → HasTried taken k c mid t → (0 < taken → c.order.amount ≡ wanted orders k) → IsByOneLog e gives orders k s t
+then_tried e gives orders k s mid t first taken c tried amount = record {
   firsts = map (offers e k) gives;
   are = all_first e k gives;
   offered = first.log;
@@ -75,16 +75,18 @@ then_tried e gives k s mid t first taken c tried = record {
   order = by_count (cases_lt 0 taken);
 }
   where
-    by_count : (0 < taken) ⊎ (taken ≤ 0) → AreOneOrder c.calls
-    by_count (inl some) = inr (c, refl, (tried.some some).1)
+    by_count : (0 < taken) ⊎ (taken ≤ 0) → AreOneOrder orders k c.calls
+    by_count (inl some) =
+        let tried_some = tried.some some in
+        inr (c, refl, tried_some.1, record { place = tried_some.0; amount = amount some })
     by_count (inr none) =
         let zero_taken : taken ≡ 0 = omega arith in
         inl (tried.none zero_taken).0
 
 -- an offered log and no order
-then_nothing : (e : RecordingContext) (gives : List (List SpacePacket)) (k : ℕ) (s t : State) → (firsts : List (List Event)) → AllZip (AreFirstOffers e k) gives firsts
-    → (log : List Entry) → IsRun s log t → IsShuffleOfEvents firsts log → IsByOneLog e gives k s t
-then_nothing e gives k s t firsts are log run shuffle = record {
+then_nothing : (e : RecordingContext) (gives : List (List SpacePacket)) (orders : List Order) (k : ℕ) (s t : State) → (firsts : List (List Event)) → AllZip (AreFirstOffers e k) gives firsts
+    → (log : List Entry) → IsRun s log t → IsShuffleOfEvents firsts log → IsByOneLog e gives orders k s t
+then_nothing e gives orders k s t firsts are log run shuffle = record {
   firsts = firsts;
   are = are;
   offered = log;
@@ -116,35 +118,35 @@ module _ {S L : Type 0} (gives : S → ℕ → List SpacePacket) (sent : L → L
   same_held P xs ys same holds = subst (λ (held : List Held). P (opening_at (states_of held) k)) (sym same) holds
 
   -- broken off while it was recorded
-  by_recorders : RecordingBroke gives e before after cause spent → IsByOneLog e came k old new
+  by_recorders : RecordingBroke gives e before after cause spent → IsByOneLog e came orders k old new
   by_recorders broke = by_how broke.how
     where
       by_how : OutOfMemory e.step before.stores before.sources after.stores after.sources cause spent
-          ⊎ RecordersBroke gives e before.stores before.sources after.stores after.sources cause spent → IsByOneLog e came k old new
-      by_how (inl lack) = same_held (IsByOneLog e came k old) before.stores after.stores lack.stores_same (left_alone e came k old)
+          ⊎ RecordersBroke gives e before.stores before.sources after.stores after.sources cause spent → IsByOneLog e came orders k old new
+      by_how (inl lack) = same_held (IsByOneLog e came orders k old) before.stores after.stores lack.stores_same (left_alone e came orders k old)
       by_how (inr broke) =
           let went = broke.records.went k (inside after.stores labels) in
-          then_nothing e came k old new (map (λ run. run.offered k) broke.records.runs)
+          then_nothing e came orders k old new (map (λ run. run.offered k) broke.records.runs)
           (first_turns gives e before.sources after.sources broke.records.runs k broke.records.are_runs (omega (arith, within, length-map before.stores (λ (h : Held). h.id))))
           went.log went.run went.shuffle
 
   -- broken off while orders were carried out
-  by_orders : DumpBroke gives sent failed e orders before after cause spent → IsByOneLog e came k old new
+  by_orders : DumpBroke gives sent failed e orders before after cause spent → IsByOneLog e came orders k old new
   by_orders dumping = by_how dumping.how
     where
       first : HasRecorded e came k old (opening_at (states_of dumping.mid) k)
       first = dumping.recorded.stores_are k (inside dumping.mid dumping.recorded.labels)
 
       by_how : OutOfMemory e.step dumping.mid before.links after.stores after.links cause spent
-          ⊎ OrdersBroke sent failed e.step orders dumping.mid before.links after.stores after.links cause spent → IsByOneLog e came k old new
+          ⊎ OrdersBroke sent failed e.step orders dumping.mid before.links after.stores after.links cause spent → IsByOneLog e came orders k old new
       by_how (inl lack) =
-          same_held (IsByOneLog e came k old) dumping.mid after.stores lack.stores_same
-          (then_nothing e came k old (opening_at (states_of dumping.mid) k) (map (offers e k) came) (all_first e k came) first.log first.run first.shuffle)
+          same_held (IsByOneLog e came orders k old) dumping.mid after.stores lack.stores_same
+          (then_nothing e came orders k old (opening_at (states_of dumping.mid) k) (map (offers e k) came) (all_first e k came) first.log first.run first.shuffle)
       by_how (inr broke) =
-          then_tried e came k old (opening_at (states_of dumping.mid) k) new first (sum_by (times k) broke.settled.places) (broke.settled.course k)
-          (broke.settled.stores k (inside after.stores labels))
+          then_tried e came orders k old (opening_at (states_of dumping.mid) k) new first (sum_by (times k) broke.settled.places) (broke.settled.course k)
+          (broke.settled.stores k (inside after.stores labels)) (broke.settled.amounts k)
 
-  pub one_log : StepBroke gives sent failed e orders before after cause spent → IsByOneLog e came k old new
+  pub one_log : StepBroke gives sent failed e orders before after cause spent → IsByOneLog e came orders k old new
   one_log (inl recording) = by_recorders recording
   one_log (inr dumping) = by_orders dumping
 

@@ -16,27 +16,33 @@ use Rattle.mm_record.specs.Steps.{given_in}
 use Rattle.mm_dump.specs.declared.order.Order.{Order}
 use Rattle.mm_dump.specs.Sending.{Sent}
 use Rattle.mm_dump.specs.Courses.{Course, IsCourse}
+use Rattle.mm_dump.specs.Dumped.{wanted}
 use Rattle.mm_report.specs.declared.cause.Cause.{Cause}
 use Rattle.mm_exec.specs.Step.{RunState, StepBroke}
 
--- no call, or the calls of one dump order, whole or broken
-abbrev pub AreOneOrder : List Entry → Type 0
-AreOneOrder calls = (calls ≡ []) ⊎ ((c : Course) × (calls ≡ c.calls) × IsCourse c)
+-- it is the order for the store at a place: it wants as much as all these orders want of that store
+pub record IsOrderFor (orders : List Order) (k : ℕ) (c : Course) : Type 0 where
+  pub place : c.order.place ≡ k
+  pub amount : c.order.amount ≡ wanted orders k
+
+-- no call, or the calls of the dump order for the store at a place, whole or broken
+abbrev pub AreOneOrder : List Order → ℕ → List Entry → Type 0
+AreOneOrder orders k calls = (calls ≡ []) ⊎ ((c : Course) × (calls ≡ c.calls) × IsCourse c × IsOrderFor orders k c)
 
 -- these are the first offers to the store at a place, of those of these packets: perhaps none, perhaps all
 abbrev pub AreFirstOffers : RecordingContext → ℕ → List SpacePacket → List Event → Type 0
 AreFirstOffers e k packets first = (rest : List Event) × (offers e k packets ≡ first ++ rest)
 
 -- a store went from one state to another by one legal log: replies left aside, a shuffle of the first offers of what each source gives, and
--- then the calls of at most one order
-pub record IsByOneLog (e : RecordingContext) (gives : List (List SpacePacket)) (k : ℕ) (s t : State) : Type 0 where
+-- then the calls of at most one order, the one for this store
+pub record IsByOneLog (e : RecordingContext) (gives : List (List SpacePacket)) (orders : List Order) (k : ℕ) (s t : State) : Type 0 where
   pub firsts : List (List Event)
   pub are : AllZip (AreFirstOffers e k) gives firsts
   pub offered : List Entry
   pub ordered : List Entry
   pub run : IsRun s (offered ++ ordered) t
   pub shuffle : IsShuffleOfEvents firsts offered
-  pub order : AreOneOrder ordered
+  pub order : AreOneOrder orders k ordered
 
 -- what holds of each store, from what it was before a step to what it is after it
 abbrev pub AtEachStore : (ℕ → State → State → Type 0) → List Held → List Held → Type 0
@@ -47,4 +53,4 @@ abbrev pub BrokenStepsAreLogs : {S L : Type 0} → (S → ℕ → List SpacePack
 BrokenStepsAreLogs {S} {L} gives sent failed = (step now : ℕ) (routes : List RouteRow) (orders : List Order) (before after : RunState S L) (cause : Cause) (spent : ℕ)
     → StepBroke gives sent failed (recording step now routes before.stores) orders before after cause spent
     → labels_of after.stores ≡ labels_of before.stores
-    → AtEachStore (IsByOneLog (recording step now routes before.stores) (given_in gives step before.sources)) before.stores after.stores
+    → AtEachStore (IsByOneLog (recording step now routes before.stores) (given_in gives step before.sources) orders) before.stores after.stores

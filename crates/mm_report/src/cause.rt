@@ -34,7 +34,7 @@ pub enum Cause {
     NoMemory { step: u32 },
     /// A link did not take a packet in this step.
     LinkFailed { step: u32 },
-    /// In this step a store's log and the lists of its callers do not agree, or a call or a draw was refused.
+    /// In this step a store refused a packet. Within the limits of a run no store does (`far` of `carry_out` and `fly` in `mm_exec`).
     LogMismatch { step: u32 },
 }
 

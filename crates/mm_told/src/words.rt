@@ -113,7 +113,7 @@ fn expected(refusal: Refusal) -> &'static str
         Refusal::NoMemoryInStep => "memory for this step",
         Refusal::LinkFailed => "a link that takes the packet",
         Refusal::LogMismatch => {
-            "a store whose log agrees with what its users were answered, and that refuses none of their calls"
+            "a store that refuses no packet, as no store does within the limits of a run"
         }
         Refusal::BadSize => "a size from 1 to 1,000,000 blocks",
         Refusal::HexLine => {
