@@ -214,9 +214,12 @@ check_crate_names() {
 # The names of the pages that lead through the sources.
 check_page_names() {
   local page name
-  { ls "$top/crates" && grep -rhowE --include='*.rt' --include='*.antt' --exclude-dir=out '[A-Za-z_][A-Za-z_0-9]+' "$top/crates"; } |
-    sort -u >"$work/known"
-  for page in TOUR READING LAYERS; do
+  {
+    ls "$top/crates"
+    find "$top"/crates/*/must-fail "$top"/crates/*/wrong-bodies -name '*.edit' -exec basename -s .edit {} +
+    grep -rhowE --include='*.rt' --include='*.antt' --exclude-dir=out '[A-Za-z_][A-Za-z_0-9]+' "$top/crates"
+  } | sort -u >"$work/known"
+  for page in TOUR READING LAYERS PROMISES; do
     while IFS= read -r name; do
       fail "docs/$page.md: $name stands in no source"
     done < <(names <"$top/docs/$page.md" | comm -23 - "$work/known")
@@ -358,7 +361,7 @@ check_findings() {
 
 # The tests that docs/FORMATS.md names for refusals: at least one for each, in a crate whose sources name the refusal.
 check_refusal_tests() {
-  local refusal name crate number case
+  local refusal name crate number case file
   awk '/^## /{inside = /^## Where each refusal is met/} inside && /^\| `/' "$top/docs/FORMATS.md" | tr -d '`' >"$work/met"
   while read -r number name _; do
     grep -q "^| $number $name |" "$work/met" || fail "docs/FORMATS.md: no row says where $number $name is met"
@@ -367,10 +370,12 @@ check_refusal_tests() {
     read -r number case <<<"$refusal"
     refusals | grep -q "^$number $case " || fail "docs/FORMATS.md: a row says where $number $case is met, which is no refusal"
     name=${name// /} crate=${crate// /}
-    grep -rqE --include='*.rt' --exclude-dir=out "^ *fn $name\(" "$top/crates/$crate/src" ||
+    file=$(grep -rlE --include='*.rt' --exclude-dir=out "^ *fn $name\(" "$top/crates/$crate/src" | head -n 1)
+    if [ -z "$file" ]; then
       fail "docs/FORMATS.md: $crate has no test $name, in which $number $case is met"
-    grep -rqw --include='*.rt' --exclude-dir=out -- "$case" "$top/crates/$crate/src" ||
-      fail "docs/FORMATS.md: no source of $crate names $number $case"
+    elif ! grep -rqswE -- "$case|$number" "$file" "${file%.rt}" "${file%/*}.rt"; then
+      fail "docs/FORMATS.md: the module of the test $name of $crate has neither $number nor $case"
+    fi
   done <"$work/met"
 }
 
