@@ -6,6 +6,7 @@ mod flights;
 mod halts;
 mod links;
 mod refusals;
+mod rest;
 mod rows;
 mod scripts;
 mod standing;
