@@ -5,8 +5,8 @@ use mm_base::Refusal;
 use mm_command_line::{Role, Task};
 use mm_cut::Verdict;
 use mm_told::{
-    Finding, Hint, Reason, Spot, Texts, Words, hint_for, notes_on, opening_hint, refusal_numbered,
-    request_hint,
+    Finding, Hint, Reason, Spot, Texts, Words, fit_hint, hint_for, notes_on, opening_hint,
+    refusal_numbered, request_hint,
 };
 use std::alloc::Global;
 use std::fmt;
@@ -130,14 +130,40 @@ pub(crate) fn tell_stop<E: Write>(
     tell_hint(hint, err)
 }
 
+/// Says what a verdict means that is not `Least`.
+pub(crate) fn tell_verdict<E: Write>(
+    alloc: Global,
+    task: Task<'_>,
+    verdict: Verdict,
+    texts: Texts<'_>,
+    err: &mut E,
+) -> io::Result<()> {
+    if let Some(remark) = Remark::of(task, verdict) {
+        writeln!(err, "{remark}")?;
+    }
+    match verdict {
+        Verdict::DoesNotFit(step) => tell_hint(fit_hint(alloc, texts, step), err),
+        _ => Ok(()),
+    }
+}
+
 // What is found in the files of a run that did not begin, of which this is the line.
 fn hint_of_run(alloc: Global, refusal: Refusal, end: &[u8], texts: Texts<'_>) -> Option<Hint> {
-    if refusal == Refusal::OpeningDiffers {
-        let (_, store) = std::str::from_utf8(end).ok()?.split_once(" store ")?;
-        return opening_hint(alloc, texts, store.trim_end());
+    let end = std::str::from_utf8(end).ok()?;
+    match refusal {
+        Refusal::OpeningDiffers => {
+            let (_, store) = end.split_once(" store ")?;
+            opening_hint(alloc, texts, store.trim_end())
+        }
+        Refusal::PlanDoesNotFit => {
+            let (_, step) = end.split_once(" step ")?;
+            fit_hint(alloc, texts, step.trim_end().parse().ok()?)
+        }
+        _ => {
+            let spot = Spot::Whole;
+            hint_for(alloc, Reason { refusal, spot }, texts)
+        }
     }
-    let spot = Spot::Whole;
-    hint_for(alloc, Reason { refusal, spot }, texts)
 }
 
 /// Says what in the files of a task has no effect.

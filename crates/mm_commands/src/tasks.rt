@@ -12,7 +12,7 @@ use crate::fault::Fault;
 use crate::files::{Files, ReadFault};
 use crate::flight::fly;
 use crate::kept::Kept;
-use crate::remark::{Remark, tell_hint, tell_notes, tell_refused, tell_stop};
+use crate::remark::{tell_hint, tell_notes, tell_refused, tell_stop, tell_verdict};
 use crate::status::{Status, Unwritten};
 use mm_command_line::Task;
 use mm_run::Outcome;
@@ -79,9 +79,9 @@ fn print<W: Write, E: Write>(
         }
         Answer::Line { verdict, line } => {
             out.write_all(line).map_err(|_| Unwritten::Output)?;
-            if let Some(remark) = Remark::of(task, *verdict) {
-                writeln!(err, "{remark}").map_err(|_| Unwritten::Messages)?;
-            }
+            tell_verdict(alloc, task, *verdict, kept.texts(), err).map_err(
+                |_| Unwritten::Messages,
+            )?;
             Ok(status_of(*verdict))
         }
         Answer::Run(printed) => {

@@ -3,6 +3,7 @@
 mod cells;
 mod ends;
 mod excerpt;
+mod fit;
 mod forecast;
 mod form;
 mod lines;
@@ -17,6 +18,7 @@ use crate::spot::Spot;
 pub use ends::{EndsHint, ReportType, opening_hint};
 use ends::{counts_hint, links_hint, sources_hint};
 pub use excerpt::Excerpt;
+pub use fit::{FitHint, fit_hint};
 pub use forecast::ForecastHint;
 use forecast::forecast_hint;
 pub use form::FormHint;
@@ -49,6 +51,7 @@ pub enum Hint {
     Setup(SetupHint),
     Forecast(ForecastHint),
     Plan(PlanHint),
+    Fit(FitHint),
     Packet(PacketHint),
     Ends(EndsHint),
 }
@@ -60,6 +63,7 @@ impl fmt::Display for Hint {
             Hint::Setup(hint) => write!(f, "{hint}"),
             Hint::Forecast(hint) => write!(f, "{hint}"),
             Hint::Plan(hint) => write!(f, "{hint}"),
+            Hint::Fit(hint) => write!(f, "{hint}"),
             Hint::Packet(hint) => write!(f, "{hint}"),
             Hint::Ends(hint) => write!(f, "{hint}"),
         }

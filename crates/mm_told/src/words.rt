@@ -90,9 +90,7 @@ fn expected(refusal: Refusal) -> &'static str
         Refusal::Header => "a header of step, window and the setup's stores in their order",
         Refusal::Cell => "a whole number of at most 1,000,000, without sign or leading zeros",
         Refusal::StepNumber => "the number of the next step, where the first is 1",
-        Refusal::Limit => {
-            "a number in its range: stores 1 to 16, steps 1 to 256, routes at most 256, limits at most 8, size 1 to 1,000,000, start at most the size, window, arrivals and blocks at most 1,000,000, channel at most 7, apid at most 2046, service and subtype at most 255"
-        }
+        Refusal::Limit => { "a number in its range, or as many tables or records as there can be" }
         Refusal::PlanText => "the line that a plan text has there, with a line feed at its end",
         Refusal::Shape => "a plan for the stores and the steps of this setup and this forecast",
         Refusal::Unbounded => "a limited arc on each path from the source to the sink",
@@ -176,7 +174,8 @@ fn advice(refusal: Refusal) -> &'static str
         Refusal::Header => "copy the identifiers from the setup",
         Refusal::Cell => "write plain digits, without spaces",
         Refusal::StepNumber => "number the records 1, 2, 3 and so on",
-        Refusal::Limit => "correct the number, or how many there are",
+        Refusal::Limit =>
+            "correct the number, or how many there are; docs/FORMATS.md has the ranges",
         Refusal::PlanText => {
             "compare it with the table 'Plan text' of docs/FORMATS.md, or plan again"
         }

@@ -98,7 +98,7 @@ static FOUND: [(&str, &str); 7] = [
     ),
     (
         "mmplan 2\nstores A\ndump 1 2\ndump 2 0\nloss 2\nstretch A 1 2\ncount 1 channels\nbound 2\nend\n",
-        "P, step 1: expected amounts within the window and the channels' limits; dump less in that step, or plan again\n",
+        "P, step 1: expected amounts within the window and the channels' limits; dump less in that step, or plan again\nhint: step 1 dumps 2 blocks on channel 0, whose limit is 1\n",
     ),
     (
         "mmplan 2\nstores A\ndump 1 1\ndump 2 0\nloss 3\nstretch A 1 2\ncount 1 channels\nbound 2\nend\n",

@@ -142,7 +142,7 @@ static FORECAST_HINTS: [(&str, &str); 12] = [
 ];
 
 // Scripts with a plan text that is refused, and what is found in it.
-static PLAN_HINTS: [(&str, &str); 7] = [
+static PLAN_HINTS: [(&str, &str); 8] = [
     (
         "check S F P\n=== S\n[[store]]\nid = \"A\"\nsize = 4\ntype = \"bounded\"\nchannel = 0\n=== F\nstep,window,A\n1,2,3\n2,2,3\n=== P\nmmplan 1\r\nstores A\r\n",
         "line 1 ends with CR LF; save the file with LF alone",
@@ -170,6 +170,10 @@ static PLAN_HINTS: [(&str, &str); 7] = [
     (
         "check S F P\n=== S\n[[store]]\nid = \"A\"\nsize = 4\ntype = \"bounded\"\nchannel = 0\n=== F\nstep,window,A\n1,2,3\n2,2,3\n=== P\nmmplan 1\nstores B\ndump 1 2\nloss 0\nbound 0\nend\n",
         "the plan has \"stores B\" and 1 steps; \"stores A\" and 2 steps are wanted",
+    ),
+    (
+        "check S F P\n=== S\n[[store]]\nid = \"A\"\nsize = 4\ntype = \"bounded\"\nchannel = 0\n=== F\nstep,window,A\n1,2,3\n2,2,3\n=== P\nmmplan 1\nstores A\ndump 1 3\ndump 2 2\nloss 0\nbound 0\nend\n",
+        "step 1 dumps 3 blocks, and its window is 2",
     ),
 ];
 
