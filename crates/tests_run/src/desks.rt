@@ -203,10 +203,9 @@ fn exchanged_seats_do_not_agree(rt: HostRuntime) {
 
 // A log agrees with the lists of its two seats, and with no more.
 fn agrees_with_two<N: Opening>(rt: &impl Abort, log: &[Entry], seats: &[Seat<N>]) {
-    assert!(rt; agrees(log, 2, seats), "the lists of its seats");
-    assert!(rt; !agrees(log, 3, seats), "three seats");
-    assert!(rt; is_below(log, 2), "no entries of a third seat");
-    assert!(rt; !is_below(log, 1), "entries of the second seat");
+    let is_of_two = agrees(log, 2, seats) && !agrees(log, 3, seats);
+    let is_below_two = is_below(log, 2) && !is_below(log, 1);
+    assert!(rt; is_of_two && is_below_two, "the lists of its seats");
 }
 
 // The part of a seat in a log is its own list, and not that of another seat.
@@ -288,6 +287,16 @@ fn six_calls<N: Opening, R: Wait + Abort>(
     );
 }
 
+// The six calls are logged, and one packet was kept and deleted.
+fn is_switched<N: Opening>(rt: &impl Abort, closed: &Closed<N>) {
+    let is_logged = closed.agree && closed.log.len() == 6;
+    assert!(rt;
+        is_logged && counts(&closed.state) == [1, 0, 1, 0],
+        "one seat's list is the log"
+    );
+    have_called(rt, &closed.seats, &[6]);
+}
+
 // The only seat of a desk at place 0 makes the six calls; refused ones are logged too.
 fn switch_and_delete<N: Opening, R: Wait + Abort>(rt: &R, alloc: Global, state: StoreState)
     requires state { state ≡ opening_at N.states 0 }
@@ -295,15 +304,13 @@ fn switch_and_delete<N: Opening, R: Wait + Abort>(rt: &R, alloc: Global, state: 
     let desk = Desk::<N>::new(alloc, state, 0, 1);
     let mut seat = Seat::new(alloc, 0, 0);
     six_calls(rt, alloc, &desk, &mut seat);
-    assert!(rt; desk.place() == 0, "the desk's place");
-    assert!(rt; seat.number() == 0, "the seat's number");
+    assert!(rt;
+        desk.place() == 0 && seat.number() == 0,
+        "the desk's place and the seat's number"
+    );
     let mut seats = Vec::new(alloc);
     seats.push(seat).expect(rt, "memory");
-    let closed = desk.close(seats);
-    assert!(rt; closed.agree, "one seat's list is the log");
-    assert!(rt; closed.log.len() == 6, "six entries");
-    assert!(rt; counts(&closed.state) == [1, 0, 1, 0], "the counters");
-    have_called(rt, &closed.seats, &[6]);
+    is_switched(rt, &desk.close(seats));
 }
 
 #[test]

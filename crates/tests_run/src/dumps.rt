@@ -89,12 +89,15 @@ fn dumped<L: Link + Send, R: Threads + Wait + Sync + Abort>(
     stores: &mut Vec<Held>,
     links: &mut [L],
 ) -> Dumped {
-    assert!(rt; wanted.len() <= 4, "few stores");
-    assert!(rt; stores.len() == wanted.len(), "an amount for each store");
-    assert!(rt; !links.is_empty(), "a link");
-    assert!(rt; links.len() <= 4, "few links");
-    assert!(rt; may_fail(links), "links that may fail");
-    assert!(rt; are_idle(stores), "no retrieval is on");
+    let are_few = wanted.len() <= 4 && !links.is_empty() && links.len() <= 4;
+    assert!(rt;
+        are_few && stores.len() == wanted.len(),
+        "few links, and an amount for each of few stores"
+    );
+    assert!(rt;
+        may_fail(links) && are_idle(stores),
+        "links that may fail, and no retrieval is on"
+    );
     let orders = new_orders(rt, alloc, wanted);
     dump(rt, alloc, &orders, stores, links).expect(rt, "memory")
 }
@@ -286,14 +289,10 @@ fn held_in_all(stores: &[Held]) -> u32 {
 // Of three orders the link that fails broke one, or was given none; the other link carried out the rest.
 fn other_went_on(rt: &impl Abort, stores: &[Held], failing: &MemoryLink, other: &MemoryLink) {
     let kept = held_in_all(stores);
-    assert!(rt; kept <= 1, "one order breaks at the most");
+    let has_failed = failing.taken().is_empty() && failing.failures() == u64::from(kept);
     assert!(rt;
-        failing.taken().is_empty(),
-        "nothing went over the link that fails"
-    );
-    assert!(rt;
-        failing.failures() == u64::from(kept),
-        "it failed once where an order broke"
+        kept <= 1 && has_failed,
+        "one order breaks at the most, and nothing went over the link that fails"
     );
     assert!(rt;
         other.taken().len() + kept as usize == 3,

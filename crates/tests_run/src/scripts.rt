@@ -65,22 +65,31 @@ static LEFT: [(u32, u32, u32); 6] = [
     (257, 0, 0),
 ];
 
+// The packets that they give in turn: which source, in which step, and the sequence count.
+static GIVEN: [(usize, u32, Option<u16>); 5] = [
+    (0, 1, Some(0)),
+    (0, 1, Some(3)),
+    (0, 1, None),
+    (1, 1, Some(1)),
+    (0, 3, Some(2)),
+];
+
 #[test]
 fn sources_give_their_packets_in_the_order_of_the_lines(rt: HostRuntime) -> Result<(), Fail> {
     let text = text_of(rt.alloc(), "1 1 P0Q\n2 1 P1Q\n1 3 P2Q\n1 1 P3Q")?;
     let read = SourceFile::read(rt.alloc(), &text)?;
-    assert!(rt; read.opening.is_empty(), "no packets of step 0");
-    assert!(rt; read.sources.len() == 2, "two sources");
+    assert!(rt;
+        read.opening.is_empty() && read.sources.len() == 2,
+        "two sources, and no packets of step 0"
+    );
     let mut sources = read.sources;
     for (step, first, second) in &LEFT {
         leaves(&rt, sources.as_slice(), 0, *step, *first);
         leaves(&rt, sources.as_slice(), 1, *step, *second);
     }
-    gives(&rt, sources.as_mut_slice(), 0, 1, Some(0));
-    gives(&rt, sources.as_mut_slice(), 0, 1, Some(3));
-    gives(&rt, sources.as_mut_slice(), 0, 1, None);
-    gives(&rt, sources.as_mut_slice(), 1, 1, Some(1));
-    gives(&rt, sources.as_mut_slice(), 0, 3, Some(2));
+    for (source, step, count) in &GIVEN {
+        gives(&rt, sources.as_mut_slice(), *source, *step, *count);
+    }
     leaves(&rt, sources.as_slice(), 0, 3, 0);
     Ok(())
 }
@@ -275,17 +284,24 @@ fn packet_of_a_line(rt: &impl Abort, alloc: Global) -> Result<BlockPacket, Fail>
     Ok(packet)
 }
 
+// Sends: over which link, at which time, and whether the packet is taken.
+static SENT: [(usize, u64, bool); 6] = [
+    (0, 5, true),
+    (0, 6, false),
+    (0, 7, false),
+    (0, 8, true),
+    (1, 1, false),
+    (1, 1, true),
+];
+
 #[test]
 fn links_fail_at_the_sends_of_their_lines(rt: HostRuntime) -> Result<(), Fail> {
     let packet = packet_of_a_line(&rt, rt.alloc())?;
     let mut links = read_links(rt.alloc(), b"links 2\nfail 2 1\nfail 1 2\nfail 1 3")?;
     assert!(rt; links.len() == 2, "two links");
-    takes(&rt, links.as_mut_slice(), 0, 5, &packet, true);
-    takes(&rt, links.as_mut_slice(), 0, 6, &packet, false);
-    takes(&rt, links.as_mut_slice(), 0, 7, &packet, false);
-    takes(&rt, links.as_mut_slice(), 0, 8, &packet, true);
-    takes(&rt, links.as_mut_slice(), 1, 1, &packet, false);
-    takes(&rt, links.as_mut_slice(), 1, 1, &packet, true);
+    for (link, time, taken) in &SENT {
+        takes(&rt, links.as_mut_slice(), *link, *time, &packet, *taken);
+    }
     has_failed(&rt, links.as_slice(), 0, 2);
     has_failed(&rt, links.as_slice(), 1, 1);
     has_sent(&rt, links.as_slice(), &[5, 8], &packet);

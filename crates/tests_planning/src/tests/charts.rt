@@ -1,5 +1,7 @@
 //! Lines of charts that are worked out by hand: outlines, headlines and words; and the refusals.
-use crate::tests::samples::{A_LIMITED, CHANNEL_LIMIT_CUT, FIRST_RUN, SCI, THREE_STEPS, TWO_STEPS_OF_A};
+use crate::tests::samples::{
+    A_LIMITED, CHANNEL_LIMIT_CUT, FIRST_RUN, SCI, THREE_STEPS, TWO_STEPS_OF_A,
+};
 use mm_chart::chart_bytes;
 use samples::{chart_of, has_lines};
 use std::alloc::{AllocError, Global};

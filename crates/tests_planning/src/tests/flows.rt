@@ -118,10 +118,9 @@ fn node(rt: &impl Abort, network: &mut Network) -> u32 {
 
 // Adds an arc.
 fn arc(rt: &impl Abort, network: &mut Network, from: u32, to: u32, capacity: Option<u64>) -> u32 {
-    assert!(rt; network.arc_count() < MAX_ARCS as usize);
-    assert!(rt; (from as usize) < network.node_count());
-    assert!(rt; (to as usize) < network.node_count());
-    assert!(rt; capacity.unwrap_or(0) <= MAX_CAPACITY);
+    let has_ends = (from as usize) < network.node_count() && (to as usize) < network.node_count();
+    let fits = network.arc_count() < MAX_ARCS as usize && capacity.unwrap_or(0) <= MAX_CAPACITY;
+    assert!(rt; has_ends && fits, "an arc");
     network.add_arc(from, to, capacity).expect(rt, "an arc")
 }
 
@@ -140,8 +139,8 @@ pub(crate) fn same_value(
     source: u32,
     sink: u32,
 ) -> Option<u64> {
-    assert!(rt; (source as usize) < network.node_count());
-    assert!(rt; (sink as usize) < network.node_count());
+    let nodes = network.node_count();
+    assert!(rt; (source as usize) < nodes && (sink as usize) < nodes);
     let by_levels = value_of(rt, solve(alloc, network, source, sink));
     let by_paths = value_of(rt, solve_paths(alloc, network, source, sink));
     assert!(rt; by_levels == by_paths);

@@ -107,24 +107,21 @@ pub(crate) enum Change {
     Resize(u32),
 }
 
-// Does it to the state of the store.
-fn changes(rt: &impl Abort, alloc: Global, state: &mut StoreState, change: &Change) {
+// Does it to the state of the store; whether it went as it should.
+fn goes(rt: &impl Abort, alloc: Global, state: &mut StoreState, change: &Change) -> bool {
     match change {
-        Change::Offer(now, count) => {
-            let packet = packet(rt, alloc, *count);
-            assert!(rt; state.offer(*now, packet).is_ok(), "the packet is taken");
+        Change::Offer(now, count) => state.offer(*now, packet(rt, alloc, *count)).is_ok(),
+        Change::Delete(limit, want) => state.delete(*limit).ok() == Some(*want),
+        Change::Off => {
+            state.disable();
+            true
         }
-        Change::Delete(limit, want) => {
-            let count = state.delete(*limit).expect(rt, "no retrieval");
-            assert!(rt; count == *want, "{count} deleted");
+        Change::On => {
+            state.enable();
+            true
         }
-        Change::Off => state.disable(),
-        Change::On => state.enable(),
-        Change::Retrieve => assert!(rt; state.begin(0, u64::MAX).is_ok(), "a retrieval"),
-        Change::Resize(size) => {
-            assert!(rt; 0 < *size && *size <= MAX_BLOCKS, "a size");
-            assert!(rt; state.resize(*size).is_ok(), "another size");
-        }
+        Change::Retrieve => state.begin(0, u64::MAX).is_ok(),
+        Change::Resize(size) => { 0 < *size && *size <= MAX_BLOCKS && state.resize(*size).is_ok() }
     }
 }
 
@@ -262,7 +259,7 @@ impl Trial {
         let store = id(rt, store);
         for change in list {
             let state = self.memory.state_mut(&store).expect(rt, "a store");
-            changes(rt, self.alloc, state, change);
+            assert!(rt; goes(rt, self.alloc, state, change), "a change");
         }
     }
 

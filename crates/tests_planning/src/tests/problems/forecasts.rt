@@ -161,27 +161,49 @@ fn problem_of_two(rt: &impl Abort, alloc: Global) -> Problem {
     problem_of(rt, alloc, setup.as_str(), TWO_STEPS)
 }
 
-// Its stores and limits are those of the setup.
-fn has_the_stores(rt: &impl Abort, problem: &Problem) {
-    assert!(rt; problem.stores() == 2);
-    assert!(rt; problem.channels() == 8);
-    assert!(rt; problem.id(1) == id(rt, "HK"));
-    assert!(rt; (problem.size(0), problem.start(0), problem.channel(0)) == (4, 0, 0));
-    assert!(rt; (problem.size(1), problem.start(1), problem.channel(1)) == (2, 1, 3));
-    assert!(rt; problem.limit(0) == None);
-    assert!(rt; problem.limit(3) == Some(9));
-    assert!(rt; problem.limit(200) == None);
-    assert!(rt; problem.place(&id(rt, "HK")) == Some(1));
-    assert!(rt; problem.place(&id(rt, "NONE")) == None);
+// The store at this place has this identifier, and this size, start volume and channel.
+fn is_store(rt: &impl Abort, problem: &Problem, place: usize, text: &str, numbers: (u32, u32, u8)) {
+    assert!(rt; place < problem.stores(), "a store");
+    let found = (
+        problem.size(place),
+        problem.start(place),
+        problem.channel(place),
+    );
+    let store = id(rt, text);
+    let is_there = problem.id(place) == store && problem.place(&store) == Some(place);
+    assert!(rt; is_there && found == numbers, "{text}");
 }
+
+// Channels, and their limits; the last is no channel.
+static LIMITS: [(u8, Option<u32>); 3] = [(0, None), (3, Some(9)), (200, None)];
 
 #[test]
 fn a_forecast_is_read(rt: HostRuntime) {
     let problem = problem_of_two(&rt, rt.alloc());
-    has_the_stores(&rt, &problem);
-    assert!(rt; problem.stores() == 2);
-    assert!(rt; problem.steps() == 2);
-    assert!(rt; (problem.window(1), problem.window(2)) == (2, 0));
-    assert!(rt; (problem.arrivals(0, 1), problem.arrivals(1, 1)) == (10, 1_000_000));
-    assert!(rt; (problem.arrivals(0, 2), problem.arrivals(1, 2)) == (5, 6));
+    is_store(&rt, &problem, 0, "SCI", (4, 0, 0));
+    is_store(&rt, &problem, 1, "HK", (2, 1, 3));
+    for (channel, limit) in &LIMITS {
+        assert!(rt; problem.limit(*channel) == *limit, "channel {channel}");
+    }
+    comes(&rt, &problem, 1, 2, (10, 1_000_000));
+    comes(&rt, &problem, 2, 0, (5, 6));
+    has_extent(&rt, &problem);
+}
+
+// It has two stores and two steps, and no store of another name.
+fn has_extent(rt: &impl Abort, problem: &Problem) {
+    let extent = (problem.stores(), problem.steps(), problem.channels());
+    assert!(rt; extent == (2, 2, 8), "its extent");
+    assert!(rt; problem.place(&id(rt, "NONE")) == None, "no such store");
+}
+
+// A step has this window, and so much comes to the two stores.
+fn comes(rt: &impl Abort, problem: &Problem, step: u32, window: u32, arrivals: (u32, u32)) {
+    let is_there = problem.stores() == 2 && 0 < step && step <= problem.steps();
+    assert!(rt; is_there, "two stores");
+    let found = (problem.arrivals(0, step), problem.arrivals(1, step));
+    assert!(rt;
+        problem.window(step) == window && found == arrivals,
+        "step {step}"
+    );
 }

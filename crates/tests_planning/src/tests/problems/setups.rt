@@ -353,23 +353,29 @@ fn two_stores(rt: &impl Abort) -> [StoreRow; 2] {
     [first, second]
 }
 
+const NO_BLOCKS: LimitRow = LimitRow {
+    channel: 7,
+    blocks: 0,
+};
+
+// The setup has the one route and the one limit.
+fn has_route_and_limit(rt: &impl Abort, setup: &Setup) {
+    let route = RouteRow {
+        apid: 100,
+        service: 3,
+        subtype: 25,
+        store: id(rt, "SCI"),
+    };
+    let is_routed = setup.routes() == [route].as_slice();
+    assert!(rt; is_routed && setup.limits() == [NO_BLOCKS].as_slice());
+}
+
 #[test]
 fn a_setup_is_read(rt: HostRuntime) {
     let text = joined(&rt, rt.alloc(), &[SCI, SECOND, ROUTE, LIMIT]);
     let setup = Setup::read(rt.alloc(), text.as_bytes()).expect(&rt, "a setup");
     assert!(rt; setup.stores() == two_stores(&rt).as_slice());
-    let route = RouteRow {
-        apid: 100,
-        service: 3,
-        subtype: 25,
-        store: id(&rt, "SCI"),
-    };
-    assert!(rt; setup.routes() == [route].as_slice());
-    let limit = LimitRow {
-        channel: 7,
-        blocks: 0,
-    };
-    assert!(rt; setup.limits() == [limit].as_slice());
+    has_route_and_limit(&rt, &setup);
 }
 
 // Spreadsheets and editors may write a byte order mark at the beginning of a file.
