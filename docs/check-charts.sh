@@ -3,13 +3,14 @@
 # - `mm_tool chart` prints each chart.svg byte for byte;
 # - xmllint finds it well-formed;
 # - a headless Chromium draws it 1,200 pixels wide in the proportions of its view box, and none of its words stands outside.
-# The last two are passed over with a line where the tool is not installed. The program must be built from the sources that
-# are there: `./mm_tool --help` builds it. With the name of a folder, a picture (PNG) of each chart as Chromium draws it is
-# left there. Ends with status 1 where something differs.
+# The last two are passed over with a line where the tool is not installed, and no browser is looked for with --no-browser. The
+# program must be built from the sources that are there: `./mm_tool --help` builds it. With the name of a folder, a picture
+# (PNG) of each chart as Chromium draws it is left there. Ends with status 1 where something differs.
 set -u
 top=$(cd "$(dirname "${BASH_SOURCE[0]}")/.." && pwd)
 built=$top/crates/mm_tool/out/mm_tool
-pictures=${1:-}
+pictures=${1:-} browse=1
+if [ "$pictures" = --no-browser ]; then pictures='' browse=0; fi
 work=$(mktemp -d)
 trap 'rm -rf "$work"' EXIT
 failures=0
@@ -87,9 +88,10 @@ if ! "$top/mm_tool" --is-built; then
   echo "charts: the program is not built from these sources: ./mm_tool --help builds it"
   exit 1
 fi
-chromium=$(browser)
+chromium=''
+[ "$browse" = 0 ] || chromium=$(browser)
 command -v xmllint >"$work/xmllint" || echo "charts: xmllint is not installed, so that no chart was parsed"
-[ -n "$chromium" ] || echo "charts: Chromium is not installed, so that no chart was drawn"
+[ "$browse" = 0 ] || [ -n "$chromium" ] || echo "charts: Chromium is not installed, so that no chart was drawn"
 count=0
 for chart in "$top"/examples/*/chart.svg; do
   folder=$(dirname "$chart")

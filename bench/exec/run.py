@@ -1,9 +1,9 @@
 #!/usr/bin/env python3
-"""Times recording and dumping by threads (crates/bench_exec) beside a plain Rust program with the same threads (plain.rs), in one run.
+"""Times recording and dumping by threads (`benches exec`) beside a plain Rust program with the same threads (plain.rs), in one run.
 
     python3 bench/exec/run.py [ROUNDS [PACKETS]]        5 rounds and 1,000,000 packets where nothing is said
 
-It needs the Rattle kit's `rt` (or what RT names), by which it proves and builds crates/bench_exec, `rustc` and GNU time. Each cell is the
+It needs the Rattle kit's `rt` (or what RT names), by which it proves and builds crates/benches, `rustc` and GNU time. Each cell is the
 least of the rounds. Wall time is what a program takes between two looks at the clock, round the recording and round the dumping of each
 step. Processor time, user and system, is that of whole processes, less that of a process that only makes the same packets: it counts what
 the threads did and not what they waited for a processor. That of dumping is of recording and dumping together. Peak memory is that of the
@@ -20,8 +20,8 @@ from functools import cached_property
 from pathlib import Path
 
 HERE = Path(__file__).resolve().parent
-CRATE = HERE.parent.parent / "crates" / "bench_exec"
-PROGRAM = CRATE / "out" / "bench_exec"
+CRATE = HERE.parent.parent / "crates" / "benches"
+PROGRAM = (CRATE / "out" / "benches", "exec")
 GNU_TIME = "/usr/bin/time"
 SOURCES, STORES, LINKS = (1, 2, 4, 8), (1, 4, 16), (1, 2, 4)
 # packets of a source in a step
@@ -63,7 +63,7 @@ class Pair:
     """The program and its twin, in each of some modes."""
 
     def __init__(self, twin, modes, *setting):
-        self.programs = [{mode: Least([path, mode, *setting]) for mode in modes} for path in (PROGRAM, twin)]
+        self.programs = [{mode: Least([*words, mode, *setting]) for mode in modes} for words in (PROGRAM, (twin,))]
 
     def run(self, rounds):
         for _ in range(rounds):
@@ -130,7 +130,10 @@ def counted(twin):
     for sources, stores, links in ((1, 1, 1), (1, 16, 1), (8, 1, 1), (8, 16, 4)):
         words = [str(word) for word in (sources, stores, links, 1, EACH // sources, 64, EACH)]
         packets = sources * (EACH // sources)
-        takes = [[instructions([str(path), mode, *words]) / packets for mode in ("make", "record", "dump")] for path in (PROGRAM, twin)]
+        takes = [
+            [instructions([*map(str, program), mode, *words]) / packets for mode in ("make", "record", "dump")]
+            for program in (PROGRAM, (twin,))
+        ]
         cells = []
         for last in (1, 2):
             ours, plain = (take[last] - take[last - 1] for take in takes)

@@ -12,8 +12,8 @@ import sys
 import tempfile
 
 HERE = os.path.dirname(os.path.realpath(__file__))
-CRATE = os.path.normpath(f"{HERE}/../../crates/bench_stores")
-PROGRAM = f"{CRATE}/out/bench_stores"
+CRATE = os.path.normpath(f"{HERE}/../../crates/benches")
+PROGRAM = [f"{CRATE}/out/benches", "stores"]
 PARTS = ("put", "read", "delete")
 PACKETS = 10_000
 
@@ -22,7 +22,7 @@ def measured(program, form, rounds, runs):
     """Returns the least seconds of each part over the runs, and the sum over the packets that were read."""
     least, sums = {}, set()
     for _ in range(runs):
-        out = subprocess.run([program, form, str(rounds)], check=True, capture_output=True, text=True).stdout.split()
+        out = subprocess.run([*program, form, str(rounds)], check=True, capture_output=True, text=True).stdout.split()
         said = dict(zip(out[::2], out[1::2]))
         sums.add(said["sum"])
         for part in PARTS:
@@ -50,7 +50,7 @@ def main():
         subprocess.run(["rustc", "--edition", "2024", "-O", "-o", twin, f"{HERE}/deque.rs"], check=True)
         print(f"million packets a second, {packets} packets, the fastest of {runs} runs")
         print(f"{'':24}" + " ".join(f"{part:>8}" for part in (*PARTS, "all")))
-        plain = {kind: measured(twin, kind, rounds, runs) for kind in ("circular", "bounded")}
+        plain = {kind: measured([twin], kind, rounds, runs) for kind in ("circular", "bounded")}
         for kind, (seconds, _) in plain.items():
             print(line(f"VecDeque, {kind}", seconds, packets))
         forms = {"ring": "RingStore", "blocks": "BlockStore", "circular": "AnyStore, circular", "bounded": "AnyStore, bounded"}

@@ -46,8 +46,9 @@ fn add_arcs(network: &mut Network, problem: &Problem) -> Result<(), NoMemory>
     Ok(())
 }
 
-// The network of a problem.
-pub(crate) fn build(alloc: Global, problem: &Problem) -> Result<Network, NoMemory>
+/// The network of a problem: blocks flow from `SOURCE` through its stores and channels to `SINK`. As many as a greatest flow carries
+/// need not be lost.
+pub fn network_of(alloc: Global, problem: &Problem) -> Result<Network, NoMemory>
     ensures built { IfOk result (λ network. network.graph ≡ net problem.now) }
     ensures problem { IsDumping problem.now }
 {

@@ -3,10 +3,10 @@ ghost use Rattle.std.specs.Prelude.{◌≡◌, ◌<◌, ◌^◌};
 ghost use Rattle.mm_planner.specs.Nodes.{step_of, place_of, number_of};
 
 /// The node that all blocks come from.
-pub(crate) const SOURCE: u32 = 0;
+pub const SOURCE: u32 = 0;
 
 /// The node that all blocks go to.
-pub(crate) const SINK: u32 = 1;
+pub const SINK: u32 = 1;
 
 /// A node of a problem's network.
 #[derive(Clone, Copy)]

@@ -8,7 +8,7 @@ ghost use Rattle.mm_planner.specs.declared.nodes.TheConstants.{SOURCE, SINK};
 ghost use Rattle.mm_planner.specs.Network.{net};
 ghost use Rattle.mm_planner.specs.Planned.{ShowsLeast};
 
-use crate::building::build;
+use crate::building::network_of;
 use crate::laws::solutions_plan;
 use crate::nodes::{SINK, SOURCE};
 use crate::runs::{counts, stretches};
@@ -38,7 +38,7 @@ fn solved(alloc: Global, problem: &Problem) -> Result<Solved, NoMemory>
     ensures solved { IfOk result (IsSolved (net problem.now) SOURCE SINK) }
     ensures problem { IsDumping problem.now }
 {
-    let network = build(alloc, problem)?;
+    let network = network_of(alloc, problem)?;
     match solve(alloc, &network, SOURCE, SINK) {
         Ok(solved) => Ok(solved),
         Err(Fault::NoMemory) => Err(NoMemory),

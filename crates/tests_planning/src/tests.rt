@@ -1,8 +1,10 @@
-//! Tests of the crates that plan dumping problems and judge plans.
+//! Tests of the crates that read problems, plan dumping, judge plans and draw them.
 
+mod charts;
 mod cuts;
 mod flows;
 mod planners;
 mod plans;
+mod problems;
 mod samples;
 mod twins;

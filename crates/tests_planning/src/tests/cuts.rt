@@ -18,7 +18,7 @@ struct Row {
     name: &'static str,
     setup: &'static str,
     forecast: &'static str,
-    sheet: &'static [u8],
+    sheet: &'static str,
     misfit: Option<u32>,
     loss: u64,
     bound: Option<i64>,
@@ -40,7 +40,7 @@ static ROWS: [Row; 13] = [
         name: "plan_that_loses_more",
         setup: SCI,
         forecast: THREE_STEPS,
-        sheet: b"mmplan 1\nstores SCI\ndump 1 2\ndump 2 1\ndump 3 0\nloss 3\nstretch SCI 1 3\nbound 2\nend\n",
+        sheet: "mmplan 1\nstores SCI\ndump 1 2\ndump 2 1\ndump 3 0\nloss 3\nstretch SCI 1 3\nbound 2\nend\n",
         misfit: None,
         loss: 3,
         bound: Some(2),
@@ -50,7 +50,7 @@ static ROWS: [Row; 13] = [
         name: "plan_that_does_not_fit",
         setup: SCI,
         forecast: THREE_STEPS,
-        sheet: b"mmplan 1\nstores SCI\ndump 1 3\ndump 2 1\ndump 3 0\nloss 2\nstretch SCI 1 3\nbound 2\nend\n",
+        sheet: "mmplan 1\nstores SCI\ndump 1 3\ndump 2 1\ndump 3 0\nloss 2\nstretch SCI 1 3\nbound 2\nend\n",
         misfit: Some(1),
         loss: 2,
         bound: Some(2),
@@ -60,7 +60,7 @@ static ROWS: [Row; 13] = [
         name: "two_stretches_of_one_store",
         setup: SCI_OF_SIZE_2,
         forecast: APART,
-        sheet: b"mmplan 1\nstores SCI\ndump 1 0\ndump 2 2\ndump 3 0\nloss 6\nstretch SCI 1 1\nstretch SCI 3 3\nbound 6\nend\n",
+        sheet: "mmplan 1\nstores SCI\ndump 1 0\ndump 2 2\ndump 3 0\nloss 6\nstretch SCI 1 1\nstretch SCI 3 3\nbound 6\nend\n",
         misfit: None,
         loss: 6,
         bound: Some(6),
@@ -70,7 +70,7 @@ static ROWS: [Row; 13] = [
         name: "the same in one stretch, whose inner windows take more than it gains",
         setup: SCI_OF_SIZE_2,
         forecast: APART,
-        sheet: b"mmplan 1\nstores SCI\ndump 1 0\ndump 2 2\ndump 3 0\nloss 6\nstretch SCI 1 3\nbound -1\nend\n",
+        sheet: "mmplan 1\nstores SCI\ndump 1 0\ndump 2 2\ndump 3 0\nloss 6\nstretch SCI 1 3\nbound -1\nend\n",
         misfit: None,
         loss: 6,
         bound: Some(-1),
@@ -80,7 +80,7 @@ static ROWS: [Row; 13] = [
         name: "amount_above_content",
         setup: SCI_OF_SIZE_2,
         forecast: APART,
-        sheet: b"mmplan 1\nstores SCI\ndump 1 0\ndump 2 9\ndump 3 0\nloss 6\nstretch SCI 1 1\nstretch SCI 3 3\nbound 6\nend\n",
+        sheet: "mmplan 1\nstores SCI\ndump 1 0\ndump 2 9\ndump 3 0\nloss 6\nstretch SCI 1 1\nstretch SCI 3 3\nbound 6\nend\n",
         misfit: None,
         loss: 6,
         bound: Some(6),
@@ -110,7 +110,7 @@ static ROWS: [Row; 13] = [
         name: "more than the channel's limit, though not more than the window",
         setup: A_LIMITED,
         forecast: TWO_STEPS_OF_A,
-        sheet: b"mmplan 1\nstores A\ndump 1 2\ndump 2 0\nloss 1\nstretch A 1 2\nbound -2\nend\n",
+        sheet: "mmplan 1\nstores A\ndump 1 2\ndump 2 0\nloss 1\nstretch A 1 2\nbound -2\nend\n",
         misfit: Some(1),
         loss: 1,
         bound: Some(-2),
@@ -120,7 +120,7 @@ static ROWS: [Row; 13] = [
         name: "foresight_beats_even_split, with the even split",
         setup: A_AND_B,
         forecast: "step,window,A,B\n1,2,3,3\n2,0,2,0\n",
-        sheet: b"mmplan 1\nstores A B\ndump 1 1 1\ndump 2 0 0\nloss 1\nbound 0\nend\n",
+        sheet: "mmplan 1\nstores A B\ndump 1 1 1\ndump 2 0 0\nloss 1\nbound 0\nend\n",
         misfit: None,
         loss: 1,
         bound: Some(0),
@@ -130,7 +130,7 @@ static ROWS: [Row; 13] = [
         name: "two_stretches_share_a_window",
         setup: A_AND_B,
         forecast: "step,window,A,B\n1,2,3,3\n2,0,2,2\n",
-        sheet: b"mmplan 1\nstores A B\ndump 1 1 1\ndump 2 0 0\nloss 2\nstretch A 1 2\nstretch B 1 2\nbound 2\nend\n",
+        sheet: "mmplan 1\nstores A B\ndump 1 1 1\ndump 2 0 0\nloss 2\nstretch A 1 2\nstretch B 1 2\nbound 2\nend\n",
         misfit: None,
         loss: 2,
         bound: Some(2),
@@ -140,7 +140,7 @@ static ROWS: [Row; 13] = [
         name: "two stores of one channel, whose limit counts once",
         setup: A_AND_B_LIMITED,
         forecast: "step,window,A,B\n1,5,3,3\n2,0,2,2\n",
-        sheet: b"mmplan 2\nstores A B\ndump 1 1 0\ndump 2 0 0\nloss 3\nstretch A 1 2\nstretch B 1 2\ncount 1 channels\nbound 3\nend\n",
+        sheet: "mmplan 2\nstores A B\ndump 1 1 0\ndump 2 0 0\nloss 3\nstretch A 1 2\nstretch B 1 2\ncount 1 channels\nbound 3\nend\n",
         misfit: None,
         loss: 3,
         bound: Some(3),
@@ -190,7 +190,7 @@ fn is_judged(rt: &impl Abort, problem: &Problem, sheet: &Sheet, row: &Row) {
 fn plans_and_cuts_of_the_worked_examples(rt: HostRuntime) {
     for row in &ROWS {
         let problem = problem_of(&rt, rt.alloc(), row.setup, row.forecast);
-        let sheet = Sheet::parse(rt.alloc(), row.sheet).expect(&rt, "a sheet");
+        let sheet = Sheet::parse(rt.alloc(), row.sheet.as_bytes()).expect(&rt, "a sheet");
         assert!(rt; sheet.shape(&problem).is_ok(), "{}", row.name);
         is_planned(&rt, &problem, &sheet, row);
         assert!(rt; bound_of(&problem, &sheet) == row.bound, "{}", row.name);
@@ -202,6 +202,6 @@ fn plans_and_cuts_of_the_worked_examples(rt: HostRuntime) {
 #[test]
 fn a_sheet_for_another_problem_has_another_shape(rt: HostRuntime) {
     let problem = problem_of(&rt, rt.alloc(), A_AND_B, "step,window,A,B\n1,2,3,3\n");
-    let sheet = Sheet::parse(rt.alloc(), FIRST_RUN).expect(&rt, "a sheet");
+    let sheet = Sheet::parse(rt.alloc(), FIRST_RUN.as_bytes()).expect(&rt, "a sheet");
     assert!(rt; sheet.shape(&problem).err() == Some(Fault::Shape));
 }

@@ -6,7 +6,7 @@ use crate::tests::samples::{
 };
 use mm_flow::paths::solve_paths;
 use mm_flow::{Fault, MAX_ARCS, MAX_CAPACITY, MAX_NODES, Network, Solved, solve};
-use mm_problem::Problem;
+use mm_planner::{SINK, SOURCE, network_of};
 use std::alloc::Global;
 use std::process::Abort;
 
@@ -118,10 +118,9 @@ fn node(rt: &impl Abort, network: &mut Network) -> u32 {
 
 // Adds an arc.
 fn arc(rt: &impl Abort, network: &mut Network, from: u32, to: u32, capacity: Option<u64>) -> u32 {
-    assert!(rt; network.arc_count() < MAX_ARCS as usize);
-    assert!(rt; (from as usize) < network.node_count());
-    assert!(rt; (to as usize) < network.node_count());
-    assert!(rt; capacity.unwrap_or(0) <= MAX_CAPACITY);
+    let has_ends = (from as usize) < network.node_count() && (to as usize) < network.node_count();
+    let fits = network.arc_count() < MAX_ARCS as usize && capacity.unwrap_or(0) <= MAX_CAPACITY;
+    assert!(rt; has_ends && fits, "an arc");
     network.add_arc(from, to, capacity).expect(rt, "an arc")
 }
 
@@ -140,8 +139,8 @@ pub(crate) fn same_value(
     source: u32,
     sink: u32,
 ) -> Option<u64> {
-    assert!(rt; (source as usize) < network.node_count());
-    assert!(rt; (sink as usize) < network.node_count());
+    let nodes = network.node_count();
+    assert!(rt; (source as usize) < nodes && (sink as usize) < nodes);
     let by_levels = value_of(rt, solve(alloc, network, source, sink));
     let by_paths = value_of(rt, solve_paths(alloc, network, source, sink));
     assert!(rt; by_levels == by_paths);
@@ -166,110 +165,10 @@ fn values_by_hand(rt: HostRuntime) {
     }
 }
 
-// The numbers of the nodes of a problem's network, as the planner gives them: the two ends, and for each step from 1 what comes to the
-// stores, what they hold, what leaves by channels, and the pass.
-const SOURCE: u32 = 0;
-
-const SINK: u32 = 1;
-
-const STEP_NODES: u32 = 41;
-
-const HELD: u32 = 16;
-
-const CHANNELS: u32 = 32;
-
-const PASS: u32 = 40;
-
-fn node_of(step: u32, place: u32) -> u32 {
-    STEP_NODES.saturating_mul(step).saturating_add(place)
-}
-
-// What the blocks of a store do in a step: they come, the store holds some, keeps them for the next step, or they leave.
-#[derive(Clone, Copy)]
-enum Way {
-    Come,
-    Hold,
-    Keep,
-    Leave,
-}
-
-// What comes to a store in a step, and its start volume in the first.
-fn comes(rt: &impl Abort, problem: &Problem, step: u32, store: usize) -> u32 {
-    assert!(rt; store < problem.stores());
-    assert!(rt; 0 < step && step <= problem.steps());
-    let arrivals = problem.arrivals(store, step);
-    if step == 1 {
-        arrivals.saturating_add(problem.start(store))
-    } else {
-        arrivals
-    }
-}
-
-// The arc for it.
-fn store_arc(rt: &impl Abort, problem: &Problem, way: Way, step: u32, store: usize) -> ArcRow {
-    assert!(rt; store < problem.stores());
-    let place = u32::try_from(store).expect(rt, "few stores");
-    let (come, held) = (
-        node_of(step, place),
-        node_of(step, HELD.saturating_add(place)),
-    );
-    let leaves = CHANNELS.saturating_add(u32::from(problem.channel(store)));
-    match way {
-        Way::Come => (
-            SOURCE,
-            come,
-            Some(u64::from(comes(rt, problem, step, store))),
-        ),
-        Way::Hold => (come, held, Some(u64::from(problem.size(store)))),
-        Way::Keep if step == problem.steps() => (held, SINK, None),
-        Way::Keep => (held, node_of(step.saturating_add(1), place), None),
-        Way::Leave => (held, node_of(step, leaves), None),
-    }
-}
-
-// Adds the arcs of a step, kind by kind.
-fn add_step(rt: &impl Abort, network: &mut Network, problem: &Problem, step: u32) {
-    for way in [Way::Come, Way::Hold, Way::Keep, Way::Leave] {
-        for store in 0..problem.stores() {
-            let (from, to, capacity) = store_arc(rt, problem, way, step, store);
-            arc(rt, network, from, to, capacity);
-        }
-    }
-    let pass = node_of(step, PASS);
-    for channel in 0..problem.channels() {
-        let from = node_of(step, CHANNELS.saturating_add(u32::from(channel)));
-        arc(
-            rt,
-            network,
-            from,
-            pass,
-            problem.limit(channel).map(u64::from),
-        );
-    }
-    assert!(rt; 0 < step && step <= problem.steps());
-    arc(
-        rt,
-        network,
-        pass,
-        SINK,
-        Some(u64::from(problem.window(step))),
-    );
-}
-
-// The network that the planner solves for a problem.
-fn network_of(rt: &impl Abort, alloc: Global, problem: &Problem) -> Network {
-    let nodes = node_of(problem.steps().saturating_add(1), 0);
-    let mut network = built(rt, alloc, nodes, &[]);
-    for step in 1..problem.steps() + 1 {
-        add_step(rt, &mut network, problem, step);
-    }
-    network
-}
-
-// Both solvers send as many blocks through a problem's network as do not get lost.
+// Both solvers send as many blocks through the planner's network of a problem as do not get lost.
 fn keeps(rt: &impl Abort, alloc: Global, setup: &str, forecast: &str, kept: u64) {
     let problem = problem_of(rt, alloc, setup, forecast);
-    let network = network_of(rt, alloc, &problem);
+    let network = network_of(alloc, &problem).expect(rt, "memory");
     let value = same_value(rt, alloc, &network, SOURCE, SINK);
     assert!(rt; value == Some(kept), "{forecast}");
 }

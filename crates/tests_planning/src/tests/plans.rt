@@ -37,7 +37,7 @@ fn volumes(
 #[test]
 fn volumes_by_hand(rt: HostRuntime) {
     let problem = problem_of(&rt, rt.alloc(), SCI, THREE_STEPS);
-    let sheet = Sheet::parse(rt.alloc(), FIRST_RUN).expect(&rt, "a sheet");
+    let sheet = Sheet::parse(rt.alloc(), FIRST_RUN.as_bytes()).expect(&rt, "a sheet");
     let (volumes, total) = volumes(&rt, rt.alloc(), &problem, sheet.plan());
     assert!(rt; volumes.as_slice() == [(3, 1, 0), (4, 2, 0), (4, 4, 2)].as_slice());
     assert!(rt; total == 2);
@@ -91,7 +91,7 @@ struct Filling {
     name: &'static str,
     setup: &'static str,
     forecast: &'static str,
-    plan: &'static [u8],
+    plan: &'static str,
     filled: &'static [u32],
 }
 
@@ -100,7 +100,7 @@ static FILLINGS: [Filling; 5] = [
         name: "an idle window is used",
         setup: SCI,
         forecast: THREE_STEPS,
-        plan: b"mmplan 1\nstores SCI\ndump 1 2\ndump 2 1\ndump 3 0\nloss 3\nbound 2\nend\n",
+        plan: "mmplan 1\nstores SCI\ndump 1 2\ndump 2 1\ndump 3 0\nloss 3\nbound 2\nend\n",
         filled: &[2, 2, 0],
     },
     Filling {
@@ -114,21 +114,21 @@ static FILLINGS: [Filling; 5] = [
         name: "no more leaves than is written",
         setup: SCI_OF_SIZE_2,
         forecast: APART,
-        plan: b"mmplan 1\nstores SCI\ndump 1 0\ndump 2 9\ndump 3 0\nloss 6\nbound 6\nend\n",
+        plan: "mmplan 1\nstores SCI\ndump 1 0\ndump 2 9\ndump 3 0\nloss 6\nbound 6\nend\n",
         filled: &[0, 2, 0],
     },
     Filling {
         name: "the channel's limit stops it, and then the window",
         setup: SCI_LIMITED_TO_3,
         forecast: "step,window,SCI\n1,9,4\n2,1,2\n",
-        plan: b"mmplan 1\nstores SCI\ndump 1 0\ndump 2 0\nloss 0\nbound 0\nend\n",
+        plan: "mmplan 1\nstores SCI\ndump 1 0\ndump 2 0\nloss 0\nbound 0\nend\n",
         filled: &[3, 1],
     },
     Filling {
         name: "each store gets its part",
         setup: A_AND_B,
         forecast: "step,window,A,B\n1,5,1,1\n",
-        plan: b"mmplan 1\nstores A B\ndump 1 0 0\nloss 0\nbound 0\nend\n",
+        plan: "mmplan 1\nstores A B\ndump 1 0 0\nloss 0\nbound 0\nend\n",
         filled: &[1, 1],
     },
 ];
@@ -145,7 +145,7 @@ fn is_filled(rt: &impl Abort, alloc: Global, problem: &Problem, plan: &Plan, cas
 fn windows_are_used_as_far_as_limits_allow(rt: HostRuntime) {
     for case in &FILLINGS {
         let problem = problem_of(&rt, rt.alloc(), case.setup, case.forecast);
-        let sheet = Sheet::parse(rt.alloc(), case.plan).expect(&rt, "a sheet");
+        let sheet = Sheet::parse(rt.alloc(), case.plan.as_bytes()).expect(&rt, "a sheet");
         is_filled(&rt, rt.alloc(), &problem, sheet.plan(), case);
     }
 }

@@ -3,7 +3,7 @@ ghost use Rattle.std.specs.Prelude.{◌<◌};
 ghost use Rattle.mm_plan.specs.Table.{HasShape};
 
 use mm_plan::{Plan, fill, fits};
-use mm_problem::{Problem, Setup};
+use mm_problem::{Problem, Setup, StoreId};
 use std::alloc::Global;
 use std::process::Abort;
 
@@ -32,12 +32,16 @@ pub(crate) const APART: &str = "step,window,SCI\n1,0,5\n2,9,0\n3,0,5\n";
 pub(crate) const TWO_STEPS_OF_A: &str = "step,window,A\n1,5,3\n2,0,3\n";
 
 // The best plan of `SCI` and `THREE_STEPS`.
-pub(crate) const FIRST_RUN: &[u8] =
-    b"mmplan 1\nstores SCI\ndump 1 2\ndump 2 2\ndump 3 0\nloss 2\nstretch SCI 1 3\nbound 2\nend\n";
+pub(crate) const FIRST_RUN: &str =
+    "mmplan 1\nstores SCI\ndump 1 2\ndump 2 2\ndump 3 0\nloss 2\nstretch SCI 1 3\nbound 2\nend\n";
 
 // The best plan of a store of size 3 on a channel with a limit of 1, at which three blocks come in each of two steps.
-pub(crate) const CHANNEL_LIMIT_CUT: &[u8] =
-    b"mmplan 2\nstores A\ndump 1 1\ndump 2 0\nloss 2\nstretch A 1 2\ncount 1 channels\nbound 2\nend\n";
+pub(crate) const CHANNEL_LIMIT_CUT: &str =
+    "mmplan 2\nstores A\ndump 1 1\ndump 2 0\nloss 2\nstretch A 1 2\ncount 1 channels\nbound 2\nend\n";
+
+pub(crate) fn id(rt: &impl Abort, text: &str) -> StoreId {
+    StoreId::of_text(text.as_bytes()).expect(rt, "an identifier")
+}
 
 // These parts in a row.
 pub(crate) fn joined(rt: &impl Abort, alloc: Global, parts: &[&str]) -> String {

@@ -28,7 +28,7 @@ fn has_one_of_each(rt: &impl Abort, sheet: &Sheet) {
 
 #[test]
 fn first_run_is_read(rt: HostRuntime) {
-    let sheet = Sheet::parse(rt.alloc(), FIRST_RUN).expect(&rt, "a sheet");
+    let sheet = Sheet::parse(rt.alloc(), FIRST_RUN.as_bytes()).expect(&rt, "a sheet");
     has_one_of_each(&rt, &sheet);
     assert!(rt; (sheet.loss(), sheet.bound()) == (2, 2));
     assert!(rt; sheet.by_channels().is_empty());
@@ -36,16 +36,16 @@ fn first_run_is_read(rt: HostRuntime) {
 
 #[test]
 fn channel_limit_cut_is_read(rt: HostRuntime) {
-    let sheet = Sheet::parse(rt.alloc(), CHANNEL_LIMIT_CUT).expect(&rt, "a sheet");
+    let sheet = Sheet::parse(rt.alloc(), CHANNEL_LIMIT_CUT.as_bytes()).expect(&rt, "a sheet");
     assert!(rt; sheet.by_channels() == [1].as_slice());
     assert!(rt; sheet.loss() == 2);
 }
 
 // The text is a sheet's, and the sheet is printed as this one.
-fn read_and_printed(rt: &impl Abort, alloc: Global, text: &[u8], printed: &[u8]) {
-    let sheet = Sheet::parse(alloc, text).expect(rt, "a sheet");
+fn read_and_printed(rt: &impl Abort, alloc: Global, text: &str, printed: &str) {
+    let sheet = Sheet::parse(alloc, text.as_bytes()).expect(rt, "a sheet");
     let again = sheet.print(alloc).expect(rt, "memory");
-    assert!(rt; again.as_slice() == printed);
+    assert!(rt; again.as_slice() == printed.as_bytes());
 }
 
 #[test]
@@ -54,11 +54,11 @@ fn printed_sheets_are_read_again(rt: HostRuntime) {
     read_and_printed(&rt, rt.alloc(), CHANNEL_LIMIT_CUT, CHANNEL_LIMIT_CUT);
 }
 
-const IN_ANY_ORDER: &[u8] =
-    b"mmplan 2\nstores B A\ndump 1 0 0\nloss 0\nstretch A 1 1\nstretch B 3 4\nstretch B 1 9\nstretch B 1 2\ncount 7 channels\ncount 2 channels\nbound -5\nend\n";
+const IN_ANY_ORDER: &str =
+    "mmplan 2\nstores B A\ndump 1 0 0\nloss 0\nstretch A 1 1\nstretch B 3 4\nstretch B 1 9\nstretch B 1 2\ncount 7 channels\ncount 2 channels\nbound -5\nend\n";
 
-const IN_ORDER: &[u8] =
-    b"mmplan 2\nstores B A\ndump 1 0 0\nloss 0\nstretch B 1 2\nstretch B 1 9\nstretch B 3 4\nstretch A 1 1\ncount 2 channels\ncount 7 channels\nbound -5\nend\n";
+const IN_ORDER: &str =
+    "mmplan 2\nstores B A\ndump 1 0 0\nloss 0\nstretch B 1 2\nstretch B 1 9\nstretch B 3 4\nstretch A 1 1\ncount 2 channels\ncount 7 channels\nbound -5\nend\n";
 
 #[test]
 fn stretches_and_counts_are_printed_in_order(rt: HostRuntime) {
@@ -258,8 +258,8 @@ fn prefixes_refused(rt: &impl Abort, alloc: Global, text: &[u8]) {
 
 #[test]
 fn each_proper_prefix_is_refused(rt: HostRuntime) {
-    prefixes_refused(&rt, rt.alloc(), FIRST_RUN);
-    prefixes_refused(&rt, rt.alloc(), CHANNEL_LIMIT_CUT);
+    prefixes_refused(&rt, rt.alloc(), FIRST_RUN.as_bytes());
+    prefixes_refused(&rt, rt.alloc(), CHANNEL_LIMIT_CUT.as_bytes());
 }
 
 // The text of three parts is refused with this line; 0 where it is a sheet's.

@@ -1,0 +1,51 @@
+//! Times packet stores: packets are put, read and deleted in rounds, and the time of each part is told.
+mod form;
+mod rounds;
+
+use anyhow::Result;
+use form::{Form, UnknownForm};
+use mm_base::Kind;
+use mm_store::{AnyStore, BlockStore, RingStore};
+use rounds::{Report, SIZE};
+use std::alloc::Global;
+use std::time::Clock;
+
+// Runs this many rounds on a new store of this form.
+fn measured(clock: &impl Clock, alloc: Global, form: Form, rounds: u32) -> Result<Report> {
+    match form {
+        Form::Ring => rounds::run(clock, alloc, &mut RingStore::new(alloc, SIZE)?, rounds),
+        Form::Blocks => rounds::run(clock, alloc, &mut BlockStore::new(alloc, SIZE)?, rounds),
+        Form::Circular => rounds::run(
+            clock,
+            alloc,
+            &mut AnyStore::new(alloc, Kind::Circular, SIZE)?,
+            rounds,
+        ),
+        Form::Bounded => rounds::run(
+            clock,
+            alloc,
+            &mut AnyStore::new(alloc, Kind::Bounded, SIZE)?,
+            rounds,
+        ),
+    }
+}
+
+/// The sum over what one round on each form of store reads.
+pub(crate) fn small(clock: &impl Clock, alloc: Global) -> Result<String> {
+    let mut sums = String::new(alloc);
+    for form in Form::ALL {
+        let sum = measured(clock, alloc, form, 1)?.sum;
+        sums.push_str(format!(in alloc; " {sum}")?.as_str())?;
+    }
+    Ok(sums)
+}
+
+/// The words are a form of store and a number of rounds.
+pub(crate) fn run(clock: &impl Clock, alloc: Global, words: &[String]) -> Result<String> {
+    let [form, rounds] = words else {
+        return Err(UnknownForm.into());
+    };
+    let form = Form::named(form.as_str())?;
+    let report = measured(clock, alloc, form, rounds.as_str().parse()?)?;
+    Ok(format!(in alloc; "{report}")?)
+}

@@ -1,4 +1,0 @@
-//! Tests of mm_base and mm_told.
-
-mod bases;
-mod words;

@@ -1,5 +1,0 @@
-//! Tests of mm_chart.
-#![tactic(auto)]
-
-#[cfg(test)]
-mod tests;

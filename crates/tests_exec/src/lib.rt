@@ -1,5 +1,0 @@
-//! Tests of mm_exec.
-#![tactic(auto)]
-
-#[cfg(test)]
-mod tests;

@@ -1,5 +1,0 @@
-//! Tests of mm_packet, mm_store, mm_control and mm_st15.
-#![tactic(auto)]
-
-#[cfg(test)]
-mod tests;

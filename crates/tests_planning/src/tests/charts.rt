@@ -1,0 +1,165 @@
+//! Lines of charts that are worked out by hand: outlines, headlines and words; and the refusals.
+use crate::tests::samples::{
+    A_LIMITED, CHANNEL_LIMIT_CUT, FIRST_RUN, SCI, THREE_STEPS, TWO_STEPS_OF_A,
+};
+use mm_chart::chart_bytes;
+use samples::{chart_of, has_lines};
+use std::alloc::{AllocError, Global};
+use std::process::Abort;
+use std::test::Fail;
+
+mod numbers;
+mod pictures;
+mod samples;
+mod sizes;
+mod tables;
+
+const LEAST: &str = "no plan loses fewer<";
+
+const HELP: &str = "What would help";
+
+// One store of size 4 gets 3, 3 and 4 blocks, and sends 2 and 2: 3 and 4 stand in it, then 6 come to stand, of which 2
+// are lost. In a scale of 32 for 4 blocks that is 24, 32 and 32; 8, 16 and 32 are left.
+pub(crate) const SHOWN: [&str; 15] = [
+    "<text class='h' x='16' y='30'>2 of 10 blocks are lost, and no plan loses fewer</text>",
+    "<path class='c' d='M180 148V108H276H372V148V148'/>",
+    "<path class='p' d='M180 144V112H276H372V144V144'/>",
+    "<path class='u' d='M180 144V112H276H372V144V144'/>",
+    "<path class='c' d='M180 196V156H276H372V196V196'/>",
+    "<path class='e' d='M372 196V156H468V196'/>",
+    "<path class='g' d='M180 192V168H276V160H372H468V192'/>",
+    "<path class='f' d='M180 192V184H276V176H372V160H468V192'/>",
+    "<path class='l' d='M372 160V150H468V160'/>",
+    "<text class='s' x='172' y='188'>4, channel 0</text>",
+    "<text class='r' x='476' y='174'>2 lost</text>",
+    "<text class='w' x='16' y='328'>10 &#8722; 4 &#8722; 4 &#8722; 0 = 2: at least that many blocks are lost, whatever is dumped.</text>",
+    "<text class='w' x='16' y='388'>In steps 1&#8211;2, a wider window.</text>",
+    "<text class='w' x='16' y='408'>No higher limit, and no other channel for a store.</text>",
+    "<text class='w' x='16' y='448'>Larger stores: SCI</text>",
+];
+
+// 3 and 3 come to a store of 3 whose channel lets 1 leave in a step: 2 are lost.
+const BY_CHANNELS: [&str; 7] = [
+    "<path class='c' d='M180 178V152H276V178V178'/>",
+    "<path class='v' d='M180 174V156H276V174V174'/>",
+    "<text class='s' x='172' y='169'>channel 0: 1 a step</text>",
+    "<text class='w' x='16' y='318'>No open window counts.</text>",
+    "<text class='w' x='16' y='338'>In step 1, at most 1 leave by the limits of the channels.</text>",
+    "<text class='w' x='16' y='358'>6 &#8722; 3 &#8722; 0 &#8722; 1 = 2: at least that many blocks are lost, whatever is dumped.</text>",
+    "<text class='w' x='16' y='418'>No wider window.</text>",
+];
+
+const THREE_SIZES: &str =
+    "[[store]]\nid = \"A\"\nsize = 3\ntype = \"bounded\"\nchannel = 0\n[[store]]\nid = \"B\"\nsize = 1000000\ntype = \"bounded\"\nchannel = 0\n[[store]]\nid = \"C\"\nsize = 4\ntype = \"bounded\"\nchannel = 1\n[[limit]]\nchannel = 1\nblocks = 2\n";
+
+const ONE_COMES: &str = "step,window,A,B,C\n1,3,1,1,3\n2,0,0,0,0\n3,0,0,0,4\n";
+
+// More leave C in step 1 than its channel lets through.
+const OVER_THE_LIMIT: &str =
+    "mmplan 1\nstores A B C\ndump 1 0 0 3\ndump 2 0 0 0\ndump 3 0 0 0\nloss 0\nbound 0\nend\n";
+
+// Amounts in a height of 32 and one in a height of 18: 3 of a limit of 2 are 18; 1 of 3 is 11, since 32 / 3 is rounded up;
+// 1 of 1,000,000 is 1; 3 of 4 are 24, none is nothing, and 4 of 4 are 32.
+const SCALED: [&str; 4] = [
+    "<path class='v' d='M180 174V156H276V174V174'/>",
+    "<path class='g' d='M180 222V211H276H372H468V222'/>",
+    "<path class='g' d='M180 270V269H276H372H468V270'/>",
+    "<path class='g' d='M180 318V294H276V318M372 318V286H468V318'/>",
+];
+
+// Texts of a setup, a forecast and a plan, and lines of their chart.
+static CHARTS: [(&str, &str, &str, &[&str]); 3] = [
+    (SCI, THREE_STEPS, FIRST_RUN, &SHOWN),
+    (A_LIMITED, TWO_STEPS_OF_A, CHANNEL_LIMIT_CUT, &BY_CHANNELS),
+    (THREE_SIZES, ONE_COMES, OVER_THE_LIMIT, &SCALED),
+];
+
+#[test]
+fn charts_have_these_lines(rt: HostRuntime) {
+    for (setup, forecast, plan, lines) in &CHARTS {
+        let chart = chart_of(&rt, rt.alloc(), setup, forecast, plan);
+        has_lines(&rt, chart.as_str(), lines);
+    }
+}
+
+// Texts in the place of others in the plan, and the headline then.
+static FORGED: [(&str, &str, &str); 6] = [
+    (
+        "loss 2",
+        "loss 1",
+        "<text class='a' x='16' y='30'>loss is 2",
+    ),
+    (
+        "bound 2",
+        "bound 1",
+        "<text class='a' x='16' y='30'>bound is 2",
+    ),
+    (
+        "stretch SCI 1 3",
+        "stretch SCI 1 4",
+        "<text class='a' x='16' y='30'>bad stretch 1",
+    ),
+    (
+        "bound 2",
+        "count 3 channels\nbound 2",
+        "<text class='a' x='16' y='30'>bad count 1",
+    ),
+    (
+        "dump 1 2\ndump 2 2",
+        "dump 1 3\ndump 2 1",
+        "<text class='a' x='16' y='30'>does not fit, step 1",
+    ),
+    (
+        "dump 2 2\ndump 3 0\nloss 2",
+        "dump 2 1\ndump 3 0\nloss 3",
+        "<text class='m' x='16' y='30'>3 of 10 blocks are lost; this cut shows only that no plan loses fewer than 2</text>",
+    ),
+];
+
+// The plan text with a text in the place of another. Where a count is put in, it is of the second kind.
+fn forged(alloc: Global, old: &str, new: &str) -> Result<String, AllocError> {
+    let plan = FIRST_RUN.replace(alloc, old, new)?;
+    if new.contains("count") {
+        plan.replace(alloc, "mmplan 1", "mmplan 2")
+    } else {
+        Ok(plan)
+    }
+}
+
+#[test]
+fn a_forged_text_has_the_headline_of_its_verdict(rt: HostRuntime) -> Result<(), Fail> {
+    for (old, new, wanted) in &FORGED {
+        let plan = forged(rt.alloc(), old, new)?;
+        let chart = chart_of(&rt, rt.alloc(), SCI, THREE_STEPS, plan.as_str());
+        has_lines(&rt, chart.as_str(), &[*wanted]);
+        assert!(rt;
+            !chart.contains(LEAST) && !chart.contains(HELP),
+            "for {new}"
+        );
+    }
+    Ok(())
+}
+
+// Texts of a setup, a forecast and a plan, and the fault that is told.
+pub(crate) static FAULTY: [(&str, &str, &str, &str); 4] = [
+    ("store = 1", "", "", "28 SetupField row 0 name store"),
+    (SCI, "step,window,HK\n1,2,3\n", "", "30 Header"),
+    (SCI, THREE_STEPS, "mmplan 3\n", "34 PlanText line 1"),
+    (A_LIMITED, TWO_STEPS_OF_A, FIRST_RUN, "35 Shape"),
+];
+
+// The fault of these texts, as it is printed.
+fn told(rt: &impl Abort, alloc: Global, setup: &str, forecast: &str, plan: &str) -> String {
+    let (setup, forecast) = (setup.as_bytes(), forecast.as_bytes());
+    let chart = chart_bytes(alloc, setup, forecast, plan.as_bytes());
+    let fault = chart.expect_err(rt, "a fault");
+    fault.to_string(alloc).expect(rt, "memory")
+}
+
+#[test]
+fn the_first_fault_is_told_and_nothing_is_drawn(rt: HostRuntime) {
+    for (setup, forecast, plan, wanted) in &FAULTY {
+        let text = told(&rt, rt.alloc(), setup, forecast, plan);
+        assert!(rt; text.as_str() == *wanted, "{text} and not {wanted}");
+    }
+}

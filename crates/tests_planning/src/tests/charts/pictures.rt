@@ -1,0 +1,87 @@
+//! The numbers and the verdict of a picture.
+ghost use Rattle.mm_chart.specs.Series.{IsSeries};
+ghost use Rattle.std.specs.Prelude.{◌≡◌, length};
+
+use crate::tests::charts::SHOWN;
+use crate::tests::charts::samples::has_lines;
+use crate::tests::samples::{FIRST_RUN, SCI, THREE_STEPS};
+use mm_chart::{Picture, Series, draw};
+use mm_cut::{Parts, Verdict, read_sheet};
+use mm_problem::{Problem, read_problem};
+use std::alloc::Global;
+use std::process::Abort;
+
+// Of each series the number of the first step and of the last, the sum, the largest number, and what is drawn in full
+// height.
+static NUMBERS: [(Series, [u64; 5]); 13] = [
+    (Series::WindowCounts, [1, 0, 2, 1, 1]),
+    (Series::CountedWindow, [2, 0, 4, 2, 1]),
+    (Series::Window, [2, 0, 4, 2, 2]),
+    (Series::Used, [2, 0, 4, 2, 2]),
+    (Series::ChannelCounts(0), [0, 0, 0, 0, 1]),
+    (Series::Sent(0), [2, 0, 4, 2, 0]),
+    (Series::LimitsCount, [0, 0, 0, 0, 1]),
+    (Series::Inner(0), [1, 0, 2, 1, 1]),
+    (Series::Last(0), [0, 1, 1, 1, 1]),
+    (Series::Written(0), [3, 4, 11, 4, 4]),
+    (Series::Left(0), [1, 4, 7, 4, 4]),
+    (Series::Lost(0), [0, 2, 2, 2, 2]),
+    (Series::Arrivals(0), [3, 4, 10, 4, 4]),
+];
+
+// These numbers of a picture with three steps.
+fn numbers_of(picture: &Picture, series: Series) -> [u64; 5]
+    requires series { IsSeries picture.now series }
+    requires steps { 3 ≡ length picture.now.problem.windows }
+{
+    let (first, last) = (picture.amount(series, 1), picture.amount(series, 3));
+    let (total, most) = (picture.total(series), picture.most(series));
+    [first, last, total, most, picture.whole(series)]
+}
+
+const PARTS: Parts = Parts {
+    coming: 10,
+    held: 4,
+    windows: 4,
+    limits: 0,
+};
+
+// The problem of the texts.
+fn problem_of(rt: &impl Abort, alloc: Global) -> Problem {
+    let problem = read_problem(alloc, SCI.as_bytes(), THREE_STEPS.as_bytes());
+    problem.expect(rt, "a problem")
+}
+
+// The picture of the plan for this problem.
+fn picture_for(rt: &impl Abort, alloc: Global, problem: Problem) -> Picture {
+    let sheet = read_sheet(alloc, &problem, FIRST_RUN.as_bytes()).expect(rt, "a plan");
+    Picture::new(alloc, problem, sheet).expect(rt, "memory")
+}
+
+fn picture_of(rt: &impl Abort, alloc: Global) -> Picture {
+    picture_for(rt, alloc, problem_of(rt, alloc))
+}
+
+#[test]
+fn a_picture_has_the_numbers_of_its_plan(rt: HostRuntime) {
+    let picture = picture_of(&rt, rt.alloc());
+    assert!(rt; picture.problem().steps() == 3);
+    for (series, wanted) in NUMBERS {
+        assert!(rt; numbers_of(&picture, series) == wanted, "{series:?}");
+    }
+}
+
+#[test]
+fn a_picture_has_the_verdict_of_its_plan(rt: HostRuntime) {
+    let picture = picture_of(&rt, rt.alloc());
+    assert!(rt; picture.verdict() == Verdict::Least(2));
+    assert!(rt; picture.parts() == PARTS);
+}
+
+#[test]
+fn a_picture_is_drawn_with_these_lines(rt: HostRuntime) {
+    let picture = picture_of(&rt, rt.alloc());
+    let drawn = draw(rt.alloc(), &picture).expect(&rt, "memory");
+    let chart = String::from_utf8(drawn).expect(&rt, "UTF-8");
+    has_lines(&rt, chart.as_str(), &SHOWN);
+}

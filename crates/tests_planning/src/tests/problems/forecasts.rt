@@ -1,0 +1,209 @@
+//! Texts of forecasts, each with what it says or the fault that it must give.
+use crate::tests::samples::{SCI, id, joined, problem_of};
+use mm_problem::{Problem, Setup};
+use std::alloc::Global;
+use std::process::Abort;
+
+const SECOND: &str =
+    "[[store]]\nid = \"HK\"\nsize = 2\ntype = \"circular\"\nchannel = 3\nstart = 1\n";
+
+// The answer to a forecast for one store: its fault, or `read`.
+fn answer_to(rt: &impl Abort, alloc: Global, text: &[u8]) -> String {
+    let setup = Setup::read(alloc, SCI.as_bytes()).expect(rt, "a setup");
+    match Problem::read(alloc, &setup, text) {
+        Ok(_) => String::from_str(alloc, "read").expect(rt, "memory"),
+        Err(fault) => fault.to_string(alloc).expect(rt, "memory"),
+    }
+}
+
+// The text is answered with this fault, or `read`.
+fn answered(rt: &impl Abort, alloc: Global, text: &[u8], wanted: &str) {
+    let answer = answer_to(rt, alloc, text);
+    assert!(rt; answer.as_str() == wanted, "{wanted}");
+}
+
+// These records after a good header, in two parts, are answered with this fault, or `read`.
+fn rows_answered(rt: &impl Abort, alloc: Global, rows: &str, after: &str, wanted: &str) {
+    let text = joined(rt, alloc, &["step,window,SCI\n", rows, after]);
+    answered(rt, alloc, text.as_bytes(), wanted)
+}
+
+// Each of these records after a good header is answered with its fault.
+fn refused_each(rt: &impl Abort, alloc: Global, cases: &[(&str, &str)]) {
+    for (rows, fault) in cases {
+        rows_answered(rt, alloc, rows, "", fault);
+    }
+}
+
+static CELLS_REFUSED: [(&str, &str); 7] = [
+    ("1,2,01", "31 Cell row 1 column 3"),
+    ("1,2,-1", "31 Cell row 1 column 3"),
+    ("1,2,", "31 Cell row 1 column 3"),
+    ("1,2,1000001", "33 Limit name arrivals"),
+    ("2,2,3", "32 StepNumber row 1"),
+    ("1,2", "29 ForecastText"),
+    ("", "33 Limit name steps"),
+];
+
+#[test]
+fn forecast_cells(rt: HostRuntime) {
+    answered(&rt, rt.alloc(), b"step,window,HK\n1,2,3", "30 Header");
+    refused_each(&rt, rt.alloc(), &CELLS_REFUSED)
+}
+
+static HEADERS_REFUSED: [&str; 8] = [
+    "",
+    "\n\r\n",
+    "1,2,3\n",
+    "step,window\n",
+    "step,window,SCI,HK\n",
+    "step, window,SCI\n",
+    "Step,window,SCI\n",
+    "step,window,sci\n",
+];
+
+#[test]
+fn headers_refused(rt: HostRuntime) {
+    for text in &HEADERS_REFUSED {
+        answered(&rt, rt.alloc(), text.as_bytes(), "30 Header");
+    }
+}
+
+static RECORDS_REFUSED: [(&str, &str); 20] = [
+    ("1,2,3,4\n", "29 ForecastText"),
+    ("x,2,3,4\n", "29 ForecastText"),
+    ("x,2,3\n", "31 Cell row 1 column 1"),
+    ("01,2,3\n", "31 Cell row 1 column 1"),
+    (",2,3\n", "31 Cell row 1 column 1"),
+    ("0,2,3\n", "32 StepNumber row 1"),
+    ("18446744073709551616,2,3\n", "32 StepNumber row 1"),
+    ("1,2.5,3\n", "31 Cell row 1 column 2"),
+    ("1,+2,3\n", "31 Cell row 1 column 2"),
+    ("1, 2,3\n", "31 Cell row 1 column 2"),
+    ("1,1000001,x\n", "33 Limit name window"),
+    ("1,x,1000001\n", "31 Cell row 1 column 2"),
+    ("2,x,x\n", "32 StepNumber row 1"),
+    ("1,2,00\n", "31 Cell row 1 column 3"),
+    ("1,2,0x1\n", "31 Cell row 1 column 3"),
+    ("1,2,\u{663}\n", "31 Cell row 1 column 3"),
+    ("1,2,3\n1,2,3\n", "32 StepNumber row 2"),
+    ("1,2,3\n3,x,3\n", "32 StepNumber row 2"),
+    ("1,2,3\n2,2\n", "29 ForecastText"),
+    ("1,2,3\n2,2,1000001\n3,2\n", "33 Limit name arrivals"),
+];
+
+#[test]
+fn records_refused(rt: HostRuntime) {
+    refused_each(&rt, rt.alloc(), &RECORDS_REFUSED);
+    answered(
+        &rt,
+        rt.alloc(),
+        b"step,window,SCI\n1,2,\xff\n",
+        "31 Cell row 1 column 3",
+    );
+}
+
+// What stands before a cell, its digit, what follows it, and the fault.
+static LONG_CELLS: [[&str; 4]; 4] = [
+    ["1,2,", "9", "", "33 Limit name arrivals"],
+    ["1,2,", "0", "", "31 Cell row 1 column 3"],
+    ["1,", "1", ",3", "33 Limit name window"],
+    ["", "1", ",2,3", "32 StepNumber row 1"],
+];
+
+// These texts with a digit a thousand times between them.
+fn thousand(rt: &impl Abort, alloc: Global, before: &str, digit: &str, after: &str) -> String {
+    let digits = digit.repeat(alloc, 1000).expect(rt, "memory");
+    joined(rt, alloc, &[before, digits.as_str(), after])
+}
+
+#[test]
+fn cells_of_a_thousand_digits(rt: HostRuntime) {
+    for [before, digit, after, fault] in &LONG_CELLS {
+        let row = thousand(&rt, rt.alloc(), before, digit, after);
+        rows_answered(&rt, rt.alloc(), row.as_str(), "", fault);
+    }
+}
+
+// The records of the first steps.
+fn numbered(rt: &impl Abort, alloc: Global, steps: u32) -> String {
+    let mut text = String::new(alloc);
+    for step in 0..steps {
+        let line = format!(in alloc; "{},2,3\n", step + 1).expect(rt, "memory");
+        text.push_str(line.as_str()).expect(rt, "memory");
+    }
+    text
+}
+
+// What follows 256 good records, and the answer.
+static AFTER_256_STEPS: [(&str, &str); 4] = [
+    ("", "read"),
+    ("257,2,3\n", "33 Limit name steps"),
+    ("x,x,x\n", "33 Limit name steps"),
+    ("257,2\n", "29 ForecastText"),
+];
+
+#[test]
+fn at_most_256_steps(rt: HostRuntime) {
+    let full = numbered(&rt, rt.alloc(), 256);
+    for (after, answer) in &AFTER_256_STEPS {
+        rows_answered(&rt, rt.alloc(), full.as_str(), after, answer);
+    }
+}
+
+// With line ends of both kinds, quotes, and an empty line.
+const TWO_STEPS: &str = "step,\"window\",SCI,HK\r\n1,2,\"1\"0,1000000\r\n\n\"2\",0,5,6";
+
+// A problem of two stores, two steps and one limit.
+fn problem_of_two(rt: &impl Abort, alloc: Global) -> Problem {
+    let limits = "[[limit]]\nchannel = 3\nblocks = 9\n";
+    let setup = joined(rt, alloc, &[SCI, SECOND, limits]);
+    problem_of(rt, alloc, setup.as_str(), TWO_STEPS)
+}
+
+// The store at this place has this identifier, and this size, start volume and channel.
+fn is_store(rt: &impl Abort, problem: &Problem, place: usize, text: &str, numbers: (u32, u32, u8)) {
+    assert!(rt; place < problem.stores(), "a store");
+    let found = (
+        problem.size(place),
+        problem.start(place),
+        problem.channel(place),
+    );
+    let store = id(rt, text);
+    let is_there = problem.id(place) == store && problem.place(&store) == Some(place);
+    assert!(rt; is_there && found == numbers, "{text}");
+}
+
+// Channels, and their limits; the last is no channel.
+static LIMITS: [(u8, Option<u32>); 3] = [(0, None), (3, Some(9)), (200, None)];
+
+#[test]
+fn a_forecast_is_read(rt: HostRuntime) {
+    let problem = problem_of_two(&rt, rt.alloc());
+    is_store(&rt, &problem, 0, "SCI", (4, 0, 0));
+    is_store(&rt, &problem, 1, "HK", (2, 1, 3));
+    for (channel, limit) in &LIMITS {
+        assert!(rt; problem.limit(*channel) == *limit, "channel {channel}");
+    }
+    comes(&rt, &problem, 1, 2, (10, 1_000_000));
+    comes(&rt, &problem, 2, 0, (5, 6));
+    has_extent(&rt, &problem);
+}
+
+// It has two stores and two steps, and no store of another name.
+fn has_extent(rt: &impl Abort, problem: &Problem) {
+    let extent = (problem.stores(), problem.steps(), problem.channels());
+    assert!(rt; extent == (2, 2, 8), "its extent");
+    assert!(rt; problem.place(&id(rt, "NONE")) == None, "no such store");
+}
+
+// A step has this window, and so much comes to the two stores.
+fn comes(rt: &impl Abort, problem: &Problem, step: u32, window: u32, arrivals: (u32, u32)) {
+    let is_there = problem.stores() == 2 && 0 < step && step <= problem.steps();
+    assert!(rt; is_there, "two stores");
+    let found = (problem.arrivals(0, step), problem.arrivals(1, step));
+    assert!(rt;
+        problem.window(step) == window && found == arrivals,
+        "step {step}"
+    );
+}

@@ -1,0 +1,405 @@
+//! Texts of setups, each with what it says or the fault that it must give.
+use crate::tests::samples::{SCI, id, joined, problem_of};
+use mm_problem::{Kind, LimitRow, RouteRow, Setup, StoreRow};
+use std::alloc::Global;
+use std::process::Abort;
+
+const ROUTE: &str = "[[route]]\napid = 100\nservice = 3\nsubtype = 25\nstore = \"SCI\"\n";
+
+// The text is refused with this fault.
+fn refused(rt: &impl Abort, alloc: Global, text: &[u8], fault: &str) {
+    let refusal = Setup::read(alloc, text).expect_err(rt, "no setup");
+    let shown = refusal.to_string(alloc).expect(rt, "memory");
+    assert!(rt; shown.as_str() == fault, "{fault}");
+}
+
+// Texts of three parts, each joined, are refused with their faults.
+fn refused_parts(rt: &impl Abort, alloc: Global, cases: &[([&str; 3], &str)]) {
+    for (parts, fault) in cases {
+        let text = joined(rt, alloc, parts);
+        refused(rt, alloc, text.as_bytes(), fault);
+    }
+}
+
+// Each of these lines is refused with its fault after this text.
+fn refused_after(rt: &impl Abort, alloc: Global, head: &str, cases: &[(&str, &str)]) {
+    for (lines, fault) in cases {
+        let text = joined(rt, alloc, &[head, *lines]);
+        refused(rt, alloc, text.as_bytes(), fault);
+    }
+}
+
+static SETUP_TEXTS_REFUSED: [([&str; 3], &str); 6] = [
+    (["[[store", "", ""], "27 SetupText"),
+    (["", "", ""], "28 SetupField row 0 name store"),
+    (["store = []", "", ""], "33 Limit name stores"),
+    (
+        [SCI, "colour = 1\n", ROUTE],
+        "28 SetupField row 1 name unknown",
+    ),
+    (
+        [
+            SCI,
+            "[[route]]\napid = 100\nservice = 3\nsubtype = 25\nstore = \"HK\"\n",
+            "",
+        ],
+        "28 SetupField row 1 name store",
+    ),
+    ([SCI, SCI, ROUTE], "28 SetupField row 2 name repeated"),
+];
+
+#[test]
+fn setup_texts_refused(rt: HostRuntime) {
+    refused_parts(&rt, rt.alloc(), &SETUP_TEXTS_REFUSED)
+}
+
+// Arrays that stand so deep in one another are refused with this fault.
+fn nested(rt: &impl Abort, alloc: Global, depth: usize, fault: &str) {
+    let open = "[".repeat(alloc, depth).expect(rt, "memory");
+    let close = "]".repeat(alloc, depth).expect(rt, "memory");
+    let text = joined(rt, alloc, &["title = ", open.as_str(), close.as_str()]);
+    refused(rt, alloc, text.as_bytes(), fault);
+}
+
+static DOCUMENTS_REFUSED: [(&str, &str); 15] = [
+    ("store", "27 SetupText"),
+    ("store = [1", "27 SetupText"),
+    // A float that overflows, and one that does not.
+    ("title = 1e999", "27 SetupText"),
+    ("title = 1e99", "28 SetupField row 0 name unknown"),
+    ("title = 1", "28 SetupField row 0 name unknown"),
+    ("store = 3\ntitle = 1", "28 SetupField row 0 name unknown"),
+    ("store = 3", "28 SetupField row 0 name store"),
+    ("[store]\nid = \"SCI\"", "28 SetupField row 0 name store"),
+    ("route = 3", "28 SetupField row 0 name store"),
+    (
+        "store = []\nroute = 3\nlimit = 3",
+        "28 SetupField row 0 name route",
+    ),
+    ("store = []\nlimit = {}", "28 SetupField row 0 name limit"),
+    (
+        "store = [1, 2, 3, 4, 5, 6, 7, 8, 9, 10, 11, 12, 13, 14, 15, 16, 17]",
+        "33 Limit name stores",
+    ),
+    (
+        "store = []\nlimit = [1, 2, 3, 4, 5, 6, 7, 8, 9]",
+        "33 Limit name stores",
+    ),
+    (
+        "store = [1]\nlimit = [1, 2, 3, 4, 5, 6, 7, 8, 9]",
+        "33 Limit name limits",
+    ),
+    ("store = [1]\nroute = [1]", "28 SetupField row 1 name store"),
+];
+
+#[test]
+fn documents_refused(rt: HostRuntime) {
+    let alloc = rt.alloc();
+    refused(&rt, alloc, b"\xff", "27 SetupText");
+    for (text, fault) in &DOCUMENTS_REFUSED {
+        refused(&rt, alloc, text.as_bytes(), fault);
+    }
+    nested(&rt, alloc, 10, "28 SetupField row 0 name unknown");
+    nested(&rt, alloc, 1000, "27 SetupText");
+    let ones = "1, ".repeat(alloc, 257).expect(&rt, "memory");
+    let head = "store = [1]\nlimit = [1, 2, 3, 4, 5, 6, 7, 8, 9]\nroute = [";
+    let routes = joined(&rt, alloc, &[head, ones.as_str(), "]"]);
+    refused(&rt, alloc, routes.as_bytes(), "33 Limit name routes");
+}
+
+static STORES_REFUSED: [(&str, &str); 31] = [
+    (
+        "size = 4\ntype = \"bounded\"\nchannel = 0\nid = 7",
+        "28 SetupField row 1 name id",
+    ),
+    (
+        "size = 4\ntype = \"bounded\"\nchannel = 0",
+        "28 SetupField row 1 name id",
+    ),
+    (
+        "id = \"sci\"\nsize = 4\ntype = \"bounded\"\nchannel = 0",
+        "28 SetupField row 1 name id",
+    ),
+    (
+        "id = \"\"\nsize = 4\ntype = \"bounded\"\nchannel = 0",
+        "28 SetupField row 1 name id",
+    ),
+    (
+        "id = \"ABCDEFGHI\"\nsize = 4\ntype = \"bounded\"\nchannel = 0",
+        "28 SetupField row 1 name id",
+    ),
+    (
+        "id = \"SCI\"\ntype = \"bounded\"\nchannel = 0",
+        "28 SetupField row 1 name size",
+    ),
+    (
+        "id = \"SCI\"\nsize = \"4\"\ntype = \"bounded\"\nchannel = 0",
+        "28 SetupField row 1 name size",
+    ),
+    (
+        "id = \"SCI\"\nsize = 4.0\ntype = \"bounded\"\nchannel = 0",
+        "28 SetupField row 1 name size",
+    ),
+    (
+        "id = \"SCI\"\nsize = true\ntype = \"bounded\"\nchannel = 0",
+        "28 SetupField row 1 name size",
+    ),
+    (
+        "id = \"SCI\"\nsize = 1979-05-27\ntype = \"bounded\"\nchannel = 0",
+        "28 SetupField row 1 name size",
+    ),
+    (
+        "id = \"SCI\"\nsize = 0\ntype = \"bounded\"\nchannel = 0",
+        "33 Limit name size",
+    ),
+    (
+        "id = \"SCI\"\nsize = -4\ntype = \"bounded\"\nchannel = 0",
+        "33 Limit name size",
+    ),
+    (
+        "id = \"SCI\"\nsize = 1000001\ntype = \"bounded\"\nchannel = 0",
+        "33 Limit name size",
+    ),
+    (
+        "id = \"SCI\"\nsize = 9223372036854775807\ntype = 1\nchannel = 0",
+        "33 Limit name size",
+    ),
+    (
+        "id = \"SCI\"\nsize = 9223372036854775808\ntype = \"bounded\"\nchannel = 0",
+        "27 SetupText",
+    ),
+    (
+        "id = \"SCI\"\nsize = 4\nsize = 4\ntype = \"bounded\"\nchannel = 0",
+        "27 SetupText",
+    ),
+    (
+        "id = \"SCI\"\nsize = 4\nchannel = 0",
+        "28 SetupField row 1 name type",
+    ),
+    (
+        "id = \"SCI\"\nsize = 4\ntype = 1\nchannel = 0",
+        "28 SetupField row 1 name type",
+    ),
+    (
+        "id = \"SCI\"\nsize = 4\ntype = \"Bounded\"\nchannel = 0",
+        "28 SetupField row 1 name type",
+    ),
+    (
+        "id = \"SCI\"\nsize = 4\ntype = \"bounded\"",
+        "28 SetupField row 1 name channel",
+    ),
+    (
+        "id = \"SCI\"\nsize = 4\ntype = \"bounded\"\nchannel = \"0\"",
+        "28 SetupField row 1 name channel",
+    ),
+    (
+        "id = \"SCI\"\nsize = 4\ntype = \"bounded\"\nchannel = 8",
+        "33 Limit name channel",
+    ),
+    (
+        "id = \"SCI\"\nsize = 4\ntype = \"bounded\"\nchannel = -1",
+        "33 Limit name channel",
+    ),
+    (
+        "id = \"SCI\"\nsize = 4\ntype = \"bounded\"\nchannel = 0\nstart = \"1\"",
+        "28 SetupField row 1 name start",
+    ),
+    (
+        "id = \"SCI\"\nsize = 4\ntype = \"bounded\"\nchannel = 0\nstart = 5",
+        "33 Limit name start",
+    ),
+    (
+        "id = \"SCI\"\nsize = 4\ntype = \"bounded\"\nchannel = 0\nstart = -1",
+        "33 Limit name start",
+    ),
+    // several faults: a strange key first, then the keys in their order
+    (
+        "id = \"sci\"\nsize = 0\ntype = \"ring\"\nchannel = 8\nstart = 5\ncolour = 1",
+        "28 SetupField row 1 name unknown",
+    ),
+    (
+        "start = 5\nchannel = 8\ntype = \"ring\"\nsize = 0\nid = \"sci\"",
+        "28 SetupField row 1 name id",
+    ),
+    (
+        "start = 5\nchannel = 8\ntype = \"ring\"\nsize = 0\nid = \"SCI\"",
+        "33 Limit name size",
+    ),
+    (
+        "start = 5\nchannel = 8\ntype = \"ring\"\nsize = 4\nid = \"SCI\"",
+        "28 SetupField row 1 name type",
+    ),
+    (
+        "start = 5\nchannel = 8\ntype = \"bounded\"\nsize = 4\nid = \"SCI\"",
+        "33 Limit name channel",
+    ),
+];
+
+#[test]
+fn stores_refused(rt: HostRuntime) {
+    refused_after(&rt, rt.alloc(), "[[store]]\n", &STORES_REFUSED);
+}
+
+static ROUTES_REFUSED: [(&str, &str); 9] = [
+    (
+        "[[route]]\nservice = 3\nsubtype = 25\nstore = \"SCI\"",
+        "28 SetupField row 1 name apid",
+    ),
+    (
+        "[[route]]\napid = 2047\nservice = 3\nsubtype = 25\nstore = \"SCI\"",
+        "33 Limit name apid",
+    ),
+    (
+        "[[route]]\napid = 100\nsubtype = 25\nstore = \"SCI\"",
+        "28 SetupField row 1 name service",
+    ),
+    (
+        "[[route]]\napid = 100\nservice = 256\nsubtype = 25\nstore = \"SCI\"",
+        "33 Limit name service",
+    ),
+    (
+        "[[route]]\napid = 100\nservice = 3\nsubtype = []\nstore = \"SCI\"",
+        "28 SetupField row 1 name subtype",
+    ),
+    (
+        "[[route]]\napid = 100\nservice = 3\nsubtype = -1\nstore = \"SCI\"",
+        "33 Limit name subtype",
+    ),
+    (
+        "[[route]]\napid = 100\nservice = 3\nsubtype = 25",
+        "28 SetupField row 1 name store",
+    ),
+    (
+        "[[route]]\napid = 100\nservice = 3\nsubtype = 25\nstore = 1",
+        "28 SetupField row 1 name store",
+    ),
+    (
+        "[[route]]\napid = 100\nservice = 3\nsubtype = 25\nstore = \"SCI\"\nsize = 1",
+        "28 SetupField row 1 name unknown",
+    ),
+];
+
+static ROUTE_TEXTS_REFUSED: [([&str; 3], &str); 2] = [
+    ([SCI, ROUTE, ROUTE], "28 SetupField row 2 name repeated"),
+    (["route = [1]\n", SCI, ""], "28 SetupField row 1 name route"),
+];
+
+#[test]
+fn routes_refused(rt: HostRuntime) {
+    refused_after(&rt, rt.alloc(), SCI, &ROUTES_REFUSED);
+    refused_parts(&rt, rt.alloc(), &ROUTE_TEXTS_REFUSED)
+}
+
+static LIMITS_REFUSED: [(&str, &str); 8] = [
+    ("[[limit]]\nblocks = 1", "28 SetupField row 1 name channel"),
+    (
+        "[[limit]]\nchannel = 8\nblocks = 1",
+        "33 Limit name channel",
+    ),
+    ("[[limit]]\nchannel = 0", "28 SetupField row 1 name blocks"),
+    (
+        "[[limit]]\nchannel = 0\nblocks = 1.5",
+        "28 SetupField row 1 name blocks",
+    ),
+    (
+        "[[limit]]\nchannel = 0\nblocks = 1000001",
+        "33 Limit name blocks",
+    ),
+    (
+        "[[limit]]\nchannel = 0\nblocks = 1\nsize = 1",
+        "28 SetupField row 1 name unknown",
+    ),
+    (
+        "[[limit]]\nchannel = 0\nblocks = 1\n[[limit]]\nchannel = 0\nblocks = 2",
+        "28 SetupField row 2 name repeated",
+    ),
+    (
+        "[limit]\nchannel = 0\nblocks = 1",
+        "28 SetupField row 0 name limit",
+    ),
+];
+
+#[test]
+fn limits_refused(rt: HostRuntime) {
+    refused_after(&rt, rt.alloc(), SCI, &LIMITS_REFUSED);
+    refused_parts(
+        &rt,
+        rt.alloc(),
+        &[(["limit = [1]\n", SCI, ""], "28 SetupField row 1 name limit")],
+    )
+}
+
+const SECOND: &str =
+    "[[store]]\r\nchannel = 0x7\r\ntype = 'circular'\r\nsize = +1_000_000\r\nstart = 2\r\nid = 'HK-1_'\r\n";
+
+const LIMIT: &str = "[[limit]]\nchannel = 7\nblocks = 0\n";
+
+// The two stores of the setup, in order.
+fn two_stores(rt: &impl Abort) -> [StoreRow; 2] {
+    let first = StoreRow {
+        id: id(rt, "SCI"),
+        size: 4,
+        start: 0,
+        kind: Kind::Bounded,
+        channel: 0,
+    };
+    let second = StoreRow {
+        id: id(rt, "HK-1_"),
+        size: 1_000_000,
+        start: 2,
+        kind: Kind::Circular,
+        channel: 7,
+    };
+    [first, second]
+}
+
+const NO_BLOCKS: LimitRow = LimitRow {
+    channel: 7,
+    blocks: 0,
+};
+
+// The setup has the one route and the one limit.
+fn has_route_and_limit(rt: &impl Abort, setup: &Setup) {
+    let route = RouteRow {
+        apid: 100,
+        service: 3,
+        subtype: 25,
+        store: id(rt, "SCI"),
+    };
+    let is_routed = setup.routes() == [route].as_slice();
+    assert!(rt; is_routed && setup.limits() == [NO_BLOCKS].as_slice());
+}
+
+#[test]
+fn a_setup_is_read(rt: HostRuntime) {
+    let text = joined(&rt, rt.alloc(), &[SCI, SECOND, ROUTE, LIMIT]);
+    let setup = Setup::read(rt.alloc(), text.as_bytes()).expect(&rt, "a setup");
+    assert!(rt; setup.stores() == two_stores(&rt).as_slice());
+    has_route_and_limit(&rt, &setup);
+}
+
+// Spreadsheets and editors may write a byte order mark at the beginning of a file.
+#[test]
+fn a_byte_order_mark_is_passed_over(rt: HostRuntime) {
+    let setup = joined(&rt, rt.alloc(), &["\u{feff}", SCI]);
+    let forecast = "\u{feff}step,window,SCI\n1,2,3\n";
+    let problem = problem_of(&rt, rt.alloc(), setup.as_str(), forecast);
+    assert!(rt; problem.stores() == 1);
+    assert!(rt; problem.arrivals(0, 1) == 3);
+}
+
+// How many stores, routes and limits a setup has.
+fn counts(setup: &Setup) -> (usize, usize, usize) {
+    (
+        setup.stores().len(),
+        setup.routes().len(),
+        setup.limits().len(),
+    )
+}
+
+#[test]
+fn empty_arrays_are_as_none(rt: HostRuntime) {
+    let text = joined(&rt, rt.alloc(), &["route = []\nlimit = []\n", SCI]);
+    let setup = Setup::read(rt.alloc(), text.as_bytes()).expect(&rt, "a setup");
+    assert!(rt; counts(&setup) == (1, 0, 0));
+}

@@ -1,0 +1,61 @@
+//! Links in memory, and what they took.
+
+use mm_base::StoreId;
+use mm_dump::{Link, MemoryLink};
+use std::alloc::Global;
+use std::process::Abort;
+
+// Links of which each fails once, after a number of sends, or never; where there is room for them.
+pub(crate) fn new_links_in_room(alloc: Global, until: &[Option<u64>]) -> Option<Vec<MemoryLink>> {
+    let mut list = Vec::new(alloc);
+    for until in until {
+        list.push(MemoryLink::new(alloc, *until)).ok()?;
+    }
+    Some(list)
+}
+
+pub(crate) fn new_links(rt: &impl Abort, alloc: Global, until: &[Option<u64>]) -> Vec<MemoryLink> {
+    new_links_in_room(alloc, until).expect(rt, "memory")
+}
+
+// The sequence counts of the packets of a store that a link took are these.
+pub(crate) fn has_taken(
+    rt: &impl Abort,
+    name: &str,
+    link: &MemoryLink,
+    store: &StoreId,
+    counts: &[u16],
+) {
+    let mut rest = counts;
+    for taken in link.taken() {
+        if taken.store == *store {
+            let [count, more @ ..] = rest else {
+                panic!(rt; "{name}: no more packets of this store");
+            };
+            let found = taken.stored.packet.packet().count();
+            assert!(rt; found == *count, "{name}: packet {count}");
+            rest = more;
+        }
+    }
+    assert!(rt; rest.is_empty(), "{name}: all packets of this store");
+}
+
+// A link took this many packets, and this many of its sends failed.
+pub(crate) fn has_sent(rt: &impl Abort, name: &str, link: &MemoryLink, many: usize, failures: u64) {
+    let is_sent = link.taken().len() == many && link.failures() == failures;
+    assert!(rt; is_sent, "{name}: {many} packets sent, {failures} failures");
+}
+
+// These are so many links, each of which took this many packets without a failure.
+pub(crate) fn all_have_sent(
+    rt: &impl Abort,
+    name: &str,
+    links: &[MemoryLink],
+    many: usize,
+    each: usize,
+) {
+    assert!(rt; links.len() == many, "{name}: {many} links");
+    for link in links {
+        has_sent(rt, name, link, each, 0);
+    }
+}

@@ -1,0 +1,11 @@
+//! Whole runs: their reports, what they leave, and why some are refused or halted.
+
+mod allocations;
+mod crowds;
+mod flights;
+mod halts;
+mod refusals;
+mod rest;
+mod rows;
+mod standing;
+mod trials;
