@@ -71,6 +71,10 @@ entry_line words = codes "    " ++ words ++ line_feed ∷ []
 abbrev pub entry_lines : {A : Type 0} → (A → List ℕ) → List A → List ℕ
 entry_lines words entries = flat_map (λ entry. entry_line (words entry)) entries
 
+-- what a report tells, and the entries
+abbrev pub titled_entries : {A : Type 0} → List ℕ → (A → List ℕ) → List A → List ℕ
+titled_entries title words entries = title_line title ++ entry_lines words entries
+
 -- what a request asks, and the instructions
 abbrev pub titled_instructions : {A : Type 0} → List ℕ → (A → List ℕ) → ℕ → List A → List ℕ
 titled_instructions title words number entries = title_line title ++ instruction_lines words number 1 entries
@@ -102,6 +106,6 @@ control_line id = codes "  storage control of " ++ id_words id ++ line_feed ∷ 
 -- the lines on a report
 abbrev pub report_lines : Report → List ℕ
 report_lines (report.Control moment id rows) = control_line id ++ entry_lines row_words rows
-report_lines (report.Summaries moment entries) = title_line (codes "content") ++ entry_lines summary_words entries
-report_lines (report.Statuses moment entries) = title_line (codes "status") ++ entry_lines status_words entries
-report_lines (report.Configurations moment entries) = title_line (codes "configuration") ++ entry_lines configuration_words entries
+report_lines (report.Summaries moment entries) = titled_entries (codes "content") summary_words entries
+report_lines (report.Statuses moment entries) = titled_entries (codes "status") status_words entries
+report_lines (report.Configurations moment entries) = titled_entries (codes "configuration") configuration_words entries

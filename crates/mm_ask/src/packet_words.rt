@@ -2,7 +2,7 @@
 ghost use Rattle.std.specs.Prelude.{◌≡◌, ◌<◌, ◌++◌, length, OnOk};
 ghost use Rattle.mm_packet.specs.Spelling.{data_length};
 ghost use Rattle.mm_st15.specs.Request.{HasCount, kind_of, count_of};
-ghost use Rattle.mm_ask.specs.PacketWords.{type_word, low_word, type_fields, primary_words, secondary_words, header_line, title_line, instruction_line, instruction_lines, entry_line, entry_lines, titled_instructions, request_lines, control_line, report_lines};
+ghost use Rattle.mm_ask.specs.PacketWords.{type_word, low_word, type_fields, primary_words, secondary_words, header_line, title_line, instruction_line, instruction_lines, entry_line, entry_lines, titled_entries, titled_instructions, request_lines, control_line, report_lines};
 
 use crate::entry_words::{InWords, push_id, push_named};
 use crate::text::push_place;
@@ -219,6 +219,21 @@ fn push_entries<E: InWords>(
     Ok(())
 }
 
+// Writes what a report tells, and its entries.
+#[tactic(auto, using(std::proofs::Common::append_assoc))]
+fn push_titled_entries<E: InWords>(
+    alloc: Global,
+    text: &mut Vec<u8>,
+    title: &[u8],
+    entries: &Entries<E>,
+) -> Result<(), AllocError>
+    ensures { OnOk result (text.new.items
+        ≡ text.old.items ++ titled_entries title.now E.words entries.now) }
+{
+    push_title(text, title)?;
+    push_entries(alloc, text, entries)
+}
+
 // Writes the line on the store whose storage control is told.
 #[tactic(auto, using(std::proofs::Common::append_assoc))]
 fn push_control(alloc: Global, text: &mut Vec<u8>, id: &[u8; 8]) -> Result<(), AllocError>
@@ -244,17 +259,10 @@ pub(crate) fn push_report(
             push_control(alloc, text, id)?;
             push_entries(alloc, text, rows)
         }
-        Report::Summaries { entries, .. } => {
-            push_title(text, b"content")?;
-            push_entries(alloc, text, entries)
-        }
-        Report::Statuses { entries, .. } => {
-            push_title(text, b"status")?;
-            push_entries(alloc, text, entries)
-        }
+        Report::Summaries { entries, .. } => push_titled_entries(alloc, text, b"content", entries),
+        Report::Statuses { entries, .. } => push_titled_entries(alloc, text, b"status", entries),
         Report::Configurations { entries, .. } => {
-            push_title(text, b"configuration")?;
-            push_entries(alloc, text, entries)
+            push_titled_entries(alloc, text, b"configuration", entries)
         }
     }
 }
