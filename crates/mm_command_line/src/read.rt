@@ -21,7 +21,7 @@ of `ask` are printed as they stand. Prints for line N:
 or one line:
   refused NUMBER NAME ..      the file was not read
 
-Example:
+Examples:
   mm_tool read packets.hex
   mm_tool ask setup.toml requests.hex > answers.txt; mm_tool read answers.txt
 
