@@ -2,7 +2,7 @@
 # Compares what README.md, docs/ and examples/ show with what is there:
 # - a fenced block under `<!-- file: PATH -->` with that file, whole;
 # - a fenced block under `<!-- output: COMMAND -->` with what the command prints; it must end with status 0, or with N under
-#   `<!-- output N: COMMAND -->`. In the block a line `...` stands for any lines, and what follows two spaces is a note;
+#   `<!-- output N: COMMAND -->`. In the block a line `...` stands for any lines, and what follows a word and two spaces is a note;
 # - a fenced block under `<!-- session -->`: a line `$ COMMAND`, and below it what that command prints, in the same way; each must
 #   end with status 0, or with N under `<!-- session N -->`;
 # - the commands of a fenced block in which a line begins with `./mm_tool ` are run, and each must end with status 0, or with N
@@ -32,9 +32,9 @@ fail() {
   failures=$((failures + 1))
 }
 
-# The lines of $work/wanted without notes, in `wanted`.
+# The lines of $work/wanted without notes, in `wanted`. A line that begins with spaces is indented, and no note.
 read_wanted() {
-  mapfile -t wanted < <(sed 's/  .*$//' "$work/wanted")
+  mapfile -t wanted < <(sed -E 's/([^ ])  .*$/\1/' "$work/wanted")
 }
 
 # Whether the lines of $work/printed are those of $work/wanted.

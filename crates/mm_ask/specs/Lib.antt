@@ -6,3 +6,7 @@ pub mod Text
 pub mod Answering
 pub mod Asking
 pub mod Laws
+pub mod Label
+pub mod EntryWords
+pub mod PacketWords
+pub mod Reads

@@ -1,7 +1,8 @@
-//! Laws over the numbers of reports.
+//! Laws over the numbers of reports, and over what packets read as.
 ghost use Rattle.std.specs.Prelude.{◌≡◌, ◌+◌, ◌%◌};
 ghost use Rattle.mm_ask.specs.Counting.{next_counter};
 ghost use Rattle.mm_ask.specs.Laws.{NumbersCountReports, ConversationsCount, ReportsCount};
+ghost use Rattle.mm_ask.specs.Reads.{PacketsReadOneWay};
 ghost use Rattle.mm_ask.specs.declared.counters.TheConstants.{SEQUENCE_COUNTS};
 
 /// A report's sequence count is the number of the reports before it, and its message type counter
@@ -15,6 +16,11 @@ pub fn numbers_count_reports()
 pub fn conversations_count_their_reports()
     ensures lines { ConversationsCount }
     ensures reports { ReportsCount }
+{}
+
+/// What `reads` of `read_bytes` says fixes each character of the text, and the outcome.
+pub fn packets_read_one_way()
+    ensures law { PacketsReadOneWay }
 {}
 
 /// The numbers of the constants: how many sequence counts there are, and how many message type

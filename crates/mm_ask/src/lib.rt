@@ -1,13 +1,17 @@
 //! Requests of service 15 as lines of text, applied to a mass memory: the answers and the reports,
-//! as lines.
+//! as lines. And packets, read in words and numbers.
 #![tactic(auto)]
 
 mod answering;
 mod ask;
 mod counters;
+mod entry_words;
 mod fault;
+mod label;
 pub mod laws;
 mod line;
+mod packet_words;
+mod read;
 mod telemetry;
 mod text;
 
@@ -16,4 +20,6 @@ pub use ask::ask_bytes;
 pub use counters::{Counters, Numbers, SEQUENCE_COUNTS};
 pub use fault::LineFault;
 pub use line::{Asked, request_of};
+pub use mm_base::NoMemory;
 pub use mm_problem::Fault;
+pub use read::read_bytes;

@@ -34,8 +34,8 @@ fn has_digits(line: &[u8]) -> bool
     line.len() % 2 == 0 && are_digits(line)
 }
 
-// The octets that the digits spell.
-fn octets_in(alloc: Global, line: &[u8]) -> Result<Vec<u8>, LineFault>
+/// The octets that the digits spell.
+pub(crate) fn octets_in(alloc: Global, line: &[u8]) -> Result<Vec<u8>, LineFault>
     ensures octets { Gives NoMemory (λ octets. octets.items) result (octets_in line.now) }
     ensures memory { IfErr result (λ fault. fault ≡ NoMemory → IsTrue (has_digits line.now)) }
     ensures digits { IfOk result (λ _. IsTrue (has_digits line.now)) }
@@ -59,8 +59,8 @@ impl From<mm_packet::Fault> for LineFault {
     }
 }
 
-// The packet that the octets are, with nothing after it.
-fn packet_alone(alloc: Global, octets: &[u8]) -> Result<Packet, LineFault>
+/// The packet that the octets are, with nothing after it.
+pub(crate) fn packet_alone(alloc: Global, octets: &[u8]) -> Result<Packet, LineFault>
     ensures { Gives NoMemory (λ packet. packet) result (packet_alone octets.now) }
 {
     let (packet, rest) = Packet::parse(alloc, octets)?;

@@ -42,9 +42,9 @@ pub(crate) fn push_refused_line(
     push_refused(text, fault.refusal())
 }
 
-// Begins the line on an instruction with its place in the request.
+/// Begins the line on an instruction with its place in the request.
 #[tactic(auto, using(std::proofs::Common::append_assoc))]
-fn push_place(text: &mut Vec<u8>, line: u64, place: u64) -> Result<(), AllocError>
+pub(crate) fn push_place(text: &mut Vec<u8>, line: u64, place: u64) -> Result<(), AllocError>
     ensures { OnOk result (text.new.items ≡ text.old.items ++ place_text line place) }
 {
     push_number(text, line)?;

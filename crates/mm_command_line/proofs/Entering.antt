@@ -7,7 +7,7 @@ use Rattle.clap.specs.Simple.{App, Shape, built, entered, is_simple, label_of, n
 use Rattle.clap.specs.Takes.{default_passes, entered_passes, is_valid, level_passes, settle_passes, takes, turn_passes, walk_passes}
 use Rattle.clap.proofs.OnLiterals.{clap_on_literals}
 use Rattle.clap.proofs.WalkLemmas.{walk_stopped}
-use Rattle.mm_command_line.specs.Commands.{ask, chart, check, fly, plan, run, table, tool}
+use Rattle.mm_command_line.specs.Commands.{ask, chart, check, fly, plan, read, run, table, tool}
 
 -- the program as the parser builds it
 abbrev pub built_tool : App
@@ -29,9 +29,10 @@ pub record IsMet (word : Text) : Type 0 where
   pub passes : turn_passes built_tool.top words_known (walk_from nothing_held) word ≡ true
 
 -- each command is met by its word
-pub meets : IsMet plan.0 × IsMet check.0 × IsMet chart.0 × IsMet run.0 × IsMet fly.0 × IsMet ask.0 × IsMet table.0
+pub meets : IsMet plan.0 × IsMet check.0 × IsMet chart.0 × IsMet run.0 × IsMet fly.0 × IsMet ask.0 × IsMet table.0 × IsMet read.0
 unfolding clap_on_literals
 meets = (
+  record { stops = refl; passes = refl },
   record { stops = refl; passes = refl },
   record { stops = refl; passes = refl },
   record { stops = refl; passes = refl },

@@ -8,11 +8,11 @@ use Rattle.clap.specs.Faults.{entered_fault, fault_of, is_simple_and_free, level
 use Rattle.clap.specs.Walk.{Names, Rule, Text, Walk, answers_to, arg_by_long, arg_by_short, finished, has_long, has_short, idle, nothing_held, rows_after, subcommand_met, trailing, walk, walk_from, walked}
 use Rattle.clap.specs.Simple.{App, HasMatchesOf, entered, filled, filled_from, help_rule, index_after, is_simple, subcommand_of, subcommand_rows_of}
 use Rattle.clap.specs.declared.parser.matches.ArgMatches.{ArgMatches}
-use Rattle.mm_command_line.specs.Commands.{Form, ask, chart, check, file_rule, fly, line_found, line_read, names_read, plan, run, table, tool}
+use Rattle.mm_command_line.specs.Commands.{Form, ask, chart, check, file_rule, fly, line_found, line_read, names_read, plan, read, run, table, tool}
 use Rattle.mm_command_line.specs.Lines.{before_dashes, is_flag, without_dashes}
 use Rattle.mm_command_line.proofs.Entering.{built_tool, rules, tool_enters, tool_simple, walk_is, words_known}
 use Rattle.mm_command_line.proofs.Exact.{HasOnlyHelp, IsHelp, all_placed, dashes, help, if_help, name, no_fault, or_else_none, turn, turn_of, walk_ends, walked_met}
-use Rattle.mm_command_line.proofs.Taking.{IsCommandOf, has_ask, has_chart, has_check, has_fly, has_plan, has_run, has_table, leaf, line_known, reads_ask, reads_check, reads_fly, reads_plan, reads_run, rows_found}
+use Rattle.mm_command_line.proofs.Taking.{IsCommandOf, has_ask, has_chart, has_check, has_fly, has_plan, has_read, has_run, has_table, leaf, line_known, reads_ask, reads_check, reads_fly, reads_plan, reads_read, reads_run, rows_found}
 use Rattle.mm_command_line.proofs.Walking.{IsReady}
 
 -- ---- how many words a command takes
@@ -41,6 +41,12 @@ counts_ask word [] found all e = absurd (not_found found e)
 counts_ask word (a ∷ []) found all e = absurd (not_found found e)
 counts_ask word (a ∷ b ∷ []) found all e = same_names _ found (sym (reads_ask word a b).found ∙ e)
 counts_ask word (a ∷ b ∷ x ∷ rest) found all e = absurd (true≢false (sym all))
+
+counts_read : IsCounted read.1
+unfolding IsCounted
+counts_read word [] found all e = absurd (not_found found e)
+counts_read word (a ∷ []) found all e = same_names _ found (sym (reads_read word a).found ∙ e)
+counts_read word (a ∷ x ∷ rest) found all e = absurd (true≢false (sym all))
 
 counts_check : IsCounted check.1
 unfolding IsCounted
@@ -206,7 +212,7 @@ named_or_not P (first ∷ rest) word each other = go (bytes_eq first word) refl 
     go false is later = later (λ none. other (ap (λ b. cond (b || false) (Some (first, [])) (find (answers_to word) (labels rest))) is ∙ none))
 
 known_names : List Text
-known_names = plan.0 ∷ check.0 ∷ chart.0 ∷ table.0 ∷ run.0 ∷ fly.0 ∷ ask.0 ∷ codes "help" ∷ []
+known_names = plan.0 ∷ check.0 ∷ chart.0 ∷ table.0 ∷ run.0 ∷ fly.0 ∷ ask.0 ∷ read.0 ∷ codes "help" ∷ []
 
 exact_word : (word : Text) (files : List Text) → IsExact files word
 unfolding known_names
@@ -224,7 +230,10 @@ exact_word word files = named_or_not (IsExact files) known_names word (
             exact_command fly has_fly counts_fly files,
             (
               exact_command ask has_ask counts_ask files,
-              (exact_help files, tt),
+              (
+                exact_command read has_read counts_read files,
+                (exact_help files, tt),
+              ),
             ),
           ),
         ),

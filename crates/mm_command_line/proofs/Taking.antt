@@ -8,10 +8,10 @@ use Rattle.clap.specs.Walk.{Row, Text, answers_to, finished}
 use Rattle.clap.specs.Simple.{App, HasMatchesOf, Shape, is_simple, subcommand_rows_of, built_leaf, inherited, label_of, subcommand_of}
 use Rattle.clap.specs.Takes.{takes}
 use Rattle.clap.specs.declared.parser.matches.ArgMatches.{ArgMatches}
-use Rattle.mm_command_line.specs.Commands.{Form, app_by, ask, chart, check, commands, fly, line_found, line_of, line_read, names_read, plan, run, table, tool}
+use Rattle.mm_command_line.specs.Commands.{Form, app_by, ask, chart, check, commands, fly, line_found, line_of, line_read, names_read, plan, read, run, table, tool}
 use Rattle.mm_command_line.specs.Lines.{IsFileName, IsTaskLine, flight_spelling, is_flag, spelling}
 use Rattle.mm_command_line.specs.declared.task.Task.{Task}
-use Rattle.mm_command_line.specs.declared.task.Task.TheVariants.{Plan, Check, Chart, Table, Fly, Ask}
+use Rattle.mm_command_line.specs.declared.task.Task.TheVariants.{Plan, Check, Chart, Table, Fly, Ask, Read}
 use Rattle.mm_command_line.proofs.Entering.{IsMet, built_tool, meets, tool_enters, tool_simple, tool_takes}
 use Rattle.mm_command_line.proofs.Walking.{end_of, level_passing, level_places, rows_placed}
 
@@ -53,6 +53,9 @@ has_ask = record { met = meets.5; entered = refl; known = refl; plain = refl; un
 pub has_table : IsCommandOf table
 has_table = record { met = meets.6; entered = refl; known = refl; plain = refl; unflagged = refl }
 
+pub has_read : IsCommandOf read
+has_read = record { met = meets.7; entered = refl; known = refl; plain = refl; unflagged = refl }
+
 -- what is found for words that are put to the files of a command
 abbrev pub rows_found : Form → List Text → List Row
 rows_found form files = finished (leaf form).rules (end_of (leaf form) files)
@@ -81,6 +84,9 @@ reads_fly word setup forecast sources links = record { passes = refl; found = re
 pub reads_ask : (word setup requests : Text) → Reads (word, ask.1) (setup ∷ requests ∷ [])
 reads_ask word setup requests = record { passes = refl; found = refl }
 
+pub reads_read : (word packets : Text) → Reads (word, read.1) (packets ∷ [])
+reads_read word packets = record { passes = refl; found = refl }
+
 -- a line of a command is taken
 line_taken : (form : Form) (files : List Text) → IsCommandOf form → Reads form files → All IsFileName files → IsTaken (form.0 ∷ files)
 line_taken form files has reads names = record {
@@ -103,6 +109,7 @@ taken_task (Chart files) names = line_taken chart _ has_chart (reads_check chart
 taken_task (Table files) names = line_taken table _ has_table (reads_check table.0 files.setup.now files.forecast.now files.plan.now) names
 taken_task (Fly files) names = taken_flight files.setup.now files.forecast.now files.sources.now files.links.now files.plan names
 taken_task (Ask setup requests) names = line_taken ask _ has_ask (reads_ask ask.0 setup.now requests.now) names
+taken_task (Read packets) names = line_taken read _ has_read (reads_read read.0 packets.now) names
 
 -- a line of a task is taken
 pub taken : (words : List Text) → IsTaskLine words → IsTaken words

@@ -31,8 +31,11 @@ fly = (codes "fly", plan.1 ++ codes "SOURCES" ∷ codes "LINKS" ∷ [])
 abbrev pub ask : Form
 ask = (codes "ask", codes "SETUP" ∷ codes "REQUESTS" ∷ [])
 
+abbrev pub read : Form
+read = (codes "read", codes "PACKETS" ∷ [])
+
 abbrev pub commands : List Form
-commands = plan ∷ check ∷ chart ∷ table ∷ run ∷ fly ∷ ask ∷ []
+commands = plan ∷ check ∷ chart ∷ table ∷ run ∷ fly ∷ ask ∷ read ∷ []
 
 -- ---- as clap reads them
 

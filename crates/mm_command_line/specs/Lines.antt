@@ -3,7 +3,7 @@ use Rattle.std.specs.Prelude.{◌≡◌, ℕ, List, [], ◌∷◌, Option, Some,
 use Rattle.std.specs.List.{All, starts_with}
 use Rattle.mm_command_line.specs.declared.task.PlanFiles.{PlanFiles}
 use Rattle.mm_command_line.specs.declared.task.Task.{Task}
-use Rattle.mm_command_line.specs.declared.task.Task.TheVariants.{Plan, Check, Chart, Table, Fly, Ask}
+use Rattle.mm_command_line.specs.declared.task.Task.TheVariants.{Plan, Check, Chart, Table, Fly, Ask, Read}
 use Rattle.std.specs.Borrow.{Bor}
 
 -- the names of the files of a judged plan
@@ -25,6 +25,7 @@ spelling (Chart files) = codes "chart" ∷ plan_names files
 spelling (Table files) = codes "table" ∷ plan_names files
 spelling (Fly f) = flight_spelling f.setup.now f.forecast.now f.sources.now f.links.now f.plan
 spelling (Ask setup requests) = codes "ask" ∷ setup.now ∷ requests.now ∷ []
+spelling (Read packets) = codes "read" ∷ packets.now ∷ []
 
 -- the word is no flag: it begins with `-` only if it is `-` alone
 abbrev pub IsFileName : List ℕ → Type 0

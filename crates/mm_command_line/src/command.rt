@@ -5,12 +5,13 @@ ghost use Rattle.mm_command_line.specs.Commands.{AddsFiles, IsCommand, ask, chec
 
 use crate::chart::chart_command;
 use crate::flight::{fly_command, run_command};
+use crate::read::read_command;
 use crate::table::table_command;
 use clap::{Arg, Command};
 use std::alloc::{AllocError, Global};
 
 const ABOUT: &str =
-    "Plans when a spacecraft's packet stores are dumped, checks, draws and carries out such plans, and answers requests of the storage service";
+    "Plans when a spacecraft's packet stores are dumped, checks, draws and carries out such plans, and answers and reads requests of the storage service";
 
 const TOOL_HELP: &str = "\
 Without words the program reads a script from standard input: a first line with the words, and then
@@ -24,9 +25,10 @@ Examples:
   mm_tool run setup.toml forecast.csv plan.txt sources.hex links.txt
   mm_tool fly setup.toml forecast.csv sources.hex links.txt
   mm_tool ask setup.toml requests.hex
+  mm_tool read packets.hex
   mm_tool --version           prints the version, and the kit that the program is proved with
 
-Exit status: 0 where the task is done and, for check, the plan is least, for ask, nothing is refused; 1
+Exit status: 0 where the task is done and, for check, the plan is least, for ask and read, nothing is refused; 1
 where something is refused, a run is halted, the verdict is another, or a write failed; 2 where the command
 line is no good, or help was asked for.";
 
@@ -112,6 +114,21 @@ pub(crate) fn with_file<'a>(
     command.arg(file(alloc, name, help))
 }
 
+/// A command with its first file.
+pub(crate) fn file_command<'a>(
+    alloc: Global,
+    name: &'a str,
+    about: &'a str,
+    help: &'a str,
+    file: &'a str,
+    file_help: &'a str,
+) -> Result<Command<'a>, AllocError>
+    ensures files { IfOk result (IsCommand (name.entry.now, file.entry.now ∷ [])) }
+{
+    let command = Command::new(alloc, name).about(about).after_help(help);
+    with_file(alloc, command, file, file_help)
+}
+
 // A command of which the setup is the first file.
 fn setup_command<'a>(
     alloc: Global,
@@ -121,8 +138,7 @@ fn setup_command<'a>(
 ) -> Result<Command<'a>, AllocError>
     ensures files { IfOk result (IsCommand (name.entry.now, codes "SETUP" ∷ [])) }
 {
-    let command = Command::new(alloc, name).about(about).after_help(help);
-    with_file(alloc, command, "SETUP", SETUP_HELP)
+    file_command(alloc, name, about, help, "SETUP", SETUP_HELP)
 }
 
 /// A command on a problem, with the files of the problem.
@@ -200,5 +216,6 @@ pub(crate) fn tool_command<'a>(alloc: Global) -> Result<Command<'a>, AllocError>
         .subcommand(table_command(alloc)?)?
         .subcommand(run_command(alloc)?)?
         .subcommand(fly_command(alloc)?)?
-        .subcommand(ask_command(alloc)?)
+        .subcommand(ask_command(alloc)?)?
+        .subcommand(read_command(alloc)?)
 }

@@ -5,6 +5,7 @@ mod chart;
 mod command;
 mod flight;
 mod line;
+mod read;
 mod table;
 mod task;
 mod version;

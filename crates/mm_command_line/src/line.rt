@@ -3,7 +3,7 @@ ghost use Rattle.std.specs.Prelude.{◌≡◌, [], ◌∷◌, IfErr, IfOk, false
 ghost use Rattle.std.specs.List.{list_any};
 ghost use Rattle.clap.specs.Words.{found_of, kind_of, rows_of, subcommand_rows_of};
 ghost use Rattle.clap.specs.declared.error.kind.ErrorKind.TheVariants.{OutOfMemory};
-ghost use Rattle.mm_command_line.specs.Commands.{ask, check, chart, fly, line_found, line_of, line_read, names_read, plan, run, table};
+ghost use Rattle.mm_command_line.specs.Commands.{ask, check, chart, fly, line_found, line_of, line_read, names_read, plan, read, run, table};
 ghost use Rattle.mm_command_line.specs.Lines.{IsTaskLine, before_dashes, is_flag, plan_names, spelling, without_dashes};
 
 use crate::command::tool_command;
@@ -75,6 +75,13 @@ fn ask_task<'a>(files: &ArgMatches<'a>) -> Option<Task<'a>>
     Some(Task::Ask { setup, requests })
 }
 
+fn read_task<'a>(files: &ArgMatches<'a>) -> Option<Task<'a>>
+    ensures line { option_map spelling result ≡ line_of read (rows_of (found_of files.now)) }
+{
+    let packets = files.get_str("PACKETS")?;
+    Some(Task::Read { packets })
+}
+
 // The task of a command, with the files that were found for it.
 fn task_of<'a>(command: &str, files: &ArgMatches<'a>) -> Option<Task<'a>>
     ensures line { option_map spelling result ≡ line_read command.now (rows_of (found_of files.now)) }
@@ -87,6 +94,7 @@ fn task_of<'a>(command: &str, files: &ArgMatches<'a>) -> Option<Task<'a>>
         "run" => run_task(files),
         "fly" => fly_task(files),
         "ask" => ask_task(files),
+        "read" => read_task(files),
         _ => None,
     }
 }

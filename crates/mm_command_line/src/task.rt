@@ -57,6 +57,8 @@ pub enum Task<'a> {
     Fly(FlightFiles<'a>),
     /// Answer the requests of the storage service, one after another, in a memory of the setup.
     Ask { setup: &'a str, requests: &'a str },
+    /// Say what packets of the storage service hold.
+    Read { packets: &'a str },
 }
 
 impl<'a> Task<'a> {
@@ -79,6 +81,7 @@ impl<'a> Task<'a> {
                 Role::Setup => Some(setup),
                 _ => None,
             },
+            Task::Read { .. } => None,
         }
     }
 }

@@ -5,7 +5,7 @@ use Rattle.mm_cut.specs.declared.verdict.Verdict.{Verdict}
 use Rattle.mm_cut.specs.declared.verdict.Verdict.TheVariants.{DoesNotFit, LossIs, BadStretch, BadCount, BoundIs, NotShown, Least}
 use Rattle.mm_ask.specs.declared.answering.Outcome.{Outcome as Replied}
 use Rattle.mm_ask.specs.declared.answering.Outcome.TheVariants as replied
-use Rattle.mm_command_line.specs.declared.task.Task.TheVariants.{Plan, Check, Chart, Table, Fly, Ask}
+use Rattle.mm_command_line.specs.declared.task.Task.TheVariants.{Plan, Check, Chart, Table, Fly, Ask, Read}
 use Rattle.mm_run.specs.declared.printed.Outcome.{Outcome as Ended}
 use Rattle.mm_run.specs.declared.printed.Outcome.TheVariants as ended
 use Rattle.mm_commands.specs.declared.status.Status.{Status}
@@ -48,6 +48,7 @@ no-bad-answer contents (Chart names) text answers = absurd (let is = answers.0 i
 no-bad-answer contents (Table names) text answers = absurd (let is = answers.0 in cc)
 no-bad-answer contents (Fly names) text flown = no-bad-run flown.printed.outcome flown.status_is
 no-bad-answer contents (Ask setup requests) text (s, hs, (r, hr, replies)) = no-bad-reply replies.outcome replies.status_is
+no-bad-answer contents (Read packets) text (p, hp, says) = no-bad-reply says.outcome says.status_is
 
 pub answers-well : {E : Type 0} (contents : Contents) (task : Task) (answer : Answer) (result : Result Status E)
     → IfOk result (λ status. status ≡ status_in answer) → IsAnswerTo contents task answer → IfOk result (λ status. status ≢ BadCommandLine)

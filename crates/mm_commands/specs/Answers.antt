@@ -12,6 +12,7 @@ use Rattle.mm_planner.specs.PlanTexts.{PlansLeast}
 use Rattle.mm_ask.specs.declared.answering.Outcome.{Outcome as Replied}
 use Rattle.mm_ask.specs.declared.answering.Outcome.TheVariants as replied
 use Rattle.mm_ask.specs.Asking.{Answers}
+use Rattle.mm_ask.specs.Reads.{Reads}
 use Rattle.mm_run.specs.declared.printed.Outcome.{Outcome as Ended}
 use Rattle.mm_run.specs.declared.printed.Outcome.TheVariants as ended
 use Rattle.mm_run.specs.declared.printed.Printed.{Printed}
@@ -25,7 +26,7 @@ use Rattle.mm_commands.specs.declared.answers.Answer.TheVariants.{Text, Lines, L
 use Rattle.mm_command_line.specs.declared.task.PlanFiles.{PlanFiles}
 use Rattle.mm_command_line.specs.declared.task.FlightFiles.{FlightFiles}
 use Rattle.mm_command_line.specs.declared.task.Task.{Task}
-use Rattle.mm_command_line.specs.declared.task.Task.TheVariants.{Plan, Check, Chart, Table, Fly, Ask}
+use Rattle.mm_command_line.specs.declared.task.Task.TheVariants.{Plan, Check, Chart, Table, Fly, Ask, Read}
 
 -- the file of this name may have these bytes; a missing one has none
 abbrev pub Holds : Contents → List ℕ → List ℕ → Type 0
@@ -72,6 +73,14 @@ pub record Replies (status : Status) (text setup requests : List ℕ) : Type 0 w
   pub answers : Answers setup requests outcome text
   pub status_is : status ≡ status_of_replies outcome
 
+-- ---- `read`
+
+-- the text says what the packets are
+pub record Says (status : Status) (text packets : List ℕ) : Type 0 where
+  pub outcome : Replied
+  pub reads : Reads packets outcome text
+  pub status_is : status ≡ status_of_replies outcome
+
 -- ---- `run` and `fly`
 
 abbrev pub status_of_run : Ended → Status
@@ -114,6 +123,7 @@ AnswersTask contents (Chart names) status text = (status ≡ Done) × OfPlan con
 AnswersTask contents (Table names) status text = (status ≡ Done) × OfPlan contents names (λ setup forecast plan. IsTableOf setup forecast plan text)
 AnswersTask contents (Fly names) status text = Flown contents names status text
 AnswersTask contents (Ask setup requests) status text = Of contents setup.now (λ s. Of contents requests.now (Replies status text s))
+AnswersTask contents (Read packets) status text = Of contents packets.now (Says status text)
 
 -- the text of an answer, and the status
 abbrev pub text_in : Answer → List ℕ

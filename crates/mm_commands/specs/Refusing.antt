@@ -22,7 +22,7 @@ use Rattle.mm_commands.specs.Faults.{refused_line}
 use Rattle.mm_commands.specs.declared.fault.Fault.{Fault}
 use Rattle.mm_commands.specs.declared.fault.Fault.TheVariants.{NoMemory, NotRead, Texts, Run, Setup}
 use Rattle.mm_command_line.specs.declared.task.Task.{Task}
-use Rattle.mm_command_line.specs.declared.task.Task.TheVariants.{Plan, Check, Chart, Table, Fly, Ask}
+use Rattle.mm_command_line.specs.declared.task.Task.TheVariants.{Plan, Check, Chart, Table, Fly, Ask, Read}
 
 -- the name of a file, where one is named
 abbrev pub names_of : Option (Bor (List ℕ)) → List (List ℕ)
@@ -37,6 +37,7 @@ files_of (Chart names) = names.setup.now ∷ names.forecast.now ∷ names.plan.n
 files_of (Table names) = names.setup.now ∷ names.forecast.now ∷ names.plan.now ∷ []
 files_of (Fly names) = names.setup.now ∷ names.forecast.now ∷ names_of names.plan ++ names.sources.now ∷ names.links.now ∷ []
 files_of (Ask setup requests) = setup.now ∷ requests.now ∷ []
+files_of (Read packets) = packets.now ∷ []
 
 -- the first fault of the texts of a run whose plan is given, or made
 abbrev pub IsFlightFault : Option (List ℕ) → FlightFault → List ℕ → List ℕ → List ℕ → List ℕ → Type 0

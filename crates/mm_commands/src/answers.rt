@@ -1,14 +1,14 @@
-//! What answers the tasks that carry nothing out: plans, verdicts, charts, tables, and the answers to requests.
+//! What answers the tasks that carry nothing out: plans, verdicts, charts, tables, answers to requests, and packets in words.
 ghost use Rattle.std.specs.Prelude.{◌≡◌, [], ◌∷◌, IfOk, IfErr};
 ghost use Rattle.mm_commands.specs.Answers.{Holds, IsAnswerTo, status_of, status_of_replies};
 ghost use Rattle.mm_commands.specs.Refusing.{IsUnread, IsFaultOf};
-ghost use Rattle.mm_command_line.specs.declared.task.Task.TheVariants.{Plan, Check, Chart, Table, Ask};
+ghost use Rattle.mm_command_line.specs.declared.task.Task.TheVariants.{Plan, Check, Chart, Table, Ask, Read};
 
 use crate::fault::Fault;
 use crate::files::{Files, ReadFault};
 use crate::kept::Kept;
 use crate::status::Status;
-use mm_ask::{Outcome, ask_bytes};
+use mm_ask::{Outcome, ask_bytes, read_bytes};
 use mm_chart::{chart_bytes, table_bytes};
 use mm_command_line::PlanFiles;
 use mm_cut::{Verdict, check_bytes};
@@ -20,7 +20,7 @@ use std::alloc::Global;
 #[derive(Drop)]
 pub(crate) enum Answer {
     Text { status: Status, text: Vec<u8> },
-    /// The lines that answer requests.
+    /// The lines that answer requests, or say what packets are.
     Lines { outcome: Outcome, lines: Vec<u8> },
     /// The line of a verdict.
     Line { verdict: Verdict, line: Vec<u8> },
@@ -197,5 +197,19 @@ pub fn ask<'a, F: Files>(
     kept.setup = setup;
     kept.requests = requests;
     let (outcome, lines) = asked?;
+    Ok(Answer::Lines { outcome, lines })
+}
+
+/// The lines that say what the packets in the file are.
+pub fn read<'a, F: Files>(
+    alloc: Global,
+    files: &mut F,
+    packets: &'a str,
+) -> Result<Answer, Fault<'a>>
+    ensures reads { IfOk result (IsAnswerTo (F.content files.old) (Read packets.entry)) }
+    ensures refused { IfErr result (IsFaultOf (F.content files.old) (Read packets.entry)) }
+{
+    let packets = read_file(alloc, files, packets)?;
+    let (outcome, lines) = read_bytes(alloc, &packets)?;
     Ok(Answer::Lines { outcome, lines })
 }

@@ -1,7 +1,7 @@
 //! Why a task is refused.
 ghost use Rattle.std.specs.Prelude.{◌≡◌, Some};
 ghost use Rattle.mm_commands.specs.Faults.{refusal_of, spot_in_run, spot_of, fault_text};
-ghost use Rattle.mm_commands.specs.declared.fault.Fault.TheVariants.{Texts, Run, Setup};
+ghost use Rattle.mm_commands.specs.declared.fault.Fault.TheVariants.{NoMemory, Texts, Run, Setup};
 
 use crate::spot::spot_in_script;
 use mm_base::{Refusal, Refused, refusals};
@@ -21,6 +21,14 @@ pub enum Fault<'a> {
     Run(mm_run::Fault),
     /// A fault of the setup of a conversation.
     Setup(mm_problem::Fault),
+}
+
+impl From<mm_base::NoMemory> for Fault<'_> {
+    ghost from_gives = { λ _ e. e ≡ NoMemory };
+
+    fn from(_error: mm_base::NoMemory) -> Self {
+        Fault::NoMemory
+    }
 }
 
 impl From<mm_cut::Fault> for Fault<'_> {

@@ -92,7 +92,7 @@ impl<'a> Refused<'a> {
 
 impl fmt::Display for Refused<'_> {
     fn fmt<W: fmt::Write>(&self, f: &mut fmt::Formatter<W>) -> fmt::Result {
-        write!(f, ", line {}", self.line)?;
+        write!(f, "{}", self.line)?;
         if let Some(instruction) = self.instruction {
             write!(f, ", instruction {instruction}")?;
         }
@@ -100,10 +100,12 @@ impl fmt::Display for Refused<'_> {
     }
 }
 
-// The file of requests that a task answers.
-fn requests_of(task: Task<'_>) -> Option<&str> {
+// The file of packets of a task, and what the numbers that the task prints count there: a report in the file has the number that `ask`
+// gave it.
+fn packets_of(task: Task<'_>) -> Option<(&str, &'static str)> {
     match task {
-        Task::Ask { requests, .. } => Some(requests),
+        Task::Ask { requests, .. } => Some((requests, "line")),
+        Task::Read { packets } => Some((packets, "packet")),
         _ => None,
     }
 }
@@ -173,7 +175,7 @@ pub(crate) fn tell_notes<E: Write>(
     texts: Texts<'_>,
     err: &mut E,
 ) -> io::Result<()> {
-    if requests_of(task).is_some() {
+    if packets_of(task).is_some() {
         return Ok(());
     }
     let Ok(notes) = notes_on(alloc, task.file(Role::Links).is_some(), texts) else {
@@ -192,12 +194,12 @@ pub(crate) fn tell_refused<E: Write>(
     lines: &[u8],
     err: &mut E,
 ) -> io::Result<()> {
-    let (Some(file), Ok(lines)) = (requests_of(task), std::str::from_utf8(lines)) else {
+    let (Some((file, counted)), Ok(lines)) = (packets_of(task), std::str::from_utf8(lines)) else {
         return Ok(());
     };
     for line in lines.lines() {
         if let Some(refused) = Refused::of(line) {
-            writeln!(err, "{file}{refused}")?;
+            writeln!(err, "{file}, {counted} {refused}")?;
             tell_hint(refused.hint(requests), err)?;
         }
     }

@@ -7,7 +7,7 @@ ghost use Rattle.mm_commands.specs.Faults.{refused_line};
 ghost use Rattle.mm_commands.specs.Refusing.{IsFaultOf, Refuses, refused_input};
 
 use crate::advice::Advice;
-use crate::answers::{Answer, ask, chart, check, plan, status_of, status_of_replies, table};
+use crate::answers::{Answer, ask, chart, check, plan, read, status_of, status_of_replies, table};
 use crate::fault::Fault;
 use crate::files::{Files, ReadFault};
 use crate::flight::fly;
@@ -121,6 +121,7 @@ fn answer<'a, R: Threads + Wait + Sync, F: Files>(
         Task::Table(names) => table(alloc, files, names, kept),
         Task::Fly(names) => fly(rt, alloc, files, names, kept),
         Task::Ask { setup, requests } => ask(alloc, files, setup, requests, kept),
+        Task::Read { packets } => read(alloc, files, packets),
     }
 }
 

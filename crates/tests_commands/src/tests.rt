@@ -9,6 +9,7 @@ mod flying;
 mod hinting;
 mod inputs;
 mod planning;
+mod reading;
 mod samples;
 mod tabling;
 mod words;

@@ -2,4 +2,5 @@
 
 mod lines;
 mod memories;
+mod reads;
 mod samples;

@@ -152,3 +152,22 @@ fn refused_lines_are_explained(rt: HostRuntime) {
         == b"1 refused 49 HexLine\n2.1 refused 23 NoSuchStore\n".as_slice();
     assert!(rt; is_refused && err.as_slice() == REFUSED_WORDS.as_bytes());
 }
+
+// A line that is no packet, a report of line 9 of some requests that is cut short, and an answer of `ask`.
+const REFUSED_PACKETS: &str = "zz\n9 report 0864\n4.1 refused 24 Exists\n";
+
+const PACKETS_TOLD: &str = "1 refused 49 HexLine\n9 refused 1 Short\n4.1 refused 24 Exists\n";
+
+const PACKETS_EXPLAINED: &str = "\
+P, packet 1: expected one telecommand in hexadecimal digits, two for each octet, and nothing after it; write one telecommand a line, and compare its packet data length with its octets
+P, packet 9: expected a whole packet: 6 octets, and then as many as the packet data length says; send the packet again, or correct its length
+P, packet 4, instruction 1: expected an identifier that no store has yet; choose another identifier, or delete that store with subtype 21
+";
+
+#[test]
+fn refused_packets_are_explained(rt: HostRuntime) {
+    let script = format!(in rt.alloc(); "read P\n=== P\n{REFUSED_PACKETS}").expect(&rt, "memory");
+    let (out, err, status) = told(&rt, script.as_bytes());
+    let is_told = out.as_slice() == PACKETS_TOLD.as_bytes();
+    assert!(rt; is_told && err.as_slice() == PACKETS_EXPLAINED.as_bytes() && status == 1);
+}

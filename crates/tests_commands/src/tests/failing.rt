@@ -81,7 +81,7 @@ impl Write for FailingWriter {
 
 // Commands with their files in the order in which they are read, the fewest writes of what is printed, and the status,
 // where nothing fails. A run is printed as the plan text where it was made, the report, and the last line where it was halted.
-static COMMANDS: [(&[&str], u32, u8); 10] = [
+static COMMANDS: [(&[&str], u32, u8); 11] = [
     (&["plan", "S", "F"], 1, 0),
     (&["check", "S", "F", "P"], 1, 0),
     (&["chart", "S", "F", "P"], 1, 0),
@@ -91,6 +91,7 @@ static COMMANDS: [(&[&str], u32, u8); 10] = [
     (&["fly", "S", "F", "X", "L"], 2, 0),
     (&["fly", "S", "F", "X", "BROKEN"], 3, 1),
     (&["ask", "S", "R"], 1, 0),
+    (&["read", "R"], 1, 0),
     (&["plan", "S", "-"], 1, 1),
 ];
 

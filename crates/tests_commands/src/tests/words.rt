@@ -4,7 +4,7 @@ use crate::tests::failing::{FailingWriter, UNWRITTEN};
 use crate::tests::samples::{FIRST_PLAN, SCI, THREE_STEPS, prints, told};
 use mm_commands::{ReadFault, refuse_input, run_script};
 
-static LINES: [&str; 24] = [
+static LINES: [&str; 27] = [
     "",
     "\n",
     "plan S\n",
@@ -25,6 +25,9 @@ static LINES: [&str; 24] = [
     "fly --help\n",
     "ask S\n",
     "ask --help\n",
+    "read\n",
+    "read R R\n",
+    "read --help\n",
     "--help\n",
     "--version plan\n",
     "plan --version\n",

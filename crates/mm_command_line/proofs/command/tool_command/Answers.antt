@@ -1,5 +1,5 @@
 use Rattle.std.proofs.lemmas.Result.{IfOk-weaker}
-use Rattle.mm_command_line.specs.Commands.{ask, chart, check, fly, plan, run, table}
+use Rattle.mm_command_line.specs.Commands.{ask, chart, check, fly, plan, read, run, table}
 use Rattle.mm_command_line.proofs.Building.{tool_with}
 use Rattle.mm_command_line.proofs.command.tool_command.Goals as goal
 
@@ -11,6 +11,7 @@ returns c =
     let told = tool_with _ table _ _ _ charted c.in_ok-table_command.ensures.files c.in_ok-subcommand-4.ensures in
     let ran = tool_with _ run _ _ _ told c.in_ok-run_command.ensures.files c.in_ok-subcommand-5.ensures in
     let flown = tool_with _ fly _ _ _ ran c.in_ok-fly_command.ensures.files c.in_ok-subcommand-6.ensures in
+    let asked = tool_with _ ask _ _ _ flown c.in_ok-ask_command.ensures.files c.in_ok-subcommand-7.ensures in
     record {
-      commands = IfOk-weaker c.subcommand-7.result _ _ (λ r adds. tool_with _ ask _ _ r flown c.in_ok-ask_command.ensures.files adds) c.subcommand-7.ensures;
+      commands = IfOk-weaker c.subcommand-8.result _ _ (λ r adds. tool_with _ read _ _ r asked c.in_ok-read_command.ensures.files adds) c.subcommand-8.ensures;
     }

@@ -1,5 +1,5 @@
 use Rattle.std.proofs.Common.{refl}
-use Rattle.mm_command_line.specs.Commands.{ask, chart, check, fly, plan, run, table}
+use Rattle.mm_command_line.specs.Commands.{ask, chart, check, fly, plan, read, run, table}
 use Rattle.mm_command_line.proofs.Reading.{differs}
 use Rattle.mm_command_line.proofs.line.task_of.Goals as goal
 
@@ -15,5 +15,6 @@ returns-in_default c =
         differs run.0 word c.in_default.not-run,
         differs fly.0 word c.in_default.not-fly,
         differs ask.0 word c.in_default.not-ask,
+        differs read.0 word c.in_default.not-read,
       ) refl;
     }

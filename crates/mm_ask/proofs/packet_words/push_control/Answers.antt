@@ -1,0 +1,9 @@
+use Rattle.std.proofs.Common.{append_assoc}
+use Rattle.mm_ask.proofs.packet_words.push_control.Goals as goal
+
+pub returns : goal.returns
+returns c =
+    let opened = c.in_ok-extend_from_slice.ensures.items in
+    let named = c.in_ok-push_id.ensures in
+    let ended = c.in_ok-push.ensures.items in
+    rw (ended, named, opened) (simp append_assoc)

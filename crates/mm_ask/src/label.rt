@@ -1,0 +1,68 @@
+//! How a line of packets names its packet.
+ghost use Rattle.std.specs.Prelude.{◌≡◌, ◌==◌, ◌<◌, codes, length, position, IfSome};
+ghost use Rattle.std.specs.Option.{option_map};
+ghost use Rattle.mm_base.specs.Characters.{space};
+ghost use Rattle.mm_ask.specs.Label.{cut_word, is_first_word, is_answer, reported, labelled};
+
+use mm_base::numbers::Numeral;
+
+fn first_space(text: &[u8]) -> Option<usize>
+    ensures space { result ≡ position (λ c. c == space) text.now }
+    ensures within { IfSome result (λ i. i < length text.now) }
+{
+    text.iter().position(|octet| *octet == b' ')
+}
+
+// The text up to the first space, and what follows the space.
+fn cut_word(text: &[u8]) -> Option<(&[u8], &[u8])>
+    ensures { option_map (λ parts. (parts.0.now, parts.1.now)) result ≡ cut_word text.now }
+{
+    let space = first_space(text)?;
+    let (_, rest) = text.split_at(space + 1);
+    Some((&text[..space], rest))
+}
+
+// Whether `refused` is the first word, with a space after it.
+fn says_refused(text: &[u8]) -> bool
+    ensures { result ≡ is_first_word (codes "refused") (cut_word text.now) }
+{
+    match cut_word(text) {
+        Some((word, _)) => word == b"refused".as_slice(),
+        None => false,
+    }
+}
+
+/// Whether a line is an answer of `ask` to an instruction, or to a line that it refused.
+#[tactic(auto, unfolding(crate::specs::Label::is_answer))]
+pub(crate) fn is_answer(line: &[u8]) -> bool
+    ensures { result ≡ is_answer line.now }
+{
+    match cut_word(line) {
+        Some((_, rest)) => rest == b"done".as_slice() || says_refused(rest),
+        None => false,
+    }
+}
+
+// The number and the digits of a line `N report DIGITS`.
+#[tactic(auto, unfolding(crate::specs::Label::reported))]
+fn reported(line: &[u8]) -> Option<(u64, &[u8])>
+    ensures { option_map (λ found. (found.0, found.1.now)) result ≡ reported line.now }
+{
+    let (number, rest) = cut_word(line)?;
+    let (word, digits) = cut_word(rest)?;
+    if word != b"report".as_slice() {
+        return None;
+    }
+    match Numeral::read(number, u64::MAX) {
+        Numeral::Number(number) => Some((number, digits)),
+        _ => None,
+    }
+}
+
+/// The number and the digits of a line's packet: those of a report of `ask`, or else the number of the line and the
+/// whole line.
+pub(crate) fn labelled(line: u64, octets: &[u8]) -> (u64, &[u8])
+    ensures { (result.0, result.1.now) ≡ labelled line octets.now }
+{
+    reported(octets).unwrap_or((line, octets))
+}

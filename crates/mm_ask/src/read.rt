@@ -1,0 +1,212 @@
+//! Packets in hexadecimal digits, read in words and numbers.
+ghost use Rattle.std.specs.Prelude.{◌≡◌, ◌∷◌, ◌++◌, [], IfOk, OnOk};
+ghost use Rattle.mm_base.specs.Characters.{line_feed};
+ghost use Rattle.mm_base.specs.Lines.{text_lines};
+ghost use Rattle.mm_base.specs.Reading.{Gives};
+ghost use Rattle.mm_st15.specs.Report.{report_fault};
+ghost use Rattle.mm_st15.specs.Request.{HasCount, count_of, kind_of, request_fault};
+ghost use Rattle.mm_ask.specs.Label.{is_answer};
+ghost use Rattle.mm_ask.specs.PacketWords.{request_lines};
+ghost use Rattle.mm_ask.specs.Reads.{ShowsEach, Reads, packet_of, without_spaces};
+
+use crate::answering::Outcome;
+use crate::fault::LineFault;
+use crate::label::{is_answer, labelled};
+use crate::line::{octets_in, packet_alone};
+use crate::packet_words::{push_header_line, push_report, push_request};
+use crate::text::push_refused_line;
+use mm_base::NoMemory;
+use mm_base::lines::split_line;
+use mm_packet::Packet;
+use mm_st15::{Report, Request};
+use std::alloc::{AllocError, Global};
+use std::marker::Model;
+
+/// What is read so far.
+#[derive(Drop)]
+struct Reading {
+    text: Vec<u8>,
+    outcome: Outcome,
+}
+
+impl Model for Reading {
+    ghost use Rattle.mm_ask.specs.Reads.{SoFar};
+
+    ghost Value = { SoFar };
+
+    ghost view = { λ r. record { text = r.text.items; outcome = r.outcome } };
+}
+
+// The digits without the spaces between them.
+fn without_spaces(alloc: Global, digits: &[u8]) -> Result<Vec<u8>, AllocError>
+    ensures { IfOk result (λ kept. kept.items ≡ without_spaces digits.now) }
+{
+    digits
+        .iter()
+        .copied()
+        .filter(|digit| *digit != b' ')
+        .collect(alloc)
+}
+
+// The packet that the digits are.
+#[tactic(auto, unfolding(crate::specs::Reads::packet_of))]
+fn packet_of(alloc: Global, digits: &[u8]) -> Result<Packet, LineFault>
+    ensures { Gives LineFault.NoMemory (λ packet. packet) result (packet_of digits.now) }
+{
+    let Ok(digits) = without_spaces(alloc, digits) else {
+        return Err(LineFault::NoMemory);
+    };
+    let octets = octets_in(alloc, &digits)?;
+    packet_alone(alloc, &octets)
+}
+
+impl Reading {
+    ghost use Rattle.mm_ask.specs.Reads.{nothing, with_lines, with_refused, ShowsRequest, ShowsReport, ShowsOr, ShowsPacket, ShowsResult, ShowsLine, Shows};
+
+    fn new(alloc: Global) -> Reading
+        ensures { result ≡ nothing }
+    {
+        Reading {
+            text: Vec::new(alloc),
+            outcome: Outcome::AllDone,
+        }
+    }
+
+    // Its outcome and its text.
+    fn into_parts(self) -> (Outcome, Vec<u8>)
+        ensures outcome { result.0 ≡ self.outcome }
+        ensures text { result.1.items ≡ self.text }
+    {
+        (self.outcome, self.text)
+    }
+
+    // Prints the first test that a line or its packet fails.
+    fn refuse(&mut self, number: u64, fault: LineFault) -> Result<(), NoMemory>
+        ensures { OnOk result (self.new ≡ with_refused number fault self.old) }
+    {
+        self.outcome = Outcome::SomeRefused;
+        push_refused_line(&mut self.text, number, fault)?;
+        Ok(())
+    }
+
+    // Prints a line as it stands.
+    #[tactic(auto, using(std::proofs::Common::append_assoc))]
+    fn repeat(&mut self, line: &[u8]) -> Result<(), NoMemory>
+        ensures { OnOk result (self.new ≡ with_lines (line.now ++ line_feed ∷ []) self.old) }
+    {
+        self.text.extend_from_slice(line)?;
+        self.text.push(b'\n')?;
+        Ok(())
+    }
+
+    // Prints a request.
+    fn print_request(
+        &mut self,
+        alloc: Global,
+        number: u64,
+        request: &Request,
+    ) -> Result<(), NoMemory>
+        requires { HasCount (kind_of request.now) (count_of request.now) }
+        ensures { OnOk result (self.new ≡ with_lines (request_lines number request.now) self.old) }
+    {
+        push_request(alloc, &mut self.text, number, request)?;
+        Ok(())
+    }
+
+    // Prints the request that a telecommand spells.
+    fn request(&mut self, alloc: Global, number: u64, packet: &Packet) -> Result<(), NoMemory>
+        ensures { OnOk result (ShowsOr number (request_fault packet.now)
+            (ShowsRequest number packet.now) self.old self.new) }
+    {
+        match Request::read(alloc, packet) {
+            Ok(request) => self.print_request(alloc, number, &request),
+            Err(mm_st15::Fault::NoMemory) => Err(NoMemory),
+            Err(fault) => self.refuse(number, LineFault::from(fault)),
+        }
+    }
+
+    // Prints the report that telemetry spells.
+    fn report(&mut self, alloc: Global, number: u64, packet: &Packet) -> Result<(), NoMemory>
+        ensures { OnOk result (ShowsOr number (report_fault packet.now)
+            (ShowsReport packet.now) self.old self.new) }
+    {
+        match Report::read(alloc, packet) {
+            Ok(report) => {
+                push_report(alloc, &mut self.text, &report)?;
+                Ok(())
+            }
+            Err(mm_st15::Fault::NoMemory) => Err(NoMemory),
+            Err(fault) => self.refuse(number, LineFault::from(fault)),
+        }
+    }
+
+    // Prints the headers of a packet, and then what it spells.
+    fn packet(&mut self, alloc: Global, number: u64, packet: &Packet) -> Result<(), NoMemory>
+        ensures { OnOk result (ShowsPacket number packet.now self.old self.new) }
+    {
+        push_header_line(&mut self.text, number, packet)?;
+        if packet.is_telecommand() {
+            self.request(alloc, number, packet)
+        } else {
+            self.report(alloc, number, packet)
+        }
+    }
+
+    // Reads a packet from its digits.
+    fn digits(&mut self, alloc: Global, number: u64, digits: &[u8]) -> Result<(), NoMemory>
+        ensures { OnOk result (ShowsResult number (packet_of digits.now) self.old self.new) }
+    {
+        match packet_of(alloc, digits) {
+            Ok(packet) => self.packet(alloc, number, &packet),
+            Err(LineFault::NoMemory) => Err(NoMemory),
+            Err(fault) => self.refuse(number, fault),
+        }
+    }
+
+    // Reads a line that is not empty.
+    fn filled_line(&mut self, alloc: Global, line: u64, octets: &[u8]) -> Result<(), NoMemory>
+        ensures { OnOk result (ShowsLine (is_answer octets.now) line octets.now self.old self.new) }
+    {
+        if is_answer(octets) {
+            self.repeat(octets)
+        } else {
+            let (number, digits) = labelled(line, octets);
+            self.digits(alloc, number, digits)
+        }
+    }
+
+    // Reads a line, which has this number; an empty one is passed over.
+    fn line(&mut self, alloc: Global, line: u64, octets: &[u8]) -> Result<(), NoMemory>
+        ensures { OnOk result (Shows line octets.now self.old self.new) }
+    {
+        if octets.is_empty() {
+            Ok(())
+        } else {
+            self.filled_line(alloc, line, octets)
+        }
+    }
+}
+
+// Reads each line, in order.
+fn read_each(alloc: Global, reading: &mut Reading, packets: &[u8]) -> Result<(), NoMemory>
+    ensures { OnOk result (ShowsEach 1 (text_lines packets.now) reading.old reading.new) }
+{
+    let mut rest = packets;
+    let mut line: u64 = 1;
+    while let Some((octets, after)) = split_line(rest) {
+        reading.line(alloc, line, octets)?;
+        rest = after;
+        line += 1;
+    }
+    reading.line(alloc, line, rest)
+}
+
+/// The text that says in words and numbers what packets are, one a line in hexadecimal digits, or after the words with
+/// which `ask` prints a report; and whether each was a packet of the storage service.
+pub fn read_bytes(alloc: Global, packets: &[u8]) -> Result<(Outcome, Vec<u8>), NoMemory>
+    ensures reads { IfOk result (λ r. Reads packets.now r.0 r.1.items) }
+{
+    let mut reading = Reading::new(alloc);
+    read_each(alloc, &mut reading, packets)?;
+    Ok(reading.into_parts())
+}
