@@ -51,6 +51,22 @@ fn refusals_of_several_types_stand_in_one_text(rt: HostRuntime) {
     assert!(rt; shown.as_str() == "0 NoMemory 16 BadEnum");
 }
 
+#[test]
+fn identifiers_are_parsed_and_converted(rt: HostRuntime) {
+    let sci = id(&rt, "SCI");
+    assert!(rt; "SCI".parse::<StoreId>() == Ok(sci));
+    assert!(rt; "sci".parse::<StoreId>() == Err(Fault::BadId));
+    assert!(rt; StoreId::try_from(*b"SCI     ") == Ok(sci));
+}
+
+#[test]
+fn kinds_are_converted_and_shown(rt: HostRuntime) {
+    assert!(rt; Kind::try_from(0) == Ok(Kind::Circular));
+    assert!(rt; Kind::try_from(2) == Err(Fault::BadEnum));
+    let shown = format!(in rt.alloc(); "{} {}", Kind::Circular, Kind::Bounded);
+    assert!(rt; shown.expect(&rt, "memory").as_str() == "circular bounded");
+}
+
 static NUMERALS: [(&str, Numeral); 7] = [
     ("0", Numeral::Number(0)),
     ("256", Numeral::Number(256)),
