@@ -4,28 +4,28 @@ use Rattle.mm_run.specs.Opening.{opened_with}
 use Rattle.mm_run.specs.Printed.{TellsAll, TellsEnd}
 use Rattle.mm_run.proofs.Endings.{if_ok}
 use Rattle.mm_run.proofs.Limits.{within_limits}
-use Rattle.mm_run.proofs.run.run.Goals as goal
+use Rattle.mm_run.proofs.fly.plan_and_carry.Goals as goal
 
 pub returns-in-Ok : goal.returns-in-Ok
 returns-in-Ok g c =
-    let memory : c.offer_all.new.memory ≡ opened_with c.args.start.memory c.args.ends.opening.items =
+    let memory : c.offer_all.new.memory ≡ opened_with c.args.start.memory c.args.sides.opening.items =
     c.in_ok-offer_all.ensures.after ∙ ap (opened_with c.args.start.memory) c.as_slice.ensures.value in
     if_ok (TellsAll c.in-Ok.field-0.sheet.items c.in-Ok.field-0.report) _ c.whole.result
-    (λ (p : Printed) told. inl (record { left = c.carry.new.memory; flown = c.in-Ok.field-0; carried = rw (← memory) c.in-Ok.ensures.carried; tells = told }))
+    (λ (p : Printed) told. inl (record { left = c.fly.new.memory; flown = c.in-Ok.field-0; flies = rw (← memory) c.in-Ok.ensures.flown; tells = told }))
     c.whole.ensures
 
 pub returns : goal.returns
 returns g c =
-    let memory : c.offer_all.new.memory ≡ opened_with c.args.start.memory c.args.ends.opening.items =
+    let memory : c.offer_all.new.memory ≡ opened_with c.args.start.memory c.args.sides.opening.items =
     c.in_ok-offer_all.ensures.after ∙ ap (opened_with c.args.start.memory) c.as_slice.ensures.value in
     let limits =
-    within_limits c.offer_all.new.memory.stores c.args.ends.sources.items (0 + length c.as_slice.result.now) (omega (arith, c.as_slice.ensures.len, c.args.ends.opening.ok.0))
+    within_limits c.offer_all.new.memory.stores c.args.sides.sources.items (0 + length c.as_slice.result.now) (omega (arith, c.as_slice.ensures.len, c.args.sides.opening.ok.0))
     c.constants_are.ensures.packets (c.in_ok-offer_all.ensures.most 0 c.requires.opened) c.requires.few in
     if_ok (TellsEnd c.in-Err.field-0.sheet.items c.in-Err.field-0.halted.cause c.in-Err.field-0.halted.report) _ c.stopped.result
     (λ (p : Printed) told. inr (record {
-      left = c.carry.new.memory;
+      left = c.fly.new.memory;
       ended = c.in-Err.field-0;
-      not_carried = rw (← memory) c.in-Err.ensures.not_carried;
+      flies_not = rw (← memory) c.in-Err.ensures.not_flown;
       never_refused = c.in-Err.ensures.far limits;
       tells = told;
     }))
