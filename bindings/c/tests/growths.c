@@ -1,5 +1,6 @@
 /* Makes each call once for each allocation that it asks for, with that one refused. The call must then tell want of memory, and leave the
- * buffer as it was, or give the same text as with ample memory; and no block may stay allocated. Linked with
+ * buffer as it was, or give the same text as with ample memory; and no block may stay allocated. The life of a memory is lived in the same
+ * way: a call that tells want of memory is made again, and the life must go on as with ample memory. Linked with
  * `-Wl,--wrap=malloc,--wrap=realloc,--wrap=free`. */
 #include <rudlayog.h>
 #include <stdio.h>
@@ -130,6 +131,99 @@ static int sweep(const struct part *part) {
     return told == 0;
 }
 
+/* A memory, and what its last call left. */
+struct life {
+    struct mm_memory memory;
+    struct mm_answer answer;
+    struct mm_fate fate;
+    struct mm_tally tally;
+    uint64_t time;
+    uint8_t each[MM_INSTRUCTIONS], out[MM_BLOCK];
+};
+
+/* Telemetry that goes into HK, and telecommands: a summary of HK, and a retrieval of all that it holds. */
+static const uint8_t housekeeping[] = {0x08, 100, 0xC0, 0, 0, 14, 0x20, 3, 25, 0, 0, 0, 0, 0, 0, 0, 0, 0, 0, 0, 0};
+static const uint8_t summary[] = {0x18, 100, 0xC0, 1, 0, 13, 0x20, 15, 12, 0, 7, 1, 'H', 'K', ' ', ' ', ' ', ' ', ' ', ' '};
+static const uint8_t retrieval[] = {0x18, 100, 0xC0, 0, 0, 29,  0x20, 15, 9, 0, 7, 1, 'H', 'K', ' ', ' ', ' ', ' ',
+                                    ' ',  ' ', 0,    0, 0, 0,   0,    0,  0, 0, 0, 0, 0,   0,   0,   0,   0,   255};
+
+static void life_open(struct life *l) { mm_memory_open(&l->memory, TEXT(setup), &l->answer); }
+
+static void life_record(struct life *l) { mm_memory_record(&l->memory, 1, housekeeping, sizeof housekeeping, &l->tally, &l->answer); }
+
+static void life_offer(struct life *l) {
+    mm_memory_offer(&l->memory, TEXT("HK"), 2, housekeeping, sizeof housekeeping, &l->fate, &l->answer);
+}
+
+static void life_ask(struct life *l) { mm_memory_apply(&l->memory, 3, summary, sizeof summary, l->each, sizeof l->each, &l->answer); }
+
+static void life_retrieve(struct life *l) {
+    mm_memory_apply(&l->memory, 4, retrieval, sizeof retrieval, l->each, sizeof l->each, &l->answer);
+}
+
+static void life_report(struct life *l) { mm_memory_report(&l->memory, l->out, sizeof l->out, &l->answer); }
+
+static void life_next(struct life *l) { mm_memory_next(&l->memory, TEXT("HK"), l->out, sizeof l->out, &l->time, &l->answer); }
+
+static const struct {
+    void (*call)(struct life *life);
+    uint32_t status; /* with ample memory */
+} calls[] = {
+    {life_open, MM_WRITTEN},   {life_record, MM_WRITTEN}, {life_offer, MM_WRITTEN},    {life_ask, MM_WRITTEN},
+    {life_report, MM_WRITTEN}, {life_report, MM_END},     {life_retrieve, MM_WRITTEN}, {life_next, MM_WRITTEN},
+    {life_next, MM_WRITTEN},   {life_next, MM_END},
+};
+enum { CALLS = sizeof calls / sizeof calls[0] };
+
+static int fail_life(size_t call, const char *what) {
+    printf("a memory, call %zu, allocation %ld refused: %s\n", call, refused, what);
+    return 1;
+}
+
+/* Lives a memory's life, each call of which leaves what it left with ample memory. */
+static int live(struct life lives[CALLS], int is_first, long *told) {
+    static struct life life;
+    memset(&life, 0, sizeof life);
+    for (size_t k = 0; k < CALLS; k++) {
+        calls[k].call(&life);
+        if (life.answer.status == MM_REFUSED && life.answer.refused.number == 0) {
+            ++*told;
+            calls[k].call(&life);
+        }
+        if (life.answer.status != calls[k].status) {
+            return fail_life(k, "another status");
+        }
+        if (is_first) {
+            lives[k] = life;
+        }
+        lives[k].memory = life.memory;
+        if (memcmp(&lives[k], &life, sizeof life) != 0) {
+            return fail_life(k, "another answer");
+        }
+    }
+    mm_memory_close(&life.memory);
+    return held == 0 ? 0 : fail_life(CALLS, "a block stays allocated");
+}
+
+static int sweep_life(void) {
+    static struct life lives[CALLS];
+    long all, told = 0;
+    asked = refused = 0;
+    if (live(lives, 1, &told)) {
+        return 1;
+    }
+    all = asked;
+    for (refused = 1; refused <= all; refused++) {
+        asked = 0;
+        if (live(lives, 0, &told)) {
+            return 1;
+        }
+    }
+    refused = 0;
+    printf("a memory: %ld allocations, each refused once; want of memory told %ld times\n", all, told);
+    return told == 0;
+}
+
 int main(void) {
     struct mm_answer answer;
     int status = 0;
@@ -138,5 +232,6 @@ int main(void) {
     for (size_t k = 0; k < sizeof parts / sizeof parts[0]; k++) {
         status |= sweep(&parts[k]);
     }
+    status |= sweep_life();
     return status;
 }

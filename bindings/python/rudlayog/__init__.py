@@ -1,4 +1,5 @@
-"""Plans the downlink of a spacecraft's mass memory, judges a plan, draws it, and answers telecommands of the storage service.
+"""Plans the downlink of a spacecraft's mass memory, judges a plan, draws it, answers telecommands of the storage service, and keeps a memory
+with that service.
 
     >>> from rudlayog import Forecast, Setup, Store, check, plan
     >>> setup = Setup.of([Store("SCI", size=4)])
@@ -17,6 +18,7 @@ with threads: start processes by `spawn`.
 
 from .calls import Chart, Replies, Verdict, ask, chart, check, plan, version
 from .forecasts import Forecast
+from .memory import Fate, Memory, Tally
 from .plans import Cut, Plan, Stretch
 from .refusals import Refusal
 from .setups import Limit, Route, Setup, Store
@@ -24,8 +26,10 @@ from .setups import Limit, Route, Setup, Store
 __all__ = [
     "Chart",
     "Cut",
+    "Fate",
     "Forecast",
     "Limit",
+    "Memory",
     "Plan",
     "Refusal",
     "Replies",
@@ -33,6 +37,7 @@ __all__ = [
     "Setup",
     "Store",
     "Stretch",
+    "Tally",
     "Verdict",
     "ask",
     "chart",

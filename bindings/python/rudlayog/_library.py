@@ -8,9 +8,12 @@ from pathlib import Path
 
 from .refusals import Refusal
 
-WRITTEN, TOO_SMALL, REFUSED = range(3)
+WRITTEN, TOO_SMALL, REFUSED, CLOSED, OPEN, END = range(6)
 PLAN_ROOM = 204800  # MM_PLAN_ROOM
 LINE_ROOM = 64  # MM_LINE_ROOM
+INSTRUCTIONS = 255  # MM_INSTRUCTIONS
+BLOCK = 1024  # MM_BLOCK
+DONE = 255  # MM_DONE
 
 _octets = ctypes.c_char_p
 _size = ctypes.c_size_t
@@ -40,6 +43,24 @@ class VerdictTold(ctypes.Structure):
     """struct mm_verdict"""
 
     _fields_ = [("kind", ctypes.c_uint32), ("place", ctypes.c_uint32), ("loss", ctypes.c_uint64), ("bound", ctypes.c_int64)]
+
+
+class Handle(ctypes.Structure):
+    """struct mm_memory"""
+
+    _fields_ = [("at", ctypes.c_void_p), ("is_open", ctypes.c_bool)]
+
+
+class FateTold(ctypes.Structure):
+    """struct mm_fate"""
+
+    _fields_ = [("kind", ctypes.c_uint32), ("time", ctypes.c_uint64)]
+
+
+class TallyTold(ctypes.Structure):
+    """struct mm_tally"""
+
+    _fields_ = [("kept", ctypes.c_uint32), ("lost", ctypes.c_uint32), ("refused", ctypes.c_uint32)]
 
 
 def _found() -> Path:
@@ -75,10 +96,22 @@ mm_ask = _call("mm_ask", *_text, *_text, *_out, ctypes.POINTER(ctypes.c_uint32))
 mm_words = _call("mm_words", ctypes.POINTER(RefusedAt), *_out)
 mm_version = _call("mm_version", *_out)
 
+_handle = ctypes.POINTER(Handle)
+_moment = ctypes.c_uint64
+mm_memory_open = _call("mm_memory_open", _handle, *_text)
+mm_memory_offer = _call("mm_memory_offer", _handle, *_text, _moment, *_text, ctypes.POINTER(FateTold))
+mm_memory_record = _call("mm_memory_record", _handle, _moment, *_text, ctypes.POINTER(TallyTold))
+mm_memory_apply = _call("mm_memory_apply", _handle, _moment, *_text, *_out)
+mm_memory_report = _call("mm_memory_report", _handle, *_out)
+mm_memory_next = _call("mm_memory_next", _handle, *_text, *_out, ctypes.POINTER(ctypes.c_uint64))
+mm_memory_close = _calls.mm_memory_close
+mm_memory_close.restype = None
+mm_memory_close.argtypes = [_handle]
+
 _rooms = threading.local()
 
 
-def _room(least: int) -> ctypes.Array[ctypes.c_char]:
+def room_of(least: int) -> ctypes.Array[ctypes.c_char]:
     """A buffer of this thread with that many octets at least."""
     room: ctypes.Array[ctypes.c_char] | None = getattr(_rooms, "room", None)
     if room is None or len(room) < least:
@@ -90,10 +123,10 @@ def told(call: Callable[..., None], *given: object, more: tuple[object, ...] = (
     """The text that a call writes. `given` stands before the buffer, `more` after it. Where the buffer is too small for the text, the call
     is made again. Raises what `Refusal` says."""
     answer = Answer()
-    room = _room(least)
+    room = room_of(least)
     call(*given, room, len(room), *more, answer)
     while answer.status == TOO_SMALL:
-        room = _room(answer.length)
+        room = room_of(answer.length)
         call(*given, room, len(room), *more, answer)
     if answer.status == REFUSED:
         raise refusal_of(answer.refused)

@@ -60,7 +60,7 @@ impl From<mm_packet::Fault> for LineFault {
 }
 
 /// The packet that the octets are, with nothing after it.
-pub(crate) fn packet_alone(alloc: Global, octets: &[u8]) -> Result<Packet, LineFault>
+pub fn packet_alone(alloc: Global, octets: &[u8]) -> Result<Packet, LineFault>
     ensures { Gives NoMemory (λ packet. packet) result (packet_alone octets.now) }
 {
     let (packet, rest) = Packet::parse(alloc, octets)?;

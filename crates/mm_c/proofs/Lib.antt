@@ -1,1 +1,4 @@
 pub mod Rooms
+pub mod Values
+pub mod Held
+pub mod Small

@@ -1,6 +1,9 @@
-//! What C and Python call: texts in, and a text out, in a buffer of the caller's.
+//! What C and Python call: texts in, and a text out, in a buffer of the caller's; and a memory with its storage service, behind a handle.
 #![tactic(auto)]
 
 pub mod asking;
+pub mod handle;
+pub mod memory;
+mod parts;
 pub mod plans;
 pub mod saying;

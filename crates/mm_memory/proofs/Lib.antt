@@ -4,3 +4,4 @@ pub mod IdLemmas
 pub mod ApplyLemmas
 pub mod ReportLemmas
 pub mod LawLemmas
+pub mod LendingLemmas

@@ -1,5 +1,5 @@
 //! The mass memory.
-ghost use Rattle.std.specs.Prelude.{◌≡◌, [], IfOk, slice_get};
+ghost use Rattle.std.specs.Prelude.{◌≡◌, [], Some, IfOk, slice_get};
 ghost use Rattle.std.specs.Option.{option_copied, option_copied_mut, option_map};
 ghost use Rattle.mm_memory.specs.Holdings.{AreHeld, memory_of, store_of, state_of};
 
@@ -32,7 +32,8 @@ impl Model for Memory {
 
 impl Memory {
     ghost use Rattle.std.specs.Borrow.{sem};
-    ghost use Rattle.mm_memory.specs.Lending.{LendsState};
+    ghost use Rattle.mm_desk.specs.Machine.{State};
+    ghost use Rattle.mm_memory.specs.Lending.{LendsState, with_state};
 
     /// The memory of a setup: its stores in order, empty, with their storage on, and its routes.
     pub fn of_setup(alloc: Global, setup: &Setup) -> Result<Memory, NoMemory>
@@ -62,6 +63,8 @@ impl Memory {
     pub fn state_mut(&mut self, id: &StoreId) -> Option<&mut StoreState>
         ensures* lends { sem 𝓛 (LendsState self.entry id.now result) }
         ensures state { option_copied_mut result ≡ state_of id.now self.old }
+        // The memory is as it was where the state is left as it was.
+        ensures same { (s : State) → state_of id.now self.old ≡ Some s → with_state id.now self.old s ≡ self.old }
     {
         let place = place_of(&self.stores, id)?;
         let held = self.stores.get_mut(place)?;

@@ -1,3 +1,4 @@
+pub mod BufferLemmas
 pub mod ListLemmas
 pub mod NumberLemmas
 pub mod FoundLemmas

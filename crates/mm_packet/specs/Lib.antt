@@ -5,3 +5,4 @@ pub mod Spelling
 pub mod Headers
 pub mod Reading
 pub mod Laws
+pub mod Buffer

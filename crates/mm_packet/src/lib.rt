@@ -2,6 +2,7 @@
 #![tactic(auto)]
 
 mod block;
+mod buffer;
 mod fault;
 mod header;
 pub mod laws;
@@ -13,6 +14,7 @@ mod reading;
 mod writing;
 
 pub use block::{BLOCK, BlockPacket, TooLong};
+pub use buffer::TooSmall;
 pub use fault::Fault;
 pub use header::{
     Header, IDLE_APID, PacketType, SEQUENCE_COUNTS, TELECOMMAND_BODY, TELEMETRY_BODY,

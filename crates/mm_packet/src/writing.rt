@@ -1,5 +1,5 @@
 //! Packets as octets.
-ghost use Rattle.std.specs.Prelude.{◌≡◌, ◌+◌, ◌++◌, length, IfOk, OnOk};
+ghost use Rattle.std.specs.Prelude.{◌≡◌, ◌+◌, ◌*◌, ◌^◌, ◌++◌, length, IfOk, OnOk};
 ghost use Rattle.mm_packet.specs.Packet.{IsPacket};
 ghost use Rattle.mm_packet.specs.Spelling.{identification, sequence_control, data_length, type_fields, secondary_header, data_field, spelling};
 
@@ -35,7 +35,7 @@ impl Packet {
         PRIMARY_HEADER_LEN + self.data_length() as usize + 1
     }
 
-    fn identification(&self) -> u16
+    pub(crate) fn identification(&self) -> u16
         ensures { result ≡ identification self.now }
     {
         match self.kind {
@@ -44,13 +44,13 @@ impl Packet {
         }
     }
 
-    fn sequence_control(&self) -> u16
+    pub(crate) fn sequence_control(&self) -> u16
         ensures { result ≡ sequence_control self.now }
     {
         UNSEGMENTED << 14 | self.header.count
     }
 
-    fn data_length(&self) -> u16
+    pub(crate) fn data_length(&self) -> u16
         ensures value { result ≡ data_length self.now }
         ensures field { result + 1 ≡ length (data_field self.now) }
         ensures fits { IsPacket self.now }
@@ -62,11 +62,18 @@ impl Packet {
         (header + self.body.as_slice().len() - 1) as u16
     }
 
+    // The first octet of the secondary header.
+    pub(crate) fn first_octet(&self) -> u8
+        ensures { result ≡ 2 * 2 ^ 4 + self.now.header.low }
+    {
+        PUS_VERSION << 4 | self.header.low
+    }
+
     fn put_secondary_header(&self, out: &mut Vec<u8>) -> Result<(), AllocError>
         ensures { OnOk result (out.new.items ≡ out.old.items ++ secondary_header self.now) }
     {
         let header = self.header;
-        let first = PUS_VERSION << 4 | header.low;
+        let first = self.first_octet();
         out.extend_from_slice(&[first, header.service, header.subtype])?;
         put_type_fields(out, self.kind)
     }

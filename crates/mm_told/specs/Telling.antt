@@ -12,6 +12,9 @@ abbrev pub code_of_status : Status → ℕ
 code_of_status status.Written = 0
 code_of_status status.TooSmall = 1
 code_of_status status.Refused = 2
+code_of_status status.Closed = 3
+code_of_status status.Open = 4
+code_of_status status.End = 5
 
 -- how a call ends that has a text for this many octets of room
 abbrev pub status_of : List ℕ → ℕ → Status

@@ -14,6 +14,12 @@ pub enum Status {
     TooSmall,
     /// The call is refused, and the buffer is as it was.
     Refused,
+    /// The handle is closed, and nothing is done.
+    Closed,
+    /// The handle is open already, and nothing is done.
+    Open,
+    /// There is nothing more to be given, and the buffer is as it was.
+    End,
 }
 
 impl Status {
@@ -33,7 +39,7 @@ pub struct Answer {
     pub status: u32,
     /// Why the call is refused; each field is 0 where it is not.
     pub refused: RefusedAt,
-    /// The length of the text in octets, also where the buffer is too small for it; 0 where the call is refused.
+    /// The length of the text in octets, also where the buffer is too small for it; 0 where there is none.
     pub length: usize,
 }
 
@@ -49,8 +55,8 @@ impl Answer {
         }
     }
 
-    // The answer with a text of this length.
-    fn with_length(status: Status, length: usize) -> Answer
+    /// The answer with a text of this length.
+    pub fn with_length(status: Status, length: usize) -> Answer
         ensures { result ≡ length_answer status length }
     {
         Answer {

@@ -1,4 +1,4 @@
-//! Tests of mm_memory and mm_ask.
+//! Tests of mm_memory, mm_ask and mm_service.
 #![tactic(auto)]
 
 #[cfg(test)]

@@ -1,6 +1,7 @@
-//! Tests of mm_memory and mm_ask.
+//! Tests of mm_memory, mm_ask and mm_service.
 
 mod lines;
 mod memories;
 mod reads;
 mod samples;
+mod services;

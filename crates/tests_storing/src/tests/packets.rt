@@ -5,7 +5,7 @@ ghost use Rattle.mm_packet.specs.declared.header.TheConstants.{IDLE_APID, SEQUEN
 use crate::tests::samples::{CREATE_STORES, ENABLE, is_shown, packet_of, written};
 use mm_packet::{
     BlockPacket, Fault, Header, Octets, Packet, PacketType, TELECOMMAND_BODY, TELEMETRY_BODY,
-    TooLong, octet_at, u16_at, u32_at, u64_at,
+    TooLong, TooSmall, octet_at, u16_at, u32_at, u64_at,
 };
 use std::alloc::Global;
 use std::process::Abort;
@@ -114,6 +114,25 @@ fn telemetry_is_read_and_written(rt: HostRuntime) {
         (REPORT_HEADER, kind),
         &[0xAA, 0xBB, 0xCC],
     );
+}
+
+// The octets are read as one packet, which is written into a longer buffer and leaves its end, and not into a shorter one.
+fn written_into_buffers(rt: &impl Abort, alloc: Global, octets: &[u8]) {
+    let packet = packet_of(rt, alloc, octets);
+    let mut long = [9; 32];
+    assert!(rt; packet.write_to(&mut long) == Ok(octets.len()));
+    assert!(rt; long.starts_with(octets));
+    assert!(rt; long[octets.len()..].iter().all(|octet| *octet == 9));
+    let mut short = [9; 19];
+    let small = TooSmall { len: octets.len() };
+    assert!(rt; packet.write_to(&mut short) == Err(small));
+    assert!(rt; short == [9; 19]);
+}
+
+#[test]
+fn packets_are_written_into_buffers_with_room(rt: HostRuntime) {
+    written_into_buffers(&rt, rt.alloc(), &ENABLE);
+    written_into_buffers(&rt, rt.alloc(), &REPORT);
 }
 
 // A copy of these octets, as data.

@@ -4,6 +4,7 @@ use Rattle.std.proofs.lemmas.Option.{slice_get_read}
 use Rattle.mm_desk.specs.Machine.{State}
 use Rattle.mm_desk.specs.declared.held.Held.{Held}
 use Rattle.mm_memory.specs.Holdings.{Holdings, StandsAt}
+use Rattle.mm_memory.proofs.LendingLemmas.{with_state-same}
 use Rattle.mm_memory.proofs.PlaceLemmas.{lent_alike, with_changed-stands}
 use Rattle.mm_memory.proofs.memory.Memory.state_mut.Goals as goal
 
@@ -16,5 +17,9 @@ returns c =
     let written = λ (w : State). sym (with_changed-stands c.args.id.now (λ h. record h { state = w }) m.stores.items c.in_ok-place.place h c.self.invariant.named stands at) in
     rw (← c.self.view_is) (
       lent_alike _ _ _ (λ (w : State). ap (λ (stores : List Held). let left : Holdings = record { stores = stores; routes = m.control } in left) (written w)),
-      record { lends = tt; state = ap (option_map (λ (x : Held). x.state)) (sym at ∙ sym stands.store) },
+      record {
+        lends = tt;
+        state = ap (option_map (λ (x : Held). x.state)) (sym at ∙ sym stands.store);
+        same = λ s found. with_state-same c.args.id.now m.stores.items m.control c.self.invariant.named s found;
+      },
     )

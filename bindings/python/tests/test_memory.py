@@ -1,0 +1,160 @@
+"""A memory with its storage service: on the example of the requests, and on packets that are recorded, offered and given. What is wanted
+stands in docs/FORMATS.md and in the pages of the examples."""
+
+import ctypes
+import pickle
+import unittest
+from pathlib import Path
+
+from rudlayog import Fate, Memory, Refusal, Route, Setup, Store, Tally, _library
+
+REQUESTS = Path(__file__).resolve().parents[3] / "examples" / "requests"
+SETUP = Setup.of(
+    [Store("SCI", size=2), Store("HK", size=2, type="circular", channel=1)],
+    routes=[Route(1, 3, 25, "HK"), Route(1, 3, 25, "SCI"), Route(2, 3, 25, "HK")],
+)
+
+
+def telemetry(count, apid=1):
+    """Telemetry of service 3, subtype 25, with no data (CCSDS 133.0-B, 4.1.3; ECSS-E-ST-70-41C, 7.4)."""
+    return bytes([0x08, apid, 0xC0, count, 0, 14, 0x20, 3, 25]) + bytes(12)
+
+
+def telecommand(subtype, *instructions):
+    """A telecommand of the storage service with these instructions."""
+    data = bytes([len(instructions)]) + b"".join(instructions) if instructions else b""
+    return bytes([0x18, 100, 0xC0, 0]) + (4 + len(data)).to_bytes(2, "big") + bytes([0x20, 15, subtype, 0, 7]) + data
+
+
+def name(store):
+    return store.encode().ljust(8)
+
+
+def times(*moments):
+    return b"".join(moment.to_bytes(8, "big") for moment in moments)
+
+
+class Memories(unittest.TestCase):
+    def refused(self, call, *given):
+        with self.assertRaises(Refusal) as caught:
+            call(*given)
+        return caught.exception.name
+
+    def test_requests_of_the_example(self):
+        lines = []
+        with Memory(REQUESTS / "setup.toml") as memory:
+            for number, line in enumerate((REQUESTS / "requests.hex").read_text().splitlines(), 1):
+                if not line:
+                    continue
+                try:
+                    answers = memory.apply(number, bytes.fromhex(line))
+                except Refusal as refusal:
+                    lines.append(f"{number} refused {refusal.text()}")
+                except ValueError:
+                    lines.append(f"{number} refused 12 HexLine")
+                else:
+                    for place, answer in enumerate(answers, 1):
+                        lines.append(f"{number}.{place} " + ("done" if answer is None else f"refused {answer.text()}"))
+                    lines.extend(f"{number} report {packet.hex().upper()}" for packet in memory.reports())
+        wanted = (REQUESTS / "answers.txt").read_text().splitlines()
+        self.assertEqual([line for line in lines if "HexLine" not in line], [line for line in wanted if "HexLine" not in line])
+
+    def test_packets_go_where_they_are_routed(self):
+        with Memory(SETUP) as memory:
+            self.assertEqual(memory.record(5, telemetry(1)), Tally(kept=2, lost=0, refused=0))
+            self.assertEqual(memory.record(5, telemetry(2)), Tally(kept=2, lost=0, refused=0))
+            # The bounded store is full, and the circular one gives its oldest packet up.
+            self.assertEqual(memory.record(9, telemetry(3)), Tally(kept=1, lost=2, refused=0))
+            self.assertEqual(memory.record(9, telemetry(4, apid=2)), Tally(kept=1, lost=1, refused=0))
+            self.assertEqual(memory.record(9, telemetry(5, apid=3)), Tally(kept=0, lost=0, refused=0))
+            self.assertEqual(memory.record(9, telecommand(18)), Tally(kept=0, lost=0, refused=0))
+            self.assertEqual(memory.apply(10, telecommand(2, name("HK"))), (None,))
+            self.assertEqual(memory.record(11, telemetry(6)), Tally(kept=0, lost=1, refused=1))
+
+    def test_fates(self):
+        with Memory(SETUP) as memory:
+            self.assertEqual(memory.offer("SCI", 7, telemetry(1)), Fate("kept", 7))
+            # Times rise strictly.
+            self.assertEqual(memory.offer("SCI", 7, telemetry(2)), Fate("kept", 8))
+            self.assertEqual(memory.offer("SCI", 9, telemetry(3)), Fate("lost", None))
+            for count, wanted in ((1, "kept"), (2, "kept"), (3, "kept over")):
+                self.assertEqual(memory.offer("HK", 20 + count, telemetry(count)), Fate(wanted, 20 + count))
+
+    def test_retrievals(self):
+        with Memory(SETUP) as memory:
+            for count in (1, 2, 3):
+                memory.record(count, telemetry(count))
+            self.assertEqual(self.refused(memory.next, "HK"), "Idle")
+            self.assertEqual(memory.apply(4, telecommand(9, name("HK") + times(0, 2**64 - 1))), (None,))
+            self.assertEqual(memory.next("HK"), (2, telemetry(2)))
+            self.assertEqual(memory.next("HK"), (3, telemetry(3)))
+            self.assertIsNone(memory.next("HK"))
+            self.assertEqual(self.refused(memory.next, "HK"), "Idle")
+
+    def test_refusals(self):
+        with Memory(SETUP) as memory:
+            self.assertEqual(self.refused(memory.offer, "sci", 1, telemetry(1)), "BadId")
+            self.assertEqual(self.refused(memory.offer, "CAM", 1, telemetry(1)), "NoSuchStore")
+            self.assertEqual(self.refused(memory.offer, "SCI", 1, telemetry(1)[:-1]), "Short")
+            self.assertEqual(self.refused(memory.offer, "SCI", 1, telemetry(1) + b"\0"), "HexLine")
+            long = telemetry(1)[:4] + (14 + 1004).to_bytes(2, "big") + telemetry(1)[6:] + bytes(1004)
+            self.assertEqual(self.refused(memory.offer, "SCI", 1, long), "TooLong")
+            self.assertEqual(self.refused(memory.record, 1, telemetry(1) + b"\0"), "HexLine")
+            self.assertEqual(self.refused(memory.apply, 1, telecommand(18) + b"\0"), "HexLine")
+            self.assertEqual(self.refused(memory.apply, 1, telemetry(1)), "NotSt15")
+            self.assertEqual(self.refused(memory.next, "CAM"), "NoSuchStore")
+            answers = memory.apply(2, telecommand(2, name("SCI"), name("CAM")))
+            self.assertEqual([answer and answer.name for answer in answers], [None, "NoSuchStore"])
+            self.assertEqual(self.refused(memory.offer, "SCI", 3, telemetry(1)), "Disabled")
+            self.assertEqual(list(memory.reports()), [])
+        self.assertEqual(self.refused(Memory, "[[store]]\n"), "SetupField")
+
+    def test_reports_wait(self):
+        with Memory(SETUP) as memory:
+            memory.apply(1, telecommand(18))
+            memory.apply(2, telecommand(22))
+            memory.apply(3, telecommand(12, name("SCI")))
+            small = ctypes.create_string_buffer(b"\xa5" * 20, 20)
+            answer = _library.Answer()
+            _library.mm_memory_report(memory._handle, small, 20, answer)
+            self.assertEqual((answer.status, small.raw), (_library.TOO_SMALL, b"\xa5" * 20))
+            packets = list(memory.reports())
+            self.assertEqual([packet[8] for packet in packets], [19, 23, 13])
+            self.assertEqual(answer.length, len(packets[0]))
+            # The sequence count runs over all reports.
+            self.assertEqual([packet[3] for packet in packets], [0, 1, 2])
+            self.assertEqual(list(memory.reports()), [])
+
+    def test_small_buffers(self):
+        with Memory(SETUP) as memory:
+            answer, time = _library.Answer(), ctypes.c_uint64(7)
+            memory.record(1, telemetry(1))
+            memory.apply(1, telecommand(9, name("HK") + times(0, 9)))
+            room = ctypes.create_string_buffer(_library.BLOCK)
+            _library.mm_memory_next(memory._handle, b"HK", 2, room, _library.BLOCK - 1, time, answer)
+            self.assertEqual((answer.status, answer.length, time.value), (_library.TOO_SMALL, _library.BLOCK, 0))
+            self.assertEqual(memory.next("HK"), (1, telemetry(1)))
+            disable = telecommand(2, name("SCI"))
+            _library.mm_memory_apply(memory._handle, 2, disable, len(disable), room, _library.INSTRUCTIONS - 1, answer)
+            self.assertEqual((answer.status, answer.length), (_library.TOO_SMALL, _library.INSTRUCTIONS))
+            self.assertEqual(memory.offer("SCI", 3, telemetry(2)).kind, "kept")
+
+    def test_closed(self):
+        memory = Memory(SETUP)
+        opened = _library.Answer()
+        text = bytes(SETUP)
+        memory.record(1, telemetry(1))
+        _library.mm_memory_open(memory._handle, text, len(text), opened)
+        self.assertEqual(opened.status, _library.OPEN)
+        self.assertEqual(memory.record(1, telemetry(1)).kept, 2)
+        memory.close()
+        memory.close()
+        for call, given in ((memory.offer, ("SCI", 1, telemetry(1))), (memory.record, (1, telemetry(1))), (memory.next, ("SCI",))):
+            with self.assertRaisesRegex(ValueError, "closed"):
+                call(*given)
+        with self.assertRaises(TypeError):
+            pickle.dumps(memory)
+
+
+if __name__ == "__main__":
+    unittest.main()

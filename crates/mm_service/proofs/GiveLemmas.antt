@@ -1,0 +1,60 @@
+-- What a call for the next packet of a retrieval gives and leaves.
+use Rattle.std.proofs.Common.{◌≡◌, ℕ, List, refl, sym, subst, ap, ◌∙◌}
+use Rattle.std.specs.Prelude.{Option, Some, None, Result, Ok, Err, OnErr}
+use Rattle.mm_base.specs.Reading.{◌>>=◌}
+use Rattle.mm_store.specs.declared.stored.Stored.{Stored}
+use Rattle.mm_desk.specs.Machine.{State, next}
+use Rattle.mm_memory.specs.Holdings.{state_of}
+use Rattle.mm_service.specs.declared.fault.Fault.{Fault}
+use Rattle.mm_service.specs.declared.fault.Fault.TheVariants.{NoSuchStore}
+use Rattle.mm_service.specs.declared.giving.Given.{Given}
+use Rattle.mm_service.specs.Giving.{Tells, next_of, first_of, Leaves, GivesNext, given_of}
+use Rattle.mm_service.specs.Reading.{id_tested}
+use Rattle.mm_service.specs.Serving.{Serving, state_named, with_store}
+
+-- what is given, and the service that is left
+abbrev Both : Type 0
+Both = Result (Option Stored × Serving) Fault
+
+abbrev then_left : Serving → Result (Option Stored) Fault → Both
+then_left t r = r >>= (λ given. Ok (given, t))
+
+first_of-then_left : (t : Serving) (r : Result (Option Stored) Fault) → first_of (then_left t r) ≡ r
+first_of-then_left t (Ok given) = refl
+first_of-then_left t (Err fault) = refl
+
+leaves : (s t : Serving) (r : Result (Option Stored) Fault) (told : Result (Option Given) Fault) (old new : List ℕ) → Tells r told old new → OnErr told (t ≡ s) → Leaves (then_left t r) s t
+leaves s t (Ok given) told old new tells same = refl
+leaves s t (Err reason) (Err fault) old new tells same = same
+leaves s t (Err reason) (Ok None) old new tells same = absurd tells
+leaves s t (Err reason) (Ok (Some given)) old new tells same = absurd tells
+
+-- what it gives by the store that is there
+abbrev from_state : List ℕ → Serving → State → Both
+from_state field s state = given_of (next state).0 >>= (λ given. Ok (given, with_store field s (next state).1))
+
+abbrev from_field : Serving → List ℕ → Both
+from_field s field = state_named field s >>= from_state field s
+
+-- a store has the identifier
+pub gives_named : (id field : List ℕ) (s t : Serving) (state : State) (told : Result (Option Given) Fault) (old new : List ℕ) → id_tested id ≡ Ok field → state_of field s.memory ≡ Some state → Tells (given_of (next state).0) told old new → t ≡ with_store field s (next state).1 → OnErr told (t ≡ s) → GivesNext id told s t old new
+gives_named id field s t state told old new is_field is_state tells left same =
+    let r = given_of (next state).0 in
+    let found : state_named field s ≡ Ok state = rw is_state refl in
+    let whole : next_of id s ≡ then_left t r =
+    ap (λ (x : Result (List ℕ) Fault). x >>= from_field s) is_field ∙ ap (λ (x : Result State Fault). x >>= from_state field s) found ∙ ap (λ (x : Serving). then_left x r) (sym left) in
+    record {
+      tells = subst (λ (x : Result (Option Stored) Fault). Tells x told old new) (sym (ap first_of whole ∙ first_of-then_left t r)) tells;
+      leaves = subst (λ (x : Both). Leaves x s t) (sym whole) (leaves s t r told old new tells same);
+    }
+
+-- no store has it
+pub gives_unnamed : (id field : List ℕ) (s : Serving) (old : List ℕ) → id_tested id ≡ Ok field → state_of field s.memory ≡ None → GivesNext id (Err NoSuchStore) s s old old
+gives_unnamed id field s old is_field is_none =
+    let lacks : state_named field s ≡ Err NoSuchStore = rw is_none refl in
+    let whole : next_of id s ≡ Err NoSuchStore =
+    ap (λ (x : Result (List ℕ) Fault). x >>= from_field s) is_field ∙ ap (λ (x : Result State Fault). x >>= from_state field s) lacks in
+    record {
+      tells = subst (λ (x : Both). Tells (first_of x) (Err NoSuchStore) old old) (sym whole) (refl, refl);
+      leaves = subst (λ (x : Both). Leaves x s s) (sym whole) refl;
+    }

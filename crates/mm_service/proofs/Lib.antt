@@ -1,0 +1,6 @@
+pub mod ReadingLemmas
+pub mod StoreLemmas
+pub mod GiveLemmas
+pub mod AnswerLemmas
+pub mod ReportLemmas
+pub mod RecordLemmas

@@ -1,0 +1,63 @@
+-- How many reports and how many instructions a request has.
+use Rattle.std.proofs.Common.{◌≡◌, ℕ, suc, ◌+◌, ◌<◌, ◌≤◌, List, [], ◌∷◌, length, refl, ap, arith, Option, Some, None}
+use Rattle.std.specs.Prelude.{filter_map, map}
+use Rattle.std.specs.List.{cons_option}
+use Rattle.std.proofs.lemmas.List.{length-map}
+use Rattle.mm_st15.specs.declared.request.Request.{Request}
+use Rattle.mm_st15.specs.declared.request.Request.TheVariants as request
+use Rattle.mm_st15.specs.Request.{IsRequest}
+use Rattle.mm_memory.specs.declared.answer.Answer.{Answer}
+use Rattle.mm_memory.specs.Applying.{AppliesEach}
+use Rattle.mm_memory.specs.Holdings.{Holdings}
+use Rattle.mm_memory.specs.Instruction.{Parsed, instructions_of}
+use Rattle.mm_memory.specs.Reports.{control_at, reports_on}
+
+-- no more is left than there was
+length-cons_option : {Y : Type 0} (o : Option Y) (ys : List Y) → length (cons_option o ys) ≤ 1 + length ys
+length-cons_option None ys = omega arith
+length-cons_option (Some y) ys = omega arith
+
+length-filter_map : {X Y : Type 0} (f : X → Option Y) (xs : List X) → length (filter_map f xs) ≤ length xs
+length-filter_map f [] = omega arith
+length-filter_map f (x ∷ xs) =
+    let one = length-cons_option (f x) (filter_map f xs) in
+    let more = length-filter_map f xs in
+    omega arith
+
+-- a request has at most 255 reports
+pub few_reports : (r : Request) (now : ℕ) (m : Holdings) → IsRequest r → length (reports_on r now m) ≤ 255
+few_reports (request.ReportControl targets) now m is =
+    let few = length-filter_map (control_at now m) targets in
+    let count : length targets < 256 = is.count.1 in
+    omega arith
+few_reports other now m is = omega arith
+
+-- there are as many answers as instructions
+pub as_many_answers : (parsed : List Parsed) (m : Holdings) (answers : List Answer) (left : Holdings) → AppliesEach parsed m answers left → length answers ≡ length parsed
+as_many_answers [] m [] left applies = refl
+as_many_answers [] m (a ∷ more) left applies = absurd applies
+as_many_answers (i ∷ rest) m [] left applies = absurd applies
+as_many_answers (i ∷ rest) m (a ∷ more) left applies = ap suc (as_many_answers rest applies.0 more left applies.2)
+
+-- a request has at most 255 instructions
+few : {A B : Type 0} (f : A → B) (xs : List A) → length xs < 256 → length (map f xs) ≤ 255
+few f xs count = omega (arith, length-map xs f)
+
+pub few_instructions : (r : Request) → IsRequest r → length (instructions_of r) ≤ 255
+few_instructions (request.EnableStorage xs) is = few _ xs is.count.1
+few_instructions (request.DisableStorage xs) is = few _ xs is.count.1
+few_instructions (request.AddReportTypes xs) is = few _ xs is.count.1
+few_instructions (request.DeleteReportTypes xs) is = few _ xs is.count.1
+few_instructions (request.ReportControl xs) is = few _ xs is.count.1
+few_instructions (request.StartRetrieval xs) is = few _ xs is.count.1
+few_instructions (request.DeleteContent xs) is = few _ xs is.count.1
+few_instructions (request.SummariseContent xs) is = few _ xs is.count.1
+few_instructions (request.AbortRetrieval xs) is = few _ xs is.count.1
+few_instructions (request.CreateStores xs) is = few _ xs is.count.1
+few_instructions (request.DeleteStores xs) is = few _ xs is.count.1
+few_instructions (request.ResizeStores xs) is = few _ xs is.count.1
+few_instructions (request.ChangeToCircular xs) is = few _ xs is.count.1
+few_instructions (request.ChangeToBounded xs) is = few _ xs is.count.1
+few_instructions (request.ChangeChannel xs) is = few _ xs is.count.1
+few_instructions request.ReportStatus is = omega arith
+few_instructions request.ReportConfiguration is = omega arith

@@ -1,0 +1,8 @@
+use Rattle.std.proofs.Common.{◌≡◌, ◌++◌, take, drop}
+use Rattle.std.specs.Prelude.{map}
+use Rattle.mm_service.specs.Answering.{code_of_answer}
+use Rattle.mm_service.proofs.answers.tell_answers.Given as goal
+
+-- the codes of the answers so far are at the head
+abbrev pub invariant-loop-index : goal.invariant-loop-index
+invariant-loop-index l = l.out ≡ map code_of_answer (take l.index l.answers) ++ drop l.index l.initial.out

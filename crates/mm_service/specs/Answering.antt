@@ -1,0 +1,12 @@
+-- The answers to instructions, as octets.
+use Rattle.std.specs.Prelude.{ℕ}
+use Rattle.mm_base.specs.Refusals.{number_of}
+use Rattle.mm_memory.specs.declared.answer.Answer.{Answer}
+use Rattle.mm_memory.specs.declared.answer.Answer.TheVariants.{Done, Refused}
+use Rattle.mm_memory.specs.Fault.{refusal_of}
+use Rattle.mm_service.specs.declared.answers.TheConstants.{DONE}
+
+-- the code of an answer: `DONE`, or the number of the refusal
+abbrev pub code_of_answer : Answer → ℕ
+code_of_answer Done = DONE
+code_of_answer (Refused fault) = number_of (refusal_of fault)

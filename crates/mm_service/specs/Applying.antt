@@ -1,0 +1,34 @@
+-- A request that is applied.
+use Rattle.std.specs.Prelude.{◌≡◌, ◌≢◌, ℕ, List, map, length, Ok, Err}
+use Rattle.mm_packet.specs.Packet.{SpacePacket}
+use Rattle.mm_st15.specs.declared.request.Request.{Request}
+use Rattle.mm_st15.specs.Request.{IsRequest, SpellsRequest}
+use Rattle.mm_memory.specs.declared.answer.Answer.{Answer}
+use Rattle.mm_memory.specs.Applying.{AppliesEach}
+use Rattle.mm_memory.specs.Instruction.{instructions_of}
+use Rattle.mm_memory.specs.Reports.{reports_on}
+use Rattle.mm_service.specs.declared.fault.Fault.{Fault}
+use Rattle.mm_service.specs.declared.fault.Fault.TheVariants.{NoMemory}
+use Rattle.mm_service.specs.Answering.{code_of_answer}
+use Rattle.mm_service.specs.Queue.{queue_of, with_reports}
+use Rattle.mm_service.specs.Reading.{request_of}
+use Rattle.mm_service.specs.Serving.{Serving}
+use Rattle.mm_packet.specs.Buffer.{over}
+
+-- the request of the packet that the octets are is applied at a moment: each instruction is answered, in order, and the codes of the
+-- answers are at the head of the buffer; the reports on the request wait after those that waited
+pub record Applies (octets : List ℕ) (now : ℕ) (s t : Serving) (count : ℕ) (old new : List ℕ) : Type 0 where
+  pub asked : SpacePacket
+  pub asks : request_of octets ≡ Ok asked
+  pub request : Request
+  pub is_request : IsRequest request
+  pub spelled : SpellsRequest asked request
+  pub answers : List Answer
+  pub each : AppliesEach (instructions_of request) s.memory answers t.memory
+  pub count_is : count ≡ length answers
+  pub told : new ≡ over (map code_of_answer answers) old
+  pub waits : queue_of t.counts t.waiting ≡ with_reports asked (reports_on request now s.memory) (queue_of s.counts s.waiting)
+
+-- why a request is refused whole: the first test that the octets fail, out of memory aside
+abbrev pub RefusesRequest : List ℕ → Fault → Type 0
+RefusesRequest octets fault = fault ≢ NoMemory → request_of octets ≡ Err fault

@@ -1,0 +1,12 @@
+pub mod Fault
+pub mod Reading
+pub mod Serving
+pub mod Offering
+pub mod Tallies
+pub mod Recording
+pub mod Giving
+pub mod Waiting
+pub mod Queue
+pub mod Answering
+pub mod Applying
+pub mod Reporting

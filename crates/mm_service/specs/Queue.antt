@@ -1,0 +1,24 @@
+-- Reports that wait, one after another.
+use Rattle.std.specs.Prelude.{List, [], ◌∷◌, ◌++◌, fold}
+use Rattle.mm_packet.specs.Packet.{SpacePacket}
+use Rattle.mm_st15.specs.declared.report.Report.{Report}
+use Rattle.mm_st15.specs.Report.{kind_of}
+use Rattle.mm_ask.specs.Counting.{Counts, counted, numbers_of}
+use Rattle.mm_ask.specs.Telemetry.{telemetry_of}
+
+-- how many reports there were, and the packets of those that wait
+pub record Queue : Type 0 where
+  pub counts : Counts
+  pub waiting : List SpacePacket
+
+abbrev pub queue_of : Counts → List SpacePacket → Queue
+queue_of counts waiting = record { counts = counts; waiting = waiting }
+
+-- a report on the request of this packet waits more, and is counted
+abbrev pub with_report : SpacePacket → Queue → Report → Queue
+with_report asked q report =
+    queue_of (counted q.counts (kind_of report)) (q.waiting ++ telemetry_of asked (numbers_of q.counts (kind_of report)) report ∷ [])
+
+-- reports on it wait more, in order
+abbrev pub with_reports : SpacePacket → List Report → Queue → Queue
+with_reports asked reports q = fold (with_report asked) q reports

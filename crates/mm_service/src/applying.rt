@@ -1,0 +1,85 @@
+//! Requests that are applied to the memory.
+ghost use Rattle.std.specs.Prelude.{◌≡◌, ◌+◌, ◌<◌, ◌≤◌, length, fold, All, vec_len, vec_capacity, MatchResult, OnErr};
+ghost use Rattle.mm_packet.specs.Packet.{IsTelecommand};
+ghost use Rattle.mm_st15.specs.Report.{HasCount};
+ghost use Rattle.mm_service.specs.declared.answers.TheConstants.{INSTRUCTIONS};
+ghost use Rattle.mm_service.specs.Queue.{queue_of, with_report};
+
+use crate::answers::{INSTRUCTIONS, tell_answers};
+use crate::fault::Fault;
+use crate::reading::request_of;
+use crate::service::Service;
+use crate::waiting::Waiting;
+use mm_ask::Counters;
+use mm_packet::Packet;
+use mm_st15::Report;
+use std::alloc::Global;
+
+// Lets a report on the request of this packet wait.
+fn wait_for(counters: &mut Counters, waiting: &mut Vec<Waiting>, asked: &Packet, report: Report)
+    requires telecommand { IsTelecommand asked.now.kind }
+    requires count { HasCount report }
+    requires room { vec_len waiting.old < vec_capacity waiting.old }
+    ensures after { queue_of counters.new waiting.new.items
+        ≡ with_report asked.now (queue_of counters.old waiting.old.items) report }
+    ensures len { vec_len waiting.new ≡ vec_len waiting.old + 1 }
+    ensures capacity { vec_capacity waiting.new ≡ vec_capacity waiting.old }
+{
+    let numbers = counters.next(report.kind());
+    let waits = Waiting::new(asked.apid(), asked.source(), numbers, report);
+    waiting.push_reserved(waits);
+}
+
+// Lets reports on the request of this packet wait, in order.
+fn wait_for_all(
+    counters: &mut Counters,
+    waiting: &mut Vec<Waiting>,
+    asked: &Packet,
+    mut reports: Vec<Report>,
+)
+    requires telecommand { IsTelecommand asked.now.kind }
+    requires counts { All HasCount reports.items }
+    requires room { vec_len waiting.old + length reports.items ≤ vec_capacity waiting.old }
+    ensures after { queue_of counters.new waiting.new.items
+        ≡ fold (with_report asked.now) (queue_of counters.old waiting.old.items) reports.items }
+{
+    while !reports.is_empty() {
+        let report = reports.remove(0);
+        wait_for(counters, waiting, asked, report);
+    }
+}
+
+impl Service {
+    ghost use Rattle.mm_service.specs.Applying.{Applies, RefusesRequest};
+
+    /// Applies the request of the packet that the octets are, at a moment in ticks. The codes of the answers to its instructions, in order,
+    /// are then at the head of a buffer with room for each request's, and their number is given; its reports wait after those that
+    /// waited. A refusal has changed nothing.
+    pub fn apply(
+        &mut self,
+        alloc: Global,
+        now: u64,
+        packet: &[u8],
+        each: &mut [u8],
+    ) -> Result<usize, Fault>
+        requires room { INSTRUCTIONS ≤ length each.old }
+        ensures applied { MatchResult result
+            (λ count. Applies packet.now now self.old self.new count each.old each.new)
+            (RefusesRequest packet.now) }
+        ensures err { OnErr result (self.new ≡ self.old) }
+        ensures left { OnErr result (each.new ≡ each.old) }
+    {
+        let asked = request_of(alloc, packet)?;
+        self.waiting.reserve(INSTRUCTIONS)?;
+        let answers = self.memory.apply(alloc, now, &asked.request)?;
+        tell_answers(&answers.each, each);
+        let count = answers.each.len();
+        wait_for_all(
+            &mut self.counters,
+            &mut self.waiting,
+            &asked.packet,
+            answers.reports,
+        );
+        Ok(count)
+    }
+}

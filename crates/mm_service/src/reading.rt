@@ -1,0 +1,56 @@
+//! Identifiers, packets and requests from octets.
+ghost use Rattle.std.specs.Prelude.{◌≡◌, IfOk};
+ghost use Rattle.mm_base.specs.Reading.{Gives};
+ghost use Rattle.mm_st15.specs.Request.{IsRequest, SpellsRequest};
+ghost use Rattle.mm_ask.specs.declared.fault.LineFault.TheVariants as octets_fault;
+ghost use Rattle.mm_service.specs.declared.fault.Fault.TheVariants.{NoMemory};
+ghost use Rattle.mm_service.specs.Reading.{id_tested, block_of, request_alone, request_of};
+
+use crate::fault::Fault;
+use mm_ask::{Asked, LineFault, packet_alone};
+use mm_base::StoreId;
+use mm_packet::BlockPacket;
+use mm_st15::Request;
+use std::alloc::Global;
+
+// The identifier that a text is.
+pub(crate) fn id_of(text: &[u8]) -> Result<StoreId, Fault>
+    ensures { result ≡ id_tested text.now }
+{
+    match StoreId::of_text(text) {
+        Ok(id) => Ok(id),
+        Err(_) => Err(Fault::BadId),
+    }
+}
+
+// The packet that the octets are, where a block has room for it.
+pub(crate) fn block_of(alloc: Global, octets: &[u8]) -> Result<BlockPacket, Fault>
+    ensures { Gives NoMemory (λ packet. packet) result (block_of octets.now) }
+{
+    let packet = packet_alone(alloc, octets)?;
+    match BlockPacket::of(packet) {
+        Ok(packet) => Ok(packet),
+        Err(_) => Err(Fault::TooLong),
+    }
+}
+
+// The request that the packet asks which the octets are.
+fn request_alone(alloc: Global, octets: &[u8]) -> Result<Asked, LineFault>
+    ensures asked { Gives octets_fault.NoMemory (λ asked. asked.packet) result (request_alone octets.now) }
+    ensures spelled { IfOk result (λ asked. IsRequest asked.request
+        × SpellsRequest asked.packet asked.request) }
+{
+    let packet = packet_alone(alloc, octets)?;
+    let request = Request::read(alloc, &packet)?;
+    Ok(Asked { packet, request })
+}
+
+// The same, with its fault as one of a call.
+pub(crate) fn request_of(alloc: Global, octets: &[u8]) -> Result<Asked, Fault>
+    ensures asked { Gives NoMemory (λ asked. asked.packet) result (request_of octets.now) }
+    ensures spelled { IfOk result (λ asked. IsRequest asked.request
+        × SpellsRequest asked.packet asked.request) }
+{
+    let asked = request_alone(alloc, octets)?;
+    Ok(asked)
+}
