@@ -32,7 +32,7 @@ impl<'a> Advice<'a> {
     }
 
     /// What is said where a run did not begin or was halted.
-    pub(crate) fn of_run(task: Task<'a>, refusal: Refusal, hint: Option<Hint>) -> Advice<'a> {
+    pub(crate) fn of_run(task: Task<'a>, refusal: Refusal, hint: Option<&Hint>) -> Advice<'a> {
         let file = match hint {
             Some(Hint::Ends(EndsHint::Links { .. })) => task.file(Role::Links),
             _ => file_of(Some(task), refusal, Spot::Whole),

@@ -109,7 +109,7 @@ impl PlanTexts {
     fn keep(self, kept: &mut Kept) {
         kept.setup = self.setup;
         kept.forecast = self.forecast;
-        kept.plan = self.plan;
+        kept.plan = Some(self.plan);
     }
 }
 

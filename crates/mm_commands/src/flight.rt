@@ -68,9 +68,7 @@ impl FlightBytes {
     fn keep(self, kept: &mut Kept) {
         kept.setup = self.setup;
         kept.forecast = self.forecast;
-        if let Some(plan) = self.plan {
-            kept.plan = plan;
-        }
+        kept.plan = self.plan;
         kept.sources = self.sources;
         kept.links = self.links;
     }

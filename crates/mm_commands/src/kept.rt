@@ -8,7 +8,8 @@ use std::alloc::Global;
 pub(crate) struct Kept {
     pub(crate) setup: Vec<u8>,
     pub(crate) forecast: Vec<u8>,
-    pub(crate) plan: Vec<u8>,
+    /// None where the plan is made.
+    pub(crate) plan: Option<Vec<u8>>,
     pub(crate) sources: Vec<u8>,
     pub(crate) links: Vec<u8>,
     pub(crate) requests: Vec<u8>,
@@ -20,7 +21,7 @@ impl Kept {
         Kept {
             setup: Vec::new(alloc),
             forecast: Vec::new(alloc),
-            plan: Vec::new(alloc),
+            plan: None,
             sources: Vec::new(alloc),
             links: Vec::new(alloc),
             requests: Vec::new(alloc),
@@ -32,7 +33,10 @@ impl Kept {
         Texts {
             setup: &self.setup,
             forecast: &self.forecast,
-            plan: &self.plan,
+            plan: match &self.plan {
+                Some(plan) => plan,
+                None => &[],
+            },
             sources: &self.sources,
             links: &self.links,
         }

@@ -111,7 +111,7 @@ fn packets_of(task: Task<'_>) -> Option<(&str, &'static str)> {
 }
 
 /// Says what is found, if anything is.
-pub(crate) fn tell_hint<E: Write>(hint: Option<Hint>, err: &mut E) -> io::Result<()> {
+pub(crate) fn tell_hint<E: Write>(hint: Option<&Hint>, err: &mut E) -> io::Result<()> {
     match hint {
         Some(hint) => writeln!(err, "hint: {hint}"),
         None => Ok(()),
@@ -128,8 +128,8 @@ pub(crate) fn tell_stop<E: Write>(
     err: &mut E,
 ) -> io::Result<()> {
     let hint = hint_of_run(alloc, refusal, end, texts);
-    writeln!(err, "{}", Advice::of_run(task, refusal, hint))?;
-    tell_hint(hint, err)
+    writeln!(err, "{}", Advice::of_run(task, refusal, hint.as_ref()))?;
+    tell_hint(hint.as_ref(), err)
 }
 
 /// Says what a verdict means that is not `Least`.
@@ -144,7 +144,7 @@ pub(crate) fn tell_verdict<E: Write>(
         writeln!(err, "{remark}")?;
     }
     match verdict {
-        Verdict::DoesNotFit(step) => tell_hint(fit_hint(alloc, texts, step), err),
+        Verdict::DoesNotFit(step) => tell_hint(fit_hint(alloc, texts, step).as_ref(), err),
         _ => Ok(()),
     }
 }
@@ -200,7 +200,7 @@ pub(crate) fn tell_refused<E: Write>(
     for line in lines.lines() {
         if let Some(refused) = Refused::of(line) {
             writeln!(err, "{file}, {counted} {refused}")?;
-            tell_hint(refused.hint(requests), err)?;
+            tell_hint(refused.hint(requests).as_ref(), err)?;
         }
     }
     Ok(())

@@ -35,7 +35,7 @@ fn refuse<W: Write, E: Write>(
 {
     writeln!(out, "refused {fault}").map_err(|_| Unwritten::Output)?;
     writeln!(err, "{}", Advice::of_fault(task, fault)).map_err(|_| Unwritten::Messages)?;
-    tell_hint(hint, err).map_err(|_| Unwritten::Messages)?;
+    tell_hint(hint.as_ref(), err).map_err(|_| Unwritten::Messages)?;
     Ok(Status::Refused)
 }
 
