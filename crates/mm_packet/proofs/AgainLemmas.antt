@@ -16,7 +16,7 @@ use Rattle.mm_packet.specs.Spelling.{type_bit, identification, sequence_control,
 use Rattle.mm_packet.specs.Headers.{FitsPrimary, primary_octets, version_of, flag_of, sequence_flags_of, secondary_octets, primary_at, type_at, secondary_at, fault_of, is_telecommand, apid_of, count_of}
 use Rattle.mm_base.specs.Reading.{Gives}
 use Rattle.mm_packet.specs.Reading.{tested, data_field_at, packet_of, packet_at}
-use Rattle.mm_packet.proofs.NumberLemmas.{wide16, wide64, number_again}
+use Rattle.mm_packet.proofs.NumberLemmas.{number16_again, number64_again}
 
 -- the numbers of a packet's primary header
 primary_of : SpacePacket → Primary
@@ -30,14 +30,14 @@ secondary_of packet = record { first = 2 * 2 ^ 4 + packet.header.low; service = 
 primary_again : (primary : Primary) (rest : List ℕ) → FitsPrimary primary → primary_at (primary_octets primary ++ rest) ≡ Some (primary, rest)
 unfolding primary_at
 primary_again primary rest small =
-    rw (number_again w16 (2 ^ 16) wide16 primary.identification _ small.identification, number_again w16 (2 ^ 16) wide16 primary.sequence_control _ small.sequence_control, number_again w16 (2 ^ 16) wide16 primary.data_length _ small.data_length) refl
+    rw (number16_again primary.identification _ small.identification, number16_again primary.sequence_control _ small.sequence_control, number16_again primary.data_length _ small.data_length) refl
 
 -- the fields of a packet type are read again
 type_again : (kind : PacketType) (rest : List ℕ) → FitsType kind → type_at (type_bit kind == 1) (type_fields kind ++ rest) ≡ Some (kind, rest)
 unfolding type_at
-type_again (Telecommand source) rest small = rw (number_again w16 (2 ^ 16) wide16 source rest small) refl
+type_again (Telecommand source) rest small = rw (number16_again source rest small) refl
 type_again (Telemetry counter destination time) rest small =
-    rw (number_again w16 (2 ^ 16) wide16 counter (to_be_bytes w16 destination ++ (to_be_bytes w64 time ++ rest)) small.0, number_again w16 (2 ^ 16) wide16 destination (to_be_bytes w64 time ++ rest) small.1, number_again w64 (2 ^ 64) wide64 time rest small.2) refl
+    rw (number16_again counter (to_be_bytes w16 destination ++ (to_be_bytes w64 time ++ rest)) small.0, number16_again destination (to_be_bytes w64 time ++ rest) small.1, number64_again time rest small.2) refl
 
 -- a secondary header is read again
 secondary_again : (secondary : Secondary) (rest : List ℕ) → FitsType secondary.kind → secondary_at (type_bit secondary.kind == 1) (secondary_octets secondary ++ rest) ≡ Some (secondary, rest)

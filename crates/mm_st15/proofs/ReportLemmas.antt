@@ -9,7 +9,7 @@ use Rattle.mm_packet.specs.Packet.{SpacePacket, time_of}
 use Rattle.mm_packet.specs.Spelling.{type_bit}
 use Rattle.mm_packet.specs.declared.header.PacketType.{PacketType}
 use Rattle.mm_packet.specs.declared.header.PacketType.TheVariants.{Telecommand, Telemetry}
-use Rattle.mm_packet.proofs.NumberLemmas.{wide16, number_again}
+use Rattle.mm_packet.proofs.NumberLemmas.{number16_again}
 use Rattle.mm_st15.specs.declared.fault.Fault.{Fault}
 use Rattle.mm_st15.specs.declared.fault.Fault.TheVariants.{NoMemory}
 use Rattle.mm_st15.specs.declared.instruction.Configuration.{Configuration}
@@ -74,7 +74,7 @@ counted (report.Control moment id rows) fits =
     let long : 8 ≤ length (id ++ others) = omega (arith, length-append id others, fits.entries.0) in
     let len : length octets ≡ length rows * 4 = length_of_entries row_layout row_readable rows fits.entries.1 in
     ap (is_counted kind.Control) regrouped
-    ∙ rows_counted (id ++ others) others (length rows) octets long (sym (drop_at id others 8 fits.entries.0)) (number_again w16 (2 ^ 16) wide16 (length rows) octets few)
+    ∙ rows_counted (id ++ others) others (length rows) octets long (sym (drop_at id others 8 fits.entries.0)) (number16_again (length rows) octets few)
     ∙ eq-eqb (length octets) (length rows * 4) len
 counted (report.Summaries moment entries) fits = rw (entries_counted summary_layout summary_readable entries fits.entries) refl
 counted (report.Statuses moment entries) fits = rw (entries_counted status_layout status_readable entries fits.entries) refl
