@@ -56,7 +56,7 @@ pub fn refuse_input<W: Write, E: Write>(
 }
 
 // Prints the answer, and what it means where something is refused, a verdict is not `Least`, or a run did not begin or was halted.
-fn print<W: Write, E: Write>(
+fn print_answer<W: Write, E: Write>(
     alloc: Global,
     task: Task<'_>,
     answer: &Answer,
@@ -103,6 +103,25 @@ fn print<W: Write, E: Write>(
     }
 }
 
+// Prints the answer, and what in the files of a task that is done has no effect.
+fn print<W: Write, E: Write>(
+    alloc: Global,
+    task: Task<'_>,
+    answer: &Answer,
+    kept: &Kept,
+    out: &mut W,
+    err: &mut E,
+) -> Result<Status, Unwritten>
+    ensures text { IfOk result (λ status. Appends (W.contents out.old) (W.contents out.new) (text_in answer.now)) }
+    ensures status { IfOk result (λ status. status ≡ status_in answer.now) }
+{
+    let status = print_answer(alloc, task, answer, kept, out, err)?;
+    if matches!(status, Status::Done) {
+        tell_notes(alloc, task, kept.texts(), err).map_err(|_| Unwritten::Messages)?;
+    }
+    Ok(status)
+}
+
 // What answers the task.
 fn answer<'a, R: Threads + Wait + Sync, F: Files>(
     rt: &R,
@@ -142,13 +161,7 @@ pub fn do_task<R: Threads + Wait + Sync, F: Files, W: Write, E: Write>(
 {
     let mut kept = Kept::new(alloc);
     match answer(rt, alloc, task, files, &mut kept) {
-        Ok(answer) => {
-            let status = print(alloc, task, &answer, &kept, out, err)?;
-            if matches!(status, Status::Done) {
-                tell_notes(alloc, task, kept.texts(), err).map_err(|_| Unwritten::Messages)?;
-            }
-            Ok(status)
-        }
+        Ok(answer) => print(alloc, task, &answer, &kept, out, err),
         Err(fault) => {
             let hint = fault.hint(alloc, kept.texts());
             refuse(Some(task), fault, hint, out, err)
