@@ -1,6 +1,6 @@
 //! Problems from data: each is what the texts of the same data say, or is refused with the fault that it must give.
 use crate::tests::samples::{id, problem_of};
-use mm_problem::{Kind, LimitRow, Problem, Setup, StoreRow};
+use mm_problem::{Fault, Kind, LimitRow, Problem, Setup, StoreRow};
 use std::alloc::Global;
 use std::process::Abort;
 
@@ -64,10 +64,20 @@ fn store(rt: &impl Abort, text: &str, size: u32, start: u32, channel: u8) -> Sto
     }
 }
 
+// A second store, beside one that is as it should be, is refused with this fault.
+fn store_refused(rt: &impl Abort, alloc: Global, second: StoreRow, fault: &str) {
+    let rows = [store(rt, "SCI", 4, 4, 7), second];
+    let data = Data {
+        rows: &rows,
+        limits: &[],
+        windows: &[1],
+        arrivals: &[1, 1_000_001],
+    };
+    refused(rt, alloc, data, fault);
+}
+
 #[test]
 fn stores_as_data_refused(rt: HostRuntime) {
-    let alloc = rt.alloc();
-    let good = store(&rt, "SCI", 4, 4, 7);
     let cases = [
         (store(&rt, "HK", 0, 0, 0), "33 Limit name size"),
         (store(&rt, "HK", 1_000_001, 0, 0), "33 Limit name size"),
@@ -79,15 +89,8 @@ fn stores_as_data_refused(rt: HostRuntime) {
             "28 SetupField row 2 name repeated",
         ),
     ];
-    for (bad, fault) in cases.iter() {
-        let rows = [good, *bad];
-        let data = Data {
-            rows: &rows,
-            limits: &[],
-            windows: &[1],
-            arrivals: &[1, 1_000_001],
-        };
-        refused(&rt, alloc, data, fault);
+    for (second, fault) in &cases {
+        store_refused(&rt, rt.alloc(), *second, fault);
     }
 }
 
@@ -173,11 +176,25 @@ fn steps_as_data_refused(rt: HostRuntime) {
     }
 }
 
+// The problem of the steps after the first, where the two stores begin with these blocks.
+fn rest_of(
+    rt: &impl Abort,
+    alloc: Global,
+    problem: &Problem,
+    starts: [u32; 2],
+) -> Result<Problem, Fault> {
+    assert!(rt;
+        1 < problem.steps() && problem.stores() == 2,
+        "a second step of two stores"
+    );
+    problem.rest(alloc, 1, &starts)
+}
+
 #[test]
 fn the_rest_is_the_problem_of_the_later_steps(rt: HostRuntime) {
     let alloc = rt.alloc();
     let problem = problem_of(&rt, alloc, SETUP, FORECAST);
-    let rest = problem.rest(alloc, 1, &[4, 0]).expect(&rt, "a problem");
+    let rest = rest_of(&rt, alloc, &problem, [4, 0]).expect(&rt, "a problem");
     let later = "step,window,SCI,HK\n1,0,0,8\n2,1000000,5,6\n";
     let setup = "[[store]]\nid = \"SCI\"\nsize = 4\ntype = \"bounded\"\nchannel = 0\nstart = 4\n\
         [[store]]\nid = \"HK\"\nsize = 9\ntype = \"circular\"\nchannel = 3\nstart = 0\n\
@@ -185,7 +202,7 @@ fn the_rest_is_the_problem_of_the_later_steps(rt: HostRuntime) {
     let read = problem_of(&rt, alloc, setup, later);
     let wanted = seen(&rt, alloc, &read);
     assert!(&rt; seen(&rt, alloc, &rest).as_str() == wanted.as_str());
-    let refusal = problem.rest(alloc, 1, &[5, 0]).expect_err(&rt, "no room");
+    let refusal = rest_of(&rt, alloc, &problem, [5, 0]).expect_err(&rt, "no room");
     let shown = refusal.to_string(alloc).expect(&rt, "memory");
     assert!(&rt; shown.as_str() == "33 Limit name start");
 }
