@@ -85,9 +85,10 @@ def main() -> int:
             for name, text in zip(names, given, strict=True):
                 Path(name).write_bytes(text)
             ran = subprocess.run([program, command, *names], capture_output=True, check=False)
-            # of a verdict, and of a line that `ask` refuses, the program says more on standard error than the package keeps
+            # of a verdict, and of a line that `ask` refuses, the program says more on standard error than the package keeps; a hint and
+            # notes are lines of their own, which the program alone has
             words = ran.stderr.decode() if ran.stdout.startswith(b"refused ") else ""
-            said = words[words.index("expected ") :].rstrip("\n") if words else ""
+            said = words[words.index("expected ") :].split("\n", 1)[0] if words else ""
             if (ran.stdout, ran.returncode, said) != answered(command, given):
                 print(f"compare: call {call} of seed {seed}, {command}: the package and the program answer differently")
                 print(f"program: {ran.stdout[:300]!r} {ran.returncode} {said!r}\npackage: {answered(command, given)!r}"[:2000])
