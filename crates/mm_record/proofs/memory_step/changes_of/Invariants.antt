@@ -1,6 +1,6 @@
 use Rattle.std.proofs.Common.{◌≡◌, vec_capacity}
 use Rattle.mm_record.specs.Counters.{AreRows}
-use Rattle.mm_record.proofs.memory_step.told_all.Given as goal
+use Rattle.mm_record.proofs.memory_step.changes_of.Given as goal
 
 abbrev pub invariant-loop-index : goal.invariant-loop-index
 invariant-loop-index l = record {

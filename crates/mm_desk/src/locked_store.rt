@@ -13,18 +13,18 @@ use std::marker::{Model, PhantomData};
 
 // The state of a store, with the log of the calls made since it was opened.
 #[derive(Drop)]
-pub(crate) struct Shelf<N: Opening> {
+pub(crate) struct LockedStore<N: Opening> {
     pub(crate) place: u32,
     pub(crate) state: StoreState,
     pub(crate) log: Vec<Entry>,
     pub(crate) of: PhantomData<N>,
 }
 
-impl<N: Opening> Model for Shelf<N> {
-    ghost use Rattle.mm_desk.specs.Seats.{Kept};
+impl<N: Opening> Model for LockedStore<N> {
+    ghost use Rattle.mm_desk.specs.Seats.{LockedStoreView};
     ghost use Rattle.mm_desk.specs.Runs.{IsRun, opening_at};
 
-    ghost Value = { Kept };
+    ghost Value = { LockedStoreView };
 
     ghost view = { λ s. record { place = s.place; state = s.state; log = s.log.items } };
 
@@ -38,14 +38,14 @@ pub(crate) struct Answered {
     pub(crate) entry: Entry,
 }
 
-impl<N: Opening> Shelf<N> {
+impl<N: Opening> LockedStore<N> {
     // The state that was opened, and an empty log.
-    pub(crate) fn new(alloc: Global, state: StoreState, place: u32) -> Shelf<N>
+    pub(crate) fn new(alloc: Global, state: StoreState, place: u32) -> LockedStore<N>
         requires state { state ≡ opening_at N.states place }
         ensures kept { result ≡ record { place = place; state = state; log = [] } }
     {
         let log = Vec::new(alloc);
-        Shelf {
+        LockedStore {
             place,
             state,
             log,
@@ -73,19 +73,19 @@ impl<N: Opening> Shelf<N> {
         if self.log.reserve(1).is_err() {
             return Err(event);
         }
-        let told = self.state.apply(alloc, event)?;
+        let copies = self.state.apply(alloc, event)?;
         self.log.push_reserved(Entry {
             seat,
             event: logged,
-            reply: told.logged,
+            reply: copies.logged,
         });
         let entry = Entry {
             seat,
             event: listed,
-            reply: told.listed,
+            reply: copies.listed,
         };
         Ok(Answered {
-            reply: told.answer,
+            reply: copies.answer,
             entry,
         })
     }

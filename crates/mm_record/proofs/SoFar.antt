@@ -17,7 +17,7 @@ abbrev pub Offered : RecordingContext → List SpacePacket → List Line → Typ
 Offered e gave lines = (k : ℕ) → k < length e.ids → (asked lines k ≡ offers e k gave) × AreTaken (list_at lines k)
 
 -- what the source gave so far is recorded, and the lines are where they were
-pub record InHand (e : RecordingContext) (before after : ℕ → List SpacePacket) (first lines : List Line) : Type 0 where
+pub record RecordedSoFar (e : RecordingContext) (before after : ℕ → List SpacePacket) (first lines : List Line) : Type 0 where
   pub ends : ends_of lines ≡ ends_of first
   pub gave : List SpacePacket
   pub order : before e.step ≡ gave ++ after e.step
@@ -25,8 +25,8 @@ pub record InHand (e : RecordingContext) (before after : ℕ → List SpacePacke
   pub done : Offered e gave lines
 
 -- at the start nothing was given
-pub in_hand_start : (e : RecordingContext) (before : ℕ → List SpacePacket) (lines : List Line) → IsFresh lines → InHand e before before lines lines
-in_hand_start e before lines fresh = record {
+pub so_far_start : (e : RecordingContext) (before : ℕ → List SpacePacket) (lines : List Line) → IsFresh lines → RecordedSoFar e before before lines lines
+so_far_start e before lines fresh = record {
   ends = refl;
   gave = [];
   order = refl;
@@ -41,37 +41,37 @@ given_more before mid after step gave p order next =
     order ∙ ap (λ (x : List SpacePacket). gave ++ x) next ∙ sym (append_assoc gave (p ∷ []) (after step))
 
 -- a packet more
-pub in_hand_more : (e : RecordingContext) (before mid after : ℕ → List SpacePacket) (first lines new : List Line) (count : ℕ) (p : SpacePacket)
-    → count ≡ length e.ids → InHand e before mid first lines → mid e.step ≡ p ∷ after e.step → ((t : ℕ) → t ≢ e.step → after t ≡ mid t)
-    → Adds count (offers_at e p) lines new → InHand e before after first new
-in_hand_more e before mid after first lines new count p many hand next others adds = record {
-  ends = adds.ends ∙ hand.ends;
-  gave = hand.gave ++ p ∷ [];
-  order = given_more before mid after e.step hand.gave p hand.order next;
-  others = λ t other. others t other ∙ hand.others t other;
+pub so_far_more : (e : RecordingContext) (before mid after : ℕ → List SpacePacket) (first lines new : List Line) (count : ℕ) (p : SpacePacket)
+    → count ≡ length e.ids → RecordedSoFar e before mid first lines → mid e.step ≡ p ∷ after e.step → ((t : ℕ) → t ≢ e.step → after t ≡ mid t)
+    → Adds count (offers_at e p) lines new → RecordedSoFar e before after first new
+so_far_more e before mid after first lines new count p many so_far next others adds = record {
+  ends = adds.ends ∙ so_far.ends;
+  gave = so_far.gave ++ p ∷ [];
+  order = given_more before mid after e.step so_far.gave p so_far.order next;
+  others = λ t other. others t other ∙ so_far.others t other;
   done = λ k within.
       let goes = adds.lists k (omega arith) in
-      let so_far = hand.done k within in
-      let here = ap (λ (x : List Event). x ++ offers_at e p k) so_far.0 in
-      let all = offers_more e k hand.gave (p ∷ []) ∙ ap (λ (x : List Event). offers e k hand.gave ++ x) (offers_one e k p) in
-      (goes.all ∙ here ∙ sym all, goes.taken so_far.1);
+      let done = so_far.done k within in
+      let here = ap (λ (x : List Event). x ++ offers_at e p k) done.0 in
+      let all = offers_more e k so_far.gave (p ∷ []) ∙ ap (λ (x : List Event). offers e k so_far.gave ++ x) (offers_one e k p) in
+      (goes.all ∙ here ∙ sym all, goes.taken done.1);
 }
 
 -- the source gives no more
 pub ran_whole : (e : RecordingContext) (before mid after : ℕ → List SpacePacket) (first lines : List Line)
-    → InHand e before mid first lines → mid e.step ≡ [] → mid e.step ≡ after e.step → ((t : ℕ) → t ≢ e.step → after t ≡ mid t)
+    → RecordedSoFar e before mid first lines → mid e.step ≡ [] → mid e.step ≡ after e.step → ((t : ℕ) → t ≢ e.step → after t ≡ mid t)
     → HasRun e before after None lines
-ran_whole e before mid after first lines hand none same others = record {
-  run = record { gave = hand.gave; offered = asked lines; broken = None };
+ran_whole e before mid after first lines so_far none same others = record {
+  run = record { gave = so_far.gave; offered = asked lines; broken = None };
   is = record {
     is = record {
-      order = hand.order ∙ ap (λ (x : List SpacePacket). hand.gave ++ x) same;
-      others = λ t other. others t other ∙ hand.others t other;
-      whole = (sym same ∙ none, λ k within. (hand.done k within).0);
+      order = so_far.order ∙ ap (λ (x : List SpacePacket). so_far.gave ++ x) same;
+      others = λ t other. others t other ∙ so_far.others t other;
+      whole = (sym same ∙ none, λ k within. (so_far.done k within).0);
       partly = tt;
     };
     offered = λ k. refl;
-    taken = λ k within. (hand.done k within).1;
+    taken = λ k within. (so_far.done k within).1;
     reason = tt;
   };
   ended = refl;
@@ -79,17 +79,17 @@ ran_whole e before mid after first lines hand none same others = record {
 
 -- an offer failed
 pub ran_partly : (e : RecordingContext) (before mid after : ℕ → List SpacePacket) (first lines new : List Line) (count : ℕ) (p : SpacePacket) (fault : Fault)
-    → count ≡ length e.ids → InHand e before mid first lines → mid e.step ≡ p ∷ after e.step → ((t : ℕ) → t ≢ e.step → after t ≡ mid t)
+    → count ≡ length e.ids → RecordedSoFar e before mid first lines → mid e.step ≡ p ∷ after e.step → ((t : ℕ) → t ≢ e.step → after t ≡ mid t)
     → AddsPartly count (offers_at e p) lines new → IsReason count new fault → HasRun e before after (Some fault) new
-ran_partly e before mid after first lines new count p fault many hand next others adds reason = record {
-  run = record { gave = hand.gave ++ p ∷ []; offered = asked new; broken = Some fault };
+ran_partly e before mid after first lines new count p fault many so_far next others adds reason = record {
+  run = record { gave = so_far.gave ++ p ∷ []; offered = asked new; broken = Some fault };
   is = record {
     is = record {
-      order = given_more before mid after e.step hand.gave p hand.order next;
-      others = λ t other. others t other ∙ hand.others t other;
+      order = given_more before mid after e.step so_far.gave p so_far.order next;
+      others = λ t other. others t other ∙ so_far.others t other;
       whole = tt;
       partly = record {
-        before = hand.gave;
+        before = so_far.gave;
         last = p;
         are = refl;
         began = λ k within.
@@ -98,7 +98,7 @@ ran_partly e before mid after first lines new count p fault many hand next other
               did = goes.did;
               rest = goes.rest;
               are = offers_one e k p ∙ goes.are;
-              asks_are = goes.first ∙ ap (λ (x : List Event). x ++ goes.did) (hand.done k within).0;
+              asks_are = goes.first ∙ ap (λ (x : List Event). x ++ goes.did) (so_far.done k within).0;
             };
       };
     };

@@ -21,15 +21,15 @@ use Rattle.mm_dump.proofs.Going.{went_on, called, number_stays, given_more, with
 use Rattle.mm_dump.proofs.Refusing.{next_refused, after_given}
 
 -- this many packets were given and sent
-pub record InHand (id : List ℕ) (many : ℕ) (last : Option ℕ) (old new : PortView) (before after : LinkState) : Type 0 where
+pub record SentSoFar (id : List ℕ) (many : ℕ) (last : Option ℕ) (old new : PortView) (before after : LinkState) : Type 0 where
   pub gave : List Stored
   pub count : length gave ≡ many
   pub last_is : last ≡ last_of gave
   pub has_sent : HasSent id (given old.number gave) gave [] old new before after
 
 -- none yet
-pub in_hand_none : (id : List ℕ) (old : PortView) (before : LinkState) → InHand id 0 None old old before before
-in_hand_none id old before = record {
+pub so_far_none : (id : List ℕ) (old : PortView) (before : LinkState) → SentSoFar id 0 None old old before before
+so_far_none id old before = record {
   gave = [];
   count = refl;
   last_is = refl;
@@ -45,35 +45,18 @@ last_of_more : (ps : List Stored) (p : Stored) → last_of (ps ++ p ∷ []) ≡ 
 last_of_more [] p = refl
 last_of_more (q ∷ ps) p = ap (λ (time : ℕ). Some time) (last_time_of q.time ps p)
 
--- an order stopped with no packet more: it was aborted where there was no memory
+-- an order stopped with these calls and no packet more
+unsent_stops : (id : List ℕ) (stop : Stop) (calls : List Entry) (a b : PortView) (l : LinkState) → b ≡ with_calls a calls → StopsAs stop a.number [] [] calls → OrderStopped id 1 stop a b l l
+unsent_stops id stop calls a b l port stops = record { sent = []; unsent = []; calls = calls; most = omega arith; has_sent = called id calls a b l port; stops = stops }
+
+-- it was aborted where there was no memory
 pub no_memory_stops : (id : List ℕ) (stop : Stop) (a b : PortView) (l : LinkState) → AbortsAs NoMemory stop a b → OrderStopped id 1 stop a b l l
-no_memory_stops id (Broken why) a b l aborts = record {
-  sent = [];
-  unsent = [];
-  calls = aborted a.number ∷ [];
-  most = omega arith;
-  has_sent = called id (aborted a.number ∷ []) a b l aborts.1;
-  stops = (refl, ap unsent_at (sym aborts.0));
-}
-no_memory_stops id Refused a b l aborts = record {
-  sent = [];
-  unsent = [];
-  calls = aborts.0;
-  most = omega arith;
-  has_sent = called id aborts.0 a b l aborts.1;
-  stops = aborts.2;
-}
+no_memory_stops id (Broken why) a b l aborts = unsent_stops id (Broken why) (aborted a.number ∷ []) a b l aborts.1 (refl, ap unsent_at (sym aborts.0))
+no_memory_stops id Refused a b l aborts = unsent_stops id Refused aborts.0 a b l aborts.1 aborts.2
 
 -- a next was refused
 pub refused_stops : (id : List ℕ) (fault : Fault) (a b : PortView) (l : LinkState) → b ≡ with_call a Next (reply.Given (Err fault)) → OrderStopped id 1 Refused a b l l
-refused_stops id fault a b l port = record {
-  sent = [];
-  unsent = [];
-  calls = entry a.number Next (reply.Given (Err fault)) ∷ [];
-  most = omega arith;
-  has_sent = called id (entry a.number Next (reply.Given (Err fault)) ∷ []) a b l port;
-  stops = next_refused a.number fault;
-}
+refused_stops id fault a b l port = unsent_stops id Refused (entry a.number Next (reply.Given (Err fault)) ∷ []) a b l port (next_refused a.number fault)
 
 -- the link did not take a packet
 module _ (id : List ℕ) (p : Stored) (a b c : PortView) (l m : LinkState) (gave : b ≡ with_call a Next (reply.Given (Ok (Some p))))
@@ -118,54 +101,54 @@ stops_after (Broken why) seat before sent unsent calls stops =
     (ap (λ (x : List Entry). given seat before ++ x) stops.0 ∙ all, stops.1)
 stops_after Refused seat before sent unsent calls stops = after_given seat before calls stops
 
-module _ (id : List ℕ) (many : ℕ) (last : Option ℕ) (a b c : PortView) (l m n : LinkState) (hand : InHand id many last a b l m) where
+module _ (id : List ℕ) (many : ℕ) (last : Option ℕ) (a b c : PortView) (l m n : LinkState) (so_far : SentSoFar id many last a b l m) where
   number : b.number ≡ a.number
-  number = number_stays id _ _ [] a b l m hand.has_sent
+  number = number_stays id _ _ [] a b l m so_far.has_sent
 
   -- a packet more
-  pub in_hand_more : (p : Stored) → SentNext id (Some p) b c m n → InHand id (many + 1) (Some p.time) a c l n
-  in_hand_more p next =
+  pub so_far_more : (p : Stored) → SentNext id (Some p) b c m n → SentSoFar id (many + 1) (Some p.time) a c l n
+  so_far_more p next =
       let P : ℕ → Type 0 = λ k. HasSent id (given k (p ∷ [])) (p ∷ []) [] b c m n in
-      let goes = went_on id (given a.number hand.gave) (given a.number (p ∷ [])) hand.gave (p ∷ []) [] a b c l m n hand.has_sent (subst P number next) in
+      let goes = went_on id (given a.number so_far.gave) (given a.number (p ∷ [])) so_far.gave (p ∷ []) [] a b c l m n so_far.has_sent (subst P number next) in
       record {
-        gave = hand.gave ++ p ∷ [];
-        count = omega (arith, hand.count, length-append hand.gave (p ∷ []));
-        last_is = sym (last_of_more hand.gave p);
-        has_sent = rw (given_more a.number hand.gave (p ∷ [])) goes;
+        gave = so_far.gave ++ p ∷ [];
+        count = omega (arith, so_far.count, length-append so_far.gave (p ∷ []));
+        last_is = sym (last_of_more so_far.gave p);
+        has_sent = rw (given_more a.number so_far.gave (p ∷ [])) goes;
       }
 
   -- the order stopped
-  pub in_hand_stopped : (wanted : ℕ) (stop : Stop) → many < wanted → OrderStopped id 1 stop b c m n → OrderStopped id wanted stop a c l n
-  in_hand_stopped wanted stop fewer after =
+  pub so_far_stopped : (wanted : ℕ) (stop : Stop) → many < wanted → OrderStopped id 1 stop b c m n → OrderStopped id wanted stop a c l n
+  so_far_stopped wanted stop fewer after =
       let P : ℕ → Type 0 = λ k. StopsAs stop k after.sent after.unsent after.calls in
       record {
-        sent = hand.gave ++ after.sent;
+        sent = so_far.gave ++ after.sent;
         unsent = after.unsent;
-        calls = given a.number hand.gave ++ after.calls;
-        most = omega (arith, hand.count, after.most, length-append (hand.gave ++ after.sent) after.unsent, length-append hand.gave after.sent, length-append after.sent after.unsent);
-        has_sent = went_on id (given a.number hand.gave) after.calls hand.gave after.sent after.unsent a b c l m n hand.has_sent after.has_sent;
-        stops = stops_after stop a.number hand.gave after.sent after.unsent after.calls (subst P number after.stops);
+        calls = given a.number so_far.gave ++ after.calls;
+        most = omega (arith, so_far.count, after.most, length-append (so_far.gave ++ after.sent) after.unsent, length-append so_far.gave after.sent, length-append after.sent after.unsent);
+        has_sent = went_on id (given a.number so_far.gave) after.calls so_far.gave after.sent after.unsent a b c l m n so_far.has_sent after.has_sent;
+        stops = stops_after stop a.number so_far.gave after.sent after.unsent after.calls (subst P number after.stops);
       }
 
   -- the retrieval came to its end
-  pub in_hand_over : (wanted : ℕ) → many < wanted → SentNext id None b c m n → SentAll id wanted last true a c l n
-  in_hand_over wanted fewer next =
+  pub so_far_over : (wanted : ℕ) → many < wanted → SentNext id None b c m n → SentAll id wanted last true a c l n
+  so_far_over wanted fewer next =
       let P : ℕ → Type 0 = λ k. HasSent id (end_where k true) [] [] b c m n in
-      let goes = went_on id (given a.number hand.gave) (end_where a.number true) hand.gave [] [] a b c l m n hand.has_sent (subst P number next) in
+      let goes = went_on id (given a.number so_far.gave) (end_where a.number true) so_far.gave [] [] a b c l m n so_far.has_sent (subst P number next) in
       record {
-        gave = hand.gave;
-        most = omega (arith, hand.count);
-        fewer = sym (lt-ltb (length hand.gave) wanted (omega (arith, hand.count)));
-        last_is = hand.last_is;
-        has_sent = rw (append-nil hand.gave) at goes;
+        gave = so_far.gave;
+        most = omega (arith, so_far.count);
+        fewer = sym (lt-ltb (length so_far.gave) wanted (omega (arith, so_far.count)));
+        last_is = so_far.last_is;
+        has_sent = rw (append-nil so_far.gave) at goes;
       }
 
 -- all wanted were given
-pub in_hand_all : (id : List ℕ) (many : ℕ) (last : Option ℕ) (a b : PortView) (l m : LinkState) → InHand id many last a b l m → SentAll id many last false a b l m
-in_hand_all id many last a b l m hand = record {
-  gave = hand.gave;
-  most = omega (arith, hand.count);
-  fewer = sym (le-ltb (length hand.gave) many (omega (arith, hand.count)));
-  last_is = hand.last_is;
-  has_sent = rw (append-nil (given a.number hand.gave)) hand.has_sent;
+pub so_far_all : (id : List ℕ) (many : ℕ) (last : Option ℕ) (a b : PortView) (l m : LinkState) → SentSoFar id many last a b l m → SentAll id many last false a b l m
+so_far_all id many last a b l m so_far = record {
+  gave = so_far.gave;
+  most = omega (arith, so_far.count);
+  fewer = sym (le-ltb (length so_far.gave) many (omega (arith, so_far.count)));
+  last_is = so_far.last_is;
+  has_sent = rw (append-nil (given a.number so_far.gave)) so_far.has_sent;
 }
