@@ -1,6 +1,6 @@
 -- The place of the one store with an identifier.
 use Rattle.std.proofs.Common.{◌≡◌, ◌≢◌, ◌⊎◌, inl, inr, ℕ, ◌<◌, ◌≤◌, Bool, true, false, cond, ltb, List, [], ◌∷◌, length, get_or, refl, sym, subst, ap, ◌∙◌, length-set, get_or-set_same, get_or-set_other, arith}
-use Rattle.std.specs.Prelude.{bytes_eq, if◌then◌else◌, slice_get, Option, Some, None, MatchOption, AllPairs}
+use Rattle.std.specs.Prelude.{bytes_eq, if◌then◌else◌, slice_get, Option, Some, None, MatchOption, IfSome, AllPairs}
 use Rattle.std.specs.List.{position_or_len, find}
 use Rattle.std.proofs.Math.ListN.{set}
 use Rattle.std.proofs.lemmas.Bool.{cases_order}
@@ -23,6 +23,12 @@ stands_at_first id stores r e =
     by_test false h =
         let past : length stores ≤ position_or_len (has_id id) stores = grind (arith, nat_tests) in
         find_at (has_id id) stores ∙ slice_get_past stores (position_or_len (has_id id) stores) past
+
+-- the first place that passes is no other
+pub is_first : (p : Held → Bool) (stores : List Held) (r : Option ℕ) → r ≡ cond (ltb (position_or_len p stores) (length stores)) (Some (position_or_len p stores)) None → IfSome r (λ place. place ≡ position_or_len p stores)
+is_first p stores r e =
+    let P : Option ℕ → Type 0 = λ o. IfSome o (λ place. place ≡ position_or_len p stores) in
+    subst P (sym e) (elim (ltb (position_or_len p stores) (length stores)) as (λ t. P (cond t (Some (position_or_len p stores)) None)) [ true ↦ refl | false ↦ tt ])
 
 -- an identifier is itself, and no other
 same_id : (a b : List ℕ) → bytes_eq a b ≡ true → a ≡ b

@@ -1,6 +1,7 @@
 -- Reports for the instructions that are accepted.
-use Rattle.std.proofs.Common.{◌≡◌, ℕ, ◌+◌, ◌<◌, List, [], ◌∷◌, ◌++◌, length, get_or, take, refl, ap, ◌∙◌, append-nil}
+use Rattle.std.proofs.Common.{◌≡◌, ℕ, suc, ◌+◌, ◌<◌, ◌≤◌, List, [], ◌∷◌, ◌++◌, length, get_or, take, refl, ap, ◌∙◌, append-nil, arith}
 use Rattle.std.specs.Prelude.{filter_map, Option, Some, None}
+use Rattle.std.specs.List.{cons_option}
 use Rattle.std.proofs.lemmas.List.{take_more}
 use Rattle.std.proofs.lemmas.List.Elements.{filter_map-append}
 
@@ -17,3 +18,13 @@ filter_map_some f xs i d y inside some =
     ap (filter_map f) (take_more xs i d inside)
     ∙ filter_map-append f (take i xs) (get_or xs i d ∷ [])
     ∙ rw some refl
+
+-- one element more at the most
+length-cons_option : {Y : Type 0} (o : Option Y) (ys : List Y) (n : ℕ) → length ys ≤ n → length (cons_option o ys) ≤ suc n
+length-cons_option None ys n few = omega arith
+length-cons_option (Some y) ys n few = omega arith
+
+-- no more elements than before
+pub length-filter_map : {X Y : Type 0} (f : X → Option Y) (xs : List X) → length (filter_map f xs) ≤ length xs
+length-filter_map f [] = omega arith
+length-filter_map f (x ∷ xs) = length-cons_option (f x) (filter_map f xs) (length xs) (length-filter_map f xs)

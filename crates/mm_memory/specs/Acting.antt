@@ -6,8 +6,8 @@ use Rattle.mm_desk.specs.Machine.{State, begin, abort, delete, step}
 use Rattle.mm_desk.specs.Rest.{rest_fault, resize_fault}
 use Rattle.mm_memory.specs.declared.fault.Fault.{Fault}
 use Rattle.mm_desk.specs.declared.held.Held.{Held}
-use Rattle.mm_memory.specs.declared.instruction.Change.{Change}
-use Rattle.mm_memory.specs.declared.instruction.Change.TheVariants.{Enable, Disable, Begin, Abort, DeleteContent, Resize, SetKind, SetChannel}
+use Rattle.mm_memory.specs.declared.instruction.StoreChange.{StoreChange}
+use Rattle.mm_memory.specs.declared.instruction.StoreChange.TheVariants.{Enable, Disable, Begin, Abort, DeleteContent, Resize, SetKind, SetChannel}
 use Rattle.mm_memory.specs.Fault.{of_state}
 
 -- done, or a refusal
@@ -34,7 +34,7 @@ abbrev pub answered : {A : Type 0} → Held → Result A StateFault × State →
 answered h told = (outcome_of told.0, record h { state = told.1 })
 
 -- what a store answers to a change, and the store that it leaves
-abbrev pub act : Change → Held → Outcome × Held
+abbrev pub act : StoreChange → Held → Outcome × Held
 act Enable h = (Ok tt, record h { state = (step h.state event.Enable).1 })
 act Disable h = (Ok tt, record h { state = (step h.state event.Disable).1 })
 act (Begin from to) h = answered h (begin h.state from to)
@@ -45,7 +45,7 @@ act (SetKind kind) h = done_or (refusal_of (rest_fault h.state)) (record h { sta
 act (SetChannel channel) h = done_or (refusal_of (rest_fault h.state)) (record h { channel = channel }) h
 
 -- a change that may find no memory; the kind that a store has takes none
-abbrev pub TakesMemory : Change → Held → Type 0
+abbrev pub TakesMemory : StoreChange → Held → Type 0
 TakesMemory (Resize size) h = Unit {0}
 TakesMemory (SetKind kind) h = kind ≢ h.state.store.kind
 TakesMemory other h = ⊥

@@ -13,7 +13,7 @@ use Rattle.mm_memory.specs.declared.answer.Answer.TheVariants.{Done, Refused}
 use Rattle.mm_memory.specs.declared.fault.Fault.{Fault}
 use Rattle.mm_memory.specs.declared.fault.Fault.TheVariants.{NoMemory, NoSuchStore, Exists, TooManyStores, Control}
 use Rattle.mm_desk.specs.declared.held.Held.{Held}
-use Rattle.mm_memory.specs.declared.instruction.Form.{Form}
+use Rattle.mm_memory.specs.declared.instruction.StoreConfig.{StoreConfig}
 use Rattle.mm_memory.specs.declared.instruction.Action.{Action}
 use Rattle.mm_memory.specs.declared.instruction.Action.TheVariants.{Create, Delete, Route, Report, Change as Changes}
 use Rattle.mm_memory.specs.declared.instruction.RouteChange.{RouteChange}
@@ -27,8 +27,8 @@ abbrev pub route_to : List ℕ → Row → RouteRow
 route_to id row = record { apid = row.apid; service = row.service; subtype = row.subtype; store = id }
 
 -- a new store: empty, and its storage off
-abbrev pub new_store : List ℕ → Form → Held
-new_store id form = record { id = id; channel = form.channel; state = opening (empty_store form.kind form.size) }
+abbrev pub new_store : List ℕ → StoreConfig → Held
+new_store id config = record { id = id; channel = config.channel; state = opening (empty_store config.kind config.size) }
 
 -- the stores without the one with this identifier
 abbrev pub without : List ℕ → List Held → List Held
@@ -39,12 +39,12 @@ abbrev pub done_if : Bool → Fault → Outcome
 done_if passed reason = if passed then Ok tt else Err reason
 
 -- a store that is not there may be created, and then stands last
-abbrev pub created : List ℕ → Form → Holdings → Outcome × Holdings
-created id form m = done_or (done_if (nat_lt (length m.stores) MAX_STORES) TooManyStores) (record m { stores = m.stores ++ new_store id form ∷ [] }) m
+abbrev pub created : List ℕ → StoreConfig → Holdings → Outcome × Holdings
+created id config m = done_or (done_if (nat_lt (length m.stores) MAX_STORES) TooManyStores) (record m { stores = m.stores ++ new_store id config ∷ [] }) m
 
 -- an action for a store that is not there
 abbrev pub on_no_store : List ℕ → Action → Holdings → Outcome × Holdings
-on_no_store id (Create form) m = created id form m
+on_no_store id (Create config) m = created id config m
 on_no_store id other m = (Err NoSuchStore, m)
 
 -- a store that is at rest is deleted, and its routes with it
@@ -62,7 +62,7 @@ routed DeleteRow row m = done_or (done_if (has_row row m.routes) (Control NoSuch
 
 -- an action for a store that is there
 abbrev pub on_store : List ℕ → Action → Held → Holdings → Outcome × Holdings
-on_store id (Create form) h m = (Err Exists, m)
+on_store id (Create config) h m = (Err Exists, m)
 on_store id Delete h m = deleted id h m
 on_store id (Route change row) h m = routed change (route_to id row) m
 on_store id Report h m = (Ok tt, m)
@@ -80,7 +80,7 @@ apply (Err reason) m = (Err reason, m)
 
 -- an action that may find no memory, for the store with this identifier, where there is one
 abbrev pub MayLack : Action → Option Held → Type 0
-MayLack (Create form) store = Unit {0}
+MayLack (Create config) store = Unit {0}
 MayLack (Changes change) (Some h) = TakesMemory change h
 MayLack other store = ⊥
 

@@ -19,7 +19,7 @@ use Rattle.mm_memory.specs.declared.fault.Fault.TheVariants.{BadId, BadEnum, Bad
 use Rattle.mm_memory.specs.declared.instruction.Instruction.{Instruction}
 use Rattle.mm_memory.specs.declared.instruction.Action.{Action}
 use Rattle.mm_memory.specs.declared.instruction.Action.TheVariants.{Create, Delete, Route, Report, Change as Changes}
-use Rattle.mm_memory.specs.declared.instruction.Change.TheVariants.{Enable, Disable, Begin, Abort, DeleteContent, Resize, SetKind, SetChannel}
+use Rattle.mm_memory.specs.declared.instruction.StoreChange.TheVariants.{Enable, Disable, Begin, Abort, DeleteContent, Resize, SetKind, SetChannel}
 use Rattle.mm_memory.specs.declared.instruction.RouteChange.{RouteChange}
 use Rattle.mm_memory.specs.declared.instruction.RouteChange.TheVariants as route
 

@@ -12,7 +12,7 @@ ghost use Rattle.mm_memory.specs.Instruction.{instructions_of};
 use crate::answer::{Answer, Answers};
 use crate::change::change_store;
 use crate::fault::Fault;
-use crate::instruction::{Action, Change, Form, Instruction, RouteChange};
+use crate::instruction::{Action, Instruction, RouteChange, StoreChange, StoreConfig};
 use crate::memory::Memory;
 use crate::places::place_of;
 use crate::request::instructions_of;
@@ -23,13 +23,13 @@ use mm_store::AnyStore;
 use std::alloc::Global;
 
 // A new store, empty, with its storage off.
-fn new_store(alloc: Global, id: StoreId, form: &Form) -> Result<Held, NoMemory>
-    ensures { IfOk result (λ held. held ≡ new_store id form.now) }
+fn new_store(alloc: Global, id: StoreId, config: &StoreConfig) -> Result<Held, NoMemory>
+    ensures { IfOk result (λ held. held ≡ new_store id config.now) }
 {
-    let store = AnyStore::new(alloc, form.kind, form.size.count())?;
+    let store = AnyStore::new(alloc, config.kind, config.size.count())?;
     Ok(Held {
         id,
-        channel: form.channel,
+        channel: config.channel,
         state: StoreState::of(store),
     })
 }
@@ -55,15 +55,15 @@ impl Memory {
     }
 
     // Creates a store that is not there.
-    fn create(&mut self, alloc: Global, id: StoreId, form: &Form) -> Result<(), Fault>
+    fn create(&mut self, alloc: Global, id: StoreId, config: &StoreConfig) -> Result<(), Fault>
         requires { store_of id self.old.stores ≡ None }
-        ensures { ComesUnlessNoMemory (Unit {0}) (created id form.now self.old)
+        ensures { ComesUnlessNoMemory (Unit {0}) (created id config.now self.old)
             self.old (result, self.new) }
     {
         if self.stores.len() >= MAX_STORES {
             return Err(Fault::TooManyStores);
         }
-        let held = new_store(alloc, id, form)?;
+        let held = new_store(alloc, id, config)?;
         match self.stores.push(held) {
             Ok(()) => Ok(()),
             Err(_) => Err(Fault::NoMemory),
@@ -91,7 +91,7 @@ impl Memory {
     }
 
     // Changes the store at this place.
-    fn change(&mut self, place: usize, id: &StoreId, change: &Change) -> Result<(), Fault>
+    fn change(&mut self, place: usize, id: &StoreId, change: &StoreChange) -> Result<(), Fault>
         requires { StandsAt id.now self.old.stores place }
         ensures { (h : Held) → store_of id.now self.old.stores ≡ Some h
             → ComesUnlessNoMemory (TakesMemory change.now h)
@@ -134,7 +134,7 @@ impl Memory {
             self.old (result, self.new) }
     {
         match action {
-            Action::Create(form) => self.create(alloc, id, form),
+            Action::Create(config) => self.create(alloc, id, config),
             _ => Err(Fault::NoSuchStore),
         }
     }

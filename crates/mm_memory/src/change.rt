@@ -4,45 +4,45 @@ ghost use Rattle.mm_memory.specs.Acting.{act, TakesMemory};
 ghost use Rattle.mm_memory.specs.Applying.{ComesUnlessNoMemory};
 
 use crate::fault::Fault;
-use crate::instruction::Change;
+use crate::instruction::StoreChange;
 use mm_desk::Held;
 
 // Changes a store, which keeps its identifier.
-pub(crate) fn change_store(held: &mut Held, change: &Change) -> Result<(), Fault>
+pub(crate) fn change_store(held: &mut Held, change: &StoreChange) -> Result<(), Fault>
     ensures done { ComesUnlessNoMemory (TakesMemory change.now held.old) (act change.now held.old)
         held.old (result, held.new) }
     ensures same_id { held.new.id ≡ held.old.id }
 {
     match change {
-        Change::Enable => {
+        StoreChange::Enable => {
             held.state.enable();
             Ok(())
         }
-        Change::Disable => {
+        StoreChange::Disable => {
             held.state.disable();
             Ok(())
         }
-        Change::Begin(from, to) => {
+        StoreChange::Begin(from, to) => {
             held.state.begin(*from, *to)?;
             Ok(())
         }
-        Change::Abort => {
+        StoreChange::Abort => {
             held.state.abort()?;
             Ok(())
         }
-        Change::DeleteContent(limit) => {
+        StoreChange::DeleteContent(limit) => {
             let _count = held.state.delete(*limit)?;
             Ok(())
         }
-        Change::Resize(size) => {
+        StoreChange::Resize(size) => {
             held.state.resize(size.count())?;
             Ok(())
         }
-        Change::SetKind(kind) => {
+        StoreChange::SetKind(kind) => {
             held.state.change_kind(*kind)?;
             Ok(())
         }
-        Change::SetChannel(channel) => {
+        StoreChange::SetChannel(channel) => {
             held.state.at_rest()?;
             held.channel = *channel;
             Ok(())

@@ -19,7 +19,7 @@ pub(crate) struct Instruction {
 #[derive(Clone, Copy)]
 pub(crate) enum Action {
     // Create the store.
-    Create(Form),
+    Create(StoreConfig),
     // Delete it.
     Delete,
     // Change its storage control by a report type.
@@ -27,7 +27,7 @@ pub(crate) enum Action {
     // Report on it.
     Report,
     // Change it.
-    Change(Change),
+    Change(StoreChange),
 }
 
 // Whether a report type is added to the storage control, or deleted.
@@ -39,7 +39,7 @@ pub(crate) enum RouteChange {
 
 // A store to be created.
 #[derive(Clone, Copy)]
-pub(crate) struct Form {
+pub(crate) struct StoreConfig {
     pub(crate) size: Blocks,
     pub(crate) kind: Kind,
     pub(crate) channel: u8,
@@ -47,7 +47,7 @@ pub(crate) struct Form {
 
 // A change of one store.
 #[derive(Clone, Copy)]
-pub(crate) enum Change {
+pub(crate) enum StoreChange {
     // Switch storage on, or off.
     Enable,
     Disable,

@@ -12,10 +12,11 @@ mod places;
 mod reports;
 mod request;
 mod setup;
-mod testing;
+mod validation;
 
 pub use answer::{Answer, Answers};
 pub use fault::Fault;
 pub use memory::Memory;
 pub use mm_base::NoMemory;
 pub use mm_desk::Held;
+pub use places::place_of;

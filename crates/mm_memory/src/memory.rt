@@ -52,6 +52,7 @@ impl Memory {
     }
 
     /// The state of the store with this identifier.
+    #[must_use]
     pub fn state(&self, id: &StoreId) -> Option<&StoreState>
         ensures state { option_copied result ≡ state_of id.now self.now }
     {
@@ -72,6 +73,7 @@ impl Memory {
     }
 
     /// The identifier and the virtual channel of the store at this place, counted from 0.
+    #[must_use]
     pub fn entry(&self, place: u32) -> Option<(StoreId, u8)>
         ensures entry { result ≡ option_map (λ h. (h.id, h.channel)) (slice_get self.now.stores place) }
     {
@@ -80,6 +82,7 @@ impl Memory {
     }
 
     /// The stores, in order.
+    #[must_use]
     pub fn stores(&self) -> &[Held]
         ensures stores { result.now ≡ self.now.stores }
         ensures are_held { AreHeld self.now.stores }
@@ -88,6 +91,7 @@ impl Memory {
     }
 
     /// The storage control.
+    #[must_use]
     pub fn control(&self) -> &ControlTable
         ensures rows { result.now ≡ self.now.routes }
     {
@@ -95,6 +99,7 @@ impl Memory {
     }
 
     /// Takes out all stores, in order, and leaves the storage control.
+    #[must_use]
     pub fn lift(&mut self) -> Vec<Held>
         ensures stores { result.items ≡ self.old.stores }
         ensures are_held { AreHeld self.old.stores }

@@ -1,13 +1,16 @@
 //! Where a store stands.
-ghost use Rattle.std.specs.Prelude.{◌≡◌, None, MatchOption};
-ghost use Rattle.mm_memory.specs.Holdings.{StandsAt, store_of};
+ghost use Rattle.std.specs.Prelude.{◌≡◌, None, MatchOption, IfSome};
+ghost use Rattle.std.specs.List.{position_or_len};
+ghost use Rattle.mm_memory.specs.Holdings.{StandsAt, has_id, store_of};
 
 use mm_base::StoreId;
 use mm_desk::Held;
 
-// The place of the store with this identifier.
-pub(crate) fn place_of(stores: &[Held], id: &StoreId) -> Option<usize>
-    ensures { MatchOption result (store_of id.now stores.now ≡ None) (λ place. StandsAt id.now stores.now place) }
+/// The place of the store with this identifier, from 0.
+#[must_use]
+pub fn place_of(stores: &[Held], id: &StoreId) -> Option<usize>
+    ensures stands { MatchOption result (store_of id.now stores.now ≡ None) (λ place. StandsAt id.now stores.now place) }
+    ensures first { IfSome result (λ place. place ≡ position_or_len (has_id id.now) stores.now) }
 {
     stores.iter().position(|held| held.id == *id)
 }

@@ -4,10 +4,10 @@ ghost use Rattle.std.specs.Option.{option_copied};
 ghost use Rattle.mm_st15.specs.Report.{HasCount};
 ghost use Rattle.mm_st15.specs.Request.{count_of};
 ghost use Rattle.mm_st15.specs.declared.report.TheConstants.{MOST_ROWS};
-ghost use Rattle.mm_memory.specs.Reports.{status_of, types_to, summary_of, statuses_of, configuration_of, asked_about, summary_at, control_at, reports_on};
+ghost use Rattle.mm_memory.specs.Reports.{status_of, types_to, summary_of, asked_about, summary_at, control_at, reports_on};
 
 use crate::memory::Memory;
-use crate::testing::id_of;
+use crate::validation::id_of;
 use mm_base::{NoMemory, StoreId};
 use mm_desk::Held;
 use mm_st15::{Configuration, Entries, Report, Request, Row, Status, Summary, Target};
@@ -33,25 +33,44 @@ fn summary_of(held: &Held) -> Summary
     }
 }
 
-fn statuses_of(held: &Held) -> Status
-    ensures { result ≡ statuses_of held.now }
-{
-    Status {
-        id: held.id.field(),
-        storage: status_of(held.state.storage()),
-        retrieval: status_of(held.state.retrieval().is_some()),
+// An entry of a report on each store.
+trait OfStore: Copy {
+    ghost use Rattle.mm_desk.specs.declared.held.Held.{Held};
+
+    // What it tells of a store.
+    ghost told: { Held → Self };
+
+    fn of(held: &Held) -> Self
+        ensures { result ≡ Self.told held.now };
+}
+
+impl OfStore for Status {
+    ghost use Rattle.mm_memory.specs.Reports.{statuses_of};
+
+    ghost told = { statuses_of };
+
+    fn of(held: &Held) -> Status {
+        Status {
+            id: held.id.field(),
+            storage: status_of(held.state.storage()),
+            retrieval: status_of(held.state.retrieval().is_some()),
+        }
     }
 }
 
-fn configuration_of(held: &Held) -> Configuration
-    ensures { result ≡ configuration_of held.now }
-{
-    let store = held.state.store();
-    Configuration {
-        id: held.id.field(),
-        size: store.size(),
-        kind: store.kind().code(),
-        channel: held.channel,
+impl OfStore for Configuration {
+    ghost use Rattle.mm_memory.specs.Reports.{configuration_of};
+
+    ghost told = { configuration_of };
+
+    fn of(held: &Held) -> Configuration {
+        let store = held.state.store();
+        Configuration {
+            id: held.id.field(),
+            size: store.size(),
+            kind: store.kind().code(),
+            channel: held.channel,
+        }
     }
 }
 
@@ -90,13 +109,10 @@ impl Memory {
             (λ entries. entries.items ≡ filter_map (summary_at self.now) targets.now) }
         ensures few { IfOk result (λ entries. length entries.items ≤ length targets.now) }
     {
-        let mut all = Vec::new(alloc);
-        for target in targets {
-            match self.summary_at(target) {
-                Some(summary) => all.push(summary)?,
-                None => {}
-            }
-        }
+        let all = targets
+            .iter()
+            .filter_map(|target| self.summary_at(target))
+            .collect(alloc)?;
         Ok(all)
     }
 
@@ -179,42 +195,23 @@ impl Memory {
                 one(alloc, Report::Summaries { moment, entries })
             }
             Request::ReportStatus => {
-                let entries = Entries::new(self.statuses(alloc)?);
+                let entries = self.entries::<Status>(alloc)?;
                 one(alloc, Report::Statuses { moment, entries })
             }
             Request::ReportConfiguration => {
-                let entries = Entries::new(self.configurations(alloc)?);
+                let entries = self.entries::<Configuration>(alloc)?;
                 one(alloc, Report::Configurations { moment, entries })
             }
             _ => Ok(Vec::new(alloc)),
         }
     }
 
-    // The statuses of the stores, in order.
-    fn statuses(&self, alloc: Global) -> Result<Vec<Status>, NoMemory>
-        ensures entries { IfOk result
-            (λ entries. entries.items ≡ map statuses_of self.now.stores) }
-        ensures few { IfOk result (λ entries. length entries.items < 256) }
+    // The entries on the stores, in order.
+    fn entries<T: OfStore>(&self, alloc: Global) -> Result<Entries<T>, NoMemory>
+        ensures entries { IfOk result (λ entries. entries ≡ map T.told self.now.stores) }
+        ensures few { IfOk result (λ entries. length entries < 256) }
     {
-        let all = self
-            .stores
-            .iter()
-            .map(|held| statuses_of(held))
-            .collect(alloc)?;
-        Ok(all)
-    }
-
-    // The configurations of the stores, in order.
-    fn configurations(&self, alloc: Global) -> Result<Vec<Configuration>, NoMemory>
-        ensures entries { IfOk result
-            (λ entries. entries.items ≡ map configuration_of self.now.stores) }
-        ensures few { IfOk result (λ entries. length entries.items < 256) }
-    {
-        let all = self
-            .stores
-            .iter()
-            .map(|held| configuration_of(held))
-            .collect(alloc)?;
-        Ok(all)
+        let all: Vec<T> = self.stores.iter().map(|held| T::of(held)).collect(alloc)?;
+        Ok(Entries::new(all))
     }
 }

@@ -1,29 +1,40 @@
 //! The instructions of a request.
 ghost use Rattle.std.specs.Prelude.{◌≡◌, map, IfOk};
-ghost use Rattle.mm_memory.specs.Instruction.{parsed, instructions_of};
+ghost use Rattle.mm_memory.specs.Instruction.{for_targets, instructions_of};
+ghost use Rattle.mm_memory.specs.declared.instruction.Action.TheVariants.{Change as Changes};
 
 use crate::fault::Fault;
-use crate::instruction::{Action, Change, Instruction, RouteChange};
-use crate::testing::{Fields, parsed};
+use crate::instruction::{Action, Instruction, RouteChange, StoreChange};
+use crate::validation::Validate;
 use mm_base::{Kind, NoMemory};
-use mm_st15::{Entries, Request};
+use mm_st15::{Entries, Request, Target};
 use std::alloc::Global;
 
 // The instructions with these fields, in order, or the test that one fails.
-fn each<E: Fields>(
+fn each<E: Validate>(
     alloc: Global,
     entries: &Entries<E>,
-    ask: E::Ask,
+    context: E::Context,
 ) -> Result<Vec<Result<Instruction, Fault>>, NoMemory>
-    ensures { IfOk result (λ all. all.items
-        ≡ map (λ e. parsed (E.id e) (E.action ask e)) entries.now) }
+    ensures { IfOk result (λ all. all.items ≡ map (E.validated context) entries.now) }
 {
     let all = entries
         .as_slice()
         .iter()
-        .map(|fields| parsed(fields, ask))
+        .map(|fields| fields.validate(context))
         .collect(alloc)?;
     Ok(all)
+}
+
+// The same change of each store that is named.
+fn change_each(
+    alloc: Global,
+    targets: &Entries<Target>,
+    change: StoreChange,
+) -> Result<Vec<Result<Instruction, Fault>>, NoMemory>
+    ensures { IfOk result (λ all. all.items ≡ for_targets (Changes change) targets.now) }
+{
+    each(alloc, targets, Action::Change(change))
 }
 
 // The instructions of a request, in order.
@@ -34,29 +45,29 @@ pub(crate) fn instructions_of(
     ensures { IfOk result (λ all. all.items ≡ instructions_of request.now) }
 {
     match request {
-        Request::EnableStorage(targets) => each(alloc, targets, Action::Change(Change::Enable)),
-        Request::DisableStorage(targets) => each(alloc, targets, Action::Change(Change::Disable)),
+        Request::EnableStorage(targets) => change_each(alloc, targets, StoreChange::Enable),
+        Request::DisableStorage(targets) => change_each(alloc, targets, StoreChange::Disable),
         Request::AddReportTypes(types) => each(alloc, types, RouteChange::Add),
         Request::DeleteReportTypes(types) => each(alloc, types, RouteChange::Delete),
         Request::ReportControl(targets) => each(alloc, targets, Action::Report),
         Request::StartRetrieval(ranges) => each(alloc, ranges, ()),
         Request::DeleteContent(limits) => each(alloc, limits, ()),
         Request::SummariseContent(targets) => each(alloc, targets, Action::Report),
-        Request::AbortRetrieval(targets) => each(alloc, targets, Action::Change(Change::Abort)),
+        Request::AbortRetrieval(targets) => change_each(alloc, targets, StoreChange::Abort),
         Request::ReportStatus => Ok(Vec::new(alloc)),
         Request::CreateStores(stores) => each(alloc, stores, ()),
         Request::DeleteStores(targets) => each(alloc, targets, Action::Delete),
         Request::ReportConfiguration => Ok(Vec::new(alloc)),
         Request::ResizeStores(sizes) => each(alloc, sizes, ()),
-        Request::ChangeToCircular(targets) => each(
+        Request::ChangeToCircular(targets) => change_each(
             alloc,
             targets,
-            Action::Change(Change::SetKind(Kind::Circular)),
+            StoreChange::SetKind(Kind::Circular),
         ),
-        Request::ChangeToBounded(targets) => each(
+        Request::ChangeToBounded(targets) => change_each(
             alloc,
             targets,
-            Action::Change(Change::SetKind(Kind::Bounded)),
+            StoreChange::SetKind(Kind::Bounded),
         ),
         Request::ChangeChannel(channels) => each(alloc, channels, ()),
     }

@@ -24,6 +24,7 @@ pub enum Status {
 
 impl Status {
     /// The code of the status.
+    #[must_use]
     pub fn code(self) -> u32
         ensures { result ≡ code_of_status self }
     {
@@ -45,6 +46,7 @@ pub struct Answer {
 
 impl Answer {
     /// The answer that a call is refused.
+    #[must_use]
     pub fn refused(reason: Reason) -> Answer
         ensures { result ≡ refused_answer reason }
     {
@@ -56,6 +58,7 @@ impl Answer {
     }
 
     /// The answer with a text of this length.
+    #[must_use]
     pub fn with_length(status: Status, length: usize) -> Answer
         ensures { result ≡ length_answer status length }
     {
@@ -76,6 +79,7 @@ fn write_text(text: &[u8], out: &mut [u8])
 }
 
 /// Writes a text into a buffer, if there is room for all of it, and answers so.
+#[must_use]
 pub fn tell_text(text: &[u8], out: &mut [u8]) -> Answer
     ensures answered { result ≡ text_answer text.now (length out.old) }
     ensures written { out.new ≡ put text.now out.old }

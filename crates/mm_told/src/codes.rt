@@ -116,6 +116,7 @@ pub static REFUSALS: [Refusal; 54] = [
 
 impl Place {
     /// The code of the place.
+    #[must_use]
     pub fn code(self) -> u32
         ensures { result ≡ code_of_place self }
     {
@@ -152,6 +153,7 @@ pub(crate) fn name_coded(code: u32) -> Option<Name>
 }
 
 /// The refusal with this number.
+#[must_use]
 pub fn refusal_numbered(number: u32) -> Option<Refusal>
     ensures { result ≡ slice_get REFUSALS number }
 {

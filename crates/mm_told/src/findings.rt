@@ -17,6 +17,7 @@ pub enum Finding {
 
 impl Finding {
     /// The words of this finding.
+    #[must_use]
     pub fn words(self) -> Words
         ensures expected { IsTrue (is_phrase result.expected.now) }
         ensures advice { IsTrue (is_phrase result.advice.now) }

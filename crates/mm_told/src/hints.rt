@@ -1,5 +1,14 @@
 //! What is found in the files of a task that is refused, for people: one line that says what to change.
 
+// Shows a case by its text: one row for each case.
+macro_rules! show_case {
+    ($hint:expr, $f:expr; $($case:pat => $text:literal $(, $shown:expr)?;)*) => {
+        match $hint {
+            $($case => write!($f, $text $(, $shown)?),)*
+        }
+    };
+}
+
 mod cells;
 mod ends;
 mod excerpt;
@@ -56,17 +65,18 @@ pub enum Hint {
     Ends(EndsHint),
 }
 
+// Shows what each of these cases holds.
+macro_rules! show_inner {
+    ($hint:expr, $f:expr; $($case:ident),*) => {
+        match $hint {
+            $(Hint::$case(inner) => fmt::Display::fmt(inner, $f),)*
+        }
+    };
+}
+
 impl fmt::Display for Hint {
     fn fmt<W: fmt::Write>(&self, f: &mut fmt::Formatter<W>) -> fmt::Result {
-        match self {
-            Hint::Form(hint) => write!(f, "{hint}"),
-            Hint::Setup(hint) => write!(f, "{hint}"),
-            Hint::Forecast(hint) => write!(f, "{hint}"),
-            Hint::Plan(hint) => write!(f, "{hint}"),
-            Hint::Fit(hint) => write!(f, "{hint}"),
-            Hint::Packet(hint) => write!(f, "{hint}"),
-            Hint::Ends(hint) => write!(f, "{hint}"),
-        }
+        show_inner!(self, f; Form, Setup, Forecast, Plan, Fit, Packet, Ends)
     }
 }
 
@@ -83,6 +93,7 @@ fn is_of_forecast(reason: Reason) -> bool {
 }
 
 /// What is found in the files of a task that is refused for this reason, if more can be said of it.
+#[must_use]
 pub fn hint_for(alloc: Global, reason: Reason, texts: Texts<'_>) -> Option<Hint> {
     if is_of_forecast(reason) {
         return forecast_hint(alloc, reason, texts);

@@ -15,6 +15,7 @@ pub struct Reason {
 
 impl Reason {
     /// Want of memory.
+    #[must_use]
     pub fn no_memory() -> Reason
         ensures { result ≡ no_memory }
     {
@@ -25,6 +26,7 @@ impl Reason {
     }
 
     /// A fault of the texts of a plan or of a verdict on one.
+    #[must_use]
     pub fn of_texts(fault: mm_cut::Fault) -> Reason
         ensures { result ≡ of_texts fault }
     {
@@ -35,6 +37,7 @@ impl Reason {
     }
 
     /// A fault of the setup of a conversation.
+    #[must_use]
     pub fn of_setup(fault: mm_problem::Fault) -> Reason
         ensures { result ≡ of_setup fault }
     {

@@ -35,6 +35,7 @@ impl RefusedAt {
     }
 
     /// What is told where nothing is refused: each field is 0.
+    #[must_use]
     pub fn nothing() -> RefusedAt
         ensures { result ≡ bare 0 Place.Whole }
     {
@@ -42,6 +43,7 @@ impl RefusedAt {
     }
 
     /// What is told of a reason. The reason is read back from it.
+    #[must_use]
     pub fn of(reason: Reason) -> RefusedAt
         ensures told { result ≡ told_of reason }
         ensures read_back { reason_told result ≡ Some reason }
@@ -101,6 +103,7 @@ impl RefusedAt {
     }
 
     /// The reason that is told, if the codes are those of one.
+    #[must_use]
     pub fn reason(&self) -> Option<Reason>
         ensures { result ≡ reason_told self.now }
     {

@@ -38,6 +38,7 @@ impl fmt::Display for Spot {
 }
 
 /// Where in the setup or the forecast a fault is.
+#[must_use]
 pub fn spot_in_problem(fault: mm_problem::Fault) -> Spot
     ensures { result ≡ spot_in_problem fault }
 {
@@ -51,6 +52,7 @@ pub fn spot_in_problem(fault: mm_problem::Fault) -> Spot
 }
 
 /// Where in a plan text a fault is.
+#[must_use]
 pub fn spot_in_plan(fault: mm_plan::Fault) -> Spot
     ensures { result ≡ spot_in_plan fault }
 {
@@ -61,6 +63,7 @@ pub fn spot_in_plan(fault: mm_plan::Fault) -> Spot
 }
 
 /// Where in the setup, the forecast or the plan text a fault is.
+#[must_use]
 pub fn spot_in_texts(fault: mm_cut::Fault) -> Spot
     ensures { result ≡ spot_in_texts fault }
 {

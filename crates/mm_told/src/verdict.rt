@@ -20,6 +20,7 @@ pub enum VerdictKind {
 
 impl VerdictKind {
     /// The code of the kind.
+    #[must_use]
     pub fn code(self) -> u32
         ensures { result ≡ code_of_kind self }
     {
@@ -51,6 +52,7 @@ impl VerdictTold {
     }
 
     /// What is told where there is no verdict: each field is 0.
+    #[must_use]
     pub fn nothing() -> VerdictTold
         ensures { result ≡ nothing_told }
     {
@@ -58,6 +60,7 @@ impl VerdictTold {
     }
 
     /// What is told of a verdict.
+    #[must_use]
     pub fn of(verdict: Verdict) -> VerdictTold
         ensures { result ≡ told_of verdict }
     {

@@ -18,6 +18,7 @@ pub struct Words {
 
 impl Words {
     /// The words of this refusal.
+    #[must_use]
     pub fn of(refusal: Refusal) -> Words
         ensures expected { IsTrue (is_phrase result.expected.now) }
         ensures advice { IsTrue (is_phrase result.advice.now) }
@@ -29,6 +30,7 @@ impl Words {
     }
 
     /// The words of the refusal with this number, if there is one.
+    #[must_use]
     pub fn of_number(number: u8) -> Option<Words>
         ensures expected { IfSome result (λ words. IsTrue (is_phrase words.expected.now)) }
         ensures advice { IfSome result (λ words. IsTrue (is_phrase words.advice.now)) }
@@ -115,7 +117,7 @@ fn expected(refusal: Refusal) -> &'static str
         }
         Refusal::BadSize => "a size from 1 to 1,000,000 blocks",
         Refusal::HexLine => {
-            "one telecommand in hexadecimal digits, two for each octet, and nothing after it"
+            "one packet in hexadecimal digits, two for each octet, and nothing after it"
         }
         Refusal::NotRead => "a file that is there, can be read and has at most 2^30 bytes",
         Refusal::SourcesText => {
@@ -200,7 +202,7 @@ fn advice(refusal: Refusal) -> &'static str
         }
         Refusal::BadSize => "choose another size",
         Refusal::HexLine => {
-            "write one telecommand a line, and compare its packet data length with its octets"
+            "write one packet a line, and compare its packet data length with its octets"
         }
         Refusal::NotRead =>
             "check its name and who may read it; the name - stands for the script on standard input",

@@ -33,23 +33,12 @@ pub enum EndsHint {
 
 impl fmt::Display for EndsHint {
     fn fmt<W: fmt::Write>(&self, f: &mut fmt::Formatter<W>) -> fmt::Result {
-        match self {
-            EndsHint::Sources { found } => write!(f, "the file of sources has {found} sources"),
-            EndsHint::Links { found } => write!(f, "the file of links says links {found}"),
-            EndsHint::NoRoute { store } => write!(
-                f,
-                "no route of the setup leads to {}, so no packet can come to it",
-                Excerpt::of(store.text())
-            ),
-            EndsHint::Opening {
-                store,
-                found,
-                start,
-            } => write!(
-                f,
-                "{found} packets of step 0 go to {}, and its start is {start}",
-                Excerpt::of(store.text())
-            ),
+        show_case! { self, f;
+            EndsHint::Sources { found } => "the file of sources has {found} sources";
+            EndsHint::Links { found } => "the file of links says links {found}";
+            EndsHint::NoRoute { store } => "no route of the setup leads to {}, so no packet can come to it", Excerpt::of_id(store);
+            EndsHint::Opening { store, found, start } =>
+                "{found} packets of step 0 go to {}, and its start is {start}", Excerpt::of_id(store);
         }
     }
 }
@@ -209,6 +198,7 @@ fn opening(setup: &Setup, row: &StoreRow, sources: &[u8]) -> EndsHint {
 }
 
 /// Why the store of this name holds another number of packets before a run than its start says.
+#[must_use]
 pub fn opening_hint(alloc: Global, texts: Texts<'_>, store: &str) -> Option<Hint> {
     let setup = Setup::read(alloc, texts.setup).ok()?;
     let row = setup

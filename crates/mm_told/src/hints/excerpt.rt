@@ -1,5 +1,6 @@
 //! A piece of a text, as a line quotes it.
 
+use mm_base::StoreId;
 use std::fmt::{self, Write};
 
 /// How many bytes of a text are quoted.
@@ -27,6 +28,11 @@ impl Excerpt {
         let mut excerpt = Excerpt::new();
         excerpt.push(text);
         excerpt
+    }
+
+    /// The text of an identifier.
+    pub(crate) fn of_id(id: &StoreId) -> Excerpt {
+        Excerpt::of(id.text())
     }
 
     /// Adds a text, as far as there is room.

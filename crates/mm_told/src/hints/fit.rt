@@ -26,24 +26,10 @@ pub enum FitHint {
 
 impl fmt::Display for FitHint {
     fn fmt<W: fmt::Write>(&self, f: &mut fmt::Formatter<W>) -> fmt::Result {
-        match self {
-            FitHint::Window {
-                step,
-                dumped,
-                window,
-            } => write!(
-                f,
-                "step {step} dumps {dumped} blocks, and its window is {window}"
-            ),
-            FitHint::Channel {
-                step,
-                dumped,
-                channel,
-                limit,
-            } => write!(
-                f,
-                "step {step} dumps {dumped} blocks on channel {channel}, whose limit is {limit}"
-            ),
+        show_case! { self, f;
+            FitHint::Window { step, dumped, window } => "step {step} dumps {dumped} blocks, and its window is {window}";
+            FitHint::Channel { step, dumped, channel, limit } =>
+                "step {step} dumps {dumped} blocks on channel {channel}, whose limit is {limit}";
         }
     }
 }
@@ -99,6 +85,7 @@ fn in_step(problem: &Problem, line: &str, step: u32) -> Option<FitHint> {
 }
 
 /// By how much a step of the plan text does not fit.
+#[must_use]
 pub fn fit_hint(alloc: Global, texts: Texts<'_>, step: u32) -> Option<Hint> {
     let problem = read_problem(alloc, texts.setup, texts.forecast).ok()?;
     // The first two lines are the form and the stores.

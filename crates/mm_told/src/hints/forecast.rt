@@ -46,42 +46,16 @@ pub enum ForecastHint {
 
 impl fmt::Display for ForecastHint {
     fn fmt<W: fmt::Write>(&self, f: &mut fmt::Formatter<W>) -> fmt::Result {
-        match self {
-            ForecastHint::Semicolons => {
-                f.write_str("semicolons separate the cells; save the file with commas")
-            }
-            ForecastHint::Header { found, wanted } => {
-                write!(f, "the header is {found}, and {wanted} is expected")
-            }
-            ForecastHint::Cells {
-                row,
-                line,
-                found,
-                wanted,
-            } => write!(
-                f,
-                "row {row} is line {line} of the file, whose header is line 1; cells: {found} there, {wanted} in the header"
-            ),
-            ForecastHint::Cell { line, cell } => write!(
-                f,
-                "the cell is {cell} in line {line} of the file, whose header is line 1"
-            ),
-            ForecastHint::Step { line, cell, wanted } => write!(
-                f,
-                "the step is {cell} in line {line} of the file, whose header is line 1; it is to be {wanted}"
-            ),
-            ForecastHint::Steps { found } => {
-                write!(
-                    f,
-                    "there are {found} records after the header; 1 to 256 can be"
-                )
-            }
-            ForecastHint::TooLarge { line, cell } => {
-                write!(
-                    f,
-                    "line {line} of the file has {cell}; 1,000,000 is the most"
-                )
-            }
+        show_case! { self, f;
+            ForecastHint::Semicolons => "semicolons separate the cells; save the file with commas";
+            ForecastHint::Header { found, wanted } => "the header is {found}, and {wanted} is expected";
+            ForecastHint::Cells { row, line, found, wanted } =>
+                "row {row} is line {line} of the file, whose header is line 1; cells: {found} there, {wanted} in the header";
+            ForecastHint::Cell { line, cell } => "the cell is {cell} in line {line} of the file, whose header is line 1";
+            ForecastHint::Step { line, cell, wanted } =>
+                "the step is {cell} in line {line} of the file, whose header is line 1; it is to be {wanted}";
+            ForecastHint::Steps { found } => "there are {found} records after the header; 1 to 256 can be";
+            ForecastHint::TooLarge { line, cell } => "line {line} of the file has {cell}; 1,000,000 is the most";
         }
     }
 }

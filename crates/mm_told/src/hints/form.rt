@@ -19,23 +19,12 @@ pub enum FormHint {
 
 impl fmt::Display for FormHint {
     fn fmt<W: fmt::Write>(&self, f: &mut fmt::Formatter<W>) -> fmt::Result {
-        match self {
-            FormHint::Utf16 => f.write_str("the file is in UTF-16; save it in UTF-8"),
-            FormHint::Mark => {
-                f.write_str("the file begins with a byte order mark; save it in UTF-8 without one")
-            }
-            FormHint::CrLf { line } => {
-                write!(
-                    f,
-                    "line {line} ends with CR LF; save the file with LF alone"
-                )
-            }
-            FormHint::Swapped => {
-                f.write_str(
-                    "the files are in another order; name the setup first, then the forecast",
-                )
-            }
-            FormHint::Line { line, text } => write!(f, "line {line} is {text}"),
+        show_case! { self, f;
+            FormHint::Utf16 => "the file is in UTF-16; save it in UTF-8";
+            FormHint::Mark => "the file begins with a byte order mark; save it in UTF-8 without one";
+            FormHint::CrLf { line } => "line {line} ends with CR LF; save the file with LF alone";
+            FormHint::Swapped => "the files are in another order; name the setup first, then the forecast";
+            FormHint::Line { line, text } => "line {line} is {text}";
         }
     }
 }

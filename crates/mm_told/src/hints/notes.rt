@@ -22,20 +22,11 @@ pub enum Note {
 
 impl fmt::Display for Note {
     fn fmt<W: fmt::Write>(&self, f: &mut fmt::Formatter<W>) -> fmt::Result {
-        match self {
-            Note::LimitOfNone { channel } => write!(
-                f,
-                "the setup has a limit for channel {channel}, on which no store is"
-            ),
-            Note::Unreached { store } => write!(
-                f,
-                "no route of the setup leads to {}, so nothing arrives there",
-                Excerpt::of(store.text())
-            ),
-            Note::Untaken { line, report } => write!(
-                f,
-                "no route takes {report}, as line {line} of the sources has it; such packets go to no store"
-            ),
+        show_case! { self, f;
+            Note::LimitOfNone { channel } => "the setup has a limit for channel {channel}, on which no store is";
+            Note::Unreached { store } => "no route of the setup leads to {}, so nothing arrives there", Excerpt::of_id(store);
+            Note::Untaken { line, report } =>
+                "no route takes {report}, as line {line} of the sources has it; such packets go to no store";
         }
     }
 }

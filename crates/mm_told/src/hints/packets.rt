@@ -19,26 +19,12 @@ pub enum PacketHint {
 
 impl fmt::Display for PacketHint {
     fn fmt<W: fmt::Write>(&self, f: &mut fmt::Formatter<W>) -> fmt::Result {
-        match self {
-            PacketHint::Spaces { line } => {
-                write!(
-                    f,
-                    "line {line} has spaces between digits; write the digits without them"
-                )
-            }
-            PacketHint::NoDigit { line, byte } => {
-                write!(f, "line {line} has {byte}, which is no hexadecimal digit")
-            }
-            PacketHint::OddDigits { line } => {
-                write!(
-                    f,
-                    "line {line} has an odd number of digits; write two for each octet"
-                )
-            }
-            PacketHint::Octets { line, says, found } => write!(
-                f,
-                "line {line} has {found} octets, and its packet data length says {says} in all"
-            ),
+        show_case! { self, f;
+            PacketHint::Spaces { line } => "line {line} has spaces between digits; write the digits without them";
+            PacketHint::NoDigit { line, byte } => "line {line} has {byte}, which is no hexadecimal digit";
+            PacketHint::OddDigits { line } => "line {line} has an odd number of digits; write two for each octet";
+            PacketHint::Octets { line, says, found } =>
+                "line {line} has {found} octets, and its packet data length says {says} in all";
         }
     }
 }
@@ -91,6 +77,7 @@ pub(crate) fn packet_hint(digits: &[u8], line: u64) -> Option<PacketHint> {
 }
 
 /// What is found in this line of a file of requests, which is refused so.
+#[must_use]
 pub fn request_hint(refusal: Refusal, requests: &[u8], line: u64) -> Option<Hint> {
     if !matches!(refusal, Refusal::HexLine | Refusal::Short) {
         return None;

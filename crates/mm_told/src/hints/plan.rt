@@ -28,23 +28,11 @@ pub enum PlanHint {
 
 impl fmt::Display for PlanHint {
     fn fmt<W: fmt::Write>(&self, f: &mut fmt::Formatter<W>) -> fmt::Result {
-        match self {
-            PlanHint::Refusal => {
-                f.write_str("the file holds the line of a refusal, and no plan; plan again")
-            }
-            PlanHint::Ends { line } => write!(
-                f,
-                "the text ends in line {line}; its last line is end, with a line feed"
-            ),
-            PlanHint::Shape {
-                stores,
-                steps,
-                wanted,
-                wanted_steps,
-            } => write!(
-                f,
-                "the plan has {stores} and {steps} steps; {wanted} and {wanted_steps} steps are wanted"
-            ),
+        show_case! { self, f;
+            PlanHint::Refusal => "the file holds the line of a refusal, and no plan; plan again";
+            PlanHint::Ends { line } => "the text ends in line {line}; its last line is end, with a line feed";
+            PlanHint::Shape { stores, steps, wanted, wanted_steps } =>
+                "the plan has {stores} and {steps} steps; {wanted} and {wanted_steps} steps are wanted";
         }
     }
 }

@@ -12,162 +12,75 @@ use mm_base::{CHANNELS, Kind, MAX_APID, MAX_BLOCKS, MAX_CHANNEL, MAX_ROUTES, MAX
 use mm_problem::Name;
 use std::alloc::Global;
 use std::fmt;
-use toml::Table;
+use toml::{Table, Value};
 
 /// What is found in a setup.
 #[derive(Clone, Copy)]
 pub enum SetupHint {
-    /// The line in which the text is not TOML.
-    Toml {
-        line: u64,
-        text: Excerpt,
-    },
-    NotUtf8 {
-        line: u64,
-    },
-    NoTables {
-        array: Name,
-    },
+    /// The line in which the text is not TOML, as it is.
+    Toml(u64, Excerpt),
+    /// The line in which the text is not in UTF-8.
+    NotUtf8(u64),
+    NoTables(Name),
     /// The value at the key of an array is another.
-    NotTables {
-        array: Name,
-    },
-    UnknownAtTop {
-        key: Excerpt,
-    },
-    UnknownKey {
-        table: TableAt,
-        key: Excerpt,
-    },
-    MissingKey {
-        table: TableAt,
-        key: Name,
-    },
-    NotNumber {
-        table: TableAt,
-        key: Name,
-    },
-    NotText {
-        table: TableAt,
-        key: Name,
-    },
-    SmallLetters {
-        table: TableAt,
-        key: Name,
-    },
-    BadId {
-        table: TableAt,
-        key: Name,
-        id: Excerpt,
-    },
-    BadType {
-        table: TableAt,
-        word: Excerpt,
-    },
-    NoStore {
-        table: TableAt,
-        id: Excerpt,
-    },
-    Repeated {
-        table: TableAt,
-    },
-    OutOfRange {
-        table: TableAt,
-        key: Name,
-        number: i64,
-        low: u32,
-        high: u32,
-    },
+    NotTables(Name),
+    UnknownAtTop(Excerpt),
     Count {
         array: Name,
         found: usize,
         low: usize,
         high: usize,
     },
+    InTable(TableAt, TableHint),
 }
 
-// What is said of the text as a whole, or of the top of the setup.
-fn write_whole<W: fmt::Write>(hint: &SetupHint, f: &mut fmt::Formatter<W>) -> fmt::Result {
-    match hint {
-        SetupHint::Toml { line, text } => write!(
-            f,
-            "line {line} is {text}; numbers have no commas, and texts have quotes"
-        ),
-        SetupHint::NotUtf8 { line } => write!(f, "line {line} is not in UTF-8"),
-        SetupHint::NoTables { array } => write!(f, "there is no table [[{array}]]"),
-        SetupHint::NotTables { array } => {
-            write!(
-                f,
-                "{array} is no array of tables; write [[{array}]] above each table"
-            )
-        }
-        SetupHint::UnknownAtTop { key } => {
-            write!(f, "the key {key} is none of store, route and limit")
-        }
-        SetupHint::Count {
-            array,
-            found,
-            low,
-            high,
-        } => write!(
-            f,
-            "there are {found} tables of {array}; {low} to {high} can be"
-        ),
-        _ => Ok(()),
-    }
+/// What is found in a table of a setup. It is shown after the words that name the table.
+#[derive(Clone, Copy)]
+pub enum TableHint {
+    UnknownKey(Excerpt),
+    MissingKey(Name),
+    NotNumber(Name),
+    NotText(Name),
+    SmallLetters(Name),
+    BadId(Name, Excerpt),
+    BadType(Excerpt),
+    NoStore(Excerpt),
+    Repeated,
+    OutOfRange {
+        key: Name,
+        number: i64,
+        low: u32,
+        high: u32,
+    },
 }
 
 impl fmt::Display for SetupHint {
     fn fmt<W: fmt::Write>(&self, f: &mut fmt::Formatter<W>) -> fmt::Result {
-        match self {
-            SetupHint::UnknownKey { table, key } => write!(
-                f,
-                "{table} has the key {key}, which it cannot have"
-            ),
-            SetupHint::MissingKey { table, key } => write!(f, "{table} has no key {key}"),
-            SetupHint::NotNumber { table, key } => {
-                write!(
-                    f,
-                    "{table} has no whole number as {key}; write it without quotes"
-                )
-            }
-            SetupHint::NotText { table, key } => {
-                write!(f, "{table} has no text as {key}; write it in quotes")
-            }
-            SetupHint::SmallLetters { table, key } => {
-                write!(
-                    f,
-                    "{table} has small letters in its {key}; write capital letters"
-                )
-            }
-            SetupHint::BadId { table, key, id } => write!(
-                f,
-                "{table} has {id} as {key}; 1 to 8 of the characters A-Z, 0-9, _ and - can be"
-            ),
-            SetupHint::BadType { table, word } => write!(
-                f,
-                "{table} has the type {word}; \"circular\" and \"bounded\" can be"
-            ),
-            SetupHint::NoStore { table, id } => {
-                write!(
-                    f,
-                    "{table} names the store {id}, which no table of store has"
-                )
-            }
-            SetupHint::Repeated { table } => {
-                write!(
-                    f,
-                    "{table} is the same as an earlier one; leave one of them out"
-                )
-            }
-            SetupHint::OutOfRange {
-                table,
-                key,
-                number,
-                low,
-                high,
-            } => write!(f, "{table} has {key} = {number}; {low} to {high} can be"),
-            whole => write_whole(whole, f),
+        show_case! { self, f;
+            SetupHint::Toml(line, text) => "line {line} is {text}; numbers have no commas, and texts have quotes";
+            SetupHint::NotUtf8(line) => "line {line} is not in UTF-8";
+            SetupHint::NoTables(array) => "there is no table [[{array}]]";
+            SetupHint::NotTables(array) => "{array} is no array of tables; write [[{array}]] above each table";
+            SetupHint::UnknownAtTop(key) => "the key {key} is none of store, route and limit";
+            SetupHint::Count { array, found, low, high } => "there are {found} tables of {array}; {low} to {high} can be";
+            SetupHint::InTable(table, hint) => "{table} {hint}";
+        }
+    }
+}
+
+impl fmt::Display for TableHint {
+    fn fmt<W: fmt::Write>(&self, f: &mut fmt::Formatter<W>) -> fmt::Result {
+        show_case! { self, f;
+            TableHint::UnknownKey(key) => "has the key {key}, which it cannot have";
+            TableHint::MissingKey(key) => "has no key {key}";
+            TableHint::NotNumber(key) => "has no whole number as {key}; write it without quotes";
+            TableHint::NotText(key) => "has no text as {key}; write it in quotes";
+            TableHint::SmallLetters(key) => "has small letters in its {key}; write capital letters";
+            TableHint::BadId(key, id) => "has {id} as {key}; 1 to 8 of the characters A-Z, 0-9, _ and - can be";
+            TableHint::BadType(word) => "has the type {word}; \"circular\" and \"bounded\" can be";
+            TableHint::NoStore(id) => "names the store {id}, which no table of store has";
+            TableHint::Repeated => "is the same as an earlier one; leave one of them out";
+            TableHint::OutOfRange { key, number, low, high } => "has {key} = {number}; {low} to {high} can be";
         }
     }
 }
@@ -177,18 +90,15 @@ fn toml_hint(alloc: Global, octets: &[u8]) -> Option<SetupHint> {
     let text = match std::str::from_utf8(octets) {
         Ok(text) => text,
         Err(error) => {
-            let line = line_of(octets, error.valid_up_to());
-            return Some(SetupHint::NotUtf8 { line });
+            return Some(SetupHint::NotUtf8(line_of(octets, error.valid_up_to())));
         }
     };
     match toml::table_from_str(alloc, text) {
         Ok(_) => None,
         Err(error) => {
             let line = line_of(octets, error.span()?.start);
-            Some(SetupHint::Toml {
-                line,
-                text: Excerpt::of(line_at(octets, line)?),
-            })
+            let text = Excerpt::of(line_at(octets, line)?);
+            Some(SetupHint::Toml(line, text))
         }
     }
 }
@@ -196,12 +106,10 @@ fn toml_hint(alloc: Global, octets: &[u8]) -> Option<SetupHint> {
 // What is wrong at the top of a setup.
 fn top_hint(document: &Table, name: Name) -> Option<SetupHint> {
     match name {
-        Name::Unknown => Some(SetupHint::UnknownAtTop {
-            key: unknown_key(document, &ARRAYS)?,
-        }),
+        Name::Unknown => Some(SetupHint::UnknownAtTop(unknown_key(document, &ARRAYS)?)),
         array => Some(match document.get(array.text()) {
-            Some(_) => SetupHint::NotTables { array },
-            None => SetupHint::NoTables { array },
+            Some(_) => SetupHint::NotTables(array),
+            None => SetupHint::NoTables(array),
         }),
     }
 }
@@ -215,61 +123,26 @@ fn identity_of(array: Name) -> &'static [Name] {
     }
 }
 
-// Whether two tables have the same value at a key.
-fn same_at(one: &Table, other: &Table, key: Name) -> bool {
-    text_at(one, key) == text_at(other, key) && number_at(one, key) == number_at(other, key)
+// Whether two tables have the same values at these keys.
+fn are_same(one: &Table, other: &Table, keys: &[Name]) -> bool {
+    keys.iter().all(|key| {
+        text_at(one, *key) == text_at(other, *key) && number_at(one, *key) == number_at(other, *key)
+    })
 }
 
-// Whether a table before the one in this row is the same.
-fn is_repeated(document: &Table, array: Name, row: u32) -> bool {
-    let Some(table) = table_in(document, array, row) else {
-        return false;
-    };
-    for earlier in 1..row {
-        if let Some(other) = table_in(document, array, earlier) {
-            if identity_of(array)
-                .iter()
-                .all(|key| same_at(table, other, *key))
-            {
-                return true;
-            }
-        }
-    }
-    false
-}
-
-fn repeated_hint(document: &Table, row: u32) -> Option<SetupHint> {
-    for array in &ARRAYS {
-        if is_repeated(document, *array, row) {
-            let table = named(*array, row, table_in(document, *array, row)?);
-            return Some(SetupHint::Repeated { table });
-        }
-    }
-    None
-}
-
-fn unknown_hint(document: &Table, row: u32) -> Option<SetupHint> {
-    for array in &ARRAYS {
-        if let Some(table) = table_in(document, *array, row) {
-            if let Some(key) = unknown_key(table, keys_of(*array)) {
-                let table = named(*array, row, table);
-                return Some(SetupHint::UnknownKey { table, key });
-            }
-        }
-    }
-    None
+// Whether a table of an array before this row is the same as this one.
+fn is_repeated(document: &Table, array: Name, row: u32, table: &Table) -> bool {
+    (1..row)
+        .filter_map(|earlier| table_in(document, array, earlier))
+        .any(|other| are_same(table, other, identity_of(array)))
 }
 
 // Whether a store of the setup has this identifier.
 fn has_store(document: &Table, id: &str) -> bool {
-    for value in elements(document, Name::Store) {
-        if let Some(table) = value.as_table() {
-            if text_at(table, Name::Id) == Some(id) {
-                return true;
-            }
-        }
-    }
-    false
+    elements(document, Name::Store)
+        .iter()
+        .filter_map(Value::as_table)
+        .any(|table| text_at(table, Name::Id) == Some(id))
 }
 
 // Whether it would be an identifier if its letters were capital letters.
@@ -282,51 +155,54 @@ fn has_small_letters(id: &str) -> bool {
 }
 
 // What is wrong with an identifier.
-fn id_hint(document: &Table, table: TableAt, key: Name, id: &str) -> Option<SetupHint> {
-    let quoted = Excerpt::of(id.as_bytes());
-    if StoreId::of_text(id.as_bytes()).is_ok() {
-        if key == Name::Store && !has_store(document, id) {
-            return Some(SetupHint::NoStore { table, id: quoted });
-        }
-        return None;
-    }
-    Some(if has_small_letters(id) {
-        SetupHint::SmallLetters { table, key }
+fn id_hint(document: &Table, key: Name, id: &str) -> Option<TableHint> {
+    let is_id = StoreId::of_text(id.as_bytes()).is_ok();
+    if is_id && key == Name::Store && !has_store(document, id) {
+        Some(TableHint::NoStore(Excerpt::of(id.as_bytes())))
+    } else if is_id {
+        None
+    } else if has_small_letters(id) {
+        Some(TableHint::SmallLetters(key))
     } else {
-        SetupHint::BadId {
-            table,
-            key,
-            id: quoted,
-        }
-    })
+        Some(TableHint::BadId(key, Excerpt::of(id.as_bytes())))
+    }
 }
 
 // What is wrong with the kind of a store.
-fn type_hint(table: TableAt, word: &str) -> Option<SetupHint> {
+fn type_hint(word: &str) -> Option<TableHint> {
     if word == Kind::Circular.word() || word == Kind::Bounded.word() {
         return None;
     }
-    let word = Excerpt::of(word.as_bytes());
-    Some(SetupHint::BadType { table, word })
+    Some(TableHint::BadType(Excerpt::of(word.as_bytes())))
 }
 
-// What is wrong at a key of the table in this row of an array.
-fn key_hint(document: &Table, array: Name, row: u32, key: Name) -> Option<SetupHint> {
+// What is wrong at a key of a table of an array.
+fn key_hint(document: &Table, array: Name, key: Name, table: &Table) -> Option<TableHint> {
     if !keys_of(array).contains(&key) {
         return None;
     }
-    let members = table_in(document, array, row)?;
-    let table = named(array, row, members);
-    let Some(value) = members.get(key.text()) else {
-        return Some(SetupHint::MissingKey { table, key });
+    let Some(value) = table.get(key.text()) else {
+        return Some(TableHint::MissingKey(key));
     };
     match (key, value.as_str()) {
-        (Name::Type, Some(word)) => type_hint(table, word),
-        (Name::Id | Name::Store, Some(id)) => id_hint(document, table, key, id),
-        (Name::Type | Name::Id | Name::Store, None) => Some(SetupHint::NotText { table, key }),
-        _ if value.as_integer().is_none() => Some(SetupHint::NotNumber { table, key }),
+        (Name::Type, Some(word)) => type_hint(word),
+        (Name::Id | Name::Store, Some(id)) => id_hint(document, key, id),
+        (Name::Type | Name::Id | Name::Store, None) => Some(TableHint::NotText(key)),
+        _ if value.as_integer().is_none() => Some(TableHint::NotNumber(key)),
         _ => None,
     }
+}
+
+// What is wrong by this name with the table in this row of an array.
+fn table_hint(document: &Table, array: Name, row: u32, name: Name) -> Option<SetupHint> {
+    let table = table_in(document, array, row)?;
+    let hint = match name {
+        Name::Repeated if is_repeated(document, array, row, table) => TableHint::Repeated,
+        Name::Repeated => return None,
+        Name::Unknown => TableHint::UnknownKey(unknown_key(table, keys_of(array))?),
+        key => key_hint(document, array, key, table)?,
+    };
+    Some(SetupHint::InTable(named(array, row, table), hint))
 }
 
 // What is wrong at a key of a table in this row; 0 is the top.
@@ -334,18 +210,9 @@ fn field_hint(document: &Table, row: u32, name: Name) -> Option<SetupHint> {
     if row == 0 {
         return top_hint(document, name);
     }
-    match name {
-        Name::Repeated => repeated_hint(document, row),
-        Name::Unknown => unknown_hint(document, row),
-        key => {
-            for array in &ARRAYS {
-                if let Some(hint) = key_hint(document, *array, row, key) {
-                    return Some(hint);
-                }
-            }
-            None
-        }
-    }
+    ARRAYS
+        .iter()
+        .find_map(|array| table_hint(document, *array, row, name))
 }
 
 // The least and the greatest number at a key.
@@ -362,30 +229,24 @@ fn range_of(table: &Table, key: Name) -> Option<(u32, u32)> {
 
 // The number at a key of the table in this row of an array, if it is out of its range.
 fn out_of_range(document: &Table, array: Name, row: u32, key: Name) -> Option<SetupHint> {
-    let members = table_in(document, array, row)?;
-    let number = number_at(members, key)?;
-    let (low, high) = range_of(members, key)?;
+    let table = table_in(document, array, row)?;
+    let number = number_at(table, key)?;
+    let (low, high) = range_of(table, key)?;
     if i64::from(low) <= number && number <= i64::from(high) {
         return None;
     }
-    Some(SetupHint::OutOfRange {
-        table: named(array, row, members),
+    let hint = TableHint::OutOfRange {
         key,
         number,
         low,
         high,
-    })
+    };
+    Some(SetupHint::InTable(named(array, row, table), hint))
 }
 
-fn range_hint(document: &Table, key: Name) -> Option<SetupHint> {
-    for array in &ARRAYS {
-        for row in 1..=MAX_ROUTES as u32 {
-            if let Some(hint) = out_of_range(document, *array, row, key) {
-                return Some(hint);
-            }
-        }
-    }
-    None
+// The first number at this key of a table of an array that is out of its range.
+fn range_hint_in(document: &Table, array: Name, key: Name) -> Option<SetupHint> {
+    (1..=MAX_ROUTES as u32).find_map(|row| out_of_range(document, array, row, key))
 }
 
 fn count_hint(document: &Table, array: Name, low: usize, high: usize) -> SetupHint {
@@ -402,7 +263,9 @@ fn limit_hint(document: &Table, name: Name) -> Option<SetupHint> {
         Name::Stores => Some(count_hint(document, Name::Store, 1, MAX_STORES)),
         Name::Routes => Some(count_hint(document, Name::Route, 0, MAX_ROUTES)),
         Name::Limits => Some(count_hint(document, Name::Limit, 0, CHANNELS)),
-        key => range_hint(document, key),
+        key => ARRAYS
+            .iter()
+            .find_map(|array| range_hint_in(document, *array, key)),
     }
 }
 

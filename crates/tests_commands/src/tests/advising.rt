@@ -137,7 +137,7 @@ fn verdicts_are_explained(rt: HostRuntime) {
 const REFUSED_REQUESTS: &str = "zz\n1864C000000D200F01000001484B202020202020\n";
 
 const REFUSED_WORDS: &str = "\
-R, line 1: expected one telecommand in hexadecimal digits, two for each octet, and nothing after it; write one telecommand a line, and compare its packet data length with its octets
+R, line 1: expected one packet in hexadecimal digits, two for each octet, and nothing after it; write one packet a line, and compare its packet data length with its octets
 hint: line 1 has \"z\", which is no hexadecimal digit
 R, line 2, instruction 1: expected the identifier of a store that is there; list the stores with subtype 22, or create this one with subtype 20
 ";
@@ -159,7 +159,7 @@ const REFUSED_PACKETS: &str = "zz\n9 report 0864\n4.1 refused 24 Exists\n";
 const PACKETS_TOLD: &str = "1 refused 49 HexLine\n9 refused 1 Short\n4.1 refused 24 Exists\n";
 
 const PACKETS_EXPLAINED: &str = "\
-P, packet 1: expected one telecommand in hexadecimal digits, two for each octet, and nothing after it; write one telecommand a line, and compare its packet data length with its octets
+P, packet 1: expected one packet in hexadecimal digits, two for each octet, and nothing after it; write one packet a line, and compare its packet data length with its octets
 P, packet 9: expected a whole packet: 6 octets, and then as many as the packet data length says; send the packet again, or correct its length
 P, packet 4, instruction 1: expected an identifier that no store has yet; choose another identifier, or delete that store with subtype 21
 ";

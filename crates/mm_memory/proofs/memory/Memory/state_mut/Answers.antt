@@ -12,7 +12,7 @@ pub returns : goal.returns
 returns c =
     let m = c.self.inside in
     let h = c.in_ok-held.held.now in
-    let stands = subst (λ (l : List Held). StandsAt c.args.id.now l c.in_ok-place.place) c.deref.ensures.value c.in_ok-place.ensures in
+    let stands = subst (λ (l : List Held). StandsAt c.args.id.now l c.in_ok-place.place) c.deref.ensures.value c.in_ok-place.ensures.stands in
     let at = slice_get_read m.stores.items _ c.in_ok-place.place h refl stands.within c.in_ok-held.ensures.value in
     let written = λ (w : State). sym (with_changed-stands c.args.id.now (λ h. record h { state = w }) m.stores.items c.in_ok-place.place h c.self.invariant.named stands at) in
     rw (← c.self.view_is) (

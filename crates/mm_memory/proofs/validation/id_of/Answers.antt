@@ -1,7 +1,7 @@
 use Rattle.std.proofs.Common.{refl}
 use Rattle.std.proofs.lemmas.Bool.{false≢true}
 use Rattle.mm_memory.proofs.IdLemmas.{is_id-field, is_id-other}
-use Rattle.mm_memory.proofs.testing.id_of.Goals as goal
+use Rattle.mm_memory.proofs.validation.id_of.Goals as goal
 
 pub returns-in-Ok-clause-found : goal.returns-in-Ok-clause-found
 returns-in-Ok-clause-found c = is_id-field c.args.octets (c.in-Ok.ensures.found.0 refl)
