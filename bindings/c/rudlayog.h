@@ -54,7 +54,8 @@ enum {
     MM_PLAN_ROOM = 204800, /* for a plan text */
     MM_LINE_ROOM = 64,     /* for the line of a verdict */
     MM_INSTRUCTIONS = 255, /* for the answers to a request */
-    MM_BLOCK = 1024        /* for a packet that is stored */
+    MM_BLOCK = 1024,       /* for a packet that is stored */
+    MM_PACKET = 65542      /* for any packet, so for each report */
 };
 
 /* A refusal: its number (0 is out of memory; docs/FORMATS.md has all) and its place. Lines, rows and columns count from 1. `name` is a
@@ -68,7 +69,8 @@ struct mm_refused {
     uint32_t name;
 };
 
-/* The answer to a call. `refused` is all 0 where nothing is refused; `length` is the length of the text, or 0 where it is. */
+/* The answer to a call. Read `refused` only where `status` is MM_REFUSED: it is all 0 elsewhere, and 0 is the number of out of memory. `length`
+ * is the length of the text, or 0 where there is none. */
 struct mm_answer {
     uint32_t status;
     struct mm_refused refused;
@@ -197,7 +199,7 @@ void mm_memory_apply(struct mm_memory *memory, uint64_t now, const uint8_t *requ
                      size_t each_room, struct mm_answer *answer);
 
 /* Gives the packet of the report that waits longest, or tells `MM_END`. Where the buffer is too small, and where the call is refused, out of
- * memory, the report still waits. */
+ * memory, the report still waits; a buffer of `MM_PACKET` octets has room for each. */
 void mm_memory_report(struct mm_memory *memory, uint8_t *out, size_t room, struct mm_answer *answer);
 
 /* Gives the next packet of the retrieval from a store, with its storage time; or tells `MM_END`, where the retrieval is over then. It takes no

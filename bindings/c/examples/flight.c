@@ -21,8 +21,12 @@ static const uint8_t summary[] = {0x18, 100, 0xC0, 1, 0, 13, 0x20, 15, 12, 0, 7,
 static int complain(const char *what, const struct mm_answer *answer) {
     uint8_t words[1024];
     struct mm_answer told;
+    if (answer->status != MM_REFUSED) {
+        fprintf(stderr, "%s: status %u\n", what, answer->status);
+        return 1;
+    }
     mm_words(&answer->refused, words, sizeof words, &told);
-    fprintf(stderr, "%s: status %u %.*s\n", what, answer->status, told.status == MM_WRITTEN ? (int)told.length : 0, (const char *)words);
+    fprintf(stderr, "%s: %.*s\n", what, told.status == MM_WRITTEN ? (int)told.length : 0, (const char *)words);
     return 1;
 }
 

@@ -11,6 +11,9 @@ from typing import Any
 # A text: its octets, its characters, or the file that has it. A str with a line end in it is the text itself; one without names a file.
 Text = bytes | bytearray | memoryview | str | os.PathLike[str]
 
+# A packet: its octets, whatever holds them.
+Packet = bytes | bytearray | memoryview
+
 
 def is_text(given: object) -> bool:
     return isinstance(given, (bytes, bytearray, memoryview, str, os.PathLike))
@@ -23,6 +26,11 @@ def octets(given: Text) -> bytes:
     if isinstance(given, str):
         return given.encode()
     return bytes(given)
+
+
+def packet_octets(given: Packet) -> bytes:
+    """The octets of a packet."""
+    return bytes(memoryview(given))
 
 
 def number(given: Any) -> int:

@@ -10,7 +10,7 @@ from pathlib import Path
 from typing import Any
 
 from . import _library
-from ._data import Text
+from ._data import Packet, Text
 from .forecasts import forecast_octets
 from .plans import Plan, plan_octets, request_octets
 from .setups import setup_octets
@@ -94,7 +94,7 @@ def chart(setup: Any, forecast: Any, plan: Any) -> Chart:
     return Chart(_library.told(_library.mm_chart, first, len(first), second, len(second), third, len(third)).decode("utf-8"))
 
 
-def ask(setup: Any, requests: Text | Iterable[bytes]) -> Replies:
+def ask(setup: Any, requests: Text | Iterable[Packet]) -> Replies:
     """The lines that answer telecommands of the storage service: a text with one in hexadecimal digits a line, or the packets. Raises
     `Refusal` where the setup is refused; a line that is refused is told in the replies."""
     first, second = setup_octets(setup), request_octets(requests)

@@ -66,7 +66,9 @@ class Forecast:
         return self.text().encode()
 
     def after(self, step: int) -> Forecast:
-        """What is forecast after a step: its steps count from 1 again."""
+        """What is forecast after a step, or from the first on after 0: its steps count from 1 again."""
+        if not 0 <= step <= len(self.windows):
+            raise ValueError(f"the forecast has {len(self.windows)} steps, and no step {step}")
         return Forecast(self.windows[step:], {store: column[step:] for store, column in self.arrivals.items()})
 
 

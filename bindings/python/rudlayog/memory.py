@@ -10,6 +10,7 @@ from types import TracebackType
 from typing import Any
 
 from . import _library
+from ._data import Packet, packet_octets
 from .refusals import Refusal
 from .setups import setup_octets
 
@@ -63,29 +64,29 @@ class Memory:
             raise _library.refusal_of(answer.refused)
         return answer
 
-    def offer(self, store: str, now: int, packet: bytes) -> Fate:
+    def offer(self, store: str, now: int, packet: Packet) -> Fate:
         """Offers a packet to the store of this identifier."""
-        name, told = store.encode("utf-8"), _library.FateTold()
-        self._tell(_library.mm_memory_offer, name, len(name), now, packet, len(packet), told)
+        name, octets, told = store.encode("utf-8"), packet_octets(packet), _library.FateTold()
+        self._tell(_library.mm_memory_offer, name, len(name), now, octets, len(octets), told)
         kind = FATES[told.kind]
         return Fate(kind, None if kind == "lost" else told.time)
 
-    def record(self, now: int, packet: bytes) -> Tally:
+    def record(self, now: int, packet: Packet) -> Tally:
         """Offers a packet to each store that its report type is routed to."""
-        told = _library.TallyTold()
-        self._tell(_library.mm_memory_record, now, packet, len(packet), told)
+        octets, told = packet_octets(packet), _library.TallyTold()
+        self._tell(_library.mm_memory_record, now, octets, len(octets), told)
         return Tally(told.kept, told.lost, told.refused)
 
-    def apply(self, now: int, request: bytes) -> tuple[Refusal | None, ...]:
+    def apply(self, now: int, request: Packet) -> tuple[Refusal | None, ...]:
         """Applies a telecommand of the storage service. There is one answer for each of its instructions, in order: `None` where it is carried
         out, and else why it is refused. The reports on the request wait for `reports`."""
-        each = (ctypes.c_uint8 * _library.INSTRUCTIONS)()
-        answer = self._tell(_library.mm_memory_apply, now, request, len(request), each, len(each))
+        octets, each = packet_octets(request), (ctypes.c_uint8 * _library.INSTRUCTIONS)()
+        answer = self._tell(_library.mm_memory_apply, now, octets, len(octets), each, len(each))
         return tuple(_refusal(code) for code in each[: answer.length])
 
     def reports(self) -> Iterator[bytes]:
         """The packets of the reports that wait, the oldest first. A packet that was given waits no more."""
-        room = ctypes.create_string_buffer(65542)
+        room = ctypes.create_string_buffer(_library.PACKET)
         while True:
             answer = self._tell(_library.mm_memory_report, room, len(room))
             if answer.status == _library.END:

@@ -7,7 +7,7 @@ from dataclasses import dataclass
 from functools import cached_property
 from typing import Any, TypeVar
 
-from ._data import Text, columns, is_text, number, octets
+from ._data import Packet, Text, columns, is_text, number, octets, packet_octets
 
 Frame = TypeVar("Frame")
 
@@ -32,8 +32,8 @@ class Cut:
 
 
 class Plan:
-    """A plan text, which is read when something of it is asked for. A plan that `plan` made knows its setup and its forecast, and is shown
-    in a notebook as its chart."""
+    """A plan text, which is read when something of it is asked for: that raises `ValueError` where the text is no plan text. A plan that
+    `plan` made knows its setup and its forecast, and is shown in a notebook as its chart."""
 
     def __init__(self, text: Text, problem: tuple[bytes, bytes] | None = None) -> None:
         self._octets = octets(text)
@@ -64,7 +64,10 @@ class Plan:
         return hash(self._octets)
 
     def __repr__(self) -> str:
-        return f"<Plan of {len(self.dumps)} steps for {', '.join(self.stores)}: loses {self.loss}>"
+        try:
+            return f"<Plan of {len(self.dumps)} steps for {', '.join(self.stores)}: loses {self.loss}>"
+        except ValueError:
+            return f"<Plan of a text of {len(self._octets)} octets that is no plan text>"
 
     @property
     def text(self) -> str:
@@ -79,15 +82,21 @@ class Plan:
             found.setdefault(word, []).append(rest)
         return found
 
+    def _line(self, word: str) -> list[str]:
+        """What stands after this word in its line. Raises `ValueError` where the text has no such line."""
+        if word not in self._lines:
+            raise ValueError(f"the plan text has no line {word}")
+        return self._lines[word][0]
+
     @cached_property
     def stores(self) -> tuple[str, ...]:
         """The identifiers of the stores."""
-        return tuple(self._lines["stores"][0])
+        return tuple(self._line("stores"))
 
     @cached_property
     def dumps(self) -> tuple[tuple[int, ...], ...]:
         """For each step, how many blocks are to leave each store."""
-        return tuple(tuple(int(amount) for amount in amounts[1:]) for amounts in self._lines["dump"])
+        return tuple(tuple(int(amount) for amount in amounts[1:]) for amounts in self._lines.get("dump", ()))
 
     @cached_property
     def by_store(self) -> Mapping[str, tuple[int, ...]]:
@@ -97,14 +106,16 @@ class Plan:
     @cached_property
     def loss(self) -> int:
         """The blocks that the plan loses, as its text says."""
-        return int(self._lines["loss"][0][0])
+        (loss,) = self._line("loss")
+        return int(loss)
 
     @cached_property
     def cut(self) -> Cut:
         """The cut that the text has."""
-        lines = self._lines
-        stretches = tuple(Stretch(store, int(first), int(last)) for store, first, last in lines.get("stretch", ()))
-        return Cut(stretches, tuple(int(step) for step, _ in lines.get("count", ())), int(lines["bound"][0][0]))
+        stretches = tuple(Stretch(store, int(first), int(last)) for store, first, last in self._lines.get("stretch", ()))
+        by_channels = tuple(int(step) for step, _ in self._lines.get("count", ()))
+        (bound,) = self._line("bound")
+        return Cut(stretches, by_channels, int(bound))
 
     def to_dict(self) -> dict[str, list[int]]:
         """The steps and the dumps, as columns."""
@@ -129,8 +140,8 @@ def plan_octets(given: Any) -> bytes:
     return bytes(given if isinstance(given, Plan) else Plan.of(given))
 
 
-def request_octets(given: Text | Iterable[bytes]) -> bytes:
+def request_octets(given: Text | Iterable[Packet]) -> bytes:
     """The octets of requests: of a text, or of the packets, one for each request."""
     if is_text(given):
         return octets(given)  # type: ignore[arg-type]
-    return "".join(bytes(packet).hex().upper() + "\n" for packet in given).encode()  # type: ignore[union-attr,arg-type]
+    return "".join(packet_octets(packet).hex().upper() + "\n" for packet in given).encode()  # type: ignore[union-attr,arg-type]

@@ -71,6 +71,15 @@ class Memories(unittest.TestCase):
             self.assertEqual(memory.apply(10, telecommand(2, name("HK"))), (None,))
             self.assertEqual(memory.record(11, telemetry(6)), Tally(kept=0, lost=1, refused=1))
 
+    def test_packets_in_any_holder(self):
+        with Memory(SETUP) as memory:
+            self.assertEqual(memory.record(5, bytearray(telemetry(1))).kept, 2)
+            self.assertEqual(memory.offer("HK", 6, memoryview(telemetry(2))), Fate("kept", 6))
+            self.assertEqual(memory.apply(7, bytearray(telecommand(2, name("HK")))), (None,))
+            for call, given in ((memory.record, (8, "0801")), (memory.apply, (8, 18)), (memory.offer, ("HK", 8, "0801"))):
+                with self.assertRaises(TypeError):
+                    call(*given)
+
     def test_fates(self):
         with Memory(SETUP) as memory:
             self.assertEqual(memory.offer("SCI", 7, telemetry(1)), Fate("kept", 7))

@@ -125,7 +125,11 @@ class Forecasts(unittest.TestCase):
     def test_to_tables(self):
         self.assertEqual(self.forecast.to_dict(), {"step": [1, 2], "window": [2, 3], "SCI": [5, 3], "HK": [1, 0]})
         self.assertEqual(self.forecast.to_frame(Frame).columns, ["step", "window", "SCI", "HK"])
+        self.assertEqual(self.forecast.after(0), self.forecast)
         self.assertEqual(self.forecast.after(1), Forecast.of([3], {"SCI": [3], "HK": [0]}))
+        for step in (-1, 3):
+            with self.assertRaises(ValueError):
+                self.forecast.after(step)
 
 
 class Plans(unittest.TestCase):
@@ -146,8 +150,20 @@ class Plans(unittest.TestCase):
         self.assertEqual(Plan.of(Frame(plan.to_dict()), plan.loss, plan.cut).text, PLAN)
         self.assertEqual(plan_octets([{"SCI": 1}, {"SCI": 2}]), b"mmplan 1\nstores SCI\ndump 1 1\ndump 2 2\nloss 0\nbound 0\nend\n")
 
+    def test_what_is_no_plan(self):
+        for text in ("refused 28 SetupField\n", "\u00e9\n", PLAN.replace("loss 3", "loss"), PLAN.replace("loss 3", "loss 3 4"), PLAN.replace("loss 3\n", "")):
+            plan = Plan(text)
+            with self.assertRaises(ValueError):
+                plan.loss
+            self.assertIn("no plan text", repr(plan))
+        with self.assertRaisesRegex(ValueError, "no line bound"):
+            Plan(PLAN.replace("bound", "bond")).cut
+
     def test_requests(self):
         self.assertEqual(request_octets([bytes([0x18, 0x64]), b"\xff"]), b"1864\nFF\n")
+        self.assertEqual(request_octets([bytearray([0x18, 0x64]), memoryview(b"\xff")]), b"1864\nFF\n")
+        with self.assertRaises(TypeError):
+            request_octets(["1864"])
         self.assertEqual(request_octets("1864\n"), b"1864\n")
 
 
