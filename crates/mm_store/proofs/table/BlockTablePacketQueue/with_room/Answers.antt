@@ -1,7 +1,7 @@
 use Rattle.std.proofs.Common.{[], sym, ap, length, None, ◌∙◌, arith}
 use Rattle.std.proofs.lemmas.List.{length_push}
 use Rattle.mm_store.proofs.TableLemmas.{table_grow}
-use Rattle.mm_store.proofs.table.BlockTable.with_room.Goals as goal
+use Rattle.mm_store.proofs.table.BlockTablePacketQueue.with_room.Goals as goal
 
 pub loop-number-preserved : goal.loop-number-preserved
 loop-number-preserved c =
