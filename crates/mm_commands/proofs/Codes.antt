@@ -4,11 +4,18 @@ use Rattle.mm_commands.specs.Statuses.{exit_code}
 use Rattle.mm_commands.specs.declared.status.Status.{Status}
 use Rattle.mm_commands.specs.declared.status.Status.TheVariants.{Done, Refused, BadCommandLine}
 use Rattle.mm_commands.specs.Contents.{Contents}
-use Rattle.mm_commands.specs.Answers.{AnswersTask, Gives}
+use Rattle.mm_commands.specs.Answers.{AnswersTask, Gives, Prints}
+use Rattle.mm_commands.specs.Refusing.{Refuses}
 use Rattle.mm_commands.specs.Doing.{Does, DoesTask, IsDone, TellsVersion}
-use Rattle.mm_command_line.specs.Lines.{output_of}
+use Rattle.mm_command_line.specs.Lines.{output_of, spelling, without_dashes}
 use Rattle.mm_command_line.specs.declared.task.Task.{Task}
 use Rattle.mm_command_line.specs.declared.task.Task.TheVariants.{Plan, Check, Chart, Table, Fly, Ask, Read}
+
+-- a task that the words ask for was done or refused
+pub task-does : {E : Type 0} (old new : Contents) (words : List (List ℕ)) (task : Task) (before after : Option (List ℕ)) (r : Result Status E) → spelling task ≡ without_dashes words
+    → IfOk r (λ status. Prints old new task status before after ⊎ Refuses old new task status before after) → IfOk r (λ status. Does old new words status before after)
+task-does old new words task before after (Ok status) asked told = inl (record { task = task; asked = asked; told = told })
+task-does old new words task before after (Err e) asked told = tt
 
 -- a task that was done is no refused one
 task-done : (old new : Contents) (words : List (List ℕ)) (before after : Option (List ℕ)) → DoesTask old new words Done before after → IsDone old new words before after

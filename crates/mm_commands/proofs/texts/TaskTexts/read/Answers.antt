@@ -68,13 +68,13 @@ returns-in_err-read_named-6-clause-unread g c =
     let same3 = c.in_ok-read_named-3.ensures.stays ∙ same2 in
     let same4 = c.in_ok-read_named-4.ensures.stays ∙ same3 in
     let same5 = c.in_ok-read_named-5.ensures.stays ∙ same4 in
-    told (IsUnread contents (listed n)) _ c.from_residual-in_err-read_named-6.result c.from_residual-in_err-read_named-6.ensures.1
+    told (IsUnread contents (listed n)) c.in_err-read_named-6.field-0.0 c.from_residual-in_err-read_named-6.result c.from_residual-in_err-read_named-6.ensures.1
     (unread-after-named contents _ n.setup _ (names_of n.forecast ++ (names_of n.plan ++ (names_of n.sources ++ (names_of n.links ++ names_of n.packets)))) _ refl c.in_ok-read_named.ensures.whole
     (unread-after-named contents _ n.forecast _ (names_of n.plan ++ (names_of n.sources ++ (names_of n.links ++ names_of n.packets))) _ same1 c.in_ok-read_named-2.ensures.whole
     (unread-after-named contents _ n.plan _ (names_of n.sources ++ (names_of n.links ++ names_of n.packets)) _ same2 c.in_ok-read_named-3.ensures.whole
     (unread-after-named contents _ n.sources _ (names_of n.links ++ names_of n.packets) _ same3 c.in_ok-read_named-4.ensures.whole
     (unread-after-named contents _ n.links _ (names_of n.packets) _ same4 c.in_ok-read_named-5.ensures.whole
-    (subst (λ known. IsUnread known (names_of n.packets) _) same5 c.in_err-read_named-6.ensures.unread))))))
+    (subst (λ known. IsUnread known (names_of n.packets) c.in_err-read_named-6.field-0.0) same5 c.in_err-read_named-6.ensures.unread))))))
 
 pub returns-clause-held : goal.returns-clause-held
 returns-clause-held g c =
