@@ -221,7 +221,14 @@ pub(crate) fn tell_more<E: Write>(
 ) -> io::Result<()> {
     match answer {
         Answer::Text { .. } => {}
-        Answer::Lines { lines, .. } => tell_refused(task, &texts.packets, lines, err)?,
+        Answer::Lines { lines, .. } => {
+            // A number that `read` prints need not be that of a line of its file.
+            let requests = match task {
+                Task::Ask { .. } => texts.packets.as_slice(),
+                _ => &[],
+            };
+            tell_refused(task, requests, lines, err)?;
+        }
         Answer::Line { verdict, .. } => {
             tell_verdict(alloc, task, *verdict, texts.hinted(), err)?;
         }
