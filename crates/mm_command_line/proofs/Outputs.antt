@@ -1,5 +1,5 @@
 -- Words that end with an output.
-use Rattle.std.proofs.Common.{◌≡◌, ◌∙◌, ◌+◌, ◌++◌, ◌||◌, ◌&&◌, ℕ, Bool, cond, not, true, false, true≢false, refl, sym, ap, ap₂, subst, drop, length, List, [], ◌∷◌, Option, Some, None, is_some, codes, append_assoc, arith, Bor, nat_eq, map, ◌<◌}
+use Rattle.std.proofs.Common.{◌≡◌, ◌∙◌, ◌++◌, ◌||◌, ◌&&◌, ℕ, Bool, cond, not, true, false, true≢false, refl, sym, ap, ap₂, subst, drop, length, List, [], ◌∷◌, Option, Some, None, is_some, codes, append_assoc, arith, Bor, nat_eq, map, ◌<◌}
 use Rattle.std.specs.List.{All, filter, list_any, starts_with}
 use Rattle.std.specs.Option.{option_map_or, unwrap_or}
 use Rattle.std.specs.Str.{bytes_eq, chars}
@@ -8,7 +8,7 @@ use Rattle.std.proofs.lemmas.List.{append-nil, length-append, length-map, map-ap
 use Rattle.std.proofs.lemmas.List.Elements.{All-cons, All-head, All-nil, All-tail, filter-append}
 use Rattle.std.proofs.lemmas.List.Folds.{list_any-append}
 use Rattle.clap.proofs.WalkLemmas.{list_any-map}
-use Rattle.mm_command_line.specs.Lines.{EndsWithOutput, IsCommandLine, IsFileName, IsSplit, IsTaskLine, before_dashes, command_words, flags_of, flight_spelling, gives_text, is_dashes, is_flag, output_flag, output_names, output_of, output_words, spelling, without_dashes}
+use Rattle.mm_command_line.specs.Lines.{EndsWithOutput, IsCommandLine, IsFileName, IsSplit, IsTaskLine, before_dashes, command_words, flags_of, flight_spelling, gives_text, is_dashes, is_flag, output_flag, output_names, output_of, output_words, without_dashes}
 use Rattle.mm_command_line.specs.declared.task.Task.{Task}
 use Rattle.mm_command_line.specs.declared.task.Task.TheVariants.{Plan, Check, Chart, Table, Fly, Ask, Read}
 use Rattle.mm_command_line.proofs.Walking.{is_value}

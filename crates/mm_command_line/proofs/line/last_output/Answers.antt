@@ -1,4 +1,4 @@
-use Rattle.std.proofs.Common.{◌≡◌, ◌∙◌, ℕ, List, true, true≢false, false, rules, sym, subst, map}
+use Rattle.std.proofs.Common.{◌≡◌, ◌∙◌, true, true≢false, false, rules, sym, subst, map}
 use Rattle.std.specs.List.{list_any}
 use Rattle.mm_command_line.specs.Lines.{EndsWithOutput, IsFileName, is_dashes, output_flag}
 use Rattle.mm_command_line.proofs.Outputs.{ends_alike, found_output}
