@@ -24,7 +24,7 @@ use Rattle.mm_commands.specs.declared.fault.Fault.TheVariants.{NoMemory, NotRead
 use Rattle.mm_command_line.specs.Names.{names_in}
 use Rattle.mm_command_line.specs.declared.task.FileNames.{FileNames}
 use Rattle.mm_command_line.specs.declared.task.Task.{Task}
-use Rattle.mm_command_line.specs.declared.task.Task.TheVariants.{Plan, Check, Chart, Table, Fly, Ask, Read}
+use Rattle.mm_command_line.specs.declared.task.Task.TheVariants.{Plan, Check, Chart, Table, Fly, Ask}
 
 -- the name of a file, where one is named
 abbrev pub names_of : Option (Bor (List ℕ)) → List (List ℕ)
