@@ -13,6 +13,7 @@ abbrev pub names_of_plan : PlanFiles → FileNames
 names_of_plan files =
     record no_names { setup = Some files.setup; forecast = Some files.forecast; plan = Some files.plan }
 
+-- those of a task
 abbrev pub names_in : Task → FileNames
 names_in (Plan setup forecast output) = record no_names { setup = Some setup; forecast = Some forecast }
 names_in (Check files) = names_of_plan files
