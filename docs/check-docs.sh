@@ -17,7 +17,8 @@
 # - docs/DEFINITIONS.md and docs/EXAMPLES.md are what docs/definitions makes of the sources;
 # - each function of a picture of docs/TOUR.md stands in the file that stands beside it;
 # - each refusal of mm_base's table has one row in the tables of refusals of docs/FORMATS.md, with its number, its name and the
-#   words of mm_told, and what `check` finds has a row with its words; 'Where each refusal is met' has a row for each, and the test and the crate that it names are there.
+#   words of mm_told, and what `check` finds has a row with its words; 'Where each refusal is met' names a test for each, and that test and
+#   its crate are there.
 # The commands of one document are run one after another in one new folder, in which the top of the repository is seen, but not its
 # folder out.
 # The program must be built from the sources that are there: `./mm_tool --help` builds it. Prints one line where all is well.
@@ -359,17 +360,33 @@ check_findings() {
   done < <(awk -F '\t' '$1 == "found_expected" { print $2 }' "$work/words")
 }
 
-# The tests that docs/FORMATS.md names for refusals: at least one for each, in a crate whose sources name the refusal.
+# The tests that docs/FORMATS.md names for refusals, as lines of crate, test and number. There the tests of a crate are one point of a list, each
+# with its numbers in parentheses.
+refusal_tests() {
+  awk '
+    /^## / { inside = /^## Where each refusal is met/ }
+    inside && /^- / { crate = $2; gsub(/[`:]/, "", crate) }
+    inside && /^(- |  )/ { told[crate] = told[crate] " " $0 }
+    END {
+      for (crate in told)
+        while (match(told[crate], /`[a-z_0-9]+` +\([0-9, ]+\)/)) {
+          split(substr(told[crate], RSTART, RLENGTH), word, /[`(), ]+/)
+          for (i = 3; word[i] != ""; i++) print crate, word[2], word[i]
+          told[crate] = substr(told[crate], RSTART + RLENGTH)
+        }
+    }' "$top/docs/FORMATS.md"
+}
+
+# At least one test for each refusal, in a crate whose sources name the refusal.
 check_refusal_tests() {
-  local refusal name crate number case file
-  awk '/^## /{inside = /^## Where each refusal is met/} inside && /^\| `/' "$top/docs/FORMATS.md" | tr -d '`' >"$work/met"
-  while read -r number name _; do
-    grep -q "^| $number $name |" "$work/met" || fail "docs/FORMATS.md: no row says where $number $name is met"
+  local crate name number case file
+  refusal_tests >"$work/met"
+  while read -r number case _; do
+    grep -q " $number\$" "$work/met" || fail "docs/FORMATS.md: no test is named that meets $number $case"
   done < <(refusals)
-  while IFS='|' read -r _ refusal name crate _; do
-    read -r number case <<<"$refusal"
-    refusals | grep -q "^$number $case " || fail "docs/FORMATS.md: a row says where $number $case is met, which is no refusal"
-    name=${name// /} crate=${crate// /}
+  while read -r crate name number; do
+    case=$(refusals | sed -nE "s/^$number ([A-Za-z0-9]+) .*/\1/p")
+    [ -n "$case" ] || fail "docs/FORMATS.md: $name of $crate is to meet $number, which is no refusal"
     file=$(grep -rlE --include='*.rt' --exclude-dir=out "^ *fn $name\(" "$top/crates/$crate/src" | head -n 1)
     if [ -z "$file" ]; then
       fail "docs/FORMATS.md: $crate has no test $name, in which $number $case is met"

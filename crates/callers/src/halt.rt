@@ -1,9 +1,10 @@
-//! A plan that is carried out, and which packets go out again where a link failed.
-ghost use Rattle.std.specs.Prelude.{◌≡◌, ◌<◌, ◌-◌, ◌^◌, ℕ, All, IfErr};
+//! A plan that is carried out, also over links that were used before, and which packets go out again where a link failed.
+ghost use Rattle.std.specs.Prelude.{◌≡◌, ◌<◌, ◌-◌, ◌^◌, ◌↔◌, ℕ, All, IfNone, IfSome, IfErr, IsSome};
 ghost use Rattle.mm_report.specs.declared.cause.Cause.TheVariants.{LinkFailed};
 ghost use Rattle.callers.specs.Again.{GoesOutAgain};
 
 use crate::ends::{Burst, Downlink};
+use mm_dump::may_fail;
 use mm_exec::{Flight, Halted, carry_out};
 use mm_memory::Memory;
 use mm_plan::Plan;
@@ -27,4 +28,25 @@ pub fn carry_out_or_tell<R: Threads + Wait + Sync>(
     ensures again { IfErr result (λ halted. (step : ℕ) → halted.cause ≡ LinkFailed step → GoesOutAgain links.items halted.links.items memory.new) }
 {
     carry_out(rt, alloc, memory, problem, plan, sources, links, 0)
+}
+
+/// Carries a plan out, the first step at the moment 1, where one more failure of each link can be counted. Otherwise nothing is done.
+pub fn carry_out_over_used<R: Threads + Wait + Sync>(
+    rt: &R,
+    alloc: Global,
+    memory: &mut Memory,
+    problem: &Problem,
+    plan: &Plan,
+    sources: Vec<Burst>,
+    links: Vec<Downlink>,
+) -> Option<Result<Flight<Burst, Downlink>, Halted<Burst, Downlink>>>
+    ensures tested { IsSome result ↔ All (λ l. l.failed < 2 ^ 64 - 1) links.items }
+    ensures nothing { IfNone result (memory.new ≡ memory.old) }
+    ensures again { IfSome result (λ ended. IfErr ended (λ halted. (step : ℕ) → halted.cause ≡ LinkFailed step
+        → GoesOutAgain links.items halted.links.items memory.new)) }
+{
+    if !may_fail(&links) {
+        return None;
+    }
+    Some(carry_out_or_tell(rt, alloc, memory, problem, plan, sources, links))
 }

@@ -16,4 +16,3 @@ pub mod service;
 pub mod stores;
 #[cfg(test)]
 mod tests;
-pub mod used;

@@ -7,16 +7,15 @@ use crate::checker::least_loss;
 use crate::ends::{Burst, Downlink};
 use crate::flight::{Told, plan_and_fly};
 use crate::flow::{greatest_value, in_a_row};
-use crate::halt::carry_out_or_tell;
+use crate::halt::{carry_out_or_tell, carry_out_over_used};
 use crate::memory::with_one_off;
 use crate::packets::again;
 use crate::requests::enable_again;
 use crate::service::carried_out;
 use crate::stores::third_of_two;
-use crate::used::carry_out_over_used;
 use mm_base::{Kind, StoreId};
 use mm_desk::StoreState;
-use mm_exec::Cause;
+use mm_exec::{Cause, Halted};
 use mm_memory::{Answer, Memory};
 use mm_packet::{BlockPacket, Header, Octets, Packet};
 use mm_plan::Sheet;
@@ -231,23 +230,43 @@ fn is_held_again(rt: &impl Abort, state: &StoreState, link: &Downlink) {
     );
 }
 
+// The memory and the problem of the first run.
+fn first_problem(rt: &impl Abort, alloc: Global) -> (Memory, Problem) {
+    let setup = Setup::read(alloc, SETUP).expect(rt, "a setup");
+    let problem = Problem::read(alloc, &setup, FORECAST).expect(rt, "a forecast");
+    let memory = Memory::of_setup(alloc, &setup).expect(rt, "memory");
+    (memory, problem)
+}
+
+// Carries out the first plan over a link that takes so many packets, which halts the run in a step.
+fn halted_run<R: Threads + Wait + Sync + Abort>(
+    rt: &R,
+    alloc: Global,
+    memory: &mut Memory,
+    problem: &Problem,
+    ends: (usize, u32),
+) -> Halted<Burst, Downlink> {
+    let (most, step) = ends;
+    let (text, _loss) = PLANS[0];
+    let sheet = Sheet::parse(alloc, text).expect(rt, "a plan");
+    let sources = three_bursts(rt, alloc, 4);
+    let links = one_link(rt, alloc, most);
+    let plan = sheet.plan();
+    match carry_out_or_tell(rt, alloc, memory, problem, plan, sources, links) {
+        Ok(_) => panic!(rt; "the run is halted"),
+        Err(halted) => {
+            assert_eq!(rt; halted.cause, Cause::LinkFailed { step });
+            halted
+        }
+    }
+}
+
 // Of the four blocks that leave by the plan, the link takes three: the third is still stored.
 #[test]
 fn the_last_packet_of_a_failed_link_is_still_stored(rt: HostRuntime) {
     let alloc = rt.alloc();
-    let setup = Setup::read(alloc, SETUP).expect(&rt, "a setup");
-    let problem = Problem::read(alloc, &setup, FORECAST).expect(&rt, "a forecast");
-    let mut memory = Memory::of_setup(alloc, &setup).expect(&rt, "memory");
-    let (text, _loss) = PLANS[0];
-    let sheet = Sheet::parse(alloc, text).expect(&rt, "a plan");
-    let sources = three_bursts(&rt, alloc, 4);
-    let links = one_link(&rt, alloc, 3);
-    let plan = sheet.plan();
-    let Err(halted) = carry_out_or_tell(&rt, alloc, &mut memory, &problem, plan, sources, links)
-    else {
-        panic!(&rt; "the run is halted");
-    };
-    assert_eq!(rt; halted.cause, Cause::LinkFailed { step: 2 });
+    let (mut memory, problem) = first_problem(&rt, alloc);
+    let halted = halted_run(&rt, alloc, &mut memory, &problem, (3, 2));
     let id = StoreId::of_text(b"SCI").expect(&rt, "an identifier");
     let state = memory.state(&id).expect(&rt, "a store");
     for link in &halted.links {
@@ -257,9 +276,7 @@ fn the_last_packet_of_a_failed_link_is_still_stored(rt: HostRuntime) {
 
 // Whether the first plan is carried out over a link that has failed this often.
 fn is_carried_out<R: Threads + Wait + Sync + Abort>(rt: &R, alloc: Global, failed: u64) -> bool {
-    let setup = Setup::read(alloc, SETUP).expect(rt, "a setup");
-    let problem = Problem::read(alloc, &setup, FORECAST).expect(rt, "a forecast");
-    let mut memory = Memory::of_setup(alloc, &setup).expect(rt, "memory");
+    let (mut memory, problem) = first_problem(rt, alloc);
     let (text, _loss) = PLANS[0];
     let sheet = Sheet::parse(alloc, text).expect(rt, "a plan");
     let sources = three_bursts(rt, alloc, 4);

@@ -27,6 +27,8 @@ pub(crate) enum Told {
     Done,
     /// No memory, and a packet that was offered is handed back.
     NoMemory,
+    /// Nothing, since there was no memory for the packet to be offered.
+    Unmade,
     /// Any other answer.
     Other,
 }
@@ -67,32 +69,25 @@ pub(crate) fn packet(alloc: Global, count: u16) -> Result<BlockPacket, NoMemory>
     }
 }
 
-/// The packet of an offer, and none for another call.
-pub(crate) fn packet_for(alloc: Global, ask: Ask) -> Result<Option<BlockPacket>, NoMemory> {
-    match ask {
-        Ask::Offer(_, count) => Ok(Some(packet(alloc, count)?)),
-        _ => Ok(None),
-    }
-}
-
-/// What an offer is answered. The packet that comes back is put where it was taken from.
-pub(crate) fn told_of_offer(
-    answer: Result<Offered, Returned>,
-    count: u16,
-    packet: &mut Option<BlockPacket>,
-) -> Told {
+/// What an offer of the packet with this sequence count is answered.
+pub(crate) fn told_of_offer(answer: &Result<Offered, Returned>, count: u16) -> Told {
     match answer {
-        Ok(Offered::Kept(time)) => Told::Kept(time),
-        Ok(_) => Told::Other,
-        Err(back) => {
-            let lacks = back.fault == Fault::NoMemory && back.packet.packet().count() == count;
-            *packet = Some(back.packet);
-            if lacks { Told::NoMemory } else { Told::Other }
-        }
+        Ok(Offered::Kept(time)) => Told::Kept(*time),
+        Err(back) if back.fault == Fault::NoMemory => told_of_back(&back.packet, count),
+        _ => Told::Other,
     }
 }
 
-pub(crate) fn told_of_next(answer: Result<Option<Stored>, Fault>) -> Told {
+// The packet with this sequence count is handed back for want of memory.
+fn told_of_back(packet: &BlockPacket, count: u16) -> Told {
+    if packet.packet().count() == count {
+        Told::NoMemory
+    } else {
+        Told::Other
+    }
+}
+
+pub(crate) fn told_of_next(answer: &Result<Option<Stored>, Fault>) -> Told {
     match answer {
         Ok(Some(stored)) => Told::Given(stored.time, stored.packet.packet().count()),
         Err(Fault::NoMemory) => Told::NoMemory,

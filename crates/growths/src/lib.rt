@@ -1,15 +1,14 @@
 //! Calls that may lack memory, in parts: each says what its calls answered, which is wrong where none of them may answer it.
 #![tactic(auto)]
 
-mod applied;
 mod calls;
-mod created;
 mod data;
 mod dumps;
 mod link;
 mod met;
 mod parts;
 mod records;
+mod requests;
 mod runs;
 mod seats;
 mod shared;

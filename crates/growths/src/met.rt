@@ -21,13 +21,19 @@ pub enum Met {
 }
 
 impl Met {
+    // Itself where it is wrong, and otherwise the other one.
+    fn if_wrong_or(self, other: Met) -> Met {
+        match self {
+            Met::Wrong(_) => self,
+            _ => other,
+        }
+    }
+
     /// What came of these calls and of those after them.
     pub(crate) fn and(self, after: Met) -> Met {
-        match (self, after) {
-            (Met::Wrong(_), _) => self,
-            (_, Met::Wrong(_)) => after,
-            (Met::Whole, _) => after,
-            _ => self,
+        match self {
+            Met::Whole => after,
+            _ => self.if_wrong_or(after.if_wrong_or(self)),
         }
     }
 

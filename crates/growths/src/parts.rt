@@ -1,10 +1,9 @@
 //! The parts by their names.
-use crate::applied::deleted;
-use crate::created::created;
 use crate::data::{later, new, rest};
 use crate::dumps::dumps;
 use crate::met::Met;
 use crate::records::record;
+use crate::requests::{created, deleted};
 use crate::runs::{crowd, flight, run};
 use crate::seats::desk;
 use crate::shared::shared;

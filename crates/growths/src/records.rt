@@ -1,7 +1,7 @@
 //! A step of recorders: two sources of three packets each, which go to a circular store of two blocks and to a bounded one of four.
 
-use crate::applied::memory_of_text;
 use crate::met::Met;
+use crate::requests::memory_of_text;
 use mm_desk::Held;
 use mm_memory::Memory;
 use mm_record::{Cause, RecordHalted, RecordedStep, Source, record_step};

@@ -5,7 +5,7 @@ use crate::met::Met;
 use crate::traces::{Traces, traces_of};
 use mm_base::StoreId;
 use mm_dump::may_fail;
-use mm_exec::{Cause, Halted, NotFlown, carry_out, fly};
+use mm_exec::{Cause, Flight, Flown, Halted, NotFlown, carry_out, fly};
 use mm_memory::Memory;
 use mm_plan::Sheet;
 use mm_problem::{Problem, Setup};
@@ -86,22 +86,40 @@ struct Stage {
     links: Vec<TestLink>,
 }
 
-fn stage_in_room(alloc: Global, sources: &[&[u8]], links: usize) -> Option<Stage> {
+// The memory and the problem of the first plan.
+fn first_problem(alloc: Global) -> Option<(Memory, Problem)> {
     let setup = Setup::read(alloc, SETUP).ok()?;
-    let memory = Memory::of_setup(alloc, &setup).ok()?;
     let problem = Problem::read(alloc, &setup, FORECAST).ok()?;
+    match Memory::of_setup(alloc, &setup) {
+        Ok(memory) => Some((memory, problem)),
+        Err(_) => None,
+    }
+}
+
+// The sources of a text in parts.
+fn sources_of(alloc: Global, parts: &[&[u8]]) -> Option<Vec<ScriptedSource>> {
     let mut text = Vec::new(alloc);
-    for part in sources {
+    for part in parts {
         text.extend_from_slice(part).ok()?;
     }
-    let SourceFile { sources, .. } = SourceFile::read(alloc, &text).ok()?;
-    let links = new_links(alloc, links).ok()?;
-    Some(Stage {
-        memory,
-        problem,
-        sources,
-        links,
-    })
+    match SourceFile::read(alloc, &text) {
+        Ok(file) => Some(file.sources),
+        Err(_) => None,
+    }
+}
+
+fn stage_in_room(alloc: Global, sources: &[&[u8]], links: usize) -> Option<Stage> {
+    let (memory, problem) = first_problem(alloc)?;
+    let sources = sources_of(alloc, sources)?;
+    match new_links(alloc, links) {
+        Ok(links) => Some(Stage {
+            memory,
+            problem,
+            sources,
+            links,
+        }),
+        Err(_) => None,
+    }
 }
 
 // Whether a report has this text; want of memory for the text aside.
@@ -115,15 +133,35 @@ fn told(alloc: Global, report: &Report, want: &[u8]) -> Met {
     }
 }
 
-// What a run left that went through, of this many packets.
-fn whole(alloc: Global, left: &Traces, packets: u32, report: &Report, want: &[u8]) -> Met {
-    told(alloc, report, want)
+// What a run has left in its one store, its sources and its links.
+fn left_by(memory: &Memory, sources: &mut [ScriptedSource], links: &[TestLink]) -> Option<Traces> {
+    let id = StoreId::of_text(b"SCI").ok()?;
+    traces_of(memory.state(&id)?, sources, links)
+}
+
+// Whether all of this many packets were given, and four of them sent.
+fn all_given(left: &Traces, packets: u32) -> Met {
+    Met::Whole
         .provided(left.is_kept(packets), "a packet lost or invented")
         .provided(left.given(packets) == packets, "a packet left in a source")
         .provided(
             (left.sent, left.deleted) == (4, 4),
             "another number sent or deleted",
         )
+}
+
+// What a run left that went through, of this many packets.
+fn whole(
+    alloc: Global,
+    memory: &Memory,
+    mut flight: Flight<ScriptedSource, TestLink>,
+    packets: u32,
+    want: &[u8],
+) -> Met {
+    match left_by(memory, &mut flight.sources, &flight.links) {
+        Some(left) => told(alloc, &flight.report, want).and(all_given(&left, packets)),
+        None => Met::Wrong("what a run may not leave"),
+    }
 }
 
 // How many of this many packets are given before a step, and up to its end.
@@ -136,41 +174,47 @@ fn given_around(step: u32, packets: u32) -> [u32; 2] {
     }
 }
 
-// What a run left that was halted. Nothing of its last step was recorded or all of it, and nothing of it was dumped.
-fn halted_for_want_of_memory(
-    alloc: Global,
-    left: &Traces,
-    packets: u32,
-    end: &Halted<ScriptedSource, TestLink>,
-) -> Met {
-    let Cause::NoMemory { step } = end.cause else {
-        return Met::Wrong("halted for another cause");
-    };
-    let Some(want) = HALTED.get(step.saturating_sub(1) as usize) else {
-        return Met::Wrong("halted in another step");
-    };
-    let report = told(alloc, &end.report, want);
+// Whether nothing of this step was recorded or all of it, and as many packets were dumped before it.
+fn given_whole(left: &Traces, step: u32, packets: u32, dumped: u128) -> Met {
     Met::Halted(step)
         .provided(left.is_kept(packets), "a packet lost or invented")
-        .provided(matches!(report, Met::Whole), "another report")
-        .provided(
-            end.spent == 0,
-            "drawn from the window of a step that was not dumped",
-        )
-        .provided(
-            u128::from(left.sent) == end.report.totals().dumped,
-            "another number sent",
-        )
+        .provided(u128::from(left.sent) == dumped, "another number sent")
         .provided(
             given_around(step, packets).contains(&left.given(packets)),
             "a step recorded in part",
         )
 }
 
-// What a run has left in its one store, its sources and its links.
-fn left_by(memory: &Memory, sources: &mut [ScriptedSource], links: &[TestLink]) -> Option<Traces> {
-    let id = StoreId::of_text(b"SCI").ok()?;
-    traces_of(memory.state(&id)?, sources, links)
+// What a run told that was halted in this step: the steps before it, and that nothing of it was dumped.
+fn told_of_halt(alloc: Global, end: &Halted<ScriptedSource, TestLink>, step: u32) -> Met {
+    let Some(want) = HALTED.get(step.saturating_sub(1) as usize) else {
+        return Met::Wrong("halted in another step");
+    };
+    let report = told(alloc, &end.report, want);
+    Met::Whole
+        .provided(matches!(report, Met::Whole), "another report")
+        .provided(
+            end.spent == 0,
+            "drawn from the window of a step that was not dumped",
+        )
+}
+
+// What a run left that was halted, of this many packets.
+fn halted_for_want_of_memory(
+    alloc: Global,
+    memory: &Memory,
+    mut end: Halted<ScriptedSource, TestLink>,
+    packets: u32,
+) -> Met {
+    let Cause::NoMemory { step } = end.cause else {
+        return Met::Wrong("halted for another cause");
+    };
+    let dumped = end.report.totals().dumped;
+    let met = match left_by(memory, &mut end.sources, &end.links) {
+        Some(left) => given_whole(&left, step, packets, dumped),
+        None => Met::Wrong("what a run may not leave after a halt"),
+    };
+    met.and(told_of_halt(alloc, &end, step))
 }
 
 // What came of a run of the first plan, with eleven packets in place of ten.
@@ -186,48 +230,74 @@ fn carried<R: Threads + Wait + Sync>(rt: &R, alloc: Global, stage: Stage, sheet:
     }
     let plan = sheet.plan();
     match carry_out(rt, alloc, &mut memory, &problem, plan, sources, links, 0) {
-        Ok(mut flight) => match left_by(&memory, &mut flight.sources, &flight.links) {
-            Some(left) => whole(alloc, &left, 11, &flight.report, ELEVEN_CAME),
-            None => Met::Wrong("what a run may not leave"),
-        },
-        Err(mut end) => match left_by(&memory, &mut end.sources, &end.links) {
-            Some(left) => halted_for_want_of_memory(alloc, &left, 11, &end),
-            None => Met::Wrong("what a run may not leave after a halt"),
-        },
+        Ok(flight) => whole(alloc, &memory, flight, 11, ELEVEN_CAME),
+        Err(end) => halted_for_want_of_memory(alloc, &memory, end, 11),
+    }
+}
+
+// What came of the first plan with these sources, and with so many links.
+fn run_with<R: Threads + Wait + Sync>(
+    rt: &R,
+    alloc: Global,
+    sources: &[&[u8]],
+    links: usize,
+) -> Met {
+    let Some(stage) = stage_in_room(alloc, sources, links) else {
+        return Met::Unready;
+    };
+    match Sheet::parse(alloc, PLAN) {
+        Ok(sheet) => carried(rt, alloc, stage, &sheet),
+        Err(_) => Met::Unready,
     }
 }
 
 /// What came of a run with one source and one link, in which eleven packets come in place of ten.
 pub(crate) fn run<R: Threads + Wait + Sync>(rt: &R, alloc: Global) -> Met {
-    let Some(stage) = stage_in_room(alloc, &[OF_ONE, ONE_MORE], 1) else {
-        return Met::Unready;
-    };
-    match Sheet::parse(alloc, PLAN) {
-        Ok(sheet) => carried(rt, alloc, stage, &sheet),
-        Err(_) => Met::Unready,
-    }
+    run_with(rt, alloc, &[OF_ONE, ONE_MORE], 1)
 }
 
 /// What came of the same run with two sources and two links.
 pub(crate) fn crowd<R: Threads + Wait + Sync>(rt: &R, alloc: Global) -> Met {
-    let Some(stage) = stage_in_room(alloc, &[OF_TWO], 2) else {
-        return Met::Unready;
-    };
-    match Sheet::parse(alloc, PLAN) {
-        Ok(sheet) => carried(rt, alloc, stage, &sheet),
-        Err(_) => Met::Unready,
-    }
+    run_with(rt, alloc, &[OF_TWO], 2)
 }
 
 // What came of a run that has no plan: nothing was done, and for want of memory alone.
-fn unplanned(left: &Traces, end: &NotFlown<ScriptedSource, TestLink>) -> Met {
-    Met::Unplanned
-        .provided(
-            end.halted.cause == Cause::NoMemory { step: 0 },
-            "no plan for another cause",
-        )
-        .provided(left.is_kept(10), "a packet lost or invented")
-        .provided(left.given(10) == 0, "recorded without a plan")
+fn unplanned(memory: &Memory, mut end: Halted<ScriptedSource, TestLink>) -> Met {
+    let lacks = end.cause == Cause::NoMemory { step: 0 };
+    let met = match left_by(memory, &mut end.sources, &end.links) {
+        Some(left) => Met::Unplanned
+            .provided(left.is_kept(10), "a packet lost or invented")
+            .provided(left.given(10) == 0, "recorded without a plan"),
+        None => Met::Wrong("what a run may not leave after a halt"),
+    };
+    met.provided(lacks, "no plan for another cause")
+}
+
+// What came of a run that was planned and went through.
+fn flown(alloc: Global, memory: &Memory, flown: Flown<ScriptedSource, TestLink>) -> Met {
+    let Flown {
+        sheet,
+        report,
+        sources,
+        links,
+    } = flown;
+    let flight = Flight {
+        report,
+        sources,
+        links,
+    };
+    let met = whole(alloc, memory, flight, 10, TEN_CAME);
+    met.provided(sheet.as_slice() == PLAN, "another plan")
+}
+
+// What came of a run that was halted, or not planned.
+fn not_flown(alloc: Global, memory: &Memory, end: NotFlown<ScriptedSource, TestLink>) -> Met {
+    let NotFlown { sheet, halted } = end;
+    if sheet.is_empty() {
+        return unplanned(memory, halted);
+    }
+    let met = halted_for_want_of_memory(alloc, memory, halted, 10);
+    met.provided(sheet.as_slice() == PLAN, "another plan")
 }
 
 /// What came of a run that begins with its plan, with one source and one link, in which what comes is what is forecast.
@@ -245,20 +315,7 @@ pub(crate) fn flight<R: Threads + Wait + Sync>(rt: &R, alloc: Global) -> Met {
         return Met::Unready;
     }
     match fly(rt, alloc, &mut memory, &problem, sources, links, 0) {
-        Ok(mut flown) => match left_by(&memory, &mut flown.sources, &flown.links) {
-            Some(left) => whole(alloc, &left, 10, &flown.report, TEN_CAME).provided(
-                flown.sheet.as_slice() == PLAN,
-                "another plan",
-            ),
-            None => Met::Wrong("what a run may not leave"),
-        },
-        Err(mut end) => match left_by(&memory, &mut end.halted.sources, &end.halted.links) {
-            Some(left) if end.sheet.is_empty() => unplanned(&left, &end),
-            Some(left) => halted_for_want_of_memory(alloc, &left, 10, &end.halted).provided(
-                end.sheet.as_slice() == PLAN,
-                "another plan",
-            ),
-            None => Met::Wrong("what a run may not leave after a halt"),
-        },
+        Ok(done) => flown(alloc, &memory, done),
+        Err(end) => not_flown(alloc, &memory, end),
     }
 }

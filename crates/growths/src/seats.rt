@@ -3,37 +3,60 @@ ghost use Rattle.std.specs.Prelude.{◌≡◌};
 ghost use Rattle.mm_desk.specs.Runs.{opening_at};
 
 use crate::calls::{
-    Ask, CALLS, Told, new_state, packet_for, told_of, told_of_delete, told_of_next, told_of_offer,
+    Ask, CALLS, Told, new_state, packet, told_of, told_of_delete, told_of_next, told_of_offer,
 };
 use crate::met::Met;
 use mm_base::NoMemory;
-use mm_desk::{Closed, Desk, Opening, Seat, StoreState};
-use mm_packet::BlockPacket;
+use mm_desk::{Closed, Desk, Fault, Opening, Seat, StoreState};
 use mm_store::PacketStore;
 use std::alloc::Global;
 use std::marker::Brand;
 use std::sync::Wait;
 
-// What a call answers, which offers the packet that was made for it.
+// What an offer answers, where there is memory for its packet.
+fn offered<N: Opening, R: Wait>(
+    rt: &R,
+    alloc: Global,
+    desk: &Desk<N>,
+    seat: &mut Seat<N>,
+    now: u64,
+    count: u16,
+) -> Told {
+    match packet(alloc, count) {
+        Ok(packet) => told_of_offer(&desk.offer(rt, alloc, seat, now, packet), count),
+        Err(NoMemory) => Told::Unmade,
+    }
+}
+
+// Makes a call that is done or refused: a begin, a switch, or else an abort.
+fn done<N: Opening, R: Wait>(
+    rt: &R,
+    alloc: Global,
+    desk: &Desk<N>,
+    seat: &mut Seat<N>,
+    ask: Ask,
+) -> Result<(), Fault> {
+    match ask {
+        Ask::Begin(from, to) => desk.begin(rt, alloc, seat, from, to),
+        Ask::Enable => desk.enable(rt, alloc, seat),
+        Ask::Disable => desk.disable(rt, alloc, seat),
+        _ => desk.abort(rt, alloc, seat),
+    }
+}
+
+// What a call answers.
 fn answer<N: Opening, R: Wait>(
     rt: &R,
     alloc: Global,
     desk: &Desk<N>,
     seat: &mut Seat<N>,
     ask: Ask,
-    made: &mut Option<BlockPacket>,
 ) -> Told {
     match ask {
-        Ask::Offer(now, count) => match made.take() {
-            Some(packet) => told_of_offer(desk.offer(rt, alloc, seat, now, packet), count, made),
-            None => Told::Other,
-        },
-        Ask::Begin(from, to) => told_of(desk.begin(rt, alloc, seat, from, to)),
-        Ask::Next => told_of_next(desk.next(rt, alloc, seat)),
-        Ask::Abort => told_of(desk.abort(rt, alloc, seat)),
+        Ask::Offer(now, count) => offered(rt, alloc, desk, seat, now, count),
+        Ask::Next => told_of_next(&desk.next(rt, alloc, seat)),
         Ask::Delete(limit) => told_of_delete(desk.delete(rt, alloc, seat, limit)),
-        Ask::Disable => told_of(desk.disable(rt, alloc, seat)),
-        Ask::Enable => told_of(desk.enable(rt, alloc, seat)),
+        _ => told_of(done(rt, alloc, desk, seat, ask)),
     }
 }
 
@@ -42,30 +65,43 @@ fn called<N: Opening, R: Wait>(
     rt: &R,
     alloc: Global,
     desk: &Desk<N>,
-    seat: Option<&mut Seat<N>>,
+    seat: &mut Seat<N>,
     ask: Ask,
     want: Told,
 ) -> Met {
-    let Some(seat) = seat else {
-        return Met::Wrong("a seat is missing");
-    };
-    // Without memory for its packet the call is made all the same, with a packet that is made once more.
-    let (met, mut made) = match packet_for(alloc, ask) {
-        Ok(made) => (Met::Whole, made),
-        Err(NoMemory) => (Met::Unready, packet_for(alloc, ask).unwrap_or(None)),
-    };
     let before = seat.list().len();
-    let first = answer(rt, alloc, desk, seat, ask, &mut made);
-    if first != Told::NoMemory {
-        return met
-            .provided(first == want, "another answer")
-            .provided(seat.list().len() > before, "a call that is not listed");
-    }
-    let unlisted = seat.list().len() == before;
-    let second = answer(rt, alloc, desk, seat, ask, &mut made);
-    Met::Wanted
-        .provided(unlisted, "listed without memory")
+    let first = answer(rt, alloc, desk, seat, ask);
+    let listed = seat.list().len() > before;
+    let met = match first {
+        Told::Unmade => Met::Unready,
+        Told::NoMemory => Met::Wanted,
+        _ => {
+            return Met::Whole
+                .provided(first == want, "another answer")
+                .provided(listed, "a call that is not listed");
+        }
+    };
+    let second = answer(rt, alloc, desk, seat, ask);
+    met.provided(!listed, "listed without memory")
         .provided(second == want, "another answer after want of memory")
+}
+
+// What came of the calls through their seats.
+fn all_called<N: Opening, R: Wait>(
+    rt: &R,
+    alloc: Global,
+    desk: &Desk<N>,
+    seats: &mut [Seat<N>],
+) -> Met {
+    let mut met = Met::Whole;
+    for (number, ask, want) in CALLS {
+        let one = match seats.get_mut(number) {
+            Some(seat) => called(rt, alloc, desk, seat, ask, want),
+            None => Met::Wrong("a seat is missing"),
+        };
+        met = met.and(one);
+    }
+    met
 }
 
 // What the calls leave: a log of eight entries that agrees with the lists, and one packet of two.
@@ -84,18 +120,16 @@ fn left<N: Opening>(closed: &Closed<N>) -> Met {
 fn seated<N: Opening, R: Wait>(rt: &R, alloc: Global, state: StoreState) -> Met
     requires state { state ≡ opening_at N.states 0 }
 {
-    let (desk, mut seats) = match Desk::<N>::open(alloc, state, 0, 2) {
-        Ok(opened) => opened,
+    match Desk::<N>::open(alloc, state, 0, 2) {
+        Ok((desk, mut seats)) => {
+            let met = all_called(rt, alloc, &desk, &mut seats);
+            met.and(left(&desk.close(seats)))
+        }
         Err((state, _)) => {
             let right = state.offered() == 0 && state.storage();
-            return Met::Unready.provided(right, "another state comes back");
+            Met::Unready.provided(right, "another state comes back")
         }
-    };
-    let mut met = Met::Whole;
-    for (number, ask, want) in CALLS {
-        met = met.and(called(rt, alloc, &desk, seats.get_mut(number), ask, want));
     }
-    met.and(left(&desk.close(seats)))
 }
 
 /// What came of the calls of two seats at one desk.

@@ -3,44 +3,35 @@ ghost use Rattle.std.specs.Prelude.{◌≡◌};
 ghost use Rattle.mm_shared.specs.Views.{new_ports};
 
 use crate::calls::{
-    Ask, CALLS, Call, Told, new_state, packet_for, told_of, told_of_delete, told_of_next,
-    told_of_offer,
+    Ask, CALLS, Call, Told, new_state, packet, told_of, told_of_delete, told_of_next, told_of_offer,
 };
 use crate::met::Met;
 use mm_base::NoMemory;
 use mm_desk::StoreState;
-use mm_packet::BlockPacket;
 use mm_shared::{Port, Ports, SharedStore};
 use mm_store::PacketStore;
 use std::alloc::Global;
 use std::sync::Wait;
 
-// What a call answers, which offers the packet that was made for it.
-fn answer<R: Wait>(
-    rt: &R,
-    alloc: Global,
-    store: &SharedStore,
-    port: &mut Port,
-    ask: Ask,
-    made: Option<BlockPacket>,
-) -> Told
+// What a call answers.
+fn answer<R: Wait>(rt: &R, alloc: Global, store: &SharedStore, port: &mut Port, ask: Ask) -> Told
     requires of { port.old.of ≡ store.now.id }
     ensures same { (port.new.of ≡ port.old.of) × (port.new.number ≡ port.old.number) }
 {
-    match (ask, made) {
-        (Ask::Offer(now, count), Some(packet)) => {
-            told_of_offer(store.offer(rt, port, now, packet), count, &mut None)
-        }
-        (Ask::Offer(..), None) => Told::Other,
-        (Ask::Begin(from, to), _) => told_of(store.begin(rt, port, from, to)),
-        (Ask::Next, _) => told_of_next(store.next(rt, alloc, port)),
-        (Ask::Abort, _) => told_of(store.abort(rt, port)),
-        (Ask::Delete(limit), _) => told_of_delete(store.delete(rt, port, limit)),
-        (Ask::Disable, _) => {
+    match ask {
+        Ask::Offer(now, count) => match packet(alloc, count) {
+            Ok(packet) => told_of_offer(&store.offer(rt, port, now, packet), count),
+            Err(NoMemory) => Told::Unmade,
+        },
+        Ask::Begin(from, to) => told_of(store.begin(rt, port, from, to)),
+        Ask::Next => told_of_next(&store.next(rt, alloc, port)),
+        Ask::Abort => told_of(store.abort(rt, port)),
+        Ask::Delete(limit) => told_of_delete(store.delete(rt, port, limit)),
+        Ask::Disable => {
             store.disable(rt, port);
             Told::Done
         }
-        (Ask::Enable, _) => {
+        Ask::Enable => {
             store.enable(rt, port);
             Told::Done
         }
@@ -59,12 +50,12 @@ fn called<R: Wait>(
     requires of { port.old.of ≡ store.now.id }
     ensures same { (port.new.of ≡ port.old.of) × (port.new.number ≡ port.old.number) }
 {
-    let (met, made) = match packet_for(alloc, ask) {
-        Ok(made) => (Met::Whole, made),
-        Err(NoMemory) => (Met::Unready, packet_for(alloc, ask).unwrap_or(None)),
-    };
-    let told = answer(rt, alloc, store, port, ask, made);
-    met.provided(told == want, "another answer")
+    let first = answer(rt, alloc, store, port, ask);
+    if first != Told::Unmade {
+        return Met::Whole.provided(first == want, "another answer");
+    }
+    let second = answer(rt, alloc, store, port, ask);
+    Met::Unready.provided(second == want, "another answer")
 }
 
 // What came of a call through the port of its seat.

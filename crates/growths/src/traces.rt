@@ -33,19 +33,25 @@ fn with(packets: Packets, count: u16) -> Option<Packets> {
     }
 }
 
+// The time of the oldest packet after a time, and its sequence count.
+fn next_after(state: &StoreState, after: u64) -> Option<(u64, u16)> {
+    let (time, packet) = state.store().first_in(0, u64::MAX, after)?;
+    Some((time, packet.packet().count()))
+}
+
 // The packets that a store holds, whose times rise.
 fn held_by(state: &StoreState) -> Option<Packets> {
     let mut packets = 0;
     let mut after = 0;
     for _ in 0..state.store().len() {
-        let (time, packet) = state.store().first_in(0, u64::MAX, after)?;
+        let (time, count) = next_after(state, after)?;
         if time <= after {
             return None;
         }
-        packets = with(packets, packet.packet().count())?;
+        packets = with(packets, count)?;
         after = time;
     }
-    match state.store().first_in(0, u64::MAX, after) {
+    match next_after(state, after) {
         None => Some(packets),
         Some(_) => None,
     }

@@ -120,6 +120,7 @@ impl Picture {
     }
 
     /// The verdict on the sheet.
+    #[must_use]
     pub fn verdict(&self) -> Verdict
         ensures verdict { result ≡ self.now.verdict }
         ensures is_drawn { IsDrawn self.now }
@@ -127,6 +128,7 @@ impl Picture {
         self.verdict
     }
 
+    #[must_use]
     pub fn problem(&self) -> &Problem
         ensures { result.now ≡ self.now.problem }
     {
@@ -154,6 +156,7 @@ impl Picture {
     }
 
     /// The sums of the cut's bound.
+    #[must_use]
     pub fn parts(&self) -> Parts
         ensures coming { result.coming ≡ coming_sum self.now.problem (cut self.now) }
         ensures held { result.held ≡ held_sum self.now.problem (cut self.now) }
@@ -256,6 +259,7 @@ impl Picture {
     }
 
     /// The number of a step.
+    #[must_use]
     pub fn amount(&self, series: Series, step: u32) -> u64
         requires series { IsSeries self.now series }
         requires first { 1 ≤ step }
@@ -295,6 +299,7 @@ impl Picture {
 
     /// The sum over all steps.
     #[tactic(auto, using(crate::proofs::Ranges::sum_by_next))]
+    #[must_use]
     pub fn total(&self, series: Series) -> u64
         requires { IsSeries self.now series }
         ensures total { result ≡ total_of self.now series }
@@ -309,6 +314,7 @@ impl Picture {
 
     /// The largest number of a step.
     #[tactic(auto, using(crate::proofs::Ranges::largest_next))]
+    #[must_use]
     pub fn most(&self, series: Series) -> u64
         requires { IsSeries self.now series }
         ensures largest { result ≡ most_of self.now series }
@@ -322,6 +328,7 @@ impl Picture {
     }
 
     /// The amount that is drawn in full height.
+    #[must_use]
     pub fn whole(&self, series: Series) -> u64
         requires { IsSeries self.now series }
         ensures whole { result ≡ whole_of self.now series }
@@ -340,6 +347,7 @@ impl Picture {
 }
 
 /// An amount in a scale in which the whole has this height, rounded up, and at most the height.
+#[must_use]
 pub fn scaled(height: u32, whole: u64, amount: u64) -> u32
     requires height { height ≤ 64 }
     requires whole { whole ≤ 2 ^ 40 }

@@ -1,6 +1,7 @@
--- The rows of a report type stand together, and both ends are found by halves.
-use Rattle.std.proofs.Common.{◌≡◌, ◌⊎◌, ℕ, ◌+◌, ◌<◌, ◌≤◌, Bool, true, false, ◌==◌, List, [], ◌++◌, length, get_or, take, drop, refl, sym, ap, ◌∙◌, inl, inr, arith}
-use Rattle.std.specs.List.{filter, All}
+-- The rows of a report type stand together: the first is found by halves, and the others follow it.
+use Rattle.std.proofs.Common.{◌≡◌, ◌⊎◌, ℕ, zero, suc, ◌+◌, ◌<◌, ◌≤◌, Bool, true, false, ◌==◌, cond, ltb, not, List, [], ◌∷◌, ◌++◌, length, get_or, take, drop, Option, Some, None, refl, sym, ap, ◌∙◌, inl, inr, arith}
+use Rattle.std.specs.List.{filter, All, prefix_len, position_or_len}
+use Rattle.std.specs.Option.{unwrap_or}
 use Rattle.std.specs.List.Sorted.{IsPartitionPoint, IsPartitionedBy}
 use Rattle.std.specs.Cmp.{IsTotalOrder, unsigned_tied}
 use Rattle.std.specs.Cmp.Lexicographic.{slice_cmp}
@@ -8,9 +9,11 @@ use Rattle.std.specs.Ordering.{nat_cmp, ordering_then, is_lt, is_le, is_gt, is_e
 use Rattle.std.specs.declared.cmp.Ordering.{Ordering}
 use Rattle.std.specs.declared.cmp.Ordering.TheVariants.{Less, Equal, Greater}
 use Rattle.std.proofs.lemmas.Bool.{cases_lt}
+use Rattle.std.proofs.lemmas.Bool.Decides.{nat_tests}
 use Rattle.std.proofs.lemmas.Cmp.{on_total, then_total, nat_cmp_total, upto}
 use Rattle.std.proofs.lemmas.List.{append-nil, take-append-drop, get_or-take, get_or-drop, length-take, length-drop}
 use Rattle.std.proofs.lemmas.List.Elements.{filter-append}
+use Rattle.std.proofs.lemmas.List.Sums.{prefix_len_stops}
 use Rattle.mm_base.specs.declared.rows.RouteRow.{RouteRow}
 use Rattle.mm_control.specs.Routes.{row_cmp, IsInOrder, is_for, type_cmp}
 use Rattle.mm_control.proofs.OrderLemmas.{is_eq-then, regroup_three}
@@ -65,10 +68,60 @@ not_tied_before Less h = refl
 not_tied_before Equal h = absurd (cc)
 not_tied_before Greater h = absurd (cc)
 
+le_tied : (o : Ordering) → is_eq o ≡ true → is_le o ≡ true
+le_tied Less h = absurd (cc)
+le_tied Equal h = refl
+le_tied Greater h = absurd (cc)
+
+after_it : (o : Ordering) → is_lt o ≡ false → is_eq o ≡ false → is_le o ≡ false
+after_it Less h k = absurd (cc)
+after_it Equal h k = absurd (cc)
+after_it Greater h k = refl
+
 not_tied_after : (o : Ordering) → is_le o ≡ false → is_eq o ≡ false
 not_tied_after Less h = absurd (cc)
 not_tied_after Equal h = absurd (cc)
 not_tied_after Greater h = refl
+
+-- the elements from the front on that pass
+module _ {X : Type 0} (p : X → Bool) where
+  passes_first : (xs : List X) (k : ℕ) (d : X) → k < prefix_len p xs → p (get_or xs k d) ≡ true
+  passes_first [] k d below = absurd (omega arith)
+  passes_first (x ∷ xs) k d below = by_test (λ j. passes_first xs j d) (p x) refl k below
+    where
+      by_test : ((j : ℕ) → j < prefix_len p xs → p (get_or xs j d) ≡ true) → (b : Bool) → p x ≡ b → (k : ℕ) → k < cond b (1 + prefix_len p xs) 0 → p (get_or (x ∷ xs) k d) ≡ true
+      by_test rest true e zero below = e
+      by_test rest true e (suc k) below = rest k (omega arith)
+      by_test rest false e k below = absurd (omega arith)
+
+  pub first_within : (xs : List X) → prefix_len p xs ≤ length xs
+  first_within [] = omega arith
+  first_within (x ∷ xs) = by_test (p x) (first_within xs)
+    where
+      by_test : (b : Bool) → prefix_len p xs ≤ length xs → cond b (1 + prefix_len p xs) 0 ≤ length (x ∷ xs)
+      by_test true rest = omega arith
+      by_test false rest = omega arith
+
+  -- the place of the first that does not pass
+  same_len : (xs : List X) → position_or_len (λ x. not (p x)) xs ≡ prefix_len p xs
+  same_len [] = refl
+  same_len (x ∷ xs) = by_test (p x) (same_len xs)
+    where
+      by_test : (b : Bool) → position_or_len (λ x. not (p x)) xs ≡ prefix_len p xs → cond (not (not b)) (1 + position_or_len (λ x. not (p x)) xs) 0 ≡ cond b (1 + prefix_len p xs) 0
+      by_test true rest = ap (λ n. 1 + n) rest
+      by_test false rest = refl
+
+  -- that place, or else the length
+  pub place_or_length : (xs : List X) (place : Option ℕ)
+      → place ≡ cond (ltb (position_or_len (λ x. not (p x)) xs) (length xs)) (Some (position_or_len (λ x. not (p x)) xs)) None → unwrap_or place (length xs) ≡ prefix_len p xs
+  place_or_length xs place is = rw (is, same_len xs) (by_test (ltb (prefix_len p xs) (length xs)) refl)
+    where
+      by_test : (b : Bool) → ltb (prefix_len p xs) (length xs) ≡ b → unwrap_or (cond b (Some (prefix_len p xs)) None) (length xs) ≡ prefix_len p xs
+      by_test true h = refl
+      by_test false h =
+          let within = first_within xs in
+          let past : length xs ≤ prefix_len p xs = grind (arith, nat_tests) in
+          omega arith
 
 -- in order, a row comes first by report type or ties
 not_last : (a b : RouteRow) → row_cmp a b ≡ Less → is_gt (type_order a b) ≡ false
@@ -112,13 +165,6 @@ module _ (apid service subtype : ℕ) where
   unfolding key
   parted_before rows in_order = parted is_lt first_back rows in_order
 
-  -- from any place on, the rows that do not stand after a report type come first
-  pub parted_upto : (rows rest : List RouteRow) (start : ℕ) → rest ≡ drop start rows → IsInOrder rows → IsPartitionedBy (λ r. is_le (type_cmp apid service subtype r)) rest
-  unfolding key
-  parted_upto rows rest start rest_is in_order =
-      rw rest_is (parted is_le not_last_back (drop start rows)
-      (λ i j d before within. rw (get_or-drop start rows i d, get_or-drop start rows j d) (in_order (start + i) (start + j) d (omega arith) (omega (arith, length-drop start rows)))))
-
   -- a row is for the report type where it ties with it
   is_for-cmp : (r : RouteRow) → is_for apid service subtype r ≡ is_eq (type_cmp apid service subtype r)
   is_for-cmp r =
@@ -131,11 +177,41 @@ module _ (apid service subtype : ℕ) where
       let subtypes = unsigned_tied r.subtype subtype in
       regroup_three (r.apid == apid) (r.service == service) (r.subtype == subtype) ∙ cc
 
-  module _ (rows rest : List RouteRow) (start len : ℕ) (within : start ≤ length rows) (rest_is : rest ≡ drop start rows) (rest_within : len ≤ length rest)
-      (first : IsPartitionPoint (λ r. is_lt (type_cmp apid service subtype r) ≡ true) (λ r. is_lt (type_cmp apid service subtype r) ≡ false) rows start)
-      (last : IsPartitionPoint (λ r. is_le (type_cmp apid service subtype r) ≡ true) (λ r. is_le (type_cmp apid service subtype r) ≡ false) rest len) where
+  -- from any place on, the rows that do not stand after a report type come first
+  parted_upto : (rows rest : List RouteRow) (start : ℕ) → rest ≡ drop start rows → IsInOrder rows → IsPartitionedBy (λ r. is_le (type_cmp apid service subtype r)) rest
+  unfolding key
+  parted_upto rows rest start rest_is in_order =
+      rw rest_is (parted is_le not_last_back (drop start rows)
+      (λ i j d before within. rw (get_or-drop start rows i d, get_or-drop start rows j d) (in_order (start + i) (start + j) d (omega arith) (omega (arith, length-drop start rows)))))
+
+  module _ (rows rest : List RouteRow) (start : ℕ) (in_order : IsInOrder rows) (rest_is : rest ≡ drop start rows)
+      (first : IsPartitionPoint (λ r. is_lt (type_cmp apid service subtype r) ≡ true) (λ r. is_lt (type_cmp apid service subtype r) ≡ false) rows start) where
+    abbrev len : ℕ
+    len = prefix_len (is_for apid service subtype) rest
+
+    within : len ≤ length rest
+    within = first_within (is_for apid service subtype) rest
+
+    -- the rows that do not stand after the report type are the first that are for it
+    last : IsPartitionPoint (λ r. is_le (type_cmp apid service subtype r) ≡ true) (λ r. is_le (type_cmp apid service subtype r) ≡ false) rest len
+    last = (λ k d low below. le_tied _ (sym (is_for-cmp (get_or rest k d)) ∙ passes_first (is_for apid service subtype) rest k d below), λ k d from inside. by_test k d from inside _ refl)
+      where
+        -- the first row that is not for the report type stands after it
+        stop : (d : RouteRow) → len < length rest → is_le (type_cmp apid service subtype (get_or rest len d)) ≡ false
+        stop d inside =
+            let here : get_or rows (start + len) d ≡ get_or rest len d = sym (ap (λ xs. get_or xs len d) rest_is ∙ get_or-drop start rows len d) in
+            let from_it = rw here at (first.1 (start + len) d (omega arith) (omega (arith, length-drop start rows, ap length rest_is))) in
+            after_it _ from_it (sym (is_for-cmp (get_or rest len d)) ∙ prefix_len_stops (is_for apid service subtype) rest d inside)
+
+        by_test : (k : ℕ) (d : RouteRow) → len ≤ k → k < length rest → (b : Bool) → is_le (type_cmp apid service subtype (get_or rest k d)) ≡ b → is_le (type_cmp apid service subtype (get_or rest k d)) ≡ false
+        by_test k d from inside false e = e
+        by_test k d from inside true e =
+            let no = stop d (omega arith) in
+            let yes = parted_upto rows rest start rest_is in_order len k d from inside e in
+            absurd (cc)
+
     -- the run is the rows for the report type
-    pub run_is : take len rest ≡ filter (is_for apid service subtype) rows
+    pub run_is : take (prefix_len (is_for apid service subtype) rest) rest ≡ filter (is_for apid service subtype) rows
     run_is =
         let test = is_for apid service subtype in
         let whole : rows ≡ take start rows ++ (take len rest ++ drop len rest) =
@@ -155,7 +231,7 @@ module _ (apid service subtype : ℕ) where
         between = λ k d inside.
             let below : k < len = omega (arith, length-take len rest) in
             let here : get_or rows (start + k) d ≡ get_or rest k d = sym (ap (λ xs. get_or xs k d) rest_is ∙ get_or-drop start rows k d) in
-            let from_it = rw here at (first.1 (start + k) d (omega arith) (omega (arith, length-drop start rows, ap length rest_is))) in
+            let from_it = rw here at (first.1 (start + k) d (omega arith) (omega (arith, within, length-drop start rows, ap length rest_is))) in
             rw (get_or-take len rest k d below) (is_for-cmp (get_or rest k d) ∙ tied_between _ from_it (last.0 k d (omega arith) below))
 
         late : All (λ r. is_for apid service subtype r ≡ false) (drop len rest)

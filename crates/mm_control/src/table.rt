@@ -1,5 +1,6 @@
 //! The storage control.
 ghost use Rattle.std.specs.Prelude.{◌≡◌, ◌+◌, ◌≤◌, ℕ, if◌then◌else◌, List, [], ◌∷◌, length, map, filter, bytes_eq, is_ok, IfOk, IfErr, OnOk, OnErr};
+ghost use Rattle.std.specs.List.{prefix_len};
 ghost use Rattle.mm_control.specs.Routes.{IsInOrder, AreInOrder, IsTable, Stands, WouldStand, has_row, takes, with_row, without_row, without_store, count_of_store, is_for, type_cmp, stores_for};
 ghost use Rattle.mm_control.specs.declared.fault.Fault.TheVariants.{NoSuchRoute, TableFull};
 
@@ -42,6 +43,22 @@ fn type_cmp(row: &RouteRow, apid: u16, service: u8, subtype: u8) -> Ordering
     }
 }
 
+// Whether a row is for this report type.
+fn is_for(row: &RouteRow, apid: u16, service: u8, subtype: u8) -> bool
+    ensures { result ≡ is_for apid service subtype row.now }
+{
+    row.apid == apid && row.service == service && row.subtype == subtype
+}
+
+// How many rows from the first on are for this report type.
+fn count_for(rows: &[RouteRow], apid: u16, service: u8, subtype: u8) -> usize
+    ensures { result ≡ prefix_len (is_for apid service subtype) rows.now }
+{
+    rows.iter()
+        .position(|row| !is_for(row, apid, service, subtype))
+        .unwrap_or(rows.len())
+}
+
 // The rows of a report type, which stand together.
 fn rows_for(rows: &[RouteRow], apid: u16, service: u8, subtype: u8) -> &[RouteRow]
     requires { IsInOrder rows.now }
@@ -49,8 +66,7 @@ fn rows_for(rows: &[RouteRow], apid: u16, service: u8, subtype: u8) -> &[RouteRo
 {
     let start = rows.partition_point(|row| type_cmp(row, apid, service, subtype).is_lt());
     let rest = &rows[start..];
-    let len = rest.partition_point(|row| type_cmp(row, apid, service, subtype).is_le());
-    &rest[..len]
+    &rest[..count_for(rest, apid, service, subtype)]
 }
 
 // The stores that rows lead to.

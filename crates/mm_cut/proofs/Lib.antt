@@ -8,3 +8,4 @@ pub mod Exclusion
 pub mod Helping
 mod Refusals
 mod WorkedExamples
+pub mod SameVerdict

@@ -85,6 +85,7 @@ fn limit_sum(problem: &Problem, stretches: &[Stretch], step: u32) -> u64
 }
 
 /// Whether a step counts by its window: it is an inner step of some stretch, and not counted by channels.
+#[must_use]
 pub fn counts_window(stretches: &[Stretch], counts: &[u32], step: u32) -> bool
     ensures { result ≡ counts_window stretches.now counts.now step }
 {
@@ -92,6 +93,7 @@ pub fn counts_window(stretches: &[Stretch], counts: &[u32], step: u32) -> bool
 }
 
 /// Whether a step counts by the limits of channels.
+#[must_use]
 pub fn counts_limits(stretches: &[Stretch], counts: &[u32], step: u32) -> bool
     ensures { result ≡ counts_limits stretches.now counts.now step }
 {
@@ -171,6 +173,7 @@ pub struct Parts {
 }
 
 /// The sums that the bound of a cut is made of.
+#[must_use]
 pub fn parts_of(problem: &Problem, stretches: &[Stretch], counts: &[u32]) -> Parts
     requires { IsCut problem.now stretches.now counts.now }
     ensures coming { result.coming ≡ coming_sum problem.now stretches.now }
@@ -194,6 +197,7 @@ pub fn parts_of(problem: &Problem, stretches: &[Stretch], counts: &[u32]) -> Par
 /// The bound of a cut, in blocks: what comes in over its stretches, less what may be held as they end and what may
 /// leave in inner steps. No plan that fits loses less. It may be below 0.
 #[tactic(auto, using(crate::proofs::PartSums::leaving_sum_parts))]
+#[must_use]
 pub fn bound(problem: &Problem, stretches: &[Stretch], counts: &[u32]) -> i64
     requires { IsCut problem.now stretches.now counts.now }
     ensures bound { result ≡ bound problem.now stretches.now counts.now }

@@ -57,6 +57,7 @@ fn is_counted_after(problem: &Problem, stretches: &[Stretch], earlier: &[u32], s
 
 /// The first bad step of those that count by channels, from 1: it is not inner, it stands before in the list, or a
 /// store that is inner there has a channel without a limit.
+#[must_use]
 pub fn first_bad_count(problem: &Problem, stretches: &[Stretch], counts: &[u32]) -> Option<u32>
     requires { AreStretches problem.now stretches.now }
     ensures none { IsNone result ↔ AreCounted problem.now stretches.now counts.now }

@@ -9,6 +9,7 @@ use mm_plan::Stretch;
 use mm_problem::Problem;
 
 /// The place of a stretch's store, from 0 in setup order.
+#[must_use]
 pub fn store_of(problem: &Problem, stretch: &Stretch) -> usize
     requires { IsStretch problem.now stretch.now }
     ensures store { result ≡ store_of problem.now stretch.now }
@@ -64,6 +65,7 @@ fn is_stretch_after(problem: &Problem, earlier: &[Stretch], stretch: &Stretch) -
 
 /// The first bad stretch, from 1: its store is unknown, its steps are out of order or not of the problem, or it
 /// shares a step with an earlier stretch of its store.
+#[must_use]
 pub fn first_bad(problem: &Problem, stretches: &[Stretch]) -> Option<u32>
     ensures none { IsNone result ↔ AreStretches problem.now stretches.now }
     ensures bad { IfSome result (IsFirstBad (AreStretches problem.now) stretches.now) }

@@ -69,6 +69,7 @@ fn wrong_bound(
 
 /// The first verdict that holds, in the order of `Verdict`, of a plan and a cut, with the loss and the bound that
 /// are printed beside them.
+#[must_use]
 pub fn verify(
     problem: &Problem,
     plan: &Plan,

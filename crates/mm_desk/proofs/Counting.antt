@@ -45,11 +45,11 @@ first_lists : (lists : List (List Event)) (log : List Entry) (n : ℕ) → IsShu
     → count_of (take n lists) ≡ length (below n log)
 first_lists lists log zero shuffle within = sym (below-zero log)
 first_lists lists log (suc n) shuffle within =
-    let front = first_lists lists log n shuffle (omega arith) in
+    let firsts = first_lists lists log n shuffle (omega arith) in
     let more = rw add-one at (sum_by_more (λ (events : List Event). length events) lists n [] (omega arith)) in
     let here = ap length (shuffle.parts n (omega arith)) in
     let mapped = length-map (part n log) (λ (e : Entry). e.event) in
-    omega (arith, front, more, here, mapped, below-suc n log)
+    omega (arith, firsts, more, here, mapped, below-suc n log)
 
 -- a shuffle of lists has as many entries as they have events
 pub count_of_shuffle : (lists : List (List Event)) (log : List Entry) → IsShuffleOfEvents lists log → count_of lists ≡ length log

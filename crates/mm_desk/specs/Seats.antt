@@ -10,45 +10,41 @@ use Rattle.mm_desk.specs.Machine.{State}
 use Rattle.mm_desk.specs.Runs.{entry}
 
 -- what is under a desk's lock: its place, the state of its store, and the log of the calls made
-pub record Kept : Type 0 where
+pub record LockedStoreView : Type 0 where
   pub place : ℕ
   pub state : State
   pub log : List Entry
 
 -- a seat: the place of its desk, its number there, and the list of the calls made through it
-pub record Place : Type 0 where
+pub record SeatView : Type 0 where
   pub place : ℕ
   pub number : ℕ
   pub list : List Entry
 
 -- a seat through which no call was made
-abbrev pub new_seat : ℕ → ℕ → Place
+abbrev pub new_seat : ℕ → ℕ → SeatView
 new_seat place number = record { place = place; number = number; list = [] }
 
--- a seat with one call more in its list
-abbrev pub with_call : Place → Event → Reply → Place
-with_call seat event reply = record seat { list = seat.list ++ entry seat.number event reply ∷ [] }
-
 -- what a contract sees of a desk: its place, and how many seats it has
-pub record Front : Type 0 where
+pub record DeskView : Type 0 where
   pub place : ℕ
   pub seats : ℕ
 
 -- a desk at this place, with this many seats
-abbrev pub front : ℕ → ℕ → Front
-front place seats = record { place = place; seats = seats }
+abbrev pub desk_view : ℕ → ℕ → DeskView
+desk_view place seats = record { place = place; seats = seats }
 
 -- the lists of seats
-abbrev pub lists_of : List Place → List (List Entry)
+abbrev pub lists_of : List SeatView → List (List Entry)
 lists_of seats = map (λ s. s.list) seats
 
 -- each seat stands at the place of its number, and there are this many
-pub record AreInOrder (seated : ℕ) (seats : List Place) : Type 0 where
+pub record AreInOrder (seated : ℕ) (seats : List SeatView) : Type 0 where
   pub count : length seats ≡ seated
   pub numbers : (i : ℕ) → i < length seats → (slice_index_or seats i (new_seat 0 0)).number ≡ i
 
 -- there are this many seats, in order, of the desk at this place, and no call was made through them
-pub record AreNew (place seated : ℕ) (seats : List Place) : Type 0 where
+pub record AreNew (place seated : ℕ) (seats : List SeatView) : Type 0 where
   pub count : length seats ≡ seated
   pub each : (i : ℕ) → i < seated → slice_index_or seats i (new_seat 0 0) ≡ new_seat place i
 
@@ -62,7 +58,11 @@ lacking (Delete limit) = reply.Deleted (Err NoMemory)
 lacking Enable = reply.Done (Err NoMemory)
 lacking Disable = reply.Done (Err NoMemory)
 
+-- a seat with one call more in its list
+abbrev pub with_call : SeatView → Event → Reply → SeatView
+with_call seat event reply = record seat { list = seat.list ++ entry seat.number event reply ∷ [] }
+
 -- a call made through a seat is in its list; where there was no memory it is not, and nothing has changed
-pub record Tells (old : Place) (event : Event) (reply : Reply) (new : Place) : Type 0 where
+pub record Tells (old : SeatView) (event : Event) (reply : Reply) (new : SeatView) : Type 0 where
   pub told : reply ≢ lacking event → new ≡ with_call old event reply
   pub lacks : reply ≡ lacking event → new ≡ old

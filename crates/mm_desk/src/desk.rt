@@ -3,17 +3,17 @@ ghost use Rattle.std.specs.Prelude.{◌≡◌, ◌≤◌, IsTrue, IfOk, IfErr, O
 ghost use Rattle.mm_desk.specs.Answers.{Answers};
 ghost use Rattle.mm_desk.specs.Machine.{IsState};
 ghost use Rattle.mm_desk.specs.Runs.{IsRun, opening_at};
-ghost use Rattle.mm_desk.specs.Seats.{front, AreNew, AreInOrder, Tells, lists_of, with_call};
+ghost use Rattle.mm_desk.specs.Seats.{desk_view, AreNew, AreInOrder, Tells, lists_of, with_call};
 ghost use Rattle.mm_desk.specs.Shuffles.{IsShuffle};
 
 use crate::agree::agrees;
 use crate::entry::Entry;
 use crate::event::Event;
 use crate::fault::Fault;
+use crate::locked_store::LockedStore;
 use crate::opening::Opening;
 use crate::reply::{Offered, Reply, Returned};
 use crate::seat::{Seat, new_seats};
-use crate::shelf::Shelf;
 use crate::state::StoreState;
 use mm_base::NoMemory;
 use mm_packet::BlockPacket;
@@ -31,13 +31,13 @@ pub const MAX_SEATS: u32 = 16;
 pub struct Desk<N: Opening> {
     place: u32,
     seats: u32,
-    shelf: Mutex<Shelf<N>>,
+    locked: Mutex<LockedStore<N>>,
 }
 
 impl<N: Opening> Model for Desk<N> {
-    ghost use Rattle.mm_desk.specs.Seats.{Front};
+    ghost use Rattle.mm_desk.specs.Seats.{DeskView};
 
-    ghost Value = { Front };
+    ghost Value = { DeskView };
 
     ghost view = { λ d. record { place = d.place; seats = d.seats } };
 }
@@ -75,13 +75,13 @@ impl<N: Opening> Desk<N> {
     /// A desk with an empty log, at this place and with this many seats. It takes no memory.
     pub fn new(alloc: Global, state: StoreState, place: u32, seats: u32) -> Desk<N>
         requires state { state ≡ opening_at N.states place }
-        ensures front { result ≡ front place seats }
+        ensures desk { result ≡ desk_view place seats }
     {
-        let shelf = Mutex::new(Shelf::new(alloc, state, place));
+        let locked = Mutex::new(LockedStore::new(alloc, state, place));
         Desk {
             place,
             seats,
-            shelf,
+            locked,
         }
     }
 
@@ -95,7 +95,7 @@ impl<N: Opening> Desk<N> {
         requires lowest { 1 ≤ seats }
         requires highest { seats ≤ MAX_SEATS }
         requires state { state ≡ opening_at N.states place }
-        ensures desk { IfOk result (λ opened. opened.0 ≡ front place seats) }
+        ensures desk { IfOk result (λ opened. opened.0 ≡ desk_view place seats) }
         ensures seats { IfOk result (λ opened. AreNew place seats opened.1.items) }
         ensures back { IfErr result (λ refused. refused.0 ≡ state) }
     {
@@ -117,12 +117,12 @@ impl<N: Opening> Desk<N> {
         ensures run { IsRun (opening_at N.states result.place) result.log.items result.state }
         ensures sound { IsState result.state }
     {
-        let Shelf {
+        let LockedStore {
             place,
             state,
             log,
             of: _,
-        } = self.shelf.into_inner();
+        } = self.locked.into_inner();
         Parts { place, state, log }
     }
 
@@ -171,7 +171,7 @@ impl<N: Opening> Desk<N> {
         };
         let number = seat.number();
         let answered = self
-            .shelf
+            .locked
             .lock(rt)
             .call(alloc, number, event, logged, listed)?;
         seat.list.push_reserved(answered.entry);

@@ -9,12 +9,12 @@ mod event;
 mod fault;
 mod held;
 pub mod laws;
+mod locked_store;
 mod opening;
 mod pass_book;
 mod readers;
 mod reply;
 mod seat;
-mod shelf;
 mod state;
 mod telling;
 

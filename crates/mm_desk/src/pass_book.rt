@@ -22,7 +22,7 @@ impl Passing for Brand {
 
 // What is under the lock of a pass book.
 #[derive(Drop)]
-struct Page<W: Passing> {
+struct WindowState<W: Passing> {
     window: u64,
     drawn: u64,
     book: Book<W>,
@@ -34,7 +34,7 @@ struct Page<W: Passing> {
 /// A pass window, in blocks, under a lock.
 #[derive(Drop)]
 pub struct PassBook<W: Passing> {
-    page: Mutex<Page<W>>,
+    state: Mutex<WindowState<W>>,
 }
 
 /// A seat at a pass book. Contracts see how much was drawn through it.
@@ -78,7 +78,7 @@ impl<W: Passing> PassSeat<W> {
     }
 }
 
-impl<W: Passing> Page<W> {
+impl<W: Passing> WindowState<W> {
     // Draws from what is left of the window.
     fn draw(&mut self, seat: &mut PassSeat<W>, n: u64) -> Result<(), WindowFull>
         ensures ok { OnOk result (seat.new ≡ seat.old + n) }
@@ -123,12 +123,12 @@ impl<W: Passing> PassBook<W> {
             let share = all.split_off(1, 0);
             list.push_reserved(PassSeat { drawn: 0, share });
         }
-        let page = Mutex::new(Page {
+        let state = Mutex::new(WindowState {
             window,
             drawn: 0,
             book,
         });
-        Ok((PassBook { page }, list))
+        Ok((PassBook { state }, list))
     }
 
     /// Draws from the window through a seat, or says how much of it is left.
@@ -139,7 +139,7 @@ impl<W: Passing> PassBook<W> {
         ensures left { IfErr result (λ full. full.left + seat.old ≤ W.window) }
         ensures err { OnErr result (seat.new ≡ seat.old) }
     {
-        self.page.lock(rt).draw(seat, n)
+        self.state.lock(rt).draw(seat, n)
     }
 
     /// Closes the book with all its seats, and returns how much was drawn.
@@ -149,11 +149,11 @@ impl<W: Passing> PassBook<W> {
         ensures total { result ≡ sum seats.items }
         ensures within { result ≤ W.window }
     {
-        let Page {
+        let WindowState {
             window: _,
             drawn,
             mut book,
-        } = self.page.into_inner();
+        } = self.state.into_inner();
         let mut all = whole(seats);
         book.audit(&mut all);
         drawn

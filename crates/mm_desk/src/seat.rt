@@ -18,9 +18,9 @@ pub struct Seat<N: Opening> {
 }
 
 impl<N: Opening> Model for Seat<N> {
-    ghost use Rattle.mm_desk.specs.Seats.{Place};
+    ghost use Rattle.mm_desk.specs.Seats.{SeatView};
 
-    ghost Value = { Place };
+    ghost Value = { SeatView };
 
     ghost view = { λ s. record { place = s.place; number = s.number; list = s.list.items } };
 }

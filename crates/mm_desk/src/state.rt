@@ -1,7 +1,7 @@
 //! The state of a packet store.
 ghost use Rattle.std.specs.Prelude.{◌≡◌, ◌≤◌, Some, None, IsOk, IsOkUnless, OnOk, OnErr, MatchOption};
-ghost use Rattle.mm_desk.specs.Machine.{State, IsState, opening, step};
 ghost use Rattle.mm_desk.specs.Rest.{rest_fault, resize_fault};
+ghost use Rattle.mm_desk.specs.Machine.{State, IsState, opening, step};
 
 use crate::event::Event;
 use crate::fault::Fault;

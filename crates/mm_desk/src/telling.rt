@@ -13,16 +13,16 @@ use std::alloc::Global;
 
 // Three equal replies.
 #[derive(Drop)]
-pub(crate) struct Told {
+pub(crate) struct ReplyCopies {
     pub(crate) answer: Reply,
     pub(crate) logged: Reply,
     pub(crate) listed: Reply,
 }
 
 // One answer as three replies of this case.
-macro_rules! told {
+macro_rules! copies {
     ($case:ident, $answer:expr) => {
-        Told {
+        ReplyCopies {
             answer: Reply::$case($answer),
             logged: Reply::$case($answer),
             listed: Reply::$case($answer),
@@ -38,27 +38,27 @@ fn given(alloc: Global, time: u64, packet: &BlockPacket) -> Result<Reply, NoMemo
     Ok(Reply::Given(Ok(Some(Stored { time, packet }))))
 }
 
-impl Told {
-    fn done(answer: Result<(), Fault>) -> Told
+impl ReplyCopies {
+    fn done(answer: Result<(), Fault>) -> ReplyCopies
         ensures answer { result.answer ≡ Reply.Done answer }
         ensures copies { (result.logged ≡ result.answer) × (result.listed ≡ result.answer) }
     {
-        told!(Done, answer)
+        copies!(Done, answer)
     }
 
-    fn deleted(answer: Result<u32, Fault>) -> Told
+    fn deleted(answer: Result<u32, Fault>) -> ReplyCopies
         ensures answer { result.answer ≡ Reply.Deleted answer }
         ensures copies { (result.logged ≡ result.answer) × (result.listed ≡ result.answer) }
     {
-        told!(Deleted, answer)
+        copies!(Deleted, answer)
     }
 
     // A packet that was found, with its time.
-    fn given(alloc: Global, time: u64, packet: &BlockPacket) -> Result<Told, NoMemory>
-        ensures answer { IfOk result (λ told. told.answer ≡ Reply.Given (Ok (Some (record { time = time; packet = packet.now })))) }
-        ensures copies { IfOk result (λ told. (told.logged ≡ told.answer) × (told.listed ≡ told.answer)) }
+    fn given(alloc: Global, time: u64, packet: &BlockPacket) -> Result<ReplyCopies, NoMemory>
+        ensures answer { IfOk result (λ c. c.answer ≡ Reply.Given (Ok (Some (record { time = time; packet = packet.now })))) }
+        ensures copies { IfOk result (λ c. (c.logged ≡ c.answer) × (c.listed ≡ c.answer)) }
     {
-        Ok(Told {
+        Ok(ReplyCopies {
             answer: given(alloc, time, packet)?,
             logged: given(alloc, time, packet)?,
             listed: given(alloc, time, packet)?,
@@ -117,9 +117,14 @@ impl StoreState {
         }
     }
 
-    fn tell_offer(&mut self, alloc: Global, now: u64, packet: BlockPacket) -> Result<Told, Event>
-        ensures answer { IfOk result (λ told. step self.old (Event.Offer now packet) ≡ (told.answer, self.new)) }
-        ensures copies { IfOk result (λ told. (told.logged ≡ told.answer) × (told.listed ≡ told.answer)) }
+    fn tell_offer(
+        &mut self,
+        alloc: Global,
+        now: u64,
+        packet: BlockPacket,
+    ) -> Result<ReplyCopies, Event>
+        ensures answer { IfOk result (λ c. step self.old (Event.Offer now packet) ≡ (c.answer, self.new)) }
+        ensures copies { IfOk result (λ c. (c.logged ≡ c.answer) × (c.listed ≡ c.answer)) }
         ensures back { IfErr result (λ back. back ≡ Event.Offer now packet) }
         ensures err { OnErr result (self.new ≡ self.old) }
     {
@@ -130,60 +135,60 @@ impl StoreState {
             return Err(Event::Offer(now, packet));
         };
         let answer = self.offer(now, packet);
-        Ok(Told {
+        Ok(ReplyCopies {
             answer: Reply::Offered(answer),
             logged: Reply::Offered(logged),
             listed: Reply::Offered(listed),
         })
     }
 
-    fn tell_next(&mut self, alloc: Global) -> Result<Told, Event>
-        ensures answer { IfOk result (λ told. step self.old Event.Next ≡ (told.answer, self.new)) }
-        ensures copies { IfOk result (λ told. (told.logged ≡ told.answer) × (told.listed ≡ told.answer)) }
+    fn tell_next(&mut self, alloc: Global) -> Result<ReplyCopies, Event>
+        ensures answer { IfOk result (λ c. step self.old Event.Next ≡ (c.answer, self.new)) }
+        ensures copies { IfOk result (λ c. (c.logged ≡ c.answer) × (c.listed ≡ c.answer)) }
         ensures back { IfErr result (λ back. back ≡ Event.Next) }
         ensures err { OnErr result (self.new ≡ self.old) }
     {
         let Some(retrieval) = &mut self.retrieval else {
-            return Ok(told!(Given, Err(Fault::Idle)));
+            return Ok(copies!(Given, Err(Fault::Idle)));
         };
         match self
             .store
             .first_in(retrieval.from, retrieval.to, retrieval.after)
         {
             Some((time, packet)) => {
-                let Ok(told) = Told::given(alloc, time, packet) else {
+                let Ok(copies) = ReplyCopies::given(alloc, time, packet) else {
                     return Err(Event::Next);
                 };
                 retrieval.after = time;
-                Ok(told)
+                Ok(copies)
             }
             None => {
                 self.retrieval = None;
-                Ok(told!(Given, Ok(None)))
+                Ok(copies!(Given, Ok(None)))
             }
         }
     }
 
     // Makes the event's call, and tells its reply three times. Where there is no memory the event comes back.
-    pub(crate) fn apply(&mut self, alloc: Global, event: Event) -> Result<Told, Event>
-        ensures answer { IfOk result (λ told. step self.old event ≡ (told.answer, self.new)) }
-        ensures copies { IfOk result (λ told. (told.logged ≡ told.answer) × (told.listed ≡ told.answer)) }
+    pub(crate) fn apply(&mut self, alloc: Global, event: Event) -> Result<ReplyCopies, Event>
+        ensures answer { IfOk result (λ c. step self.old event ≡ (c.answer, self.new)) }
+        ensures copies { IfOk result (λ c. (c.logged ≡ c.answer) × (c.listed ≡ c.answer)) }
         ensures back { IfErr result (λ back. back ≡ event) }
         ensures err { OnErr result (self.new ≡ self.old) }
     {
         match event {
             Event::Offer(now, packet) => self.tell_offer(alloc, now, packet),
-            Event::Begin(from, to) => Ok(Told::done(self.begin(from, to))),
+            Event::Begin(from, to) => Ok(ReplyCopies::done(self.begin(from, to))),
             Event::Next => self.tell_next(alloc),
-            Event::Abort => Ok(Told::done(self.abort())),
-            Event::Delete(limit) => Ok(Told::deleted(self.delete(limit))),
+            Event::Abort => Ok(ReplyCopies::done(self.abort())),
+            Event::Delete(limit) => Ok(ReplyCopies::deleted(self.delete(limit))),
             Event::Enable => {
                 self.enable();
-                Ok(Told::done(Ok(())))
+                Ok(ReplyCopies::done(Ok(())))
             }
             Event::Disable => {
                 self.disable();
-                Ok(Told::done(Ok(())))
+                Ok(ReplyCopies::done(Ok(())))
             }
         }
     }

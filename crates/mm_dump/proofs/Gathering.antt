@@ -19,7 +19,7 @@ use Rattle.mm_dump.specs.Courses.{Course, calls_at, sent_by, failed_by, spent_by
 use Rattle.mm_dump.specs.Dumped.{AllKept, used_by}
 use Rattle.mm_dump.specs.Sending.{Sent, all_sent}
 use Rattle.mm_dump.specs.Workers.{order_at, AreTried, TookAs, Sided, AllWorked}
-use Rattle.mm_dump.proofs.Weighing.{below, all_below, not_below, is_it, last_stands}
+use Rattle.mm_dump.proofs.Weighing.{below, all_below, not_below, is_it, last_taken}
 
 -- an order is the one of some number
 pub record IsOrdered (orders : List Order) (o : Order) : Type 0 where
@@ -101,10 +101,10 @@ took_weighs orders g courses numbers taken stop same within took = these ∙ sym
 pub record FoundNone (orders : ℕ) (taken : List ℕ) : Type 0 where
   pub past : ℕ
   pub beyond : orders ≤ past
-  pub stands : 1 ≤ sum_by (is_it past) taken
+  pub was_taken : 1 ≤ sum_by (is_it past) taken
 
 found_none : (orders : ℕ) (numbers taken : List ℕ) (stop : Option Stop) → TookAs stop orders numbers taken → stop ≡ None → FoundNone orders taken
-found_none orders numbers taken None took none = record { past = took.0; beyond = took.1; stands = last_stands took.0 numbers taken took.2 }
+found_none orders numbers taken None took none = record { past = took.0; beyond = took.1; was_taken = last_taken took.0 numbers taken took.2 }
 found_none orders numbers taken (Some s) took none = absurd (cc none)
 
 -- a worker before it takes an order: no call was made through its lines, and it has spent nothing

@@ -74,7 +74,7 @@ module _ {L Q A : Type 0} (sent : L → List Sent) (failed : L → ℕ) (queue :
         let at : sided links lines workers ≡ sided (low_links ++ high_links) (low_lines ++ high_lines) (low_workers ++ high_workers) = λ i. sided (links_are i) (lines_are i) (workers_are i) in
         subst (λ (ss : List (Sided L)). All (IsReady sent failed queue stores) ss) (at ∙ sided_append low_links high_links low_lines high_lines low_workers high_workers lines_same workers_same) ready.each
 
-    pub low_ready : AreReady sent failed queue stores orders low_links low_lines low_workers
+    low_ready : AreReady sent failed queue stores orders low_links low_lines low_workers
     low_ready = record {
       some = some_low;
       lines_count = lines_same;
@@ -83,7 +83,7 @@ module _ {L Q A : Type 0} (sent : L → List Sent) (failed : L → ℕ) (queue :
       each = all_left (IsReady sent failed queue stores) (sided low_links low_lines low_workers) (sided high_links high_lines high_workers) each;
     }
 
-    pub high_ready : AreReady sent failed queue stores orders high_links high_lines high_workers
+    high_ready : AreReady sent failed queue stores orders high_links high_lines high_workers
     high_ready = record {
       some = some_high;
       lines_count = omega (
@@ -107,6 +107,9 @@ module _ {L Q A : Type 0} (sent : L → List Sent) (failed : L → ℕ) (queue :
       within = ready.within;
       each = all_right (IsReady sent failed queue stores) (sided low_links low_lines low_workers) (sided high_links high_lines high_workers) each;
     }
+
+    pub both_ready : AreReady sent failed queue stores orders low_links low_lines low_workers × AreReady sent failed queue stores orders high_links high_lines high_workers
+    both_ready = (low_ready, high_ready)
 
 -- the first of workers
 pub first_of : {L : Type 0} (P : Sided L → Type 0) (links : List L) (lines : List Lines) (workers : List DumpWorker) (a : L) (b : Lines) (c : DumpWorker)

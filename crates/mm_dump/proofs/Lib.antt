@@ -2,7 +2,7 @@ mod Leaving
 mod Moves
 mod Refusing
 mod Going
-mod Hand
+mod SoFar
 mod Whole
 mod OneOrder
 mod Causes

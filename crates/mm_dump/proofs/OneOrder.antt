@@ -11,12 +11,13 @@ use Rattle.mm_shared.specs.declared.stores.NamedStore.{NamedStore}
 use Rattle.mm_shared.specs.Stores.{id_at, list_at}
 use Rattle.mm_shared.specs.Views.{PortView}
 use Rattle.mm_dump.specs.declared.order.Order.{Order}
+use Rattle.mm_dump.specs.declared.order.OrderBroken.{OrderBroken}
 use Rattle.mm_dump.specs.declared.stop.Stop.{Stop}
 use Rattle.mm_dump.specs.declared.stop.Stop.TheVariants.{Broken, Refused}
 use Rattle.mm_dump.specs.Courses.{Course, calls_at}
 use Rattle.mm_dump.specs.Parts.{HasSent, HasEnded}
 use Rattle.mm_dump.specs.Sending.{Sent, LinkState, all_sent}
-use Rattle.mm_dump.specs.Workers.{HasLines, Shows, OrderCarriedOut}
+use Rattle.mm_dump.specs.Workers.{HasLines, IsTried, Shows, OrderCarriedOut}
 
 -- the calls of one order, at its place and at another
 calls_here : (place : ℕ) (c : Course) → c.order.place ≡ place → calls_at place (c ∷ []) ≡ c.calls
@@ -82,33 +83,26 @@ module _ (ids : List (List ℕ)) (id : List ℕ) (lines : List Line) (place : �
           ∙ get_or-set_other (map list_of lines) place k (list_of new) [] other.1
           ∙ sym (append-nil (list_at lines k)) ∙ ap (λ (xs : List Entry). list_at lines k ++ xs) (sym (calls_elsewhere k c (λ same. other.1 (sym same ∙ here))))
 
+  -- how an order went that ended so
+  abbrev course_of : (order : Order) (stop : Option Stop) → HasEnded id order.amount stop old.port new.port l m → Option OrderBroken → Course
+  course_of order stop ended why = record { order = order; seat = old.port.number; calls = ended.calls; sent = ended.sent; unsent = ended.unsent; why = why }
+
+  carried_as : (order : Order) (stop : Option Stop) (why : Option OrderBroken) (d : Line) → order.place ≡ place → place < length lines → old ≡ get_or lines place d → id ≡ id_at ids place
+      → new.index ≡ old.index → (ended : HasEnded id order.amount stop old.port new.port l m) → IsTried stop (course_of order stop ended why) → OrderCarriedOut ids order stop lines (set lines place new) l m
+  carried_as order stop why d here within at named index ended is = record {
+    course = course_of order stop ended why;
+    of = refl;
+    is = is;
+    few = omega (arith, ended.most, length-append ended.sent ended.unsent);
+    shown = shows_one d (course_of order stop ended why) within at named here index ended.has_sent;
+  }
+
   -- an order that ended
   pub has_carried : (order : Order) (stop : Option Stop) (d : Line) → order.place ≡ place → place < length lines → old ≡ get_or lines place d → id ≡ id_at ids place → new.index ≡ old.index
       → HasEnded id order.amount stop old.port new.port l m → OrderCarriedOut ids order stop lines (set lines place new) l m
   has_carried order None d here within at named index ended =
-      let c : Course = record { order = order; seat = old.port.number; calls = ended.calls; sent = ended.sent; unsent = ended.unsent; why = None } in
-      record {
-        course = c;
-        of = refl;
-        is = (refl, record { order = ended.ends.0; all = ended.ends.1 });
-        few = omega (arith, ended.most, length-append ended.sent ended.unsent);
-        shown = shows_one d c within at named here index ended.has_sent;
-      }
+      carried_as order None None d here within at named index ended (refl, record { order = ended.ends.0; all = ended.ends.1 })
   has_carried order (Some (Broken why)) d here within at named index ended =
-      let c : Course = record { order = order; seat = old.port.number; calls = ended.calls; sent = ended.sent; unsent = ended.unsent; why = Some why } in
-      record {
-        course = c;
-        of = refl;
-        is = (refl, record { order = ended.ends.0; last = ended.ends.1 });
-        few = omega (arith, ended.most, length-append ended.sent ended.unsent);
-        shown = shows_one d c within at named here index ended.has_sent;
-      }
+      carried_as order (Some (Broken why)) (Some why) d here within at named index ended (refl, record { order = ended.ends.0; last = ended.ends.1 })
   has_carried order (Some Refused) d here within at named index ended =
-      let c : Course = record { order = order; seat = old.port.number; calls = ended.calls; sent = ended.sent; unsent = ended.unsent; why = None } in
-      record {
-        course = c;
-        of = refl;
-        is = ended.ends;
-        few = omega (arith, ended.most, length-append ended.sent ended.unsent);
-        shown = shows_one d c within at named here index ended.has_sent;
-      }
+      carried_as order (Some Refused) None d here within at named index ended ended.ends

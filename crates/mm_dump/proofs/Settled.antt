@@ -29,7 +29,7 @@ use Rattle.mm_dump.proofs.Courses.{whys, whole_courses, broken_courses}
 use Rattle.mm_dump.proofs.Finding.{find, here, tally, flat, found_at}
 use Rattle.mm_dump.proofs.Gathering.{IsOrdered, IsOf, Gathered}
 use Rattle.mm_dump.proofs.Ordered.{names, named_once, times_by_number, by_number}
-use Rattle.mm_dump.proofs.Settling.{spots, Known, Went, spots_tally, all_tried, all_took, same_causes, all_unbroken, run_found, amount_found, tried, dumped}
+use Rattle.mm_dump.proofs.Settling.{spots, Known, HaveEnded, spots_tally, all_tried, all_took, same_causes, all_unbroken, run_found, amount_found, tried, dumped}
 use Rattle.mm_dump.proofs.Weighing.{below, range_below, is_it, reached}
 
 -- what follows where there is nothing
@@ -65,7 +65,7 @@ pub record IsSettled {L : Type 0} (courses : List Course) (s : Sided L) : Type 0
 pub record PastIn {L : Type 0} (orders : ℕ) (news : List (Sided L)) : Type 0 where
   pub past : ℕ
   pub beyond : orders ≤ past
-  pub stands : 1 ≤ sum_by (λ (s : Sided L). sum_by (is_it past) (view s.worker.pass).taken) news
+  pub was_taken : 1 ≤ sum_by (λ (s : Sided L). sum_by (is_it past) (view s.worker.pass).taken) news
 
 -- a worker with no cause of which none was refused a call did not stop
 not_stopped : (stop : Option Stop) → stop ≢ Some Refused → why_of stop ≡ None → stop ≡ None
@@ -117,22 +117,22 @@ module _ {L : Type 0} (orders : List Order) where
       record {
         past = found.past;
         beyond = found.beyond;
-        stands = omega (arith, sum_by-cons (λ (s : Sided L). sum_by (is_it found.past) (view s.worker.pass).taken) s news, found.stands);
+        was_taken = omega (arith, sum_by-cons (λ (s : Sided L). sum_by (is_it found.past) (view s.worker.pass).taken) s news, found.was_taken);
       }
   past_in (cs ∷ more) (s ∷ news) each settled (suc i, why, within, at, none) =
       let rest = past_in more news each.1 settled.1 (i, why, omega arith, at, none) in
       record {
         past = rest.past;
         beyond = rest.beyond;
-        stands = omega (arith, sum_by-cons (λ (s : Sided L). sum_by (is_it rest.past) (view s.worker.pass).taken) s news, rest.stands);
+        was_taken = omega (arith, sum_by-cons (λ (s : Sided L). sum_by (is_it rest.past) (view s.worker.pass).taken) s news, rest.was_taken);
       }
 
   -- what follows for each list of orders
-  all_went : (courses : List (List Course)) (news : List (Sided L)) → AllZip IsSettled courses news → All Went courses
-  all_went [] [] settled = All-nil Went
-  all_went [] (s ∷ news) settled = absurd settled
-  all_went (cs ∷ more) [] settled = absurd settled
-  all_went (cs ∷ more) (s ∷ news) settled = All-cons Went cs more (why_of s.worker.stop, settled.0.are) (all_went more news settled.1)
+  all_ended : (courses : List (List Course)) (news : List (Sided L)) → AllZip IsSettled courses news → All HaveEnded courses
+  all_ended [] [] settled = All-nil HaveEnded
+  all_ended [] (s ∷ news) settled = absurd settled
+  all_ended (cs ∷ more) [] settled = absurd settled
+  all_ended (cs ∷ more) (s ∷ news) settled = All-cons HaveEnded cs more (why_of s.worker.stop, settled.0.are) (all_ended more news settled.1)
 
   all_ordered : (courses : List (List Course)) (news : List (Sided L)) → AllZip (IsOf orders) courses news → All (λ (cs : List Course). All (λ (c : Course). IsOrdered orders c.order) cs) courses
   all_ordered [] [] each = All-nil (λ (cs : List Course). All (λ (c : Course). IsOrdered orders c.order) cs)
@@ -238,20 +238,20 @@ module _ {L Q A : Type 0} (sent : L → List Sent) (failed : L → ℕ) (queue :
   pub settled_each : AllZip IsSettled g.courses news
   settled_each = settle [] g.courses news refl g.each
 
-  went : All Went g.courses
-  went = all_went orders g.courses news settled_each
+  ended : All HaveEnded g.courses
+  ended = all_ended orders g.courses news settled_each
 
   ordered : All (λ (cs : List Course). All (λ (c : Course). IsOrdered orders c.order) cs) g.courses
   ordered = all_ordered orders g.courses news g.each
 
   known : All (λ (cs : List Course). All (Known orders) cs) g.courses
-  known i d inside j e here = ((went i d inside).1.each j e here, ordered i d inside j e here)
+  known i d inside j e here = ((ended i d inside).1.each j e here, ordered i d inside j e here)
 
   -- where a worker did not stop all orders were taken
   reach : SomeNone (map (λ (s : Sided L). why_of s.worker.stop) news) → length orders ≤ next
   reach has =
       let one = past_in orders g.courses news g.each settled_each has in
-      omega (arith, one.beyond, reached next one.past (λ (h : ℕ → ℕ). sum_by (λ (s : Sided L). sum_by h (view s.worker.pass).taken) news) total one.stands)
+      omega (arith, one.beyond, reached next one.past (λ (h : ℕ → ℕ). sum_by (λ (s : Sided L). sum_by h (view s.worker.pass).taken) news) total one.was_taken)
 
   -- what was spent is no more than the orders want
   pub spent_few : sum_by (λ (s : Sided L). s.worker.spent) news ≤ amount_of orders
@@ -289,7 +289,7 @@ module _ {L Q A : Type 0} (sent : L → List Sent) (failed : L → ℕ) (queue :
       others = λ one k.
           let at = some_mapped (λ (why : Option OrderBroken). why ≡ None) (λ (ks : List ℕ). worst_of (map (λ (c : Course). c.why) (map (λ (p : ℕ). find p (flat g.courses)) ks))) (map spots g.courses) one in
           spots_tally k g.courses ∙ tally_all (reach (subst SomeNone causes_same at)) k;
-      links = all_tried sent failed ids (flat g.courses) tally_few [] g.courses _ _ refl went g.links;
+      links = all_tried sent failed ids (flat g.courses) tally_few [] g.courses _ _ refl ended g.links;
       cause = ap worst_of causes_same ∙ worst;
     }
 
@@ -302,7 +302,7 @@ module _ {L Q A : Type 0} (sent : L → List Sent) (failed : L → ℕ) (queue :
       stores = λ k inside.
           dumped orders g.courses k apart known (tally_few k) _ _ (run_at k (omega (arith, inside, fits))) (tally_all (none_left whole) k) amounts (all_unbroken g.courses none);
       once = λ k. spots_tally k g.courses ∙ tally_all (none_left whole) k;
-      links = all_took sent failed ids (flat g.courses) tally_few [] g.courses _ _ refl went none g.links;
+      links = all_took sent failed ids (flat g.courses) tally_few [] g.courses _ _ refl ended none g.links;
     }
       where
         none : worst_of (map (λ (cs : List Course). worst_of (whys cs)) g.courses) ≡ None

@@ -31,9 +31,9 @@ spots cs = map (λ (c : Course). c.order.place) cs
 abbrev pub Known : List Order → Course → Type 0
 Known orders c = IsCourse c × IsOrdered orders c.order
 
--- how one list of orders went
-abbrev pub Went : List Course → Type 0
-Went cs = (why : Option OrderBroken) × AreCourses why cs
+-- the orders of one list ended, for some cause
+abbrev pub HaveEnded : List Course → Type 0
+HaveEnded cs = (why : Option OrderBroken) × AreCourses why cs
 
 -- how often a place stands in the lists of places
 pub spots_tally : (k : ℕ) (courses : List (List Course)) → sum_by (times k) (map spots courses) ≡ tally k (flat courses)
@@ -45,7 +45,7 @@ spots_tally k courses =
 -- the links took what the orders found at the places sent
 module _ {L : Type 0} (sent : L → List Sent) (failed : L → ℕ) (ids : List (List ℕ)) (all : List Course) (few : (p : ℕ) → tally p all ≤ 1) where
   pub all_tried : (xs : List Course) (courses : List (List Course)) (olds news : List L) → all ≡ xs ++ flat courses
-      → All Went courses
+      → All HaveEnded courses
       → AllGrew sent failed ids courses olds news → AllTried sent failed ids (λ (p : ℕ). find p all) (map spots courses) olds news
   unfolding AllGrew AllTried
   all_tried xs [] [] [] split are grew = tt
@@ -55,14 +55,14 @@ module _ {L : Type 0} (sent : L → List Sent) (failed : L → ℕ) (ids : List 
   all_tried xs (cs ∷ more) (old ∷ olds) [] split are grew = absurd grew
   all_tried xs (cs ∷ more) (old ∷ olds) (new ∷ news) split are grew =
       let found = sym (all_found xs cs (flat more) all split few) in
-      let mine = All-head Went cs more are in (
+      let mine = All-head HaveEnded cs more are in (
         record {
           all = grew.0 ∙ ap (λ (ds : List Course). sent old ++ sent_by ids ds) found;
           failures = grew.1 ∙ ap (λ (ds : List Course). failed old + failed_by ds) found;
           why = mine.0;
           are = subst (λ (ds : List Course). AreCourses mine.0 ds) found mine.1;
         },
-        all_tried (xs ++ cs) more olds news (split ∙ sym (append_assoc xs cs (flat more))) (All-tail Went cs more are) grew.2,
+        all_tried (xs ++ cs) more olds news (split ∙ sym (append_assoc xs cs (flat more))) (All-tail HaveEnded cs more are) grew.2,
       )
 
   -- where nothing broke they took all that was given
@@ -75,7 +75,7 @@ module _ {L : Type 0} (sent : L → List Sent) (failed : L → ℕ) (ids : List 
       λ i. first i ++ rest i
 
   pub all_took : (xs : List Course) (courses : List (List Course)) (olds news : List L) → all ≡ xs ++ flat courses
-      → All Went courses
+      → All HaveEnded courses
       → worst_of (map (λ (cs : List Course). worst_of (whys cs)) courses) ≡ None
       → AllGrew sent failed ids courses olds news → AllTook sent failed ids (λ (k : ℕ). (find k all).sent) (map spots courses) olds news
   unfolding AllGrew AllTook
@@ -85,11 +85,11 @@ module _ {L : Type 0} (sent : L → List Sent) (failed : L → ℕ) (ids : List 
   all_took xs (cs ∷ more) [] news split are none grew = absurd grew
   all_took xs (cs ∷ more) (old ∷ olds) [] split are none grew = absurd grew
   all_took xs (cs ∷ more) (old ∷ olds) (new ∷ news) split are none grew =
-      let mine = All-head Went cs more are in
+      let mine = All-head HaveEnded cs more are in
       let both = worse-none (worst_of (whys cs)) (worst_of (map (λ (cs : List Course). worst_of (whys cs)) more)) none in (
         grew.0 ∙ ap (λ (ss : List Sent). sent old ++ ss) (sym (took_same xs cs (flat more) split)),
         omega (arith, grew.1, no_failures cs mine.1.each both.0),
-        all_took (xs ++ cs) more olds news (split ∙ sym (append_assoc xs cs (flat more))) (All-tail Went cs more are) both.1 grew.2,
+        all_took (xs ++ cs) more olds news (split ∙ sym (append_assoc xs cs (flat more))) (All-tail HaveEnded cs more are) both.1 grew.2,
       )
 
   -- the causes of the orders found

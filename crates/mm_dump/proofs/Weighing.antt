@@ -77,17 +77,17 @@ is_it x k = cond (eqb k x) 1 0
 -- a number that stands among those taken, which are the numbers below another, each once, is below that
 pub reached : (next past : ℕ) (taken : (ℕ → ℕ) → ℕ) → ((weight : ℕ → ℕ) → sum_by weight (range_with_len 0 next) ≡ taken weight)
     → 1 ≤ taken (is_it past) → past < next
-reached next past taken each stands = by_order (cases_lt past next)
+reached next past taken each was_taken = by_order (cases_lt past next)
   where
     by_order : (past < next) ⊎ (next ≤ past) → past < next
     by_order (inl less) = less
     by_order (inr beyond) =
         let none : sum_by (is_it past) (range_with_len 0 next) ≡ 0 =
         sum_by_range_zeros (is_it past) 0 next (λ t low high. ap (λ (b : Bool). cond {A = ℕ} b 1 0) (ne_eqb t past (λ same. omega arith))) in
-        absurd (omega (arith, none, each (is_it past), stands))
+        absurd (omega (arith, none, each (is_it past), was_taken))
 
 -- the last of a list stands in it
-pub last_stands : (past : ℕ) (numbers taken : List ℕ) → taken ≡ numbers ++ past ∷ [] → 1 ≤ sum_by (is_it past) taken
-last_stands past numbers taken are =
+pub last_taken : (past : ℕ) (numbers taken : List ℕ) → taken ≡ numbers ++ past ∷ [] → 1 ≤ sum_by (is_it past) taken
+last_taken past numbers taken are =
     let one : is_it past past ≡ 1 = ap (λ (b : Bool). cond {A = ℕ} b 1 0) (eq-eqb past past refl) in
     omega (arith, ap (sum_by (is_it past)) are, sum_by-append (is_it past) numbers (past ∷ []), sum_by-cons (is_it past) past [], one)

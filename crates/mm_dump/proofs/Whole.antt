@@ -45,14 +45,7 @@ after_abort_where seat false calls refused = after_abort seat calls refused
 pub unbegun : (id : List ℕ) (wanted : ℕ) (stop : Stop) (a b : PortView) (l : LinkState) → stop ≡ Refused → WasRefused false a b → HasEnded id wanted (Some stop) a b l l
 unbegun id wanted stop a b l is refused =
     subst (λ (s : Stop). HasEnded id wanted (Some s) a b l l) (sym is)
-    (record {
-      sent = [];
-      unsent = [];
-      calls = refused.0;
-      most = omega arith;
-      has_sent = called id refused.0 a b l refused.1;
-      ends = refused.2;
-    })
+    (record { sent = []; unsent = []; calls = refused.0; most = omega arith; has_sent = called id refused.0 a b l refused.1; ends = refused.2 })
 
 -- an order that was begun
 module _ (id : List ℕ) (wanted : ℕ) (a b : PortView) (l : LinkState) (port : b ≡ with_calls a (begun a.number ∷ [])) where

@@ -1,5 +1,5 @@
 -- A worker at work: the orders that it carried out so far, and one more.
-use Rattle.std.proofs.Common.{◌≡◌, ℕ, ◌+◌, ◌<◌, ◌≤◌, ◌==◌, Bool, true, List, [], ◌∷◌, ◌++◌, length, map, filter, All, refl, sym, ap, subst, ◌∙◌, append_assoc, arith}
+use Rattle.std.proofs.Common.{◌≡◌, ℕ, ◌+◌, ◌*◌, ◌<◌, ◌≤◌, ◌==◌, Bool, true, List, [], ◌∷◌, ◌++◌, length, map, filter, All, refl, sym, ap, subst, ◌∙◌, append_assoc, arith, length-append}
 use Rattle.std.specs.List.{flat_map}
 use Rattle.std.specs.Prelude.{Option, Some, None, is_some}
 use Rattle.std.proofs.lemmas.List.{append-nil, map-append, length-map}
@@ -18,6 +18,12 @@ use Rattle.mm_dump.specs.Courses.{Course, calls_at, sent_by, failed_by}
 use Rattle.mm_dump.specs.Queue.{queue_view}
 use Rattle.mm_dump.specs.Sending.{Sent, LinkState, all_sent}
 use Rattle.mm_dump.specs.Workers.{order_at, HasLines, IsTried, Shows, OrderCarriedOut, AreTried, HasWorkedOn, Worked}
+
+-- a worker that took one number more may spend 2^32 blocks more
+pub may_spend : (v w : QueueView) (number pushed spent : ℕ) → v ≡ queue_view 1 pushed v.taken → w ≡ queue_view v.parts v.pushed (v.taken ++ number ∷ []) → length w.taken ≤ v.pushed
+    → pushed ≤ 65536 → spent ≤ length v.taken * 4294967296 → spent + 4294967296 ≤ 281474976710656
+may_spend v w number pushed spent seen more few most bound =
+    omega (arith, bound, few, ap (λ (x : QueueView). length x.taken) more, length-append v.taken (number ∷ []), ap (λ (x : QueueView). x.pushed) seen, most)
 
 -- the calls of orders, one after another
 calls_more : (k : ℕ) (cs ds : List Course) → calls_at k (cs ++ ds) ≡ calls_at k cs ++ calls_at k ds

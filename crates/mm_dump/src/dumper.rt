@@ -25,14 +25,14 @@ pub(crate) struct DumpWorker {
     pub(crate) stop: Option<Stop>,
 }
 
-/// What the workers of a step share: its stores, the queue of the orders' numbers, and the orders.
+/// What the workers of a step share: the queue of the orders' numbers, the orders, and the stores.
 #[derive(Drop)]
 pub(crate) struct DumpContext<'a, R: Wait> {
     pub(crate) rt: &'a R,
-    pub(crate) alloc: Global,
-    pub(crate) stores: &'a [NamedStore],
     pub(crate) queue: &'a OrderQueue,
     pub(crate) orders: &'a [Order],
+    pub(crate) stores: &'a [NamedStore],
+    pub(crate) alloc: Global,
 }
 
 // Carries an order out at the store of its place, and says why it stopped, where it did.
@@ -162,8 +162,8 @@ fn dump_halves<L: Link + Send, R: Threads + Wait + Sync>(
     low: HalfOfWorkers<'_, L>,
     high: HalfOfWorkers<'_, L>,
 )
-    requires low { AreReady L.sent L.failed context.now.queue.now context.now.stores.now context.now.orders.now low.links.now low.lines.now low.workers.now }
-    requires high { AreReady L.sent L.failed context.now.queue.now context.now.stores.now context.now.orders.now high.links.now high.lines.now high.workers.now }
+    requires ready { AreReady L.sent L.failed context.now.queue.now context.now.stores.now context.now.orders.now low.links.now low.lines.now low.workers.now
+        × AreReady L.sent L.failed context.now.queue.now context.now.stores.now context.now.orders.now high.links.now high.lines.now high.workers.now }
     ensures low { AllWorked L.sent L.failed context.now.queue.now (ids_of context.now.stores.now) context.now.orders.now
         (sided low.entry.links.now low.entry.lines.now low.entry.workers.now) (sided low.exit.0.now low.exit.1.0.now low.exit.1.1.0.now) }
     ensures high { AllWorked L.sent L.failed context.now.queue.now (ids_of context.now.stores.now) context.now.orders.now

@@ -70,11 +70,11 @@ pub fn may_fail<L: Link>(links: &[L]) -> bool
 pub struct SendFailed;
 
 impl Refused for SendFailed {
-    fn refusal(self) -> Refusal {
-        Refusal::LinkFailed
-    }
-
     ghost use Rattle.mm_base.specs.declared.refusal.Refusal.TheVariants as refusal;
 
     ghost refusal_of = { λ _. refusal.LinkFailed };
+
+    fn refusal(self) -> Refusal {
+        Refusal::LinkFailed
+    }
 }

@@ -133,10 +133,10 @@ pub fn dump<L: Link + Send, R: Threads + Wait + Sync>(
     dump_all(
         &DumpContext {
             rt,
-            alloc,
-            stores: &opened.stores,
             queue: &queue,
             orders,
+            stores: &opened.stores,
+            alloc,
         },
         links,
         &mut opened.workers,

@@ -1,5 +1,5 @@
 -- How a run ends.
-use Rattle.std.proofs.Common.{refl, ◌≡◌, inl, inr, ℕ, ◌+◌, ◌-◌, ◌≤◌, List, length, map, get_or, sym, ap, subst, ◌∙◌, arith}
+use Rattle.std.proofs.Common.{refl, ◌≡◌, inl, inr, ℕ, ◌+◌, ◌-◌, ◌≤◌, List, [], length, map, get_or, sym, ap, subst, ◌∙◌, arith}
 use Rattle.std.specs.Prelude.{Result, Ok, Err, IfOk, IfErr, sum_by}
 use Rattle.mm_base.proofs.Sums.{sum_by-same, sum_by-map, sum_by-swap}
 use Rattle.mm_base.specs.declared.rows.RouteRow.{RouteRow}
@@ -19,6 +19,8 @@ use Rattle.mm_report.specs.declared.tally.Tally.{Tally}
 use Rattle.mm_report.specs.Report.{Reported, totals_of}
 use Rattle.mm_exec.specs.Readiness.{RunStart, run_start, MayBegin, Stops}
 use Rattle.mm_exec.specs.declared.course.RunStopped.{RunStopped}
+use Rattle.mm_exec.specs.declared.step.StepBroken.{StepBroken}
+use Rattle.mm_exec.specs.declared.flight.Flight.{Flight}
 use Rattle.mm_exec.specs.declared.flight.Halted.{Halted}
 use Rattle.mm_exec.specs.RunInput.{RunInput, as_came, step_orders}
 use Rattle.mm_exec.specs.Numbers.{report_of, rows_of, tally_of}
@@ -26,14 +28,31 @@ use Rattle.mm_memory.specs.Laws.{ids_of}
 use Rattle.mm_exec.specs.Step.{RunState, AreReady, StepBroke, StepStopped, NeverRefused}
 use Rattle.mm_exec.specs.Steps.{StepsDone}
 use Rattle.mm_exec.specs.Course.{RunDone, RunHalted, IsRefusal, IsEnded, run_start_of}
-use Rattle.mm_exec.specs.Ending.{IsHaltedIn, IsHalted, state_left}
+use Rattle.mm_exec.specs.Ending.{IsCarriedOut, IsHaltedIn, IsHalted, state_left}
 use Rattle.mm_exec.proofs.Halts.{failed_link}
 use Rattle.mm_exec.proofs.Parts.{same_ids}
 
--- what holds of an run_start holds of the same one, by whatever names
-pub outset_by : (P : RunStart → Type 0) (q : Dumping) (plan : Table) (base : ℕ) {held stores : List Held} {counted_sources counted_links sources links : ℕ}
+-- what holds of what a run begins with holds of the same, by whatever names
+pub start_by : (P : RunStart → Type 0) (q : Dumping) (plan : Table) (base : ℕ) {held stores : List Held} {counted_sources counted_links sources links : ℕ}
     → held ≡ stores → counted_sources ≡ sources → counted_links ≡ links → P (run_start q plan held base counted_sources counted_links) → P (run_start q plan stores base sources links)
-outset_by P q plan base read many_sources many_links holds = subst P (λ i. run_start q plan (read i) base (many_sources i) (many_links i)) holds
+start_by P q plan base read many_sources many_links holds = subst P (λ i. run_start q plan (read i) base (many_sources i) (many_links i)) holds
+
+-- what holds of a memory, sources and links holds of the same, by whatever names
+pub given_by : {S L : Type 0} (P : Holdings → List S → List L → Type 0) {lent memory : Holdings} {xs sources : List S} {ys links : List L}
+    → lent ≡ memory → xs ≡ sources → ys ≡ links → P lent xs ys → P memory sources links
+given_by {S} {L} P memories many_sources many_links holds =
+    subst (λ (x : Holdings × List S × List L). P x.0 x.1 x.2) (λ i. (memories i, many_sources i, many_links i)) holds
+
+-- how a run ended that did not begin
+pub never_began : {S L : Type 0} (gives : S → ℕ → List SpacePacket) (sent : L → List Sent) (failed : L → ℕ) (m : RunInput) (plan : Table) (state : RunState S L) (cause : Cause)
+    (stopped : RunStopped) → stopped.broken ≡ record { cause = cause; spent = 0 } → stopped.report.steps ≡ [] → IsRefusal (run_start_of m plan state) cause
+    → IsEnded gives sent failed m plan state state stopped
+never_began gives sent failed m plan state cause stopped broken report refusal = inr (record {
+  same = refl;
+  report_is = report;
+  spent_is = ap (λ (b : StepBroken). b.spent) broken;
+  cause_is = subst (IsRefusal (run_start_of m plan state)) (sym (ap (λ (b : StepBroken). b.cause) broken)) refusal;
+})
 
 -- a test that fails is a refusal
 pub refused : (o : RunStart) (cause : Cause) → Stops o cause → IsRefusal o cause
@@ -140,6 +159,24 @@ module _ {S L : Type 0} (gives : S → ℕ → List SpacePacket) (sent : L → L
         },
         subst (IsRefusal (run_start_of m plan before)) (sym cause) never.cause_is,
       )
+
+-- what a run that was carried out leaves, once its stores are back in the memory
+pub carried_of : {S L : Type 0} (gives : S → ℕ → List SpacePacket) (sent : L → List Sent) (failed : L → ℕ) (m : RunInput) (plan : Table) (before after : RunState S L)
+    (memory : Holdings) (flight : Flight S L) → memory ≡ record m.memory { stores = after.stores } → flight.sources.items ≡ after.sources → flight.links.items ≡ after.links
+    → RunDone gives sent failed m before after flight.report → MayBegin (run_start_of m plan before)
+    → IsCarriedOut gives sent failed m plan before.sources before.links memory flight
+carried_of {S} {L} gives sent failed m plan before after memory flight back sources links run began =
+    let stores : memory.stores ≡ after.stores = ap (λ (h : Holdings). h.stores) back in
+    let left : after ≡ record { stores = memory.stores; sources = flight.sources.items; links = flight.links.items } =
+    λ i. record { stores = sym stores i; sources = sym sources i; links = sym links i } in
+    let done = subst (λ (x : RunState S L). StepsDone gives sent failed m before.sources before.links (length m.problem.windows) x flight.report) left run.done in
+    record {
+      began = began;
+      routes = ap (λ (h : Holdings). h.routes) back;
+      done = done;
+      ready = subst AreReady (sym stores) run.ready;
+      total_lost = total_is m flight.report done.report_is;
+    }
 
 -- in either case the stores have their identifiers, in order
 pub left_ids : {S L : Type 0} (gives : S → ℕ → List SpacePacket) (sent : L → List Sent) (failed : L → ℕ) (m : RunInput) (plan : Table) (before after : RunState S L)

@@ -31,7 +31,7 @@ use Rattle.mm_report.specs.declared.cause.Cause.{Cause}
 use Rattle.mm_report.specs.declared.cause.Cause.TheVariants.{LinkFailed}
 use Rattle.mm_exec.proofs.Replays.{IsRun-append}
 use Rattle.mm_exec.specs.Failure.{FailedLink}
-use Rattle.mm_exec.specs.Halts.{AreOneOrder, IsOrderFor, AreFirstOffers, IsByOneLog, BrokenStepsAreLogs}
+use Rattle.mm_exec.specs.Halts.{AreOneOrder, AreFirstOffers, IsByOneLog, BrokenStepsAreLogs}
 use Rattle.mm_memory.specs.Laws.{ids_of}
 use Rattle.mm_exec.specs.Step.{RunState, AreReady, OutOfMemory, RecordersBroke, OrdersBroke, RecordingBroke, DumpBroke, StepBroke, dump_cause}
 use Rattle.mm_exec.proofs.Failing.{links_failed}

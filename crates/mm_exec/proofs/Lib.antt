@@ -1,4 +1,5 @@
 pub mod Replays
+pub mod Offers
 pub mod Times
 pub mod Stepping
 pub mod Adding

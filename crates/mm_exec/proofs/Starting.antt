@@ -40,7 +40,7 @@ use Rattle.mm_exec.specs.Numbers.{row_from, orders_of, AreByCounters}
 use Rattle.mm_memory.specs.Laws.{ids_of}
 use Rattle.mm_exec.specs.Step.{RunState, AreReady, StepDone}
 use Rattle.mm_exec.specs.Steps.{StepsDone}
-use Rattle.mm_exec.specs.Course.{MayReport, AreWithinLimits}
+use Rattle.mm_exec.specs.Course.{MayReport, MayRun, AreWithinLimits}
 use Rattle.mm_exec.proofs.Counters.{counted_first}
 use Rattle.mm_exec.proofs.Ordered.{may_order, wanted_in_all}
 use Rattle.mm_exec.proofs.StepMore.{Footing, done_on}
@@ -354,3 +354,39 @@ pub still_few : {S : Type 0} (gives : S → ℕ → List SpacePacket) (t : ℕ) 
 still_few gives t sources left same few =
     All-unmapped (λ (ps : List SpacePacket). length ps ≤ 65535) (λ s. gives s t) left
     (subst (All (λ (ps : List SpacePacket). length ps ≤ 65535)) (sym same) (All-map (λ (ps : List SpacePacket). length ps ≤ 65535) (λ s. gives s t) sources few))
+
+-- a run before one of its steps: its tests have passed, its stores stand at these places, and the step may be carried out and reported
+pub record BeforeStep {S L : Type 0} (gives : S → ℕ → List SpacePacket) (failed : L → ℕ) (q : Dumping) (plan : Table) (base : ℕ) (memory : Holdings)
+    (sources : List S) (links : List L) (places : List ℕ) (t : ℕ) (now : RunState S L) (buffers : RunBuffers) : Type 0 where
+  pub is : IsDumping q
+  pub begun : Begun (run_start q plan memory.stores base (length sources) (length links))
+  pub footing : Footing gives (run_input gives q plan base memory sources) sources places
+  pub first : 1 ≤ t
+  pub last : t ≤ length q.windows
+  pub may : MayReport failed q plan base places t buffers now
+  pub sources_many : length now.sources ≡ length sources
+  pub same : given_in gives t now.sources ≡ given_in gives t sources
+  pub early : base + t ≤ bound_at (t - 1)
+
+pub before_step : {S L : Type 0} (gives : S → ℕ → List SpacePacket) (sent : L → List Sent) (failed : L → ℕ) (q : Dumping) (plan : Table) (base : ℕ) (memory : Holdings)
+    (sources : List S) (links : List L) (all : List ℕ) (t : ℕ) (now : RunState S L) (buffers : RunBuffers) {start : RunBuffers} {held : List Held} {many ends : ℕ}
+    → MayRun failed q plan base start (record { stores = memory.stores; sources = sources; links = links }) → IsDumping q → held ≡ memory.stores
+    → ArePlaces q held (length q.rows) all → length all ≡ MAX_STORES → many ≡ length q.rows → 1 ≤ t → t < ends + 1 → ends ≡ length q.windows
+    → StepsDone gives sent failed (run_input gives q plan base memory sources) sources links (t - 1) now buffers.report → AreReady now.stores
+    → MAX_STORES ≤ vec_capacity buffers.orders → BeforeStep gives failed q plan base memory sources links (take many all) t now buffers
+before_step gives sent failed q plan base memory sources links all t now buffers may is read there sixteen cut first inside ends done ready room =
+    let begun = begun_of (run_start q plan memory.stores base (length sources) (length links)) may.begins in
+    let footing = footing_here gives q plan base memory sources (length links) all is may.begins may.sound read there cut in
+    let places = places_many (length q.rows) _ all cut is.stores.at_most sixteen in
+    let last : t ≤ length q.windows = omega (arith, inside, ends) in
+    record {
+      is = is;
+      begun = begun;
+      footing = footing;
+      first = first;
+      last = last;
+      may = may_report gives sent failed q plan base memory sources links _ t now buffers is begun may.held may.links footing places first last done ready room;
+      sources_many = (in_hand gives sent failed (run_input gives q plan base memory sources) sources links (t - 1) now buffers.report done).sources_many;
+      same = done.sources_are.others t (λ from to. absurd (omega (arith, first, to)));
+      early = early_at base t (length q.windows) begun.early.first last is.steps.at_most;
+    }

@@ -42,7 +42,7 @@ use Rattle.mm_exec.proofs.Counters.{counted_more}
 use Rattle.mm_exec.proofs.Ordered.{wanted_is, orders_are}
 use Rattle.mm_exec.proofs.Parts.{as_many, same_ids}
 use Rattle.mm_exec.proofs.Placing.{id_there}
-use Rattle.mm_exec.proofs.Sending.{took_many, took_lists, took_failed}
+use Rattle.mm_exec.proofs.Sending.{Took, took_of}
 
 -- a function that is changed at one number
 abbrev extend : {X : Type 0} → ℕ → X → (ℕ → X) → ℕ → X
@@ -262,9 +262,10 @@ module _ {S L : Type 0} (gives : S → ℕ → List SpacePacket) (sent : L → L
     links_many = sym (length-map before.links failed) ∙ ap length done.links_are.no_failure ∙ length-map links failed
 
     -- the links took what the orders of the step were given
-    took_now : AllTook sent failed (map (λ h. h.id) m.memory.stores) stepped.gave stepped.places before.links after.links
+    took_now : Took sent failed (map (λ h. h.id) m.memory.stores) stepped.gave stepped.places before.links after.links
     took_now =
-        subst (λ (ids : List (List ℕ)). AllTook sent failed ids stepped.gave stepped.places before.links after.links) ids_before stepped.links
+        took_of sent failed (map (λ h. h.id) m.memory.stores) stepped.gave stepped.places before.links after.links
+        (subst (λ (ids : List (List ℕ)). AllTook sent failed ids stepped.gave stepped.places before.links after.links) ids_before stepped.links)
 
     -- the links sent one step more
     sent_on : LinksSent sent failed m (suc k) gave_after links after.links
@@ -274,7 +275,7 @@ module _ {S L : Type 0} (gives : S → ℕ → List SpacePacket) (sent : L → L
       links = λ t first last. each_link t first last (cases_lt t (suc k));
       lists = λ l within.
           let inside : l < length before.links = omega (arith, links_many) in
-          let now = took_lists sent failed (map (λ h. h.id) m.memory.stores) stepped.gave stepped.places before.links after.links took_now l inside in
+          let now = took_now.lists l inside in
           let same = flat_map_range_same (pieces l) (old_pieces l) 1 k (λ t from to. piece_old l t (λ equal. omega (arith, equal))) in
           let all : flat_map (pieces l) (range_with_len 1 (suc k)) ≡ flat_map (old_pieces l) (range_with_len 1 k)
           ++ flat_map (λ j. all_sent (id_at (map (λ h. h.id) m.memory.stores) j) (stepped.gave j)) (slice_index_or stepped.places l []) =
@@ -284,7 +285,7 @@ module _ {S L : Type 0} (gives : S → ℕ → List SpacePacket) (sent : L → L
           ∙ append_assoc (slice_index_or (map sent links) l []) (flat_map (old_pieces l) (range_with_len 1 k)) _
           ∙ ap (λ xs. slice_index_or (map sent links) l [] ++ xs) (sym all);
       no_failure =
-          took_failed sent failed (map (λ h. h.id) m.memory.stores) stepped.gave stepped.places before.links after.links took_now ∙ done.links_are.no_failure;
+          took_now.failures ∙ done.links_are.no_failure;
     }
       where
         each_once : (j t : ℕ) → 1 ≤ t → t ≤ suc k → (t < suc k) ⊎ (suc k ≤ t) → sum_by (times j) (took_after t) ≡ times j (places_of (step_orders m t))
@@ -304,7 +305,7 @@ module _ {S L : Type 0} (gives : S → ℕ → List SpacePacket) (sent : L → L
         each_link t first last (inr now) =
             let same : t ≡ suc k = omega arith in
             ap (λ (u : ℕ). length (took_after u)) same ∙ ap length (extend-here (suc k) stepped.places done.links_are.took)
-            ∙ (took_many sent failed (map (λ h. h.id) m.memory.stores) stepped.gave stepped.places before.links after.links took_now).0 ∙ links_many
+            ∙ took_now.many ∙ links_many
 
     module _ (law : RunsLoseAsPlanned) (within : suc k ≤ length m.problem.windows) where
       -- the steps so far are a run of the plan, with what came in place of the forecast

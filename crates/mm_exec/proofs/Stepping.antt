@@ -10,7 +10,7 @@ use Rattle.mm_store.specs.declared.stored.Stored.{Stored}
 use Rattle.mm_store.specs.Content.{clock_end}
 use Rattle.mm_desk.specs.declared.entry.Entry.{Entry}
 use Rattle.mm_desk.specs.declared.event.Event.{Event}
-use Rattle.mm_desk.specs.declared.event.Event.TheVariants.{Offer, Begin, Next, Abort, Delete, Enable, Disable}
+use Rattle.mm_desk.specs.declared.event.Event.TheVariants.{Next, Abort, Delete}
 use Rattle.mm_desk.specs.declared.reply.Reply.TheVariants as reply
 use Rattle.mm_desk.specs.Laws.{HasTimes, ReplaysKeepStates, OffersLeave, OrdersDumpTheOldest}
 use Rattle.mm_desk.specs.Machine.{State, IsState}
@@ -19,6 +19,7 @@ use Rattle.mm_desk.specs.Orders.{begun, given, ended, last_time, removed, IsOrde
 use Rattle.mm_desk.specs.Runs.{IsRun, entry, replay}
 use Rattle.mm_desk.proofs.Counting.{count_of_shuffle}
 use Rattle.mm_exec.specs.StepRuns.{IsDumpOf, IsStepRun, AreTimed, IsBy}
+use Rattle.mm_exec.proofs.Offers.{by_offer}
 use Rattle.mm_exec.specs.AsPlanned.{AtEach, AsPlanned}
 use Rattle.mm_exec.specs.Laws.{IsRunOf, StepRunsKeepStores}
 use Rattle.mm_exec.proofs.Replays.{IsLegal-parts, replay-append, All-front, shuffled, timed_log}
@@ -158,16 +159,7 @@ module _ (leave : OffersLeave) (keep : ReplaysKeepStates) (dump : OrdersDumpTheO
 
   -- offers by a moment that fits have moments that fit
   timed_by : (now : ℕ) (events : List Event) → now < 2 ^ 64 → All (IsBy now) events → All HasTimes events
-  timed_by now events fits by = All-weaker (IsBy now) HasTimes (one now fits) events by
-    where
-      one : (now : ℕ) → now < 2 ^ 64 → (e : Event) → IsBy now e → HasTimes e
-      one now fits (Offer at packet) by = omega arith
-      one now fits (Begin from to) by = absurd by
-      one now fits Next by = absurd by
-      one now fits Abort by = absurd by
-      one now fits (Delete limit) by = absurd by
-      one now fits Enable by = absurd by
-      one now fits Disable by = absurd by
+  timed_by now events fits by = All-weaker (IsBy now) HasTimes (by_offer HasTimes now (λ at packet early. omega (arith, fits, early))) events by
 
   -- a step run keeps a store sound and ready
   pub keeps_store : StepRunsKeepStores

@@ -10,7 +10,7 @@ use Rattle.mm_packet.specs.Packet.{SpacePacket}
 use Rattle.mm_store.specs.Content.{clock_end}
 use Rattle.mm_desk.specs.declared.entry.Entry.{Entry}
 use Rattle.mm_desk.specs.declared.event.Event.{Event}
-use Rattle.mm_desk.specs.declared.event.Event.TheVariants.{Offer, Begin, Next, Abort, Delete, Enable, Disable}
+use Rattle.mm_desk.specs.declared.event.Event.TheVariants.{Offer}
 use Rattle.mm_desk.specs.declared.fault.Fault.{Fault}
 use Rattle.mm_desk.specs.declared.held.Held.{Held}
 use Rattle.mm_desk.specs.declared.reply.Offered.{Offered}
@@ -32,6 +32,7 @@ use Rattle.mm_dump.specs.Sending.{Sent}
 use Rattle.mm_report.specs.declared.cause.Cause.{Cause}
 use Rattle.mm_exec.specs.Laws.{StepRunsKeepStores}
 use Rattle.mm_exec.specs.StepRuns.{IsBy, AreBy, KeepsStore}
+use Rattle.mm_exec.proofs.Offers.{by_offer}
 use Rattle.mm_exec.proofs.Replays.{All-front, shuffled}
 use Rattle.mm_exec.specs.Halts.{AreFirstOffers}
 use Rattle.mm_exec.specs.Step.{RunState, AreReady, MayCarry, StepRecorded, StepDone, OutOfMemory, RecordersBroke, OrdersBroke, StepBroke}
@@ -75,13 +76,7 @@ offer_keeps s now packet =
     (λ late. record { storage = refl; retrieval = refl }) (λ early. record { storage = refl; retrieval = refl }))
 
 event_keeps : (s : State) (event : Event) (now : ℕ) → IsBy now event → KeepsSwitches s (step s event).1
-event_keeps s (Offer at packet) now by = offer_keeps s at packet
-event_keeps s (Begin from to) now by = absurd by
-event_keeps s Next now by = absurd by
-event_keeps s Abort now by = absurd by
-event_keeps s (Delete limit) now by = absurd by
-event_keeps s Enable now by = absurd by
-event_keeps s Disable now by = absurd by
+event_keeps s event now by = by_offer (λ (e : Event). KeepsSwitches s (step s e).1) now (λ at packet early. offer_keeps s at packet) event by
 
 log_keeps : (now : ℕ) (s : State) (log : List Entry) → All (λ e. IsBy now e.event) log → KeepsSwitches s (replay s log)
 log_keeps now s [] by = record { storage = refl; retrieval = refl }

@@ -1,5 +1,5 @@
 -- How far offers move the last storage time of a store.
-use Rattle.std.proofs.Common.{◌≡◌, ℕ, ◌+◌, ◌≤◌, max, List, [], ◌∷◌, length, All, ap, subst, arith}
+use Rattle.std.proofs.Common.{ℕ, ◌+◌, ◌≤◌, max, List, [], ◌∷◌, length, All, arith}
 use Rattle.std.specs.Prelude.{nat_lt, ◌==◌, ◌||◌, not, Result}
 use Rattle.std.proofs.lemmas.Bool.{cond_both}
 use Rattle.std.proofs.lemmas.List.Elements.{All-head, All-tail}
@@ -11,12 +11,12 @@ use Rattle.mm_store.specs.declared.put.Put.{Put}
 use Rattle.mm_store.specs.declared.stored.Stored.{Stored}
 use Rattle.mm_desk.specs.declared.entry.Entry.{Entry}
 use Rattle.mm_desk.specs.declared.event.Event.{Event}
-use Rattle.mm_desk.specs.declared.event.Event.TheVariants.{Offer, Begin, Next, Abort, Delete, Enable, Disable}
 use Rattle.mm_desk.specs.declared.reply.Offered.{Offered}
 use Rattle.mm_desk.specs.declared.reply.Returned.{Returned}
 use Rattle.mm_desk.specs.Machine.{State, offer, step}
 use Rattle.mm_desk.specs.Runs.{replay}
 use Rattle.mm_exec.specs.StepRuns.{IsBy}
+use Rattle.mm_exec.proofs.Offers.{by_offer}
 
 -- a put into a full store
 full_last : (kind : Kind) (held : List Stored) (s : Store) (new : Stored) (m : ℕ) → s.last ≤ m → new.time ≤ m → (put_full kind held s new).1.last ≤ m
@@ -43,13 +43,8 @@ offer_last s now packet m before early =
     (λ late. omega arith) (λ free. put_last s.store now packet m before early))
 
 event_last : (s : State) (event : Event) (now m : ℕ) → IsBy now event → s.store.last ≤ m → now ≤ m → (step s event).1.store.last ≤ m + 1
-event_last s (Offer at packet) now m by before early = offer_last s at packet m before (omega (arith, by))
-event_last s (Begin from to) now m by before early = absurd by
-event_last s Next now m by before early = absurd by
-event_last s Abort now m by before early = absurd by
-event_last s (Delete limit) now m by before early = absurd by
-event_last s Enable now m by before early = absurd by
-event_last s Disable now m by before early = absurd by
+event_last s event now m by before early =
+    by_offer (λ (e : Event). (step s e).1.store.last ≤ m + 1) now (λ at packet on_time. offer_last s at packet m before (omega (arith, on_time, early))) event by
 
 -- offers move the last time by no more than they are
 pub log_last : (now : ℕ) (s : State) (log : List Entry) (m : ℕ) → All (λ e. IsBy now e.event) log → s.store.last ≤ m → now ≤ m → (replay s log).store.last ≤ m + length log

@@ -1,4 +1,5 @@
 //! What a run leaves.
+ghost use Rattle.std.specs.Prelude.{◌≡◌};
 
 use mm_report::{Cause, Report};
 
@@ -35,4 +36,23 @@ pub struct Flown<S: Drop, L: Drop> {
 pub struct NotFlown<S: Drop, L: Drop> {
     pub sheet: Vec<u8>,
     pub halted: Halted<S, L>,
+}
+
+impl<S: Drop, L: Drop> Flight<S, L> {
+    /// The same with the text of its plan.
+    pub fn with_sheet(self, sheet: Vec<u8>) -> Flown<S, L>
+        ensures { result ≡ record { sheet = sheet; report = self.report; sources = self.sources; links = self.links } }
+    {
+        let Flight {
+            report,
+            sources,
+            links,
+        } = self;
+        Flown {
+            sheet,
+            report,
+            sources,
+            links,
+        }
+    }
 }

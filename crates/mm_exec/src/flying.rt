@@ -4,7 +4,7 @@ ghost use Rattle.mm_exec.specs.Flying.{IsPrintedFor, Flies, FliesNot, HasNoPlan}
 ghost use Rattle.mm_exec.specs.Step.{NeverRefused};
 ghost use Rattle.mm_exec.specs.Course.{AreWithinLimits};
 
-use crate::flight::{Flight, Flown, Halted, NotFlown};
+use crate::flight::{Flown, Halted, NotFlown};
 use crate::run::carry_out;
 use mm_base::NoMemory;
 use mm_dump::Link;
@@ -78,18 +78,7 @@ pub fn fly<S: Source + Send + Drop, L: Link + Send + Drop, R: Threads + Wait + S
         links,
         base,
     ) {
-        Ok(
-            Flight {
-                report,
-                sources,
-                links,
-            },
-        ) => Ok(Flown {
-            sheet: text,
-            report,
-            sources,
-            links,
-        }),
+        Ok(flight) => Ok(flight.with_sheet(text)),
         Err(halted) => Err(NotFlown {
             sheet: text,
             halted,

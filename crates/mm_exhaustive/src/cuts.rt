@@ -10,6 +10,7 @@ pub const MAX_TRIED: usize = 10;
 
 /// The least capacity of the cuts between the source and the sink. `None` where there is no cut: an unlimited arc
 /// leaves each set of nodes with the source and without the sink.
+#[must_use]
 pub fn least_cut(network: &Network, source: u32, sink: u32) -> Option<u64>
     requires few { network.now.graph.nodes ≤ MAX_TRIED }
     requires source { source < network.now.graph.nodes }

@@ -38,6 +38,7 @@ impl Model for Network {
 
 impl Network {
     /// A network with no node, no arc and no room.
+    #[must_use]
     pub fn new(alloc: Global) -> Network
         ensures empty { result ≡ empty 0 0 }
     {
@@ -66,6 +67,7 @@ impl Network {
     }
 
     /// How many more nodes and arcs are sure to find memory.
+    #[must_use]
     pub fn room(&self) -> (u32, u32)
         ensures nodes { result.0 ≡ self.now.node_room }
         ensures arcs { result.1 ≡ self.now.arc_room }
@@ -104,6 +106,7 @@ impl Network {
     }
 
     /// How many nodes the network has.
+    #[must_use]
     pub fn node_count(&self) -> usize
         ensures count { result ≡ self.now.graph.nodes }
         ensures network { IsNetwork self.now.graph }
@@ -112,6 +115,7 @@ impl Network {
     }
 
     /// How many arcs the network has.
+    #[must_use]
     pub fn arc_count(&self) -> usize
         ensures count { result ≡ length self.now.graph.arcs }
         ensures network { IsNetwork self.now.graph }
@@ -120,6 +124,7 @@ impl Network {
     }
 
     /// The arc with this number.
+    #[must_use]
     pub fn arc(&self, number: usize) -> Arc
         requires { number < length self.now.graph.arcs }
         ensures arc { result ≡ arc self.now.graph number }

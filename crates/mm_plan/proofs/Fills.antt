@@ -1,12 +1,11 @@
 -- Plans that are filled step by step.
 use Rattle.std.proofs.Common.{◌≡◌, ℕ, ◌+◌, ◌-◌, ◌<◌, ◌≤◌, List, length, get_or, min, refl, sym, ◌∙◌, inl, inr, arith}
-use Rattle.std.specs.Prelude.{◌⊎◌}
 use Rattle.std.proofs.lemmas.Bool.{cases_lt}
 use Rattle.mm_problem.specs.Dumping.{Dumping, start, channel}
 use Rattle.mm_plan.specs.Volumes.{Amounts, written, left}
 use Rattle.mm_plan.specs.Fit.{FitsAt, Fits}
-use Rattle.mm_plan.specs.Filled.{IsWindowUsed, IsLimitUsed, IsFilledAt, IsFilled, IsNowhereWorse}
-use Rattle.mm_plan.specs.Filling.{SameElsewhere, IsLoweredAt, AreLeft, AreSplit}
+use Rattle.mm_plan.specs.Filled.{IsFilledAt, IsFilled, IsNowhereWorse}
+use Rattle.mm_plan.specs.Filling.{SameElsewhere, IsLoweredAt, AreLeft, AreSplit, IsStepFilled}
 use Rattle.mm_plan.proofs.Steps.{left_start, left_step, left_same, written_same, left_no_more, lost_no_more}
 use Rattle.mm_plan.proofs.Raises.{IsNoLess, used_kept, fits_no_more}
 
@@ -56,21 +55,19 @@ split_left : (q : Dumping) (y : Amounts) (t : ℕ) (blocks : List ℕ) → 1 ≤
 split_left q y t blocks first split = λ s store. omega (arith, split s store, left_step q y s (t - 1) t (omega arith))
 
 -- one step more: y, with its amounts lowered z, and with the rest of the window used w
-pub done_more : (q : Dumping) (x y z w : Amounts) (t : ℕ) (blocks new : List ℕ) → 1 ≤ t → t ≤ length q.windows → IsDoneBefore q x y t blocks → SameElsewhere q y z t → IsLoweredAt q y z t → SameElsewhere q z w t → IsNoLess q z w t → FitsAt q w t → AreSplit q w t new
-    → ((s : ℕ) → s < length q.rows → 0 < get_or new s 0 → IsWindowUsed q w t ⊎ IsLimitUsed q w t (channel q s))
-    → IsDoneBefore q x w (t + 1) new
-done_more q x y z w t blocks new first last is apart cut apart_too no_less fits split used =
-    let others : SameElsewhere q y w t = λ s u store from to other. apart_too s u store from to other ∙ apart s u store from to other in
-    let is_left = split_left q w t new first split in
+pub done_more : (q : Dumping) (x y z w : Amounts) (t : ℕ) (blocks new : List ℕ) → 1 ≤ t → t ≤ length q.windows → IsDoneBefore q x y t blocks → SameElsewhere q y z t → IsLoweredAt q y z t → IsStepFilled q z w t new → IsDoneBefore q x w (t + 1) new
+done_more q x y z w t blocks new first last is apart cut filled =
+    let others : SameElsewhere q y w t = λ s u store from to other. filled.others s u store from to other ∙ apart s u store from to other in
+    let is_left = split_left q w t new first filled.split in
     let here : IsDoneAt q x w t = record {
-      fits = fits;
+      fits = filled.fits;
       filled = record {
-        held = λ s store. omega (arith, split s store);
-        used = λ s store some. used s store (omega (arith, is_left s store, some));
+        held = λ s store. omega (arith, filled.split s store);
+        used = λ s store some. filled.used s store (omega (arith, is_left s store, some));
       };
       kept = λ s store.
           let same = written_same q y w s t (λ u from to. others s u store from (omega arith) (omega arith)) in
-          omega (arith, same, cut s store, no_less s store, is.later s t store (omega arith) last);
+          omega (arith, same, cut s store, filled.raised s store, is.later s t store (omega arith) last);
     } in
     record {
       done = λ u from to. elim (cases_lt u t) [

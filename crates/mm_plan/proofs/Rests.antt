@@ -7,7 +7,7 @@ use Rattle.mm_plan.specs.Table.{Table, amount, HasShape, ChangesAmount}
 use Rattle.mm_plan.specs.Volumes.{Amounts, written}
 use Rattle.mm_plan.specs.Fit.{FitsAt}
 use Rattle.mm_plan.specs.Filled.{IsWindowUsed, IsLimitUsed}
-use Rattle.mm_plan.specs.Filling.{SameElsewhere, AreSplit}
+use Rattle.mm_plan.specs.Filling.{SameElsewhere, IsStepFilled}
 use Rattle.mm_plan.proofs.Steps.{written_same}
 use Rattle.mm_plan.proofs.Lowering.{amount_kept}
 use Rattle.mm_plan.proofs.Raises.{IsNoLess, used_kept}
@@ -43,6 +43,12 @@ served_more q x old new t k v blocks shape is changed store first last places le
       used = below_more _ _ (λ s below some. used_kept q (amount old) (amount new) t (channel q s) no_less fits (is.used s below (omega (arith, stays s (omega arith), some)))) (λ some. used (omega (arith, now, some)));
     }
 
--- what stands in the stores is still split
-pub served_all : (q : Dumping) (x y : Amounts) (t k : ℕ) (blocks : List ℕ) → 1 ≤ t → t ≤ length q.windows → IsServedBelow q x y t k blocks → AreSplit q y t blocks
-served_all q x y t k blocks first last is = λ s store. is.split s store ∙ sym (written_same q x y s t (λ u from to. is.others s u store from (omega arith) (omega arith)))
+-- all stores
+pub served_all : (q : Dumping) (x y : Amounts) (t : ℕ) (blocks : List ℕ) → 1 ≤ t → t ≤ length q.windows → IsServedBelow q x y t (length q.rows) blocks → IsStepFilled q x y t blocks
+served_all q x y t blocks first last is = record {
+  others = is.others;
+  raised = is.raised;
+  fits = is.fits;
+  split = λ s store. is.split s store ∙ sym (written_same q x y s t (λ u from to. is.others s u store from (omega arith) (omega arith)));
+  used = is.used;
+}

@@ -101,28 +101,41 @@ impl Draft {
             Line::Title { second } => {
                 self.second = second;
                 self.stage = Stage::ToStores;
+                Ok(())
             }
             Line::Stores(ids) => {
                 self.stores = ids;
                 self.stage = Stage::ToDumps;
+                Ok(())
             }
             Line::Dump { step, amounts } => {
                 self.amounts.extend_from_slice(amounts.as_slice())?;
                 self.steps = step;
+                Ok(())
             }
             Line::Loss(loss) => {
                 self.loss = loss;
                 self.stage = Stage::ToCut;
+                Ok(())
             }
-            Line::Cut(stretch) => self.cut.push(stretch)?,
-            Line::Count(step) => self.by_channels.push(step)?,
+            Line::Cut(stretch) => {
+                self.cut.push(stretch)?;
+                Ok(())
+            }
+            Line::Count(step) => {
+                self.by_channels.push(step)?;
+                Ok(())
+            }
             Line::Bound(bound) => {
                 self.bound = bound;
                 self.stage = Stage::ToEnd;
+                Ok(())
             }
-            Line::End => self.stage = Stage::Done,
+            Line::End => {
+                self.stage = Stage::Done;
+                Ok(())
+            }
         }
-        Ok(())
     }
 
     // Takes the next line, or answers that this line cannot come next.

@@ -5,7 +5,7 @@ ghost use Rattle.mm_problem.specs.Dumping.{start, channel};
 ghost use Rattle.mm_plan.specs.Table.{amount, HasShape, ChangesAmount};
 ghost use Rattle.mm_plan.specs.Fit.{FitsAt, Fits};
 ghost use Rattle.mm_plan.specs.Filled.{IsWindowUsed, IsLimitUsed, IsFilled, IsNowhereWorse};
-ghost use Rattle.mm_plan.specs.Filling.{SameElsewhere, IsLoweredAt, AreLeft, AreSplit, AreUnused, IsRest, room_in};
+ghost use Rattle.mm_plan.specs.Filling.{SameElsewhere, IsLoweredAt, AreLeft, AreSplit, AreUnused, IsRest, IsStepFilled, room_in};
 
 use crate::fit::{channel_amounts, step_amount};
 use crate::plan::Plan;
@@ -164,13 +164,7 @@ fn use_rest(problem: &Problem, plan: &mut Plan, left: &mut [u32], step: u32)
     requires fits { FitsAt problem.now (amount plan.old) step }
     requires split { AreSplit problem.now (amount plan.old) step left.old }
     ensures shape { HasShape problem.now plan.new }
-    ensures others { SameElsewhere problem.now (amount plan.old) (amount plan.new) step }
-    ensures raised { (s : ℕ) → s < length problem.now.rows → amount plan.old s step ≤ amount plan.new s step }
-    ensures fits { FitsAt problem.now (amount plan.new) step }
-    ensures split { AreSplit problem.now (amount plan.new) step left.new }
-    ensures used { (s : ℕ) → s < length problem.now.rows → 0 < slice_index left.new s
-        → IsWindowUsed problem.now (amount plan.new) step
-        ⊎ IsLimitUsed problem.now (amount plan.new) step (channel problem.now s) }
+    ensures filled { IsStepFilled problem.now (amount plan.old) (amount plan.new) step left.new }
 {
     let mut rest = Rest::of(problem, plan, step);
     for store in 0..problem.stores() {

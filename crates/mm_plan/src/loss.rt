@@ -29,6 +29,7 @@ fn store_loss(problem: &Problem, plan: &Plan, store: usize) -> u64
 
 /// How many blocks are lost where the plan is carried out and what arrives is the problem's arrivals.
 #[tactic(auto, using(mm_base::proofs::RangeSums::sum_by_range_more))]
+#[must_use]
 pub fn loss_of(problem: &Problem, plan: &Plan) -> u64
     requires { HasShape problem.now plan.now }
     ensures loss { result ≡ loss problem.now (amount plan.now) }

@@ -31,6 +31,7 @@ impl Model for Plan {
 
 impl Plan {
     /// How many blocks are to leave a store in a step.
+    #[must_use]
     pub fn amount(&self, store: usize, step: u32) -> u32
         requires { IsPlace self.now store step }
         ensures amount { result ≡ amount self.now store step }
@@ -41,6 +42,7 @@ impl Plan {
     }
 
     /// Whether the plan has as many stores and steps as the problem.
+    #[must_use]
     pub fn has_shape(&self, problem: &Problem) -> bool
         ensures shape { IsTrue result ↔ HasShape problem.now self.now }
         ensures is_table { IsTable self.now }

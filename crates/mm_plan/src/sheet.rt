@@ -92,6 +92,7 @@ fn finish(draft: Draft) -> Sheet
 
 impl Sheet {
     /// The sheet with these parts.
+    #[must_use]
     pub fn new(
         stores: Vec<StoreId>,
         plan: Plan,
@@ -180,12 +181,14 @@ impl Sheet {
     }
 
     /// The identifiers of the stores, in the order of the plan's places.
+    #[must_use]
     pub fn stores(&self) -> &[StoreId]
         ensures { result.now ≡ self.now.stores }
     {
         self.stores.as_slice()
     }
 
+    #[must_use]
     pub fn plan(&self) -> &Plan
         ensures { result.now ≡ self.now.plan }
     {
@@ -193,6 +196,7 @@ impl Sheet {
     }
 
     /// The loss that the sheet says, in blocks.
+    #[must_use]
     pub fn loss(&self) -> u64
         ensures { result ≡ self.now.loss }
     {
@@ -200,6 +204,7 @@ impl Sheet {
     }
 
     /// The stretches of the cut.
+    #[must_use]
     pub fn cut(&self) -> &[Stretch]
         ensures { result.now ≡ self.now.cut }
     {
@@ -207,6 +212,7 @@ impl Sheet {
     }
 
     /// The inner steps that are counted by channels.
+    #[must_use]
     pub fn by_channels(&self) -> &[u32]
         ensures { result.now ≡ self.now.by_channels }
     {
@@ -214,6 +220,7 @@ impl Sheet {
     }
 
     /// The bound of the cut that the sheet says, in blocks.
+    #[must_use]
     pub fn bound(&self) -> i64
         ensures { result ≡ self.now.bound }
     {

@@ -44,6 +44,7 @@ impl Model for Simulated {
 
 impl Simulated {
     /// How many blocks stand in a store once a step's arrivals have come.
+    #[must_use]
     pub fn written(&self, store: usize, step: u32) -> u32
         requires { IsVolumePlace self.now store step }
         ensures { result ≡ written_in self.now store step }
@@ -52,6 +53,7 @@ impl Simulated {
     }
 
     /// How many blocks stand in a store when a step has ended.
+    #[must_use]
     pub fn left(&self, store: usize, step: u32) -> u32
         requires { IsVolumePlace self.now store step }
         ensures { result ≡ left_in self.now store step }
@@ -60,6 +62,7 @@ impl Simulated {
     }
 
     /// How many of a step's arrivals a store has no room for.
+    #[must_use]
     pub fn lost(&self, store: usize, step: u32) -> u32
         requires { IsVolumePlace self.now store step }
         ensures { result ≡ lost_in self.now store step }
@@ -68,6 +71,7 @@ impl Simulated {
     }
 
     /// How many blocks all stores lose over all steps.
+    #[must_use]
     pub fn total(&self) -> u64
         ensures { result ≡ self.now.total }
     {

@@ -18,7 +18,7 @@ use Rattle.mm_base.specs.declared.rows.StoreRow.{StoreRow}
 use Rattle.mm_problem.specs.Cells.{amount_from, amount_of, step_from}
 use Rattle.mm_problem.specs.Dumping.{AreSteps, IsLimit, AreChannels}
 use Rattle.mm_problem.specs.Forecast.{Steps, header_of, same_fields, cell_of, arrivals_in, next_step, steps_in, no_steps, some_steps, forecast_in, limit_of, limits_of}
-use Rattle.mm_base.specs.Numbers.{numeral_within, numeral_of, is_number, value_after}
+use Rattle.mm_base.specs.Numbers.{numeral_of}
 use Rattle.mm_base.specs.Reading.{◌>>=◌, test}
 use Rattle.mm_problem.specs.Records.{Fields}
 use Rattle.mm_problem.specs.Setup.{IsLimitRow}
@@ -141,24 +141,32 @@ steps_fit stores (fields ∷ rows) earlier steps so_far h =
     let (next, given, rest) = bind_ok _ _ _ h in
     steps_fit stores rows next steps (next_fits stores earlier fields next so_far (next_step_said stores earlier fields next given)) rest
 
--- the steps of a forecast that is read are those of a problem
-pub forecast_fits : (stores : List StoreRow) (rows : List Fields) (steps : Steps) → forecast_in stores rows ≡ Ok steps → AreSteps stores steps.windows steps.arrived
+-- records that say steps: the first is the header, the others say the steps, and there is a step
+pub forecast_parts : (stores : List StoreRow) (header : Fields) (rows : List Fields) (steps : Steps) → forecast_in stores (header ∷ rows) ≡ Ok steps
+    → (same_fields header (header_of stores) ≡ true) × (steps_in (length stores) no_steps rows ≡ Ok steps) × (nat_le 1 (length steps.windows) ≡ true)
 unfolding forecast_in some_steps
-forecast_fits stores [] steps h = absurd (cc)
-forecast_fits stores (header ∷ rows) steps h =
+forecast_parts stores header rows steps h =
     let (u, named, h1) = bind_ok (test (same_fields header (header_of stores)) Header) (λ _. steps_in (length stores) no_steps rows >>= some_steps) steps h in
     let (read, are, h2) = bind_ok (steps_in (length stores) no_steps rows) some_steps steps h1 in
     let (v, some, last) = bind_ok (test (nat_le 1 (length read.windows)) (Limit name.Steps)) (λ _. Ok read) steps h2 in
-    let one : nat_le 1 (length read.windows) ≡ true = test_ok _ _ _ some in
     let same : read ≡ steps = cc in
-    let fit = steps_fit (length stores) rows no_steps read (record { at_most = omega arith; table = omega arith; each_window = All-nil (λ n. n ≤ MAX_BLOCKS); each_arrival = All-nil (λ n. n ≤ MAX_BLOCKS) }) are in
-    subst (λ s. AreSteps stores s.windows s.arrived) same (record {
+    subst (λ s. (same_fields header (header_of stores) ≡ true) × (steps_in (length stores) no_steps rows ≡ Ok s) × (nat_le 1 (length s.windows) ≡ true)) same
+    (test_ok _ _ _ named, are, test_ok _ _ _ some)
+
+-- the steps of a forecast that is read are those of a problem
+pub forecast_fits : (stores : List StoreRow) (rows : List Fields) (steps : Steps) → forecast_in stores rows ≡ Ok steps → AreSteps stores steps.windows steps.arrived
+unfolding forecast_in
+forecast_fits stores [] steps h = absurd (cc)
+forecast_fits stores (header ∷ rows) steps h =
+    let (named, are, one) = forecast_parts stores header rows steps h in
+    let fit = steps_fit (length stores) rows no_steps steps (record { at_most = omega arith; table = omega arith; each_window = All-nil (λ n. n ≤ MAX_BLOCKS); each_arrival = All-nil (λ n. n ≤ MAX_BLOCKS) }) are in
+    record {
       has_step = grind (arith, nat_tests);
       at_most = fit.at_most;
       table = fit.table;
       each_window = fit.each_window;
       each_arrival = fit.each_arrival;
-    })
+    }
 
 -- ---- limits
 

@@ -1,5 +1,5 @@
 -- The records of a forecast are those of its problem, spelled out.
-use Rattle.std.proofs.Common.{◌≡◌, ℕ, ◌+◌, ◌*◌, ◌<◌, ◌≤◌, zero, suc, nat_lt, nat_le, ◌==◌, true, List, [], ◌∷◌, ◌++◌, length, get_or, map, take, drop, Ok, refl, sym, ap, subst, ◌∙◌, arith, append_assoc, length-append, length-drop}
+use Rattle.std.proofs.Common.{◌≡◌, ℕ, ◌+◌, ◌*◌, ◌<◌, ◌≤◌, zero, suc, nat_lt, ◌==◌, true, List, [], ◌∷◌, ◌++◌, length, get_or, map, take, drop, Ok, refl, sym, ap, subst, ◌∙◌, arith, append_assoc, length-append, length-drop}
 use Rattle.std.proofs.Math.Nat.{mul-le-mul_left}
 use Rattle.std.specs.Prelude.{All, bytes_eq}
 use Rattle.std.specs.Fmt.{decimal}
@@ -12,20 +12,17 @@ use Rattle.std.proofs.lemmas.Simd.{map-map}
 use Rattle.std.proofs.lemmas.List.Elements.{recursion_from_All, All-head, All-tail, All-take, All-drop}
 use Rattle.std.proofs.lemmas.List.FromFn.{fill_by_all}
 use Rattle.std.proofs.Math.Seq.{take-append_seam}
-use Rattle.mm_problem.specs.declared.fault.Name.TheVariants as name
 use Rattle.mm_base.specs.declared.limits.TheConstants.{MAX_STEPS, MAX_BLOCKS}
 use Rattle.mm_problem.specs.Dumping.{Dumping, window, arrivals, stores, steps, IsDumping}
 use Rattle.mm_problem.specs.ReadableForecast.{record_of, IsReadableForecast}
 use Rattle.mm_problem.specs.Forecast.{Steps, header_of, same_fields, cell_of, arrivals_in, next_step, steps_in, no_steps, some_steps, forecast_in, limits_of, problem_of}
-use Rattle.mm_base.specs.Reading.{◌>>=◌, test}
 use Rattle.mm_problem.specs.Records.{Fields, records_of}
 use Rattle.mm_problem.specs.Setup.{SetupRows, IsSetup}
-use Rattle.mm_problem.specs.declared.fault.Fault.TheVariants.{Header, Limit}
 use Rattle.mm_base.specs.declared.rows.StoreRow.{StoreRow}
-use Rattle.mm_problem.proofs.ForecastLaws.{IsNextStep, next_step_said, amounts_fit, forecast_fits, channels_fit}
+use Rattle.mm_problem.proofs.ForecastLaws.{IsNextStep, next_step_said, amounts_fit, forecast_parts, forecast_fits, channels_fit}
 use Rattle.mm_base.proofs.IdFields.{Decides-nat_le}
 use Rattle.mm_base.proofs.NumberTexts.{IsNumeral, numeral_printed, printed_numeral}
-use Rattle.mm_problem.proofs.ReadingSteps.{bind_ok, test_ok}
+use Rattle.mm_problem.proofs.ReadingSteps.{bind_ok}
 
 -- the records of steps from a number on
 abbrev pub step_rows : ℕ → ℕ → List ℕ → List ℕ → List Fields
@@ -191,18 +188,15 @@ same_fields_read (x ∷ xs) = rw ((bytes_eq-Decides x x).1 refl, same_fields_rea
 
 -- records that were read are the header and the steps, spelled out
 forecast_printed : (stores : List StoreRow) (rows : List Fields) (steps : Steps) → forecast_in stores rows ≡ Ok steps → rows ≡ header_of stores ∷ step_rows (length stores) 1 steps.windows steps.arrived
-unfolding forecast_in some_steps
+unfolding forecast_in
 forecast_printed stores [] steps h = absurd (cc)
 forecast_printed stores (header ∷ rows) steps h =
-    let (u, named, h1) = bind_ok (test (same_fields header (header_of stores)) Header) (λ _. steps_in (length stores) no_steps rows >>= some_steps) steps h in
-    let (read, are, h2) = bind_ok (steps_in (length stores) no_steps rows) some_steps steps h1 in
-    let (v, some, last) = bind_ok (test (nat_le 1 (length read.windows)) (Limit name.Steps)) (λ _. Ok read) steps h2 in
-    let same : read ≡ steps = cc in
-    let printed = steps_printed (length stores) rows no_steps read are in
-    let first : header ≡ header_of stores = same_fields_said header (header_of stores) (test_ok _ _ _ named) in
+    let (named, are, one) = forecast_parts stores header rows steps h in
+    let printed = steps_printed (length stores) rows no_steps steps are in
+    let first : header ≡ header_of stores = same_fields_said header (header_of stores) named in
     let n = length stores in
-    let behind = printed.spelled ∙ ap (λ ws. step_rows n 1 ws printed.arrived) (sym printed.windows_behind) ∙ ap (step_rows n 1 read.windows) (sym printed.arrived_behind) in
-    ap (λ f. f ∷ rows) first ∙ ap (λ r. header_of stores ∷ r) behind ∙ ap (λ s. header_of stores ∷ step_rows n 1 s.windows s.arrived) same
+    let behind = printed.spelled ∙ ap (λ ws. step_rows n 1 ws printed.arrived) (sym printed.windows_behind) ∙ ap (step_rows n 1 steps.windows) (sym printed.arrived_behind) in
+    ap (λ f. f ∷ rows) first ∙ ap (λ r. header_of stores ∷ r) behind
 
 -- a forecast that is read is that of the problem, spelled out
 pub forecast_said : (setup : SetupRows) → IsSetup setup → (octets : List ℕ) (q : Dumping) → problem_of setup octets ≡ Ok q → IsReadableForecast setup octets q

@@ -1,18 +1,16 @@
 -- The rest of a problem, from new start volumes.
-use Rattle.std.proofs.Common.{◌≡◌, ℕ, zero, suc, inl, inr, ◌+◌, ◌-◌, ◌*◌, ◌<◌, ◌≤◌, nat_le, Bool, true, false, List, [], ◌∷◌, length, get_or, map, drop, refl, sym, ap, ◌∙◌, arith, length-drop}
-use Rattle.std.specs.Prelude.{All, AllPairs}
+use Rattle.std.proofs.Common.{◌≡◌, ℕ, zero, suc, inl, inr, ◌+◌, ◌-◌, ◌*◌, ◌<◌, ◌≤◌, nat_le, Bool, true, false, List, length, get_or, drop, refl, ◌∙◌, arith, length-drop}
 use Rattle.std.specs.List.{list_all, range_with_len}
 use Rattle.std.proofs.lemmas.Bool.{and_parts, cases_Bool}
-use Rattle.std.proofs.lemmas.Bool.Decides.{nat_tests}
 use Rattle.std.proofs.lemmas.List.Elements.{All-drop}
 use Rattle.std.proofs.Math.Nat.{eq-or-lt_of_le, mul_comm, mul-sub}
 use Rattle.std.proofs.lemmas.List.FromFn.{length-map-range_with_len, get_or-map-range_with_len}
 use Rattle.mm_base.specs.declared.limits.TheConstants.{MAX_BLOCKS}
 use Rattle.mm_base.specs.declared.rows.StoreRow.{StoreRow}
 use Rattle.mm_base.proofs.IdFields.{Decides-nat_le}
-use Rattle.mm_problem.specs.Dumping.{Dumping, no_row, IsDumping, AreSteps}
-use Rattle.mm_problem.specs.Rest.{starting_with, rows_from, rest_of, starts_fit}
-use Rattle.mm_problem.specs.Setup.{IsStoreRow, HaveOtherIds, AreStores}
+use Rattle.mm_problem.specs.Dumping.{no_row, AreSteps}
+use Rattle.mm_problem.specs.Rest.{starting_with, rows_from, starts_fit}
+use Rattle.mm_problem.specs.Setup.{AreStores}
 
 -- what all numbers of a range pass
 all_of_range : (p : ℕ → Bool) (n a : ℕ) → ((k : ℕ) → a ≤ k → k < a + n → p k ≡ true) → list_all p (range_with_len a n) ≡ true

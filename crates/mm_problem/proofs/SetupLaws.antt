@@ -18,7 +18,7 @@ use Rattle.mm_problem.specs.Keys.{elements, elements_of, value_at, array_at}
 use Rattle.mm_base.specs.Reading.{◌>>=◌, test}
 use Rattle.mm_problem.specs.ReadableSetup.{SaysStore, SaysRoute, SaysLimit, IsTableOf, IsArrayOf, SaysRows, SaysRowsIfAny, IsReadableDocument, IsReadableSetup}
 use Rattle.mm_problem.specs.Setup.{SetupRows, IsStoreRow, HaveOtherIds, IsRouteRow, IsLimitRow, HaveOtherChannels, IsSetup}
-use Rattle.mm_problem.specs.Tables.{next_store, next_route, next_limit}
+use Rattle.mm_problem.specs.Tables.{row_after, store_at, new_store, route_at, new_route, limit_at, new_limit}
 use Rattle.mm_problem.proofs.FieldLaws.{array_said as array_is, has_only_decides}
 use Rattle.mm_base.proofs.IdFields.{Decides-nat_le}
 use Rattle.mm_problem.proofs.ReadingSteps.{bind_ok, test_ok, ok_or_ok, cond_ok}
@@ -58,9 +58,9 @@ rows_of_said lists m counted h =
     let (stores, stores_are, h1) = bind_ok _ _ _ h in
     let (routes, routes_are, h2) = bind_ok _ _ _ h1 in
     let (limits, limits_are, last) = bind_ok _ _ _ h2 in
-    let s = rows_said (IsTableOf SaysStore) IsStoreRow HaveOtherIds next_store next_store_said lists.stores [] stores (All-nil IsStoreRow) (none_apart HaveOtherIds) stores_are in
-    let r = rows_said (IsTableOf SaysRoute) (IsRouteRow stores) ◌≢◌ (next_route stores) (next_route_said stores) lists.routes [] routes (All-nil (IsRouteRow stores)) (none_apart ◌≢◌) routes_are in
-    let l = rows_said (IsTableOf SaysLimit) IsLimitRow HaveOtherChannels next_limit next_limit_said lists.limits [] limits (All-nil IsLimitRow) (none_apart HaveOtherChannels) limits_are in
+    let s = rows_said (IsTableOf SaysStore) IsStoreRow HaveOtherIds (row_after store_at new_store) next_store_said lists.stores [] stores (All-nil IsStoreRow) (none_apart HaveOtherIds) stores_are in
+    let r = rows_said (IsTableOf SaysRoute) (IsRouteRow stores) ◌≢◌ (row_after route_at (new_route stores)) (next_route_said stores) lists.routes [] routes (All-nil (IsRouteRow stores)) (none_apart ◌≢◌) routes_are in
+    let l = rows_said (IsTableOf SaysLimit) IsLimitRow HaveOtherChannels (row_after limit_at new_limit) next_limit_said lists.limits [] limits (All-nil IsLimitRow) (none_apart HaveOtherChannels) limits_are in
     let (store_tables, store_count) = first_rows (IsTableOf SaysStore) IsStoreRow HaveOtherIds lists.stores stores s in
     let (route_tables, route_count) = first_rows (IsTableOf SaysRoute) (IsRouteRow stores) ◌≢◌ lists.routes routes r in
     let (limit_tables, limit_count) = first_rows (IsTableOf SaysLimit) IsLimitRow HaveOtherChannels lists.limits limits l in
@@ -83,9 +83,9 @@ unfolding rows_of
 rows_of_read lists m h =
     let w = h.within in
     rw (
-      rows_read (IsTableOf SaysStore) IsStoreRow HaveOtherIds next_store next_store_read lists.stores [] m.stores h.stores w.stores.each w.stores.named,
-      rows_read (IsTableOf SaysRoute) (IsRouteRow m.stores) ◌≢◌ (next_route m.stores) (next_route_read m.stores) lists.routes [] m.routes h.routes w.routes.each w.routes.once,
-      rows_read (IsTableOf SaysLimit) IsLimitRow HaveOtherChannels next_limit next_limit_read lists.limits [] m.limits h.limits w.limits.each w.limits.once,
+      rows_read (IsTableOf SaysStore) IsStoreRow HaveOtherIds (row_after store_at new_store) next_store_read lists.stores [] m.stores h.stores w.stores.each w.stores.named,
+      rows_read (IsTableOf SaysRoute) (IsRouteRow m.stores) ◌≢◌ (row_after route_at (new_route m.stores)) (next_route_read m.stores) lists.routes [] m.routes h.routes w.routes.each w.routes.once,
+      rows_read (IsTableOf SaysLimit) IsLimitRow HaveOtherChannels (row_after limit_at new_limit) next_limit_read lists.limits [] m.limits h.limits w.limits.each w.limits.once,
     ) refl
 
 -- ---- counts

@@ -1,5 +1,5 @@
 -- What is read in a table, and what the table says.
-use Rattle.std.proofs.Common.{◌≡◌, ◌≢◌, ℕ, ◌+◌, ◌≤◌, ◌==◌, Bool, true, false, not, ◌&&◌, List, [], ◌∷◌, length, Option, Some, None, Ok, refl, sym, ap, subst, ◌∙◌, arith, inl, inr}
+use Rattle.std.proofs.Common.{◌≡◌, ◌≢◌, ℕ, ◌+◌, ◌≤◌, ◌==◌, Bool, true, false, not, ◌&&◌, List, [], ◌∷◌, length, Option, Some, None, Result, Ok, refl, sym, ap, subst, ◌∙◌, arith, inl, inr}
 use Rattle.std.specs.Prelude.{All, bytes_eq}
 use Rattle.std.specs.Bool.{Decides}
 use Rattle.std.specs.List.{list_any}
@@ -21,7 +21,8 @@ use Rattle.mm_base.specs.Kind.{word_of}
 use Rattle.mm_problem.specs.ReadableSetup.{SaysText, SaysNumberIfAny, SaysStore, SaysRoute, SaysLimit, IsTableOf}
 use Rattle.mm_problem.specs.Setup.{IsStoreRow, HaveOtherIds, IsRouteRow, IsLimitRow, HaveOtherChannels}
 use Rattle.mm_base.specs.SameRoutes.{same_route}
-use Rattle.mm_problem.specs.Tables.{store_keys, route_keys, limit_keys, kind_of, kind_at, start_from, store_at, new_store, next_store, route_at, next_route, limit_at, new_limit, next_limit}
+use Rattle.mm_problem.specs.declared.fault.Fault.{Fault}
+use Rattle.mm_problem.specs.Tables.{store_keys, route_keys, limit_keys, kind_of, kind_at, start_from, row_after, store_at, new_store, route_at, new_route, limit_at, new_limit}
 use Rattle.mm_problem.proofs.FieldLaws.{table_said, has_only_decides, found_decides, text_said, id_said, id_read, number_said, number_read}
 use Rattle.mm_problem.proofs.ReadingSteps.{bind_ok, test_ok, ok_or_ok, ok_same}
 use Rattle.mm_problem.proofs.RowLaws.{IsNext}
@@ -72,6 +73,24 @@ same_route_decides a b = (
     (bytes_eq-Decides a.store a.store).1 refl,
   ) refl),
 )
+
+-- ---- one row after another
+
+module _ {R : Type 0} (row_at : ℕ → Data → Result R Fault) (new_row : List R → R → Result (Unit {0}) Fault) where
+  -- a row that is read is what its table says
+  row_after_said : (Says : Data → R → Type 0) (P : R → Type 0) (D : R → R → Type 0)
+      → ((number : ℕ) (earlier : List R) (d : Data) (row : R) (u : Unit {0}) → row_at number d ≡ Ok row → new_row earlier row ≡ Ok u → IsNext Says P D earlier d row)
+      → (earlier : List R) (d : Data) (r : R) → row_after row_at new_row earlier d ≡ Ok r → IsNext Says P D earlier d r
+  unfolding row_after
+  row_after_said Says P D said earlier d r h =
+      let (row, at, more) = bind_ok _ _ _ h in
+      let (u, new, last) = bind_ok _ _ _ more in
+      subst (IsNext Says P D earlier d) (ok_same row r last) (said (length earlier + 1) earlier d row u at new)
+
+  -- a new row that its table says is read
+  row_after_read : (earlier : List R) (d : Data) (r : R) → row_at (length earlier + 1) d ≡ Ok r → new_row earlier r ≡ Ok tt → row_after row_at new_row earlier d ≡ Ok r
+  unfolding row_after
+  row_after_read earlier d r at new = rw (at, new) refl
 
 -- ---- stores
 
@@ -164,26 +183,16 @@ pub new_store_said : (earlier : List StoreRow) (row : StoreRow) (u : Unit {0}) �
 new_store_said earlier row u new = (none_decides (λ e. bytes_eq e.id row.id) (λ e. e.id ≡ row.id) (λ e. bytes_eq-Decides e.id row.id) earlier).0 (test_ok _ _ _ new)
 
 -- a store that is read next is new
-pub next_store_said : (earlier : List StoreRow) (d : Data) (r : StoreRow) → next_store earlier d ≡ Ok r → IsNext (IsTableOf SaysStore) IsStoreRow HaveOtherIds earlier d r
-unfolding next_store
-next_store_said earlier d r h =
-    let (row, at, more) = bind_ok _ _ _ h in
-    let (u, new, last) = bind_ok _ _ _ more in
-    let same : row ≡ r = cc in
-    let facts = store_said (length earlier + 1) d row at in
-    subst (IsNext (IsTableOf SaysStore) IsStoreRow HaveOtherIds earlier d) same (record {
-      says = facts.0;
-      fits = facts.1;
-      new = new_store_said earlier row u new;
-    })
+pub next_store_said : (earlier : List StoreRow) (d : Data) (r : StoreRow) → row_after store_at new_store earlier d ≡ Ok r → IsNext (IsTableOf SaysStore) IsStoreRow HaveOtherIds earlier d r
+next_store_said = row_after_said store_at new_store (IsTableOf SaysStore) IsStoreRow HaveOtherIds (λ number earlier d row u at new.
+    let facts = store_said number d row at in
+    record { says = facts.0; fits = facts.1; new = new_store_said earlier row u new })
 
 -- a new store is read next
-pub next_store_read : (earlier : List StoreRow) (d : Data) (r : StoreRow) → IsNext (IsTableOf SaysStore) IsStoreRow HaveOtherIds earlier d r → next_store earlier d ≡ Ok r
-unfolding next_store
-next_store_read earlier d r h = rw (
-  store_read (length earlier + 1) d r h.says h.fits,
-  (none_decides (λ e. bytes_eq e.id r.id) (λ e. e.id ≡ r.id) (λ e. bytes_eq-Decides e.id r.id) earlier).1 h.new,
-) refl
+pub next_store_read : (earlier : List StoreRow) (d : Data) (r : StoreRow) → IsNext (IsTableOf SaysStore) IsStoreRow HaveOtherIds earlier d r → row_after store_at new_store earlier d ≡ Ok r
+next_store_read earlier d r h = row_after_read store_at new_store earlier d r
+    (store_read (length earlier + 1) d r h.says h.fits)
+    (rw ((none_decides (λ e. bytes_eq e.id r.id) (λ e. e.id ≡ r.id) (λ e. bytes_eq-Decides e.id r.id) earlier).1 h.new) refl)
 
 -- ---- routes
 
@@ -230,28 +239,26 @@ route_read row d r h apid = rw (
 ) refl
 
 -- a route that is read next is new and of a store that there is
-pub next_route_said : (stores : List StoreRow) (earlier : List RouteRow) (d : Data) (r : RouteRow) → next_route stores earlier d ≡ Ok r → IsNext (IsTableOf SaysRoute) (IsRouteRow stores) ◌≢◌ earlier d r
-unfolding next_route
-next_route_said stores earlier d r h =
-    let (row, at, h1) = bind_ok _ _ _ h in
-    let (u, stored, h2) = bind_ok _ _ _ h1 in
-    let (v, new, last) = bind_ok _ _ _ h2 in
-    let same : row ≡ r = cc in
-    let facts = route_said (length earlier + 1) d row at in
-    subst (IsNext (IsTableOf SaysRoute) (IsRouteRow stores) ◌≢◌ earlier d) same (record {
+pub next_route_said : (stores : List StoreRow) (earlier : List RouteRow) (d : Data) (r : RouteRow) → row_after route_at (new_route stores) earlier d ≡ Ok r → IsNext (IsTableOf SaysRoute) (IsRouteRow stores) ◌≢◌ earlier d r
+unfolding new_route
+next_route_said stores = row_after_said route_at (new_route stores) (IsTableOf SaysRoute) (IsRouteRow stores) ◌≢◌ (λ number earlier d row u at tests.
+    let facts = route_said number d row at in
+    let (v, stored, new) = bind_ok _ _ _ tests in
+    record {
       says = facts.0;
       fits = record { apid = facts.1; store = (found_decides (λ s. s.id) stores row.store).0 (test_ok _ _ _ stored) };
       new = (none_decides (λ e. same_route e row) (λ e. e ≡ row) (λ e. same_route_decides e row) earlier).0 (test_ok _ _ _ new);
     })
 
 -- a new route of a store that there is is read next
-pub next_route_read : (stores : List StoreRow) (earlier : List RouteRow) (d : Data) (r : RouteRow) → IsNext (IsTableOf SaysRoute) (IsRouteRow stores) ◌≢◌ earlier d r → next_route stores earlier d ≡ Ok r
-unfolding next_route
-next_route_read stores earlier d r h = rw (
-  route_read (length earlier + 1) d r h.says h.fits.apid,
-  (found_decides (λ s. s.id) stores r.store).1 h.fits.store,
-  (none_decides (λ e. same_route e r) (λ e. e ≡ r) (λ e. same_route_decides e r) earlier).1 h.new,
-) refl
+pub next_route_read : (stores : List StoreRow) (earlier : List RouteRow) (d : Data) (r : RouteRow) → IsNext (IsTableOf SaysRoute) (IsRouteRow stores) ◌≢◌ earlier d r → row_after route_at (new_route stores) earlier d ≡ Ok r
+unfolding new_route
+next_route_read stores earlier d r h = row_after_read route_at (new_route stores) earlier d r
+    (route_read (length earlier + 1) d r h.says h.fits.apid)
+    (rw (
+      (found_decides (λ s. s.id) stores r.store).1 h.fits.store,
+      (none_decides (λ e. same_route e r) (λ e. e ≡ r) (λ e. same_route_decides e r) earlier).1 h.new,
+    ) refl)
 
 -- ---- limits
 
@@ -291,23 +298,13 @@ pub new_limit_said : (earlier : List LimitRow) (row : LimitRow) (u : Unit {0}) �
 new_limit_said earlier row u new = (none_decides (λ e. e.channel == row.channel) (λ e. e.channel ≡ row.channel) (λ e. Decides-eqb e.channel row.channel) earlier).0 (test_ok _ _ _ new)
 
 -- a limit that is read next is of a new channel
-pub next_limit_said : (earlier : List LimitRow) (d : Data) (r : LimitRow) → next_limit earlier d ≡ Ok r → IsNext (IsTableOf SaysLimit) IsLimitRow HaveOtherChannels earlier d r
-unfolding next_limit
-next_limit_said earlier d r h =
-    let (row, at, more) = bind_ok _ _ _ h in
-    let (u, new, last) = bind_ok _ _ _ more in
-    let same : row ≡ r = cc in
-    let facts = limit_said (length earlier + 1) d row at in
-    subst (IsNext (IsTableOf SaysLimit) IsLimitRow HaveOtherChannels earlier d) same (record {
-      says = facts.0;
-      fits = facts.1;
-      new = new_limit_said earlier row u new;
-    })
+pub next_limit_said : (earlier : List LimitRow) (d : Data) (r : LimitRow) → row_after limit_at new_limit earlier d ≡ Ok r → IsNext (IsTableOf SaysLimit) IsLimitRow HaveOtherChannels earlier d r
+next_limit_said = row_after_said limit_at new_limit (IsTableOf SaysLimit) IsLimitRow HaveOtherChannels (λ number earlier d row u at new.
+    let facts = limit_said number d row at in
+    record { says = facts.0; fits = facts.1; new = new_limit_said earlier row u new })
 
 -- a limit of a new channel is read next
-pub next_limit_read : (earlier : List LimitRow) (d : Data) (r : LimitRow) → IsNext (IsTableOf SaysLimit) IsLimitRow HaveOtherChannels earlier d r → next_limit earlier d ≡ Ok r
-unfolding next_limit
-next_limit_read earlier d r h = rw (
-  limit_read (length earlier + 1) d r h.says h.fits,
-  (none_decides (λ e. e.channel == r.channel) (λ e. e.channel ≡ r.channel) (λ e. Decides-eqb e.channel r.channel) earlier).1 h.new,
-) refl
+pub next_limit_read : (earlier : List LimitRow) (d : Data) (r : LimitRow) → IsNext (IsTableOf SaysLimit) IsLimitRow HaveOtherChannels earlier d r → row_after limit_at new_limit earlier d ≡ Ok r
+next_limit_read earlier d r h = row_after_read limit_at new_limit earlier d r
+    (limit_read (length earlier + 1) d r h.says h.fits)
+    (rw ((none_decides (λ e. e.channel == r.channel) (λ e. e.channel ≡ r.channel) (λ e. Decides-eqb e.channel r.channel) earlier).1 h.new) refl)

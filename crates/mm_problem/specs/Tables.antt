@@ -1,5 +1,5 @@
 -- The rows of a setup, read from its tables in the order of their faults.
-use Rattle.std.specs.Prelude.{ℕ, ◌+◌, Bool, ◌==◌, not, ◌&&◌, if◌then◌else◌, List, [], ◌∷◌, ◌++◌, length, Option, Some, None, Result, Ok, Err, bytes_eq}
+use Rattle.std.specs.Prelude.{ℕ, ◌+◌, Bool, ◌==◌, not, if◌then◌else◌, List, [], ◌∷◌, ◌++◌, length, Option, Some, None, Result, Ok, Err, bytes_eq}
 use Rattle.std.specs.List.{list_any}
 use Rattle.std.specs.Option.{ok_or}
 use Rattle.toml.specs.Data.{Data, Members, as_table}
@@ -62,6 +62,13 @@ start_from row size ms (Some d) = number_at row name.Start 0 size ms
 abbrev pub start_at : ℕ → ℕ → Members → Result ℕ Fault
 start_at row size ms = start_from row size ms (value_at name.Start ms)
 
+-- the row in the table after these earlier rows, where it passes the tests beside them
+unfoldable pub row_after : {R : Type 0} → (ℕ → Data → Result R Fault) → (List R → R → Result (Unit {0}) Fault) → List R → Data → Result R Fault
+row_after row_at new_row earlier d = do
+  row ← row_at (length earlier + 1) d
+  new ← new_row earlier row
+  Ok row
+
 -- these earlier rows, and after them those that the tables say
 unfoldable pub rows_in : {R : Type 0} → (List R → Data → Result R Fault) → List R → List Data → Result (List R) Fault
 rows_in next earlier [] = Ok earlier
@@ -89,16 +96,9 @@ has_store stores id = list_any (λ r. bytes_eq r.id id) stores
 abbrev pub new_store : List StoreRow → StoreRow → Result (Unit {0}) Fault
 new_store earlier row = test (not (has_store earlier row.id)) (SetupField (length earlier + 1) name.Repeated)
 
--- the store after these earlier ones
-unfoldable pub next_store : List StoreRow → Data → Result StoreRow Fault
-next_store earlier d = do
-  row ← store_at (length earlier + 1) d
-  new ← new_store earlier row
-  Ok row
-
 -- the stores of these tables
 abbrev pub stores_in : List Data → Result (List StoreRow) Fault
-stores_in = rows_in (next_store) []
+stores_in = rows_in (row_after store_at new_store) []
 
 -- the route in a row
 unfoldable pub route_at : ℕ → Data → Result RouteRow Fault
@@ -111,17 +111,15 @@ route_at row d = do
   store ← id_at row name.Store ms
   Ok (record { apid = apid; service = service; subtype = subtype; store = store })
 
--- the route after these earlier ones
-unfoldable pub next_route : List StoreRow → List RouteRow → Data → Result RouteRow Fault
-next_route stores earlier d = do
-  row ← route_at (length earlier + 1) d
+-- the tests that a route is to one of the stores, and that it is none of those so far
+unfoldable pub new_route : List StoreRow → List RouteRow → RouteRow → Result (Unit {0}) Fault
+new_route stores earlier row = do
   stored ← test (has_store stores row.store) (SetupField (length earlier + 1) name.Store)
-  new ← test (not (list_any (λ r. same_route r row) earlier)) (SetupField (length earlier + 1) name.Repeated)
-  Ok row
+  test (not (list_any (λ r. same_route r row) earlier)) (SetupField (length earlier + 1) name.Repeated)
 
 -- the routes of these tables
 abbrev pub routes_in : List StoreRow → List Data → Result (List RouteRow) Fault
-routes_in stores = rows_in (next_route stores) []
+routes_in stores = rows_in (row_after route_at (new_route stores)) []
 
 -- the limit in a row
 unfoldable pub limit_at : ℕ → Data → Result LimitRow Fault
@@ -136,13 +134,6 @@ limit_at row d = do
 abbrev pub new_limit : List LimitRow → LimitRow → Result (Unit {0}) Fault
 new_limit earlier row = test (not (list_any (λ r. r.channel == row.channel) earlier)) (SetupField (length earlier + 1) name.Repeated)
 
--- the limit after these earlier ones
-unfoldable pub next_limit : List LimitRow → Data → Result LimitRow Fault
-next_limit earlier d = do
-  row ← limit_at (length earlier + 1) d
-  new ← new_limit earlier row
-  Ok row
-
 -- the limits of these tables
 abbrev pub limits_in : List Data → Result (List LimitRow) Fault
-limits_in = rows_in (next_limit) []
+limits_in = rows_in (row_after limit_at new_limit) []

@@ -35,6 +35,7 @@ impl Name {
     ghost use Rattle.mm_problem.specs.Name.{text_of};
 
     /// The key as a setup writes it, which is also the name that a refusal prints.
+    #[must_use]
     pub fn text(self) -> &'static str
         ensures text { result.now ≡ text_of self }
     {

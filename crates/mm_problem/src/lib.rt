@@ -10,6 +10,7 @@ pub mod laws;
 mod problem;
 mod reading;
 mod records;
+mod rows;
 mod setup;
 mod steps;
 mod tables;

@@ -180,6 +180,7 @@ impl Problem {
     }
 
     /// How many stores there are, 1 to 16.
+    #[must_use]
     pub fn stores(&self) -> usize
         ensures stores { result ≡ length self.now.rows }
         ensures is_dumping { IsDumping self.now }
@@ -188,6 +189,7 @@ impl Problem {
     }
 
     /// How many steps there are, 1 to 256.
+    #[must_use]
     pub fn steps(&self) -> u32
         ensures steps { result ≡ length self.now.windows }
         ensures is_dumping { IsDumping self.now }
@@ -196,6 +198,7 @@ impl Problem {
     }
 
     /// How many virtual channels there are: 8.
+    #[must_use]
     pub fn channels(&self) -> u8
         ensures channels { result ≡ length self.now.limits }
         ensures is_dumping { IsDumping self.now }
@@ -205,6 +208,7 @@ impl Problem {
     }
 
     /// The place of the store with this identifier, from 0, or none.
+    #[must_use]
     pub fn place(&self, id: &StoreId) -> Option<usize>
         ensures found { IfSome result (λ s. (s ≡ place self.now id.now) × (s < length self.now.rows)) }
         ensures none { IfNone result (place self.now id.now ≡ length self.now.rows) }
@@ -218,6 +222,7 @@ impl Problem {
     }
 
     /// The identifier of a store.
+    #[must_use]
     pub fn id(&self, store: usize) -> StoreId
         requires store { store < length self.now.rows }
         ensures id { result ≡ (row self.now store).id }
@@ -230,6 +235,7 @@ impl Problem {
     }
 
     /// How many blocks a store holds at the most.
+    #[must_use]
     pub fn size(&self, store: usize) -> u32
         requires store { store < length self.now.rows }
         ensures size { result ≡ size self.now store }
@@ -239,6 +245,7 @@ impl Problem {
     }
 
     /// How many blocks a store holds as the first step begins.
+    #[must_use]
     pub fn start(&self, store: usize) -> u32
         requires store { store < length self.now.rows }
         ensures start { result ≡ start self.now store }
@@ -248,6 +255,7 @@ impl Problem {
     }
 
     /// The virtual channel of a store, 0 to 7.
+    #[must_use]
     pub fn channel(&self, store: usize) -> u8
         requires store { store < length self.now.rows }
         ensures channel { result ≡ channel self.now store }
@@ -257,6 +265,7 @@ impl Problem {
     }
 
     /// How many blocks may leave the stores of a channel together in one step; none where it has no limit.
+    #[must_use]
     pub fn limit(&self, channel: u8) -> Option<u32>
         ensures limit { result ≡ limit self.now channel }
         ensures most { IfSome result (λ blocks. blocks ≤ MAX_BLOCKS) }
@@ -265,6 +274,7 @@ impl Problem {
     }
 
     /// How many blocks come to a store in a step.
+    #[must_use]
     pub fn arrivals(&self, store: usize, step: u32) -> u32
         requires store { store < length self.now.rows }
         requires first { 1 ≤ step }
@@ -276,6 +286,7 @@ impl Problem {
     }
 
     /// How many blocks may leave all stores together in a step.
+    #[must_use]
     pub fn window(&self, step: u32) -> u32
         requires first { 1 ≤ step }
         requires last { step ≤ length self.now.windows }

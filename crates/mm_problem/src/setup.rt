@@ -8,7 +8,7 @@ ghost use Rattle.mm_problem.specs.Setup.{IsSetup};
 
 use crate::document::{Arrays, arrays_at, document_of, test_counts};
 use crate::fault::Fault;
-use crate::tables::{limits_of, routes_of, stores_of};
+use crate::rows::rows_of;
 use mm_base::{LimitRow, RouteRow, StoreRow};
 use std::alloc::Global;
 use std::marker::Model;
@@ -37,9 +37,9 @@ fn setup_of(alloc: Global, arrays: Arrays<'_>) -> Result<Setup, Fault>
     requires { AreCounted (lists_of arrays) }
     ensures { Gives NoMemory (λ setup. setup) result (rows_of (lists_of arrays.entry)) }
 {
-    let stores = stores_of(alloc, arrays.stores)?;
-    let routes = routes_of(alloc, stores.as_slice(), arrays.routes)?;
-    let limits = limits_of(alloc, arrays.limits)?;
+    let stores = rows_of(alloc, &[], arrays.stores)?;
+    let routes = rows_of(alloc, stores.as_slice(), arrays.routes)?;
+    let limits = rows_of(alloc, stores.as_slice(), arrays.limits)?;
     Ok(Setup {
         stores,
         routes,
@@ -61,6 +61,7 @@ impl Setup {
     }
 
     /// The packet stores, in setup order.
+    #[must_use]
     pub fn stores(&self) -> &[StoreRow]
         ensures rows { result.now ≡ self.now.stores }
         ensures is_setup { IsSetup self.now }
@@ -69,6 +70,7 @@ impl Setup {
     }
 
     /// The routes, in setup order.
+    #[must_use]
     pub fn routes(&self) -> &[RouteRow]
         ensures rows { result.now ≡ self.now.routes }
     {
@@ -76,6 +78,7 @@ impl Setup {
     }
 
     /// The limits of channels, in setup order.
+    #[must_use]
     pub fn limits(&self) -> &[LimitRow]
         ensures rows { result.now ≡ self.now.limits }
     {

@@ -1,17 +1,17 @@
 //! The rows of a setup, read from its tables.
-ghost use Rattle.std.specs.Prelude.{◌≡◌, ◌≤◌, ◌<◌, ◌==◌, length, map, IfOk, MatchResult};
+ghost use Rattle.std.specs.Prelude.{◌≡◌, ◌<◌, ◌==◌, length};
 ghost use Rattle.std.specs.List.{list_any};
 ghost use Rattle.toml.specs.View.{view, table_view};
 ghost use Rattle.mm_problem.specs.declared.fault.Fault.TheVariants.{NoMemory};
 ghost use Rattle.mm_base.specs.Reading.{Gives};
 ghost use Rattle.mm_base.specs.SameRoutes.{same_route};
-ghost use Rattle.mm_problem.specs.Tables.{table_at, id_at, kind_of, kind_at, start_at, store_at, has_store, new_store, next_store, stores_in, route_at, next_route, routes_in, limit_at, new_limit, next_limit, limits_in};
+ghost use Rattle.mm_problem.specs.Tables.{table_at, id_at, kind_of, kind_at, start_at, store_at, has_store, new_store, route_at, new_route, limit_at, new_limit};
 
 use crate::fault::{Fault, Name};
 use crate::keys::{has_only, number_at, text_at, value_at};
 use crate::reading::test_field;
+use crate::rows::Row;
 use mm_base::{Kind, LimitRow, MAX_APID, MAX_BLOCKS, MAX_CHANNEL, RouteRow, StoreId, StoreRow};
-use std::alloc::Global;
 use toml::{Table, Value};
 
 // The members of an element that is a table.
@@ -101,29 +101,18 @@ pub(crate) fn test_new_store(earlier: &[StoreRow], row: &StoreRow) -> Result<(),
     test_field(!has_store(earlier, &row.id), number, Name::Repeated)
 }
 
-#[tactic(auto, unfolding(crate::specs::Tables::next_store))]
-fn next_store(earlier: &[StoreRow], value: &Value) -> Result<StoreRow, Fault>
-    requires { length earlier.now < 256 }
-    ensures { Gives NoMemory (λ r. r) result (next_store earlier.now (view value.now)) }
-{
-    let number = earlier.len() as u32 + 1;
-    let row = store_at(number, value)?;
-    test_new_store(earlier, &row)?;
-    Ok(row)
-}
+impl Row for StoreRow {
+    ghost row_at = { store_at };
 
-// The stores of these tables.
-#[tactic(auto, using(crate::proofs::RowsIn::all_rows))]
-pub(crate) fn stores_of(alloc: Global, values: &[Value]) -> Result<Vec<StoreRow>, Fault>
-    requires { length values.now ≤ 256 }
-    ensures { Gives NoMemory (λ rows. rows.items) result (stores_in (map view values.now)) }
-{
-    let mut rows = Vec::new(alloc);
-    for value in values {
-        let row = next_store(rows.as_slice(), value)?;
-        rows.push(row)?;
+    ghost new_row = { λ stores. new_store };
+
+    fn read(number: u32, value: &Value) -> Result<StoreRow, Fault> {
+        store_at(number, value)
     }
-    Ok(rows)
+
+    fn test_new(_stores: &[StoreRow], earlier: &[StoreRow], row: &StoreRow) -> Result<(), Fault> {
+        test_new_store(earlier, row)
+    }
 }
 
 #[tactic(auto, unfolding(crate::specs::Tables::route_at))]
@@ -157,34 +146,29 @@ fn has_route(routes: &[RouteRow], route: &RouteRow) -> bool
     routes.iter().any(|row| same_route(row, route))
 }
 
-#[tactic(auto, unfolding(crate::specs::Tables::next_route))]
-fn next_route(stores: &[StoreRow], earlier: &[RouteRow], value: &Value) -> Result<RouteRow, Fault>
+// Tests that a route is to one of the stores, and that it is none of those so far.
+#[tactic(auto, unfolding(crate::specs::Tables::new_route))]
+fn test_new_route(stores: &[StoreRow], earlier: &[RouteRow], row: &RouteRow) -> Result<(), Fault>
     requires { length earlier.now < 256 }
-    ensures { Gives NoMemory (λ r. r) result (next_route stores.now earlier.now (view value.now)) }
+    ensures { Gives NoMemory (λ x. x) result (new_route stores.now earlier.now row.now) }
 {
     let number = earlier.len() as u32 + 1;
-    let row = route_at(number, value)?;
     test_field(has_store(stores, &row.store), number, Name::Store)?;
-    test_field(!has_route(earlier, &row), number, Name::Repeated)?;
-    Ok(row)
+    test_field(!has_route(earlier, row), number, Name::Repeated)
 }
 
-// The routes of these tables, each to one of the stores.
-#[tactic(auto, using(crate::proofs::RowsIn::all_rows))]
-pub(crate) fn routes_of(
-    alloc: Global,
-    stores: &[StoreRow],
-    values: &[Value],
-) -> Result<Vec<RouteRow>, Fault>
-    requires { length values.now ≤ 256 }
-    ensures { Gives NoMemory (λ rows. rows.items) result (routes_in stores.now (map view values.now)) }
-{
-    let mut rows = Vec::new(alloc);
-    for value in values {
-        let row = next_route(stores, rows.as_slice(), value)?;
-        rows.push(row)?;
+impl Row for RouteRow {
+    ghost row_at = { route_at };
+
+    ghost new_row = { new_route };
+
+    fn read(number: u32, value: &Value) -> Result<RouteRow, Fault> {
+        route_at(number, value)
     }
-    Ok(rows)
+
+    fn test_new(stores: &[StoreRow], earlier: &[RouteRow], row: &RouteRow) -> Result<(), Fault> {
+        test_new_route(stores, earlier, row)
+    }
 }
 
 #[tactic(auto, unfolding(crate::specs::Tables::limit_at))]
@@ -214,27 +198,16 @@ pub(crate) fn test_new_limit(earlier: &[LimitRow], row: &LimitRow) -> Result<(),
     test_field(!has_limit(earlier, row.channel), number, Name::Repeated)
 }
 
-#[tactic(auto, unfolding(crate::specs::Tables::next_limit))]
-fn next_limit(earlier: &[LimitRow], value: &Value) -> Result<LimitRow, Fault>
-    requires { length earlier.now < 256 }
-    ensures { Gives NoMemory (λ r. r) result (next_limit earlier.now (view value.now)) }
-{
-    let number = earlier.len() as u32 + 1;
-    let row = limit_at(number, value)?;
-    test_new_limit(earlier, &row)?;
-    Ok(row)
-}
+impl Row for LimitRow {
+    ghost row_at = { limit_at };
 
-// The limits of these tables.
-#[tactic(auto, using(crate::proofs::RowsIn::all_rows))]
-pub(crate) fn limits_of(alloc: Global, values: &[Value]) -> Result<Vec<LimitRow>, Fault>
-    requires { length values.now ≤ 256 }
-    ensures { Gives NoMemory (λ rows. rows.items) result (limits_in (map view values.now)) }
-{
-    let mut rows = Vec::new(alloc);
-    for value in values {
-        let row = next_limit(rows.as_slice(), value)?;
-        rows.push(row)?;
+    ghost new_row = { λ stores. new_limit };
+
+    fn read(number: u32, value: &Value) -> Result<LimitRow, Fault> {
+        limit_at(number, value)
     }
-    Ok(rows)
+
+    fn test_new(_stores: &[StoreRow], earlier: &[LimitRow], row: &LimitRow) -> Result<(), Fault> {
+        test_new_limit(earlier, row)
+    }
 }

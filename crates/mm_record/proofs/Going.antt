@@ -24,7 +24,7 @@ use Rattle.mm_shared.specs.declared.lines.Line.{Line}
 use Rattle.mm_shared.specs.declared.stores.NamedStore.{NamedStore}
 use Rattle.mm_shared.specs.Stores.{list_at, ends_of, id_at}
 use Rattle.mm_shared.specs.Views.{PortView, with_call}
-use Rattle.mm_record.specs.Offering.{offer_at, offers_by, AreAt, ExtendsBy, ExtendsInPart, Adds, AddsPartly, IsReason}
+use Rattle.mm_record.specs.Offering.{offer_at, offers_by, AreAt, ExtendsBy, ExtendsInPart, AddsBy, Adds, AddsPartly, IsReason}
 
 -- a list that stays goes on by nothing
 pub goes_nowhere : (xs : List Entry) → ExtendsBy [] xs xs
@@ -138,12 +138,9 @@ module _ (now : ℕ) (p : SpacePacket) (stores : List NamedStore) (lines : List 
   stays : ends_of (set lines index line) ≡ ends_of lines
   stays = map-set_same end_of lines index line d same
 
-  pub adds_at : ExtendsBy (Offer now p ∷ []) (get_or lines index d).port.list line.port.list → Adds (length stores) (offer_at now p index) lines (set lines index line)
-  adds_at goes = record { ends = stays; lists = each_at ExtendsBy goes_nowhere now p lines index (length stores) d line many within goes }
-
-  pub adds_partly_at : ExtendsInPart (Offer now p ∷ []) (get_or lines index d).port.list line.port.list
-      → AddsPartly (length stores) (offer_at now p index) lines (set lines index line)
-  adds_partly_at goes = record { ends = stays; lists = each_at ExtendsInPart (partly_nowhere []) now p lines index (length stores) d line many within goes }
+  pub adds_at : (goes : List Event → List Entry → List Entry → Type 0) → ((xs : List Entry) → goes [] xs xs) → goes (Offer now p ∷ []) (get_or lines index d).port.list line.port.list
+      → AddsBy goes (length stores) (offer_at now p index) lines (set lines index line)
+  adds_at goes nothing one = record { ends = stays; lists = each_at goes nothing now p lines index (length stores) d line many within one }
 
   -- an offer that was refused is the reason
   pub reason_at : (old : PortView) (back : Returned) → line.port ≡ with_call old (Offer now p) (reply.Offered (Err back)) → IsReason (length stores) (set lines index line) back.fault
@@ -173,18 +170,11 @@ found_at now p own row k index is = rw is (by_test (k == index))
     by_test true = refl
     by_test false = refl
 
-pub adds_found : (now : ℕ) (p : SpacePacket) (ids : List (List ℕ)) (row : RouteRow) (index count : ℕ) (a b : List Line)
+-- what is offered to it is offered by the row
+pub adds_found : (goes : List Event → List Entry → List Entry → Type 0) (now : ℕ) (p : SpacePacket) (ids : List (List ℕ)) (row : RouteRow) (index count : ℕ) (a b : List Line)
     → ((j : ℕ) → j < count → bytes_eq (id_at ids j) row.store ≡ (j == index))
-    → Adds count (offer_at now p index) a b → Adds count (λ k. offers_by now p (id_at ids k) (row ∷ [])) a b
-adds_found now p ids row index count a b is one = record {
-  ends = one.ends;
-  lists = λ k within. rw (found_at now p (id_at ids k) row k index (is k within)) at (one.lists k within);
-}
-
-pub adds_partly_found : (now : ℕ) (p : SpacePacket) (ids : List (List ℕ)) (row : RouteRow) (index count : ℕ) (a b : List Line)
-    → ((j : ℕ) → j < count → bytes_eq (id_at ids j) row.store ≡ (j == index))
-    → AddsPartly count (offer_at now p index) a b → AddsPartly count (λ k. offers_by now p (id_at ids k) (row ∷ [])) a b
-adds_partly_found now p ids row index count a b is one = record {
+    → AddsBy goes count (offer_at now p index) a b → AddsBy goes count (λ k. offers_by now p (id_at ids k) (row ∷ [])) a b
+adds_found goes now p ids row index count a b is one = record {
   ends = one.ends;
   lists = λ k within. rw (found_at now p (id_at ids k) row k index (is k within)) at (one.lists k within);
 }
@@ -207,31 +197,19 @@ pub adds_partly_none : (count : ℕ) (more : ℕ → List Event) (lines : List L
 adds_partly_none count more lines = record { ends = refl; lists = λ k within. partly_nowhere (more k) (list_at lines k) }
 
 -- the same offers in other words
-pub adds_same : (count : ℕ) (f g : ℕ → List Event) (a b : List Line) → ((k : ℕ) → f k ≡ g k) → Adds count f a b → Adds count g a b
-adds_same count f g a b same one = record {
-  ends = one.ends;
-  lists = λ k within. rw (same k) at (one.lists k within);
-}
-
-pub adds_partly_same : (count : ℕ) (f g : ℕ → List Event) (a b : List Line) → ((k : ℕ) → f k ≡ g k) → AddsPartly count f a b → AddsPartly count g a b
-adds_partly_same count f g a b same one = record {
+pub adds_same : (goes : List Event → List Entry → List Entry → Type 0) (count : ℕ) (f g : ℕ → List Event) (a b : List Line) → ((k : ℕ) → f k ≡ g k) → AddsBy goes count f a b → AddsBy goes count g a b
+adds_same goes count f g a b same one = record {
   ends = one.ends;
   lists = λ k within. rw (same k) at (one.lists k within);
 }
 
 -- one after another
-pub adds_more : (count : ℕ) (f g h : ℕ → List Event) (a b c : List Line) → Adds count f a b → Adds count g b c
-    → ((k : ℕ) → h k ≡ f k ++ g k) → Adds count h a c
-adds_more count f g h a b c one two both = record {
+pub adds_after : (goes : List Event → List Entry → List Entry → Type 0)
+    → ((f g : List Event) (a b c : List Entry) → ExtendsBy f a b → goes g b c → goes (f ++ g) a c)
+    → (count : ℕ) (f g h : ℕ → List Event) (a b c : List Line) → Adds count f a b → AddsBy goes count g b c → ((k : ℕ) → h k ≡ f k ++ g k) → AddsBy goes count h a c
+adds_after goes after count f g h a b c one two both = record {
   ends = two.ends ∙ one.ends;
-  lists = λ k within. rw (both k) (goes_more (f k) (g k) (list_at a k) (list_at b k) (list_at c k) (one.lists k within) (two.lists k within));
-}
-
-pub adds_partly_after : (count : ℕ) (f g h : ℕ → List Event) (a b c : List Line) → Adds count f a b → AddsPartly count g b c
-    → ((k : ℕ) → h k ≡ f k ++ g k) → AddsPartly count h a c
-adds_partly_after count f g h a b c one two both = record {
-  ends = two.ends ∙ one.ends;
-  lists = λ k within. rw (both k) (partly_after (f k) (g k) (list_at a k) (list_at b k) (list_at c k) (one.lists k within) (two.lists k within));
+  lists = λ k within. rw (both k) (after (f k) (g k) (list_at a k) (list_at b k) (list_at c k) (one.lists k within) (two.lists k within));
 }
 
 pub adds_partly_before : (count : ℕ) (f g h : ℕ → List Event) (a b : List Line) → AddsPartly count f a b
@@ -246,15 +224,25 @@ offers_more : (now : ℕ) (p : SpacePacket) (id : List ℕ) (xs ys : List RouteR
 offers_more now p id xs ys = ap (map (λ _. Offer now p)) (filter-append (λ (r : RouteRow). bytes_eq id r.store) xs ys) ∙ map-append (λ _. Offer now p) (filter (λ (r : RouteRow). bytes_eq id r.store) xs) (filter (λ (r : RouteRow). bytes_eq id r.store) ys)
 
 -- after one row more
-pub adds_row : (now : ℕ) (p : SpacePacket) (ids : List (List ℕ)) (rows : List RouteRow) (i : ℕ) (row : RouteRow) (count : ℕ) (a b c : List Line)
+pub adds_row : (goes : List Event → List Entry → List Entry → Type 0)
+    → ((f g : List Event) (a b c : List Entry) → ExtendsBy f a b → goes g b c → goes (f ++ g) a c)
+    → (now : ℕ) (p : SpacePacket) (ids : List (List ℕ)) (rows : List RouteRow) (i : ℕ) (row : RouteRow) (count : ℕ) (a b c : List Line)
     → i < length rows → get_or rows i row ≡ row
     → Adds count (λ k. offers_by now p (id_at ids k) (take i rows)) a b
-    → Adds count (λ k. offers_by now p (id_at ids k) (row ∷ [])) b c
-    → Adds count (λ k. offers_by now p (id_at ids k) (take (i + 1) rows)) a c
-adds_row now p ids rows i row count a b c within at one two =
+    → AddsBy goes count (λ k. offers_by now p (id_at ids k) (row ∷ [])) b c
+    → AddsBy goes count (λ k. offers_by now p (id_at ids k) (take (i + 1) rows)) a c
+adds_row goes after now p ids rows i row count a b c within at one two =
     let next : take (i + 1) rows ≡ take i rows ++ row ∷ [] = take_more rows i row within ∙ ap (λ (x : RouteRow). take i rows ++ x ∷ []) at in
-    adds_more count _ _ _ a b c one two
+    adds_after goes after count _ _ _ a b c one two
     (λ k. ap (offers_by now p (id_at ids k)) next ∙ offers_more now p (id_at ids k) (take i rows) (row ∷ []))
+
+-- where it ends before the last rows
+pub adds_rows_partly : (now : ℕ) (p : SpacePacket) (ids : List (List ℕ)) (rows : List RouteRow) (i : ℕ) (count : ℕ) (a b : List Line)
+    → AddsPartly count (λ k. offers_by now p (id_at ids k) (take i rows)) a b
+    → AddsPartly count (λ k. offers_by now p (id_at ids k) rows) a b
+adds_rows_partly now p ids rows i count a b one =
+    adds_partly_before count _ (λ k. offers_by now p (id_at ids k) (drop i rows)) _ a b one
+    (λ k. ap (offers_by now p (id_at ids k)) (sym (take-append-drop i rows)) ∙ offers_more now p (id_at ids k) (take i rows) (drop i rows))
 
 -- a row at which it ends
 pub adds_row_partly : (now : ℕ) (p : SpacePacket) (ids : List (List ℕ)) (rows : List RouteRow) (i : ℕ) (row : RouteRow) (count : ℕ) (a b c : List Line)
@@ -263,11 +251,7 @@ pub adds_row_partly : (now : ℕ) (p : SpacePacket) (ids : List (List ℕ)) (row
     → AddsPartly count (λ k. offers_by now p (id_at ids k) (row ∷ [])) b c
     → AddsPartly count (λ k. offers_by now p (id_at ids k) rows) a c
 adds_row_partly now p ids rows i row count a b c within at one two =
-    let next : take (i + 1) rows ≡ take i rows ++ row ∷ [] = take_more rows i row within ∙ ap (λ (x : RouteRow). take i rows ++ x ∷ []) at in
-    let here = adds_partly_after count _ _ (λ k. offers_by now p (id_at ids k) (take (i + 1) rows)) a b c one two
-    (λ k. ap (offers_by now p (id_at ids k)) next ∙ offers_more now p (id_at ids k) (take i rows) (row ∷ [])) in
-    adds_partly_before count _ (λ k. offers_by now p (id_at ids k) (drop (i + 1) rows)) _ a c here
-    (λ k. ap (offers_by now p (id_at ids k)) (sym (take-append-drop (i + 1) rows)) ∙ offers_more now p (id_at ids k) (take (i + 1) rows) (drop (i + 1) rows))
+    adds_rows_partly now p ids rows (i + 1) count a c (adds_row ExtendsInPart partly_after now p ids rows i row count a b c within at one two)
 
 -- at the end of the rows
 pub adds_rows : (now : ℕ) (p : SpacePacket) (ids : List (List ℕ)) (rows : List RouteRow) (i : ℕ) (count : ℕ) (a b : List Line)
@@ -282,15 +266,7 @@ module _ {T E : Type 0} (r : Result T E) (now : ℕ) (p : SpacePacket) (ids : Li
     (others : Adds count (λ k. offers_by now p (id_at ids k) (take (length rows - 1) rows)) a b) where
   pub adds_last : OnOk r (Adds count (λ k. offers_by now p (id_at ids k) (last ∷ [])) b c) → OnOk r (Adds count (λ k. offers_by now p (id_at ids k) rows) a c)
   adds_last = on_ok_weaker r (λ one. adds_rows now p ids rows (length rows - 1 + 1) count a c (omega arith)
-      (adds_row now p ids rows (length rows - 1) last count a b c (omega arith) at others one))
+      (adds_row ExtendsBy goes_more now p ids rows (length rows - 1) last count a b c (omega arith) at others one))
 
   pub adds_partly_last : OnErr r (AddsPartly count (λ k. offers_by now p (id_at ids k) (last ∷ [])) b c) → OnErr r (AddsPartly count (λ k. offers_by now p (id_at ids k) rows) a c)
   adds_partly_last = on_err_weaker r (λ one. adds_row_partly now p ids rows (length rows - 1) last count a b c (omega arith) at others one)
-
--- where it ends before the last rows
-pub adds_rows_partly : (now : ℕ) (p : SpacePacket) (ids : List (List ℕ)) (rows : List RouteRow) (i : ℕ) (count : ℕ) (a b : List Line)
-    → AddsPartly count (λ k. offers_by now p (id_at ids k) (take i rows)) a b
-    → AddsPartly count (λ k. offers_by now p (id_at ids k) rows) a b
-adds_rows_partly now p ids rows i count a b one =
-    adds_partly_before count _ (λ k. offers_by now p (id_at ids k) (drop i rows)) _ a b one
-    (λ k. ap (offers_by now p (id_at ids k)) (sym (take-append-drop i rows)) ∙ offers_more now p (id_at ids k) (take i rows) (drop i rows))

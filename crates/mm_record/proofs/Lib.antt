@@ -1,6 +1,6 @@
 pub mod Offers
 pub mod Going
-pub mod Hand
+pub mod SoFar
 pub mod Whys
 pub mod Runs
 pub mod Taking

@@ -72,7 +72,7 @@ not_caused step (Some fault.BadRange) is = cc
 not_caused step (Some fault.ClockEnd) is = cc
 not_caused step (Some fault.StorageOn) is = cc
 
--- a step that is ended: for want of memory only where recorders stopped for it alone, and for a refusal only where one stopped for that
+-- why a step is ended: out of memory only where recorders stopped for it alone, and a refusal only where one stopped for that
 pub record IsCaused (step : ℕ) (why : Option Fault) (cause : Cause) : Type 0 where
   pub which : (cause ≡ LogMismatch step) ⊎ (cause ≡ NoMemory step)
   pub lack : cause ≡ NoMemory step → why ≡ Some fault.NoMemory
@@ -185,7 +185,7 @@ module _ {S : Type 0} (gives : S → ℕ → List SpacePacket) (e : RecordingCon
 
       here : IsRecorded gives e old now sources left told
       here = record {
-        stand = record { labels = records.labels; routes = refl; sound = records.sound };
+        placed = record { labels = records.labels; routes = refl; sound = records.sound };
         recorded = all;
         leaves = leaves;
         told_are = told_of e (given_in gives e.step sources) old now counters told many are rows leaves;
@@ -198,7 +198,7 @@ module _ {S : Type 0} (gives : S → ℕ → List SpacePacket) (e : RecordingCon
   pub ended_of : (cause : Cause) → cause_in e.step why ≡ Some cause → WasEnded gives e old new sources left cause
   ended_of cause is = subst (λ (m : Holdings). WasEnded gives e old m sources left cause) (sym after) (record {
     cause_is = (caused e.step why cause is).which;
-    stand = record { labels = records.labels; routes = refl; sound = records.sound };
+    placed = record { labels = records.labels; routes = refl; sound = records.sound };
     runs = records.runs;
     are_runs = records.are_runs;
     went = records.went;

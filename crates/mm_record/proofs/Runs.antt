@@ -8,7 +8,7 @@ use Rattle.mm_desk.specs.declared.fault.Fault.{Fault}
 use Rattle.mm_shared.specs.declared.lines.Line.{Line}
 use Rattle.mm_shared.specs.declared.lines.Lines.{Lines}
 use Rattle.mm_shared.specs.declared.stores.NamedStore.{NamedStore}
-use Rattle.mm_shared.specs.Stores.{ends_of, AreWorkers, IsFresh, IsWorker}
+use Rattle.mm_shared.specs.Stores.{ends_of, ids_of, AreNamed, AreWorkers, IsFresh, IsWorker}
 use Rattle.mm_record.specs.Offering.{AreAt}
 use Rattle.mm_record.specs.Recorded.{RecordingContext}
 use Rattle.mm_record.specs.Recorders.{HasRun, HaveRun, IsRunAt, AreRunsAt, MayRecord, is_worse}
@@ -28,11 +28,13 @@ pub may_both : {S : Type 0} (stores : List NamedStore) (ss us : List S) (ws xs :
     → MayRecord stores (ss ++ us) (ws ++ xs) → MayRecord stores ss ws × MayRecord stores us xs
 may_both stores ss us ws xs same may = (
   record {
+    named = may.named;
     same = sym same;
     at = all_first (λ w. AreAt stores (ends_of w.lines.items)) ws xs may.at;
     fresh = all_first (λ w. IsFresh w.lines.items) ws xs may.fresh;
   },
   record {
+    named = may.named;
     same = omega (arith, may.same, length-append ss us, length-append ws xs, same);
     at = all_second (λ w. AreAt stores (ends_of w.lines.items)) ws xs may.at;
     fresh = all_second (λ w. IsFresh w.lines.items) ws xs may.fresh;
@@ -52,16 +54,32 @@ at_of stores number lines worker = record {
   of = λ k s end within. end_at lines k end (get_or stores k s).store.id (omega (arith, worker.count)) (λ l. (worker.at k s l within).of);
 }
 
--- workers of new stores, one for each source, may record
-pub may_of : {S : Type 0} (stores : List NamedStore) (sources : List S) (workers : List Lines) → length workers ≡ length sources
+-- workers of new stores, one for each source, may record where no two stores have one identifier
+pub may_of : {S : Type 0} (stores : List NamedStore) (sources : List S) (workers : List Lines) → AreNamed (ids_of stores) → length workers ≡ length sources
     → AreWorkers stores 0 workers → All (λ w. IsFresh w.lines.items) workers → MayRecord stores sources workers
-may_of stores sources workers same are fresh = record {
+may_of stores sources workers named same are fresh = record {
+  named = named;
   same = same;
   at = λ i d within. at_of stores (0 + i) (get_or workers i d).lines.items (are i d within);
   fresh = fresh;
 }
 
 module _ {S : Type 0} (gives : S → ℕ → List SpacePacket) (e : RecordingContext) where
+  -- what holds where there is no recorder, and for one recorder more, holds for all
+  pub for_all : (P : List S → List S → List Lines → List RecorderRun → Type 0) → P [] [] [] []
+      → ((s t : S) (w : Lines) (run : RecorderRun) (ss ts : List S) (ws : List Lines) (runs : List RecorderRun) → IsRunAt e (gives s) (gives t) w.lines.items run → P ss ts ws runs
+      → P (s ∷ ss) (t ∷ ts) (w ∷ ws) (run ∷ runs))
+      → (ss ts : List S) (ws : List Lines) (runs : List RecorderRun) → AreRunsAt gives e ss ts ws runs → P ss ts ws runs
+  unfolding AreRunsAt
+  for_all P none more [] [] [] [] at = none
+  for_all P none more [] [] [] (run ∷ runs) at = absurd at
+  for_all P none more [] [] (w ∷ ws) runs at = absurd at
+  for_all P none more [] (t ∷ ts) ws runs at = absurd at
+  for_all P none more (s ∷ ss) [] ws runs at = absurd at
+  for_all P none more (s ∷ ss) (t ∷ ts) [] runs at = absurd at
+  for_all P none more (s ∷ ss) (t ∷ ts) (w ∷ ws) [] at = absurd at
+  for_all P none more (s ∷ ss) (t ∷ ts) (w ∷ ws) (run ∷ runs) at = more s t w run ss ts ws runs at.0 (for_all P none more ss ts ws runs at.1)
+
   -- no recorder
   pub none_run : (sources : List S) (workers : List Lines) → length sources ≡ 0 → length workers ≡ length sources → HaveRun gives e sources sources workers None
   unfolding AreRunsAt
@@ -84,24 +102,17 @@ module _ {S : Type 0} (gives : S → ℕ → List SpacePacket) (e : RecordingCon
   }
 
   -- the runs of two groups
-  both_at : (ss ts us vs : List S) (ws xs : List Lines) (runs more : List RecorderRun) → AreRunsAt gives e ss ts ws runs → AreRunsAt gives e us vs xs more
+  both_at : (us vs : List S) (xs : List Lines) (more : List RecorderRun) → AreRunsAt gives e us vs xs more → (ss ts : List S) (ws : List Lines) (runs : List RecorderRun) → AreRunsAt gives e ss ts ws runs
       → AreRunsAt gives e (ss ++ us) (ts ++ vs) (ws ++ xs) (runs ++ more)
   unfolding AreRunsAt
-  both_at [] [] us vs [] xs [] more one two = two
-  both_at [] [] us vs [] xs (r ∷ runs) more one two = absurd one
-  both_at [] [] us vs (w ∷ ws) xs runs more one two = absurd one
-  both_at [] (t ∷ ts) us vs ws xs runs more one two = absurd one
-  both_at (s ∷ ss) [] us vs ws xs runs more one two = absurd one
-  both_at (s ∷ ss) (t ∷ ts) us vs [] xs runs more one two = absurd one
-  both_at (s ∷ ss) (t ∷ ts) us vs (w ∷ ws) xs [] more one two = absurd one
-  both_at (s ∷ ss) (t ∷ ts) us vs (w ∷ ws) xs (r ∷ runs) more one two = (one.0, both_at ss ts us vs ws xs runs more one.1 two)
+  both_at us vs xs more two = for_all (λ ss ts ws runs. AreRunsAt gives e (ss ++ us) (ts ++ vs) (ws ++ xs) (runs ++ more)) two (λ s t w run ss ts ws runs one rest. (one, rest))
 
   -- two groups
   pub both_run : (ss ts us vs : List S) (ws xs : List Lines) (first second : Option Fault) → HaveRun gives e ss ts ws first → HaveRun gives e us vs xs second
       → HaveRun gives e (ss ++ us) (ts ++ vs) (ws ++ xs) (is_worse first second)
   both_run ss ts us vs ws xs first second one two = record {
     runs = one.runs ++ two.runs;
-    are = both_at ss ts us vs ws xs one.runs two.runs one.are two.are;
+    are = both_at us vs xs two.runs two.are ss ts ws one.runs one.are;
     why_is = subst (λ (fs : List (Option Fault)). IsWhy fs (is_worse first second)) (sym (map-append (λ (run : RecorderRun). run.broken) one.runs two.runs))
         (why_both (map (λ (run : RecorderRun). run.broken) one.runs) (map (λ (run : RecorderRun). run.broken) two.runs) first second one.why_is two.why_is);
   }

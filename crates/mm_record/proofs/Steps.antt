@@ -25,7 +25,7 @@ use Rattle.mm_record.specs.Recorded.{RecordingContext, recording, open_recording
 use Rattle.mm_record.specs.Recorders.{AreRunsAt, HaveRun, IsRunAt}
 use Rattle.mm_record.specs.Steps.{given_in, latest, AllRecorded, HasRecorded, AllHaveLegalOffers, AreFew, AreRecorderRuns, IsOpen, IsRecorderRun, IsWhy, RecorderRun, Records, StoppedEarly}
 use Rattle.mm_record.proofs.Offers.{offers_more}
-use Rattle.mm_record.proofs.Runs.{all_first}
+use Rattle.mm_record.proofs.Runs.{all_first, for_all}
 use Rattle.mm_record.proofs.Taking.{HasTime, IsOfferAt, all_unmapped, filter_fewer, lists_taken, parts_all, shuffle_is_taken, shuffle_last}
 
 -- an element of a mapped list
@@ -130,114 +130,62 @@ reason_of e lines (Some fault) (inr refusal) taken = absurd (refusal.refused (ta
 module _ {S : Type 0} (gives : S → ℕ → List SpacePacket) (e : RecordingContext) where
   -- what recorders did, without their lines
   are_runs : (ss ts : List S) (ws : List Lines) (runs : List RecorderRun) → AreRunsAt gives e ss ts ws runs → AreRecorderRuns gives e ss ts runs
-  unfolding AreRunsAt AreRecorderRuns
-  are_runs [] [] [] [] at = tt
-  are_runs [] [] [] (run ∷ runs) at = absurd at
-  are_runs [] [] (w ∷ ws) runs at = absurd at
-  are_runs [] (t ∷ ts) ws runs at = absurd at
-  are_runs (s ∷ ss) [] ws runs at = absurd at
-  are_runs (s ∷ ss) (t ∷ ts) [] runs at = absurd at
-  are_runs (s ∷ ss) (t ∷ ts) (w ∷ ws) [] at = absurd at
-  are_runs (s ∷ ss) (t ∷ ts) (w ∷ ws) (run ∷ runs) at = (at.0.is, are_runs ss ts ws runs at.1)
+  unfolding AreRecorderRuns
+  are_runs = for_all gives e (λ ss ts ws runs. AreRecorderRuns gives e ss ts runs) tt (λ s t w run ss ts ws runs one rest. (one.is, rest))
 
   -- there are as many sources as before, and as many workers
   as_many : (ss ts : List S) (ws : List Lines) (runs : List RecorderRun) → AreRunsAt gives e ss ts ws runs → (length ts ≡ length ss) × (length ws ≡ length ss)
-  unfolding AreRunsAt
-  as_many [] [] [] [] at = (refl, refl)
-  as_many [] [] [] (run ∷ runs) at = absurd at
-  as_many [] [] (w ∷ ws) runs at = absurd at
-  as_many [] (t ∷ ts) ws runs at = absurd at
-  as_many (s ∷ ss) [] ws runs at = absurd at
-  as_many (s ∷ ss) (t ∷ ts) [] runs at = absurd at
-  as_many (s ∷ ss) (t ∷ ts) (w ∷ ws) [] at = absurd at
-  as_many (s ∷ ss) (t ∷ ts) (w ∷ ws) (run ∷ runs) at = let rest = as_many ss ts ws runs at.1 in (ap suc rest.0, ap suc rest.1)
+  as_many = for_all gives e (λ ss ts ws runs. (length ts ≡ length ss) × (length ws ≡ length ss)) (refl, refl) (λ s t w run ss ts ws runs one rest. (ap suc rest.0, ap suc rest.1))
 
   -- what recorders offered is what was asked through their lines
-  runs_offered : (ss ts : List S) (ws : List Lines) (runs : List RecorderRun) (k : ℕ) → AreRunsAt gives e ss ts ws runs
-      → map (λ run. run.offered k) runs ≡ map asked_in (lists_at k ws)
-  unfolding AreRunsAt
-  runs_offered [] [] [] [] k at = refl
-  runs_offered [] [] [] (run ∷ runs) k at = absurd at
-  runs_offered [] [] (w ∷ ws) runs k at = absurd at
-  runs_offered [] (t ∷ ts) ws runs k at = absurd at
-  runs_offered (s ∷ ss) [] ws runs k at = absurd at
-  runs_offered (s ∷ ss) (t ∷ ts) [] runs k at = absurd at
-  runs_offered (s ∷ ss) (t ∷ ts) (w ∷ ws) [] k at = absurd at
-  runs_offered (s ∷ ss) (t ∷ ts) (w ∷ ws) (run ∷ runs) k at =
-      let one = at.0.offered k in
-      let rest = runs_offered ss ts ws runs k at.1 in
-      λ i. one i ∷ rest i
+  runs_offered : (k : ℕ) (ss ts : List S) (ws : List Lines) (runs : List RecorderRun) → AreRunsAt gives e ss ts ws runs → map (λ run. run.offered k) runs ≡ map asked_in (lists_at k ws)
+  runs_offered k = for_all gives e (λ ss ts ws runs. map (λ run. run.offered k) runs ≡ map asked_in (lists_at k ws)) refl
+      (λ s t w run ss ts ws runs one rest. let offered = one.offered k in λ i. offered i ∷ rest i)
 
   -- in another step the sources give what they gave
-  others_same : (ss ts : List S) (ws : List Lines) (runs : List RecorderRun) (t : ℕ) → AreRunsAt gives e ss ts ws runs → t ≢ e.step → given_in gives t ts ≡ given_in gives t ss
-  unfolding AreRunsAt
-  others_same [] [] ws runs step at other = refl
-  others_same [] (t ∷ ts) ws runs step at other = absurd at
-  others_same (s ∷ ss) [] ws runs step at other = absurd at
-  others_same (s ∷ ss) (t ∷ ts) [] runs step at other = absurd at
-  others_same (s ∷ ss) (t ∷ ts) (w ∷ ws) [] step at other = absurd at
-  others_same (s ∷ ss) (t ∷ ts) (w ∷ ws) (run ∷ runs) step at other =
-      let one = at.0.is.others step other in
-      let rest = others_same ss ts ws runs step at.1 other in
-      λ i. one i ∷ rest i
+  others_same : (step : ℕ) → step ≢ e.step → (ss ts : List S) (ws : List Lines) (runs : List RecorderRun) → AreRunsAt gives e ss ts ws runs → given_in gives step ts ≡ given_in gives step ss
+  others_same step other = for_all gives e (λ ss ts ws runs. given_in gives step ts ≡ given_in gives step ss) refl
+      (λ s t w run ss ts ws runs one rest. let same = one.is.others step other in λ i. same i ∷ rest i)
 
   -- nothing is left for the step where no recorder stopped early
   none_left : (ss ts : List S) (ws : List Lines) (runs : List RecorderRun) → AreRunsAt gives e ss ts ws runs → AreWhole runs → All (λ s. gives s e.step ≡ []) ts
-  unfolding AreRunsAt
-  none_left [] [] ws runs at whole = λ i d within. absurd (omega arith)
-  none_left [] (t ∷ ts) ws runs at whole = absurd at
-  none_left (s ∷ ss) [] ws runs at whole = absurd at
-  none_left (s ∷ ss) (t ∷ ts) [] runs at whole = absurd at
-  none_left (s ∷ ss) (t ∷ ts) (w ∷ ws) [] at whole = absurd at
-  none_left (s ∷ ss) (t ∷ ts) (w ∷ ws) (run ∷ runs) at whole =
-      all_more (λ s. gives s e.step ≡ []) t ts (none_left_of e (gives s) (gives t) run at.0.is (All-head (λ run. run.broken ≡ None) run runs whole))
-      (none_left ss ts ws runs at.1 (All-tail (λ run. run.broken ≡ None) run runs whole))
+  none_left =
+      for_all gives e (λ ss ts ws runs. AreWhole runs → All (λ s. gives s e.step ≡ []) ts) (λ whole i d within. absurd (omega arith))
+      (λ s t w run ss ts ws runs one rest whole.
+      all_more (λ s. gives s e.step ≡ []) t ts (none_left_of e (gives s) (gives t) run one.is (All-head (λ run. run.broken ≡ None) run runs whole))
+      (rest (All-tail (λ run. run.broken ≡ None) run runs whole)))
 
   -- the lists of recorders that did not stop early: each with the offers of what its source gave, none refused
-  whole_lists : (ss ts : List S) (ws : List Lines) (runs : List RecorderRun) (k : ℕ) → AreRunsAt gives e ss ts ws runs → AreWhole runs → k < length e.ids
+  whole_lists : (k : ℕ) → k < length e.ids → (ss ts : List S) (ws : List Lines) (runs : List RecorderRun) → AreRunsAt gives e ss ts ws runs → AreWhole runs
       → (map asked_in (lists_at k ws) ≡ map (offers e k) (given_in gives e.step ss)) × All AreTaken (lists_at k ws)
-  unfolding AreRunsAt
-  whole_lists [] [] [] runs k at whole within = (refl, λ i d inside. absurd (omega arith))
-  whole_lists [] [] (w ∷ ws) runs k at whole within = absurd at
-  whole_lists [] (t ∷ ts) ws runs k at whole within = absurd at
-  whole_lists (s ∷ ss) [] ws runs k at whole within = absurd at
-  whole_lists (s ∷ ss) (t ∷ ts) [] runs k at whole within = absurd at
-  whole_lists (s ∷ ss) (t ∷ ts) (w ∷ ws) [] k at whole within = absurd at
-  whole_lists (s ∷ ss) (t ∷ ts) (w ∷ ws) (run ∷ runs) k at whole within =
-      let one = whole_list e (gives s) (gives t) w.lines.items run k at.0 (All-head (λ run. run.broken ≡ None) run runs whole) within in
-      let rest = whole_lists ss ts ws runs k at.1 (All-tail (λ run. run.broken ≡ None) run runs whole) within in
-      (λ i. one.0 i ∷ rest.0 i, all_more AreTaken (list_at w.lines.items k) (lists_at k ws) one.1 rest.1)
+  whole_lists k within =
+      for_all gives e (λ ss ts ws runs. AreWhole runs → (map asked_in (lists_at k ws) ≡ map (offers e k) (given_in gives e.step ss)) × All AreTaken (lists_at k ws))
+      (λ whole. (refl, λ i d inside. absurd (omega arith)))
+      (λ s t w run ss ts ws runs one rest whole.
+      let mine = whole_list e (gives s) (gives t) w.lines.items run k one (All-head (λ run. run.broken ≡ None) run runs whole) within in
+      let others = rest (All-tail (λ run. run.broken ≡ None) run runs whole) in
+      (λ i. mine.0 i ∷ others.0 i, all_more AreTaken (list_at w.lines.items k) (lists_at k ws) mine.1 others.1))
 
   -- what was asked of a store is offers, and few of each recorder
-  lists_are_offers : (ss ts : List S) (ws : List Lines) (runs : List RecorderRun) (k : ℕ) → AreRunsAt gives e ss ts ws runs → AreFew gives e.step ss → k < length e.ids
+  lists_are_offers : (k : ℕ) → k < length e.ids → (ss ts : List S) (ws : List Lines) (runs : List RecorderRun) → AreRunsAt gives e ss ts ws runs → AreFew gives e.step ss
       → All (AreOffers e) (map asked_in (lists_at k ws))
-  unfolding AreRunsAt
-  lists_are_offers [] [] [] runs k at few within = λ i d inside. absurd (omega arith)
-  lists_are_offers [] [] (w ∷ ws) runs k at few within = absurd at
-  lists_are_offers [] (t ∷ ts) ws runs k at few within = absurd at
-  lists_are_offers (s ∷ ss) [] ws runs k at few within = absurd at
-  lists_are_offers (s ∷ ss) (t ∷ ts) [] runs k at few within = absurd at
-  lists_are_offers (s ∷ ss) (t ∷ ts) (w ∷ ws) [] k at few within = absurd at
-  lists_are_offers (s ∷ ss) (t ∷ ts) (w ∷ ws) (run ∷ runs) k at few within =
+  lists_are_offers k within =
+      for_all gives e (λ ss ts ws runs. AreFew gives e.step ss → All (AreOffers e) (map asked_in (lists_at k ws))) (λ few i d inside. absurd (omega arith))
+      (λ s t w run ss ts ws runs one rest few.
       all_more (AreOffers e) (asked w.lines.items k) (map asked_in (lists_at k ws))
-      (are_offers e (gives s) (gives t) w.lines.items run k at.0 within (All-head (λ s. length (gives s e.step) ≤ 65535) s ss few))
-      (lists_are_offers ss ts ws runs k at.1 (All-tail (λ s. length (gives s e.step) ≤ 65535) s ss few) within)
+      (are_offers e (gives s) (gives t) w.lines.items run k one within (All-head (λ s. length (gives s e.step) ≤ 65535) s ss few))
+      (rest (All-tail (λ s. length (gives s e.step) ≤ 65535) s ss few)))
 
-  -- where no offer was refused, recorders stopped early for want of memory alone
+  -- where no offer was refused, out of memory is the only reason why recorders stopped early
   reasons_of : (ss ts : List S) (ws : List Lines) (runs : List RecorderRun) → AreRunsAt gives e ss ts ws runs
       → ((k : ℕ) → k < length e.ids → All AreTaken (lists_at k ws)) → All (λ run. IfSome run.broken (λ fault. fault ≡ NoMemory)) runs
-  unfolding AreRunsAt
-  reasons_of [] [] [] [] at taken = λ i d within. absurd (omega arith)
-  reasons_of [] [] [] (run ∷ runs) at taken = absurd at
-  reasons_of [] [] (w ∷ ws) runs at taken = absurd at
-  reasons_of [] (t ∷ ts) ws runs at taken = absurd at
-  reasons_of (s ∷ ss) [] ws runs at taken = absurd at
-  reasons_of (s ∷ ss) (t ∷ ts) [] runs at taken = absurd at
-  reasons_of (s ∷ ss) (t ∷ ts) (w ∷ ws) [] at taken = absurd at
-  reasons_of (s ∷ ss) (t ∷ ts) (w ∷ ws) (run ∷ runs) at taken =
+  reasons_of =
+      for_all gives e (λ ss ts ws runs. ((k : ℕ) → k < length e.ids → All AreTaken (lists_at k ws)) → All (λ run. IfSome run.broken (λ fault. fault ≡ NoMemory)) runs)
+      (λ taken i d within. absurd (omega arith))
+      (λ s t w run ss ts ws runs one rest taken.
       all_more (λ run. IfSome run.broken (λ fault. fault ≡ NoMemory)) run runs
-      (reason_of e w.lines.items run.broken at.0.reason (λ k within. All-head AreTaken (list_at w.lines.items k) (lists_at k ws) (taken k within)))
-      (reasons_of ss ts ws runs at.1 (λ k within. All-tail AreTaken (list_at w.lines.items k) (lists_at k ws) (taken k within)))
+      (reason_of e w.lines.items run.broken one.reason (λ k within. All-head AreTaken (list_at w.lines.items k) (lists_at k ws) (taken k within)))
+      (rest (λ k within. All-tail AreTaken (list_at w.lines.items k) (lists_at k ws) (taken k within))))
 
 -- the last storage time of a store that has recorded
 pub recorded_last : (e : RecordingContext) (gave : List (List SpacePacket)) (k : ℕ) (s t : State) → HasRecorded e gave k s t
@@ -291,14 +239,14 @@ module _ {S : Type 0} (gives : S → ℕ → List SpacePacket) (e : RecordingCon
       record {
         log = store.log;
         run = store.run;
-        shuffle = subst (λ (xs : List (List Event)). IsShuffleOfEvents xs store.log) (sym (runs_offered gives e sources left workers have.runs k have.are))
+        shuffle = subst (λ (xs : List (List Event)). IsShuffleOfEvents xs store.log) (sym (runs_offered gives e k sources left workers have.runs have.are))
             (asked_shuffled (lists_at k workers) store.log store.shuffle);
       }
 
   -- each store has recorded what the sources gave
   all_recorded : AreWhole have.runs → AllRecorded e (given_in gives e.step sources) before after
   all_recorded whole k within =
-      let lists = whole_lists gives e sources left workers have.runs k have.are whole (omega (arith, many)) in
+      let lists = whole_lists gives e k (omega (arith, many)) sources left workers have.runs have.are whole in
       let store = went k within in
       record {
         log = store.log;
@@ -312,7 +260,7 @@ module _ {S : Type 0} (gives : S → ℕ → List SpacePacket) (e : RecordingCon
       → (k : ℕ) → k < length e.ids → All AreTaken (lists_at k workers)
   all_taken same few_sources moment are_open few k within =
       let asks = map asked_in (lists_at k workers) in
-      let are = lists_are_offers gives e sources left workers have.runs k have.are few within in
+      let are = lists_are_offers gives e k within sources left workers have.runs have.are few in
       let store = went k (omega (arith, same)) in
       let state = are_open k (omega (arith, same)) in
       let each : All (λ es. length es ≤ 65535) asks = λ i d inside. (are i d inside).few in
@@ -368,7 +316,7 @@ module _ {S : Type 0} (gives : S → ℕ → List SpacePacket) (step now : ℕ) 
     are_runs = are_runs gives e sources left workers have.runs have.are;
     why_is = have.why_is;
     went = went_offers gives e sources left workers why (states_of before) (states_of after) have went inside;
-    others = λ t other. others_same gives e sources left workers have.runs t have.are other;
+    others = λ t other. others_same gives e t other sources left workers have.runs have.are;
     recorded = if_none _ _ why have.why_is.none
         (λ none. all_recorded gives e sources left workers why (states_of before) (states_of after) have went inside (whole_of have.runs none));
     nothing_left = if_none _ _ why have.why_is.none (λ none. none_left gives e sources left workers have.runs have.are (whole_of have.runs none));

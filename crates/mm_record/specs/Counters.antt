@@ -14,11 +14,11 @@ abbrev pub rise : Counters → Counters → Counters
 rise before after = record { offered = after.offered - before.offered; lost = after.lost - before.lost; deleted = after.deleted - before.deleted }
 
 -- what is told of a store that had these counters before
-abbrev pub told : Counters → Held → Recorded
-told before h = record { store = h.id; came = (rise before (counters_of h.state)).offered; lost = (rise before (counters_of h.state)).lost }
+abbrev pub change_of : Counters → Held → Recorded
+change_of before h = record { store = h.id; came = (rise before (counters_of h.state)).offered; lost = (rise before (counters_of h.state)).lost }
 
 -- these are the rows of the first stores, as many as stated
 pub record AreRows (before : List Counters) (stores : List Held) (many : ℕ) (rows : List Recorded) : Type 0 where
   pub count : length rows ≡ many
   pub each : (k : ℕ) (d : Recorded) (c : Counters) (h : Held) → k < many
-      → slice_index_or rows k d ≡ told (slice_index_or before k c) (slice_index_or stores k h)
+      → slice_index_or rows k d ≡ change_of (slice_index_or before k c) (slice_index_or stores k h)

@@ -27,8 +27,8 @@ store_at memory k = opening_at (states_of memory.stores) k
 abbrev pub came : RecordingContext → List (List SpacePacket) → ℕ → ℕ
 came e gave k = count_of (map (offers e k) gave)
 
--- the stores stand in their places, under their identifiers and on their channels, each is sound, and the routes are as before
-pub record StandAsBefore (old new : Holdings) : Type 0 where
+-- the stores are in their places, under their identifiers and on their channels, each is sound, and the routes are as before
+pub record PlacedAsBefore (old new : Holdings) : Type 0 where
   pub labels : labels_of new.stores ≡ labels_of old.stores
   pub routes : new.routes ≡ old.routes
   pub sound : All (λ h. IsState h.state) new.stores
@@ -42,7 +42,7 @@ pub record AreTold (e : RecordingContext) (gave : List (List SpacePacket)) (old 
 
 -- a step was recorded: each store by all offers of what the sources gave, none refused; no source has anything left for it
 pub record IsRecorded {S : Type 0} (gives : S → ℕ → List SpacePacket) (e : RecordingContext) (old new : Holdings) (sources left : List S) (told : List Recorded) : Type 0 where
-  pub stand : StandAsBefore old new
+  pub placed : PlacedAsBefore old new
   pub recorded : AllRecorded e (given_in gives e.step sources) (states_of old.stores) (states_of new.stores)
   pub leaves : (k : ℕ) → k < length new.stores → Leaves (store_at old k) (store_at new k) (came e (given_in gives e.step sources) k)
   pub told_are : AreTold e (given_in gives e.step sources) old new told
@@ -56,11 +56,11 @@ pub record IsRefused {S : Type 0} (cause : Cause) (old new : Holdings) (sources 
   pub told : IfErr result (λ halted. (halted.cause ≡ cause) × (halted.sources.items ≡ sources))
   pub same : new ≡ old
 
--- recorders were at work when the step was ended: each store went by what the recorders offered. For want of memory no recorder stopped
--- for another reason
+-- recorders were at work when the step was ended: each store went by what the recorders offered. Where the cause is out of
+-- memory no recorder stopped for another reason
 pub record WasEnded {S : Type 0} (gives : S → ℕ → List SpacePacket) (e : RecordingContext) (old new : Holdings) (sources left : List S) (cause : Cause) : Type 0 where
   pub cause_is : (cause ≡ LogMismatch e.step) ⊎ (cause ≡ NoMemory e.step)
-  pub stand : StandAsBefore old new
+  pub placed : PlacedAsBefore old new
   pub runs : List RecorderRun
   pub are_runs : AreRecorderRuns gives e sources left runs
   pub went : AllHaveLegalOffers runs (states_of old.stores) (states_of new.stores)
@@ -73,6 +73,6 @@ pub record WasNotBegun {S : Type 0} (step : ℕ) (old new : Holdings) (sources l
   pub sources_same : left ≡ sources
   pub same : new ≡ old
 
--- a step was halted: for want of memory before the first recorder began, or while recorders were at work
+-- a step was halted: out of memory before the first recorder began, or while recorders were at work
 abbrev pub Halts : {S : Type 0} → (S → ℕ → List SpacePacket) → RecordingContext → Holdings → Holdings → List S → List S → Cause → Type 0
 Halts gives e old new sources left cause = WasNotBegun e.step old new sources left cause ⊎ WasEnded gives e old new sources left cause

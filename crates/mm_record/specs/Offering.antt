@@ -49,15 +49,18 @@ pub record ExtendsInPart (more : List Event) (old new : List Entry) : Type 0 whe
   pub are : more ≡ did ++ rest
   pub first : asked_in new ≡ asked_in old ++ did
 
--- the list of each line goes on by the offers to its store, of which none is refused
-pub record Adds (count : ℕ) (more : ℕ → List Event) (old new : List Line) : Type 0 where
+-- the list of each line goes on as stated by the offers to its store
+pub record AddsBy (goes : List Event → List Entry → List Entry → Type 0) (count : ℕ) (more : ℕ → List Event) (old new : List Line) : Type 0 where
   pub ends : ends_of new ≡ ends_of old
-  pub lists : (k : ℕ) → k < count → ExtendsBy (more k) (list_at old k) (list_at new k)
+  pub lists : (k : ℕ) → k < count → goes (more k) (list_at old k) (list_at new k)
+
+-- the list of each line goes on by the offers to its store, of which none is refused
+abbrev pub Adds : ℕ → (ℕ → List Event) → List Line → List Line → Type 0
+Adds count more old new = AddsBy ExtendsBy count more old new
 
 -- the list of each line goes on by the first of the offers to its store
-pub record AddsPartly (count : ℕ) (more : ℕ → List Event) (old new : List Line) : Type 0 where
-  pub ends : ends_of new ≡ ends_of old
-  pub lists : (k : ℕ) → k < count → ExtendsInPart (more k) (list_at old k) (list_at new k)
+abbrev pub AddsPartly : ℕ → (ℕ → List Event) → List Line → List Line → Type 0
+AddsPartly count more old new = AddsBy ExtendsInPart count more old new
 
 -- an offer through one of these lines was refused
 pub record HasRefusal (count : ℕ) (lines : List Line) : Type 0 where

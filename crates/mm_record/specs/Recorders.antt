@@ -7,13 +7,13 @@ use Rattle.mm_desk.specs.Offers.{AreTaken}
 use Rattle.mm_shared.specs.declared.lines.Line.{Line}
 use Rattle.mm_shared.specs.declared.lines.Lines.{Lines}
 use Rattle.mm_shared.specs.declared.stores.NamedStore.{NamedStore}
-use Rattle.mm_shared.specs.Stores.{list_at, ends_of, IsFresh}
+use Rattle.mm_shared.specs.Stores.{list_at, ends_of, ids_of, AreNamed, IsFresh}
 use Rattle.mm_record.specs.Recorded.{RecordingContext}
 use Rattle.mm_record.specs.Offering.{asked, AreAt, IsReason}
 use Rattle.mm_record.specs.Steps.{RecorderRun, IsRecorderRun, IsWhy}
 
--- a recorder with these lines had this run. Where it did not stop early no offer of its was refused; where it did, for want of memory or
--- for a refused offer
+-- a recorder with these lines had this run. Where it did not stop early no offer of its was refused; where it did, it was out of memory or
+-- an offer was refused
 pub record IsRunAt (e : RecordingContext) (before after : ℕ → List SpacePacket) (lines : List Line) (run : RecorderRun) : Type 0 where
   pub is : IsRecorderRun e before after run
   pub offered : (k : ℕ) → run.offered k ≡ asked lines k
@@ -26,8 +26,9 @@ pub record HasRun (e : RecordingContext) (before after : ℕ → List SpacePacke
   pub is : IsRunAt e before after lines run
   pub ended : run.broken ≡ broken
 
--- there is a fresh worker for each source, with a line at each store
+-- no two stores have one identifier, and there is a fresh worker for each source, with a line at each store
 pub record MayRecord {S : Type 0} (stores : List NamedStore) (sources : List S) (workers : List Lines) : Type 0 where
+  pub named : AreNamed (ids_of stores)
   pub same : length workers ≡ length sources
   pub at : All (λ w. AreAt stores (ends_of w.lines.items)) workers
   pub fresh : All (λ w. IsFresh w.lines.items) workers

@@ -4,7 +4,7 @@ ghost use Rattle.mm_desk.specs.Machine.{IsState};
 ghost use Rattle.mm_report.specs.declared.cause.Cause.TheVariants.{LogMismatch};
 ghost use Rattle.mm_report.specs.declared.cause.TheConstants.{MAX_SOURCES};
 ghost use Rattle.mm_record.specs.Causes.{cause_before};
-ghost use Rattle.mm_record.specs.Counters.{counters_of, told, AreRows};
+ghost use Rattle.mm_record.specs.Counters.{counters_of, change_of, AreRows};
 ghost use Rattle.mm_record.specs.MemorySteps.{recording_of, IsRecorded, IsRefused, Halts};
 ghost use Rattle.mm_record.specs.Steps.{IsWithinLimits, TakesAll};
 
@@ -75,8 +75,8 @@ fn new_rows(alloc: Global, stores: &[Held]) -> Result<Rows, NoMemory>
 }
 
 // What a step has recorded into a store with these counters before it.
-fn told(before: Counters, held: &Held) -> Recorded
-    ensures { result ≡ told before held.now }
+fn change_of(before: Counters, held: &Held) -> Recorded
+    ensures { result ≡ change_of before held.now }
 {
     let rise = Counters::of(&held.state).since(before);
     Recorded {
@@ -87,7 +87,7 @@ fn told(before: Counters, held: &Held) -> Recorded
 }
 
 // What a step has recorded into each store.
-fn told_all(rows: Rows, stores: &[Held]) -> Vec<Recorded>
+fn changes_of(rows: Rows, stores: &[Held]) -> Vec<Recorded>
     requires before { vec_len rows.before ≡ length stores.now }
     requires room { (rows.recorded.items ≡ []) × (length stores.now ≤ vec_capacity rows.recorded) }
     ensures rows { AreRows rows.before.items stores.now (length stores.now) result.items }
@@ -95,7 +95,7 @@ fn told_all(rows: Rows, stores: &[Held]) -> Vec<Recorded>
     let Rows { before, recorded } = rows;
     let mut recorded = recorded;
     for index in 0..stores.len() {
-        recorded.push_reserved(told(before[index], &stores[index]));
+        recorded.push_reserved(change_of(before[index], &stores[index]));
     }
     recorded
 }
@@ -125,7 +125,7 @@ fn record_ready<S: Source + Send, R: Threads + Wait + Sync>(
     };
     let done = record(rt, alloc, &context, &mut stores, sources);
     any_order_loses_alike();
-    let recorded = told_all(rows, &stores);
+    let recorded = changes_of(rows, &stores);
     memory.restore(stores);
     let Ok(why) = done else {
         return Err(Cause::NoMemory { step });

@@ -50,7 +50,6 @@ fn record_one<S: Source, R: Wait>(
     sources: &mut [S],
     workers: &mut [Lines],
 ) -> Option<Fault>
-    requires named { AreNamed (ids_of context.now.stores.now) }
     requires may { MayRecord context.now.stores.now sources.old workers.old }
     requires one { length sources.old ≡ 1 }
     ensures run { HaveRun S.gives (open_recording context.now.step context.now.moment context.now.control.now context.now.stores.now) sources.old sources.new workers.new result }
@@ -66,7 +65,6 @@ pub(crate) fn record_all<S: Source + Send, R: Threads + Wait + Sync>(
     sources: &mut [S],
     workers: &mut [Lines],
 ) -> Option<Fault>
-    requires named { AreNamed (ids_of context.now.stores.now) }
     requires may { MayRecord context.now.stores.now sources.old workers.old }
     ensures run { HaveRun S.gives (open_recording context.now.step context.now.moment context.now.control.now context.now.stores.now) sources.old sources.new workers.new result }
     ensures ends { all_ends workers.new ≡ all_ends workers.old }
@@ -100,7 +98,6 @@ fn record_halves<S: Source + Send, R: Threads + Wait + Sync>(
     high_sources: &mut [S],
     high_workers: &mut [Lines],
 ) -> (Option<Fault>, Option<Fault>)
-    requires named { AreNamed (ids_of context.now.stores.now) }
     requires low { MayRecord context.now.stores.now low_sources.old low_workers.old }
     requires high { MayRecord context.now.stores.now high_sources.old high_workers.old }
     requires some_low { 0 < length low_sources.old }
@@ -111,11 +108,11 @@ fn record_halves<S: Source + Send, R: Threads + Wait + Sync>(
     ensures high_ends { all_ends high_workers.new ≡ all_ends high_workers.old }
 {
     let mut low = || -> Option<Fault>
-        requires { IsSync R.row × IsSend S.row × AreNamed (ids_of context.now.stores.now) × MayRecord context.now.stores.now low_sources.now low_workers.now }
+        requires { IsSync R.row × IsSend S.row × MayRecord context.now.stores.now low_sources.now low_workers.now }
         ensures { HaveRun S.gives (open_recording context.entry.now.step context.entry.now.moment context.entry.now.control.now context.entry.now.stores.now) low_sources.entry.now low_sources.exit.now low_workers.exit.now result × (all_ends low_workers.exit.now ≡ all_ends low_workers.entry.now) }
     { record_all(context, low_sources, low_workers) };
     let mut high = || -> Option<Fault>
-        requires { IsSync R.row × IsSend S.row × AreNamed (ids_of context.now.stores.now) × MayRecord context.now.stores.now high_sources.now high_workers.now }
+        requires { IsSync R.row × IsSend S.row × MayRecord context.now.stores.now high_sources.now high_workers.now }
         ensures { HaveRun S.gives (open_recording context.entry.now.step context.entry.now.moment context.entry.now.control.now context.entry.now.stores.now) high_sources.entry.now high_sources.exit.now high_workers.exit.now result × (all_ends high_workers.exit.now ≡ all_ends high_workers.entry.now) }
     { record_all(context, high_sources, high_workers) };
     join_mut(context.rt, &mut low, &mut high)

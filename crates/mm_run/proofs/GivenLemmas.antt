@@ -1,12 +1,17 @@
 -- What a source gives, kept in one queue for each step.
-use Rattle.std.proofs.Common.{◌≡◌, ℕ, ◌+◌, ◌<◌, ◌≤◌, List, [], length, map, get_or, set, refl, sym, ap, ◌∙◌, arith}
-use Rattle.std.specs.Prelude.{Option, Some, None, IfNone, MatchOption}
-use Rattle.std.proofs.lemmas.List.{nil_from_length, get_or-map, map-set, length-map, length-set}
+use Rattle.std.proofs.Common.{◌≡◌, ℕ, ◌+◌, ◌<◌, ◌≤◌, List, [], ◌++◌, length, drop, map, get_or, set, refl, sym, ap, ◌∙◌, arith, length-drop}
+use Rattle.std.specs.Prelude.{Option, Some, None, IfNone, MatchOption, option_to_list}
+use Rattle.std.proofs.lemmas.List.{nil_from_length, get_or-map, get_or-set_same, map-set, length-map, length-set}
 use Rattle.std.proofs.lemmas.List.Elements.{All-set, All-get_or, All-replicate}
 use Rattle.mm_base.specs.declared.limits.TheConstants.{MAX_STEPS}
 use Rattle.mm_packet.specs.Packet.{SpacePacket}
 use Rattle.mm_run.specs.declared.source.TheConstants.{MAX_PACKETS}
 use Rattle.mm_run.specs.Given.{IsGiven, nothing_given}
+
+-- where no packet is taken there was none
+none_left : (taken : Option SpacePacket) (old new : List SpacePacket) → MatchOption taken (length old ≡ 0) (λ packet. Unit {0}) → IfNone taken (old ≡ [])
+none_left None old new empty = nil_from_length old empty
+none_left (Some packet) old new some = tt
 
 module _ {X : Type 0} (f : X → List SpacePacket) (qs : List X) (t : ℕ) where
   -- there is a queue for each step
@@ -29,6 +34,27 @@ module _ {X : Type 0} (f : X → List SpacePacket) (qs : List X) (t : ℕ) where
     few = All-set (λ packets. length packets ≤ MAX_PACKETS) (map f qs) t (f q) short h.few;
   })
 
+  -- what is left where the first packet of a step was taken
+  pub record IsTaken (taken : Option SpacePacket) (news : List X) : Type 0 where
+    pub given : IsGiven (map f news)
+    pub packet : get_or (map f qs) t [] ≡ option_to_list taken ++ get_or (map f news) t []
+    pub left : map f news ≡ set (map f qs) t (drop 1 (get_or (map f qs) t []))
+    pub none : IfNone taken (get_or (map f qs) t [] ≡ [])
+
+  pub first_taken : (q rest : X) (taken : Option SpacePacket) → IsGiven (map f qs) → t ≤ MAX_STEPS → q ≡ get_or qs t q → f q ≡ option_to_list taken ++ f rest
+      → f rest ≡ drop 1 (f q) → MatchOption taken (length (f q) ≡ 0) (λ packet. Unit {0}) → IsTaken taken (set qs t rest)
+  first_taken q rest taken h last is items dropped empty =
+      let within = has_queue h last in
+      let here = queue_at q within is in
+      let left_here : get_or (map f (set qs t rest)) t [] ≡ f rest =
+      rw (map-set f qs t rest) (get_or-set_same (map f qs) t (f rest) [] (omega (arith, within, length-map qs f))) in
+      record {
+        given = queue_set rest h (rw dropped (omega (arith, queue_short q h within is, length-drop 1 (f q))));
+        packet = rw (here, left_here) items;
+        left = rw here (map-set f qs t rest ∙ ap (set (map f qs) t) dropped);
+        none = rw here (none_left taken (f q) (f rest) empty);
+      }
+
 -- a source of empty queues
 pub empty_given : {X : Type 0} (f : X → List SpacePacket) (qs : List X) → map f qs ≡ nothing_given → IsGiven (map f qs)
 unfolding nothing_given
@@ -36,8 +62,3 @@ empty_given f qs none = rw none (record {
   steps = refl;
   few = All-replicate (λ (packets : List SpacePacket). length packets ≤ MAX_PACKETS) (MAX_STEPS + 1) [] (omega arith);
 })
-
--- where no packet is taken there was none
-pub none_left : (taken : Option SpacePacket) (old new : List SpacePacket) → MatchOption taken (length old ≡ 0) (λ packet. Unit {0}) → IfNone taken (old ≡ [])
-none_left None old new empty = nil_from_length old empty
-none_left (Some packet) old new some = tt

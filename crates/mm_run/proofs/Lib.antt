@@ -5,5 +5,6 @@ pub mod LineLemmas
 pub mod LinkLemmas
 pub mod Picked
 pub mod Endings
+pub mod Flights
 pub mod Offered
 pub mod Limits

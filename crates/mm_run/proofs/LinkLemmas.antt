@@ -19,8 +19,8 @@ none_linked count = record {
 }
 
 -- a link of which these sends fail
-abbrev wire_with : List ℕ → LinkView
-wire_with sends = record new_link { failing = sends }
+abbrev failing_with : List ℕ → LinkView
+failing_with sends = record new_link { failing = sends }
 
 -- a send more fails
 abbrev pub with_send : LinkView → ℕ → LinkView
@@ -38,13 +38,13 @@ linked_more count earlier links f link h first last is = record {
         let was : link ≡ record new_link { failing = sends_of f.link earlier } = is ∙ get_or_default links (f.link - 1) link new_link within ∙ h.each f.link first last in
         rw at (get_or-set_same links (f.link - 1) (with_send link f.send) new_link within
         ∙ ap (λ w. with_send w f.send) was
-        ∙ ap wire_with (sym (picked-more (λ x. x.send) (λ x. x.link == f.link) earlier f true ((Decides-eqb f.link f.link).1 refl))))
+        ∙ ap failing_with (sym (picked-more (λ x. x.send) (λ x. x.link == f.link) earlier f true ((Decides-eqb f.link f.link).1 refl))))
         )
     | inr other ↦ (
         let apart : n - 1 ≢ f.link - 1 = λ e. false≢true (sym other ∙ (Decides-eqb f.link n).1 (omega (arith, e, first, low))) in
         get_or-set_other links (f.link - 1) (n - 1) (with_send link f.send) new_link apart
         ∙ h.each n low high
-        ∙ ap wire_with (sym (picked-more (λ x. x.send) (λ x. x.link == n) earlier f false other ∙ append-nil (sends_of n earlier)))
+        ∙ ap failing_with (sym (picked-more (λ x. x.send) (λ x. x.link == n) earlier f false other ∙ append-nil (sends_of n earlier)))
         )
   ];
 }

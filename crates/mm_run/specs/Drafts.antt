@@ -12,7 +12,7 @@ pub record IsRead (source_lines : List SourceLine) (draft : Draft) : Type 0 wher
   pub lines : AreFrom source_lines draft.opening.items draft.sources.items
   pub opened : (s : ℕ) → 1 ≤ s → s ≤ MAX_SOURCES → slice_index draft.opened (s - 1) ≡ length (packets_of s 0 source_lines)
 
--- a line was added to the draft, as this says; or it says that the line is refused, want of memory aside
+-- a line was added to the draft, as this says; or it says that the line is refused, out of memory aside
 abbrev pub Adds : Result (List SourceLine) ScriptFault → Draft → Result (Unit {0}) ScriptFault → Type 0
 Adds given new (Ok u) = (source_lines : List SourceLine) × (given ≡ Ok source_lines) × IsRead source_lines new
 Adds given new (Err e) = e ≢ NoMemory → given ≡ Err e

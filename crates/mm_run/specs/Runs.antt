@@ -1,17 +1,15 @@
 -- What a run from texts prints.
-use Rattle.std.specs.Prelude.{◌⊎◌, ℕ, List, [], slice_index_or}
+use Rattle.std.specs.Prelude.{◌≡◌, ◌⊎◌, ℕ, List, [], slice_index_or, Option, Some, None}
 use Rattle.mm_problem.specs.Dumping.{Dumping}
 use Rattle.mm_packet.specs.Packet.{SpacePacket}
 use Rattle.mm_plan.specs.Sheet.{SheetRows}
 use Rattle.mm_plan.specs.Table.{Table}
-use Rattle.mm_cut.specs.Checking.{SaysSheet}
 use Rattle.mm_memory.specs.Holdings.{Holdings}
 use Rattle.mm_dump.specs.Sending.{Sent}
 use Rattle.mm_run.specs.declared.link.ScriptedLink.{ScriptedLink}
 use Rattle.mm_run.specs.declared.source.ScriptedSource.{ScriptedSource}
 use Rattle.mm_exec.specs.declared.flight.Flight.{Flight}
 use Rattle.mm_exec.specs.declared.flight.Flown.{Flown}
-use Rattle.mm_exec.specs.declared.flight.Halted.{Halted}
 use Rattle.mm_exec.specs.declared.flight.NotFlown.{NotFlown}
 use Rattle.mm_exec.specs.RunInput.{RunInput, run_input}
 use Rattle.mm_exec.specs.Step.{NeverRefused}
@@ -20,7 +18,7 @@ use Rattle.mm_exec.specs.Flying.{Flies, FliesNot, HasNoPlan}
 use Rattle.mm_run.specs.declared.printed.Printed.{Printed}
 use Rattle.mm_run.specs.Opening.{opened_with}
 use Rattle.mm_run.specs.Printed.{TellsAll, TellsEnd}
-use Rattle.mm_run.specs.Texts.{SaysProblemAndMemory, SaysSourcesAndLinks}
+use Rattle.mm_run.specs.Texts.{SaysStart, SaysSourcesAndLinks}
 
 -- what a scripted source gives, what was sent over a scripted link, and how many of its sends failed
 abbrev pub gives : ScriptedSource → ℕ → List SpacePacket
@@ -36,57 +34,56 @@ failed link = link.failed
 abbrev pub scripted : Dumping → Table → Holdings → List ScriptedSource → RunInput
 scripted problem plan memory sources = run_input gives problem plan 0 memory sources
 
+-- what a run leaves beside the text of its plan
+abbrev pub flight_of : Flown ScriptedSource ScriptedLink → Flight ScriptedSource ScriptedLink
+flight_of flown = record { report = flown.report; sources = flown.sources; links = flown.links }
+
+-- the plan of the sheet was carried out, and no text of it is printed; or without a sheet, a plan was made, printed and carried out
+unfoldable pub IsFlown : Option SheetRows → Dumping → Holdings → List ScriptedSource → List ScriptedLink → Holdings → Flown ScriptedSource ScriptedLink → Type 0
+IsFlown (Some sheet) problem memory sources links left flown = (flown.sheet.items ≡ [])
+    × IsCarriedOut gives sent failed (scripted problem sheet.plan memory sources) sheet.plan sources links left (flight_of flown)
+IsFlown None problem memory sources links left flown = Flies gives sent failed problem 0 memory sources links left flown
+
+-- the run of the sheet's plan did not begin, or was halted, and no text of the plan is printed; or without a sheet, this is so of a plan
+-- that was made and printed, or there was no memory to plan
+unfoldable pub IsNotFlown : Option SheetRows → Dumping → Holdings → List ScriptedSource → List ScriptedLink → Holdings → NotFlown ScriptedSource ScriptedLink → Type 0
+IsNotFlown (Some sheet) problem memory sources links left ended = (ended.sheet.items ≡ [])
+    × IsHalted gives sent failed (scripted problem sheet.plan memory sources) sheet.plan sources links left ended.halted
+IsNotFlown None problem memory sources links left ended =
+    FliesNot gives sent failed problem 0 memory sources links left ended ⊎ HasNoPlan memory sources links left ended
+
 -- the run was carried out, and this is printed
-pub record EndsWhole (problem : Dumping) (plan : Table) (memory : Holdings) (sources : List ScriptedSource) (links : List ScriptedLink) (sheet : List ℕ) (p : Printed) : Type 0 where
-  pub left : Holdings
-  pub flight : Flight ScriptedSource ScriptedLink
-  pub carried_out : IsCarriedOut gives sent failed (scripted problem plan memory sources) plan sources links left flight
-  pub tells : TellsAll sheet flight.report p
-
--- the run did not begin, or was halted, though never since a store refused a packet, and this is printed
-pub record EndsEarly (problem : Dumping) (plan : Table) (memory : Holdings) (sources : List ScriptedSource) (links : List ScriptedLink) (sheet : List ℕ) (p : Printed) : Type 0 where
-  pub left : Holdings
-  pub halted : Halted ScriptedSource ScriptedLink
-  pub was_halted : IsHalted gives sent failed (scripted problem plan memory sources) plan sources links left halted
-  pub never_refused : NeverRefused halted.cause
-  pub tells : TellsEnd sheet halted.cause halted.report p
-
--- what is printed of the run that the five texts say
-pub record Runs (setup forecast plan sources_text links_text : List ℕ) (p : Printed) : Type 0 where
-  pub problem : Dumping
-  pub memory : Holdings
-  pub ground : SaysProblemAndMemory setup forecast problem memory
-  pub sheet : SheetRows
-  pub plan_says : SaysSheet problem plan sheet
-  pub opening : List SpacePacket
-  pub sources : List ScriptedSource
-  pub links : List ScriptedLink
-  pub ends : SaysSourcesAndLinks sources_text links_text opening sources links
-  pub ended : EndsWhole problem sheet.plan (opened_with memory opening) sources links [] p
-      ⊎ EndsEarly problem sheet.plan (opened_with memory opening) sources links [] p
-
--- the plan was made and carried out, and this is printed
-pub record FliesWhole (problem : Dumping) (memory : Holdings) (sources : List ScriptedSource) (links : List ScriptedLink) (p : Printed) : Type 0 where
+pub record EndsWhole (sheet : Option SheetRows) (problem : Dumping) (memory : Holdings) (sources : List ScriptedSource) (links : List ScriptedLink) (p : Printed) : Type 0 where
   pub left : Holdings
   pub flown : Flown ScriptedSource ScriptedLink
-  pub flies : Flies gives sent failed problem 0 memory sources links left flown
+  pub is_flown : IsFlown sheet problem memory sources links left flown
   pub tells : TellsAll flown.sheet.items flown.report p
 
--- the plan's run did not begin, or was halted, though never since a store refused a packet, or there was no memory to plan, and this is printed
-pub record FliesEarly (problem : Dumping) (memory : Holdings) (sources : List ScriptedSource) (links : List ScriptedLink) (p : Printed) : Type 0 where
+-- the run did not begin, or was halted, though never since a store refused a packet, and this is printed
+pub record EndsEarly (sheet : Option SheetRows) (problem : Dumping) (memory : Holdings) (sources : List ScriptedSource) (links : List ScriptedLink) (p : Printed) : Type 0 where
   pub left : Holdings
   pub ended : NotFlown ScriptedSource ScriptedLink
-  pub flies_not : FliesNot gives sent failed problem 0 memory sources links left ended ⊎ HasNoPlan memory sources links left ended
+  pub not_flown : IsNotFlown sheet problem memory sources links left ended
   pub never_refused : NeverRefused ended.halted.cause
   pub tells : TellsEnd ended.sheet.items ended.halted.cause ended.halted.report p
 
--- what is printed of the plan for the first two of four texts, and of its run
-pub record FliesBy (setup forecast sources_text links_text : List ℕ) (p : Printed) : Type 0 where
+-- what is printed of the run that the texts say: of the plan of a text, or of one that is made
+pub record PrintsRun (plan : Option (List ℕ)) (setup forecast sources_text links_text : List ℕ) (p : Printed) : Type 0 where
   pub problem : Dumping
   pub memory : Holdings
-  pub ground : SaysProblemAndMemory setup forecast problem memory
+  pub sheet : Option SheetRows
+  pub start_says : SaysStart plan setup forecast problem memory sheet
   pub opening : List SpacePacket
   pub sources : List ScriptedSource
   pub links : List ScriptedLink
-  pub ends : SaysSourcesAndLinks sources_text links_text opening sources links
-  pub flown : FliesWhole problem (opened_with memory opening) sources links p ⊎ FliesEarly problem (opened_with memory opening) sources links p
+  pub sides_say : SaysSourcesAndLinks sources_text links_text opening sources links
+  pub ended : EndsWhole sheet problem (opened_with memory opening) sources links p
+      ⊎ EndsEarly sheet problem (opened_with memory opening) sources links p
+
+-- what is printed of the run that the five texts say
+abbrev pub Runs : List ℕ → List ℕ → List ℕ → List ℕ → List ℕ → Printed → Type 0
+Runs setup forecast plan sources links p = PrintsRun (Some plan) setup forecast sources links p
+
+-- what is printed of the plan for the first two of four texts, and of its run
+abbrev pub FliesBy : List ℕ → List ℕ → List ℕ → List ℕ → Printed → Type 0
+FliesBy setup forecast sources links p = PrintsRun None setup forecast sources links p

@@ -7,7 +7,7 @@ use mm_base::{NoMemory, Refusal, Refused, passed_on, refusals};
 use thiserror::Error;
 
 /// Why the texts of a run are refused: a fault of the setup, the forecast or the plan text, or one of the sources or the
-/// links. It is shown as the fault of the crate that found it. Want of memory is `NoMemory` alone, whoever lacked it.
+/// links. It is shown as the fault of the crate that found it. Out of memory is `NoMemory` alone, whichever crate ran out.
 #[derive(Clone, Copy, Debug, PartialEq, Eq, Error)]
 pub enum Fault {
     #[error(transparent)]

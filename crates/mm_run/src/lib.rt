@@ -3,7 +3,6 @@
 
 mod ending;
 mod fault;
-mod fly;
 pub mod laws;
 mod link;
 mod links;
@@ -19,12 +18,11 @@ mod texts;
 mod words;
 
 pub use fault::Fault;
-pub use fly::fly_bytes;
 pub use link::{ScriptedLink, SentPacket};
 pub use links::{Failing, MAX_SEND, MAX_WRITTEN, read_links};
 pub use mm_base::NoMemory;
 pub use printed::{Outcome, Printed};
-pub use run::run_bytes;
+pub use run::{fly_bytes, run_bytes, run_texts};
 pub use script_fault::ScriptFault;
 pub use source::{MAX_PACKETS, ScriptedSource};
 pub use source_line::{MAX_SOURCES, SourceLine};

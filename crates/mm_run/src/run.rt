@@ -1,39 +1,103 @@
-//! A run from texts to what is printed.
-ghost use Rattle.std.specs.Prelude.{◌≡◌, ◌⊎◌, ◌<◌, ◌-◌, ◌^◌, [], All, IfOk};
+//! A run from texts to what is printed: of the plan of a text, or of one that is made.
+ghost use Rattle.std.specs.Prelude.{◌⊎◌, ◌<◌, ◌-◌, ◌^◌, All, Some, IfOk, IfErr};
+ghost use Rattle.std.specs.Option.{option_copied};
 ghost use Rattle.mm_base.specs.Reading.{IfRefused};
-ghost use Rattle.mm_run.specs.Judging.{IsRunFault};
+ghost use Rattle.mm_exec.specs.Course.{AreWithinLimits};
+ghost use Rattle.mm_exec.specs.Step.{NeverRefused};
+ghost use Rattle.mm_run.specs.Judging.{IsFirstFault, IsRunFault, IsFlyFault};
 ghost use Rattle.mm_run.specs.Sources.{AreFew};
 ghost use Rattle.mm_run.specs.Opening.{opened_with, AreOffered};
-ghost use Rattle.mm_run.specs.Runs.{EndsEarly, EndsWhole, Runs};
+ghost use Rattle.mm_run.specs.Runs.{gives, IsFlown, IsNotFlown, EndsEarly, EndsWhole, PrintsRun, Runs, FliesBy};
 
 use crate::fault::Fault;
 use crate::laws::constants_are;
+use crate::link::ScriptedLink;
 use crate::opening::offer_all;
 use crate::printed::{Printed, ReservedLines};
+use crate::source::ScriptedSource;
 use crate::texts::{
-    ProblemAndMemory, RunTexts, SourcesAndLinks, read_problem_and_memory, read_sources_and_links,
+    ProblemAndMemory, RunTexts, SourcesAndLinks, read_plan, read_problem_and_memory,
+    read_sources_and_links,
 };
 use mm_base::NoMemory;
-use mm_cut::read_sheet;
-use mm_exec::{Flight, Halted, carry_out};
-use mm_plan::Plan;
+use mm_exec::{Flight, Flown, Halted, NotFlown, carry_out, fly};
+use mm_memory::Memory;
+use mm_plan::Sheet;
+use mm_problem::Problem;
 use std::alloc::Global;
 use std::sync::Wait;
 use std::thread::Threads;
+
+// Carries out the plan of a sheet, of which no text is printed.
+fn fly_sheet<R: Threads + Wait + Sync>(
+    rt: &R,
+    alloc: Global,
+    sheet: &Sheet,
+    memory: &mut Memory,
+    problem: &Problem,
+    sources: Vec<ScriptedSource>,
+    links: Vec<ScriptedLink>,
+) -> Result<Flown<ScriptedSource, ScriptedLink>, NotFlown<ScriptedSource, ScriptedLink>>
+    requires links { All (λ l. l.failed < 2 ^ 64 - 1) links.items }
+    ensures flown { IfOk result (IsFlown (Some sheet.now) problem.now memory.old sources.items links.items memory.new) }
+    ensures not_flown { IfErr result (IsNotFlown (Some sheet.now) problem.now memory.old sources.items links.items memory.new) }
+    ensures far { AreWithinLimits gives memory.old.stores sources.items → IfErr result (λ ended. NeverRefused ended.halted.cause) }
+{
+    let text = Vec::new(alloc);
+    match carry_out(rt, alloc, memory, problem, sheet.plan(), sources, links, 0) {
+        Ok(
+            Flight {
+                report,
+                sources,
+                links,
+            },
+        ) => Ok(Flown {
+            sheet: text,
+            report,
+            sources,
+            links,
+        }),
+        Err(halted) => Err(NotFlown {
+            sheet: text,
+            halted,
+        }),
+    }
+}
+
+// Carries out the plan of the sheet, or without one makes a plan, prints it and carries it out.
+fn fly_plan<R: Threads + Wait + Sync>(
+    rt: &R,
+    alloc: Global,
+    sheet: Option<Sheet>,
+    memory: &mut Memory,
+    problem: &Problem,
+    sources: Vec<ScriptedSource>,
+    links: Vec<ScriptedLink>,
+) -> Result<Flown<ScriptedSource, ScriptedLink>, NotFlown<ScriptedSource, ScriptedLink>>
+    requires links { All (λ l. l.failed < 2 ^ 64 - 1) links.items }
+    ensures flown { IfOk result (IsFlown sheet problem.now memory.old sources.items links.items memory.new) }
+    ensures not_flown { IfErr result (IsNotFlown sheet problem.now memory.old sources.items links.items memory.new) }
+    ensures far { AreWithinLimits gives memory.old.stores sources.items → IfErr result (λ ended. NeverRefused ended.halted.cause) }
+{
+    match sheet {
+        Some(sheet) => fly_sheet(rt, alloc, &sheet, memory, problem, sources, links),
+        None => fly(rt, alloc, memory, problem, sources, links, 0),
+    }
+}
 
 // Offers the packets of step 0, carries the plan out, and says what is printed of it.
 fn carry<R: Threads + Wait + Sync>(
     rt: &R,
     alloc: Global,
     start: ProblemAndMemory,
-    plan: &Plan,
+    sheet: Option<Sheet>,
     sides: SourcesAndLinks,
 ) -> Result<Printed, NoMemory>
     requires opened { AreOffered 0 start.memory.stores }
     requires few { AreFew sides.sources.items }
     requires unfailed { All (λ l. l.failed < 2 ^ 64 - 1) sides.links.items }
-    ensures { IfOk result (λ p. EndsWhole start.problem plan.now (opened_with start.memory sides.opening.items) sides.sources.items sides.links.items [] p
-        ⊎ EndsEarly start.problem plan.now (opened_with start.memory sides.opening.items) sides.sources.items sides.links.items [] p) }
+    ensures { IfOk result (λ p. EndsWhole sheet start.problem (opened_with start.memory sides.opening.items) sides.sources.items sides.links.items p
+        ⊎ EndsEarly sheet start.problem (opened_with start.memory sides.opening.items) sides.sources.items sides.links.items p) }
 {
     let ProblemAndMemory {
         problem,
@@ -47,18 +111,36 @@ fn carry<R: Threads + Wait + Sync>(
     constants_are();
     offer_all(alloc, &mut memory, opening.as_slice())?;
     let reserved = ReservedLines::new(alloc)?;
-    let sheet = Vec::new(alloc);
-    match carry_out(rt, alloc, &mut memory, &problem, plan, sources, links, 0) {
-        Ok(Flight { report, .. }) => Printed::whole(alloc, sheet, reserved, &report),
-        Err(Halted { cause, report, .. }) => {
+    match fly_plan(rt, alloc, sheet, &mut memory, &problem, sources, links) {
+        Ok(Flown { sheet, report, .. }) => Printed::whole(alloc, sheet, reserved, &report),
+        Err(NotFlown { sheet, halted }) => {
+            let Halted { cause, report, .. } = halted;
             Printed::stopped(alloc, sheet, reserved, &cause, &report)
         }
     }
 }
 
-/// What is printed of the run that the texts and a plan text say: the packets of step 0 are offered at the moment 0, and
-/// then the plan is carried out, its first step at the moment 1. Otherwise the first fault of the texts, in the order of
-/// the setup, the forecast, the plan text, its shape, the sources and the links.
+/// What is printed of the run that the texts say: the packets of step 0 are offered at the moment 0, and then the plan is carried out, its
+/// first step at the moment 1. It is the plan of the plan text, or where there is none, one that loses least is made and printed. Otherwise
+/// the first fault of the texts, in the order of the setup, the forecast, the plan text, its shape, the sources and the links.
+pub fn run_texts<R: Threads + Wait + Sync>(
+    rt: &R,
+    alloc: Global,
+    texts: RunTexts<'_>,
+    plan: Option<&[u8]>,
+) -> Result<Printed, Fault>
+    ensures runs { IfOk result (PrintsRun (option_copied plan.entry) texts.entry.setup.now texts.entry.forecast.now texts.entry.sources.now texts.entry.links.now) }
+    ensures refused { IfRefused Fault.NoMemory result
+        (IsFirstFault (option_copied plan.entry) texts.entry.setup.now texts.entry.forecast.now texts.entry.sources.now texts.entry.links.now) }
+{
+    let start = read_problem_and_memory(alloc, texts.setup, texts.forecast)?;
+    let sheet = read_plan(alloc, &start.problem, plan)?;
+    let sides = read_sources_and_links(alloc, texts.sources, texts.links)?;
+    let printed = carry(rt, alloc, start, sheet, sides)?;
+    Ok(printed)
+}
+
+/// `run_texts` with a plan text.
 pub fn run_bytes<R: Threads + Wait + Sync>(
     rt: &R,
     alloc: Global,
@@ -69,9 +151,18 @@ pub fn run_bytes<R: Threads + Wait + Sync>(
     ensures refused { IfRefused Fault.NoMemory result
         (IsRunFault texts.entry.setup.now texts.entry.forecast.now plan.now texts.entry.sources.now texts.entry.links.now) }
 {
-    let start = read_problem_and_memory(alloc, texts.setup, texts.forecast)?;
-    let sheet = read_sheet(alloc, &start.problem, plan)?;
-    let sides = read_sources_and_links(alloc, texts.sources, texts.links)?;
-    let printed = carry(rt, alloc, start, sheet.plan(), sides)?;
-    Ok(printed)
+    run_texts(rt, alloc, texts, Some(plan))
+}
+
+/// `run_texts` without a plan text.
+pub fn fly_bytes<R: Threads + Wait + Sync>(
+    rt: &R,
+    alloc: Global,
+    texts: RunTexts<'_>,
+) -> Result<Printed, Fault>
+    ensures flies { IfOk result (FliesBy texts.entry.setup.now texts.entry.forecast.now texts.entry.sources.now texts.entry.links.now) }
+    ensures refused { IfRefused Fault.NoMemory result
+        (IsFlyFault texts.entry.setup.now texts.entry.forecast.now texts.entry.sources.now texts.entry.links.now) }
+{
+    run_texts(rt, alloc, texts, None)
 }

@@ -1,19 +1,23 @@
 //! What the texts of a run say.
 ghost use Rattle.std.specs.Prelude.{◌≡◌, All, IfOk};
+ghost use Rattle.std.specs.Option.{option_copied};
 ghost use Rattle.mm_base.specs.Reading.{IfRefused};
 ghost use Rattle.mm_problem.specs.declared.fault.Fault.TheVariants as problem;
+ghost use Rattle.mm_plan.specs.declared.fault.Fault.TheVariants as plan_fault;
 ghost use Rattle.mm_run.specs.Sources.{AreFew};
 ghost use Rattle.mm_run.specs.declared.script_fault.ScriptFault.TheVariants as script;
 ghost use Rattle.mm_run.specs.Opening.{AreOffered};
-ghost use Rattle.mm_run.specs.Texts.{SaysProblemAndMemory, SaysSourcesAndLinks, IsProblemFault, IsScriptFault};
+ghost use Rattle.mm_run.specs.Texts.{SaysProblemAndMemory, SaysPlan, SaysSourcesAndLinks, IsProblemFault, IsPlanTextFault, IsScriptFault};
 
 use crate::link::ScriptedLink;
 use crate::links::read_links;
 use crate::script_fault::ScriptFault;
 use crate::source::ScriptedSource;
 use crate::sources::SourceFile;
+use mm_cut::read_sheet;
 use mm_memory::Memory;
 use mm_packet::BlockPacket;
+use mm_plan::Sheet;
 use mm_problem::{Problem, Setup};
 use std::alloc::Global;
 
@@ -58,6 +62,21 @@ pub(crate) fn read_problem_and_memory(
     match Memory::of_setup(alloc, &setup) {
         Ok(memory) => Ok(ProblemAndMemory { problem, memory }),
         Err(_) => Err(mm_problem::Fault::NoMemory),
+    }
+}
+
+/// Reads the plan text, where there is one. Otherwise its first fault.
+pub(crate) fn read_plan(
+    alloc: Global,
+    problem: &Problem,
+    plan: Option<&[u8]>,
+) -> Result<Option<Sheet>, mm_plan::Fault>
+    ensures found { IfOk result (SaysPlan problem.now (option_copied plan.entry)) }
+    ensures refused { IfRefused plan_fault.NoMemory result (IsPlanTextFault problem.now (option_copied plan.entry)) }
+{
+    match plan {
+        Some(text) => Ok(Some(read_sheet(alloc, problem, text)?)),
+        None => Ok(None),
     }
 }
 

@@ -1,9 +1,9 @@
--- Values that stand where a list has none.
+-- Values that are read where a list has none.
 use Rattle.std.proofs.Common.{[]}
 use Rattle.atomic_table.specs.Seated.{TableId}
 use Rattle.mm_desk.specs.Runs.{blank}
 use Rattle.mm_shared.specs.declared.lines.Line.{Line}
-use Rattle.mm_shared.specs.declared.lines.Spare.{Spare}
+use Rattle.mm_shared.specs.declared.lines.FreePorts.{FreePorts}
 use Rattle.mm_shared.specs.declared.stores.NamedStore.{NamedStore}
 
 -- no table
@@ -15,8 +15,8 @@ pub no_store : NamedStore
 no_store = record { id = []; channel = 0; store = record { id = no_table; opening = blank; seats = 0 } }
 
 -- no ports
-pub no_spare : Spare
-no_spare = record { ports = record { of = no_table; first = 0; lists = [] }; index = 0 }
+pub no_free_ports : FreePorts
+no_free_ports = record { ports = record { of = no_table; first = 0; lists = [] }; index = 0 }
 
 -- no line
 pub no_line : Line

@@ -31,7 +31,7 @@ module _ (start : State) (seats : ℕ) where
   -- the view of all seats, which holds nothing, is the only one that could hold the state
   pub ends : (s : Table State Knows) (k : Keeps start seats s) (id : ℕ) (v : Knows) → get_elem? s.views id ≡ some v → v.held ≡ None → v.first ≡ 0 → length v.lists ≡ seats
       → HasLegalLog v.lists start k.now × (s.homes ≡ some k.now ∷ [])
-  ends s k id v me rest first all = (record { log = k.log; run = k.run; shuffle = shuffle }, ⊎_elim (λ (home : IsHome s k.now). home.homes) away k.stands)
+  ends s k id v me rest first all = (record { log = k.log; run = k.run; shuffle = shuffle }, ⊎_elim (λ (home : IsHome s k.now). home.homes) away k.state_is)
     where
       mine : Fits seats k.log k.owner id v
       mine = k.fits id v me

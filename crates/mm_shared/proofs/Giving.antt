@@ -16,7 +16,7 @@ use Rattle.mm_desk.proofs.Runs.{run_more}
 use Rattle.mm_shared.specs.declared.rule.Knows.{Knows}
 use Rattle.mm_shared.specs.Rule.{knows, Fits, Keeps}
 use Rattle.mm_shared.specs.Steps.{Seated, HasCalled, IsAsTaken, lists_with, called, at_rest}
-use Rattle.mm_shared.proofs.Keeping.{HasIt, holds, refit_all}
+use Rattle.mm_shared.proofs.Keeping.{HasIt, holds, refit_all, same_log}
 use Rattle.mm_shared.proofs.Parts.{part-mine, part-other}
 
 module _ (start : State) (seats : ℕ) where
@@ -52,7 +52,7 @@ module _ (start : State) (seats : ℕ) where
       run = run_more start k.log k.now m.0.first event reply c.now k.run (ap (λ (t : State). Machine.step t event) has.same ∙ c.stepped);
       below = All-push (λ (d : Entry). d.seat < seats) k.log e k.below (let within = mine.within in let some_seat = c.seated in omega arith);
       words = ap (λ (ws : List ℕ). set ws 0 0) k.words;
-      stands = inl record {
+      state_is = inl record {
         homes = ap (put_back s.homes) c.has ∙ ap (λ (hs : List (mathlib.Core.Option.Option State)). set hs 0 (some c.now)) has.homes;
         none = λ port u at. ⊎_elim (λ here. ap (λ (v : Knows). v.held) (sym here.1)) (λ there. has.others port u there.1 there.0) (at_set s.views id port w u at);
       };
@@ -96,20 +96,12 @@ module _ (start : State) (seats : ℕ) where
     w,
     gives,
     tt,
-    record {
-      log = k.log;
-      now = k.now;
-      owner = k.owner;
-      word = 0;
-      run = k.run;
-      below = k.below;
-      words = ap (λ (ws : List ℕ). set ws 0 0) k.words;
-      stands = inl record {
-        homes = ap (put_back s.homes) c.has ∙ (ap (λ (hs : List (mathlib.Core.Option.Option State)). set hs 0 (some c.taken)) has.homes ∙ ap (λ (t : State). some t ∷ []) (sym has.same));
-        none = λ port u at. ⊎_elim (λ here. ap (λ (v : Knows). v.held) (sym here.1)) (λ there. has.others port u there.1 there.0) (at_set s.views id port w u at);
-      };
-      fits = refit_all start seats k.log k.owner s.views id m.0 None me k.fits;
-    },
+    same_log start seats s _ k k.owner 0 (ap (λ (ws : List ℕ). set ws 0 0) k.words)
+        (inl record {
+          homes = ap (put_back s.homes) c.has ∙ (ap (λ (hs : List (mathlib.Core.Option.Option State)). set hs 0 (some c.taken)) has.homes ∙ ap (λ (t : State). some t ∷ []) (sym has.same));
+          none = λ port u at. ⊎_elim (λ here. ap (λ (v : Knows). v.held) (sym here.1)) (λ there. has.others port u there.1 there.0) (at_set s.views id port w u at);
+        })
+        (refit_all start seats k.log k.owner s.views id m.0 None me k.fits),
     ap (λ (slots : List (ℕ × State)). (w, rest slots)) c.has,
   )
     where

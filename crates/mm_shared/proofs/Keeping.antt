@@ -33,7 +33,7 @@ module _ (start : State) (seats : ℕ) where
     run = record { legal = tt; leaves = same };
     below = All-nil (λ (e : Entry). e.seat < seats);
     words = refl;
-    stands = inl record { homes = refl; none = alone };
+    state_is = inl record { homes = refl; none = alone };
     fits = fit;
   }
     where
@@ -68,6 +68,12 @@ module _ (start : State) (seats : ℕ) where
       (subst (Fits seats log owner id) here.1 (refits log owner id v held (fits id v me))))
       (λ there. fits port u there.1) (at_set views id port (knows v.first v.lists held) u at)
 
+  -- the rule of another table, with the same log
+  pub same_log : (s t : Table State Knows) (k : Keeps start seats s) (owner : ℕ → ℕ) (word : ℕ) → t.words ≡ word ∷ [] → IsHome t k.now ⊎ IsOut t word k.now
+      → ((port : ℕ) (v : Knows) → get_elem? t.views port ≡ some v → Fits seats k.log owner port v) → Keeps start seats t
+  same_log s t k owner word words state_is fits =
+      record { log = k.log; now = k.now; owner = owner; word = word; run = k.run; below = k.below; words = words; state_is = state_is; fits = fits }
+
   -- a try of the lock by any change that leaves the word above 0
   pub tries : (n id : ℕ) (m : Seated) (f : ℕ → ℕ) (first second : ℕ) → ((k : ℕ) → 0 < f k) → IsAtRest m → 0 < length m.0.lists
       → Allows (Keeps start seats) n id m 0 f (tried (step_of n 0 first second none) m)
@@ -92,46 +98,29 @@ module _ (start : State) (seats : ℕ) where
             w,
             takes 0 k.now,
             ap (λ (hs : List (mathlib.Core.Option.Option State)). get_elem? hs 0) home.homes,
-            record {
-              log = k.log;
-              now = k.now;
-              owner = k.owner;
-              word = x;
-              run = k.run;
-              below = k.below;
-              words = words_now;
-              stands = inr record {
-                homes = ap (λ (hs : List (mathlib.Core.Option.Option State)). set hs 0 none) home.homes;
-                locked = up (get_or s.words 0 0);
-                port = id;
-                holder = w;
-                at = at_written s.views id m.0 w me;
-                held = refl;
-                seated = some_seat;
-                others = λ other u at apart. ⊎_elim (λ here. absurd (apart here.0)) (λ there. home.none other u there.1) (at_set s.views id other w u at);
-              };
-              fits = refit_all k.log k.owner s.views id m.0 (Some k.now) me k.fits;
-            },
+            same_log s _ k k.owner x words_now
+                (inr record {
+                  homes = ap (λ (hs : List (mathlib.Core.Option.Option State)). set hs 0 none) home.homes;
+                  locked = up (get_or s.words 0 0);
+                  port = id;
+                  holder = w;
+                  at = at_written s.views id m.0 w me;
+                  held = refl;
+                  seated = some_seat;
+                  others = λ other u at apart. ⊎_elim (λ here. absurd (apart here.0)) (λ there. home.none other u there.1) (at_set s.views id other w u at);
+                })
+                (refit_all k.log k.owner s.views id m.0 (Some k.now) me k.fits),
             ((λ zero. (k.now, ap (λ (c : List (ℕ × State)). (w, (0, k.now) ∷ c)) rest.empty)), λ other. absurd (other (found ∙ free))),
           )
 
       -- nothing is taken
       kept : (get_or s.words 0 0 ≢ 0) → IsHome (stepped s 0 x id m.1 m.0 keeps) k.now ⊎ IsOut (stepped s 0 x id m.1 m.0 keeps) x k.now → Can
-      kept busy stands = (
+      kept busy state_is = (
         m.0,
         keeps,
         tt,
-        record {
-          log = k.log;
-          now = k.now;
-          owner = k.owner;
-          word = x;
-          run = k.run;
-          below = k.below;
-          words = words_now;
-          stands = stands;
-          fits = subst (λ (vs : List Knows). (port : ℕ) (v : Knows) → get_elem? vs port ≡ some v → Fits seats k.log k.owner port v) (sym (set_again s.views id m.0 me)) k.fits;
-        },
+        same_log s _ k k.owner x words_now state_is
+            (subst (λ (vs : List Knows). (port : ℕ) (v : Knows) → get_elem? vs port ≡ some v → Fits seats k.log k.owner port v) (sym (set_again s.views id m.0 me)) k.fits),
         ((λ zero. absurd (busy zero)), λ other. refl),
       )
 
@@ -139,7 +128,7 @@ module _ (start : State) (seats : ℕ) where
       same = set_again s.views id m.0 me
 
       by_word : Dec (k.word ≡ 0) → Can
-      by_word (yes free) = ⊎_elim (λ home. taken free home) (λ (out : IsOut s k.word k.now). absurd (let up = out.locked in omega arith)) k.stands
+      by_word (yes free) = ⊎_elim (λ home. taken free home) (λ (out : IsOut s k.word k.now). absurd (let up = out.locked in omega arith)) k.state_is
       by_word (no busy) =
           kept (λ zero. busy (sym found ∙ zero))
           (⊎_elim
@@ -154,7 +143,7 @@ module _ (start : State) (seats : ℕ) where
             seated = out.seated;
             others = subst (NoneElse out.port) (sym same) out.others;
           })
-          k.stands)
+          k.state_is)
 
   -- who holds a state is the only one, and has the state of the rule
   pub record HasIt (t : Table State Knows) (id : ℕ) (taken now : State) : Type 0 where
@@ -165,7 +154,7 @@ module _ (start : State) (seats : ℕ) where
   pub holds : (s : Table State Knows) (k : Keeps start seats s) (id : ℕ) (v : Knows) (taken : State) → get_elem? s.views id ≡ some v → v.held ≡ Some taken
       → HasIt s id taken k.now
   holds s k id v taken me has =
-      ⊎_elim (λ (home : IsHome s k.now). absurd (none-some taken (sym (home.none id v me) ∙ has))) (λ (out : IsOut s k.word k.now). by_port out (ℕ_discrete id out.port)) k.stands
+      ⊎_elim (λ (home : IsHome s k.now). absurd (none-some taken (sym (home.none id v me) ∙ has))) (λ (out : IsOut s k.word k.now). by_port out (ℕ_discrete id out.port)) k.state_is
     where
       by_port : (out : IsOut s k.word k.now) → Dec (id ≡ out.port) → HasIt s id taken k.now
       by_port out (yes same) =

@@ -6,7 +6,7 @@ pub mod Parting
 pub mod Ending
 pub mod Defaults
 pub mod Places
-pub mod Handing
+pub mod OneWorker
 pub mod Workers
 pub mod Closing
 pub mod StillOpen

@@ -14,7 +14,7 @@ use Rattle.mm_shared.specs.declared.rule.Knows.{Knows}
 use Rattle.mm_shared.specs.Rule.{knows, Fits, IsHome, IsOut, Keeps}
 use Rattle.mm_shared.specs.Steps.{first_of, others_of, joined}
 use Rattle.mm_shared.proofs.Lists.{at_end}
-use Rattle.mm_shared.proofs.Keeping.{none-some}
+use Rattle.mm_shared.proofs.Keeping.{none-some, same_log}
 
 module _ (start : State) (seats : ℕ) where
   -- who is the owner once the seat at a place has a new one
@@ -52,17 +52,7 @@ module _ (start : State) (seats : ℕ) where
 
   -- the first seat of a view at rest is parted from the others
   pub splits : (id : ℕ) (v : Knows) → v.held ≡ None → 0 < length v.lists → Splits (Keeps start seats) id v (others_of v) (first_of v)
-  splits id v rest some_seat s k me = record {
-    log = k.log;
-    now = k.now;
-    owner = owner;
-    word = k.word;
-    run = k.run;
-    below = k.below;
-    words = k.words;
-    stands = stands;
-    fits = fits;
-  }
+  splits id v rest some_seat s k me = same_log start seats s _ k owner k.word k.words state_is fits
     where
       views : List Knows
       views = set s.views id (others_of v)
@@ -84,8 +74,8 @@ module _ (start : State) (seats : ℕ) where
           ⊎_elim (λ there. ⊎_elim (λ here. subst P here.1 left) (λ other. old other.0 other.1) (at_set s.views id port (others_of v) u there))
           (λ last. subst P last.1 right) (at_end views (first_of v) u port at)
 
-      stands : IsHome record { words = s.words; homes = s.homes; views = views ++ first_of v ∷ [] } k.now ⊎ IsOut record { words = s.words; homes = s.homes; views = views ++ first_of v ∷ [] } k.word k.now
-      stands =
+      state_is : IsHome record { words = s.words; homes = s.homes; views = views ++ first_of v ∷ [] } k.now ⊎ IsOut record { words = s.words; homes = s.homes; views = views ++ first_of v ∷ [] } k.word k.now
+      state_is =
           ⊎_elim
           (λ (home : IsHome s k.now). inl record {
             homes = home.homes;
@@ -101,7 +91,7 @@ module _ (start : State) (seats : ℕ) where
             seated = out.seated;
             others = λ port u at other. empty (λ (u : Knows). u.held ≡ None) rest refl port u (λ not_me old. out.others port u old other) at;
           })
-          k.stands
+          k.state_is
         where
           apart : (out : IsOut s k.word k.now) → out.port ≢ id
           apart out same =
@@ -133,17 +123,7 @@ module _ (start : State) (seats : ℕ) where
   -- seats are put before those of a view at rest
   pub joins : (id : ℕ) (v : Knows) (other : ℕ) (w : Knows) → v.held ≡ None → w.held ≡ None → w.first + length w.lists ≡ v.first
       → Joins (Keeps start seats) id v other w (joined v w) (knows 0 [] None)
-  joins id v other w v_rest w_rest next s k me apart at_other = record {
-    log = k.log;
-    now = k.now;
-    owner = owner;
-    word = k.word;
-    run = k.run;
-    below = k.below;
-    words = k.words;
-    stands = stands;
-    fits = fits;
-  }
+  joins id v other w v_rest w_rest next s k me apart at_other = same_log start seats s _ k owner k.word k.words state_is fits
     where
       both : Knows
       both = joined v w
@@ -181,8 +161,8 @@ module _ (start : State) (seats : ℕ) where
           let one : out.holder ≡ u = some-injective out.holder u (sym out.at ∙ (ap (λ (i : ℕ). get_elem? s.views i) same ∙ at)) in
           none-some k.now (sym rest ∙ (ap (λ (x : Knows). x.held) (sym one) ∙ out.held))
 
-      stands : IsHome record { words = s.words; homes = s.homes; views = views } k.now ⊎ IsOut record { words = s.words; homes = s.homes; views = views } k.word k.now
-      stands =
+      state_is : IsHome record { words = s.words; homes = s.homes; views = views } k.now ⊎ IsOut record { words = s.words; homes = s.homes; views = views } k.word k.now
+      state_is =
           ⊎_elim
           (λ (home : IsHome s k.now). inl record {
             homes = home.homes;
@@ -198,7 +178,7 @@ module _ (start : State) (seats : ℕ) where
             seated = out.seated;
             others = λ port u at not_it. each (λ (p : ℕ) (u : Knows). u.held ≡ None) v_rest refl port u (λ not_me not_you old. out.others port u old not_it) at;
           })
-          k.stands
+          k.state_is
 
       moved : (i : ℕ) → k.owner i ≡ other → owner i ≡ id
       moved i is = rw (eq-eqb (k.owner i) other is) refl

@@ -1,10 +1,10 @@
 -- The index of the one store with an identifier.
-use Rattle.std.proofs.Common.{◌≡◌, ◌⊎◌, inl, inr, ℕ, ◌<◌, ◌≤◌, ◌==◌, Bool, true, false, cond, ltb, not, List, [], length, get_or, Option, Some, None, MatchOption, IfSome, IfNone, bytes_eq, refl, sym, subst, ◌∙◌, arith}
+use Rattle.std.proofs.Common.{◌≡◌, ◌⊎◌, inl, inr, ℕ, ◌<◌, ◌≤◌, ◌==◌, Bool, true, false, cond, ltb, List, [], length, get_or, Option, Some, None, MatchOption, IfSome, IfNone, bytes_eq, refl, sym, subst, ◌∙◌, arith}
 use Rattle.std.specs.List.{position_or_len}
 use Rattle.std.proofs.lemmas.Bool.{cases_order, eq-eqb, ne_eqb}
 use Rattle.std.proofs.lemmas.Bool.Decides.{nat_tests}
 use Rattle.std.proofs.lemmas.List.{get_or-map, length-map}
-use Rattle.std.proofs.lemmas.List.Sums.{fails_before_first, prefix_len_stops}
+use Rattle.std.proofs.lemmas.List.Sums.{fails_before_first, passes_at_first}
 use Rattle.std.proofs.lemmas.Slice.Eq.{bytes_eq-Decides}
 use Rattle.mm_shared.specs.declared.stores.NamedStore.{NamedStore}
 use Rattle.mm_shared.specs.Stores.{AreNamed, ids_of, id_at}
@@ -13,15 +13,6 @@ use Rattle.mm_shared.proofs.Defaults.{no_store}
 -- the store has the identifier
 abbrev pub is_named : List ℕ → NamedStore → Bool
 is_named id s = bytes_eq s.id id
-
--- what is not false is true
-not_false : (b : Bool) → not b ≡ false → b ≡ true
-not_false true e = refl
-not_false false e = sym e
-
--- the first that passes does
-first_passes : (p : NamedStore → Bool) (xs : List NamedStore) → position_or_len p xs < length xs → p (get_or xs (position_or_len p xs) no_store) ≡ true
-first_passes p xs within = not_false (p (get_or xs (position_or_len p xs) no_store)) (prefix_len_stops (λ x. not (p x)) xs no_store within)
 
 module _ (id : List ℕ) (stores : List NamedStore) (named : AreNamed (ids_of stores)) where
   abbrev first : ℕ
@@ -40,7 +31,7 @@ module _ (id : List ℕ) (stores : List NamedStore) (named : AreNamed (ids_of st
   before j within earlier = rw (at j within) (fails_before_first (is_named id) stores j no_store earlier)
 
   here : first < length stores → bytes_eq (id_at (ids_of stores) first) id ≡ true
-  here within = rw (at first within) (first_passes (is_named id) stores within)
+  here within = rw (at first within) (passes_at_first (is_named id) stores no_store within)
 
   after : (j : ℕ) → j < length stores → first < j → bytes_eq (id_at (ids_of stores) j) id ≡ false
   after j within later = by_test (bytes_eq (id_at (ids_of stores) j) id) refl

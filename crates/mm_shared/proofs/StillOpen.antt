@@ -61,8 +61,8 @@ still_open it workers are same = record {
   workers = λ i d within.
       let inside : i < length it.workers.items = omega (arith, many) in
       same_worker it.stores.items (0 + i) (get_or it.workers.items i d).lines.items (get_or workers.items i d).lines.items (ends i d inside) (are.workers i d inside);
-  spare_count = are.spare_count;
-  spare = λ k s p within. subst (λ (n : ℕ). (get_or it.spare.items k p).ports ≡ no_ports (get_or it.stores.items k s).store.id n) (sym many) (are.spare k s p within);
+  free_count = are.free_count;
+  free = λ k s p within. subst (λ (n : ℕ). (get_or it.free.items k p).ports ≡ no_ports (get_or it.stores.items k s).store.id n) (sym many) (are.free k s p within);
   empty = are.empty;
   room = are.room;
 }

@@ -2,4 +2,4 @@ pub mod Views
 pub mod Rule
 pub mod Steps
 pub mod Stores
-pub mod Spares
+pub mod FreePorts

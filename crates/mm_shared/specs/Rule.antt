@@ -53,5 +53,5 @@ pub record Keeps (opening : State) (seats : ℕ) (t : Table State Knows) : Type 
   pub run : IsRun opening log now
   pub below : AreBelow seats log
   pub words : t.words ≡ word ∷ []
-  pub stands : IsHome t now ⊎ IsOut t word now
+  pub state_is : IsHome t now ⊎ IsOut t word now
   pub fits : (port : ℕ) (v : Knows) → get_elem? t.views port ≡ some v → Fits seats log owner port v

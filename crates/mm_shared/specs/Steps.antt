@@ -1,5 +1,6 @@
 -- What one step with a shared store's seat does to it. No public clause cites this module.
 use Rattle.std.specs.Prelude.{◌≡◌, ◌≢◌, ℕ, ◌+◌, ◌<◌, List, [], ◌∷◌, ◌++◌, length, Some, None, slice_index_or, drop}
+use Rattle.atomic_table.specs.declared.shared.Seat.{Seat}
 use Rattle.atomic_table.specs.Table.{Me, Step}
 use Rattle.atomic_table.specs.Seated.{TableId}
 use Rattle.mm_desk.specs.declared.entry.Entry.{Entry}
@@ -42,10 +43,11 @@ pub record IsAsTaken (m : Seated) : Type 0 where
   pub held : m.0.held ≡ Some taken
   pub has : m.1 ≡ (0, taken) ∷ []
 
--- the seat holds some state
-pub record HasState (m : Seated) : Type 0 where
+-- a seat of this table, which holds a state
+pub record HoldsAt (id : TableId) (seat : Seat State Knows) : Type 0 where
+  pub of : seat.table_id ≡ id
   pub now : State
-  pub has : m.1 ≡ (0, now) ∷ []
+  pub has : seat.me.1 ≡ (0, now) ∷ []
 
 -- the first list with one call more
 abbrev pub lists_with : ℕ → List (List Entry) → Event → Reply → List (List Entry)
@@ -65,12 +67,13 @@ pub record HasCalled (event : Event) (reply : Reply) (m : Seated) : Type 0 where
   pub seated : 0 < length m.0.lists
   pub stepped : step taken event ≡ (reply, now)
 
--- the state that is held goes by this event, with this reply
-pub record HeldSteps (m : Seated) (event : Event) (reply : Reply) (n : Seated) : Type 0 where
+-- the state that the seat holds goes by this event, with this reply
+pub record HeldSteps (seat : Seat State Knows) (event : Event) (reply : Reply) (after : Seat State Knows) : Type 0 where
+  pub of : after.table_id ≡ seat.table_id
   pub old : State
   pub new : State
-  pub had : m.1 ≡ (0, old) ∷ []
-  pub has : n ≡ (m.0, (0, new) ∷ [])
+  pub had : seat.me.1 ≡ (0, old) ∷ []
+  pub has : after.me ≡ (seat.me.0, (0, new) ∷ [])
   pub stepped : step old event ≡ (reply, new)
 
 -- a try of the lock: the state is held where the word was 0

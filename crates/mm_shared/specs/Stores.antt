@@ -8,7 +8,7 @@ use Rattle.atomic_table.specs.Seated.{TableId}
 use Rattle.mm_shared.specs.Views.{StoreView, PortsView, HasLegalLog}
 use Rattle.mm_shared.specs.declared.lines.Line.{Line}
 use Rattle.mm_shared.specs.declared.lines.Lines.{Lines}
-use Rattle.mm_shared.specs.declared.lines.Spare.{Spare}
+use Rattle.mm_shared.specs.declared.lines.FreePorts.{FreePorts}
 use Rattle.mm_shared.specs.declared.stores.NamedStore.{NamedStore}
 use Rattle.mm_shared.specs.declared.stores.OpenStores.{OpenStores}
 
@@ -83,9 +83,9 @@ openings_of stores = map (λ s. s.store.opening) stores
 pub record AreOpen (it : OpenStores) : Type 0 where
   pub seats : All (λ s. s.store.seats ≡ length it.workers.items) it.stores.items
   pub workers : AreWorkers it.stores.items 0 it.workers.items
-  pub spare_count : length it.spare.items ≡ length it.stores.items
-  pub spare : (k : ℕ) (s : NamedStore) (p : Spare) → k < length it.stores.items
-      → (slice_index_or it.spare.items k p).ports ≡ no_ports (slice_index_or it.stores.items k s).store.id (length it.workers.items)
+  pub free_count : length it.free.items ≡ length it.stores.items
+  pub free : (k : ℕ) (s : NamedStore) (p : FreePorts) → k < length it.stores.items
+      → (slice_index_or it.free.items k p).ports ≡ no_ports (slice_index_or it.stores.items k s).store.id (length it.workers.items)
   pub empty : it.room.items ≡ []
   pub room : length it.stores.items ≤ vec_capacity it.room
 

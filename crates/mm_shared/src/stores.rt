@@ -3,9 +3,9 @@ ghost use Rattle.std.specs.Prelude.{◌≡◌, ℕ, ◌<◌, ◌≤◌, ◌==◌
 ghost use Rattle.mm_base.specs.declared.limits.TheConstants.{MAX_STORES};
 ghost use Rattle.mm_desk.specs.Machine.{IsState};
 ghost use Rattle.mm_shared.specs.Stores.{states_of, labels_of, names_of, openings_of, ids_of, id_at, AreNamed, AreOpen, AreNew, HaveLegalLogs};
-ghost use Rattle.mm_shared.specs.Spares.{AreFresh, HaveAll, WentBack};
+ghost use Rattle.mm_shared.specs.FreePorts.{AreFresh, HaveAll, AllReturned};
 
-use crate::lines::{Line, Lines, Spare, give_all, new_workers, take_all};
+use crate::lines::{FreePorts, Line, Lines, give_all, new_workers, take_all};
 use crate::store::SharedStore;
 use mm_base::{NoMemory, StoreId};
 use mm_desk::Held;
@@ -25,7 +25,7 @@ pub struct NamedStore {
 pub struct OpenStores {
     pub stores: Vec<NamedStore>,
     pub workers: Vec<Lines>,
-    pub(crate) spare: Vec<Spare>,
+    pub(crate) free: Vec<FreePorts>,
     pub(crate) room: Vec<Held>,
 }
 
@@ -40,21 +40,21 @@ pub fn place_of(stores: &[NamedStore], id: &StoreId) -> Option<usize>
 }
 
 // Closes stores of which all ports are there, and gives them back.
-fn close_each(opened: &mut Vec<NamedStore>, spare: &mut Vec<Spare>, stores: &mut Vec<Held>)
-    requires all { HaveAll opened.old.items spare.old.items }
+fn close_each(opened: &mut Vec<NamedStore>, free: &mut Vec<FreePorts>, stores: &mut Vec<Held>)
+    requires all { HaveAll opened.old.items free.old.items }
     requires none { stores.old.items ≡ [] }
     requires room { vec_len opened.old ≤ vec_capacity stores.old }
-    ensures back { WentBack opened.old.items spare.old.items stores.new.items }
-    ensures emptied { (opened.new.items ≡ []) × (spare.new.items ≡ []) }
+    ensures back { AllReturned opened.old.items free.old.items stores.new.items }
+    ensures emptied { (opened.new.items ≡ []) × (free.new.items ≡ []) }
     ensures capacity { vec_capacity stores.new ≡ vec_capacity stores.old }
 {
     let Some(named) = opened.pop() else {
         return;
     };
-    let Some(all) = spare.pop() else {
+    let Some(all) = free.pop() else {
         unreachable!()
     };
-    close_each(opened, spare, stores);
+    close_each(opened, free, stores);
     let NamedStore { id, channel, store } = named;
     let state = store.close(all.ports);
     stores.push_reserved(Held { id, channel, state });
@@ -65,23 +65,23 @@ fn open_each(
     alloc: Global,
     stores: &mut Vec<Held>,
     opened: &mut Vec<NamedStore>,
-    spare: &mut Vec<Spare>,
+    free: &mut Vec<FreePorts>,
     seats: u32,
 ) -> Result<(), NoMemory>
     requires few { vec_len stores.old ≤ MAX_STORES }
-    requires none { (opened.old.items ≡ []) × (spare.old.items ≡ []) }
-    requires room { (vec_len stores.old ≤ vec_capacity opened.old) × (vec_len stores.old ≤ vec_capacity spare.old) }
-    ensures ok { OnOk result (AreFresh stores.old.items seats opened.new.items spare.new.items) }
+    requires none { (opened.old.items ≡ []) × (free.old.items ≡ []) }
+    requires room { (vec_len stores.old ≤ vec_capacity opened.old) × (vec_len stores.old ≤ vec_capacity free.old) }
+    ensures ok { OnOk result (AreFresh stores.old.items seats opened.new.items free.new.items) }
     ensures emptied { OnOk result (stores.new.items ≡ []) }
     ensures err { OnErr result (stores.new.items ≡ stores.old.items) }
     ensures stores { vec_capacity stores.new ≡ vec_capacity stores.old }
     ensures opened { OnOk result (vec_capacity opened.new ≡ vec_capacity opened.old) }
-    ensures spare { OnOk result (vec_capacity spare.new ≡ vec_capacity spare.old) }
+    ensures free { OnOk result (vec_capacity free.new ≡ vec_capacity free.old) }
 {
     let Some(held) = stores.pop() else {
         return Ok(());
     };
-    if let Err(lack) = open_each(alloc, stores, opened, spare, seats) {
+    if let Err(lack) = open_each(alloc, stores, opened, free, seats) {
         stores.push_reserved(held);
         return Err(lack);
     }
@@ -90,11 +90,11 @@ fn open_each(
     match SharedStore::open(alloc, state, seats) {
         Ok((store, ports)) => {
             opened.push_reserved(NamedStore { id, channel, store });
-            spare.push_reserved(Spare { ports, index });
+            free.push_reserved(FreePorts { ports, index });
             Ok(())
         }
         Err((state, lack)) => {
-            close_each(opened, spare, stores);
+            close_each(opened, free, stores);
             stores.push_reserved(Held { id, channel, state });
             Err(lack)
         }
@@ -110,14 +110,14 @@ pub fn open_all(alloc: Global, stores: &mut Vec<Held>, workers: u32) -> Result<O
     let count = stores.len();
     let mut list = new_workers(alloc, workers, count)?;
     let mut opened = Vec::with_capacity(alloc, count)?;
-    let mut spare = Vec::with_capacity(alloc, count)?;
-    open_each(alloc, stores, &mut opened, &mut spare, workers)?;
-    give_all(&opened, &mut spare, &mut list);
+    let mut free = Vec::with_capacity(alloc, count)?;
+    open_each(alloc, stores, &mut opened, &mut free, workers)?;
+    give_all(&opened, &mut free, &mut list);
     let room = replace(stores, Vec::new(alloc));
     Ok(OpenStores {
         stores: opened,
         workers: list,
-        spare,
+        free,
         room,
     })
 }
@@ -132,10 +132,10 @@ pub fn close_all(opened: OpenStores, stores: &mut Vec<Held>)
     let OpenStores {
         stores: mut opened,
         workers,
-        mut spare,
+        mut free,
         mut room,
     } = opened;
-    take_all(&opened, &mut spare, workers);
-    close_each(&mut opened, &mut spare, &mut room);
+    take_all(&opened, &mut free, workers);
+    close_each(&mut opened, &mut free, &mut room);
     *stores = room;
 }

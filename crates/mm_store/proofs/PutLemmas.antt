@@ -1,5 +1,5 @@
 -- What a put leaves is a store.
-use Rattle.std.proofs.Common.{◌≡◌, ℕ, ◌+◌, ◌^◌, ◌<◌, ◌≤◌, ◌==◌, List, [], ◌∷◌, ◌++◌, length, max, All, refl, inl, inr, arith}
+use Rattle.std.proofs.Common.{◌≡◌, ℕ, ◌+◌, ◌^◌, ◌<◌, ◌≤◌, ◌==◌, List, [], ◌∷◌, ◌++◌, length, max, All, refl, inl, inr, subst, arith}
 use Rattle.std.proofs.lemmas.Bool.{cases_Bool, cases_lt, lt-ltb, le-ltb}
 use Rattle.std.proofs.lemmas.Bool.Decides.{nat_tests}
 use Rattle.std.proofs.lemmas.List.{length_push}
@@ -39,6 +39,16 @@ module _ (s : Store) (new : Stored) (sound : IsStore s) (later : s.last < new.ti
       (All-tail (λ p. 1 ≤ p.time) oldest later_ones (rw held at sound.from_one))
       (All-tail (λ p. p.time ≤ s.last) oldest later_ones (rw held at sound.up_to_last))
       (let within = rw held at sound.within in omega (arith, within))
+
+  -- a full store that gave up its oldest packet for the newest
+  pub IsStore-replaced : (oldest : Stored) (left : List Stored) → s.size ≤ length s.content → s.content ++ new ∷ [] ≡ oldest ∷ left → IsStore (record s { last = new.time; content = left })
+  IsStore-replaced oldest left full replaced = by_content s.content refl full replaced
+    where
+      by_content : (content : List Stored) → s.content ≡ content → s.size ≤ length content → content ++ new ∷ [] ≡ oldest ∷ left → IsStore (record s { last = new.time; content = left })
+      by_content [] held all is = absurd (omega (arith, sound.has_room))
+      by_content (first ∷ others) held all is =
+          let same : others ++ new ∷ [] ≡ left = cc in
+          subst (λ (xs : List Stored). IsStore (record s { last = new.time; content = xs })) same (IsStore-put_full Circular (first ∷ others) held)
 
   IsStore-put_timed : IsStore (put_timed s new).1
   IsStore-put_timed = elim (cases_lt (length s.content) s.size) [

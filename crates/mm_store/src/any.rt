@@ -3,11 +3,11 @@ ghost use Rattle.std.specs.Prelude.{◌≡◌, ◌<◌, ◌≤◌, ◌↔◌, le
 ghost use Rattle.mm_store.specs.Content.{empty_store};
 ghost use Rattle.mm_store.specs.declared.fault.Fault.TheVariants.{HoldsMore};
 
-use crate::blocks::BlockStore;
 use crate::fault::Fault;
 use crate::put::Put;
 use crate::ring::RingStore;
 use crate::store::PacketStore;
+use crate::table::BlockStore;
 use mm_base::{Kind, MAX_BLOCKS, NoMemory};
 use mm_packet::BlockPacket;
 use std::alloc::Global;
@@ -23,6 +23,16 @@ pub struct AnyStore {
 enum Form {
     Ring(RingStore),
     Blocks(BlockStore),
+}
+
+// What a call gives for the store of either form.
+macro_rules! of_store {
+    ($form:expr; $store:ident => $call:expr) => {
+        match $form {
+            Form::Ring($store) => $call,
+            Form::Blocks($store) => $call,
+        }
+    };
 }
 
 impl Model for AnyStore {
@@ -59,10 +69,7 @@ impl AnyStore {
         ensures holds_more { (result ≡ Err HoldsMore) ↔ (size < length self.old.content) }
         ensures err { OnErr result (self.new ≡ self.old) }
     {
-        match &mut self.form {
-            Form::Ring(ring) => ring.resize(size),
-            Form::Blocks(blocks) => blocks.resize(size),
-        }
+        of_store!(&mut self.form; store => store.resize(size))
     }
 
     /// Sets the kind, and keeps all else. A store that has the kind takes no memory.
@@ -90,65 +97,38 @@ impl PacketStore for AnyStore {
     ghost store = { λ s. s };
 
     fn put(&mut self, now: u64, packet: BlockPacket) -> Put {
-        match &mut self.form {
-            Form::Ring(ring) => ring.put(now, packet),
-            Form::Blocks(blocks) => blocks.put(now, packet),
-        }
+        of_store!(&mut self.form; store => store.put(now, packet))
     }
 
     fn first_in(&self, from: u64, to: u64, after: u64) -> Option<(u64, &BlockPacket)> {
-        match &self.form {
-            Form::Ring(ring) => ring.first_in(from, to, after),
-            Form::Blocks(blocks) => blocks.first_in(from, to, after),
-        }
+        of_store!(&self.form; store => store.first_in(from, to, after))
     }
 
     fn delete_up_to(&mut self, limit: u64) -> u32 {
-        match &mut self.form {
-            Form::Ring(ring) => ring.delete_up_to(limit),
-            Form::Blocks(blocks) => blocks.delete_up_to(limit),
-        }
+        of_store!(&mut self.form; store => store.delete_up_to(limit))
     }
 
     fn len(&self) -> u32 {
-        match &self.form {
-            Form::Ring(ring) => ring.len(),
-            Form::Blocks(blocks) => blocks.len(),
-        }
+        of_store!(&self.form; store => store.len())
     }
 
     fn oldest(&self) -> u64 {
-        match &self.form {
-            Form::Ring(ring) => ring.oldest(),
-            Form::Blocks(blocks) => blocks.oldest(),
-        }
+        of_store!(&self.form; store => store.oldest())
     }
 
     fn newest(&self) -> u64 {
-        match &self.form {
-            Form::Ring(ring) => ring.newest(),
-            Form::Blocks(blocks) => blocks.newest(),
-        }
+        of_store!(&self.form; store => store.newest())
     }
 
     fn kind(&self) -> Kind {
-        match &self.form {
-            Form::Ring(ring) => ring.kind(),
-            Form::Blocks(blocks) => blocks.kind(),
-        }
+        of_store!(&self.form; store => store.kind())
     }
 
     fn size(&self) -> u32 {
-        match &self.form {
-            Form::Ring(ring) => ring.size(),
-            Form::Blocks(blocks) => blocks.size(),
-        }
+        of_store!(&self.form; store => store.size())
     }
 
     fn last_time(&self) -> u64 {
-        match &self.form {
-            Form::Ring(ring) => ring.last_time(),
-            Form::Blocks(blocks) => blocks.last_time(),
-        }
+        of_store!(&self.form; store => store.last_time())
     }
 }

@@ -1,22 +1,39 @@
 //! Queues of packets, and the reading and deleting of packets that every queue serves alike.
-ghost use Rattle.std.specs.Prelude.{◌≡◌, ◌+◌, ◌<◌, ◌≤◌, ◌↔◌, [], ◌∷◌, ◌++◌, length, take, drop, slice_get, All, IsTrue};
+ghost use Rattle.std.specs.Prelude.{◌≡◌, ◌+◌, ◌<◌, ◌≤◌, ◌↔◌, [], ◌∷◌, ◌++◌, length, take, drop, slice_get, All, IsTrue, IfOk, OnOk, OnErr};
 ghost use Rattle.circular_buffer.specs.Buffer.{Buffer, buffer};
+ghost use Rattle.mm_base.specs.declared.kind.Kind.{Kind};
 ghost use Rattle.mm_store.specs.declared.stored.Stored.{Stored};
 ghost use Rattle.mm_store.specs.Content.{IsRising, first_in, shown, kept_after, count_up_to, oldest, newest};
 ghost use Rattle.mm_store.specs.Queue.{begins_by, IsPlaceAfter};
 
 use crate::stored::Stored;
-use circular_buffer::HeapCircularBuffer;
+use mm_base::Kind;
 use mm_packet::BlockPacket;
+use std::alloc::{AllocError, Global};
 
-// A queue of packets with their times, with room for a fixed number of them. It takes no memory.
-pub(crate) trait PacketQueue {
+/// A queue of packets with their times, with room for a fixed number of them. All its memory is taken when it is made.
+pub trait PacketQueue: Drop + Sized {
     ghost held: { Self → Buffer Stored };
+
+    ghost kind: { Kind };
+
+    /// The kind of the stores over such queues.
+    fn kind() -> Kind
+        ensures kind { result ≡ kind };
+
+    /// An empty queue with room for this many packets.
+    fn with_room(alloc: Global, room: u32) -> Result<Self, AllocError>
+        ensures empty { IfOk result (λ queue. held queue ≡ buffer [] room) };
+
+    fn allocator(&self) -> Global;
 
     fn len(&self) -> usize
         ensures len { result ≡ length (held self.now).items };
 
-    // The packet at this place, counted from the oldest.
+    fn capacity(&self) -> usize
+        ensures capacity { result ≡ (held self.now).capacity };
+
+    /// The packet at this place, counted from the oldest.
     fn at(&self, place: usize) -> &Stored
         requires { place < length (held self.now).items }
         ensures at { slice_get (held self.now).items place ≡ Some result.now };
@@ -29,25 +46,17 @@ pub(crate) trait PacketQueue {
         requires { 0 < length (held self.old).items }
         ensures oldest { (held self.old).items ≡ result ∷ (held self.new).items }
         ensures capacity { (held self.new).capacity ≡ (held self.old).capacity };
-}
 
-impl PacketQueue for HeapCircularBuffer<Stored> {
-    ghost held = { λ b. b };
-
-    fn len(&self) -> usize {
-        self.len()
-    }
-
-    fn at(&self, place: usize) -> &Stored {
-        self.get(place).unwrap()
-    }
-
-    fn append(&mut self, newest: Stored) {
-        let _overwritten = self.push_back(newest);
-    }
-
-    fn take_oldest(&mut self) -> Stored {
-        self.pop_front().unwrap()
+    /// Appends the packet, and takes the oldest for it.
+    fn replace_oldest(&mut self, newest: Stored) -> Stored
+        requires some { 0 < length (held self.old).items }
+        requires full { length (held self.old).items ≡ (held self.old).capacity }
+        ensures replaced { (held self.old).items ++ newest ∷ [] ≡ result ∷ (held self.new).items }
+        ensures capacity { (held self.new).capacity ≡ (held self.old).capacity }
+    {
+        let oldest = self.take_oldest();
+        self.append(newest);
+        oldest
     }
 }
 
@@ -179,7 +188,7 @@ pub(crate) fn newest<Q: PacketQueue>(queue: &Q) -> u64
 }
 
 // Moves all packets of one queue to the end of another, in their order.
-pub(crate) fn move_all<F: PacketQueue, T: PacketQueue>(from: &mut F, to: &mut T)
+fn move_all<F: PacketQueue, T: PacketQueue>(from: &mut F, to: &mut T)
     requires { length (T.held to.old).items + length (F.held from.old).items ≤ (T.held to.old).capacity }
     ensures moved { T.held to.new ≡ buffer ((T.held to.old).items ++ (F.held from.old).items) (T.held to.old).capacity }
     ensures emptied { F.held from.new ≡ buffer [] (F.held from.old).capacity }
@@ -187,4 +196,19 @@ pub(crate) fn move_all<F: PacketQueue, T: PacketQueue>(from: &mut F, to: &mut T)
     while from.len() > 0 {
         to.append(from.take_oldest());
     }
+}
+
+// A queue with room for this many packets, with all that the other holds, which is empty then.
+pub(crate) fn moved<F: PacketQueue, T: PacketQueue>(
+    from: &mut F,
+    room: u32,
+) -> Result<T, AllocError>
+    requires { length (F.held from.old).items ≤ room }
+    ensures moved { IfOk result (λ to. T.held to ≡ buffer (F.held from.old).items room) }
+    ensures emptied { OnOk result (F.held from.new ≡ buffer [] (F.held from.old).capacity) }
+    ensures err { OnErr result (from.new ≡ from.old) }
+{
+    let mut to = T::with_room(from.allocator(), room)?;
+    move_all(from, &mut to);
+    Ok(to)
 }

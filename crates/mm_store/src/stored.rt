@@ -12,6 +12,7 @@ pub struct Stored {
 
 impl Stored {
     /// Whether two stored packets are equal, with their times. It takes no memory.
+    #[must_use]
     pub fn is(&self, other: &Stored) -> bool
         ensures equal { IsTrue result ↔ (self.now ≡ other.now) }
     {

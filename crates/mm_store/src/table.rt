@@ -1,16 +1,20 @@
-//! A queue of packets in a table of blocks.
-ghost use Rattle.std.specs.Prelude.{◌≡◌, [], IfOk};
-ghost use Rattle.circular_buffer.specs.Buffer.{buffer};
+//! Bounded packet stores.
+ghost use Rattle.mm_base.specs.declared.kind.Kind.TheVariants.{Bounded};
 
 use crate::queue::PacketQueue;
+use crate::queue_store::QueueStore;
 use crate::stored::Stored;
+use mm_base::Kind;
 use std::alloc::{AllocError, Global};
 use std::collections::VecDeque;
 use std::marker::Model;
 
-// A table of blocks, each with room for one packet. Contracts see the packets in storage order and how many there may be.
+/// A bounded packet store (ECSS-E-ST-70-41C, 6.15), kept in a table of as many blocks as its size.
+pub type BlockStore = QueueStore<BlockTable>;
+
+/// A table of blocks, each with room for one packet. Contracts see the packets in storage order and how many there may be.
 #[derive(Drop)]
-pub(crate) struct BlockTable {
+pub struct BlockTable {
     blocks: Vec<Option<Stored>>,
     // The numbers of the blocks in use, in storage order.
     queue: VecDeque<u32>,
@@ -32,15 +36,20 @@ impl Model for BlockTable {
     ghost invariant = { λ a. IsReserved a.blocks.items a.queue.items a.free.items (deque_capacity a.queue) (vec_capacity a.free) };
 }
 
-impl BlockTable {
-    // A table of this many free blocks.
-    pub(crate) fn with_room(alloc: Global, size: u32) -> Result<BlockTable, AllocError>
-        ensures empty { IfOk result (λ table. table ≡ buffer [] size) }
-    {
-        let mut blocks = Vec::with_capacity(alloc, size as usize)?;
-        let queue = VecDeque::with_capacity(alloc, size as usize)?;
-        let mut free = Vec::with_capacity(alloc, size as usize)?;
-        for number in 0..size {
+impl PacketQueue for BlockTable {
+    ghost held = { λ b. b };
+
+    ghost kind = { Bounded };
+
+    fn kind() -> Kind {
+        Kind::Bounded
+    }
+
+    fn with_room(alloc: Global, room: u32) -> Result<BlockTable, AllocError> {
+        let mut blocks = Vec::with_capacity(alloc, room as usize)?;
+        let queue = VecDeque::with_capacity(alloc, room as usize)?;
+        let mut free = Vec::with_capacity(alloc, room as usize)?;
+        for number in 0..room {
             blocks.push_reserved(None);
             free.push_reserved(number);
         }
@@ -51,22 +60,16 @@ impl BlockTable {
         })
     }
 
-    pub(crate) fn allocator(&self) -> Global {
+    fn allocator(&self) -> Global {
         *self.free.allocator()
     }
 
-    pub(crate) fn size(&self) -> usize
-        ensures size { result ≡ self.now.capacity }
-    {
-        self.blocks.len()
-    }
-}
-
-impl PacketQueue for BlockTable {
-    ghost held = { λ b. b };
-
     fn len(&self) -> usize {
         self.queue.len()
+    }
+
+    fn capacity(&self) -> usize {
+        self.blocks.len()
     }
 
     fn at(&self, place: usize) -> &Stored {

@@ -2,28 +2,4 @@
 #![tactic(auto)]
 
 #[cfg(test)]
-mod desks;
-#[cfg(test)]
-mod dumps;
-#[cfg(test)]
-mod gates;
-#[cfg(test)]
-mod links;
-#[cfg(test)]
-mod records;
-#[cfg(test)]
-mod reports;
-#[cfg(test)]
-mod runs;
-#[cfg(test)]
-mod samples;
-#[cfg(test)]
-mod scripts;
-#[cfg(test)]
-mod shared;
-#[cfg(test)]
-mod sources;
-#[cfg(test)]
-mod states;
-#[cfg(test)]
-mod told;
+mod tests;

@@ -1,10 +1,10 @@
 use Rattle.std.proofs.Common.{◌≡◌, ◌-◌, length, take, drop, rules, of_calls, arith, length-drop}
 use Rattle.std.proofs.lemmas.List.{take_all}
 use Rattle.std.proofs.lemmas.List.Sorted.{IsPartitionPoint-from_clause}
-use Rattle.std.specs.Ordering.{is_lt, is_le}
+use Rattle.std.specs.Ordering.{is_lt}
 use Rattle.mm_base.specs.declared.rows.RouteRow.{RouteRow}
 use Rattle.mm_control.specs.Routes.{type_cmp}
-use Rattle.mm_control.proofs.RunLemmas.{parted_before, parted_upto, run_is}
+use Rattle.mm_control.proofs.RunLemmas.{parted_before, run_is}
 use Rattle.mm_control.proofs.table.rows_for.Goals as goal
 
 pub returns : goal.returns
@@ -18,6 +18,4 @@ returns c =
     let rest_is : rest ≡ drop start rows = take_all (length rows - start) (drop start rows) (omega (arith, length-drop start rows)) in
     let first = IsPartitionPoint-from_clause (λ (r : RouteRow). is_lt (type_cmp apid service subtype r)) rows start c.partition_point-start.ensures.partitioned
     (parted_before apid service subtype rows c.requires) (λ a r f' called. search (rules, of_calls)) in
-    let last = IsPartitionPoint-from_clause (λ (r : RouteRow). is_le (type_cmp apid service subtype r)) rest c.partition_point-len.result c.partition_point-len.ensures.partitioned
-    (parted_upto apid service subtype rows rest start rest_is c.requires) (λ a r f' called. search (rules, of_calls)) in
-    run_is apid service subtype rows rest start c.partition_point-len.result c.partition_point-start.ensures.bound rest_is c.partition_point-len.ensures.bound first last
+    rw c.count_for.ensures (run_is apid service subtype rows rest start c.requires rest_is first)

@@ -5,36 +5,20 @@ use Rattle.mm_dump.proofs.carrying.carry.Goals as goal
 
 pub returns-in_err-begin-clause-err : goal.returns-in_err-begin-clause-err
 returns-in_err-begin-clause-err g c =
-    let ended = unbegun c.args.context.now.id.now c.args.amount c.in_err-begin.field-0.0 c.args.port.now c.begin.new.port
-    (link_state (g.L.Link.sent c.args.link.now) (g.L.Link.failed c.args.link.now) c.args.spent.now) c.in_err-begin.ensures.refused c.in_err-begin.ensures.err in
+    let ended = unbegun c.args.context.now.id.now c.args.amount _ _ _ (link_state (g.L.Link.sent c.args.link.now) (g.L.Link.failed c.args.link.now) c.args.spent.now)
+    c.in_err-begin.ensures.refused c.in_err-begin.ensures.err in
     search rules
 
 pub returns-in_err-sending-clause-err : goal.returns-in_err-sending-clause-err
-returns-in_err-sending-clause-err g c =
-    let ended = stopped c.args.context.now.id.now c.args.amount c.args.port.now c.begin.new.port
-    (link_state (g.L.Link.sent c.args.link.now) (g.L.Link.failed c.args.link.now) c.args.spent.now) c.in_ok-begin.ensures.ok c.in_err-sending.field-0.0 c.send_all.new.port
-    (link_state (g.L.Link.sent c.send_all.new.link) (g.L.Link.failed c.send_all.new.link) c.send_all.new.spent) c.in_err-sending.ensures.err in
-    search rules
+returns-in_err-sending-clause-err g c = let ended = stopped _ _ _ _ _ c.in_ok-begin.ensures.ok _ _ _ c.in_err-sending.ensures.err in search rules
 
 pub returns-in_err-end_retrieval-clause-err : goal.returns-in_err-end_retrieval-clause-err
 returns-in_err-end_retrieval-clause-err g c =
-    let ended = unended c.args.context.now.id.now c.args.amount c.args.port.now c.begin.new.port
-    (link_state (g.L.Link.sent c.args.link.now) (g.L.Link.failed c.args.link.now) c.args.spent.now) c.in_ok-begin.ensures.ok _ _ c.send_all.new.port
-    (link_state (g.L.Link.sent c.send_all.new.link) (g.L.Link.failed c.send_all.new.link) c.send_all.new.spent) c.in_ok-sending.ensures.ok
-    c.in_err-end_retrieval.field-0.0 c.end_retrieval.new.port c.in_err-end_retrieval.ensures.refused c.in_err-end_retrieval.ensures.err in
-    search rules
+    let ended = unended _ _ _ _ _ c.in_ok-begin.ensures.ok _ _ _ _ c.in_ok-sending.ensures.ok _ _ c.in_err-end_retrieval.ensures.refused c.in_err-end_retrieval.ensures.err in search rules
 
 pub returns-in_err-delete_sent-clause-err : goal.returns-in_err-delete_sent-clause-err
 returns-in_err-delete_sent-clause-err g c =
-    let ended = undeleted c.args.context.now.id.now c.args.amount c.args.port.now c.begin.new.port
-    (link_state (g.L.Link.sent c.args.link.now) (g.L.Link.failed c.args.link.now) c.args.spent.now) c.in_ok-begin.ensures.ok _ _ c.send_all.new.port
-    (link_state (g.L.Link.sent c.send_all.new.link) (g.L.Link.failed c.send_all.new.link) c.send_all.new.spent) c.in_ok-sending.ensures.ok
-    c.end_retrieval.new.port c.in_ok-end_retrieval.ensures.ok c.in_err-delete_sent.field-0.0 c.delete_sent.new.port c.in_err-delete_sent.ensures.refused c.in_err-delete_sent.ensures.err in
-    search rules
+    let ended = undeleted _ _ _ _ _ c.in_ok-begin.ensures.ok _ _ _ _ c.in_ok-sending.ensures.ok _ c.in_ok-end_retrieval.ensures.ok _ _ c.in_err-delete_sent.ensures.refused c.in_err-delete_sent.ensures.err in search rules
 
 pub returns-clause-ok : goal.returns-clause-ok
-returns-clause-ok g c =
-    whole c.args.context.now.id.now c.args.amount c.args.port.now c.begin.new.port
-    (link_state (g.L.Link.sent c.args.link.now) (g.L.Link.failed c.args.link.now) c.args.spent.now) c.in_ok-begin.ensures.ok _ _ c.send_all.new.port
-    (link_state (g.L.Link.sent c.send_all.new.link) (g.L.Link.failed c.send_all.new.link) c.send_all.new.spent) c.in_ok-sending.ensures.ok
-    c.end_retrieval.new.port c.in_ok-end_retrieval.ensures.ok c.delete_sent.new.port c.in_ok-delete_sent.ensures.ok
+returns-clause-ok g c = whole _ _ _ _ _ c.in_ok-begin.ensures.ok _ _ _ _ c.in_ok-sending.ensures.ok _ c.in_ok-end_retrieval.ensures.ok _ c.in_ok-delete_sent.ensures.ok

@@ -5,7 +5,7 @@ use Rattle.mm_desk.specs.declared.event.Event.TheVariants.{Next}
 use Rattle.mm_desk.specs.declared.reply.Reply.TheVariants as reply
 use Rattle.mm_shared.specs.Views.{with_call}
 use Rattle.mm_dump.specs.Sending.{link_state}
-use Rattle.mm_dump.proofs.Hand.{no_memory_stops, link_failed_stops}
+use Rattle.mm_dump.proofs.SoFar.{no_memory_stops, link_failed_stops}
 use Rattle.mm_dump.proofs.carrying.send_next.Goals as goal
 
 pub returns-in_err-stored-clause-err : goal.returns-in_err-stored-clause-err

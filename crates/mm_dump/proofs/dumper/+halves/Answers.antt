@@ -1,21 +1,12 @@
 use Rattle.std.proofs.Common.{arith}
 use Rattle.mm_shared.specs.Stores.{ids_of}
 use Rattle.mm_dump.specs.Workers.{HasWorked}
-use Rattle.mm_dump.proofs.Halves.{low_ready, high_ready, halves_zip}
+use Rattle.mm_dump.proofs.Halves.{both_ready, halves_zip}
 use Rattle.mm_dump.proofs.dumper.+halves.Goals as goal
 
-pub dump_all-dump_halves-requires-clause-low : goal.dump_all-dump_halves-requires-clause-low
-dump_all-dump_halves-requires-clause-low g t c κs within =
-    low_ready g.L.Link.sent g.L.Link.failed c.args.context.now.queue.now c.args.context.now.stores.now c.args.context.now.orders.now c.args.links.now c.split_at_mut-low_links.result.0.now c.split_at_mut-low_links.result.1.now c.args.lines.now c.split_at_mut-low_lines.result.0.now c.split_at_mut-low_lines.result.1.now c.args.workers.now c.split_at_mut-low_workers.result.0.now c.split_at_mut-low_workers.result.1.now c.requires.ready
-    c.split_at_mut-low_links.ensures.value c.split_at_mut-low_lines.ensures.value c.split_at_mut-low_workers.ensures.value
-    (omega (arith, c.split_at_mut-low_links.ensures.front_len, c.split_at_mut-low_lines.ensures.front_len))
-    (omega (arith, c.split_at_mut-low_links.ensures.front_len, c.split_at_mut-low_workers.ensures.front_len))
-    (omega (arith, c.split_at_mut-low_links.ensures.front_len, c.requires.ready.some, c.if-links-eq1.false))
-    (omega (arith, c.split_at_mut-low_links.ensures.back_len, c.requires.ready.some, c.if-links-eq1.false))
-
-pub dump_all-dump_halves-requires-clause-high : goal.dump_all-dump_halves-requires-clause-high
-dump_all-dump_halves-requires-clause-high g t c κs within =
-    high_ready g.L.Link.sent g.L.Link.failed c.args.context.now.queue.now c.args.context.now.stores.now c.args.context.now.orders.now c.args.links.now c.split_at_mut-low_links.result.0.now c.split_at_mut-low_links.result.1.now c.args.lines.now c.split_at_mut-low_lines.result.0.now c.split_at_mut-low_lines.result.1.now c.args.workers.now c.split_at_mut-low_workers.result.0.now c.split_at_mut-low_workers.result.1.now c.requires.ready
+pub dump_all-dump_halves-requires-clause-ready : goal.dump_all-dump_halves-requires-clause-ready
+dump_all-dump_halves-requires-clause-ready g t c κs within =
+    both_ready g.L.Link.sent g.L.Link.failed _ _ _ _ _ _ _ _ _ _ _ _ c.requires.ready
     c.split_at_mut-low_links.ensures.value c.split_at_mut-low_lines.ensures.value c.split_at_mut-low_workers.ensures.value
     (omega (arith, c.split_at_mut-low_links.ensures.front_len, c.split_at_mut-low_lines.ensures.front_len))
     (omega (arith, c.split_at_mut-low_links.ensures.front_len, c.split_at_mut-low_workers.ensures.front_len))

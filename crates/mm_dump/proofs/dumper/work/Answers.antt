@@ -5,7 +5,7 @@ use Rattle.mm_shared.specs.Stores.{ids_of}
 use Rattle.mm_dump.specs.declared.queue.QueueView.{QueueView}
 use Rattle.mm_dump.specs.Queue.{queue_view}
 use Rattle.mm_dump.specs.Sending.{link_state}
-use Rattle.mm_dump.proofs.Working.{seen_more, still_lines, worked_start, worked_more, worked_well, worked_stopped}
+use Rattle.mm_dump.proofs.Working.{may_spend, seen_more, still_lines, worked_start, worked_more, worked_well, worked_stopped}
 use Rattle.mm_dump.proofs.dumper.work.Goals as goal
 
 pub loop-init : goal.loop-init
@@ -29,30 +29,14 @@ carry_at-stop-requires-clause-room g c =
 
 pub carry_at-stop-requires-clause-blocks : goal.carry_at-stop-requires-clause-blocks
 carry_at-stop-requires-clause-blocks g c =
-    let bound : c.loop.worker.spent < 281474976710656 = omega (
-      arith,
-      c.loop.invariant.spent,
-      c.take_next-number.ensures.few,
-      ap (λ (v : QueueView). length v.taken) c.take_next-number.ensures.taken,
-      length-append (view c.loop.worker.pass).taken (c.take_next-number.result ∷ []),
-      ap (λ (v : QueueView). v.pushed) c.loop.invariant.seen,
-      c.requires.ready.few,
-    ) in
-    bound
+    let bound = may_spend _ _ _ _ _ c.loop.invariant.seen c.take_next-number.ensures.taken c.take_next-number.ensures.few c.requires.ready.few c.loop.invariant.spent in
+    let less : c.loop.worker.spent < 281474976710656 = omega (arith, bound) in
+    less
 
 pub returns-then-is_some-clause-bound : goal.returns-then-is_some-clause-bound
 returns-then-is_some-clause-bound g c =
     let more : c.carry_at-stop.new.spent ≤ c.loop.worker.spent + 4294967296 = c.carry_at-stop.ensures.few in
-    omega (
-      arith,
-      more,
-      c.loop.invariant.spent,
-      c.take_next-number.ensures.few,
-      ap (λ (v : QueueView). length v.taken) c.take_next-number.ensures.taken,
-      length-append (view c.loop.worker.pass).taken (c.take_next-number.result ∷ []),
-      ap (λ (v : QueueView). v.pushed) c.loop.invariant.seen,
-      c.requires.ready.few,
-    )
+    omega (arith, more, may_spend _ _ _ _ _ c.loop.invariant.seen c.take_next-number.ensures.taken c.take_next-number.ensures.few c.requires.ready.few c.loop.invariant.spent)
 
 pub returns-then-is_some-clause-worked : goal.returns-then-is_some-clause-worked
 returns-then-is_some-clause-worked g c =

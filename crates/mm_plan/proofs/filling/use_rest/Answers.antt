@@ -1,4 +1,4 @@
-use Rattle.std.proofs.Common.{◌<◌, length, arith}
+use Rattle.std.proofs.Common.{◌≡◌, ◌<◌, length, arith}
 use Rattle.mm_plan.specs.Table.{amount}
 use Rattle.mm_plan.proofs.Lowering.{shape_kept}
 use Rattle.mm_plan.proofs.Raises.{rest_fits}
@@ -15,5 +15,7 @@ loop-store-preserved c =
       served = served_more c.args.problem.now (amount c.args.plan.now) c.loop-store.plan c.raise.new.plan c.args.step c.loop-store.store c.raise.result c.loop-store.left c.loop-store.invariant.shape c.loop-store.invariant.served c.raise.ensures.changed below c.requires.first c.requires.last (omega arith) c.raise.ensures.least fits c.raise.ensures.used;
     }
 
-pub returns-clause-split : goal.returns-clause-split
-returns-clause-split c = served_all c.args.problem.now (amount c.args.plan.now) (amount c.loop-store.plan) c.args.step c.loop-store.store c.loop-store.left c.requires.first c.requires.last c.loop-store.invariant.served
+pub returns-clause-filled : goal.returns-clause-filled
+returns-clause-filled c =
+    let all : c.loop-store.store ≡ length c.args.problem.now.rows = omega arith in
+    served_all c.args.problem.now (amount c.args.plan.now) (amount c.loop-store.plan) c.args.step c.loop-store.left c.requires.first c.requires.last (rw all at c.loop-store.invariant.served)

@@ -36,8 +36,8 @@ returns-in-None-clause-ok g c =
     let memory = c.args.memory.now in
     let after = c.record-done.new.stores.items in
     let back = restored g ((goal.at.returns-in-None-clause-ok g c).In-Ok-done) in
-    let rows : AreRows c.in-Ok.rows.before.items after (length after) c.told_all-recorded.result.items =
-    subst (λ ss. AreRows c.in-Ok.rows.before.items ss (length ss) c.told_all-recorded.result.items) c.deref.ensures.value c.told_all-recorded.ensures.rows in
+    let rows : AreRows c.in-Ok.rows.before.items after (length after) c.changes_of-recorded.result.items =
+    subst (λ ss. AreRows c.in-Ok.rows.before.items ss (length ss) c.changes_of-recorded.result.items) c.deref.ensures.value c.changes_of-recorded.ensures.rows in
     let done = not_caused c.args.step c.in-Ok-done.why (search rules) in
     recorded_of g.S.Source.gives (recording_of c.args.step c.args.now memory) memory c.restore.new.self after c.args.sources.now c.record-done.new.sources c.in-Ok-done.why back.0 back.1
     c.in-Ok.rows.before.items _ c.any_order_loses_alike.ensures.leaves (search rules) (search rules) rows done

@@ -1,5 +1,6 @@
-use Rattle.std.proofs.Common.{get_or}
-use Rattle.mm_record.proofs.Going.{adds_at, adds_partly_at, offer_taken, offer_refused, port_at, reason_at, same_end}
+use Rattle.std.proofs.Common.{[], get_or}
+use Rattle.mm_record.specs.Offering.{ExtendsBy, ExtendsInPart}
+use Rattle.mm_record.proofs.Going.{adds_at, goes_nowhere, partly_nowhere, offer_taken, offer_refused, port_at, reason_at, same_end}
 use Rattle.mm_record.proofs.offering.offer_at.Goals as goal
 
 pub offer-requires : goal.offer-requires
@@ -9,13 +10,13 @@ pub returns-in-Ok-clause-ok : goal.returns-in-Ok-clause-ok
 returns-in-Ok-clause-ok g c =
     let line = get_or c.args.lines.now c.args.index c.index-lines-index.result in
     adds_at c.args.context.now.moment c.args.packet c.args.context.now.stores.now c.args.lines.now c.args.index c.index-lines-index.result _ c.requires.at c.requires.within
-    (same_end line _ _ _ c.in-Ok.ensures.called) (offer_taken line.port _ _ _ _ c.in-Ok.ensures.called)
+    (same_end line _ _ _ c.in-Ok.ensures.called) ExtendsBy goes_nowhere (offer_taken line.port _ _ _ _ c.in-Ok.ensures.called)
 
 pub returns-clause-err : goal.returns-clause-err
 returns-clause-err g c =
     let line = get_or c.args.lines.now c.args.index c.index-lines-index.result in
-    adds_partly_at c.args.context.now.moment c.args.packet c.args.context.now.stores.now c.args.lines.now c.args.index c.index-lines-index.result _ c.requires.at c.requires.within
-    (same_end line _ _ _ c.in-Err.ensures.called) (offer_refused line.port _ _ _ _ c.in-Err.ensures.called)
+    adds_at c.args.context.now.moment c.args.packet c.args.context.now.stores.now c.args.lines.now c.args.index c.index-lines-index.result _ c.requires.at c.requires.within
+    (same_end line _ _ _ c.in-Err.ensures.called) ExtendsInPart (partly_nowhere []) (offer_refused line.port _ _ _ _ c.in-Err.ensures.called)
 
 pub returns-clause-why : goal.returns-clause-why
 returns-clause-why g c =

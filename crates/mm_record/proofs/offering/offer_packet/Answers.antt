@@ -3,7 +3,7 @@ use Rattle.std.proofs.lemmas.Result.{on_ok_weaker, on_err_weaker}
 use Rattle.mm_shared.specs.Stores.{ids_of, id_at}
 use Rattle.mm_record.specs.Offering.{offers_by, offers_of}
 use Rattle.mm_record.specs.Recorded.{is_routed}
-use Rattle.mm_record.proofs.Going.{adds_same, adds_partly_same}
+use Rattle.mm_record.proofs.Going.{adds_same}
 use Rattle.mm_record.proofs.Offers.{by_rows}
 use Rattle.mm_record.proofs.offering.offer_packet.Goals as goal
 
@@ -15,7 +15,7 @@ returns g c =
     λ id. let once = c.rows_for-rows.ensures.once id in by_rows context.moment c.args.packet id rows (is_routed context.control.now id c.args.packet) (search rules) in
     let at = λ (k : ℕ). same (id_at (ids_of context.stores.now) k) in
     record {
-      ok = on_ok_weaker c.offer_routed.result (adds_same _ _ _ _ _ at) c.offer_routed.ensures.ok;
-      err = on_err_weaker c.offer_routed.result (adds_partly_same _ _ _ _ _ at) c.offer_routed.ensures.err;
+      ok = on_ok_weaker c.offer_routed.result (adds_same _ _ _ _ _ _ at) c.offer_routed.ensures.ok;
+      err = on_err_weaker c.offer_routed.result (adds_same _ _ _ _ _ _ at) c.offer_routed.ensures.err;
       why = c.offer_routed.ensures.why;
     }

@@ -3,7 +3,7 @@ use Rattle.std.proofs.lemmas.List.{length-map}
 use Rattle.std.specs.Result.{result_err}
 use Rattle.mm_shared.specs.declared.stores.NamedStore.{NamedStore}
 use Rattle.mm_record.specs.Recorded.{open_recording}
-use Rattle.mm_record.proofs.Hand.{in_hand_more, ran_whole, ran_partly}
+use Rattle.mm_record.proofs.SoFar.{so_far_more, ran_whole, ran_partly}
 use Rattle.mm_record.proofs.recorder.record_source.Goals as goal
 
 -- there are as many identifiers as stores
@@ -13,7 +13,7 @@ many stores = sym (length-map stores (λ (s : NamedStore). s.id))
 pub loop-packet-preserved : goal.loop-packet-preserved
 loop-packet-preserved g c =
     let context = c.args.context.now in
-    in_hand_more (open_recording context.step context.moment context.control.now context.stores.now) _ (g.S.Source.gives c.loop-packet.source) _ _ _ _ (length context.stores.now) c.in-Some.packet
+    so_far_more (open_recording context.step context.moment context.control.now context.stores.now) _ (g.S.Source.gives c.loop-packet.source) _ _ _ _ (length context.stores.now) c.in-Some.packet
     (many context.stores.now) c.loop-packet.invariant c.in-Some.ensures.gives c.in-Some.ensures.others c.in_ok-offer_packet.ensures.ok
 
 pub returns-in_err-offer_packet-clause-run : goal.returns-in_err-offer_packet-clause-run

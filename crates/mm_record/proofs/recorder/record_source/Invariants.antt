@@ -1,11 +1,11 @@
 use Rattle.std.proofs.Common.{length}
 use Rattle.mm_record.specs.Recorded.{open_recording}
-use Rattle.mm_record.proofs.Hand.{InHand}
+use Rattle.mm_record.proofs.SoFar.{RecordedSoFar}
 use Rattle.mm_record.proofs.recorder.record_source.Given as goal
 
 abbrev pub invariant-loop-packet : goal.invariant-loop-packet
 invariant-loop-packet g l =
-    InHand (open_recording l.context.step l.context.moment l.context.control.now l.context.stores.now) (g.S.Source.gives l.initial.source) (g.S.Source.gives l.source)
+    RecordedSoFar (open_recording l.context.step l.context.moment l.context.control.now l.context.stores.now) (g.S.Source.gives l.initial.source) (g.S.Source.gives l.source)
     l.initial.lines l.lines
 
 abbrev pub decreases-loop-packet : goal.decreases-loop-packet

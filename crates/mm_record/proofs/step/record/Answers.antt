@@ -1,25 +1,21 @@
-use Rattle.std.proofs.Common.{rules, ◌≡◌, ◌≤◌, length, sym, subst, ap, ◌∙◌, arith}
+use Rattle.std.proofs.Common.{rules, ◌≡◌, length, sym, subst, ap, ◌∙◌, arith}
 use Rattle.std.specs.Vec.{with_items}
 use Rattle.std.proofs.lemmas.List.{with_items_is}
-use Rattle.mm_shared.specs.Stores.{all_ends, ids_of, openings_of, states_of, AreNamed, HaveLegalLogs}
+use Rattle.mm_shared.specs.Stores.{all_ends, openings_of, states_of, AreNamed, HaveLegalLogs}
 use Rattle.mm_shared.proofs.StillOpen.{still_open}
 use Rattle.mm_record.specs.Recorded.{open_recording}
-use Rattle.mm_record.specs.Recorders.{HaveRun, MayRecord}
+use Rattle.mm_record.specs.Recorders.{HaveRun}
 use Rattle.mm_record.proofs.Runs.{may_of}
 use Rattle.mm_record.proofs.Steps.{ids_open, records_of}
 use Rattle.mm_record.proofs.step.record.Goals as goal
-
-pub record_all-why-requires-clause-named : goal.record_all-why-requires-clause-named
-record_all-why-requires-clause-named g c κs within =
-    let it = c.in_ok-open.open in
-    subst AreNamed (sym (ap ids_of c.deref.ensures.value ∙ ids_open it.stores.items c.args.stores.now.items c.in_ok-open.ensures.opened.labels)) c.requires.named
 
 pub record_all-why-requires-clause-may : goal.record_all-why-requires-clause-may
 record_all-why-requires-clause-may g c κs within =
     let it = c.in_ok-open.open in
     let new = c.in_ok-open.ensures.opened in
     let many : length it.workers.items ≡ length c.args.sources.now = search rules in
-    let may = may_of it.stores.items c.args.sources.now it.workers.items many new.are_open.workers new.fresh in
+    let named = subst AreNamed (sym (ids_open it.stores.items c.args.stores.now.items new.labels)) c.requires.named in
+    let may = may_of it.stores.items c.args.sources.now it.workers.items named many new.are_open.workers new.fresh in
     rw (c.deref.ensures.value, c.deref_mut.ensures.value) may
 
 pub close_all-requires : goal.close_all-requires

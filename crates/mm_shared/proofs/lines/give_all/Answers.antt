@@ -1,6 +1,6 @@
 use Rattle.std.proofs.Common.{rules, ◌≡◌, ℕ, suc, ◌+◌, ◌-◌, ◌<◌, length, length-set, ◌∙◌, subst, arith}
 use Rattle.mm_shared.specs.declared.lines.Lines.{Lines}
-use Rattle.mm_shared.specs.Spares.{HavePorts, new_left}
+use Rattle.mm_shared.specs.FreePorts.{HavePorts, new_left}
 use Rattle.mm_shared.proofs.Workers.{some_left, is_worker, is_fresh, one_less, all_given_more}
 use Rattle.mm_shared.proofs.lines.give_all.Goals as goal
 
@@ -9,7 +9,7 @@ give_lines-requires-clause-some c =
     let i = c.loop-i.i in
     let n : ℕ = length c.args.workers.now.items in
     let inside : i < n = search rules in
-    some_left c.args.stores.now c.loop-i.spare.items i (n - i) c.loop-i.invariant.ports (omega arith)
+    some_left c.args.stores.now c.loop-i.free.items i (n - i) c.loop-i.invariant.ports (omega arith)
 
 pub loop-i-preserved : goal.loop-i-preserved
 loop-i-preserved c =
@@ -17,8 +17,8 @@ loop-i-preserved c =
     let n : ℕ = length c.args.workers.now.items in
     let inside : i < n = search rules in
     let stores = c.args.stores.now in
-    let old = c.loop-i.spare.items in
-    let new = c.give_lines.new.spare.items in
+    let old = c.loop-i.free.items in
+    let new = c.give_lines.new.free.items in
     let lines = c.give_lines.new.lines.items in
     let w : Lines = record { lines = c.give_lines.new.lines } in
     let left : ℕ = n - (i + 1) in

@@ -1,5 +1,5 @@
 use Rattle.std.proofs.Common.{◌≡◌, vec_len}
-use Rattle.mm_shared.specs.Spares.{HaveRoom}
+use Rattle.mm_shared.specs.FreePorts.{HaveRoom}
 use Rattle.mm_shared.proofs.lines.new_workers.Given as goal
 
 abbrev pub invariant-loop : goal.invariant-loop

@@ -1,20 +1,20 @@
 use Rattle.std.proofs.Common.{refl, sym, subst}
 use Rattle.mm_desk.specs.declared.held.Held.{Held}
-use Rattle.mm_shared.specs.Spares.{WentBack}
+use Rattle.mm_shared.specs.FreePorts.{AllReturned}
 use Rattle.mm_shared.proofs.Closing.{all_but_last, back_more}
 use Rattle.mm_shared.proofs.stores.+close_each.Goals as goal
 
 pub returns-clause-back : goal.returns-clause-back
 returns-clause-back t c =
     let stores = c.args.opened.now.items in
-    let spare = c.args.spare.now.items in
+    let free = c.args.free.now.items in
     let before = c.pop.new.self.items in
     let others = c.pop-2.new.self.items in
     let store = c.in-Some.named in
     let one = c.in-Some-pop.all in
     let back = c.close_each.new.stores.items in
     let held : Held = record { id = store.id; channel = store.channel; state = c.close-state.result } in
-    let rest = all_but_last stores before store spare others one c.in-Some.ensures.items c.in-Some-pop.ensures.items c.requires.all in
-    subst (WentBack stores spare) (sym c.push_reserved.ensures.items)
-    (back_more stores before store spare others one back held c.in-Some.ensures.items c.in-Some-pop.ensures.items rest.at.count c.close_each.ensures.back (refl, refl)
+    let rest = all_but_last stores before store free others one c.in-Some.ensures.items c.in-Some-pop.ensures.items c.requires.all in
+    subst (AllReturned stores free) (sym c.push_reserved.ensures.items)
+    (back_more stores before store free others one back held c.in-Some.ensures.items c.in-Some-pop.ensures.items rest.at.count c.close_each.ensures.back (refl, refl)
     (record { went = c.close-state.ensures.went; untouched = c.close-state.ensures.untouched; sound = c.close-state.ensures.sound }))

@@ -7,13 +7,13 @@ use Rattle.mm_shared.proofs.stores.+open_each.Goals as goal
 
 pub close_each-requires-clause-all : goal.close_each-requires-clause-all
 close_each-requires-clause-all t c =
-    fresh_all c.pop.new.self.items c.args.seats c.open_each.new.opened.items c.open_each.new.spare.items c.in_default-open_each.ensures.ok
+    fresh_all c.pop.new.self.items c.args.seats c.open_each.new.opened.items c.open_each.new.free.items c.in_default-open_each.ensures.ok
 
 pub returns-in-Ok-clause-ok : goal.returns-in-Ok-clause-ok
 returns-in-Ok-clause-ok t c =
     let held = c.in-Some.held in
     let store : NamedStore = record { id = held.id; channel = held.channel; store = c.in-Ok.store } in
-    fresh_more c.pop.new.self.items c.args.stores.now.items held c.args.seats c.open_each.new.opened.items c.push_reserved-in-Ok.new.self.items store c.open_each.new.spare.items c.push_reserved-in-Ok-2.new.self.items _
+    fresh_more c.pop.new.self.items c.args.stores.now.items held c.args.seats c.open_each.new.opened.items c.push_reserved-in-Ok.new.self.items store c.open_each.new.free.items c.push_reserved-in-Ok-2.new.self.items _
     c.in_default-open_each.ensures.ok c.in-Some.ensures.items c.push_reserved-in-Ok.ensures.items c.push_reserved-in-Ok-2.ensures.items
     refl refl c.in-Ok.ensures.opened.0 c.in-Ok.ensures.opened.1 c.in-Ok.ensures.ports
 
@@ -23,7 +23,7 @@ returns-in-Err-open-clause-err t c =
     let before = c.pop.new.self.items in
     let back = c.close_each.new.stores.items in
     let last : State → Held = λ s. record { id = held.id; channel = held.channel; state = s } in
-    let same : back ≡ before = same_back before c.args.seats c.open_each.new.opened.items c.open_each.new.spare.items back c.in_default-open_each.ensures.ok c.close_each.ensures.back in
+    let same : back ≡ before = same_back before c.args.seats c.open_each.new.opened.items c.open_each.new.free.items back c.in_default-open_each.ensures.ok c.close_each.ensures.back in
     c.push_reserved-in-Err-open.ensures.items
     ∙ (ap (λ (xs : List Held). xs ++ last c.in-Err-open.state ∷ []) same
     ∙ (ap (λ (s : State). before ++ last s ∷ []) c.in-Err-open.ensures.back ∙ sym c.in-Some.ensures.items))

@@ -1,0 +1,434 @@
+//! Requests to a memory: a store that is deleted with its routes, one that is resized and changes its kind, and stores that are created.
+//! What finds no memory changes nothing, and is asked once more.
+use crate::met::Met;
+use crate::runs::SETUP;
+use mm_base::Kind;
+use mm_desk::Held;
+use mm_memory::{Answer, Answers, Fault, Memory};
+use mm_packet::Packet;
+use mm_problem::Setup;
+use mm_st15::Request;
+use mm_store::PacketStore;
+use std::alloc::Global;
+
+// The text of a setup of these stores, each with a route.
+macro_rules! setup {
+    ($($id:literal),*) => {
+        concat!(
+            $("[[store]]\nid = \"", $id, "\"\nsize = 2\ntype = \"bounded\"\nchannel = 0\n",)*
+            $("[[route]]\napid = 100\nservice = 3\nsubtype = 25\nstore = \"", $id, "\"\n",)*
+        )
+    };
+}
+
+const SIXTEEN_STORES: &str = setup!(
+    "A", "B", "C", "D", "E", "F", "G", "H", "I", "J", "K", "L", "M", "N", "O", "P"
+);
+
+// What a store is.
+#[derive(Clone, Copy, PartialEq, Eq)]
+struct Shape {
+    kind: Kind,
+    size: u32,
+    packets: u32,
+    storage: bool,
+    channel: u8,
+}
+
+// Bounded stores of two, four and eight blocks that hold no packet, on channel 0, with their storage off.
+const OF_TWO: Shape = Shape {
+    kind: Kind::Bounded,
+    size: 2,
+    packets: 0,
+    storage: false,
+    channel: 0,
+};
+
+const OF_FOUR: Shape = Shape { size: 4, ..OF_TWO };
+
+const OF_EIGHT: Shape = Shape { size: 8, ..OF_TWO };
+
+// An instruction as a request of its own, the identifier of its store, its answer, whether that may be want of memory, and what the store
+// is before and after it.
+#[derive(Clone, Copy)]
+struct Instruction {
+    alone: &'static [u8],
+    id: &'static [u8],
+    answer: Answer,
+    may_lack: bool,
+    before: Option<Shape>,
+    after: Option<Shape>,
+}
+
+// A request as its packet, its instructions, and how many stores and routes it leaves.
+#[derive(Clone, Copy)]
+struct Step {
+    packet: &'static [u8],
+    each: &'static [Instruction],
+    left: (usize, usize),
+}
+
+/// The memory of a setup with this text, where there is room for it.
+pub(crate) fn memory_of_text(alloc: Global, text: &[u8]) -> Option<Memory> {
+    let setup = Setup::read(alloc, text).ok()?;
+    Memory::of_setup(alloc, &setup).ok()
+}
+
+// The request of a packet, where there is room for it.
+fn request_of(alloc: Global, octets: &[u8]) -> Option<Request> {
+    let (packet, _rest) = Packet::parse(alloc, octets).ok()?;
+    Request::read(alloc, &packet).ok()
+}
+
+fn shape_held(held: &Held) -> Shape {
+    let store = held.state.store();
+    Shape {
+        kind: store.kind(),
+        size: store.size(),
+        packets: store.len(),
+        storage: held.state.storage(),
+        channel: held.channel,
+    }
+}
+
+// What the store of this identifier is, where it is there.
+fn shape_of(memory: &Memory, id: &[u8]) -> Option<Shape> {
+    for held in memory.stores() {
+        if held.id.text() == id {
+            return Some(shape_held(held));
+        }
+    }
+    None
+}
+
+// How many stores and routes there are.
+fn counts(memory: &Memory) -> (usize, usize) {
+    (memory.stores().len(), memory.control().list().len())
+}
+
+// Whether the store of each instruction is as it was before it.
+fn are_unchanged(memory: &Memory, step: &Step) -> bool {
+    for one in step.each {
+        if shape_of(memory, one.id) != one.before {
+            return false;
+        }
+    }
+    true
+}
+
+// Whether the store of each instruction is as that leaves it.
+fn are_left(memory: &Memory, step: &Step) -> bool {
+    for one in step.each {
+        if shape_of(memory, one.id) != one.after {
+            return false;
+        }
+    }
+    true
+}
+
+// Whether the store that an instruction names is as the answer says.
+fn as_answered(memory: &Memory, one: &Instruction, answer: Answer) -> Met {
+    let now = shape_of(memory, one.id);
+    if one.may_lack && answer == Answer::Refused(Fault::NoMemory) {
+        return Met::Refused.provided(now == one.before, "a store changed without memory");
+    }
+    Met::Whole
+        .provided(answer == one.answer, "another answer")
+        .provided(now == one.after, "another store")
+}
+
+fn all_as_answered(memory: &Memory, step: &Step, answers: &Answers) -> Met {
+    let met = Met::Whole.provided(answers.reports.is_empty(), "a report");
+    let many = answers.each.len() == step.each.len();
+    let mut met = met.provided(many, "another number of answers");
+    for (one, answer) in step.each.iter().zip(answers.each.iter()) {
+        met = met.and(as_answered(memory, one, *answer));
+    }
+    met
+}
+
+// Whether an instruction is answered as it must be, in a request of its own.
+fn is_answered_alone(alloc: Global, memory: &mut Memory, one: &Instruction) -> bool {
+    let Some(request) = request_of(alloc, one.alone) else {
+        return false;
+    };
+    match memory.apply(alloc, 1, &request) {
+        Ok(answers) => answers.each.as_slice() == [one.answer].as_slice(),
+        Err(_) => false,
+    }
+}
+
+// Asks once more for each instruction that found no memory, by itself.
+fn refused_ones_again(alloc: Global, memory: &mut Memory, step: &Step, answers: &Answers) -> Met {
+    let mut met = Met::Whole;
+    for (one, answer) in step.each.iter().zip(answers.each.iter()) {
+        if *answer != one.answer {
+            let done = is_answered_alone(alloc, memory, one);
+            met = met.provided(done, "an instruction refused twice");
+        }
+    }
+    met
+}
+
+// What came of a request.
+fn asked(alloc: Global, memory: &mut Memory, step: &Step, request: &Request) -> Met {
+    match memory.apply(alloc, 1, request) {
+        Ok(answers) => {
+            let met = all_as_answered(memory, step, &answers);
+            met.and(refused_ones_again(alloc, memory, step, &answers))
+        }
+        Err(_) => Met::Wanted,
+    }
+}
+
+// What came of a request. One that found no memory has changed nothing, and is carried out once more.
+fn carried_out_or_unchanged(
+    alloc: Global,
+    memory: &mut Memory,
+    step: &Step,
+    request: &Request,
+) -> Met {
+    let before = counts(memory);
+    let met = asked(alloc, memory, step, request);
+    if !matches!(met, Met::Wanted) {
+        return met;
+    }
+    let met = met
+        .provided(counts(memory) == before, "a store more or less")
+        .provided(are_unchanged(memory, step), "changed without memory");
+    let again = asked(alloc, memory, step, request);
+    met.provided(
+        matches!(again, Met::Whole),
+        "another answer after want of memory",
+    )
+}
+
+// What came of a step, where there was memory to ask.
+fn carried_out(alloc: Global, memory: &mut Memory, step: &Step) -> Option<Met> {
+    let request = request_of(alloc, step.packet)?;
+    let met = carried_out_or_unchanged(alloc, memory, step, &request);
+    Some(
+        met.provided(are_left(memory, step), "another store is left")
+            .provided(counts(memory) == step.left, "another memory"),
+    )
+}
+
+// What the steps come to; nothing where there was no memory to ask.
+fn all_carried_out(alloc: Global, setup: &[u8], steps: &[Step]) -> Option<Met> {
+    let mut memory = memory_of_text(alloc, setup)?;
+    let mut met = Met::Whole;
+    for step in steps {
+        met = met.and(carried_out(alloc, &mut memory, step)?);
+    }
+    Some(met)
+}
+
+const STORAGE_ON: Answer = Answer::Refused(Fault::State(mm_desk::Fault::StorageOn));
+
+// The store C, as the setup has it.
+const C: Shape = Shape {
+    storage: true,
+    ..OF_TWO
+};
+
+// An instruction on the store C.
+const ON_C: Instruction = Instruction {
+    alone: b"\x18\x64\xC0\0\0\x0D\x20\x0F\x02\0\0\x01C       ",
+    id: b"C",
+    answer: Answer::Done,
+    may_lack: false,
+    before: Some(C),
+    after: Some(OF_TWO),
+};
+
+static DELETED: [Step; 8] = [
+    // A seventeenth store, Z.
+    Step {
+        packet: b"\x18\x64\xC0\0\0\x13\x20\x0F\x14\0\0\x01Z       \0\0\0\x04\x01\0",
+        each: &[Instruction {
+            id: b"Z",
+            answer: Answer::Refused(Fault::TooManyStores),
+            before: None,
+            after: None,
+            ..ON_C
+        }],
+        left: (16, 16),
+    },
+    // The store C is deleted, whose storage is on; its storage is turned off, and then it is deleted with its route.
+    Step {
+        packet: b"\x18\x64\xC0\0\0\x0D\x20\x0F\x15\0\0\x01C       ",
+        each: &[Instruction {
+            answer: STORAGE_ON,
+            after: Some(C),
+            ..ON_C
+        }],
+        left: (16, 16),
+    },
+    Step {
+        packet: b"\x18\x64\xC0\0\0\x0D\x20\x0F\x02\0\0\x01C       ",
+        each: &[ON_C],
+        left: (16, 16),
+    },
+    Step {
+        packet: b"\x18\x64\xC0\0\0\x0D\x20\x0F\x15\0\0\x01C       ",
+        each: &[Instruction {
+            before: Some(OF_TWO),
+            after: None,
+            ..ON_C
+        }],
+        left: (15, 15),
+    },
+    // Its storage is turned on.
+    Step {
+        packet: b"\x18\x64\xC0\0\0\x0D\x20\x0F\x01\0\0\x01C       ",
+        each: &[Instruction {
+            answer: Answer::Refused(Fault::NoSuchStore),
+            before: None,
+            after: None,
+            ..ON_C
+        }],
+        left: (15, 15),
+    },
+    // It is created without a block, and then with four.
+    Step {
+        packet: b"\x18\x64\xC0\0\0\x13\x20\x0F\x14\0\0\x01C       \0\0\0\0\x01\0",
+        each: &[Instruction {
+            answer: Answer::Refused(Fault::BadSize),
+            before: None,
+            after: None,
+            ..ON_C
+        }],
+        left: (15, 15),
+    },
+    Step {
+        packet: b"\x18\x64\xC0\0\0\x13\x20\x0F\x14\0\0\x01C       \0\0\0\x04\x01\0",
+        each: &[Instruction {
+            alone: b"\x18\x64\xC0\0\0\x13\x20\x0F\x14\0\0\x01C       \0\0\0\x04\x01\0",
+            may_lack: true,
+            before: None,
+            after: Some(OF_FOUR),
+            ..ON_C
+        }],
+        left: (16, 15),
+    },
+    // Storage off for an identifier in small letters, and for C.
+    Step {
+        packet: b"\x18\x64\xC0\0\0\x15\x20\x0F\x02\0\0\x02sci     C       ",
+        each: &[
+            Instruction {
+                id: b"sci",
+                answer: Answer::Refused(Fault::BadId),
+                before: None,
+                after: None,
+                ..ON_C
+            },
+            Instruction {
+                before: Some(OF_FOUR),
+                after: Some(OF_FOUR),
+                ..ON_C
+            },
+        ],
+        left: (16, 15),
+    },
+];
+
+/// What came of the requests that delete a store with its routes.
+pub(crate) fn deleted(alloc: Global) -> Met {
+    all_carried_out(alloc, SIXTEEN_STORES.as_bytes(), &DELETED).unwrap_or(Met::Unready)
+}
+
+const CIRCULAR: Shape = Shape {
+    kind: Kind::Circular,
+    ..OF_EIGHT
+};
+
+// A change of the store SCI that may find no memory.
+const ON_SCI: Instruction = Instruction {
+    alone: b"\x18\x64\xC0\0\0\x11\x20\x0F\x19\0\0\x01SCI     \0\0\0\x08",
+    id: b"SCI",
+    answer: Answer::Done,
+    may_lack: true,
+    before: Some(OF_FOUR),
+    after: Some(OF_EIGHT),
+};
+
+// The store SCI is switched off, resized, made circular and bounded again, each by a request of its own; then A and B are created by one.
+static CREATED: [Step; 6] = [
+    Step {
+        packet: b"\x18\x64\xC0\0\0\x0D\x20\x0F\x02\0\0\x01SCI     ",
+        each: &[Instruction {
+            may_lack: false,
+            before: Some(Shape {
+                storage: true,
+                ..OF_FOUR
+            }),
+            after: Some(OF_FOUR),
+            ..ON_SCI
+        }],
+        left: (1, 1),
+    },
+    Step {
+        packet: b"\x18\x64\xC0\0\0\x11\x20\x0F\x19\0\0\x01SCI     \0\0\0\x08",
+        each: &[ON_SCI],
+        left: (1, 1),
+    },
+    Step {
+        packet: b"\x18\x64\xC0\0\0\x0D\x20\x0F\x1A\0\0\x01SCI     ",
+        each: &[Instruction {
+            alone: b"\x18\x64\xC0\0\0\x0D\x20\x0F\x1A\0\0\x01SCI     ",
+            before: Some(OF_EIGHT),
+            after: Some(CIRCULAR),
+            ..ON_SCI
+        }],
+        left: (1, 1),
+    },
+    Step {
+        packet: b"\x18\x64\xC0\0\0\x0D\x20\x0F\x1B\0\0\x01SCI     ",
+        each: &[Instruction {
+            alone: b"\x18\x64\xC0\0\0\x0D\x20\x0F\x1B\0\0\x01SCI     ",
+            before: Some(CIRCULAR),
+            after: Some(OF_EIGHT),
+            ..ON_SCI
+        }],
+        left: (1, 1),
+    },
+    Step {
+        packet: b"\x18\x64\xC0\0\0\x21\x20\x0F\x14\0\0\x02A       \0\0\0\x04\x01\0B       \0\0\0\x02\0\x01",
+        each: &[
+            Instruction {
+                alone: b"\x18\x64\xC0\0\0\x13\x20\x0F\x14\0\0\x01A       \0\0\0\x04\x01\0",
+                id: b"A",
+                before: None,
+                after: Some(OF_FOUR),
+                ..ON_SCI
+            },
+            Instruction {
+                alone: b"\x18\x64\xC0\0\0\x13\x20\x0F\x14\0\0\x01B       \0\0\0\x02\0\x01",
+                id: b"B",
+                before: None,
+                after: Some(Shape {
+                    kind: Kind::Circular,
+                    channel: 1,
+                    ..OF_TWO
+                }),
+                ..ON_SCI
+            },
+        ],
+        left: (3, 1),
+    },
+    // SCI, which is off, is as it was before A and B were created.
+    Step {
+        packet: b"\x18\x64\xC0\0\0\x0D\x20\x0F\x02\0\0\x01SCI     ",
+        each: &[Instruction {
+            may_lack: false,
+            before: Some(OF_EIGHT),
+            ..ON_SCI
+        }],
+        left: (3, 1),
+    },
+];
+
+/// What came of the requests that resize a store, change its kind and create two stores.
+pub(crate) fn created(alloc: Global) -> Met {
+    all_carried_out(alloc, SETUP, &CREATED).unwrap_or(Met::Unready)
+}

@@ -1,0 +1,20 @@
+use Rattle.std.proofs.Common.{◌≡◌, ◌∷◌, [], ◌++◌, ap, subst}
+use Rattle.mm_desk.specs.Answers.{Answers}
+use Rattle.mm_desk.specs.declared.reply.Reply.{Reply}
+use Rattle.mm_desk.specs.Machine.{State, step}
+use Rattle.mm_desk.specs.Runs.{entry}
+use Rattle.mm_desk.proofs.Answering.{step_answers}
+use Rattle.mm_desk.proofs.Runs.{run_more}
+use Rattle.mm_desk.proofs.locked_store.LockedStore.call.Goals as goal
+
+pub invariant_of-self-2 : goal.invariant_of-self-2
+invariant_of-self-2 g c =
+    let stepped : step c.self.inside.state c.args.logged ≡ (c.in_ok-copies.copies.answer, c.apply.new.self) = rw c.requires.logged c.in_ok-copies.ensures.answer in
+    let items : c.push_reserved.new.self.items ≡ c.self.inside.log.items ++ entry c.args.seat c.args.logged c.in_ok-copies.copies.answer ∷ [] =
+    cc (c.push_reserved.ensures.items, c.reserve.ensures.items, c.in_ok-copies.ensures.copies.0) in
+    rw items (run_more _ _ _ _ _ _ _ c.self.invariant stepped)
+
+pub returns-clause-answers : goal.returns-clause-answers
+returns-clause-answers g c =
+    let reply = ap (λ (p : Reply × State). p.0) c.in_ok-copies.ensures.answer in
+    subst (λ (r : Reply). Answers c.args.event r) reply (step_answers c.self.inside.state c.args.event)

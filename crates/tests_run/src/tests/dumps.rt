@@ -1,0 +1,291 @@
+//! Steps of dump workers over links in memory, with what is sent, held and spent by hand.
+ghost use Rattle.std.specs.Prelude.{◌≡◌, ◌≢◌, ◌+◌, ◌<◌, ◌≤◌, length, All, AllPairs, IsTrue, None, vec_len};
+ghost use Rattle.mm_base.specs.declared.limits.TheConstants.{MAX_STORES};
+
+use crate::tests::links::new_links;
+use crate::tests::samples::{NAMES, is_named, stores_with};
+use mm_desk::Held;
+use mm_dump::{Dumped, Link, MemoryLink, Order, OrderBroken, TakenPacket, dump, may_fail};
+use mm_store::PacketStore;
+use std::alloc::Global;
+use std::process::Abort;
+use std::sync::Wait;
+use std::thread::Threads;
+
+// A packet that a link took has this store and this sequence count.
+fn is_taken(rt: &impl Abort, item: &TakenPacket, name: &str, count: u16) {
+    is_named(rt, &item.store, name);
+    assert!(rt; item.stored.packet.packet().count() == count, "the packet");
+}
+
+// The link took these packets, by their stores and sequence counts.
+fn took(rt: &impl Abort, link: &MemoryLink, sent: &[(&str, u16)]) {
+    assert!(rt; link.taken().len() == sent.len(), "as many packets");
+    for (item, (name, count)) in link.taken().iter().zip(sent) {
+        is_taken(rt, item, name, *count);
+    }
+}
+
+// Adds the order for a store of which blocks are wanted.
+#[tactic(auto, using(crate::proofs::Rising::apart_more, crate::proofs::Rising::below_more, crate::proofs::Rising::below_next))]
+fn add_order(rt: &impl Abort, orders: &mut Vec<Order>, place: u32, amount: u32)
+    requires few { vec_len orders.old ≤ place }
+    requires places { All (λ o. o.place < place) orders.old.items }
+    requires amounts { All (λ o. 1 ≤ o.amount) orders.old.items }
+    requires distinct { AllPairs (λ a b. a.place ≢ b.place) orders.old.items }
+    ensures few { vec_len orders.new ≤ place + 1 }
+    ensures places { All (λ o. o.place < place + 1) orders.new.items }
+    ensures amounts { All (λ o. 1 ≤ o.amount) orders.new.items }
+    ensures distinct { AllPairs (λ a b. a.place ≢ b.place) orders.new.items }
+{
+    if amount == 0 {
+        return;
+    }
+    orders.push(Order { place, amount }).expect(rt, "memory");
+}
+
+// One order for each store of which blocks are wanted.
+fn new_orders(rt: &impl Abort, alloc: Global, wanted: &[u32]) -> Vec<Order>
+    requires few { length wanted.now ≤ MAX_STORES }
+    ensures few { vec_len result ≤ length wanted.now }
+    ensures places { All (λ o. o.place < length wanted.now) result.items }
+    ensures amounts { All (λ o. 1 ≤ o.amount) result.items }
+    ensures distinct { AllPairs (λ a b. a.place ≢ b.place) result.items }
+{
+    let mut orders = Vec::new(alloc);
+    for place in 0..wanted.len() {
+        add_order(rt, &mut orders, place as u32, wanted[place]);
+    }
+    orders
+}
+
+// Whether no retrieval is on at any store.
+fn are_idle(stores: &[Held]) -> bool
+    ensures idle { IsTrue result → All (λ h. h.state.retrieval ≡ None) stores.now }
+{
+    stores.iter().all(|store| store.state.retrieval().is_none())
+}
+
+// Dumps as many blocks as are wanted of each store.
+fn dumped<L: Link + Send, R: Threads + Wait + Sync + Abort>(
+    rt: &R,
+    alloc: Global,
+    wanted: &[u32],
+    stores: &mut Vec<Held>,
+    links: &mut [L],
+) -> Dumped {
+    let are_few = wanted.len() <= 4 && !links.is_empty() && links.len() <= 4;
+    assert!(rt;
+        are_few && stores.len() == wanted.len(),
+        "few links, and an amount for each of few stores"
+    );
+    assert!(rt;
+        may_fail(links) && are_idle(stores),
+        "links that may fail, and no retrieval is on"
+    );
+    let orders = new_orders(rt, alloc, wanted);
+    dump(rt, alloc, &orders, stores, links).expect(rt, "memory")
+}
+
+// A store stands under its name and channel, has lost nothing, and no retrieval is on.
+fn is_whole(rt: &impl Abort, store: &Held, name: &str) {
+    is_named(rt, &store.id, name);
+    assert!(rt; store.channel == 3, "the channel");
+    assert!(rt; store.state.lost() == 0, "none is lost");
+    assert!(rt; store.state.retrieval().is_none(), "no retrieval is on");
+}
+
+// A store holds this many packets, and this many were deleted.
+fn has(rt: &impl Abort, store: &Held, held: u32, deleted: u64) {
+    assert!(rt; store.state.store().len() == held, "how many are held");
+    assert!(rt; store.state.deleted() == deleted, "how many are deleted");
+}
+
+// How many packets stores hold, and how many were deleted; nothing else is changed.
+fn have(rt: &impl Abort, stores: &[Held], counts: &[(u32, u64)]) {
+    assert!(rt; stores.len() == counts.len(), "as many stores");
+    for ((store, name), (held, deleted)) in stores.iter().zip(&NAMES).zip(counts) {
+        is_whole(rt, store, *name);
+        has(rt, store, *held, *deleted);
+    }
+}
+
+// A step: what stores hold, how links fail, and how much is wanted; and then why it ends, how much is spent, what stores hold and
+// deleted, and what each link took and how often it failed.
+#[derive(Clone, Copy)]
+struct Case {
+    held: &'static [u16],
+    until: &'static [Option<u64>],
+    wanted: &'static [u32],
+    broken: Option<OrderBroken>,
+    spent: u64,
+    counts: &'static [(u32, u64)],
+    sent: &'static [(&'static str, u16)],
+    failures: u64,
+}
+
+// What each link took, and how often it failed.
+fn all_took(rt: &impl Abort, links: &[MemoryLink], case: &Case) {
+    assert!(rt; links.len() == case.until.len(), "as many links");
+    for link in links {
+        took(rt, link, case.sent);
+        assert!(rt; link.failures() == case.failures, "how often it failed");
+    }
+}
+
+// Carries out the step of a case, and compares.
+fn tried<R: Threads + Wait + Sync + Abort>(rt: &R, alloc: Global, case: &Case) {
+    let mut stores = stores_with(rt, alloc, case.held);
+    let mut links = new_links(rt, alloc, case.until);
+    let Dumped { broken, spent } = dumped(rt, alloc, case.wanted, &mut stores, &mut links);
+    assert!(rt; broken == case.broken, "the worst cause");
+    assert!(rt; spent == case.spent, "how much was spent");
+    have(rt, &stores, case.counts);
+    all_took(rt, &links, case);
+}
+
+const OLDEST: Case = Case {
+    held: &[3, 2, 0, 1],
+    until: &[None],
+    wanted: &[2, 0, 4, 3],
+    broken: None,
+    spent: 3,
+    counts: &[(1, 2), (2, 0), (0, 0), (0, 1)],
+    sent: &[("AAA", 1), ("AAA", 2), ("DDD", 1)],
+    failures: 0,
+};
+
+const NO_ORDERS: Case = Case {
+    held: &[1],
+    until: &[None, None],
+    wanted: &[0],
+    spent: 0,
+    counts: &[(1, 0)],
+    sent: &[],
+    ..OLDEST
+};
+
+const ALL_HELD: Case = Case {
+    held: &[3],
+    wanted: &[3],
+    counts: &[(0, 3)],
+    sent: &[("AAA", 1), ("AAA", 2), ("AAA", 3)],
+    ..OLDEST
+};
+
+const MORE_THAN_HELD: Case = Case {
+    wanted: &[5],
+    ..ALL_HELD
+};
+
+const FIRST_SEND_FAILS: Case = Case {
+    held: &[3],
+    until: &[Some(0)],
+    wanted: &[2],
+    broken: Some(OrderBroken::LinkFailed),
+    spent: 1,
+    counts: &[(3, 0)],
+    sent: &[],
+    failures: 1,
+};
+
+const SECOND_SEND_FAILS: Case = Case {
+    until: &[Some(1)],
+    wanted: &[3],
+    spent: 2,
+    sent: &[("AAA", 1)],
+    ..FIRST_SEND_FAILS
+};
+
+const SECOND_ORDER_BREAKS: Case = Case {
+    held: &[1, 1, 1],
+    wanted: &[1, 1, 1],
+    counts: &[(0, 1), (1, 0), (1, 0)],
+    ..SECOND_SEND_FAILS
+};
+
+#[test]
+fn the_oldest_of_each_store_go_over_one_link(rt: HostRuntime) {
+    tried(&rt, rt.alloc(), &OLDEST);
+}
+
+#[test]
+fn a_step_without_orders_leaves_all(rt: HostRuntime) {
+    tried(&rt, rt.alloc(), &NO_ORDERS);
+}
+
+#[test]
+fn an_order_that_breaks_deletes_nothing(rt: HostRuntime) {
+    tried(&rt, rt.alloc(), &SECOND_SEND_FAILS);
+}
+
+#[test]
+fn a_worker_that_broke_off_takes_no_further_order(rt: HostRuntime) {
+    tried(&rt, rt.alloc(), &SECOND_ORDER_BREAKS);
+}
+
+#[test]
+fn all_that_is_held_goes(rt: HostRuntime) {
+    tried(&rt, rt.alloc(), &ALL_HELD);
+}
+
+#[test]
+fn an_order_for_more_than_is_held_takes_all(rt: HostRuntime) {
+    tried(&rt, rt.alloc(), &MORE_THAN_HELD);
+}
+
+#[test]
+fn a_failed_first_send_is_spent(rt: HostRuntime) {
+    tried(&rt, rt.alloc(), &FIRST_SEND_FAILS);
+}
+
+// What an order broke off stays in the store: the next dump sends it again.
+#[test]
+fn packets_of_a_broken_order_are_sent_again(rt: HostRuntime) {
+    let alloc = rt.alloc();
+    let mut stores = stores_with(&rt, alloc, &[3]);
+    let mut links = new_links(&rt, alloc, &[Some(1)]);
+    let first = dumped(&rt, alloc, &[2], &mut stores, &mut links);
+    assert!(rt; first.broken == Some(OrderBroken::LinkFailed), "it breaks");
+    let second = dumped(&rt, alloc, &[2], &mut stores, &mut links);
+    assert!(rt; second.broken.is_none() && second.spent == 2, "it goes");
+    have(&rt, &stores, &[(1, 2)]);
+    for link in &links {
+        took(&rt, link, &[("AAA", 1), ("AAA", 1), ("AAA", 2)]);
+    }
+}
+
+// How many packets stores hold together.
+fn held_in_all(stores: &[Held]) -> u32 {
+    let mut held = 0u32;
+    for store in stores {
+        held = held.saturating_add(store.state.store().len());
+    }
+    held
+}
+
+// Of three orders the link that fails broke one, or was given none; the other link carried out the rest.
+fn other_went_on(rt: &impl Abort, stores: &[Held], failing: &MemoryLink, other: &MemoryLink) {
+    let kept = held_in_all(stores);
+    let has_failed = failing.taken().is_empty() && failing.failures() == u64::from(kept);
+    assert!(rt;
+        kept <= 1 && has_failed,
+        "one order breaks at the most, and nothing went over the link that fails"
+    );
+    assert!(rt;
+        other.taken().len() + kept as usize == 3,
+        "the other orders are whole"
+    );
+}
+
+#[test]
+fn the_other_worker_goes_on_where_one_broke_off(rt: HostRuntime) {
+    let alloc = rt.alloc();
+    let mut stores = stores_with(&rt, alloc, &[1, 1, 1]);
+    let mut links = new_links(&rt, alloc, &[Some(0), None]);
+    dumped(&rt, alloc, &[1, 1, 1], &mut stores, &mut links);
+    match links.as_slice() {
+        [failing, other] => other_went_on(&rt, &stores, failing, other),
+        _ => assert!(rt; false, "two links"),
+    }
+}

@@ -1,0 +1,84 @@
+//! Counts that threads raise, and for which they wait, so that they meet; and sources that do so.
+
+use crate::tests::sources::{Script, new_script};
+use mm_packet::BlockPacket;
+use mm_record::Source;
+use std::alloc::Global;
+use std::process::Abort;
+use std::sync::Arc;
+use std::sync::atomic::{AtomicU64, Ordering};
+use std::thread::yield_now;
+
+// The turns for which a thread waits.
+const TURNS: u32 = 1_000_000;
+
+/// Whether a count comes up to a number before the turns are used up.
+pub fn comes_to(count: &AtomicU64, number: u64) -> bool {
+    (0..TURNS).any(|_| {
+        yield_now();
+        count.load(Ordering::SeqCst) >= number
+    })
+}
+
+pub fn counter(rt: &impl Abort, alloc: Global) -> Arc<AtomicU64, Global> {
+    Arc::new(alloc, AtomicU64::new(0)).expect(rt, "memory")
+}
+
+pub fn shared(rt: &impl Abort, count: &Arc<AtomicU64, Global>) -> Arc<AtomicU64, Global> {
+    Arc::try_clone(count).expect(rt, "memory")
+}
+
+/// A source that gives its packet once all sources were asked for theirs, and notes where they were not.
+#[derive(Drop)]
+pub struct GatedSource {
+    script: Script,
+    asked: Arc<AtomicU64, Global>,
+    all: u64,
+    missed: bool,
+}
+
+impl Source for GatedSource {
+    ghost use Rattle.std.specs.Prelude.{◌==◌, if◌then◌else◌, []};
+
+    ghost gives = { λ g t. if t == 1 then g.script.one.items else if t == 2 then g.script.two.items else if t == 3 then g.script.three.items else [] };
+
+    fn left(&self, step: u32) -> u32 {
+        self.script.left(step)
+    }
+
+    fn next(&mut self, step: u32) -> Option<BlockPacket> {
+        self.asked.fetch_add(1, Ordering::SeqCst);
+        self.missed = self.missed || !comes_to(&self.asked, self.all);
+        self.script.next(step)
+    }
+}
+
+/// Sources of one packet each, this many for each of these APIDs.
+pub fn gated_sources(rt: &impl Abort, alloc: Global, apids: &[u16], each: u32) -> Vec<GatedSource> {
+    let asked = counter(rt, alloc);
+    let all = (apids.len() as u64).saturating_mul(u64::from(each));
+    let mut list = Vec::new(alloc);
+    for apid in apids {
+        for _ in 0..each {
+            let source = GatedSource {
+                script: new_script(rt, alloc, *apid, [1, 0, 0]),
+                asked: shared(rt, &asked),
+                all,
+                missed: false,
+            };
+            list.push(source).expect(rt, "memory");
+        }
+    }
+    list
+}
+
+/// These are so many sources, each of which met the others and has nothing left.
+pub fn all_met(rt: &impl Abort, sources: &[GatedSource], many: usize) {
+    assert!(rt; sources.len() == many, "all sources come back");
+    for source in sources {
+        assert!(rt;
+            !source.missed && source.left(1) == 0,
+            "each met the others"
+        );
+    }
+}

@@ -1,0 +1,307 @@
+//! Steps of recorders, with counts by hand.
+use crate::tests::samples::{counts, id, memory_in_room, memory_of, next_after, packet};
+use crate::tests::sources::{
+    Script, all_have_left, has_left, new_script, script_of, scripts, scripts_in_room,
+};
+use mm_base::StoreId;
+use mm_desk::{Fault, Held};
+use mm_memory::Memory;
+use mm_packet::{BlockPacket, Header, Octets, Packet};
+use mm_record::{
+    Cause, RecordHalted, Recorded, RecordedStep, RecordingStep, cause_in, record, record_step,
+};
+use std::alloc::Global;
+use std::process::Abort;
+use std::sync::Wait;
+use std::thread::Threads;
+
+mod crowds;
+
+// A circular store C and a bounded store B of two blocks, which both have all telemetry of APID 100, service 3, subtype 25.
+const TWO_STORES: &str =
+    "[[store]]\nid = \"C\"\nsize = 2\ntype = \"circular\"\nchannel = 3\n\n[[store]]\nid = \"B\"\nsize = 2\ntype = \"bounded\"\nchannel = 0\n\n[[route]]\napid = 100\nservice = 3\nsubtype = 25\nstore = \"C\"\n\n[[route]]\napid = 100\nservice = 3\nsubtype = 25\nstore = \"B\"\n";
+
+// A telecommand of APID 100 with the service and subtype of that telemetry.
+fn telecommand(rt: &impl Abort, alloc: Global) -> BlockPacket {
+    let data = Octets::new(Vec::new(alloc)).expect(rt, "memory");
+    let packet = Packet::tc(Header::new(100, 0, 3, 25), 0, data);
+    BlockPacket::of(packet).expect(rt, "a short packet")
+}
+
+// A store holds these packets of APID 100 alone, by their times and sequence counts.
+fn holds(rt: &impl Abort, memory: &Memory, store: &StoreId, packets: &[(u64, u16)]) {
+    let state = memory.state(store).expect(rt, "a store");
+    let mut after = 0;
+    for (time, count) in packets {
+        let found = next_after(state, after);
+        assert!(rt; found == Some((*time, 100, *count)), "packet {count}");
+        after = *time;
+    }
+    assert!(rt; next_after(state, after).is_none(), "no more packets");
+}
+
+fn recorded<S: Drop>(
+    rt: &impl Abort,
+    answer: Result<RecordedStep<S>, RecordHalted<S>>,
+) -> RecordedStep<S> {
+    match answer {
+        Ok(step) => step,
+        Err(_) => panic!(rt; "the step is recorded"),
+    }
+}
+
+// So many packets came to a store, and so many were lost.
+fn has_recorded(rt: &impl Abort, row: &Recorded, came: u64, lost: u64) {
+    assert!(rt; row.came == came, "how many came");
+    assert!(rt; row.lost == lost, "how many were lost");
+}
+
+// These are so many rows: so many packets came to each store, and none was lost.
+fn all_recorded(rt: &impl Abort, rows: &[Recorded], many: usize, came: u64) {
+    assert!(rt; rows.len() == many, "{many} rows");
+    for row in rows {
+        has_recorded(rt, row, came, 0);
+    }
+}
+
+// The row is of this store, to which three packets came, of which one was lost.
+fn lost_one_of_three(rt: &impl Abort, row: &Recorded, store: &StoreId) {
+    assert!(rt; row.store == *store, "the store");
+    has_recorded(rt, row, 3, 1);
+}
+
+// Both stores lost one of the three packets of one source.
+fn both_lost_one(rt: &impl Abort, step: &RecordedStep<Script>, stores: &[StoreId; 2]) {
+    assert!(rt; step.recorded.len() == 2, "two stores");
+    for (row, store) in step.recorded.iter().zip(stores) {
+        lost_one_of_three(rt, row, store);
+    }
+    all_have_left(rt, &step.sources, 1, [0, 0, 0]);
+}
+
+// The store at a place has this identifier and virtual channel.
+fn stands_at(rt: &impl Abort, memory: &Memory, place: u32, store: (StoreId, u8)) {
+    assert!(rt; memory.entry(place) == Some(store), "store {place}");
+}
+
+#[test]
+fn record_one_step(rt: HostRuntime) {
+    let alloc = rt.alloc();
+    let mut memory = memory_of(&rt, alloc, TWO_STORES);
+    let (circular, bounded) = (id(&rt, "C"), id(&rt, "B"));
+    let sources = scripts(&rt, alloc, 1, [3, 0, 0]);
+    let step = recorded(&rt, record_step(&rt, alloc, &mut memory, 1, 0, sources));
+    both_lost_one(&rt, &step, &[circular, bounded]);
+    holds(&rt, &memory, &circular, &[(2, 2), (3, 3)]);
+    holds(&rt, &memory, &bounded, &[(1, 1), (2, 2)]);
+    stands_at(&rt, &memory, 0, (circular, 3));
+    stands_at(&rt, &memory, 1, (bounded, 0));
+}
+
+// How many packets were offered to a store, lost and deleted, and how many it holds.
+fn counts_of(rt: &impl Abort, memory: &Memory, store: &StoreId) -> [u64; 4] {
+    counts(memory.state(store).expect(rt, "a store"))
+}
+
+// These of each store of a memory.
+fn counts_of_both(rt: &impl Abort, memory: &Memory) -> [[u64; 4]; 2] {
+    let (circular, bounded) = (id(rt, "C"), id(rt, "B"));
+    let first = counts_of(rt, memory, &circular);
+    [first, counts_of(rt, memory, &bounded)]
+}
+
+// The sources come back whole from a step that is refused for this cause.
+fn refuses(rt: &impl Abort, halted: &RecordHalted<Script>, many: u32, want: Cause) {
+    assert!(rt; halted.cause == want, "the cause");
+    all_have_left(rt, &halted.sources, many as usize, [3, 0, 0]);
+}
+
+// A step that is refused for this cause leaves the memory and its sources as they were.
+fn refused<R: Threads + Wait + Sync + Abort>(
+    rt: &R,
+    alloc: Global,
+    memory: &mut Memory,
+    base: u64,
+    many: u32,
+    want: Cause,
+) {
+    let before = counts_of_both(rt, memory);
+    let sources = scripts(rt, alloc, many, [3, 0, 0]);
+    let Err(halted) = record_step(rt, alloc, memory, 1, base, sources) else {
+        panic!(rt; "the step is refused");
+    };
+    refuses(rt, &halted, many, want);
+    let after = counts_of_both(rt, memory);
+    assert!(rt; after == before, "the stores are as they were");
+}
+
+const TOO_LATE: u64 = (1 << 63) + 1;
+
+#[test]
+fn steps_refused_before_they_begin(rt: HostRuntime) {
+    let alloc = rt.alloc();
+    let mut memory = memory_of(&rt, alloc, TWO_STORES);
+    refused(&rt, alloc, &mut memory, 0, 0, Cause::Counts);
+    refused(&rt, alloc, &mut memory, 0, 9, Cause::Counts);
+    refused(&rt, alloc, &mut memory, TOO_LATE, 9, Cause::ClockTooLate);
+    let store = id(&rt, "B");
+    memory.state_mut(&store).expect(&rt, "a store").disable();
+    let no_bounded = Cause::NotReady { store };
+    refused(&rt, alloc, &mut memory, TOO_LATE, 9, no_bounded);
+    let store = id(&rt, "C");
+    let state = memory.state_mut(&store).expect(&rt, "a store");
+    assert!(rt; state.begin(0, u64::MAX).is_ok(), "a retrieval");
+    let no_circular = Cause::NotReady { store };
+    refused(&rt, alloc, &mut memory, 0, 1, no_circular);
+}
+
+#[test]
+fn a_late_storage_time_refuses_a_step(rt: HostRuntime) {
+    let alloc = rt.alloc();
+    let mut memory = memory_of(&rt, alloc, TWO_STORES);
+    let circular = id(&rt, "C");
+    let packet = packet(&rt, alloc, 1);
+    let state = memory.state_mut(&circular).expect(&rt, "a store");
+    assert!(rt; state.offer(TOO_LATE, packet).is_ok(), "a packet");
+    refused(&rt, alloc, &mut memory, 0, 1, Cause::ClockTooLate);
+}
+
+// A source of one telecommand in step 1.
+fn one_command(rt: &impl Abort, alloc: Global) -> Script {
+    let mut commands = Vec::new(alloc);
+    commands.push(telecommand(rt, alloc)).expect(rt, "memory");
+    script_of(commands, Vec::new(alloc), Vec::new(alloc)).expect(rt, "a source")
+}
+
+// Three sources: packets of another step, packets of another APID, and a telecommand.
+fn sources_of_others(rt: &impl Abort, alloc: Global) -> Vec<Script> {
+    let later = new_script(rt, alloc, 100, [0, 3, 0]);
+    let other = new_script(rt, alloc, 101, [3, 0, 0]);
+    let command = one_command(rt, alloc);
+    let mut sources = Vec::new(alloc);
+    for source in [later, other, command] {
+        sources.push(source).expect(rt, "memory");
+    }
+    sources
+}
+
+// The first of three sources has the packets of step 2 left, and the others have none.
+fn only_later_are_left(rt: &impl Abort, sources: &[Script]) {
+    let [later, others @ ..] = sources else {
+        panic!(rt; "sources");
+    };
+    has_left(rt, later, [0, 3, 0]);
+    all_have_left(rt, others, 2, [0, 0, 0]);
+}
+
+#[test]
+fn packets_of_other_steps_types_and_kinds_are_not_stored(rt: HostRuntime) {
+    let alloc = rt.alloc();
+    let mut memory = memory_of(&rt, alloc, TWO_STORES);
+    let sources = sources_of_others(&rt, alloc);
+    let step = recorded(&rt, record_step(&rt, alloc, &mut memory, 1, 0, sources));
+    all_recorded(&rt, &step.recorded, 2, 0);
+    only_later_are_left(&rt, &step.sources);
+}
+
+// Stores and sources are lent to recorders; this is why some stopped early.
+fn lend_and_record<R: Threads + Wait + Sync + Abort>(
+    rt: &R,
+    alloc: Global,
+    memory: &mut Memory,
+    sources: &mut [Script],
+) -> Option<Fault> {
+    let mut stores = memory.lift();
+    assert!(rt; sources.len() <= 16, "few sources");
+    let step = RecordingStep {
+        control: memory.control(),
+        step: 1,
+        now: 0,
+    };
+    let Ok(why) = record(rt, alloc, &step, &mut stores, sources) else {
+        panic!(rt; "memory");
+    };
+    // B comes first in the table, so each recorder offered it one packet and then stopped at C.
+    assert!(rt; stores.len() == 2, "two stores");
+    for (store, (offered, lost)) in stores.iter().zip(&[(0, 0), (3, 1)]) {
+        was_offered(rt, store, *offered, *lost);
+    }
+    why
+}
+
+// A store was offered so many packets, and lost so many.
+fn was_offered(rt: &impl Abort, store: &Held, offered: u64, lost: u64) {
+    assert!(rt; store.state.offered() == offered, "how many came");
+    assert!(rt; store.state.lost() == lost, "how many were lost");
+}
+
+// The store C has its storage off, so recorders stop there; this halts a run.
+#[test]
+fn a_store_that_is_off_breaks_recorders_off(rt: HostRuntime) {
+    let alloc = rt.alloc();
+    let mut memory = memory_of(&rt, alloc, TWO_STORES);
+    let circular = id(&rt, "C");
+    memory.state_mut(&circular).expect(&rt, "a store").disable();
+    let mut sources = scripts(&rt, alloc, 3, [3, 0, 0]);
+    let why = lend_and_record(&rt, alloc, &mut memory, &mut sources);
+    assert!(rt; why == Some(Fault::Disabled), "why they stopped early");
+    let mismatch = Cause::LogMismatch { step: 1 };
+    assert!(rt; cause_in(1, why) == Some(mismatch), "the cause");
+    all_have_left(&rt, &sources, 3, [2, 0, 0]);
+}
+
+// A step of three sources that had memory to begin has recorded all. One that had none has changed nothing, also where some of the stores
+// had been opened. Whether all is recorded.
+fn is_whole_or_nothing(
+    rt: &impl Abort,
+    memory: &Memory,
+    answer: Result<RecordedStep<Script>, RecordHalted<Script>>,
+) -> bool {
+    let counts = counts_of_both(rt, memory);
+    match answer {
+        Ok(step) => {
+            all_have_left(rt, &step.sources, 3, [0, 0, 0]);
+            assert!(rt; counts == [[9, 7, 0, 2]; 2], "all is recorded");
+            true
+        }
+        Err(halted) => {
+            refuses(rt, &halted, 3, Cause::NoMemory { step: 1 });
+            assert!(rt; counts == [[0; 4]; 2], "nothing has changed");
+            false
+        }
+    }
+}
+
+// Records the step, where there is room for it; whether all was recorded.
+fn recorded_all<R: Threads + Wait + Sync + Abort>(rt: &R, alloc: Global) -> Option<bool> {
+    let mut memory = memory_in_room(alloc, TWO_STORES)?;
+    let sources = scripts_in_room(alloc, 3, [3, 0, 0])?;
+    let answer = record_step(rt, alloc, &mut memory, 1, 0, sources);
+    Some(is_whole_or_nothing(rt, &memory, answer))
+}
+
+// `rt try --test --fail-alloc N` refuses the N-th allocation of each test. One at the most is refused, so one of two steps at the least
+// records all.
+#[test]
+fn a_step_records_all_or_changes_nothing(rt: HostRuntime) {
+    let first = recorded_all(&rt, rt.alloc());
+    let second = recorded_all(&rt, rt.alloc());
+    assert!(rt;
+        first == Some(true) || second == Some(true),
+        "one step of two"
+    );
+}
+
+fn shows(rt: &impl Abort, alloc: Global, cause: Cause, text: &str) {
+    let shown = cause.to_string(alloc).expect(rt, "memory");
+    assert!(rt; shown.as_str() == text, "{text}");
+}
+
+// A cause is shown with its number and its name, without its store or step.
+#[test]
+fn causes_are_told_by_number_and_name(rt: HostRuntime) {
+    let alloc = rt.alloc();
+    let store = id(&rt, "C");
+    shows(&rt, alloc, Cause::NotReady { store }, "39 NotReady");
+    shows(&rt, alloc, Cause::LogMismatch { step: 1 }, "47 LogMismatch");
+}

@@ -1,0 +1,10 @@
+//! Whole runs: their reports, what they leave, and why some are refused or halted.
+
+mod allocations;
+mod crowds;
+mod flights;
+mod halts;
+mod refusals;
+mod rows;
+mod standing;
+mod trials;

@@ -1,0 +1,308 @@
+//! Several sources and links at once: gates that open once all stand at them, one queue of orders, and a hundred runs.
+
+use crate::tests::gates::{GatedSource, all_met, comes_to, counter, gated_sources, shared};
+use crate::tests::links::{has_sent, has_taken, new_links};
+use crate::tests::runs::trials::{Left, Task, Trial, has_cause, has_text, left, setup, task};
+use crate::tests::samples::id;
+use crate::tests::sources::{Script, new_script, scripts};
+use mm_base::StoreId;
+use mm_dump::{Link, MemoryLink, SendFailed};
+use mm_exec::{Cause, Flight, Halted};
+use mm_packet::BlockPacket;
+use mm_record::Source;
+use std::alloc::Global;
+use std::process::Abort;
+use std::sync::atomic::{AtomicU64, Ordering};
+use std::sync::{Arc, Wait};
+use std::thread::Threads;
+
+// What a send waits for.
+#[derive(Clone, Copy)]
+enum Awaits {
+    // Each waits until so many have begun.
+    Begun(u64),
+    // The first one waits until so many others have ended.
+    Ended(u64),
+}
+
+// A link whose sends wait for those of other links, and fail where these do not come.
+#[derive(Drop)]
+struct GatedLink {
+    link: MemoryLink,
+    begun: Arc<AtomicU64, Global>,
+    ended: Arc<AtomicU64, Global>,
+    awaits: Awaits,
+}
+
+impl GatedLink {
+    // Begins a send, and says whether what it awaits came.
+    fn begins(&self) -> bool {
+        let before = self.begun.fetch_add(1, Ordering::SeqCst);
+        match self.awaits {
+            Awaits::Begun(number) => comes_to(&self.begun, number),
+            Awaits::Ended(number) => before > 0 || comes_to(&self.ended, number),
+        }
+    }
+}
+
+impl Link for GatedLink {
+    ghost sent = { λ g. g.link.sent };
+
+    ghost failed = { λ g. g.link.failed };
+
+    fn send(&mut self, store: &StoreId, time: u64, packet: &BlockPacket) -> Result<(), SendFailed> {
+        if !self.begins() {
+            return Err(self.link.refuse());
+        }
+        self.link.send(store, time, packet)?;
+        self.ended.fetch_add(1, Ordering::SeqCst);
+        Ok(())
+    }
+
+    fn failures(&self) -> u64 {
+        self.link.failures()
+    }
+}
+
+// Links of which each fails once, after a number of sends, or never.
+fn gated_links(
+    rt: &impl Abort,
+    alloc: Global,
+    until: &[Option<u64>],
+    awaits: Awaits,
+) -> Vec<GatedLink> {
+    let begun = counter(rt, alloc);
+    let ended = counter(rt, alloc);
+    let mut list = Vec::new(alloc);
+    for link in new_links(rt, alloc, until) {
+        let link = GatedLink {
+            link,
+            begun: shared(rt, &begun),
+            ended: shared(rt, &ended),
+            awaits,
+        };
+        list.push(link).expect(rt, "memory");
+    }
+    list
+}
+
+// A task of one step for stores with an APID each: sources of one packet, so many for each store, and links, each of which is to send
+// as many packets.
+struct Meeting {
+    task: Task,
+    apids: &'static [u16],
+    each: u32,
+    links: &'static [Option<u64>],
+}
+
+static MEETINGS: [Meeting; 2] = [
+    Meeting {
+        task: task! {
+            { store "A", apid 1, size 1, type "bounded", channel 0; store "B", apid 2, size 1, type "bounded", channel 0; }
+            "step,window,A,B\n1,2,1,1\n" "mmplan 1\nstores A B\ndump 1 1 1\nloss 0\nbound 0\nend\n"
+        },
+        apids: &[1, 2],
+        each: 1,
+        links: &[None, None],
+    },
+    Meeting {
+        task: task! {
+            {
+                store "A", apid 1, size 2, type "bounded", channel 0; store "B", apid 2, size 2, type "bounded", channel 0;
+                store "C", apid 3, size 2, type "bounded", channel 0; store "D", apid 4, size 2, type "bounded", channel 0;
+            }
+            "step,window,A,B,C,D\n1,8,2,2,2,2\n" "mmplan 1\nstores A B C D\ndump 1 2 2 2 2\nloss 0\nbound 0\nend\n"
+        },
+        apids: &[1, 2, 3, 4],
+        each: 2,
+        links: &[None, None, None, None],
+    },
+];
+
+// These are so many links, each of which has sent so many packets.
+fn all_sent(rt: &impl Abort, links: &[GatedLink], many: usize, each: usize) {
+    assert!(rt; links.len() == many, "all links come back");
+    for link in links {
+        has_sent(rt, "a meeting", &link.link, each, 0);
+    }
+}
+
+// Carries out the plan over gated links, which goes well.
+fn flown<S: Source + Send + Drop, R: Threads + Wait + Sync + Abort>(
+    rt: &R,
+    trial: &mut Trial,
+    sources: Vec<S>,
+    links: Vec<GatedLink>,
+) -> Flight<S, GatedLink> {
+    let Ok(flight) = trial.run(rt, sources, links, 0) else {
+        panic!(rt; "the plan is carried out");
+    };
+    flight
+}
+
+// All sources meet, all links meet, and nothing is lost.
+fn all_meet<R: Threads + Wait + Sync + Abort>(rt: &R, alloc: Global, meeting: &Meeting) {
+    let Meeting {
+        task,
+        apids,
+        each,
+        links: until,
+    } = meeting;
+    let mut trial = Trial::new(rt, alloc, task);
+    let sources = gated_sources(rt, alloc, apids, *each);
+    let links = gated_links(rt, alloc, until, Awaits::Begun(until.len() as u64));
+    let flight = flown(rt, &mut trial, sources, links);
+    all_met(
+        rt,
+        &flight.sources,
+        apids.len().saturating_mul(*each as usize),
+    );
+    all_sent(rt, &flight.links, until.len(), *each as usize);
+    assert!(rt; flight.report.totals().lost == 0, "nothing is lost");
+}
+
+#[test]
+fn gates_meet(rt: HostRuntime) {
+    for meeting in &MEETINGS {
+        all_meet(&rt, rt.alloc(), meeting);
+    }
+}
+
+static FOUR_ORDERS: Task = task! {
+    {
+        store "A", apid 1, size 1, type "bounded", channel 0; store "B", apid 2, size 1, type "bounded", channel 0;
+        store "C", apid 3, size 1, type "bounded", channel 0; store "D", apid 4, size 1, type "bounded", channel 0;
+    }
+    "step,window,A,B,C,D\n1,4,1,1,1,1\n" "mmplan 1\nstores A B C D\ndump 1 1 1 1 1\nloss 0\nbound 0\nend\n"
+};
+
+// A source for each of these APIDs, which gives so many packets in step 1.
+fn sources_by_apid(rt: &impl Abort, alloc: Global, apids: &[u16], many: u16) -> Vec<Script> {
+    let mut sources = Vec::new(alloc);
+    for apid in apids {
+        sources
+            .push(new_script(rt, alloc, *apid, [many, 0, 0]))
+            .expect(rt, "memory");
+    }
+    sources
+}
+
+// The most packets that one of these links took, of which none failed.
+fn most_sent(rt: &impl Abort, links: &[GatedLink]) -> usize {
+    let mut most = 0;
+    for link in links {
+        assert!(rt; link.failures() == 0, "no send failed");
+        most = most.max(link.link.taken().len());
+    }
+    most
+}
+
+// The first send of all waits for three others, so one link carries out one order and the other three.
+#[test]
+fn orders_from_one_queue(rt: HostRuntime) {
+    let alloc = rt.alloc();
+    let mut trial = Trial::new(&rt, alloc, &FOUR_ORDERS);
+    let sources = sources_by_apid(&rt, alloc, &[1, 2, 3, 4], 1);
+    let links = gated_links(&rt, alloc, &[None, None], Awaits::Ended(3));
+    let flight = flown(&rt, &mut trial, sources, links);
+    let is_whole = flight.links.len() == 2 && flight.sources.len() == 4;
+    assert!(rt;
+        is_whole && flight.report.totals().dumped == 4,
+        "all come back, and all are dumped"
+    );
+    let most = most_sent(&rt, &flight.links);
+    assert!(rt; most == 3, "three orders of one link");
+}
+
+static TWO_ORDERS: Task = task! {
+    {
+        store "A", apid 1, size 2, type "bounded", channel 0; store "B", apid 2, size 2, type "bounded", channel 0;
+    }
+    "step,window,A,B\n1,4,2,2\n" "mmplan 1\nstores A B\ndump 1 2 2\nloss 0\nbound 0\nend\n"
+};
+
+// What is left of the stores, by which of them was the failing link's.
+static A_BROKE: [Left; 2] = [
+    left!("A", [2, 0, 0], [(1, 1), (2, 2)], []),
+    left!("B", [2, 0, 2], [], [1, 2]),
+];
+
+static B_BROKE: [Left; 2] = [
+    left!("A", [2, 0, 2], [], [1, 2]),
+    left!("B", [2, 0, 0], [(1, 1), (2, 2)], []),
+];
+
+// Of two links the first has failed once and sent nothing, and the second has sent what was sent of these stores.
+fn one_has_failed(rt: &impl Abort, halted: &Halted<Script, GatedLink>, stores: &[Left]) {
+    let name = "one of two links fails";
+    has_cause(rt, name, halted.cause, Cause::LinkFailed { step: 1 });
+    assert!(rt; halted.spent == 3, "{name}: two sent and one failed");
+    let [bad, good] = halted.links.as_slice() else {
+        panic!(rt; "{name}: both links");
+    };
+    has_sent(rt, name, &bad.link, 0, 1);
+    has_sent(rt, name, &good.link, 2, 0);
+    for left in stores {
+        has_taken(rt, name, &good.link, &id(rt, left.store), left.sent);
+    }
+}
+
+// Each of two links takes an order, and one fails at its first send: the other's order is whole, and the store of the broken one is as
+// it was after the packets came.
+#[test]
+fn one_of_two_links_fails(rt: HostRuntime) {
+    let alloc = rt.alloc();
+    let mut trial = Trial::new(&rt, alloc, &TWO_ORDERS);
+    let sources = sources_by_apid(&rt, alloc, &[1, 2], 2);
+    let links = gated_links(&rt, alloc, &[Some(0), None], Awaits::Begun(2));
+    let Err(halted) = trial.run(&rt, sources, links, 0) else {
+        panic!(&rt; "the run is halted");
+    };
+    let stores = match trial.deleted(&rt, "A") {
+        0 => &A_BROKE,
+        _ => &B_BROKE,
+    };
+    one_has_failed(&rt, &halted, stores);
+    trial.leaves(&rt, "one of two links fails", stores);
+}
+
+static EIGHT_EACH: Task = task! {
+    {
+        store "A", apid 100, size 1, type "bounded", channel 0; store "B", apid 100, size 2, type "circular", channel 0;
+        store "C", apid 100, size 3, type "bounded", channel 0; store "D", apid 100, size 4, type "circular", channel 0;
+    }
+    "step,window,A,B,C,D\n1,4,8,8,8,8\n2,3,0,0,0,0\n3,0,8,8,8,9\n"
+    "mmplan 1\nstores A B C D\ndump 1 1 1 1 1\ndump 2 0 1 1 1\ndump 3 0 0 0 0\nloss 48\nbound 0\nend\n"
+};
+
+const EIGHT_SOURCES: &str = "step 1 A arrived 8 lost 7 dumped 1 held 0\n\
+    step 1 B arrived 8 lost 6 dumped 1 held 1\n\
+    step 1 C arrived 8 lost 5 dumped 1 held 2\n\
+    step 1 D arrived 8 lost 4 dumped 1 held 3\n\
+    step 2 A arrived 0 lost 0 dumped 0 held 0\n\
+    step 2 B arrived 0 lost 0 dumped 1 held 0\n\
+    step 2 C arrived 0 lost 0 dumped 1 held 1\n\
+    step 2 D arrived 0 lost 0 dumped 1 held 2\n\
+    step 3 A arrived 8 lost 7 dumped 0 held 1\n\
+    step 3 B arrived 8 lost 6 dumped 0 held 2\n\
+    step 3 C arrived 8 lost 6 dumped 0 held 3\n\
+    step 3 D arrived 8 lost 6 dumped 0 held 4\n\
+    differs step 3 D forecast 9 came 8\n\
+    total arrived 64 lost 47 dumped 7 held 10\n";
+
+// Eight sources of one packet each in the steps 1 and 3, each for four stores of 1, 2, 3 and 4 blocks, and four links.
+fn eight_are_reported<R: Threads + Wait + Sync + Abort>(rt: &R, alloc: Global) {
+    let mut trial = Trial::new(rt, alloc, &EIGHT_EACH);
+    let sources = scripts(rt, alloc, 8, [1, 0, 1]);
+    let links = new_links(rt, alloc, &[None, None, None, None]);
+    let flight = trial.flown(rt, sources, links, 0);
+    has_text(rt, alloc, "eight sources", &flight.report, EIGHT_SOURCES);
+}
+
+// The report is the same whatever the threads did.
+#[test]
+fn a_hundred_runs_report_the_same(rt: HostRuntime) {
+    for _ in 0..100 {
+        eight_are_reported(&rt, rt.alloc());
+    }
+}

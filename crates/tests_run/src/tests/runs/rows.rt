@@ -1,0 +1,212 @@
+//! Runs that are carried out: their reports, and what they leave in the stores and on the links.
+
+use crate::tests::links::{all_have_sent, has_sent, new_links};
+use crate::tests::runs::trials::{
+    Change, FIRST_RUN, Left, ONE_STORE, Task, Trial, each_took, has_text, left, setup, task,
+};
+use crate::tests::samples::id;
+use crate::tests::sources::{Script, all_have_left, scripts};
+use mm_dump::MemoryLink;
+use mm_exec::{Cause, Flight};
+use mm_report::{Report, Tally};
+use std::alloc::Global;
+use std::process::Abort;
+use std::sync::Wait;
+use std::thread::Threads;
+
+// A run of one source, which gives this many packets in the steps 1, 2 and 3, and one link; what it reports, and what it leaves
+// of the stores.
+pub(crate) struct Run {
+    pub(crate) name: &'static str,
+    pub(crate) task: Task,
+    pub(crate) many: [u16; 3],
+    pub(crate) report: &'static str,
+    pub(crate) stores: &'static [Left],
+}
+
+macro_rules! run {
+    ($name:literal, $task:expr, $many:expr => $report:literal; $($left:expr),*) => {
+        Run { name: $name, task: $task, many: $many, report: $report, stores: &[$($left),*] }
+    };
+}
+
+pub(crate) use run;
+
+// The run has ended well and left this; the source has nothing left, and this many sends of the link have failed.
+pub(crate) fn has_ended(
+    rt: &impl Abort,
+    trial: &Trial,
+    flight: &Flight<Script, MemoryLink>,
+    run: &Run,
+    failures: u64,
+) {
+    let name = run.name;
+    has_text(rt, trial.alloc, name, &flight.report, run.report);
+    trial.leaves(rt, name, run.stores);
+    all_have_left(rt, &flight.sources, 1, [0, 0, 0]);
+    each_took(rt, name, &flight.links, 1, run.stores, failures);
+}
+
+// Carries out a run, over a link that fails after that many sends, if at all; returns the report.
+pub(crate) fn carries_out<R: Threads + Wait + Sync + Abort>(
+    rt: &R,
+    trial: &mut Trial,
+    until: Option<u64>,
+    run: &Run,
+) -> Report {
+    let alloc = trial.alloc;
+    let sources = scripts(rt, alloc, 1, run.many);
+    let flight = trial.flown(rt, sources, new_links(rt, alloc, &[until]), 0);
+    has_ended(rt, trial, &flight, run, 0);
+    flight.report
+}
+
+// Carries out a run over an empty memory, and returns its report.
+pub(crate) fn carried_out<R: Threads + Wait + Sync + Abort>(
+    rt: &R,
+    alloc: Global,
+    until: Option<u64>,
+    run: &Run,
+) -> Report {
+    let mut trial = Trial::new(rt, alloc, &run.task);
+    carries_out(rt, &mut trial, until, run)
+}
+
+static RUNS: [Run; 3] = [
+    // Of three packets a store of two blocks loses one, whatever its kind; which one is its kind's.
+    run! {
+        "ring and blocks lose alike", task! {
+            { store "C", apid 100, size 2, type "circular", channel 0; store "B", apid 100, size 2, type "bounded", channel 0; }
+            "step,window,C,B\n1,2,3,3\n" "mmplan 1\nstores C B\ndump 1 1 1\nloss 2\nbound 0\nend\n"
+        }, [3, 0, 0] => "step 1 C arrived 3 lost 1 dumped 1 held 1\nstep 1 B arrived 3 lost 1 dumped 1 held 1\n\
+            total arrived 6 lost 2 dumped 2 held 2\n";
+        left!("C", [3, 1, 1], [(3, 3)], [2]), left!("B", [3, 1, 1], [(2, 2)], [1])
+    },
+    // Where fewer packets are held than the plan dumps, all of them are dumped.
+    run! {
+        "fewer arrivals than forecast", FIRST_RUN, [3, 0, 4] =>
+        "step 1 SCI arrived 3 lost 0 dumped 2 held 1\nstep 2 SCI arrived 0 lost 0 dumped 1 held 0\n\
+            step 3 SCI arrived 4 lost 0 dumped 0 held 4\ndiffers step 2 SCI forecast 3 came 0\n\
+            total arrived 7 lost 0 dumped 3 held 4\n";
+        left!("SCI", [7, 0, 3], [(4, 4), (5, 5), (6, 6), (7, 7)], [1, 2, 3])
+    },
+    // Nothing comes and nothing may be sent in step 1, and in step 2 the first packet is stored two ticks after the base.
+    run! {
+        "a step has its own moment and window",
+        Task {
+            setup: ONE_STORE,
+            forecast: "step,window,SCI\n1,0,0\n2,2,3\n",
+            plan: "mmplan 1\nstores SCI\ndump 1 0\ndump 2 2\nloss 0\nbound 0\nend\n",
+        }, [0, 3, 0] =>
+        "step 1 SCI arrived 0 lost 0 dumped 0 held 0\nstep 2 SCI arrived 3 lost 0 dumped 2 held 1\n\
+            total arrived 3 lost 0 dumped 2 held 1\n";
+        left!("SCI", [3, 0, 2], [(4, 3)], [1, 2])
+    },
+];
+
+#[test]
+fn runs_that_end_well(rt: HostRuntime) {
+    for run in &RUNS {
+        carried_out(&rt, rt.alloc(), None, run);
+    }
+}
+
+pub(crate) static MORE_IN_STEP_3: Run = run! {
+    "more arrivals than forecast", FIRST_RUN, [3, 3, 5] =>
+    "step 1 SCI arrived 3 lost 0 dumped 2 held 1\nstep 2 SCI arrived 3 lost 0 dumped 2 held 2\n\
+        step 3 SCI arrived 5 lost 3 dumped 0 held 4\ndiffers step 3 SCI forecast 4 came 5\n\
+        total arrived 11 lost 3 dumped 4 held 4\n";
+    left!("SCI", [11, 3, 4], [(5, 5), (6, 6), (7, 7), (8, 8)], [1, 2, 3, 4])
+};
+
+static LAST_OF_MORE: Tally = Tally {
+    forecast: 4,
+    arrived: 5,
+    lost: 3,
+    dumped: 0,
+    held: 4,
+};
+
+// The report is of the store SCI and of this many steps, of which the last has this row.
+pub(crate) fn has_last_row(rt: &impl Abort, report: &Report, steps: u32, last: &Tally) {
+    assert!(rt; report.ids() == [id(rt, "SCI")].as_slice(), "the store");
+    assert!(rt; steps > 0 && report.steps() == steps, "{steps} steps");
+    assert!(rt; report.row(steps) == [*last].as_slice(), "the last row");
+}
+
+// In step 3 five packets come in place of four.
+#[test]
+fn run_with_other_arrivals(rt: HostRuntime) {
+    let report = carried_out(&rt, rt.alloc(), None, &MORE_IN_STEP_3);
+    has_last_row(&rt, &report, 3, &LAST_OF_MORE);
+    assert!(rt; report.totals().lost == 3, "three lost");
+}
+
+static FROM_TWO_HELD: Run = run! {
+    "opening contents", Task {
+        setup: setup! { store "SCI", apid 100, size 4, type "bounded", channel 0, start 2; },
+        ..FIRST_RUN
+    }, [3, 3, 4] =>
+    "step 1 SCI arrived 3 lost 1 dumped 2 held 2\nstep 2 SCI arrived 3 lost 1 dumped 2 held 2\n\
+        step 3 SCI arrived 4 lost 2 dumped 0 held 4\ntotal arrived 10 lost 4 dumped 4 held 4\n";
+    left!("SCI", [12, 4, 4], [(5, 4), (6, 5), (7, 7), (8, 8)], [900, 901, 1, 2])
+};
+
+static TWO_OFFERED: [Change; 2] = [Change::Offer(0, 900), Change::Offer(0, 901)];
+
+// The store holds two packets before the first step.
+#[test]
+fn opening_contents_run(rt: HostRuntime) {
+    let alloc = rt.alloc();
+    let mut trial = Trial::new(&rt, alloc, &FROM_TWO_HELD.task);
+    let store = id(&rt, "SCI");
+    let sources = scripts(&rt, alloc, 1, FROM_TWO_HELD.many);
+    let links = new_links(&rt, alloc, &[None]);
+    let want = ("not yet offered", Cause::OpeningDiffers { store });
+    let halted = trial.halted(&rt, sources, links, 0, want);
+    trial.change(&rt, &TWO_OFFERED);
+    let flight = trial.flown(&rt, halted.sources, halted.links, 0);
+    has_ended(&rt, &trial, &flight, &FROM_TWO_HELD, 0);
+}
+
+// Eight sources of three packets each in step 1, after the latest storage time, at the latest start.
+static AT_THE_LATEST_TIMES: &str = "step 1 SCI arrived 24 lost 20 dumped 2 held 2\n\
+    step 2 SCI arrived 0 lost 0 dumped 2 held 0\nstep 3 SCI arrived 0 lost 0 dumped 0 held 0\n\
+    differs step 1 SCI forecast 3 came 24\ndiffers step 2 SCI forecast 3 came 0\n\
+    differs step 3 SCI forecast 4 came 0\ntotal arrived 24 lost 20 dumped 4 held 0\n";
+
+static LATEST_TIME: [Change; 2] = [Change::Offer(1 << 63, 900), Change::Delete(u64::MAX, 1)];
+
+// No store refuses a packet, so the run is not halted by `47 LogMismatch`.
+#[test]
+fn no_packet_is_refused_at_the_latest_times(rt: HostRuntime) {
+    let alloc = rt.alloc();
+    let mut trial = Trial::new(&rt, alloc, &FIRST_RUN);
+    trial.change(&rt, &LATEST_TIME);
+    let sources = scripts(&rt, alloc, 8, [3, 0, 0]);
+    let links = new_links(&rt, alloc, &[None]);
+    let flight = trial.flown(&rt, sources, links, 1 << 63);
+    let name = "the latest times";
+    has_text(&rt, alloc, name, &flight.report, AT_THE_LATEST_TIMES);
+    all_have_sent(&rt, name, &flight.links, 1, 4);
+}
+
+// The one link took one packet, which was stored at this time.
+fn took_one_at(rt: &impl Abort, links: &[MemoryLink], time: u64) {
+    let [link] = links else {
+        panic!(rt; "one link");
+    };
+    has_sent(rt, "the latest start", link, 1, 0);
+    let is_taken = link.taken().iter().all(|taken| taken.stored.time == time);
+    assert!(rt; is_taken, "its time");
+}
+
+// A run begins at its base: the first packet of step 1 is stored one tick later.
+#[test]
+fn a_run_at_the_latest_start(rt: HostRuntime) {
+    let alloc = rt.alloc();
+    let mut trial = Trial::new(&rt, alloc, &FIRST_RUN);
+    let sources = scripts(&rt, alloc, 1, [1, 0, 0]);
+    let flight = trial.flown(&rt, sources, new_links(&rt, alloc, &[None]), 1 << 63);
+    took_one_at(&rt, &flight.links, (1 << 63) + 1);
+}

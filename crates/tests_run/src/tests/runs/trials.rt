@@ -1,0 +1,309 @@
+//! Runs of small problems: what they are given, and what they leave.
+
+use crate::tests::links::{has_sent, has_taken};
+use crate::tests::samples::{id, memory_in_room, next_after, packet};
+use crate::tests::sources::Script;
+use mm_base::MAX_BLOCKS;
+use mm_desk::StoreState;
+use mm_dump::{Link, MemoryLink, may_fail};
+use mm_exec::{Cause, Flight, Halted, carry_out};
+use mm_memory::Memory;
+use mm_plan::Sheet;
+use mm_problem::{Problem, Setup};
+use mm_record::Source;
+use mm_report::Report;
+use mm_store::PacketStore;
+use std::alloc::Global;
+use std::process::Abort;
+use std::sync::Wait;
+use std::thread::Threads;
+
+// The text of a setup: stores, each with a route of its own for telemetry of an APID, service 3, subtype 25, and limits.
+macro_rules! setup {
+    (
+        $(store $id:literal, apid $apid:literal $(, $key:ident $value:literal)+;)+
+        $(limit channel $channel:literal, blocks $blocks:literal;)*
+    ) => {
+        concat!(
+            $(
+                "[[store]]\nid = \"", $id, "\"\n",
+                $(stringify!($key), " = ", stringify!($value), "\n",)+
+                "\n[[route]]\napid = ", $apid, "\nservice = 3\nsubtype = 25\nstore = \"", $id, "\"\n\n",
+            )+
+            $("[[limit]]\nchannel = ", $channel, "\nblocks = ", $blocks, "\n",)*
+        )
+    };
+}
+
+pub(crate) use setup;
+
+// A task: the stores and limits of its setup, the text of its forecast, and that of its plan.
+macro_rules! task {
+    ({ $($setup:tt)* } $forecast:literal $plan:literal) => {
+        Task { setup: setup! { $($setup)* }, forecast: $forecast, plan: $plan }
+    };
+}
+
+pub(crate) use task;
+
+// What is carried out: the texts of a setup, of a forecast and of a plan.
+#[derive(Clone, Copy)]
+pub(crate) struct Task {
+    pub(crate) setup: &'static str,
+    pub(crate) forecast: &'static str,
+    pub(crate) plan: &'static str,
+}
+
+// One store, three steps, and the least loss.
+pub(crate) const THREE_STEPS: &str = "step,window,SCI\n1,2,3\n2,2,3\n3,0,4\n";
+
+pub(crate) const TWO_PASSES: &str =
+    "mmplan 1\nstores SCI\ndump 1 2\ndump 2 2\ndump 3 0\nloss 2\nstretch SCI 1 3\nbound 2\nend\n";
+
+pub(crate) const ONE_STORE: &str = setup! {
+    store "SCI", apid 100, size 4, type "bounded", channel 0;
+};
+
+// Its last storage time, or the first moment of a run, is later than it may be.
+pub(crate) const TOO_LATE: u64 = (1 << 63) + 1;
+
+pub(crate) const FIRST_RUN: Task = Task {
+    setup: ONE_STORE,
+    forecast: THREE_STEPS,
+    plan: TWO_PASSES,
+};
+
+// What the report of a run says of which no step was carried out.
+pub(crate) const NO_STEP: &str = "total arrived 0 lost 0 dumped 0 held 0\n";
+
+// What a run leaves of a store: how many packets were offered, lost and deleted, the times and sequence counts of those that it
+// holds, and the sequence counts of those that were sent.
+pub(crate) struct Left {
+    pub(crate) store: &'static str,
+    pub(crate) counts: [u64; 3],
+    pub(crate) held: &'static [(u64, u16)],
+    pub(crate) sent: &'static [u16],
+}
+
+// What is left of a store, in the order of its fields.
+macro_rules! left {
+    ($store:literal, $counts:expr, $held:expr, $sent:expr) => {
+        Left { store: $store, counts: $counts, held: &$held, sent: &$sent }
+    };
+}
+
+pub(crate) use left;
+
+// What is done to the store of the first run before a run.
+pub(crate) enum Change {
+    // A packet of this sequence count is offered at a moment.
+    Offer(u64, u16),
+    // The packets up to a time are deleted, which are so many.
+    Delete(u64, u32),
+    Off,
+    On,
+    Retrieve,
+    // Its size becomes so many blocks.
+    Resize(u32),
+}
+
+// Does it to the state of the store; whether it went as it should.
+fn goes(rt: &impl Abort, alloc: Global, state: &mut StoreState, change: &Change) -> bool {
+    match change {
+        Change::Offer(now, count) => state.offer(*now, packet(rt, alloc, *count)).is_ok(),
+        Change::Delete(limit, want) => state.delete(*limit).ok() == Some(*want),
+        Change::Off => {
+            state.disable();
+            true
+        }
+        Change::On => {
+            state.enable();
+            true
+        }
+        Change::Retrieve => state.begin(0, u64::MAX).is_ok(),
+        Change::Resize(size) => { 0 < *size && *size <= MAX_BLOCKS && state.resize(*size).is_ok() }
+    }
+}
+
+fn problem_in_room(alloc: Global, task: &Task) -> Option<Problem> {
+    let setup = Setup::read(alloc, task.setup.as_bytes()).ok()?;
+    Problem::read(alloc, &setup, task.forecast.as_bytes()).ok()
+}
+
+fn same(rt: &impl Abort, name: &str, found: u64, want: u64) {
+    assert!(rt; found == want, "{name}: {found} in place of {want}");
+}
+
+// The counters of offered, lost and deleted packets of a store, which is on, with no retrieval.
+fn has_counts(rt: &impl Abort, name: &str, state: &StoreState, want: &[u64; 3]) {
+    let [offered, lost, deleted] = *want;
+    same(rt, name, state.offered(), offered);
+    same(rt, name, state.lost(), lost);
+    same(rt, name, state.deleted(), deleted);
+    let is_ready = state.storage() && state.retrieval().is_none();
+    assert!(rt; is_ready, "{name}: storage and retrieval");
+}
+
+// The packets held in a store: times and sequence counts.
+fn has_packets(rt: &impl Abort, name: &str, state: &StoreState, want: &[(u64, u16)]) {
+    same(rt, name, u64::from(state.store().len()), want.len() as u64);
+    let mut after = 0;
+    for (time, count) in want {
+        let Some((found, _apid, number)) = next_after(state, after) else {
+            panic!(rt; "{name}: one more packet");
+        };
+        same(rt, name, found, *time);
+        same(rt, name, u64::from(number), u64::from(*count));
+        after = found;
+    }
+}
+
+pub(crate) fn has_text(rt: &impl Abort, alloc: Global, name: &str, report: &Report, want: &str) {
+    let text = report.text(alloc).expect(rt, "memory");
+    assert!(rt; text.as_slice() == want.as_bytes(), "{name}: {want}");
+}
+
+pub(crate) fn has_cause(rt: &impl Abort, name: &str, found: Cause, want: Cause) {
+    assert!(rt; found == want, "{name}: the cause");
+}
+
+// A memory, and a problem and a plan to be carried out over it.
+#[derive(Drop)]
+pub(crate) struct Trial {
+    pub(crate) alloc: Global,
+    pub(crate) memory: Memory,
+    pub(crate) problem: Problem,
+    pub(crate) sheet: Sheet,
+}
+
+impl Trial {
+    // Over an empty memory of the problem's setup, where there is room for it.
+    pub(crate) fn in_room(alloc: Global, task: &Task) -> Option<Trial> {
+        Some(Trial {
+            alloc,
+            memory: memory_in_room(alloc, task.setup)?,
+            problem: problem_in_room(alloc, task)?,
+            sheet: Sheet::parse(alloc, task.plan.as_bytes()).ok()?,
+        })
+    }
+
+    pub(crate) fn new(rt: &impl Abort, alloc: Global, task: &Task) -> Trial {
+        Trial::in_room(alloc, task).expect(rt, "the texts of a task")
+    }
+
+    // Carries out the plan.
+    pub(crate) fn run<
+        S: Source + Send + Drop,
+        L: Link + Send + Drop,
+        R: Threads + Wait + Sync + Abort,
+    >(
+        &mut self,
+        rt: &R,
+        sources: Vec<S>,
+        links: Vec<L>,
+        base: u64,
+    ) -> Result<Flight<S, L>, Halted<S, L>> {
+        assert!(rt; may_fail(&links), "links that may fail");
+        let plan = self.sheet.plan();
+        carry_out(
+            rt,
+            self.alloc,
+            &mut self.memory,
+            &self.problem,
+            plan,
+            sources,
+            links,
+            base,
+        )
+    }
+
+    // Carries out the plan, which goes well.
+    pub(crate) fn flown<R: Threads + Wait + Sync + Abort>(
+        &mut self,
+        rt: &R,
+        sources: Vec<Script>,
+        links: Vec<MemoryLink>,
+        base: u64,
+    ) -> Flight<Script, MemoryLink> {
+        let Ok(flight) = self.run(rt, sources, links, base) else {
+            panic!(rt; "the plan is carried out");
+        };
+        flight
+    }
+
+    // Begins to carry out the plan, in the run of this name, which is halted for this cause.
+    pub(crate) fn halted<R: Threads + Wait + Sync + Abort>(
+        &mut self,
+        rt: &R,
+        sources: Vec<Script>,
+        links: Vec<MemoryLink>,
+        base: u64,
+        want: (&str, Cause),
+    ) -> Halted<Script, MemoryLink> {
+        let (name, cause) = want;
+        let Err(halted) = self.run(rt, sources, links, base) else {
+            panic!(rt; "{name}: the run is halted");
+        };
+        has_cause(rt, name, halted.cause, cause);
+        halted
+    }
+
+    // Does these to the store of the first run.
+    pub(crate) fn change(&mut self, rt: &impl Abort, list: &[Change]) {
+        self.change_of(rt, "SCI", list);
+    }
+
+    // Does these to a store.
+    pub(crate) fn change_of(&mut self, rt: &impl Abort, store: &str, list: &[Change]) {
+        let store = id(rt, store);
+        for change in list {
+            let state = self.memory.state_mut(&store).expect(rt, "a store");
+            assert!(rt; goes(rt, self.alloc, state, change), "a change");
+        }
+    }
+
+    // How many packets of a store were deleted.
+    pub(crate) fn deleted(&self, rt: &impl Abort, store: &str) -> u64 {
+        let state = self.memory.state(&id(rt, store)).expect(rt, "a store");
+        state.deleted()
+    }
+
+    // What is left of a store.
+    fn has(&self, rt: &impl Abort, name: &str, left: &Left) {
+        let state = self.memory.state(&id(rt, left.store)).expect(rt, "a store");
+        has_counts(rt, name, state, &left.counts);
+        has_packets(rt, name, state, left.held);
+    }
+
+    // What the run of this name leaves of these stores.
+    pub(crate) fn leaves(&self, rt: &impl Abort, name: &str, stores: &[Left]) {
+        for left in stores {
+            self.has(rt, name, left);
+        }
+    }
+}
+
+// A link took what was sent of these stores, in order, and nothing else, and failed this often.
+fn took_of(rt: &impl Abort, name: &str, link: &MemoryLink, stores: &[Left], failures: u64) {
+    let mut many = 0;
+    for left in stores {
+        has_taken(rt, name, link, &id(rt, left.store), left.sent);
+        many = left.sent.len().saturating_add(many);
+    }
+    has_sent(rt, name, link, many, failures);
+}
+
+// These are so many links, each of which took that.
+pub(crate) fn each_took(
+    rt: &impl Abort,
+    name: &str,
+    links: &[MemoryLink],
+    many: usize,
+    stores: &[Left],
+    failures: u64,
+) {
+    assert!(rt; links.len() == many, "{name}: {many} links");
+    for link in links {
+        took_of(rt, name, link, stores, failures);
+    }
+}
