@@ -5,4 +5,5 @@ pub mod Taking
 pub mod Reading
 pub mod Exact
 pub mod Spelled
+pub mod Outputs
 pub mod Versions

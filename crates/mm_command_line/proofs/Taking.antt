@@ -9,7 +9,7 @@ use Rattle.clap.specs.Simple.{App, HasMatchesOf, Shape, is_simple, subcommand_ro
 use Rattle.clap.specs.Takes.{takes}
 use Rattle.clap.specs.declared.parser.matches.ArgMatches.{ArgMatches}
 use Rattle.mm_command_line.specs.Commands.{Form, app_by, ask, chart, check, commands, fly, line_found, line_of, line_read, names_read, plan, read, run, table, tool}
-use Rattle.mm_command_line.specs.Lines.{IsFileName, IsTaskLine, flight_spelling, is_flag, spelling}
+use Rattle.mm_command_line.specs.Lines.{IsFileName, IsCommandLine, flight_spelling, is_flag, command_words}
 use Rattle.mm_command_line.specs.declared.task.Task.{Task}
 use Rattle.mm_command_line.specs.declared.task.Task.TheVariants.{Plan, Check, Chart, Table, Fly, Ask, Read}
 use Rattle.mm_command_line.proofs.Entering.{IsMet, built_tool, meets, tool_enters, tool_simple, tool_takes}
@@ -102,26 +102,26 @@ taken_flight : (setup forecast sources links : Text) (plan : Option (Bor Text)) 
 taken_flight setup forecast sources links None names = line_taken fly _ has_fly (reads_fly fly.0 setup forecast sources links) names
 taken_flight setup forecast sources links (Some by) names = line_taken run _ has_run (reads_run run.0 setup forecast by.now sources links) names
 
-taken_task : (task : Task) → All IsFileName (drop 1 (spelling task)) → IsTaken (spelling task)
-taken_task (Plan setup forecast) names = line_taken plan _ has_plan (reads_plan plan.0 setup.now forecast.now) names
+taken_task : (task : Task) → All IsFileName (drop 1 (command_words task)) → IsTaken (command_words task)
+taken_task (Plan setup forecast output) names = line_taken plan _ has_plan (reads_plan plan.0 setup.now forecast.now) names
 taken_task (Check files) names = line_taken check _ has_check (reads_check check.0 files.setup.now files.forecast.now files.plan.now) names
-taken_task (Chart files) names = line_taken chart _ has_chart (reads_check chart.0 files.setup.now files.forecast.now files.plan.now) names
-taken_task (Table files) names = line_taken table _ has_table (reads_check table.0 files.setup.now files.forecast.now files.plan.now) names
+taken_task (Chart files output) names = line_taken chart _ has_chart (reads_check chart.0 files.setup.now files.forecast.now files.plan.now) names
+taken_task (Table files output) names = line_taken table _ has_table (reads_check table.0 files.setup.now files.forecast.now files.plan.now) names
 taken_task (Fly files) names = taken_flight files.setup.now files.forecast.now files.sources.now files.links.now files.plan names
 taken_task (Ask setup requests) names = line_taken ask _ has_ask (reads_ask ask.0 setup.now requests.now) names
 taken_task (Read packets) names = line_taken read _ has_read (reads_read read.0 packets.now) names
 
 -- a line of a task is taken
-pub taken : (words : List Text) → IsTaskLine words → IsTaken words
+pub taken : (words : List Text) → IsCommandLine words → IsTaken words
 taken words line =
     subst IsTaken line.spelled (taken_task line.task (subst (λ ws. All IsFileName (drop 1 ws)) (sym line.spelled) line.names))
 
 -- the task that is read of a parse of a line spells that line
 pub spells : (app : App) (words : List Text) (m : ArgMatches) (said : Option (List Text)) → app ≡ tool → HasMatchesOf app words m → said ≡ line_found (subcommand_rows_of m)
-    → IsTaskLine words → said ≡ Some words
+    → IsCommandLine words → said ≡ Some words
 spells app words m said is matches found line =
     found ∙ ap line_found ((matches (ap is_simple is ∙ tool_simple)).1 ∙ ap (λ a. subcommand_of a words) is) ∙ (taken words line).finds_all
 
 -- and the parse is of words that the program takes
-pub passes : (app : App) (words : List Text) → app ≡ tool → IsTaskLine words → takes app words ≡ true
+pub passes : (app : App) (words : List Text) → app ≡ tool → IsCommandLine words → takes app words ≡ true
 passes app words is line = ap (λ a. takes a words) is ∙ (taken words line).takes_all

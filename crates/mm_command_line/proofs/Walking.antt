@@ -11,12 +11,12 @@ use Rattle.clap.specs.Takes.{default_passes, is_valid, level_passes, positional_
 use Rattle.mm_command_line.specs.Lines.{IsFileName}
 
 -- what the parser asks of a word before it takes it for a value
-record IsValue (word : Text) : Type 0 where
-  dashes : bytes_eq word (45 ∷ 45 ∷ []) ≡ false
-  long : long_of word ≡ None
-  short : short_of word ≡ None
+pub record IsValue (word : Text) : Type 0 where
+  pub dashes : bytes_eq word (45 ∷ 45 ∷ []) ≡ false
+  pub long : long_of word ≡ None
+  pub short : short_of word ≡ None
 
-is_value : (word : Text) → IsFileName word → IsValue word
+pub is_value : (word : Text) → IsFileName word → IsValue word
 is_value [] name = record { dashes = refl; long = refl; short = refl }
 is_value (x ∷ xs) name = go (nat_eq x 45) refl
   where

@@ -1,6 +1,7 @@
 -- The words that ask for a task.
-use Rattle.std.specs.Prelude.{◌≡◌, ℕ, List, [], ◌∷◌, Option, Some, None, codes, drop, nat_eq, true, false, bytes_eq, if◌then◌else◌, Bool, ◌&&◌, ◌||◌, nat_lt, length, chars}
-use Rattle.std.specs.List.{All, starts_with}
+use Rattle.std.specs.Prelude.{◌≡◌, ◌++◌, ℕ, List, [], ◌∷◌, Option, Some, None, codes, drop, nat_eq, true, false, bytes_eq, if◌then◌else◌, Bool, ◌&&◌, ◌||◌, nat_lt, length, chars}
+use Rattle.std.specs.List.{All, list_any, starts_with}
+use Rattle.std.specs.Option.{option_map_or}
 use Rattle.mm_command_line.specs.declared.task.PlanFiles.{PlanFiles}
 use Rattle.mm_command_line.specs.declared.task.Task.{Task}
 use Rattle.mm_command_line.specs.declared.task.Task.TheVariants.{Plan, Check, Chart, Table, Fly, Ask, Read}
@@ -17,25 +18,62 @@ flight_spelling setup forecast sources links (Some plan) =
 flight_spelling setup forecast sources links None =
     codes "fly" ∷ setup ∷ forecast ∷ sources ∷ links ∷ []
 
--- the words of a task: its command, and the names of its files
+-- the words of a task without its output: its command, and the names of its files
+abbrev pub command_words : Task → List (List ℕ)
+command_words (Plan setup forecast output) = codes "plan" ∷ setup.now ∷ forecast.now ∷ []
+command_words (Check files) = codes "check" ∷ plan_names files
+command_words (Chart files output) = codes "chart" ∷ plan_names files
+command_words (Table files output) = codes "table" ∷ plan_names files
+command_words (Fly f) = flight_spelling f.setup.now f.forecast.now f.sources.now f.links.now f.plan
+command_words (Ask setup requests) = codes "ask" ∷ setup.now ∷ requests.now ∷ []
+command_words (Read packets) = codes "read" ∷ packets.now ∷ []
+
+-- the file that the text of a task goes into, where one is named
+abbrev pub output_of : Task → Option (Bor (List ℕ))
+output_of (Plan setup forecast output) = output
+output_of (Chart files output) = output
+output_of (Table files output) = output
+output_of task = None
+
+-- the word before its name
+abbrev pub output_flag : List ℕ
+output_flag = codes "--output"
+
+-- the words of an output
+abbrev pub output_words : Option (Bor (List ℕ)) → List (List ℕ)
+output_words (Some name) = output_flag ∷ name.now ∷ []
+output_words None = []
+
+-- the words of a task: its command, the names of its files, and last its output
 abbrev pub spelling : Task → List (List ℕ)
-spelling (Plan setup forecast) = codes "plan" ∷ setup.now ∷ forecast.now ∷ []
-spelling (Check files) = codes "check" ∷ plan_names files
-spelling (Chart files) = codes "chart" ∷ plan_names files
-spelling (Table files) = codes "table" ∷ plan_names files
-spelling (Fly f) = flight_spelling f.setup.now f.forecast.now f.sources.now f.links.now f.plan
-spelling (Ask setup requests) = codes "ask" ∷ setup.now ∷ requests.now ∷ []
-spelling (Read packets) = codes "read" ∷ packets.now ∷ []
+spelling task = command_words task ++ output_words (output_of task)
+
+-- the answer to such a command is a text that can go into a file
+abbrev pub gives_text : List (List ℕ) → Bool
+gives_text [] = false
+gives_text (command ∷ names) =
+    bytes_eq command (codes "plan") || bytes_eq command (codes "chart") || bytes_eq command (codes "table")
 
 -- the word is no flag: it begins with `-` only if it is `-` alone
 abbrev pub IsFileName : List ℕ → Type 0
 IsFileName word = starts_with nat_eq word (codes "-") ≡ true → word ≡ codes "-"
 
+-- the words are those of a task without its output, and none of the files that they name is spelled like a flag
+pub record IsCommandLine (words : List (List ℕ)) : Type 0 where
+  pub task : Task
+  pub spelled : command_words task ≡ words
+  pub names : All IsFileName (drop 1 words)
+
+-- the name of an output
+abbrev pub output_names : Option (Bor (List ℕ)) → List (List ℕ)
+output_names (Some name) = name.now ∷ []
+output_names None = []
+
 -- the words spell a task, and none of the files that they name is spelled like a flag
 pub record IsTaskLine (words : List (List ℕ)) : Type 0 where
   pub task : Task
   pub spelled : spelling task ≡ words
-  pub names : All IsFileName (drop 1 words)
+  pub names : All IsFileName (drop 1 (command_words task) ++ output_names (output_of task))
 
 -- the words without the first `--`, which only says that no flag follows
 abbrev pub without_dashes : List (List ℕ) → List (List ℕ)
@@ -50,6 +88,25 @@ before_dashes (word ∷ rest) = if bytes_eq word (codes "--") then [] else word 
 -- the word is `-` with a character after it
 abbrev pub is_flag : List ℕ → Bool
 is_flag word = starts_with nat_eq word (codes "-") && nat_lt 1 (length (chars word))
+
+-- the flags in the words of a task
+abbrev pub flags_of : Task → List (List ℕ)
+flags_of task = option_map_or (λ name. output_flag ∷ []) (output_of task) []
+
+-- the word is `--`
+abbrev pub is_dashes : List ℕ → Bool
+is_dashes word = bytes_eq word (codes "--")
+
+-- the words end with those of an output, and no `--` comes before it
+pub record EndsWithOutput (words front : List (List ℕ)) (name : List ℕ) : Type 0 where
+  pub ends : words ≡ front ++ output_flag ∷ name ∷ []
+  pub name_is : IsFileName name
+  pub undashed : list_any is_dashes front ≡ false
+
+-- the words before a last output, and its name, where the words end with one
+abbrev pub IsSplit : List (List ℕ) → List (List ℕ) → Option (Bor (List ℕ)) → Type 0
+IsSplit words front (Some name) = EndsWithOutput words front name.now
+IsSplit words front None = (front ≡ words) × ((before : List (List ℕ)) → (name : List ℕ) → EndsWithOutput words before name → ⊥)
 
 -- the word asks for the version: `--version` or `-V`
 abbrev pub is_version_word : List ℕ → Bool

@@ -16,8 +16,11 @@ is what `check` finds: where the cut does not show that the plan loses least, it
 Or one line:
   refused NUMBER NAME ..      a file was not read, or is not what it should be
 
+Option, after the files:
+  --output FILE               the picture goes into FILE, whole or not at all, and is not printed
+
 Example:
-  mm_tool chart setup.toml forecast.csv plan.txt > chart.svg
+  mm_tool chart setup.toml forecast.csv plan.txt --output chart.svg
 
 Exit status: 0 for a picture, whatever its headline, 1 for a refusal.";
 

@@ -18,10 +18,10 @@ Without words the program reads a script from standard input: a first line with 
 each file under a line `=== NAME`.
 
 Examples:
-  mm_tool plan setup.toml forecast.csv
+  mm_tool plan setup.toml forecast.csv --output plan.txt
   mm_tool check setup.toml forecast.csv plan.txt
-  mm_tool chart setup.toml forecast.csv plan.txt > chart.svg
-  mm_tool table setup.toml forecast.csv plan.txt > table.csv
+  mm_tool chart setup.toml forecast.csv plan.txt --output chart.svg
+  mm_tool table setup.toml forecast.csv plan.txt --output table.csv
   mm_tool run setup.toml forecast.csv plan.txt sources.hex links.txt
   mm_tool fly setup.toml forecast.csv sources.hex links.txt
   mm_tool ask setup.toml requests.hex
@@ -51,8 +51,12 @@ Prints a plan text:
 or one line:
   refused NUMBER NAME ..      a file was not read, or is not what it should be
 
-Example:
+Option, after the files:
+  --output FILE               the plan text goes into FILE, whole or not at all, and is not printed
+
+Examples:
   mm_tool plan setup.toml forecast.csv
+  mm_tool plan setup.toml forecast.csv --output plan.txt
 
 The formats are described in docs/FORMATS.md. Exit status: 0 for a plan text, 1 for a refusal.";
 

@@ -11,5 +11,5 @@ mod task;
 mod version;
 
 pub use line::parse;
-pub use task::{FlightFiles, PlanFiles, Role, Task};
+pub use task::{FileNames, FlightFiles, PlanFiles, Role, Task};
 pub use version::{VERSION, asks_version};

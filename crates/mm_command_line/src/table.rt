@@ -17,8 +17,11 @@ not judged.
 Or one line:
   refused NUMBER NAME ..      a file was not read, or is not what it should be
 
+Option, after the files:
+  --output FILE               the table goes into FILE, whole or not at all, and is not printed
+
 Example:
-  mm_tool table setup.toml forecast.csv plan.txt > table.csv
+  mm_tool table setup.toml forecast.csv plan.txt --output table.csv
 
 Exit status: 0 for a table, 1 for a refusal.";
 

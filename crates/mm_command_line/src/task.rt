@@ -1,4 +1,7 @@
 //! The tasks of the program, and their files.
+ghost use Rattle.std.specs.Prelude.{◌≡◌, ◌++◌, ◌&&◌, not, true, is_some, IfSome, IfNone};
+ghost use Rattle.mm_command_line.specs.Lines.{command_words, gives_text, output_of, output_words, spelling};
+ghost use Rattle.mm_command_line.specs.Names.{names_in, names_of_plan, no_names};
 
 /// What a file of a task has.
 #[derive(Clone, Copy)]
@@ -10,12 +13,50 @@ pub enum Role {
     Links,
 }
 
+/// The names of a task's files; none for a file that the task does not have.
+#[derive(Clone, Copy)]
+pub struct FileNames<'a> {
+    pub setup: Option<&'a str>,
+    pub forecast: Option<&'a str>,
+    pub plan: Option<&'a str>,
+    pub sources: Option<&'a str>,
+    pub links: Option<&'a str>,
+    /// The requests, or the packets.
+    pub packets: Option<&'a str>,
+}
+
+fn no_names<'a>() -> FileNames<'a>
+    ensures { result ≡ no_names }
+{
+    FileNames {
+        setup: None,
+        forecast: None,
+        plan: None,
+        sources: None,
+        links: None,
+        packets: None,
+    }
+}
+
 /// The files of a problem and of a plan for it, by their names.
 #[derive(Clone, Copy)]
 pub struct PlanFiles<'a> {
     pub setup: &'a str,
     pub forecast: &'a str,
     pub plan: &'a str,
+}
+
+impl<'a> PlanFiles<'a> {
+    fn names(self) -> FileNames<'a>
+        ensures { result ≡ names_of_plan self.entry }
+    {
+        FileNames {
+            setup: Some(self.setup),
+            forecast: Some(self.forecast),
+            plan: Some(self.plan),
+            ..no_names()
+        }
+    }
 }
 
 /// The files of a run, by their names.
@@ -29,59 +70,110 @@ pub struct FlightFiles<'a> {
     pub links: &'a str,
 }
 
-impl<'a> FlightFiles<'a> {
-    // The name of this file; none for a plan that is made.
-    fn file(self, role: Role) -> Option<&'a str> {
-        match role {
-            Role::Setup => Some(self.setup),
-            Role::Forecast => Some(self.forecast),
-            Role::Plan => self.plan,
-            Role::Sources => Some(self.sources),
-            Role::Links => Some(self.links),
-        }
-    }
-}
-
-/// What the program is asked to do.
+/// What the program is asked to do. Of a task with an `output` the text goes into the file of that name, and is printed where there is none.
 #[derive(Clone, Copy)]
 pub enum Task<'a> {
     /// Plan the dumps so that least is lost.
-    Plan { setup: &'a str, forecast: &'a str },
+    Plan {
+        setup: &'a str,
+        forecast: &'a str,
+        output: Option<&'a str>,
+    },
     /// Say whether the plan loses least.
     Check(PlanFiles<'a>),
     /// Draw the plan.
-    Chart(PlanFiles<'a>),
+    Chart {
+        files: PlanFiles<'a>,
+        output: Option<&'a str>,
+    },
     /// Say what the plan does to each store in each step.
-    Table(PlanFiles<'a>),
+    Table {
+        files: PlanFiles<'a>,
+        output: Option<&'a str>,
+    },
     /// Carry out the plan, which is made first where there is no file of it.
     Fly(FlightFiles<'a>),
     /// Answer the requests of the storage service, one after another, in a memory of the setup.
-    Ask { setup: &'a str, requests: &'a str },
+    Ask {
+        setup: &'a str,
+        requests: &'a str,
+    },
     /// Say what packets of the storage service hold.
-    Read { packets: &'a str },
+    Read {
+        packets: &'a str,
+    },
 }
 
 impl<'a> Task<'a> {
+    /// The names of the task's files.
+    pub fn names(self) -> FileNames<'a>
+        ensures { result ≡ names_in self.entry }
+    {
+        match self {
+            Task::Plan {
+                setup,
+                forecast,
+                ..
+            } => FileNames {
+                setup: Some(setup),
+                forecast: Some(forecast),
+                ..no_names()
+            },
+            Task::Check(files) | Task::Chart { files, .. } | Task::Table { files, .. } => {
+                files.names()
+            }
+            Task::Fly(files) => FileNames {
+                setup: Some(files.setup),
+                forecast: Some(files.forecast),
+                plan: files.plan,
+                sources: Some(files.sources),
+                links: Some(files.links),
+                packets: None,
+            },
+            Task::Ask { setup, requests } => FileNames {
+                setup: Some(setup),
+                packets: Some(requests),
+                ..no_names()
+            },
+            Task::Read { packets } => FileNames {
+                packets: Some(packets),
+                ..no_names()
+            },
+        }
+    }
+
     /// The name of this file of the task, where the task has such a file.
     pub fn file(self, role: Role) -> Option<&'a str> {
+        let names = self.names();
+        match role {
+            Role::Setup => names.setup,
+            Role::Forecast => names.forecast,
+            Role::Plan => names.plan,
+            Role::Sources => names.sources,
+            Role::Links => names.links,
+        }
+    }
+
+    // The task with this output; none for an output of a task that cannot have one.
+    pub(crate) fn with_output(self, output: Option<&'a str>) -> Option<Task<'a>>
+        ensures spelled { IfSome result (λ task. spelling task ≡ command_words self.entry ++ output_words output.entry) }
+        ensures named { IfSome result (λ task. output_of task ≡ output.entry) }
+        ensures none { IfNone result (is_some output.entry && not (gives_text (command_words self.entry)) ≡ true) }
+    {
         match self {
-            Task::Plan { setup, forecast } => match role {
-                Role::Setup => Some(setup),
-                Role::Forecast => Some(forecast),
-                _ => None,
-            },
-            Task::Check(names) | Task::Chart(names) | Task::Table(names) => match role {
-                Role::Setup => Some(names.setup),
-                Role::Forecast => Some(names.forecast),
-                Role::Plan => Some(names.plan),
-                _ => None,
-            },
-            Task::Fly(names) => names.file(role),
-            Task::Ask { setup, .. } => match role {
-                Role::Setup => Some(setup),
-                _ => None,
-            },
-            Task::Read { .. } => None,
+            Task::Plan {
+                setup,
+                forecast,
+                ..
+            } => Some(Task::Plan {
+                setup,
+                forecast,
+                output,
+            }),
+            Task::Chart { files, .. } => Some(Task::Chart { files, output }),
+            Task::Table { files, .. } => Some(Task::Table { files, output }),
+            _ if output.is_none() => Some(self),
+            _ => None,
         }
     }
 }

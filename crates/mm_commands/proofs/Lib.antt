@@ -1,3 +1,4 @@
+mod Answering
 pub mod ScriptLemmas
 mod Printing
 mod Refusals

@@ -18,11 +18,14 @@ use Rattle.mm_run.specs.declared.printed.Outcome.TheVariants as ended
 use Rattle.mm_run.specs.declared.printed.Printed.{Printed}
 use Rattle.mm_run.specs.Printed.{text_of}
 use Rattle.mm_run.specs.Runs.{Runs, FliesBy}
-use Rattle.mm_commands.specs.Contents.{Contents, MayBe}
+use Rattle.mm_commands.specs.Contents.{Contents, IsStored, MayBe}
 use Rattle.mm_commands.specs.declared.status.Status.{Status}
 use Rattle.mm_commands.specs.declared.status.Status.TheVariants.{Done, Refused}
 use Rattle.mm_commands.specs.declared.answers.Answer.{Answer}
 use Rattle.mm_commands.specs.declared.answers.Answer.TheVariants.{Text, Lines, Line, Run}
+use Rattle.mm_commands.specs.declared.texts.TaskTexts.{TaskTexts}
+use Rattle.mm_command_line.specs.Lines.{output_of}
+use Rattle.mm_command_line.specs.declared.task.FileNames.{FileNames}
 use Rattle.mm_command_line.specs.declared.task.PlanFiles.{PlanFiles}
 use Rattle.mm_command_line.specs.declared.task.FlightFiles.{FlightFiles}
 use Rattle.mm_command_line.specs.declared.task.Task.{Task}
@@ -40,6 +43,20 @@ Of contents name P = (octets : List ℕ) × Holds contents name octets × P octe
 abbrev pub OfPlan : Contents → PlanFiles → (List ℕ → List ℕ → List ℕ → Type 0) → Type 0
 OfPlan contents names P =
     Of contents names.setup.now (λ setup. Of contents names.forecast.now (λ forecast. Of contents names.plan.now (P setup forecast)))
+
+-- the file has these bytes, where one is named
+abbrev pub HoldsNamed : Contents → Option (Bor (List ℕ)) → List ℕ → Type 0
+HoldsNamed contents (Some name) octets = Holds contents name.now octets
+HoldsNamed contents None octets = Unit {0}
+
+-- the texts are those of the files of these names
+pub record HoldsTexts (contents : Contents) (names : FileNames) (texts : TaskTexts) : Type 0 where
+  pub setup : HoldsNamed contents names.setup texts.setup.items
+  pub forecast : HoldsNamed contents names.forecast texts.forecast.items
+  pub plan : HoldsNamed contents names.plan texts.plan.items
+  pub sources : HoldsNamed contents names.sources texts.sources.items
+  pub links : HoldsNamed contents names.links texts.links.items
+  pub packets : HoldsNamed contents names.packets texts.packets.items
 
 -- ---- `plan`
 
@@ -104,6 +121,11 @@ OfFlight contents names P = (plan : Option (List ℕ)) × HoldsPlan contents nam
     × Of contents names.setup.now (λ setup. Of contents names.forecast.now (λ forecast.
     Of contents names.sources.now (λ sources. Of contents names.links.now (P plan setup forecast sources))))
 
+-- the plan of a run, where it is given
+abbrev pub given_plan : Option (Bor (List ℕ)) → TaskTexts → Option (List ℕ)
+given_plan (Some name) texts = Some texts.plan.items
+given_plan None texts = None
+
 abbrev pub FliesOf : Contents → FlightFiles → Printed → Type 0
 FliesOf contents names printed = OfFlight contents names (λ plan. FliesBytes plan printed)
 
@@ -118,33 +140,43 @@ pub record Flown (contents : Contents) (names : FlightFiles) (status : Status) (
 
 -- the task is done, or the answer says what is not well: this text answers it, and the run of the program ends in this status
 abbrev pub AnswersTask : Contents → Task → Status → List ℕ → Type 0
-AnswersTask contents (Plan setup forecast) status text = (status ≡ Done) × Plans contents setup.now forecast.now text
+AnswersTask contents (Plan setup forecast output) status text = (status ≡ Done) × Plans contents setup.now forecast.now text
 AnswersTask contents (Check names) status text = OfPlan contents names (Judges status text)
-AnswersTask contents (Chart names) status text = (status ≡ Done) × OfPlan contents names (λ setup forecast plan. Charts setup forecast plan text)
-AnswersTask contents (Table names) status text = (status ≡ Done) × OfPlan contents names (λ setup forecast plan. IsTableOf setup forecast plan text)
+AnswersTask contents (Chart names output) status text = (status ≡ Done) × OfPlan contents names (λ setup forecast plan. Charts setup forecast plan text)
+AnswersTask contents (Table names output) status text = (status ≡ Done) × OfPlan contents names (λ setup forecast plan. IsTableOf setup forecast plan text)
 AnswersTask contents (Fly names) status text = Flown contents names status text
 AnswersTask contents (Ask setup requests) status text = Of contents setup.now (λ s. Of contents requests.now (Replies status text s))
 AnswersTask contents (Read packets) status text = Of contents packets.now (Says status text)
 
 -- the text of an answer, and the status
 abbrev pub text_in : Answer → List ℕ
-text_in (Text status text) = text.items
+text_in (Text text output) = text.items
 text_in (Lines outcome lines) = lines.items
 text_in (Line verdict line) = line.items
 text_in (Run printed) = text_of printed
 
 abbrev pub status_in : Answer → Status
-status_in (Text status text) = status
+status_in (Text text output) = Done
 status_in (Lines outcome lines) = status_of_replies outcome
 status_in (Line verdict line) = status_of verdict
 status_in (Run printed) = status_of_run printed.outcome
+
+-- the file that it goes into, where one is named
+abbrev pub output_in : Answer → Option (Bor (List ℕ))
+output_in (Text text output) = output
+output_in answer = None
 
 -- the answer is one to the task
 abbrev pub IsAnswerTo : Contents → Task → Answer → Type 0
 IsAnswerTo contents task answer = AnswersTask contents task (status_in answer) (text_in answer)
 
--- a writer had the first of these bytes, and then the second: what was written between answers the task
-pub record Prints (contents : Contents) (task : Task) (status : Status) (before after : Option (List ℕ)) : Type 0 where
+-- the text was printed, and the files are as they were; or it was stored in the file of this name, and nothing was printed
+abbrev pub Gives : Option (Bor (List ℕ)) → List ℕ → Contents → Contents → Option (List ℕ) → Option (List ℕ) → Type 0
+Gives (Some name) text old new before after = IsStored old new name.now text × (after ≡ before)
+Gives None text old new before after = (new ≡ old) × Appends before after text
+
+-- the files and a writer had the first of these, and then the second: what was stored or written between answers the task
+pub record Prints (old new : Contents) (task : Task) (status : Status) (before after : Option (List ℕ)) : Type 0 where
   pub text : List ℕ
-  pub printed : Appends before after text
-  pub answers : AnswersTask contents task status text
+  pub given : Gives (output_of task) text old new before after
+  pub answers : AnswersTask old task status text

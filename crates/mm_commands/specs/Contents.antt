@@ -1,5 +1,5 @@
 -- What is known of files by their names.
-use Rattle.std.specs.Prelude.{◌≡◌, ℕ, List, Option, Some, None}
+use Rattle.std.specs.Prelude.{◌≡◌, ◌≢◌, ℕ, List, Option, Some, None}
 
 -- what is known of a file: that there is none, nothing, or its bytes
 pub data Content : Type 0 where
@@ -27,3 +27,8 @@ MayBeUnread (known bytes) = ⊥
 abbrev pub content_of : Option (List ℕ) → Content
 content_of (Some bytes) = known bytes
 content_of None = missing
+
+-- the file of this name has these bytes now, and every other file is as it was
+pub record IsStored (old new : Contents) (name octets : List ℕ) : Type 0 where
+  pub whole : MayBe (new name) octets
+  pub others : (other : List ℕ) → other ≢ name → new other ≡ old other

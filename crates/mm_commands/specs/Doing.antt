@@ -21,10 +21,10 @@ words_in [] = []
 words_in (octet ∷ rest) = slice_split (λ o. o == space) (octet ∷ rest)
 
 -- the task that the words ask for was done, or refused
-pub record DoesTask (contents : Contents) (words : List (List ℕ)) (status : Status) (before after : Option (List ℕ)) : Type 0 where
+pub record DoesTask (old new : Contents) (words : List (List ℕ)) (status : Status) (before after : Option (List ℕ)) : Type 0 where
   pub task : Task
   pub asked : spelling task ≡ without_dashes words
-  pub told : Prints contents task status before after ⊎ Refuses contents task status before after
+  pub told : Prints old new task status before after ⊎ Refuses old new task status before after
 
 -- there was no memory to read the words
 pub record WantsMemory (status : Status) (before after : Option (List ℕ)) : Type 0 where
@@ -44,23 +44,24 @@ pub record IsBadLine (words : List (List ℕ)) (status : Status) (before after :
   pub status_is : status ≡ BadCommandLine
 
 -- what became of the words of a command line
-abbrev pub Does : Contents → List (List ℕ) → Status → Option (List ℕ) → Option (List ℕ) → Type 0
-Does contents words status before after =
-    DoesTask contents words status before after ⊎ WantsMemory status before after ⊎ IsBadLine words status before after
-    ⊎ (TellsVersion words before after × (status ≡ Done))
+abbrev pub Does : Contents → Contents → List (List ℕ) → Status → Option (List ℕ) → Option (List ℕ) → Type 0
+Does old new words status before after = DoesTask old new words status before after
+    ⊎ ((new ≡ old) × (WantsMemory status before after ⊎ IsBadLine words status before after
+    ⊎ (TellsVersion words before after × (status ≡ Done))))
 
--- the task that the words ask for was done: what was written between answers it
-pub record IsDone (contents : Contents) (words : List (List ℕ)) (before after : Option (List ℕ)) : Type 0 where
+-- the task that the words ask for was done: what was stored or written between answers it
+pub record IsDone (old new : Contents) (words : List (List ℕ)) (before after : Option (List ℕ)) : Type 0 where
   pub task : Task
   pub asked : spelling task ≡ without_dashes words
-  pub prints : Prints contents task Done before after
+  pub prints : Prints old new task Done before after
 
 -- the task that the first line of a script asks for was done over the files that follow, or the line asks for the version
 pub record DoesScript (script : List ℕ) (before after : Option (List ℕ)) : Type 0 where
   pub line : List ℕ
   pub files : List ℕ
   pub split : IsFirstLine script line files
-  pub done : IsDone (script_contents files) (words_in line) before after ⊎ TellsVersion (words_in line) before after
+  pub left : Contents
+  pub done : IsDone (script_contents files) left (words_in line) before after ⊎ TellsVersion (words_in line) before after
 
 -- the first line of a script spells a task
 pub record IsTaskScript (script : List ℕ) : Type 0 where

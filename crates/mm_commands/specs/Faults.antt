@@ -19,7 +19,7 @@ use Rattle.mm_commands.specs.declared.fault.Fault.TheVariants.{NoMemory, NotRead
 -- which refusal it is
 abbrev pub refusal_of : Fault → Refusal
 refusal_of NoMemory = refusal.NoMemory
-refusal_of (NotRead name) = refusal.NotRead
+refusal_of (NotRead name obstacle) = refusal.NotRead
 refusal_of (Texts fault) = check_refusal fault
 refusal_of (Run fault) = flight_refusal fault
 refusal_of (Setup fault) = problem_refusal fault
@@ -34,14 +34,14 @@ spot_in_run (flight.Script fault) = spot_in_script fault
 -- where in its file it is
 abbrev pub spot_of : Fault → Spot
 spot_of NoMemory = Whole
-spot_of (NotRead name) = Whole
+spot_of (NotRead name obstacle) = Whole
 spot_of (Texts fault) = spot_in_texts fault
 spot_of (Run fault) = spot_in_run fault
 spot_of (Setup fault) = spot_in_problem fault
 
 -- its fields: the name of the file, or the place in it
 abbrev pub fields_of : Fault → List ℕ
-fields_of (NotRead name) = codes " name " ++ name.now
+fields_of (NotRead name obstacle) = codes " name " ++ name.now
 fields_of fault = fields_text (spot_of fault)
 
 -- its number, its name and its fields

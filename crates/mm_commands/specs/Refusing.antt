@@ -21,23 +21,24 @@ use Rattle.mm_commands.specs.Answers.{Holds, Of, OfPlan, OfFlight}
 use Rattle.mm_commands.specs.Faults.{refused_line}
 use Rattle.mm_commands.specs.declared.fault.Fault.{Fault}
 use Rattle.mm_commands.specs.declared.fault.Fault.TheVariants.{NoMemory, NotRead, Texts, Run, Setup}
+use Rattle.mm_command_line.specs.Names.{names_in}
+use Rattle.mm_command_line.specs.declared.task.FileNames.{FileNames}
 use Rattle.mm_command_line.specs.declared.task.Task.{Task}
-use Rattle.mm_command_line.specs.declared.task.Task.TheVariants.{Plan, Check, Chart, Table, Fly, Ask, Read}
+use Rattle.mm_command_line.specs.declared.task.Task.TheVariants.{Plan, Check, Chart, Table, Fly, Ask}
 
 -- the name of a file, where one is named
 abbrev pub names_of : Option (Bor (List ℕ)) → List (List ℕ)
 names_of (Some name) = name.now ∷ []
 names_of None = []
 
+-- these names, in the order of the words of a task
+abbrev pub listed : FileNames → List (List ℕ)
+listed names = names_of names.setup ++ (names_of names.forecast ++ (names_of names.plan
+    ++ (names_of names.sources ++ (names_of names.links ++ names_of names.packets))))
+
 -- the names of a task's files
 abbrev pub files_of : Task → List (List ℕ)
-files_of (Plan setup forecast) = setup.now ∷ forecast.now ∷ []
-files_of (Check names) = names.setup.now ∷ names.forecast.now ∷ names.plan.now ∷ []
-files_of (Chart names) = names.setup.now ∷ names.forecast.now ∷ names.plan.now ∷ []
-files_of (Table names) = names.setup.now ∷ names.forecast.now ∷ names.plan.now ∷ []
-files_of (Fly names) = names.setup.now ∷ names.forecast.now ∷ names_of names.plan ++ names.sources.now ∷ names.links.now ∷ []
-files_of (Ask setup requests) = setup.now ∷ requests.now ∷ []
-files_of (Read packets) = packets.now ∷ []
+files_of task = listed (names_in task)
 
 -- the first fault of the texts of a run whose plan is given, or made
 abbrev pub IsFlightFault : Option (List ℕ) → FlightFault → List ℕ → List ℕ → List ℕ → List ℕ → Type 0
@@ -53,30 +54,32 @@ IsFirstUnread contents (first ∷ rest) name = ((name ≡ first) × MayBeUnread 
 -- the first of these files that was not read is told; want of memory may come at any time
 abbrev pub IsUnread : Contents → List (List ℕ) → Fault → Type 0
 IsUnread contents names NoMemory = Unit {0}
-IsUnread contents names (NotRead name) = IsFirstUnread contents names name.now
+IsUnread contents names (NotRead name obstacle) = IsFirstUnread contents names name.now
 IsUnread contents names fault = ⊥
 
 -- the task cannot be done: a file of it was not read, or this is the first fault of its texts; want of memory may come at any time
 abbrev pub IsFaultOf : Contents → Task → Fault → Type 0
 IsFaultOf contents task NoMemory = Unit {0}
-IsFaultOf contents task (NotRead name) = IsUnread contents (files_of task) (NotRead name)
-IsFaultOf contents (Plan setup forecast) (Texts e) =
+IsFaultOf contents task (NotRead name obstacle) = IsUnread contents (files_of task) (NotRead name obstacle)
+IsFaultOf contents (Plan setup forecast output) (Texts e) =
     e ≢ check.NoMemory → Of contents setup.now (λ s. Of contents forecast.now (λ f. IsPlanningFault s f e))
 IsFaultOf contents (Check names) (Texts e) = e ≢ check.NoMemory → OfPlan contents names (λ s f p. IsCheckFault s f p e)
-IsFaultOf contents (Chart names) (Texts e) = e ≢ check.NoMemory → OfPlan contents names (λ s f p. IsCheckFault s f p e)
-IsFaultOf contents (Table names) (Texts e) = e ≢ check.NoMemory → OfPlan contents names (λ s f p. IsCheckFault s f p e)
+IsFaultOf contents (Chart names output) (Texts e) = e ≢ check.NoMemory → OfPlan contents names (λ s f p. IsCheckFault s f p e)
+IsFaultOf contents (Table names output) (Texts e) = e ≢ check.NoMemory → OfPlan contents names (λ s f p. IsCheckFault s f p e)
 IsFaultOf contents (Fly names) (Run e) = e ≢ flight.NoMemory → OfFlight contents names (λ plan. IsFlightFault plan e)
 IsFaultOf contents (Ask setup requests) (Setup e) = Of contents setup.now (λ s. IsSetupFault s e)
 IsFaultOf contents task fault = ⊥
 
--- a writer had the first of these bytes, and then the second: what was written between says why the task is refused
-pub record Refuses (contents : Contents) (task : Task) (status : Status) (before after : Option (List ℕ)) : Type 0 where
+-- a writer had the first of these bytes, and then the second: what was written between says why the task is refused, and the files are as
+-- they were
+pub record Refuses (old new : Contents) (task : Task) (status : Status) (before after : Option (List ℕ)) : Type 0 where
   pub fault : Fault
-  pub is : IsFaultOf contents task fault
+  pub is : IsFaultOf old task fault
   pub printed : Appends before after (refused_line fault)
   pub status_is : status ≡ Refused
+  pub kept : new ≡ old
 
 -- the line that says why the program's own input was not read
 abbrev pub refused_input : ReadFault → List ℕ
 refused_input read.NoMemory = codes "refused " ++ refusal_text refusal.NoMemory ++ line_feed ∷ []
-refused_input read.NotRead = codes "refused " ++ refusal_text refusal.NotRead ++ codes " name -" ++ line_feed ∷ []
+refused_input (read.NotRead obstacle) = codes "refused " ++ refusal_text refusal.NotRead ++ codes " name -" ++ line_feed ∷ []

@@ -1,6 +1,7 @@
 //! What the program says of a refusal on standard error: which file, where in it, what was expected, and what to do.
 
 use crate::fault::Fault;
+use crate::files::Obstacle;
 use crate::spot::InFile;
 use mm_base::{Refusal, Refused};
 use mm_command_line::{Role, Task};
@@ -8,27 +9,39 @@ use mm_problem::Name;
 use mm_told::{EndsHint, Hint, Spot, Words};
 use std::fmt;
 
-/// What is said of a refusal. It is shown in one line: the file with the place in it, and the words of the refusal.
+// Why a task is refused: a file was not read, or what was read is not as it should be.
+#[derive(Clone, Copy)]
+enum Why {
+    Unread(Obstacle),
+    Refused(Refusal),
+}
+
+impl fmt::Display for Why {
+    fn fmt<W: fmt::Write>(&self, f: &mut fmt::Formatter<W>) -> fmt::Result {
+        match *self {
+            Why::Unread(obstacle) => write!(f, "{obstacle}"),
+            Why::Refused(refusal) => write!(f, "{}", Words::of(refusal)),
+        }
+    }
+}
+
+/// What is said of a refusal. It is shown in one line: the file with the place in it, what was expected, and what to do.
 #[derive(Clone, Copy)]
 pub(crate) struct Advice<'a> {
     file: Option<&'a str>,
     spot: Spot,
-    refusal: Refusal,
+    why: Why,
 }
 
 impl<'a> Advice<'a> {
     /// What is said where the fault keeps a task from being done, if the words asked for one.
     pub(crate) fn of_fault(task: Option<Task<'a>>, fault: Fault<'a>) -> Advice<'a> {
         let (refusal, spot) = (fault.refusal(), fault.spot());
-        let file = match fault {
-            Fault::NotRead { name } => Some(name),
-            _ => file_of(task, refusal, spot),
+        let (file, why) = match fault {
+            Fault::NotRead { name, obstacle } => (Some(name), Why::Unread(obstacle)),
+            _ => (file_of(task, refusal, spot), Why::Refused(refusal)),
         };
-        Advice {
-            file,
-            spot,
-            refusal,
-        }
+        Advice { file, spot, why }
     }
 
     /// What is said where a run did not begin or was halted.
@@ -40,7 +53,7 @@ impl<'a> Advice<'a> {
         Advice {
             file,
             spot: Spot::Whole,
-            refusal,
+            why: Why::Refused(refusal),
         }
     }
 }
@@ -50,7 +63,7 @@ impl fmt::Display for Advice<'_> {
         if let Some(file) = self.file {
             write!(f, "{file}{}: ", InFile(self.spot))?;
         }
-        write!(f, "{}", Words::of(self.refusal))
+        write!(f, "{}", self.why)
     }
 }
 

@@ -1,76 +1,50 @@
-//! What answers the tasks that carry nothing out: plans, verdicts, charts, tables, answers to requests, and packets in words.
-ghost use Rattle.std.specs.Prelude.{◌≡◌, [], ◌∷◌, IfOk, IfErr};
-ghost use Rattle.mm_commands.specs.Answers.{Holds, IsAnswerTo, status_of, status_of_replies};
-ghost use Rattle.mm_commands.specs.Refusing.{IsUnread, IsFaultOf};
-ghost use Rattle.mm_command_line.specs.declared.task.Task.TheVariants.{Plan, Check, Chart, Table, Ask, Read};
+//! What answers a task, by the texts of its files.
+ghost use Rattle.std.specs.Prelude.{◌≡◌, IfOk, IfErr};
+ghost use Rattle.mm_base.specs.Reading.{IfRefused};
+ghost use Rattle.mm_command_line.specs.Lines.{output_of};
+ghost use Rattle.mm_command_line.specs.Names.{names_in};
+ghost use Rattle.mm_run.specs.declared.fault.Fault.TheVariants as flight_fault;
+ghost use Rattle.mm_commands.specs.Contents.{Contents};
+ghost use Rattle.mm_commands.specs.Answers.{FliesBytes, HoldsTexts, IsAnswerTo, given_plan, output_in, status_in, status_of, status_of_replies};
+ghost use Rattle.mm_commands.specs.Refusing.{IsFlightFault, IsFaultOf};
 
 use crate::fault::Fault;
-use crate::files::{Files, ReadFault};
-use crate::kept::Kept;
 use crate::status::Status;
+use crate::texts::TaskTexts;
 use mm_ask::{Outcome, ask_bytes, read_bytes};
 use mm_chart::{chart_bytes, table_bytes};
-use mm_command_line::PlanFiles;
+use mm_command_line::{FlightFiles, Task};
 use mm_cut::{Verdict, check_bytes};
 use mm_planner::plan_bytes;
-use mm_run::Printed;
+use mm_run::{Printed, RunTexts, fly_bytes, run_bytes};
 use std::alloc::Global;
+use std::sync::Wait;
+use std::thread::Threads;
 
 /// What answers a task.
 #[derive(Drop)]
-pub(crate) enum Answer {
-    Text { status: Status, text: Vec<u8> },
+pub(crate) enum Answer<'a> {
+    /// A text, which goes into the file of this name or is printed.
+    Text {
+        text: Vec<u8>,
+        output: Option<&'a str>,
+    },
     /// The lines that answer requests, or say what packets are.
-    Lines { outcome: Outcome, lines: Vec<u8> },
+    Lines {
+        outcome: Outcome,
+        lines: Vec<u8>,
+    },
     /// The line of a verdict.
-    Line { verdict: Verdict, line: Vec<u8> },
+    Line {
+        verdict: Verdict,
+        line: Vec<u8>,
+    },
     /// What the run of a plan prints.
     Run(Printed),
 }
 
-/// The bytes of a file.
-#[tactic(auto, using(crate::proofs::Refusals::alone_unread))]
-pub fn read_file<'a, F: Files>(
-    alloc: Global,
-    files: &mut F,
-    name: &'a str,
-) -> Result<Vec<u8>, Fault<'a>>
-    ensures whole { IfOk result (λ text. Holds (F.content files.old) name.entry.now text.items) }
-    ensures unread { IfErr result (IsUnread (F.content files.old) (name.entry.now ∷ [])) }
-    ensures stays { F.content files.new ≡ F.content files.old }
-{
-    match files.read(alloc, name) {
-        Ok(text) => Ok(text),
-        Err(ReadFault::NoMemory) => Err(Fault::NoMemory),
-        Err(ReadFault::NotRead) => Err(Fault::NotRead { name }),
-    }
-}
-
-/// The plan text for the setup and the forecast in the files.
-pub fn plan<'a, F: Files>(
-    alloc: Global,
-    files: &mut F,
-    setup: &'a str,
-    forecast: &'a str,
-    kept: &mut Kept,
-) -> Result<Answer, Fault<'a>>
-    ensures plans { IfOk result (IsAnswerTo (F.content files.old) (Plan setup.entry forecast.entry)) }
-    ensures refused { IfErr result (IsFaultOf (F.content files.old) (Plan setup.entry forecast.entry)) }
-{
-    let setup = read_file(alloc, files, setup)?;
-    let forecast = read_file(alloc, files, forecast)?;
-    let planned = plan_bytes(alloc, &setup, &forecast);
-    kept.setup = setup;
-    kept.forecast = forecast;
-    let text = planned?;
-    Ok(Answer::Text {
-        status: Status::Done,
-        text,
-    })
-}
-
-/// The status of a task that is answered by the verdict.
-pub fn status_of(verdict: Verdict) -> Status
+// The status of a task that is answered by the verdict.
+fn status_of(verdict: Verdict) -> Status
     ensures { result ≡ status_of verdict }
 {
     match verdict {
@@ -79,99 +53,8 @@ pub fn status_of(verdict: Verdict) -> Status
     }
 }
 
-/// The bytes of the files of a problem and of a plan for it.
-#[derive(Drop)]
-struct PlanTexts {
-    setup: Vec<u8>,
-    forecast: Vec<u8>,
-    plan: Vec<u8>,
-}
-
-impl PlanTexts {
-    fn read<'a, F: Files>(
-        alloc: Global,
-        files: &mut F,
-        names: PlanFiles<'a>,
-    ) -> Result<PlanTexts, Fault<'a>>
-        ensures setup { IfOk result (λ texts. Holds (F.content files.old) names.entry.setup.now texts.setup.items) }
-        ensures forecast { IfOk result (λ texts. Holds (F.content files.old) names.entry.forecast.now texts.forecast.items) }
-        ensures plan { IfOk result (λ texts. Holds (F.content files.old) names.entry.plan.now texts.plan.items) }
-        ensures unread { IfErr result (IsUnread (F.content files.old)
-            (names.entry.setup.now ∷ names.entry.forecast.now ∷ names.entry.plan.now ∷ [])) }
-    {
-        Ok(PlanTexts {
-            setup: read_file(alloc, files, names.setup)?,
-            forecast: read_file(alloc, files, names.forecast)?,
-            plan: read_file(alloc, files, names.plan)?,
-        })
-    }
-
-    fn keep(self, kept: &mut Kept) {
-        kept.setup = self.setup;
-        kept.forecast = self.forecast;
-        kept.plan = Some(self.plan);
-    }
-}
-
-/// The line of the verdict on the plan in the files.
-pub fn check<'a, F: Files>(
-    alloc: Global,
-    files: &mut F,
-    names: PlanFiles<'a>,
-    kept: &mut Kept,
-) -> Result<Answer, Fault<'a>>
-    ensures judges { IfOk result (IsAnswerTo (F.content files.old) (Check names.entry)) }
-    ensures refused { IfErr result (IsFaultOf (F.content files.old) (Check names.entry)) }
-{
-    let texts = PlanTexts::read(alloc, files, names)?;
-    let checked = check_bytes(alloc, &texts.setup, &texts.forecast, &texts.plan);
-    texts.keep(kept);
-    let (verdict, line) = checked?;
-    Ok(Answer::Line { verdict, line })
-}
-
-/// The chart of the plan in the files.
-pub fn chart<'a, F: Files>(
-    alloc: Global,
-    files: &mut F,
-    names: PlanFiles<'a>,
-    kept: &mut Kept,
-) -> Result<Answer, Fault<'a>>
-    ensures charts { IfOk result (IsAnswerTo (F.content files.old) (Chart names.entry)) }
-    ensures refused { IfErr result (IsFaultOf (F.content files.old) (Chart names.entry)) }
-{
-    let texts = PlanTexts::read(alloc, files, names)?;
-    let drawn = chart_bytes(alloc, &texts.setup, &texts.forecast, &texts.plan);
-    texts.keep(kept);
-    let text = drawn?;
-    Ok(Answer::Text {
-        status: Status::Done,
-        text,
-    })
-}
-
-/// The table of the plan in the files.
-pub fn table<'a, F: Files>(
-    alloc: Global,
-    files: &mut F,
-    names: PlanFiles<'a>,
-    kept: &mut Kept,
-) -> Result<Answer, Fault<'a>>
-    ensures tables { IfOk result (IsAnswerTo (F.content files.old) (Table names.entry)) }
-    ensures refused { IfErr result (IsFaultOf (F.content files.old) (Table names.entry)) }
-{
-    let texts = PlanTexts::read(alloc, files, names)?;
-    let listed = table_bytes(alloc, &texts.setup, &texts.forecast, &texts.plan);
-    texts.keep(kept);
-    let text = listed?;
-    Ok(Answer::Text {
-        status: Status::Done,
-        text,
-    })
-}
-
-/// The status of a task that is answered by such lines.
-pub fn status_of_replies(outcome: Outcome) -> Status
+// The status of a task that is answered by such lines.
+fn status_of_replies(outcome: Outcome) -> Status
     ensures { result ≡ status_of_replies outcome }
 {
     match outcome {
@@ -180,36 +63,87 @@ pub fn status_of_replies(outcome: Outcome) -> Status
     }
 }
 
-/// The lines that answer the requests in the files.
-pub fn ask<'a, F: Files>(
-    alloc: Global,
-    files: &mut F,
-    setup: &'a str,
-    requests: &'a str,
-    kept: &mut Kept,
-) -> Result<Answer, Fault<'a>>
-    ensures replies { IfOk result (IsAnswerTo (F.content files.old) (Ask setup.entry requests.entry)) }
-    ensures refused { IfErr result (IsFaultOf (F.content files.old) (Ask setup.entry requests.entry)) }
-{
-    let setup = read_file(alloc, files, setup)?;
-    let requests = read_file(alloc, files, requests)?;
-    let asked = ask_bytes(alloc, &setup, &requests);
-    kept.setup = setup;
-    kept.requests = requests;
-    let (outcome, lines) = asked?;
-    Ok(Answer::Lines { outcome, lines })
+impl Answer<'_> {
+    /// The status of the task.
+    pub(crate) fn status(&self) -> Status
+        ensures { result ≡ status_in self.now }
+    {
+        match self {
+            Answer::Text { .. } => Status::Done,
+            Answer::Lines { outcome, .. } => status_of_replies(*outcome),
+            Answer::Line { verdict, .. } => status_of(*verdict),
+            Answer::Run(printed) => match printed.outcome {
+                mm_run::Outcome::CarriedOut => Status::Done,
+                mm_run::Outcome::Stopped(_) => Status::Refused,
+            },
+        }
+    }
 }
 
-/// The lines that say what the packets in the file are.
-pub fn read<'a, F: Files>(
+// What the run of the plan prints, which is made where none is given.
+fn carry_out<R: Threads + Wait + Sync>(
+    rt: &R,
     alloc: Global,
-    files: &mut F,
-    packets: &'a str,
-) -> Result<Answer, Fault<'a>>
-    ensures reads { IfOk result (IsAnswerTo (F.content files.old) (Read packets.entry)) }
-    ensures refused { IfErr result (IsFaultOf (F.content files.old) (Read packets.entry)) }
+    files: FlightFiles<'_>,
+    texts: &TaskTexts,
+) -> Result<Printed, mm_run::Fault>
+    ensures flies { IfOk result (λ printed. FliesBytes (given_plan files.entry.plan texts.now) printed
+        texts.now.setup.items texts.now.forecast.items texts.now.sources.items texts.now.links.items) }
+    ensures refused { IfRefused flight_fault.NoMemory result (λ e. IsFlightFault (given_plan files.entry.plan texts.now) e
+        texts.now.setup.items texts.now.forecast.items texts.now.sources.items texts.now.links.items) }
 {
-    let packets = read_file(alloc, files, packets)?;
-    let (outcome, lines) = read_bytes(alloc, &packets)?;
-    Ok(Answer::Lines { outcome, lines })
+    let ends = RunTexts {
+        setup: &texts.setup,
+        forecast: &texts.forecast,
+        sources: &texts.sources,
+        links: &texts.links,
+    };
+    match files.plan {
+        Some(_) => run_bytes(rt, alloc, ends, &texts.plan),
+        None => fly_bytes(rt, alloc, ends),
+    }
+}
+
+/// What answers the task, whose files have these texts.
+#[tactic(auto, using(crate::proofs::Answering::flown))]
+pub(crate) fn answer_to<'a, R: Threads + Wait + Sync>(
+    rt: &R,
+    alloc: Global,
+    task: Task<'a>,
+    texts: &TaskTexts,
+) -> Result<Answer<'a>, Fault<'a>>
+    ensures answers { (contents : Contents) → HoldsTexts contents (names_in task.entry) texts.now → IfOk result (IsAnswerTo contents task.entry) }
+    ensures output { IfOk result (λ answer. output_in answer ≡ output_of task.entry) }
+    ensures refused { (contents : Contents) → HoldsTexts contents (names_in task.entry) texts.now → IfErr result (IsFaultOf contents task.entry) }
+{
+    match task {
+        Task::Plan { output, .. } => {
+            let text = plan_bytes(alloc, &texts.setup, &texts.forecast)?;
+            Ok(Answer::Text { text, output })
+        }
+        Task::Check(_) => {
+            let (verdict, line) = check_bytes(alloc, &texts.setup, &texts.forecast, &texts.plan)?;
+            Ok(Answer::Line { verdict, line })
+        }
+        Task::Chart { output, .. } => {
+            let text = chart_bytes(alloc, &texts.setup, &texts.forecast, &texts.plan)?;
+            Ok(Answer::Text { text, output })
+        }
+        Task::Table { output, .. } => {
+            let text = table_bytes(alloc, &texts.setup, &texts.forecast, &texts.plan)?;
+            Ok(Answer::Text { text, output })
+        }
+        Task::Fly(files) => {
+            let printed = carry_out(rt, alloc, files, texts)?;
+            Ok(Answer::Run(printed))
+        }
+        Task::Ask { .. } => {
+            let (outcome, lines) = ask_bytes(alloc, &texts.setup, &texts.packets)?;
+            Ok(Answer::Lines { outcome, lines })
+        }
+        Task::Read { .. } => {
+            let (outcome, lines) = read_bytes(alloc, &texts.packets)?;
+            Ok(Answer::Lines { outcome, lines })
+        }
+    }
 }

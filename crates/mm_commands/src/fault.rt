@@ -3,6 +3,7 @@ ghost use Rattle.std.specs.Prelude.{◌≡◌, Some};
 ghost use Rattle.mm_commands.specs.Faults.{refusal_of, spot_in_run, spot_of, fault_text};
 ghost use Rattle.mm_commands.specs.declared.fault.Fault.TheVariants.{NoMemory, Texts, Run, Setup};
 
+use crate::files::Obstacle;
 use crate::spot::spot_in_script;
 use mm_base::{Refusal, Refused, refusals};
 use mm_told::{Hint, Reason, Spot, Texts, hint_for, spot_in_plan, spot_in_problem, spot_in_texts};
@@ -14,7 +15,7 @@ use std::fmt;
 pub enum Fault<'a> {
     NoMemory,
     /// The file of this name was not read.
-    NotRead { name: &'a str },
+    NotRead { name: &'a str, obstacle: Obstacle },
     /// A fault of the texts of a plan or of a verdict on one.
     Texts(mm_cut::Fault),
     /// A fault of the texts of a run.
@@ -104,7 +105,7 @@ impl fmt::Display for Fault<'_> {
         let fault = *self;
         write!(f, "{} {}", fault.number(), fault.name())?;
         match fault {
-            Fault::NotRead { name } => write!(f, " name {name}"),
+            Fault::NotRead { name, .. } => write!(f, " name {name}"),
             _ => write!(f, "{}", fault.spot()),
         }
     }

@@ -1,18 +1,18 @@
 //! Where the program's files come from, and how they are read to their end.
-ghost use Rattle.std.specs.Prelude.{◌≡◌, ◌≤◌, ◌<◌, ℕ, List, Option, Some, Bool, true, false, length, IsOk, IfOk, IfErr, IfSome, IsTrue, IsFalse};
+ghost use Rattle.std.specs.Prelude.{◌≡◌, ◌≤◌, ◌<◌, ℕ, List, Option, Some, Bool, true, false, length, IsOk, IsErrAnd, IfOk, IfErr, IfSome, IsTrue, IsFalse};
 ghost use Rattle.std.specs.Io.{ReadsAtMost};
 ghost use Rattle.std.specs.Io.KnownBytes.{ReadConsumes};
 ghost use Rattle.std.specs.IoError.{error_kind};
-ghost use Rattle.mm_commands.specs.Contents.{Content, MayBe, MayBeUnread, unknown};
+ghost use Rattle.mm_commands.specs.Contents.{Content, IsStored, MayBe, MayBeUnread};
 ghost use Rattle.mm_commands.specs.Inputs.{failed_after, is_interrupted};
-ghost use Rattle.mm_commands.specs.ReadFaults.{refusal_of};
-ghost use Rattle.mm_commands.specs.declared.files.ReadFault.TheVariants.{NoMemory, NotRead};
+ghost use Rattle.mm_commands.specs.ReadFaults.{is_unread, refusal_of};
+ghost use Rattle.mm_commands.specs.declared.files.ReadFault.TheVariants.{NoMemory};
 ghost use Rattle.mm_commands.specs.declared.files.TheConstants.{MAX_READS};
 
 use mm_base::{Refusal, Refused, refusals};
 use std::alloc::Global;
+use std::fmt;
 use std::io::{self, ErrorKind, Read};
-use std::rt;
 use thiserror::Error;
 
 /// The most reads of one file, and the most bytes that it may have.
@@ -21,21 +21,119 @@ pub const MAX_READS: u64 = 1 << 30;
 /// How many bytes one read asks for.
 const PIECE: usize = 4096;
 
+/// What keeps a file from being read. It is shown as what was expected, and what to do.
+#[derive(Clone, Copy, Debug, PartialEq, Eq)]
+pub enum Obstacle {
+    /// There is no file of this name.
+    Missing,
+    /// The user may not read it.
+    Forbidden,
+    /// It is a folder.
+    Folder,
+    /// It has more than 2^30 bytes, or its end does not come.
+    TooLong,
+    /// A read failed.
+    Failed,
+}
+
+impl Obstacle {
+    // What was expected, and what to do.
+    fn words(self) -> (&'static str, &'static str) {
+        match self {
+            Obstacle::Missing => (
+                "a file of this name",
+                "check the name and its folder, or in a script the line === NAME above the file; standard input has the name /dev/stdin",
+            ),
+            Obstacle::Forbidden => (
+                "a file that may be read",
+                "let this user read it, as chmod does, or take a copy of it",
+            ),
+            Obstacle::Folder => ("a file, and this is a folder", "name a file in it"),
+            Obstacle::TooLong => (
+                "a file of at most 2^30 bytes",
+                "check that it is the file that was meant",
+            ),
+            Obstacle::Failed => (
+                "a file that can be read to its end",
+                "try again, or take a copy of it; a read of it failed",
+            ),
+        }
+    }
+}
+
+impl fmt::Display for Obstacle {
+    fn fmt<W: fmt::Write>(&self, f: &mut fmt::Formatter<W>) -> fmt::Result {
+        let (expected, advice) = self.words();
+        write!(f, "expected {expected}; {advice}")
+    }
+}
+
 /// Why the text of a file is not there.
 #[derive(Clone, Copy, Debug, PartialEq, Eq, Error)]
 pub enum ReadFault {
     #[error("{}", Refusal::NoMemory)]
     NoMemory,
     #[error("{}", Refusal::NotRead)]
-    NotRead,
+    NotRead { obstacle: Obstacle },
+}
+
+impl ReadFault {
+    /// What an open or a read tells that failed.
+    pub(crate) fn of(error: &io::Error) -> ReadFault
+        ensures unread { IsTrue (is_unread result) }
+    {
+        let obstacle = match error.kind() {
+            ErrorKind::NotFound | ErrorKind::NotADirectory => Obstacle::Missing,
+            ErrorKind::PermissionDenied => Obstacle::Forbidden,
+            ErrorKind::IsADirectory => Obstacle::Folder,
+            _ => Obstacle::Failed,
+        };
+        ReadFault::NotRead { obstacle }
+    }
 }
 
 impl Refused for ReadFault {
     fn refusal(self) -> Refusal {
-        refusals!(self; NoMemory, NotRead)
+        refusals!(self; NoMemory; with NotRead)
     }
 
     ghost refusal_of = { refusal_of };
+}
+
+const TOO_LONG: ReadFault = ReadFault::NotRead {
+    obstacle: Obstacle::TooLong,
+};
+
+/// Why a text was not stored in a file.
+#[derive(Clone, Copy, Debug, PartialEq, Eq, Error)]
+pub enum StoreFault {
+    #[error("there is no memory for it")]
+    NoMemory,
+    #[error("the files of a script are only read")]
+    InScript,
+    #[error("what has this name is no file, but a folder, a device or a link")]
+    NotAFile,
+    #[error("its folder is not there")]
+    Missing,
+    #[error("this user may not write there")]
+    Forbidden,
+    #[error("there is no room left")]
+    Full,
+    #[error("a write failed")]
+    Failed,
+}
+
+impl StoreFault {
+    /// What an error tells that came while a file was written.
+    pub(crate) fn of(error: &io::Error) -> StoreFault {
+        match error.kind() {
+            ErrorKind::NotFound | ErrorKind::NotADirectory => StoreFault::Missing,
+            ErrorKind::PermissionDenied | ErrorKind::ReadOnlyFilesystem => StoreFault::Forbidden,
+            ErrorKind::StorageFull | ErrorKind::QuotaExceeded => StoreFault::Full,
+            ErrorKind::OutOfMemory => StoreFault::NoMemory,
+            _ => StoreFault::Failed,
+        }
+    }
 }
 
 /// Where the bytes of a file come from.
@@ -122,8 +220,13 @@ pub trait Files {
     /// The whole file; `NotRead` where there is none of this name, it fails, or it does not end in time.
     fn read(&mut self, alloc: Global, name: &str) -> Result<Vec<u8>, ReadFault>
         ensures whole { IfOk result (λ text. MayBe (content self.old name.now) text.items) }
-        ensures unread { IfErr result (λ fault. fault ≡ NotRead → MayBeUnread (content self.old name.now)) }
+        ensures unread { IfErr result (λ fault. IsTrue (is_unread fault) → MayBeUnread (content self.old name.now)) }
         ensures stays { content self.new ≡ content self.old };
+
+    /// Makes the text the whole file of this name, whether or not there is one. Where it fails, each file is as it was.
+    fn store(&mut self, alloc: Global, name: &str, text: &[u8]) -> Result<(), StoreFault>
+        ensures stored { IfOk result (λ _. IsStored (content self.old) (content self.new) name.now text.now) }
+        ensures kept { IfErr result (λ _. content self.new ≡ content self.old) };
 }
 
 /// Reads to the end; `NotRead` where a read fails, or the end has not come after 2^30 reads or 2^30 bytes.
@@ -133,7 +236,7 @@ pub fn read_to_end<I: Input>(alloc: Global, input: &mut I) -> Result<Vec<u8>, Re
     ensures read { IsTrue (I.is_sure input.old) → IfSome (I.coming input.old)
         (λ octets. length octets < MAX_READS → IfErr result (λ fault. fault ≡ NoMemory)) }
     // A read that fails is told as `NotRead`, and as nothing else.
-    ensures failed { IsFalse (I.has_failed input.old) → IsTrue (I.has_failed input.new) → result ≡ Err NotRead }
+    ensures failed { IsFalse (I.has_failed input.old) → IsTrue (I.has_failed input.new) → IsErrAnd result (λ fault. IsTrue (is_unread fault)) }
 {
     let mut text = Vec::new(alloc);
     let mut piece = [0u8; PIECE];
@@ -141,47 +244,16 @@ pub fn read_to_end<I: Input>(alloc: Global, input: &mut I) -> Result<Vec<u8>, Re
         let count = match input.read(&mut piece) {
             Ok(count) => count,
             Err(error) if is_interrupted(&error) => continue,
-            Err(_) => return Err(ReadFault::NotRead),
+            Err(error) => return Err(ReadFault::of(&error)),
         };
         if count == 0 {
             return Ok(text);
         }
         if count as u64 > MAX_READS - text.len() as u64 {
-            return Err(ReadFault::NotRead);
+            return Err(TOO_LONG);
         }
         text.extend_from_slice(&piece[..count])
             .map_err(|_| ReadFault::NoMemory)?;
     }
-    Err(ReadFault::NotRead)
-}
-
-// Reads what was opened to its end.
-fn read_opened<R: Read + Drop>(alloc: Global, opened: io::Result<R>) -> Result<Vec<u8>, ReadFault>
-    ensures whole { IfOk opened (λ file. IfOk result (λ text. IfSome (R.remaining file) (λ octets. text.items ≡ octets))) }
-    ensures unopened { IfErr opened (λ error. result ≡ Err NotRead) }
-{
-    match opened {
-        Ok(file) => read_to_end(alloc, &mut Device::new(file)),
-        Err(_) => Err(ReadFault::NotRead),
-    }
-}
-
-/// The files of the system.
-#[derive(Drop)]
-pub struct SystemFiles<'a, R> {
-    runtime: &'a R,
-}
-
-impl<'a, R: rt::Files> SystemFiles<'a, R> {
-    pub fn new(runtime: &'a R) -> SystemFiles<'a, R> {
-        SystemFiles { runtime }
-    }
-}
-
-impl<R: rt::Files> Files for SystemFiles<'_, R> {
-    ghost content = { λ _ _. unknown };
-
-    fn read(&mut self, alloc: Global, name: &str) -> Result<Vec<u8>, ReadFault> {
-        read_opened(alloc, std::fs::open(self.runtime, name))
-    }
+    Err(TOO_LONG)
 }

@@ -1,9 +1,13 @@
 //! What the program says of an answer on standard error: of a verdict, and of each line that is refused.
 
 use crate::advice::Advice;
+use crate::answers::Answer;
+use crate::status::Status;
+use crate::texts::TaskTexts;
 use mm_base::Refusal;
 use mm_command_line::{Role, Task};
 use mm_cut::Verdict;
+use mm_run::Outcome;
 use mm_told::{
     Finding, Hint, Reason, Spot, Texts, Words, fit_hint, hint_for, notes_on, opening_hint,
     refusal_numbered, request_hint,
@@ -118,8 +122,8 @@ pub(crate) fn tell_hint<E: Write>(hint: Option<&Hint>, err: &mut E) -> io::Resul
     }
 }
 
-/// Says why a run did not begin or was halted, of which `end` is the line.
-pub(crate) fn tell_stop<E: Write>(
+// Says why a run did not begin or was halted, of which `end` is the line.
+fn tell_stop<E: Write>(
     alloc: Global,
     task: Task<'_>,
     refusal: Refusal,
@@ -132,8 +136,8 @@ pub(crate) fn tell_stop<E: Write>(
     tell_hint(hint.as_ref(), err)
 }
 
-/// Says what a verdict means that is not `Least`.
-pub(crate) fn tell_verdict<E: Write>(
+// Says what a verdict means that is not `Least`.
+fn tell_verdict<E: Write>(
     alloc: Global,
     task: Task<'_>,
     verdict: Verdict,
@@ -168,8 +172,8 @@ fn hint_of_run(alloc: Global, refusal: Refusal, end: &[u8], texts: Texts<'_>) ->
     }
 }
 
-/// Says what in the files of a task has no effect.
-pub(crate) fn tell_notes<E: Write>(
+// Says what in the files of a task has no effect.
+fn tell_notes<E: Write>(
     alloc: Global,
     task: Task<'_>,
     texts: Texts<'_>,
@@ -187,8 +191,8 @@ pub(crate) fn tell_notes<E: Write>(
     Ok(())
 }
 
-/// Says what each line means that is refused.
-pub(crate) fn tell_refused<E: Write>(
+// Says what each line means that is refused.
+fn tell_refused<E: Write>(
     task: Task<'_>,
     requests: &[u8],
     lines: &[u8],
@@ -202,6 +206,40 @@ pub(crate) fn tell_refused<E: Write>(
             writeln!(err, "{file}, {counted} {refused}")?;
             tell_hint(refused.hint(requests).as_ref(), err)?;
         }
+    }
+    Ok(())
+}
+
+/// Says more of an answer: what it means where something is refused, a verdict is not `Least`, or a run did not begin or was halted; and of a
+/// task that is done, what in its files has no effect.
+pub(crate) fn tell_more<E: Write>(
+    alloc: Global,
+    task: Task<'_>,
+    answer: &Answer<'_>,
+    texts: &TaskTexts,
+    err: &mut E,
+) -> io::Result<()> {
+    match answer {
+        Answer::Text { .. } => {}
+        Answer::Lines { lines, .. } => {
+            // A number that `read` prints need not be that of a line of its file.
+            let requests = match task {
+                Task::Ask { .. } => texts.packets.as_slice(),
+                _ => &[],
+            };
+            tell_refused(task, requests, lines, err)?;
+        }
+        Answer::Line { verdict, .. } => {
+            tell_verdict(alloc, task, *verdict, texts.hinted(), err)?;
+        }
+        Answer::Run(printed) => {
+            if let Outcome::Stopped(refusal) = printed.outcome {
+                tell_stop(alloc, task, refusal, &printed.end, texts.hinted(), err)?;
+            }
+        }
+    }
+    if matches!(answer.status(), Status::Done) {
+        tell_notes(alloc, task, texts.hinted(), err)?;
     }
     Ok(())
 }

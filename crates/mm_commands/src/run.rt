@@ -17,9 +17,13 @@ use std::io::Write;
 use std::sync::Wait;
 use std::thread::Threads;
 
-/// Does what the words of a command line, without the program's own name, ask for. What answers the task goes to `out`, and so
-/// do the line that says why it is refused, and the version. The texts of a bad command line and of help go to `err`, and so
-/// does the line that says what a refusal means. The error says which writer failed.
+// What is said of a bad command line that has the word `--output`.
+const OUTPUT_HINT: &str =
+    "hint: --output FILE stands last, after the files of plan, chart or table";
+
+/// Does what the words of a command line, without the program's own name, ask for. What answers the task goes to `out`, or into the file of
+/// its output. The line that says why it is refused goes to `out`, and so does the version. The texts of a bad command line and of help go
+/// to `err`, and so do the lines that say more of an answer or a refusal. The error says what could not be written.
 pub fn run_words<R: Threads + Wait + Sync, S: AsStr, F: Files, W: Write, E: Write>(
     rt: &R,
     alloc: Global,
@@ -28,9 +32,10 @@ pub fn run_words<R: Threads + Wait + Sync, S: AsStr, F: Files, W: Write, E: Writ
     out: &mut W,
     err: &mut E,
 ) -> Result<Status, Unwritten>
-    ensures does { IfOk result (λ status. Does (F.content files.old) (map S.text words.now) status (W.contents out.old) (W.contents out.new)) }
+    ensures does { IfOk result (λ status. Does (F.content files.old) (F.content files.new) (map S.text words.now) status (W.contents out.old) (W.contents out.new)) }
     // Words that spell a task are no bad command line.
     ensures taken { IsTaskLine (map S.text words.now) → IfOk result (λ status. status ≢ BadCommandLine) }
+    ensures kept { IfErr result (λ _. F.content files.new ≡ F.content files.old) }
 {
     if asks_version(words) {
         out.write_all(VERSION.as_bytes())
@@ -44,6 +49,9 @@ pub fn run_words<R: Threads + Wait + Sync, S: AsStr, F: Files, W: Write, E: Writ
         }
         Err(error) => {
             write!(err, "{error}").map_err(|_| Unwritten::Messages)?;
+            if words.iter().any(|word| word.as_str() == "--output") {
+                writeln!(err, "{OUTPUT_HINT}").map_err(|_| Unwritten::Messages)?;
+            }
             Ok(Status::BadCommandLine)
         }
     }
@@ -74,10 +82,12 @@ pub fn run_tool<R: Threads + Wait + Sync, S: AsStr, F: Files, W: Write, E: Write
 ) -> u8
     ensures status { result ≤ 2 }
     // Where the exit status is 0, the task that the words ask for was done: what was written answers it. Or they ask for the version.
-    ensures does { result ≡ 0 → IsDone (F.content files.old) (map S.text words.now) (W.contents out.old) (W.contents out.new)
+    ensures does { result ≡ 0 → IsDone (F.content files.old) (F.content files.new) (map S.text words.now) (W.contents out.old) (W.contents out.new)
         ⊎ TellsVersion (map S.text words.now) (W.contents out.old) (W.contents out.new) }
     // Words that spell a task are no bad command line.
     ensures taken { IsTaskLine (map S.text words.now) → result ≤ 1 }
+    // Where the task was not done, each file is as it was.
+    ensures kept { result ≢ 0 → F.content files.new ≡ F.content files.old }
 {
     let run = run_words(rt, alloc, words, files, out, err);
     end(run, err)

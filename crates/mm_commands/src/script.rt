@@ -1,18 +1,23 @@
 //! Scripts: the words of a command line, and then its files, in one text.
-ghost use Rattle.std.specs.Prelude.{◌≡◌, ◌<◌, ◌≤◌, length, bytes_eq, IfOk, IfErr, IfSome, IfNone};
+ghost use Rattle.std.specs.Prelude.{◌≡◌, ◌<◌, ◌≤◌, length, bytes_eq, IfOk, IfErr, IfSome, IfNone, IsErrAnd, IsTrue};
 ghost use Rattle.std.specs.Option.{option_map};
 ghost use Rattle.mm_base.specs.Lines.{text_lines};
 ghost use Rattle.mm_commands.specs.Contents.{MayBe, MayBeUnread, content_of};
 ghost use Rattle.mm_commands.specs.Scripts.{IsFirstLine, is_heading, heading_of, before_heading, script_contents, script_file};
-ghost use Rattle.mm_commands.specs.declared.files.ReadFault.TheVariants.{NoMemory, NotRead};
+ghost use Rattle.mm_commands.specs.ReadFaults.{is_unread};
+ghost use Rattle.mm_commands.specs.declared.files.ReadFault.TheVariants.{NoMemory};
 
-use crate::files::{Files, ReadFault};
+use crate::files::{Files, Obstacle, ReadFault, StoreFault};
 use mm_base::lines::split_line;
 use std::alloc::Global;
 use std::marker::Model;
 
 /// What the line that begins a file starts with; the rest of the line is the file's name.
 const HEADING: &[u8] = b"=== ";
+
+const MISSING: ReadFault = ReadFault::NotRead {
+    obstacle: Obstacle::Missing,
+};
 
 /// The first line of a text without its LF, and what follows it.
 pub fn first_line(text: &[u8]) -> (&[u8], &[u8])
@@ -98,11 +103,15 @@ impl Files for ScriptFiles<'_> {
     fn read(&mut self, alloc: Global, name: &str) -> Result<Vec<u8>, ReadFault>
         ensures whole { IfOk result (λ text. MayBe (content_of (script_file self.old name.now)) text.items) }
         ensures found { IfSome (script_file self.old name.now) (λ _. IfErr result (λ fault. fault ≡ NoMemory)) }
-        ensures none { IfNone (script_file self.old name.now) (result ≡ Err NotRead) }
-        ensures unread { IfErr result (λ fault. fault ≡ NotRead → MayBeUnread (content_of (script_file self.old name.now))) }
+        ensures none { IfNone (script_file self.old name.now) (IsErrAnd result (λ fault. IsTrue (is_unread fault))) }
+        ensures unread { IfErr result (λ fault. IsTrue (is_unread fault) → MayBeUnread (content_of (script_file self.old name.now))) }
         ensures stays { self.new ≡ self.old }
     {
-        let text = self.find(name.as_bytes()).ok_or(ReadFault::NotRead)?;
+        let text = self.find(name.as_bytes()).ok_or(MISSING)?;
         Vec::from_slice(alloc, text).map_err(|_| ReadFault::NoMemory)
+    }
+
+    fn store(&mut self, _alloc: Global, _name: &str, _text: &[u8]) -> Result<(), StoreFault> {
+        Err(StoreFault::InScript)
     }
 }

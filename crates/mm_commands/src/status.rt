@@ -12,13 +12,15 @@ pub enum Status {
     BadCommandLine,
 }
 
-/// Which of the program's writers failed.
+/// Where a write failed.
 #[derive(Clone, Copy, Debug, PartialEq, Eq)]
 pub enum Unwritten {
     /// The one for what answers a task, and for why it is refused: standard output.
     Output,
     /// The one for what a refusal means, and for help: standard error.
     Messages,
+    /// None of them, but the file of the task's output, of which standard error tells why.
+    File,
 }
 
 impl Status {

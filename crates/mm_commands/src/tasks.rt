@@ -1,24 +1,23 @@
-//! A task is done: what answers it goes to one writer, and what a refusal means to another.
+//! A task is done: what answers it goes to one writer or into a file, and what is said of it to another writer.
 ghost use Rattle.std.specs.Prelude.{◌≡◌, ◌≢◌, ◌⊎◌, IfOk, IfErr};
 ghost use Rattle.std.specs.Io.KnownBytes.{Appends};
 ghost use Rattle.mm_commands.specs.declared.status.Status.TheVariants.{Refused, BadCommandLine};
-ghost use Rattle.mm_commands.specs.Answers.{IsAnswerTo, Prints, status_in, text_in};
+ghost use Rattle.mm_commands.specs.Answers.{Gives, Prints, output_in, status_in, text_in};
+ghost use Rattle.mm_commands.specs.Contents.{IsStored};
 ghost use Rattle.mm_commands.specs.Faults.{refused_line};
-ghost use Rattle.mm_commands.specs.Refusing.{IsFaultOf, Refuses, refused_input};
+ghost use Rattle.mm_commands.specs.Refusing.{Refuses, refused_input};
 
 use crate::advice::Advice;
-use crate::answers::{Answer, ask, chart, check, plan, read, status_of, status_of_replies, table};
+use crate::answers::{Answer, answer_to};
 use crate::fault::Fault;
 use crate::files::{Files, ReadFault};
-use crate::flight::fly;
-use crate::kept::Kept;
-use crate::remark::{tell_hint, tell_notes, tell_refused, tell_stop, tell_verdict};
+use crate::remark::{tell_hint, tell_more};
 use crate::status::{Status, Unwritten};
+use crate::texts::TaskTexts;
 use mm_command_line::Task;
-use mm_run::Outcome;
 use mm_told::Hint;
 use std::alloc::Global;
-use std::io::Write;
+use std::io::{self, Write};
 use std::sync::Wait;
 use std::thread::Threads;
 
@@ -50,103 +49,89 @@ pub fn refuse_input<W: Write, E: Write>(
 {
     let fault = match fault {
         ReadFault::NoMemory => Fault::NoMemory,
-        ReadFault::NotRead => Fault::NotRead { name: "-" },
+        ReadFault::NotRead { obstacle } => Fault::NotRead {
+            name: "-",
+            obstacle,
+        },
     };
     refuse(None, fault, None, out, err)
 }
 
-// Prints the answer, and what it means where something is refused, a verdict is not `Least`, or a run did not begin or was halted.
-fn print_answer<W: Write, E: Write>(
+// Stores the text in the file of this name; standard error has its name where that fails.
+fn store<F: Files, E: Write>(
     alloc: Global,
-    task: Task<'_>,
-    answer: &Answer,
-    kept: &Kept,
-    out: &mut W,
+    files: &mut F,
+    name: &str,
+    text: &[u8],
     err: &mut E,
-) -> Result<Status, Unwritten>
-    ensures text { IfOk result (λ status. Appends (W.contents out.old) (W.contents out.new) (text_in answer.now)) }
-    ensures status { IfOk result (λ status. status ≡ status_in answer.now) }
+) -> Result<(), Unwritten>
+    ensures stored { IfOk result (λ _. IsStored (F.content files.old) (F.content files.new) name.now text.now) }
+    ensures kept { IfErr result (λ _. F.content files.new ≡ F.content files.old) }
+{
+    match files.store(alloc, name, text) {
+        Ok(()) => Ok(()),
+        Err(fault) => {
+            writeln!(
+                err,
+                "mm_tool: {name} could not be written, and is as it was: {fault}"
+            )
+            .map_err(|_| Unwritten::Messages)?;
+            Err(Unwritten::File)
+        }
+    }
+}
+
+// Prints the answer.
+fn print<W: Write>(answer: &Answer<'_>, out: &mut W) -> io::Result<()>
+    ensures text { IfOk result (λ _. Appends (W.contents out.old) (W.contents out.new) (text_in answer.now)) }
 {
     match answer {
-        Answer::Text { status, text } => {
-            out.write_all(text).map_err(|_| Unwritten::Output)?;
-            Ok(*status)
-        }
-        Answer::Lines { outcome, lines } => {
-            out.write_all(lines).map_err(|_| Unwritten::Output)?;
-            tell_refused(task, &kept.requests, lines, err).map_err(|_| Unwritten::Messages)?;
-            Ok(status_of_replies(*outcome))
-        }
-        Answer::Line { verdict, line } => {
-            out.write_all(line).map_err(|_| Unwritten::Output)?;
-            tell_verdict(alloc, task, *verdict, kept.texts(), err).map_err(
-                |_| Unwritten::Messages,
-            )?;
-            Ok(status_of(*verdict))
-        }
+        Answer::Text { text, .. } => out.write_all(text),
+        Answer::Lines { lines, .. } => out.write_all(lines),
+        Answer::Line { line, .. } => out.write_all(line),
         Answer::Run(printed) => {
-            out.write_all(&printed.sheet)
-                .map_err(|_| Unwritten::Output)?;
-            out.write_all(&printed.report)
-                .map_err(|_| Unwritten::Output)?;
-            out.write_all(&printed.end).map_err(|_| Unwritten::Output)?;
-            match printed.outcome {
-                Outcome::CarriedOut => Ok(Status::Done),
-                Outcome::Stopped(refusal) => {
-                    tell_stop(alloc, task, refusal, &printed.end, kept.texts(), err).map_err(
-                        |_| Unwritten::Messages,
-                    )?;
-                    Ok(Status::Refused)
-                }
-            }
+            out.write_all(&printed.sheet)?;
+            out.write_all(&printed.report)?;
+            out.write_all(&printed.end)
         }
     }
 }
 
-// Prints the answer, and what in the files of a task that is done has no effect.
-fn print<W: Write, E: Write>(
+// Gives the answer to its writer, and then says what is to be said of it. Into a file it goes last: where a write fails, no file is changed.
+fn give<F: Files, W: Write, E: Write>(
     alloc: Global,
     task: Task<'_>,
-    answer: &Answer,
-    kept: &Kept,
+    answer: &Answer<'_>,
+    texts: &TaskTexts,
+    files: &mut F,
     out: &mut W,
     err: &mut E,
 ) -> Result<Status, Unwritten>
-    ensures text { IfOk result (λ status. Appends (W.contents out.old) (W.contents out.new) (text_in answer.now)) }
+    ensures given { IfOk result (λ status. Gives (output_in answer.now) (text_in answer.now)
+        (F.content files.old) (F.content files.new) (W.contents out.old) (W.contents out.new)) }
     ensures status { IfOk result (λ status. status ≡ status_in answer.now) }
+    ensures kept { IfErr result (λ _. F.content files.new ≡ F.content files.old) }
 {
-    let status = print_answer(alloc, task, answer, kept, out, err)?;
-    if matches!(status, Status::Done) {
-        tell_notes(alloc, task, kept.texts(), err).map_err(|_| Unwritten::Messages)?;
+    match answer {
+        Answer::Text {
+            text,
+            output: Some(name),
+        } => {
+            tell_more(alloc, task, answer, texts, err).map_err(|_| Unwritten::Messages)?;
+            store(alloc, files, *name, text, err)?;
+        }
+        _ => {
+            print(answer, out).map_err(|_| Unwritten::Output)?;
+            tell_more(alloc, task, answer, texts, err).map_err(|_| Unwritten::Messages)?;
+        }
     }
-    Ok(status)
+    Ok(answer.status())
 }
 
-// What answers the task.
-fn answer<'a, R: Threads + Wait + Sync, F: Files>(
-    rt: &R,
-    alloc: Global,
-    task: Task<'a>,
-    files: &mut F,
-    kept: &mut Kept,
-) -> Result<Answer, Fault<'a>>
-    ensures answers { IfOk result (IsAnswerTo (F.content files.old) task.entry) }
-    ensures refused { IfErr result (IsFaultOf (F.content files.old) task.entry) }
-{
-    match task {
-        Task::Plan { setup, forecast } => plan(alloc, files, setup, forecast, kept),
-        Task::Check(names) => check(alloc, files, names, kept),
-        Task::Chart(names) => chart(alloc, files, names, kept),
-        Task::Table(names) => table(alloc, files, names, kept),
-        Task::Fly(names) => fly(rt, alloc, files, names, kept),
-        Task::Ask { setup, requests } => ask(alloc, files, setup, requests, kept),
-        Task::Read { packets } => read(alloc, files, packets),
-    }
-}
-
-/// Does a task. What answers it goes to `out`, and so does the line that says why a task is refused; what a refusal means
-/// goes to `err`. The status is `Done` where the task is done, and `Refused` where something is refused, a verdict is not
-/// `Least`, or a run was halted. The error says which writer failed.
+/// Does a task. What answers it goes to `out`, or into the file of the task's output, and nothing of it to `out` then. The line that says why
+/// a task is refused goes to `out`; what is said of an answer or of a refusal goes to `err`. The status is `Done` where the task is done,
+/// and `Refused` where something is refused, a verdict is not `Least`, or a run was halted. The error says what could not be written. No file
+/// is changed but that of the output of a task that is done.
 pub fn do_task<R: Threads + Wait + Sync, F: Files, W: Write, E: Write>(
     rt: &R,
     alloc: Global,
@@ -155,15 +140,20 @@ pub fn do_task<R: Threads + Wait + Sync, F: Files, W: Write, E: Write>(
     out: &mut W,
     err: &mut E,
 ) -> Result<Status, Unwritten>
-    ensures prints { IfOk result (λ status. Prints (F.content files.old) task.entry status (W.contents out.old) (W.contents out.new)
-        ⊎ Refuses (F.content files.old) task.entry status (W.contents out.old) (W.contents out.new)) }
+    ensures prints { IfOk result (λ status.
+        Prints (F.content files.old) (F.content files.new) task.entry status (W.contents out.old) (W.contents out.new)
+        ⊎ Refuses (F.content files.old) (F.content files.new) task.entry status (W.contents out.old) (W.contents out.new)) }
     ensures status { IfOk result (λ status. status ≢ BadCommandLine) }
+    ensures kept { IfErr result (λ _. F.content files.new ≡ F.content files.old) }
 {
-    let mut kept = Kept::new(alloc);
-    match answer(rt, alloc, task, files, &mut kept) {
-        Ok(answer) => print(alloc, task, &answer, &kept, out, err),
+    let texts = match TaskTexts::read(alloc, files, task.names()) {
+        Ok(texts) => texts,
+        Err(fault) => return refuse(Some(task), fault, None, out, err),
+    };
+    match answer_to(rt, alloc, task, &texts) {
+        Ok(answer) => give(alloc, task, &answer, &texts, files, out, err),
         Err(fault) => {
-            let hint = fault.hint(alloc, kept.texts());
+            let hint = fault.hint(alloc, texts.hinted());
             refuse(Some(task), fault, hint, out, err)
         }
     }

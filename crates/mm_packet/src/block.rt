@@ -59,6 +59,7 @@ impl BlockPacket {
         Ok(BlockPacket { packet })
     }
 
+    #[must_use]
     pub fn packet(&self) -> &Packet
         ensures same { result.now ≡ self.now }
         ensures fits { length (spelling self.now) ≤ BLOCK }
@@ -67,6 +68,7 @@ impl BlockPacket {
     }
 
     /// Whether two packets are equal. It takes no memory.
+    #[must_use]
     pub fn is(&self, other: &BlockPacket) -> bool
         ensures equal { IsTrue result ↔ (self.now ≡ other.now) }
     {

@@ -30,6 +30,7 @@ pub struct Header {
 
 impl Header {
     /// The header of a packet whose acknowledgement flags, or time reference status, are 0.
+    #[must_use]
     pub fn new(apid: u16, count: u16, service: u8, subtype: u8) -> Header
         ensures primary { (result.apid ≡ apid) × (result.count ≡ count) }
         ensures message { (result.service ≡ service) × (result.subtype ≡ subtype) }

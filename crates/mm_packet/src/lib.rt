@@ -4,6 +4,7 @@
 mod block;
 mod buffer;
 mod fault;
+mod fields;
 mod header;
 pub mod laws;
 mod layout;

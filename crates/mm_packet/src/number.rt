@@ -5,6 +5,7 @@ ghost use Rattle.std.specs.Int.{w16, w32, w64, to_be_bytes};
 ghost use Rattle.mm_packet.specs.Number.{front_octet, number_at};
 
 /// The first octet, and those after it.
+#[must_use]
 pub fn octet_at(octets: &[u8]) -> Option<(u8, &[u8])>
     ensures value { option_map (λ x. (x.0, x.1.now)) result ≡ front_octet octets.now }
     ensures spelled { IfSome result (λ x. octets.now ≡ x.0 ∷ x.1.now) }
@@ -16,6 +17,7 @@ pub fn octet_at(octets: &[u8]) -> Option<(u8, &[u8])>
 }
 
 /// The number of two octets at the front, and the octets after it.
+#[must_use]
 pub fn u16_at(octets: &[u8]) -> Option<(u16, &[u8])>
     ensures value { option_map (λ x. (x.0, x.1.now)) result ≡ number_at w16 octets.now }
     ensures spelled { IfSome result (λ x. octets.now ≡ to_be_bytes w16 x.0 ++ x.1.now) }
@@ -25,6 +27,7 @@ pub fn u16_at(octets: &[u8]) -> Option<(u16, &[u8])>
 }
 
 /// The number of four octets at the front, and the octets after it.
+#[must_use]
 pub fn u32_at(octets: &[u8]) -> Option<(u32, &[u8])>
     ensures value { option_map (λ x. (x.0, x.1.now)) result ≡ number_at w32 octets.now }
     ensures spelled { IfSome result (λ x. octets.now ≡ to_be_bytes w32 x.0 ++ x.1.now) }
@@ -35,6 +38,7 @@ pub fn u32_at(octets: &[u8]) -> Option<(u32, &[u8])>
 }
 
 /// The number of eight octets at the front, and the octets after it.
+#[must_use]
 pub fn u64_at(octets: &[u8]) -> Option<(u64, &[u8])>
     ensures value { option_map (λ x. (x.0, x.1.now)) result ≡ number_at w64 octets.now }
     ensures spelled { IfSome result (λ x. octets.now ≡ to_be_bytes w64 x.0 ++ x.1.now) }

@@ -40,6 +40,7 @@ impl Octets {
         Ok(list)
     }
 
+    #[must_use]
     pub fn as_slice(&self) -> &[u8]
         ensures octets { result.now ≡ self.now }
     {

@@ -27,6 +27,7 @@ impl Model for Packet {
 
 impl Packet {
     /// A telecommand with these fields and this data, of at most 65,531 octets.
+    #[must_use]
     pub fn tc(header: Header, source: u16, body: Octets) -> Packet
         requires apid { header.apid < IDLE_APID }
         requires count { header.count < 2 ^ 14 }
@@ -44,6 +45,7 @@ impl Packet {
     }
 
     /// Telemetry with these fields and this data, of at most 65,521 octets. `time` counts ticks.
+    #[must_use]
     pub fn tm(header: Header, counter: u16, destination: u16, time: u64, body: Octets) -> Packet
         requires apid { header.apid < IDLE_APID }
         requires count { header.count < 2 ^ 14 }
@@ -65,6 +67,7 @@ impl Packet {
     }
 
     /// Whether the packet is a telecommand, and not telemetry.
+    #[must_use]
     pub fn is_telecommand(&self) -> bool
         ensures telecommand { IsTrue result ↔ IsTelecommand self.now.kind }
         ensures telemetry { (result ≡ false) ↔ IsTelemetry self.now.kind }
@@ -76,6 +79,7 @@ impl Packet {
     }
 
     /// The application process identifier.
+    #[must_use]
     pub fn apid(&self) -> u16
         ensures value { result ≡ self.now.header.apid }
         ensures in_range { result < IDLE_APID }
@@ -84,6 +88,7 @@ impl Packet {
     }
 
     /// The packet sequence count.
+    #[must_use]
     pub fn count(&self) -> u16
         ensures value { result ≡ self.now.header.count }
         ensures in_range { result < 2 ^ 14 }
@@ -92,6 +97,7 @@ impl Packet {
     }
 
     /// The acknowledgement flags of a telecommand, the time reference status of telemetry.
+    #[must_use]
     pub fn low(&self) -> u8
         ensures value { result ≡ self.now.header.low }
         ensures in_range { result < 2 ^ 4 }
@@ -100,6 +106,7 @@ impl Packet {
     }
 
     /// The service type.
+    #[must_use]
     pub fn service(&self) -> u8
         ensures value { result ≡ self.now.header.service }
     {
@@ -107,6 +114,7 @@ impl Packet {
     }
 
     /// The message subtype.
+    #[must_use]
     pub fn subtype(&self) -> u8
         ensures value { result ≡ self.now.header.subtype }
     {
@@ -114,6 +122,7 @@ impl Packet {
     }
 
     /// The source identifier of a telecommand.
+    #[must_use]
     pub fn source(&self) -> u16
         requires telecommand { IsTelecommand self.now.kind }
         ensures value { source_of self.now.kind ≡ Some result }
@@ -125,6 +134,7 @@ impl Packet {
     }
 
     /// The message type counter of telemetry.
+    #[must_use]
     pub fn counter(&self) -> u16
         requires telemetry { IsTelemetry self.now.kind }
         ensures value { counter_of self.now.kind ≡ Some result }
@@ -136,6 +146,7 @@ impl Packet {
     }
 
     /// The destination identifier of telemetry.
+    #[must_use]
     pub fn destination(&self) -> u16
         requires telemetry { IsTelemetry self.now.kind }
         ensures value { destination_of self.now.kind ≡ Some result }
@@ -147,6 +158,7 @@ impl Packet {
     }
 
     /// The time of telemetry, in ticks.
+    #[must_use]
     pub fn time(&self) -> u64
         requires telemetry { IsTelemetry self.now.kind }
         ensures value { time_of self.now.kind ≡ Some result }
@@ -158,6 +170,7 @@ impl Packet {
     }
 
     /// The data: what follows the secondary header.
+    #[must_use]
     pub fn body(&self) -> &[u8]
         ensures value { result.now ≡ self.now.body }
         ensures room { length self.now.body ≤ room_for_body self.now.kind }
@@ -166,6 +179,7 @@ impl Packet {
     }
 
     /// Whether two packets are equal. It takes no memory.
+    #[must_use]
     pub fn is(&self, other: &Packet) -> bool
         ensures equal { IsTrue result ↔ (self.now ≡ other.now) }
     {

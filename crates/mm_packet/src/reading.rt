@@ -8,6 +8,7 @@ ghost use Rattle.mm_base.specs.Reading.{Gives};
 ghost use Rattle.mm_packet.specs.Reading.{tested, data_field_at, header_of, packet_at};
 
 use crate::fault::Fault;
+use crate::fields_at;
 use crate::header::{Header, IDLE_APID, PacketType, SEQUENCE_COUNTS};
 use crate::layout::{APID_MASK, LOW_MASK, PUS_VERSION, UNSEGMENTED, VERSION};
 use crate::number::{octet_at, u16_at, u64_at};
@@ -76,15 +77,7 @@ fn primary_at(octets: &[u8]) -> Option<(Primary, &[u8])>
     ensures spelled { IfSome result (λ x. octets.now ≡ primary_octets x.0 ++ x.1.now) }
     ensures fits { IfSome result (λ x. FitsPrimary x.0) }
 {
-    let (identification, rest) = u16_at(octets)?;
-    let (sequence_control, rest) = u16_at(rest)?;
-    let (data_length, rest) = u16_at(rest)?;
-    let primary = Primary {
-        identification,
-        sequence_control,
-        data_length,
-    };
-    Some((primary, rest))
+    fields_at!(octets; Primary { identification: u16_at, sequence_control: u16_at, data_length: u16_at })
 }
 
 #[tactic(auto, unfolding(crate::specs::Headers::type_at))]
@@ -95,18 +88,10 @@ fn type_at(telecommand: bool, octets: &[u8]) -> Option<(PacketType, &[u8])>
     ensures kind { IfSome result (λ x. type_bit x.0 ≡ (if telecommand then 1 else 0)) }
 {
     if telecommand {
-        let (source, rest) = u16_at(octets)?;
-        return Some((PacketType::Telecommand { source }, rest));
+        fields_at!(octets; PacketType::Telecommand { source: u16_at })
+    } else {
+        fields_at!(octets; PacketType::Telemetry { counter: u16_at, destination: u16_at, time: u64_at })
     }
-    let (counter, rest) = u16_at(octets)?;
-    let (destination, rest) = u16_at(rest)?;
-    let (time, rest) = u64_at(rest)?;
-    let kind = PacketType::Telemetry {
-        counter,
-        destination,
-        time,
-    };
-    Some((kind, rest))
 }
 
 #[tactic(auto, unfolding(crate::specs::Headers::secondary_at))]
@@ -116,17 +101,7 @@ fn secondary_at(telecommand: bool, octets: &[u8]) -> Option<(Secondary, &[u8])>
     ensures fits { IfSome result (λ x. FitsSecondary x.0) }
     ensures kind { IfSome result (λ x. type_bit x.0.kind ≡ (if telecommand then 1 else 0)) }
 {
-    let (first, rest) = octet_at(octets)?;
-    let (service, rest) = octet_at(rest)?;
-    let (subtype, rest) = octet_at(rest)?;
-    let (kind, rest) = type_at(telecommand, rest)?;
-    let secondary = Secondary {
-        first,
-        service,
-        subtype,
-        kind,
-    };
-    Some((secondary, rest))
+    fields_at!(octets; Secondary { first: octet_at, service: octet_at, subtype: octet_at, kind: type_at(telecommand) })
 }
 
 fn data_field_at(primary: Primary, octets: &[u8]) -> Option<(&[u8], &[u8])>

@@ -9,6 +9,7 @@ use crate::layout::{
     TELEMETRY_HEADER_LEN, UNSEGMENTED,
 };
 use crate::packet::Packet;
+use crate::put_fields;
 use mm_base::NoMemory;
 use std::alloc::{AllocError, Global};
 
@@ -83,16 +84,11 @@ fn put_type_fields(out: &mut Vec<u8>, kind: PacketType) -> Result<(), AllocError
     ensures { OnOk result (out.new.items ≡ out.old.items ++ type_fields kind) }
 {
     match kind {
-        PacketType::Telecommand { source } => out.extend_from_slice(&source.to_be_bytes())?,
+        PacketType::Telecommand { source } => put_fields!(out; source.to_be_bytes()),
         PacketType::Telemetry {
             counter,
             destination,
             time,
-        } => {
-            out.extend_from_slice(&counter.to_be_bytes())?;
-            out.extend_from_slice(&destination.to_be_bytes())?;
-            out.extend_from_slice(&time.to_be_bytes())?;
-        }
+        } => put_fields!(out; counter.to_be_bytes(), destination.to_be_bytes(), time.to_be_bytes()),
     }
-    Ok(())
 }

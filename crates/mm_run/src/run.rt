@@ -1,5 +1,5 @@
 //! A run from texts to what is printed: of the plan of a text, or of one that is made.
-ghost use Rattle.std.specs.Prelude.{◌⊎◌, ◌<◌, ◌-◌, ◌^◌, All, Some, IfOk, IfErr};
+ghost use Rattle.std.specs.Prelude.{◌<◌, ◌-◌, ◌^◌, All, Some, IfOk, IfErr};
 ghost use Rattle.std.specs.Option.{option_copied};
 ghost use Rattle.mm_base.specs.Reading.{IfRefused};
 ghost use Rattle.mm_exec.specs.Course.{AreWithinLimits};
@@ -7,7 +7,7 @@ ghost use Rattle.mm_exec.specs.Step.{NeverRefused};
 ghost use Rattle.mm_run.specs.Judging.{IsFirstFault, IsRunFault, IsFlyFault};
 ghost use Rattle.mm_run.specs.Sources.{AreFew};
 ghost use Rattle.mm_run.specs.Opening.{opened_with, AreOffered};
-ghost use Rattle.mm_run.specs.Runs.{gives, IsFlown, IsNotFlown, EndsEarly, EndsWhole, PrintsRun, Runs, FliesBy};
+ghost use Rattle.mm_run.specs.Runs.{gives, IsFlown, IsNotFlown, Ends, PrintsRun, Runs, FliesBy};
 
 use crate::fault::Fault;
 use crate::laws::constants_are;
@@ -20,7 +20,7 @@ use crate::texts::{
     read_sources_and_links,
 };
 use mm_base::NoMemory;
-use mm_exec::{Flight, Flown, Halted, NotFlown, carry_out, fly};
+use mm_exec::{Flown, Halted, NotFlown, carry_out, fly};
 use mm_memory::Memory;
 use mm_plan::Sheet;
 use mm_problem::Problem;
@@ -45,18 +45,7 @@ fn fly_sheet<R: Threads + Wait + Sync>(
 {
     let text = Vec::new(alloc);
     match carry_out(rt, alloc, memory, problem, sheet.plan(), sources, links, 0) {
-        Ok(
-            Flight {
-                report,
-                sources,
-                links,
-            },
-        ) => Ok(Flown {
-            sheet: text,
-            report,
-            sources,
-            links,
-        }),
+        Ok(flight) => Ok(flight.with_sheet(text)),
         Err(halted) => Err(NotFlown {
             sheet: text,
             halted,
@@ -96,8 +85,7 @@ fn carry<R: Threads + Wait + Sync>(
     requires opened { AreOffered 0 start.memory.stores }
     requires few { AreFew sides.sources.items }
     requires unfailed { All (λ l. l.failed < 2 ^ 64 - 1) sides.links.items }
-    ensures { IfOk result (λ p. EndsWhole sheet start.problem (opened_with start.memory sides.opening.items) sides.sources.items sides.links.items p
-        ⊎ EndsEarly sheet start.problem (opened_with start.memory sides.opening.items) sides.sources.items sides.links.items p) }
+    ensures { IfOk result (Ends sheet start.problem (opened_with start.memory sides.opening.items) sides.sources.items sides.links.items) }
 {
     let ProblemAndMemory {
         problem,

@@ -1,6 +1,5 @@
 -- A packet spells one report, and that report is not refused.
-use Rattle.std.proofs.Common.{◌≡◌, ℕ, ◌*◌, ◌<◌, ◌≤◌, ◌^◌, true, List, ◌∷◌, ◌++◌, length, take, drop, Some, None, Result, Err, refl, sym, ap, ◌∙◌, arith, append_assoc, length-append, eq-eqb}
-use Rattle.std.specs.Prelude.{MatchResult, IfOk, MatchOption, IsOkUnless}
+use Rattle.std.proofs.Common.{◌≡◌, ℕ, ◌*◌, ◌<◌, ◌≤◌, ◌^◌, true, List, ◌∷◌, ◌++◌, length, take, drop, Some, None, refl, sym, ap, ◌∙◌, arith, append_assoc, length-append, eq-eqb}
 use Rattle.std.specs.List.{flat_map, AllByRecursion}
 use Rattle.std.specs.Int.{w16, to_be_bytes, from_be_bytes}
 use Rattle.std.proofs.lemmas.List.{drop_at}
@@ -10,8 +9,6 @@ use Rattle.mm_packet.specs.Spelling.{type_bit}
 use Rattle.mm_packet.specs.declared.header.PacketType.{PacketType}
 use Rattle.mm_packet.specs.declared.header.PacketType.TheVariants.{Telecommand, Telemetry}
 use Rattle.mm_packet.proofs.NumberLemmas.{number16_again}
-use Rattle.mm_st15.specs.declared.fault.Fault.{Fault}
-use Rattle.mm_st15.specs.declared.fault.Fault.TheVariants.{NoMemory}
 use Rattle.mm_st15.specs.declared.instruction.Configuration.{Configuration}
 use Rattle.mm_st15.specs.declared.report_entry.Row.{Row}
 use Rattle.mm_st15.specs.declared.report_entry.Summary.{Summary}
@@ -23,7 +20,7 @@ use Rattle.mm_st15.specs.declared.report_kind.ReportKind.TheVariants as kind
 use Rattle.mm_st15.specs.ReportKind.{code_of, kind_at}
 use Rattle.mm_st15.specs.Report.{kind_of, moment_of, data_of, IsReport, SpellsReport, is_counted, report_fault}
 use Rattle.mm_st15.specs.Counted.{counted_at}
-use Rattle.mm_st15.specs.Layout.{Layout, row_octets, FitsRow, row_layout, summary_layout, status_layout, configuration_layout}
+use Rattle.mm_st15.specs.Layout.{Layout, layout_width, octets_of, Fits, row_layout, summary_layout, status_layout, configuration_layout}
 use Rattle.mm_st15.proofs.CountLemmas.{counted_again, rows_counted}
 use Rattle.mm_st15.proofs.LayoutLemmas.{behind_id, IsReadable, entries_from, entries_again, entries_in, entries_in_again, length_of_entries, row_readable, summary_readable, status_readable, configuration_readable}
 
@@ -43,7 +40,7 @@ report_from kind.Statuses moment octets = report.Statuses moment (entries_in sta
 report_from kind.Configurations moment octets = report.Configurations moment (entries_in configuration_readable.of 14 octets)
 
 -- the rows are read again after their count
-rows_again : (rows : List Row) → length rows < 2 ^ 16 → AllByRecursion FitsRow rows → rows_in (to_be_bytes w16 (length rows) ++ flat_map row_octets rows) ≡ rows
+rows_again : (rows : List Row) → length rows < 2 ^ 16 → AllByRecursion (Fits row_layout) rows → rows_in (to_be_bytes w16 (length rows) ++ flat_map (octets_of row_layout) rows) ≡ rows
 unfolding rows_in
 rows_again rows few fits = rw (from_be_bytes-to_be_bytes_2 (length rows) few) (entries_again row_layout row_readable rows fits)
 
@@ -51,8 +48,8 @@ rows_again rows few fits = rw (from_be_bytes-to_be_bytes_2 (length rows) few) (e
 report_again : (r : Report) → IsReport r → report_from (kind_of r) (moment_of r) (data_of r) ≡ r
 unfolding report_from control_with
 report_again (report.Control moment id rows) fits =
-    let others : List ℕ = to_be_bytes w16 (length rows) ++ flat_map row_octets rows in
-    let regrouped : data_of (report.Control moment id rows) ≡ id ++ others = append_assoc id (to_be_bytes w16 (length rows)) (flat_map row_octets rows) in
+    let others : List ℕ = to_be_bytes w16 (length rows) ++ flat_map (octets_of row_layout) rows in
+    let regrouped : data_of (report.Control moment id rows) ≡ id ++ others = append_assoc id (to_be_bytes w16 (length rows)) (flat_map (octets_of row_layout) rows) in
     let few : length rows < 2 ^ 16 = omega (arith, fits.count) in
     ap (report_from kind.Control moment) regrouped ∙ behind_id (control_with moment) id others fits.entries.0 ∙ ap (λ (xs : List Row). report.Control moment id xs) (rows_again rows few fits.entries.1)
 report_again (report.Summaries moment entries) fits = ap (λ (xs : List Summary). report.Summaries moment xs) (entries_in_again summary_layout summary_readable entries fits.entries)
@@ -60,14 +57,14 @@ report_again (report.Statuses moment entries) fits = ap (λ (xs : List Status). 
 report_again (report.Configurations moment entries) fits = ap (λ (xs : List Configuration). report.Configurations moment xs) (entries_in_again configuration_layout configuration_readable entries fits.entries)
 
 -- entries of a layout are counted
-entries_counted : (layout : Layout) → IsReadable layout → (entries : List layout.Entry) → AllByRecursion layout.fits entries
-    → counted_at 0 layout.width (length entries ∷ flat_map layout.octets entries) ≡ Some (length entries, flat_map layout.octets entries)
-entries_counted layout is entries fits = counted_again 0 layout.width (length entries) (flat_map layout.octets entries) (omega arith) (length_of_entries layout is entries fits)
+entries_counted : {Entry : Type 0} (layout : Layout Entry) → IsReadable layout → (entries : List Entry) → AllByRecursion (Fits layout) entries
+    → counted_at 0 (layout_width layout) (length entries ∷ flat_map (octets_of layout) entries) ≡ Some (length entries, flat_map (octets_of layout) entries)
+entries_counted layout is entries fits = counted_again 0 (layout_width layout) (length entries) (flat_map (octets_of layout) entries) (omega arith) (length_of_entries layout is entries fits)
 
 -- the data of a report are as long as their count says
 counted : (r : Report) → IsReport r → is_counted (kind_of r) (data_of r) ≡ true
 counted (report.Control moment id rows) fits =
-    let octets : List ℕ = flat_map row_octets rows in
+    let octets : List ℕ = flat_map (octets_of row_layout) rows in
     let others : List ℕ = to_be_bytes w16 (length rows) ++ octets in
     let regrouped : data_of (report.Control moment id rows) ≡ id ++ others = append_assoc id (to_be_bytes w16 (length rows)) octets in
     let few : length rows < 2 ^ 16 = omega (arith, fits.count) in

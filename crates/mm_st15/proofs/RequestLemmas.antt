@@ -1,7 +1,7 @@
 -- A packet spells one request, and that request is not refused.
 use Rattle.std.proofs.Common.{◌≡◌, ℕ, ◌<◌, ◌≤◌, Bool, true, false, List, [], ◌∷◌, length, Some, None, Result, Err, refl, sym, ap, subst, ◌∙◌}
 use Rattle.std.specs.List.{flat_map}
-use Rattle.std.specs.Prelude.{if◌then◌else◌, MatchBool, MatchResult, IfOk, MatchOption, IsOkUnless, is_some}
+use Rattle.std.specs.Prelude.{if◌then◌else◌, MatchBool, MatchOption, IsOkUnless, is_some}
 use Rattle.mm_packet.specs.Packet.{SpacePacket, IsTelecommand}
 use Rattle.mm_packet.specs.Spelling.{type_bit}
 use Rattle.mm_packet.specs.declared.header.PacketType.{PacketType}
@@ -15,12 +15,13 @@ use Rattle.mm_st15.specs.declared.request_kind.RequestKind.TheVariants as kind
 use Rattle.mm_st15.specs.declared.service.TheConstants.{SERVICE}
 use Rattle.mm_st15.specs.RequestKind.{Subtype, listed, bare, subtype_of, width_in, code_of, kind_at, width_of}
 use Rattle.mm_st15.specs.Request.{Instructions, of_parts, count_in, octets_in, FitIn, kind_of, data_of, IsRequest, SpellsRequest, instructions_at, request_fault}
+use Rattle.mm_st15.specs.Layout.{layout_width, octets_of}
 use Rattle.mm_st15.proofs.CountLemmas.{counted_again}
 use Rattle.mm_st15.proofs.LayoutLemmas.{IsReadable, entries_in, entries_in_again, length_of_entries, target_readable, report_type_readable, time_range_readable, time_limit_readable, configuration_readable, size_readable, channel_readable}
 
 -- the instructions of a subtype can be read
 abbrev Reads : Subtype → Type 0
-Reads (listed number layout) = IsReadable layout
+Reads (listed number Entry layout) = IsReadable layout
 Reads (bare number) = Unit {0}
 
 reads : (k : RequestKind) → Reads (subtype_of k)
@@ -29,7 +30,7 @@ reads k = first_of (search tt, search target_readable, search report_type_readab
 
 -- the instructions in some data
 instructions_in : (s : Subtype) → Reads s → List ℕ → Instructions s
-instructions_in (listed number layout) is octets = entries_in is.of layout.width octets
+instructions_in (listed number Entry layout) is octets = entries_in is.of (layout_width layout) octets
 instructions_in (bare number) is octets = tt
 
 -- the data with these instructions
@@ -39,7 +40,7 @@ data_in s instructions = if is_some (width_in s) then count_in s instructions �
 -- instructions that were written are read again
 instructions_again : (s : Subtype) (is : Reads s) (instructions : Instructions s) → FitIn s instructions → instructions_in s is (data_in s instructions) ≡ instructions
 unfolding instructions_in data_in
-instructions_again (listed number layout) is instructions fits = entries_in_again layout is instructions fits
+instructions_again (listed number Entry layout) is instructions fits = entries_in_again layout is instructions fits
 instructions_again (bare number) is instructions fits = refl
 
 -- instructions that can be spelled
@@ -49,9 +50,9 @@ IsIn s instructions = MatchOption (width_in s) (Unit {0}) (λ _. (1 ≤ count_in
 -- the data with these instructions are as long as their count says
 counted_in : (s : Subtype) (is : Reads s) (instructions : Instructions s) → IsIn s instructions → is_some (instructions_at (width_in s) (data_in s instructions)) ≡ true
 unfolding data_in
-counted_in (listed number layout) is instructions fits =
-    let octets : List ℕ = flat_map layout.octets instructions in
-    rw (counted_again 1 layout.width (length instructions) octets fits.0.0 (length_of_entries layout is instructions fits.1)) refl
+counted_in (listed number Entry layout) is instructions fits =
+    let octets : List ℕ = flat_map (octets_of layout) instructions in
+    rw (counted_again 1 (layout_width layout) (length instructions) octets fits.0.0 (length_of_entries layout is instructions fits.1)) refl
 counted_in (bare number) is instructions fits = refl
 
 -- the request of a kind with these instructions

@@ -1,5 +1,5 @@
--- The octets of each instruction and of each entry of a report, field by field, and which values fit.
-use Rattle.std.specs.Prelude.{◌≡◌, ℕ, ◌<◌, ◌^◌, List, [], ◌∷◌, ◌++◌, length}
+-- The layout of each instruction and of each entry of a report: its fields one after another, each number big-endian.
+use Rattle.std.specs.Prelude.{◌≡◌, ℕ, ◌+◌, ◌<◌, ◌^◌, List, [], ◌∷◌, ◌++◌, length}
 use Rattle.std.specs.Int.{w16, w32, w64, to_be_bytes}
 use Rattle.mm_st15.specs.declared.instruction.Target.{Target}
 use Rattle.mm_st15.specs.declared.instruction.ReportType.{ReportType}
@@ -12,138 +12,107 @@ use Rattle.mm_st15.specs.declared.report_entry.Row.{Row}
 use Rattle.mm_st15.specs.declared.report_entry.Summary.{Summary}
 use Rattle.mm_st15.specs.declared.report_entry.Status.{Status}
 
--- a layout: what is laid out, its octets, how many they are, and which values fit
-pub record Layout : Type 1 where
-  pub Entry : Type 0
-  pub octets : Entry → List ℕ
-  pub width : ℕ
-  pub fits : Entry → Type 0
+-- a field: a store's identifier, or a number of so many bits
+pub data Field : Type 0 where
+  identifier : Field
+  number8 : Field
+  number16 : Field
+  number32 : Field
+  number64 : Field
 
--- identifier
-abbrev pub target_octets : Target → List ℕ
-target_octets entry = entry.id
+-- what a field holds: the octets of an identifier, or a number
+abbrev pub Held : Field → Type 0
+Held identifier = List ℕ
+Held _ = ℕ
 
--- identifier, APID, service type, subtype
-abbrev pub report_type_octets : ReportType → List ℕ
-report_type_octets entry = entry.id ++ to_be_bytes w16 entry.apid ++ entry.service ∷ entry.subtype ∷ []
+-- how many octets a field has
+abbrev pub field_width : Field → ℕ
+field_width identifier = 8
+field_width number8 = 1
+field_width number16 = 2
+field_width number32 = 4
+field_width number64 = 8
 
--- identifier, first time, last time
-abbrev pub time_range_octets : TimeRange → List ℕ
-time_range_octets entry = entry.id ++ to_be_bytes w64 entry.from ++ to_be_bytes w64 entry.to
+-- the octets of a field
+abbrev pub field_octets : (f : Field) → Held f → List ℕ
+field_octets identifier octets = octets
+field_octets number8 n = n ∷ []
+field_octets number16 n = to_be_bytes w16 n
+field_octets number32 n = to_be_bytes w32 n
+field_octets number64 n = to_be_bytes w64 n
 
--- identifier, greatest time
-abbrev pub time_limit_octets : TimeLimit → List ℕ
-time_limit_octets entry = entry.id ++ to_be_bytes w64 entry.limit
+-- an identifier has eight octets, and a number so many bits
+abbrev pub FitsField : (f : Field) → Held f → Type 0
+FitsField identifier octets = length octets ≡ 8
+FitsField number8 n = n < 2 ^ 8
+FitsField number16 n = n < 2 ^ 16
+FitsField number32 n = n < 2 ^ 32
+FitsField number64 n = n < 2 ^ 64
 
--- identifier, size, type, virtual channel
-abbrev pub configuration_octets : Configuration → List ℕ
-configuration_octets entry = entry.id ++ to_be_bytes w32 entry.size ++ entry.kind ∷ entry.channel ∷ []
+-- what each of the fields holds
+abbrev pub AllHeld : List Field → Type 0
+AllHeld [] = Unit {0}
+AllHeld (f ∷ fields) = Held f × AllHeld fields
 
--- identifier, size
-abbrev pub size_octets : Size → List ℕ
-size_octets entry = entry.id ++ to_be_bytes w32 entry.size
+-- how many octets the fields have
+abbrev pub fields_width : List Field → ℕ
+fields_width [] = 0
+fields_width (f ∷ fields) = field_width f + fields_width fields
 
--- identifier, virtual channel
-abbrev pub channel_octets : Channel → List ℕ
-channel_octets entry = entry.id ++ entry.channel ∷ []
+-- the octets before, and then those of the fields, one after another
+abbrev pub with_fields : (before : List ℕ) (fields : List Field) → AllHeld fields → List ℕ
+with_fields before [] held = before
+with_fields before (f ∷ fields) held = with_fields (before ++ field_octets f held.0) fields held.1
 
--- APID, service type, subtype
-abbrev pub row_octets : Row → List ℕ
-row_octets entry = to_be_bytes w16 entry.apid ++ entry.service ∷ entry.subtype ∷ []
+-- each field fits
+abbrev pub FitFields : (fields : List Field) → AllHeld fields → Type 0
+FitFields [] held = Unit {0}
+FitFields (f ∷ fields) held = FitsField f held.0 × FitFields fields held.1
 
--- identifier, oldest time, newest time, packets held
-abbrev pub summary_octets : Summary → List ℕ
-summary_octets entry = entry.id ++ to_be_bytes w64 entry.oldest ++ to_be_bytes w64 entry.newest ++ to_be_bytes w32 entry.held
+-- a layout of entries: the fields, and what they hold of an entry
+pub record Layout (Entry : Type 0) : Type 0 where
+  pub fields : List Field
+  pub held : Entry → AllHeld fields
 
--- identifier, storage status, retrieval status
-abbrev pub status_octets : Status → List ℕ
-status_octets entry = entry.id ++ entry.storage ∷ entry.retrieval ∷ []
+module _ {Entry : Type 0} (layout : Layout Entry) where
+  -- how many octets an entry has
+  abbrev pub layout_width : ℕ
+  layout_width = fields_width layout.fields
 
--- the identifier has eight octets
-pub record FitsTarget (entry : Target) : Type 0 where
-  pub id : length entry.id ≡ 8
+  -- the octets of an entry
+  abbrev pub octets_of : Entry → List ℕ
+  octets_of entry = with_fields [] layout.fields (layout.held entry)
 
--- the identifier has eight octets, and each number fits its field
-pub record FitsReportType (entry : ReportType) : Type 0 where
-  pub id : length entry.id ≡ 8
-  pub apid : entry.apid < 2 ^ 16
-  pub service : entry.service < 2 ^ 8
-  pub subtype : entry.subtype < 2 ^ 8
+  -- which entries fit
+  abbrev pub Fits : Entry → Type 0
+  Fits entry = FitFields layout.fields (layout.held entry)
 
--- the identifier has eight octets, and each time fits its field
-pub record FitsTimeRange (entry : TimeRange) : Type 0 where
-  pub id : length entry.id ≡ 8
-  pub from : entry.from < 2 ^ 64
-  pub to : entry.to < 2 ^ 64
+abbrev pub target_layout : Layout Target
+target_layout = record { fields = identifier ∷ []; held = λ e. (e.id, tt) }
 
--- the identifier has eight octets, and the time fits its field
-pub record FitsTimeLimit (entry : TimeLimit) : Type 0 where
-  pub id : length entry.id ≡ 8
-  pub limit : entry.limit < 2 ^ 64
+abbrev pub report_type_layout : Layout ReportType
+report_type_layout = record { fields = identifier ∷ number16 ∷ number8 ∷ number8 ∷ []; held = λ e. (e.id, (e.apid, (e.service, (e.subtype, tt)))) }
 
--- the identifier has eight octets, and each number fits its field
-pub record FitsConfiguration (entry : Configuration) : Type 0 where
-  pub id : length entry.id ≡ 8
-  pub size : entry.size < 2 ^ 32
-  pub kind : entry.kind < 2 ^ 8
-  pub channel : entry.channel < 2 ^ 8
+abbrev pub time_range_layout : Layout TimeRange
+time_range_layout = record { fields = identifier ∷ number64 ∷ number64 ∷ []; held = λ e. (e.id, (e.from, (e.to, tt))) }
 
--- the identifier has eight octets, and the size fits its field
-pub record FitsSize (entry : Size) : Type 0 where
-  pub id : length entry.id ≡ 8
-  pub size : entry.size < 2 ^ 32
+abbrev pub time_limit_layout : Layout TimeLimit
+time_limit_layout = record { fields = identifier ∷ number64 ∷ []; held = λ e. (e.id, (e.limit, tt)) }
 
--- the identifier has eight octets, and the channel fits its field
-pub record FitsChannel (entry : Channel) : Type 0 where
-  pub id : length entry.id ≡ 8
-  pub channel : entry.channel < 2 ^ 8
+abbrev pub configuration_layout : Layout Configuration
+configuration_layout = record { fields = identifier ∷ number32 ∷ number8 ∷ number8 ∷ []; held = λ e. (e.id, (e.size, (e.kind, (e.channel, tt)))) }
 
--- each number fits its field
-pub record FitsRow (entry : Row) : Type 0 where
-  pub apid : entry.apid < 2 ^ 16
-  pub service : entry.service < 2 ^ 8
-  pub subtype : entry.subtype < 2 ^ 8
+abbrev pub size_layout : Layout Size
+size_layout = record { fields = identifier ∷ number32 ∷ []; held = λ e. (e.id, (e.size, tt)) }
 
--- the identifier has eight octets, and each number fits its field
-pub record FitsSummary (entry : Summary) : Type 0 where
-  pub id : length entry.id ≡ 8
-  pub oldest : entry.oldest < 2 ^ 64
-  pub newest : entry.newest < 2 ^ 64
-  pub held : entry.held < 2 ^ 32
+abbrev pub channel_layout : Layout Channel
+channel_layout = record { fields = identifier ∷ number8 ∷ []; held = λ e. (e.id, (e.channel, tt)) }
 
--- the identifier has eight octets, and each status fits its field
-pub record FitsStatus (entry : Status) : Type 0 where
-  pub id : length entry.id ≡ 8
-  pub storage : entry.storage < 2 ^ 8
-  pub retrieval : entry.retrieval < 2 ^ 8
+abbrev pub row_layout : Layout Row
+row_layout = record { fields = number16 ∷ number8 ∷ number8 ∷ []; held = λ e. (e.apid, (e.service, (e.subtype, tt))) }
 
--- the layouts
-abbrev pub target_layout : Layout
-target_layout = record { Entry = Target; octets = target_octets; width = 8; fits = FitsTarget }
+abbrev pub summary_layout : Layout Summary
+summary_layout = record { fields = identifier ∷ number64 ∷ number64 ∷ number32 ∷ []; held = λ e. (e.id, (e.oldest, (e.newest, (e.held, tt)))) }
 
-abbrev pub report_type_layout : Layout
-report_type_layout = record { Entry = ReportType; octets = report_type_octets; width = 12; fits = FitsReportType }
-
-abbrev pub time_range_layout : Layout
-time_range_layout = record { Entry = TimeRange; octets = time_range_octets; width = 24; fits = FitsTimeRange }
-
-abbrev pub time_limit_layout : Layout
-time_limit_layout = record { Entry = TimeLimit; octets = time_limit_octets; width = 16; fits = FitsTimeLimit }
-
-abbrev pub configuration_layout : Layout
-configuration_layout = record { Entry = Configuration; octets = configuration_octets; width = 14; fits = FitsConfiguration }
-
-abbrev pub size_layout : Layout
-size_layout = record { Entry = Size; octets = size_octets; width = 12; fits = FitsSize }
-
-abbrev pub channel_layout : Layout
-channel_layout = record { Entry = Channel; octets = channel_octets; width = 9; fits = FitsChannel }
-
-abbrev pub row_layout : Layout
-row_layout = record { Entry = Row; octets = row_octets; width = 4; fits = FitsRow }
-
-abbrev pub summary_layout : Layout
-summary_layout = record { Entry = Summary; octets = summary_octets; width = 28; fits = FitsSummary }
-
-abbrev pub status_layout : Layout
-status_layout = record { Entry = Status; octets = status_octets; width = 10; fits = FitsStatus }
+abbrev pub status_layout : Layout Status
+status_layout = record { fields = identifier ∷ number8 ∷ number8 ∷ []; held = λ e. (e.id, (e.storage, (e.retrieval, tt))) }

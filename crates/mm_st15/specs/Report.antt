@@ -15,7 +15,7 @@ use Rattle.mm_st15.specs.declared.report_kind.ReportKind.TheVariants as kind
 use Rattle.mm_st15.specs.declared.service.TheConstants.{SERVICE}
 use Rattle.mm_st15.specs.ReportKind.{code_of, kind_at}
 use Rattle.mm_st15.specs.Counted.{counted_at}
-use Rattle.mm_st15.specs.Layout.{row_octets, FitsRow, summary_octets, FitsSummary, status_octets, FitsStatus, configuration_octets, FitsConfiguration}
+use Rattle.mm_st15.specs.Layout.{octets_of, Fits, row_layout, summary_layout, status_layout, configuration_layout}
 
 -- what a report tells
 abbrev pub kind_of : Report → ReportKind
@@ -33,10 +33,10 @@ moment_of (report.Configurations moment entries) = moment
 
 -- the data of a report: the identifier, the number of rows in two octets and the rows; or the number of entries and the entries
 abbrev pub data_of : Report → List ℕ
-data_of (report.Control moment id rows) = id ++ to_be_bytes w16 (length rows) ++ flat_map row_octets rows
-data_of (report.Summaries moment entries) = length entries ∷ flat_map summary_octets entries
-data_of (report.Statuses moment entries) = length entries ∷ flat_map status_octets entries
-data_of (report.Configurations moment entries) = length entries ∷ flat_map configuration_octets entries
+data_of (report.Control moment id rows) = id ++ to_be_bytes w16 (length rows) ++ flat_map (octets_of row_layout) rows
+data_of (report.Summaries moment entries) = length entries ∷ flat_map (octets_of summary_layout) entries
+data_of (report.Statuses moment entries) = length entries ∷ flat_map (octets_of status_layout) entries
+data_of (report.Configurations moment entries) = length entries ∷ flat_map (octets_of configuration_layout) entries
 
 -- a report has at most 255 entries, or as many rows as a packet has room for
 abbrev pub HasCount : Report → Type 0
@@ -47,10 +47,10 @@ HasCount (report.Configurations moment entries) = length entries < 256
 
 -- the fields of each entry fit
 abbrev pub FitsEntries : Report → Type 0
-FitsEntries (report.Control moment id rows) = (length id ≡ 8) × AllByRecursion FitsRow rows
-FitsEntries (report.Summaries moment entries) = AllByRecursion FitsSummary entries
-FitsEntries (report.Statuses moment entries) = AllByRecursion FitsStatus entries
-FitsEntries (report.Configurations moment entries) = AllByRecursion FitsConfiguration entries
+FitsEntries (report.Control moment id rows) = (length id ≡ 8) × AllByRecursion (Fits row_layout) rows
+FitsEntries (report.Summaries moment entries) = AllByRecursion (Fits summary_layout) entries
+FitsEntries (report.Statuses moment entries) = AllByRecursion (Fits status_layout) entries
+FitsEntries (report.Configurations moment entries) = AllByRecursion (Fits configuration_layout) entries
 
 -- a report that can be spelled
 pub record IsReport (report : Report) : Type 0 where

@@ -11,11 +11,12 @@ use Rattle.mm_st15.specs.declared.request_kind.RequestKind.{RequestKind}
 use Rattle.mm_st15.specs.declared.request_kind.RequestKind.TheVariants as kind
 use Rattle.mm_st15.specs.declared.service.TheConstants.{SERVICE}
 use Rattle.mm_st15.specs.RequestKind.{Subtype, listed, bare, subtype_of, code_of, kind_at, width_of}
+use Rattle.mm_st15.specs.Layout.{octets_of, Fits}
 use Rattle.mm_st15.specs.Counted.{counted_at}
 
 -- the instructions that a subtype may have: a list in its layout, or nothing
 abbrev pub Instructions : Subtype → Type 0
-Instructions (listed number layout) = List layout.Entry
+Instructions (listed number Entry layout) = List Entry
 Instructions (bare number) = Unit {0}
 
 -- what a function gives for a request, by what it asks and its instructions
@@ -40,17 +41,17 @@ of_parts f (request.ChangeChannel instructions) = f kind.ChangeChannel instructi
 
 -- how many instructions there are
 abbrev pub count_in : (s : Subtype) → Instructions s → ℕ
-count_in (listed number layout) instructions = length instructions
+count_in (listed number Entry layout) instructions = length instructions
 count_in (bare number) none = 0
 
 -- the octets of instructions, one after another
 abbrev pub octets_in : (s : Subtype) → Instructions s → List ℕ
-octets_in (listed number layout) instructions = flat_map layout.octets instructions
+octets_in (listed number Entry layout) instructions = flat_map (octets_of layout) instructions
 octets_in (bare number) none = []
 
 -- the fields of each instruction fit
 abbrev pub FitIn : (s : Subtype) → Instructions s → Type 0
-FitIn (listed number layout) instructions = AllByRecursion layout.fits instructions
+FitIn (listed number Entry layout) instructions = AllByRecursion (Fits layout) instructions
 FitIn (bare number) none = Unit {0}
 
 -- what a request asks

@@ -2,6 +2,7 @@
 ghost use Rattle.std.specs.Prelude.{◌≡◌, ◌+◌, ◌*◌, ◌<◌, ◌≤◌, ◌∷◌, length, is_some, IfOk, IfSome, MatchBool, IsOkUnless};
 ghost use Rattle.std.specs.Option.{option_map};
 ghost use Rattle.std.specs.List.{flat_map, AllByRecursion};
+ghost use Rattle.mm_st15.specs.Layout.{octets_of, Fits};
 ghost use Rattle.mm_st15.specs.Counted.{counted_at};
 
 use crate::entries::Entries;
@@ -33,9 +34,9 @@ pub(crate) fn counted_entries<E: Entry>(
 ) -> Result<Entries<E>, Fault>
     requires { E.WIDTH ≤ 28 }
     ensures spelled { IfOk result (λ entries. octets.now
-        ≡ length entries ∷ flat_map E.spelling entries) }
+        ≡ length entries ∷ flat_map (octets_of E.layout) entries) }
     ensures count { IfOk result (λ entries. (least ≤ length entries) × (length entries < 256)) }
-    ensures fits { IfOk result (λ entries. AllByRecursion E.fits entries) }
+    ensures fits { IfOk result (λ entries. AllByRecursion (Fits E.layout) entries) }
     ensures refused { MatchBool (is_some (counted_at least E.WIDTH octets.now))
         (IsOkUnless result Fault.NoMemory) (result ≡ Err Fault.CountMismatch) }
 {
@@ -50,9 +51,9 @@ pub(crate) fn counted_octets<E: Entry>(
 ) -> Result<Vec<u8>, AllocError>
     requires { length entries.now < 256 }
     ensures octets { IfOk result (λ out. out.items
-        ≡ length entries.now ∷ flat_map E.spelling entries.now) }
+        ≡ length entries.now ∷ flat_map (octets_of E.layout) entries.now) }
     ensures len { IfOk result (λ out. length out.items ≡ 1 + length entries.now * E.WIDTH) }
-    ensures fits { IfOk result (λ _. AllByRecursion E.fits entries.now) }
+    ensures fits { IfOk result (λ _. AllByRecursion (Fits E.layout) entries.now) }
 {
     let mut out = Vec::new(alloc);
     out.push(entries.as_slice().len() as u8)?;

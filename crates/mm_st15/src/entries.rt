@@ -18,12 +18,14 @@ impl<T> Model for Entries<T> {
 }
 
 impl<T> Entries<T> {
+    #[must_use]
     pub fn new(items: Vec<T>) -> Entries<T>
         ensures items { result ≡ items.items }
     {
         Entries { items }
     }
 
+    #[must_use]
     pub fn into_vec(self) -> Vec<T>
         ensures items { result.items ≡ self }
     {
@@ -31,6 +33,7 @@ impl<T> Entries<T> {
         items
     }
 
+    #[must_use]
     pub fn as_slice(&self) -> &[T]
         ensures items { result.now ≡ self.now }
     {

@@ -1,35 +1,33 @@
 //! Entries of fixed width, read and written one after another.
-ghost use Rattle.std.specs.Prelude.{◌≡◌, ◌+◌, ◌*◌, ◌<◌, ◌++◌, ℕ, List, length, drop, OnOk, IfOk, IfSome, IfNone};
+ghost use Rattle.std.specs.Prelude.{◌≡◌, ◌+◌, ◌*◌, ◌<◌, ◌++◌, ℕ, length, drop, OnOk, IfOk, IfSome, IfNone};
 ghost use Rattle.std.specs.List.{flat_map, AllByRecursion};
+ghost use Rattle.mm_st15.specs.Layout.{Layout, octets_of, Fits};
 
 use crate::entries::Entries;
 use std::alloc::{AllocError, Global};
 
 // An instruction of a request, or an entry of a report.
 pub(crate) trait Entry: Copy {
-    // Its octets, by the layout.
-    ghost spelling: { Self → List ℕ };
+    // Its fields.
+    ghost layout: { Layout Self };
 
     // How many octets it has.
     const WIDTH: usize;
 
     ghost WIDTH: { ℕ };
 
-    // Its fields are in their ranges.
-    ghost fits: { Self → Type 0 };
-
     // The entry at the front of the octets, and what follows it.
     fn read(octets: &[u8]) -> Option<(Self, &[u8])>
-        ensures spelled { IfSome result (λ x. octets.now ≡ Self.spelling x.0 ++ x.1.now) }
+        ensures spelled { IfSome result (λ x. octets.now ≡ octets_of Self.layout x.0 ++ x.1.now) }
         ensures len { IfSome result (λ x. length octets.now ≡ Self.WIDTH + length x.1.now) }
-        ensures fits { IfSome result (λ x. Self.fits x.0) }
+        ensures fits { IfSome result (λ x. Fits Self.layout x.0) }
         ensures none { IfNone result (length octets.now < Self.WIDTH) };
 
     // Writes the octets at the end.
     fn put(&self, out: &mut Vec<u8>) -> Result<(), AllocError>
-        ensures octets { OnOk result (out.new.items ≡ out.old.items ++ Self.spelling self.now) }
+        ensures octets { OnOk result (out.new.items ≡ out.old.items ++ octets_of Self.layout self.now) }
         ensures len { OnOk result (length out.new.items ≡ length out.old.items + Self.WIDTH) }
-        ensures fits { OnOk result (Self.fits self.now) };
+        ensures fits { OnOk result (Fits Self.layout self.now) };
 }
 
 // The identifier at the front of the octets, and what follows it.
@@ -51,9 +49,9 @@ pub(crate) fn entries_of<E: Entry>(
     octets: &[u8],
 ) -> Result<Entries<E>, AllocError>
     requires { length octets.now ≡ count * E.WIDTH }
-    ensures spelled { IfOk result (λ entries. flat_map E.spelling entries ≡ octets.now) }
+    ensures spelled { IfOk result (λ entries. flat_map (octets_of E.layout) entries ≡ octets.now) }
     ensures count { IfOk result (λ entries. length entries ≡ count) }
-    ensures fits { IfOk result (λ entries. AllByRecursion E.fits entries) }
+    ensures fits { IfOk result (λ entries. AllByRecursion (Fits E.layout) entries) }
 {
     let mut entries = Vec::with_capacity(alloc, count)?;
     let mut rest = octets;
@@ -71,10 +69,10 @@ pub(crate) fn put_entries<E: Entry>(
     entries: &Entries<E>,
 ) -> Result<(), AllocError>
     ensures octets { OnOk result (out.new.items
-        ≡ out.old.items ++ flat_map E.spelling entries.now) }
+        ≡ out.old.items ++ flat_map (octets_of E.layout) entries.now) }
     ensures len { OnOk result (length out.new.items
         ≡ length out.old.items + length entries.now * E.WIDTH) }
-    ensures fits { OnOk result (AllByRecursion E.fits entries.now) }
+    ensures fits { OnOk result (AllByRecursion (Fits E.layout) entries.now) }
 {
     for entry in entries.as_slice() {
         entry.put(out)?;

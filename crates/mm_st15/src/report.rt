@@ -4,7 +4,7 @@ ghost use Rattle.std.specs.List.{flat_map, AllByRecursion};
 ghost use Rattle.std.specs.Int.{w16, to_be_bytes};
 ghost use Rattle.mm_packet.specs.declared.header.TheConstants.{IDLE_APID, TELEMETRY_BODY};
 ghost use Rattle.mm_packet.specs.declared.header.PacketType.TheVariants.{Telemetry};
-ghost use Rattle.mm_st15.specs.Layout.{row_octets, FitsRow};
+ghost use Rattle.mm_st15.specs.Layout.{octets_of, Fits, row_layout};
 ghost use Rattle.mm_st15.specs.ReportKind.{code_of};
 ghost use Rattle.mm_st15.specs.Report.{is_counted, kind_of, moment_of, data_of, HasCount, FitsEntries, IsReport, SpellsReport, report_fault};
 
@@ -96,6 +96,7 @@ impl Report {
     }
 
     /// The subtype.
+    #[must_use]
     pub fn subtype(&self) -> u8
         ensures code { result ≡ code_of (kind_of self.now) }
     {
@@ -103,6 +104,7 @@ impl Report {
     }
 
     /// What the report tells.
+    #[must_use]
     pub fn kind(&self) -> ReportKind
         ensures kind { result ≡ kind_of self.now }
     {
@@ -115,6 +117,7 @@ impl Report {
     }
 
     /// The moment of the request that the report answers, in ticks.
+    #[must_use]
     pub fn moment(&self) -> u64
         ensures moment { result ≡ moment_of self.now }
         ensures in_range { moment_of self.now < 2 ^ 64 }
@@ -146,9 +149,9 @@ impl Report {
 fn control_octets(alloc: Global, id: &[u8; 8], rows: &Entries<Row>) -> Result<Vec<u8>, AllocError>
     requires { length rows.now ≤ MOST_ROWS }
     ensures octets { IfOk result (λ out. out.items
-        ≡ id.now ++ to_be_bytes w16 (length rows.now) ++ flat_map row_octets rows.now) }
+        ≡ id.now ++ to_be_bytes w16 (length rows.now) ++ flat_map (octets_of row_layout) rows.now) }
     ensures room { IfOk result (λ out. length out.items ≤ TELEMETRY_BODY) }
-    ensures fits { IfOk result (λ _. (length id.now ≡ 8) × AllByRecursion FitsRow rows.now) }
+    ensures fits { IfOk result (λ _. (length id.now ≡ 8) × AllByRecursion (Fits row_layout) rows.now) }
 {
     let mut out = Vec::new(alloc);
     out.extend_from_slice(id)?;

@@ -13,6 +13,7 @@ pub enum ReportKind {
 
 impl ReportKind {
     /// The report with this subtype, where there is one.
+    #[must_use]
     pub fn of_code(code: u8) -> Option<ReportKind>
         ensures kind { result ≡ kind_at code }
         ensures code { IfSome result (λ kind. code_of kind ≡ code) }
@@ -27,6 +28,7 @@ impl ReportKind {
     }
 
     /// The subtype.
+    #[must_use]
     pub fn code(self) -> u8
         ensures code { result ≡ code_of self }
     {

@@ -158,6 +158,7 @@ impl Request {
     }
 
     /// The subtype.
+    #[must_use]
     pub fn subtype(&self) -> u8
         ensures code { result ≡ code_of (kind_of self.now) }
     {
@@ -165,6 +166,7 @@ impl Request {
     }
 
     /// What the request asks.
+    #[must_use]
     pub fn kind(&self) -> RequestKind
         ensures kind { result ≡ kind_of self.now }
     {

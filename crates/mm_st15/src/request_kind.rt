@@ -67,6 +67,7 @@ macro_rules! width {
 
 impl RequestKind {
     /// The request with this subtype, where there is one.
+    #[must_use]
     pub fn of_code(code: u8) -> Option<RequestKind>
         ensures kind { result ≡ kind_at code }
         ensures code { IfSome result (λ kind. code_of kind ≡ code) }
@@ -75,6 +76,7 @@ impl RequestKind {
     }
 
     /// The subtype.
+    #[must_use]
     pub fn code(self) -> u8
         ensures code { result ≡ code_of self }
     {
@@ -82,6 +84,7 @@ impl RequestKind {
     }
 
     /// The octets of one instruction, and none where the request has no data.
+    #[must_use]
     pub fn width(self) -> Option<usize>
         ensures width { result ≡ width_of self }
         ensures small { IfSome result (λ width. width ≤ 24) }

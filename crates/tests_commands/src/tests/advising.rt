@@ -3,10 +3,14 @@
 use crate::tests::samples::{A_WITH_LIMIT_1, SCI, TWO_STEPS_OF_A, told};
 
 // A script whose task is refused, and the line on standard error, or how it begins where a long list of ranges follows.
-static ADVICE: [(&str, &str); 18] = [
+static ADVICE: [(&str, &str); 19] = [
     (
         "plan S F\n=== S\n",
-        "F: expected a file that is there, can be read and has at most 2^30 bytes; check its name and who may read it; the name - stands for the script on standard input\n",
+        "F: expected a file of this name; check the name and its folder, or in a script the line === NAME above the file; standard input has the name /dev/stdin\n",
+    ),
+    (
+        "check S F -\n=== S\n=== F\n",
+        "-: expected a file of this name; check the name and its folder, or in a script the line === NAME above the file; standard input has the name /dev/stdin\n",
     ),
     (
         "plan S F\n=== S\n[[store\n=== F\n",

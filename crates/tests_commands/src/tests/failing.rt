@@ -2,7 +2,7 @@
 ghost use Rattle.mm_commands.specs.Contents.{unknown};
 
 use crate::tests::samples::{FIRST_PLAN, SCI, THREE_STEPS};
-use mm_commands::{Files, ReadFault, run_tool};
+use mm_commands::{Files, Obstacle, ReadFault, StoreFault, run_tool};
 use std::alloc::Global;
 use std::io::{self, ErrorKind, Write};
 use std::process::Abort;
@@ -29,7 +29,9 @@ impl Files for FailingFiles {
 
     fn read(&mut self, alloc: Global, name: &str) -> Result<Vec<u8>, ReadFault> {
         if self.left == 0 {
-            return Err(ReadFault::NotRead);
+            return Err(ReadFault::NotRead {
+                obstacle: Obstacle::Missing,
+            });
         }
         self.left -= 1;
         let text = match name {
@@ -42,6 +44,10 @@ impl Files for FailingFiles {
             _ => FIRST_PLAN,
         };
         Vec::from_slice(alloc, text.as_bytes()).map_err(|_| ReadFault::NoMemory)
+    }
+
+    fn store(&mut self, _alloc: Global, _name: &str, _text: &[u8]) -> Result<(), StoreFault> {
+        Err(StoreFault::Full)
     }
 }
 

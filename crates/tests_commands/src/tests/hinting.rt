@@ -90,7 +90,7 @@ static SETUP_HINTS: [(&str, &str); 20] = [
 ];
 
 // Scripts with a forecast that is refused, and what is found in it.
-static FORECAST_HINTS: [(&str, &str); 12] = [
+static FORECAST_HINTS: [(&str, &str); 14] = [
     (
         "plan S F\n=== S\n[[store]]\nid = \"A\"\nsize = 4\ntype = \"bounded\"\nchannel = 0\n=== F\nstep;window;A\n1;2;3\n",
         "semicolons separate the cells; save the file with commas",
@@ -98,6 +98,14 @@ static FORECAST_HINTS: [(&str, &str); 12] = [
     (
         "plan S F\n=== S\n[[store]]\nid = \"A\"\nsize = 4\ntype = \"bounded\"\nchannel = 0\n=== F\nStep,window,A\n1,2,3\n",
         "the header is \"Step,window,A\", and \"step,window,A\" is expected",
+    ),
+    (
+        "plan S F\n=== S\n[[store]]\nid = \"A\"\nsize = 4\ntype = \"bounded\"\nchannel = 0\n=== F\nstep, window,A\n1,2,3\n",
+        "the header is \"step, window,A\", and \"step,window,A\" is expected",
+    ),
+    (
+        "plan S F\n=== S\n[[store]]\nid = \"A\"\nsize = 4\ntype = \"bounded\"\nchannel = 0\n=== F\nwindow,step,A,,\n2,1,3,,\n",
+        "the header is \"window,step,A,,\", and \"step,window,A\" is expected",
     ),
     (
         "plan S F\n=== S\n[[store]]\nid = \"A\"\nsize = 4\ntype = \"bounded\"\nchannel = 0\n=== F\nstep,window,a\r\n1,2,3\r\n",
@@ -267,12 +275,19 @@ fn faults_of_packets_and_links_are_shown(rt: HostRuntime) {
     hints(&rt, &ENDS_HINTS);
 }
 
-// A setup in UTF-16.
+// A setup and a forecast in UTF-16.
+static IN_UTF16: [&[u8]; 2] = [
+    b"plan S F\n=== F\n=== S\n\xFF\xFE[\0[\0",
+    b"plan S F\n=== S\n[[store]]\nid = \"A\"\nsize = 4\ntype = \"bounded\"\nchannel = 0\n=== F\n\xFF\xFEs\0t\0",
+];
+
 #[test]
 fn a_file_in_utf16_is_shown(rt: HostRuntime) {
-    let (_, err, _) = told(&rt, b"plan S F\n=== F\n=== S\n\xFF\xFE[\0[\0");
-    let want = b"\nhint: the file is in UTF-16; save it in UTF-8\n";
-    assert!(rt; err.ends_with(want));
+    for script in &IN_UTF16 {
+        let (_, err, _) = told(&rt, script);
+        let want = b"\nhint: the file is in UTF-16; save it in UTF-8\n";
+        assert!(rt; err.ends_with(want));
+    }
 }
 
 const NOTED: &str = "\

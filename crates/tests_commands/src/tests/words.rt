@@ -2,7 +2,7 @@
 
 use crate::tests::failing::{FailingWriter, UNWRITTEN};
 use crate::tests::samples::{FIRST_PLAN, SCI, THREE_STEPS, prints, told};
-use mm_commands::{ReadFault, refuse_input, run_script};
+use mm_commands::{Obstacle, ReadFault, refuse_input, run_script};
 
 static LINES: [&str; 27] = [
     "",
@@ -96,7 +96,10 @@ fn names_after_two_dashes(rt: HostRuntime) {
 #[test]
 fn input_that_is_not_read(rt: HostRuntime) {
     let (mut out, mut err) = (Vec::new(rt.alloc()), Vec::new(rt.alloc()));
-    let status = refuse_input(ReadFault::NotRead, &mut out, &mut err);
+    let fault = ReadFault::NotRead {
+        obstacle: Obstacle::Failed,
+    };
+    let status = refuse_input(fault, &mut out, &mut err);
     let is_told = out.as_slice() == b"refused 50 NotRead name -\n".as_slice();
     assert!(rt; status == 1 && is_told && !err.is_empty());
 }

@@ -174,8 +174,8 @@ fn bound_of(problem: &Problem, sheet: &Sheet) -> Option<i64> {
 fn is_planned(rt: &impl Abort, problem: &Problem, sheet: &Sheet, row: &Row) {
     let plan = sheet.plan();
     assert!(rt; plan.has_shape(problem));
-    assert!(rt; fits(problem, plan).err() == row.misfit, "{}", row.name);
-    assert!(rt; loss_of(problem, plan) == row.loss, "{}", row.name);
+    let found = (fits(problem, plan).err(), loss_of(problem, plan));
+    assert!(rt; found == (row.misfit, row.loss), "{}", row.name);
 }
 
 // The sheet's cut, its printed loss and its printed bound have the verdict.

@@ -241,10 +241,9 @@ const FOUR_NODES: [ArcRow; 5] = [
 
 // The one flow of 5: the arcs out of node 0 and into node 3 are full, and 1 is left from 1 to 2.
 fn is_flow_of_5(rt: &impl Abort, solved: &Solved) {
-    assert!(rt; solved.value == 5);
-    assert!(rt; solved.flow.as_slice() == [3, 2, 1, 2, 3].as_slice());
-    let side = solved.side.as_slice();
-    assert!(rt; side.first() == Some(&true) && side.last() == Some(&false));
+    let (flow, side) = (solved.flow.as_slice(), solved.side.as_slice());
+    assert!(rt; (solved.value, flow) == (5, [3, 2, 1, 2, 3].as_slice()));
+    assert!(rt; (side.first(), side.last()) == (Some(&true), Some(&false)));
 }
 
 #[test]
@@ -281,9 +280,9 @@ fn has_room(rt: &impl Abort, network: &Network, nodes: u32, arcs: u32) {
 fn network_room(rt: HostRuntime) {
     let mut network = Network::with_room(rt.alloc(), 2, 1).expect(&rt, "memory");
     has_room(&rt, &network, 2, 1);
-    assert!(rt; node(&rt, &mut network) == 0);
-    assert!(rt; node(&rt, &mut network) == 1);
-    assert!(rt; arc(&rt, &mut network, 0, 1, Some(4)) == 0);
+    let nodes = (node(&rt, &mut network), node(&rt, &mut network));
+    let first = arc(&rt, &mut network, 0, 1, Some(4));
+    assert!(rt; (nodes, first) == ((0, 1), 0));
     has_room(&rt, &network, 0, 0);
     has_room(&rt, &Network::new(rt.alloc()), 0, 0);
 }

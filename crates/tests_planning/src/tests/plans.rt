@@ -21,8 +21,7 @@ fn volumes(
     problem: &Problem,
     plan: &Plan,
 ) -> (Vec<(u32, u32, u32)>, u64) {
-    assert!(rt; plan.has_shape(problem));
-    assert!(rt; problem.stores() == 1);
+    assert!(rt; plan.has_shape(problem) && problem.stores() == 1);
     let simulated = simulate(alloc, problem, plan).expect(rt, "memory");
     let mut volumes = Vec::new(alloc);
     for step in 1..problem.steps() + 1 {

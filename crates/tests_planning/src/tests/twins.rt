@@ -19,8 +19,7 @@ const LIMIT_1: &str = "[[limit]]\nchannel = 0\nblocks = 1\n";
 // What a planned dump loses: its plan fits, and its cut shows that no plan loses less.
 fn shown_loss(rt: &impl Abort, problem: &Problem, planned: &Planned) -> u64 {
     let (plan, loss) = (&planned.plan, planned.loss);
-    assert!(rt; plan.has_shape(problem));
-    assert!(rt; loss < 1 << 63);
+    assert!(rt; plan.has_shape(problem) && loss < 1 << 63);
     let (cut, by_channels) = (planned.cut.as_slice(), planned.by_channels.as_slice());
     let verdict = verify(problem, plan, cut, by_channels, loss, loss as i64);
     assert!(rt; verdict == Verdict::Least(loss));
@@ -43,16 +42,18 @@ fn planned_loss(rt: &impl Abort, alloc: Global, problem: &Problem) -> u64 {
     let planned = plan(alloc, problem).expect(rt, "memory");
     let by_flow = plan_by_flow(alloc, problem).expect(rt, "memory");
     let loss = shown_loss(rt, problem, &planned);
-    assert!(rt; shown_loss(rt, problem, &by_flow) == loss);
-    assert!(rt; proposed_loss(rt, alloc, problem) == loss);
+    let others = (
+        shown_loss(rt, problem, &by_flow),
+        proposed_loss(rt, alloc, problem),
+    );
+    assert!(rt; others == (loss, loss));
     loss
 }
 
 // The least loss by the plain planner, whose plan fits and loses that.
 fn tried_loss(rt: &impl Abort, alloc: Global, problem: &Problem) -> u64 {
     let (tried, least) = least_plan(alloc, problem).expect(rt, "memory");
-    assert!(rt; fits(problem, &tried).is_ok());
-    assert!(rt; loss_of(problem, &tried) == least);
+    assert!(rt; (fits(problem, &tried), loss_of(problem, &tried)) == (Ok(()), least));
     least
 }
 

@@ -1,35 +1,38 @@
-use Rattle.std.proofs.Common.{◌≡◌, [], sym, map, ap, true≢false, is_some}
-use Rattle.std.specs.Option.{unwrap_or}
+use Rattle.std.proofs.Common.{◌≡◌, ◌∙◌, ◌++◌, sym, ap, ap₂, map}
 use Rattle.clap.proofs.TakesLemmas.{passed_up}
-use Rattle.clap.specs.Words.{app_of, kind_of}
+use Rattle.clap.specs.Words.{kind_of}
 use Rattle.clap.specs.declared.error.kind.ErrorKind.TheVariants.{OutOfMemory}
-use Rattle.mm_command_line.specs.Lines.{spelling}
-use Rattle.mm_command_line.proofs.Spelled.{spelled}
-use Rattle.mm_command_line.proofs.Taking.{passes, spells}
+use Rattle.mm_command_line.specs.Lines.{output_words}
+use Rattle.mm_command_line.proofs.Outputs.{dashes_before, flags_before, line_command, line_parts, no_output_lost}
 use Rattle.mm_command_line.proofs.line.parse.Goals as goal
 
-pub returns-in_err-matches-clause-memory : goal.returns-in_err-matches-clause-memory
-returns-in_err-matches-clause-memory g c line =
-    let taken = passes (app_of c.in_ok-command.command) (map g.S.AsStr.text c.args.words.now) c.in_ok-command.ensures.commands line in
-    let kind = c.in_err-matches.ensures.passes taken in
-    passed_up c.from_residual-in_err-matches.result c.in_err-matches.field-0.0 (λ e. kind_of e ≡ OutOfMemory) c.from_residual-in_err-matches.ensures.1 kind
-
-pub returns-in-Some : goal.returns-in-Some
-returns-in-Some g c =
+pub returns-in_err-task-clause-memory : goal.returns-in_err-task-clause-memory
+returns-in_err-task-clause-memory g c line =
     let words = map g.S.AsStr.text c.args.words.now in
-    let parsed = c.in_ok-matches.ensures in
-    let app = app_of c.in_ok-command.command in
-    let is = c.in_ok-command.ensures.commands in
-    let read = spelled app words (spelling c.in-Some.task) c.in_ok-matches.matches is parsed.ok.2 parsed.kinds c.in-Some.ensures.line in
-    record {
-      taken = λ line. ap (λ read. unwrap_or read []) (spells app words c.in_ok-matches.matches _ is parsed.ok.2 c.in-Some.ensures.line line);
-      memory = λ line. tt;
-      spelled = read.same;
-      unflagged = read.unflagged;
-    }
+    let kind = c.in_err-task.ensures.memory (line_command words _ c.split_output.result.1 line c.split_output.ensures.split) in
+    passed_up c.from_residual.result c.in_err-task.field-0.0 (λ e. kind_of e ≡ OutOfMemory) c.from_residual.ensures.1 kind
 
-pub returns-clause-memory : goal.returns-clause-memory
-returns-clause-memory g c line =
-    let said = spells (app_of c.in_ok-command.command) (map g.S.AsStr.text c.args.words.now) c.in_ok-matches.matches _ c.in_ok-command.ensures.commands
-    c.in_ok-matches.ensures.ok.2 c.in-None.ensures.line line in
-    absurd (true≢false (sym (ap is_some said)))
+pub returns-in-Some-clause-taken : goal.returns-in-Some-clause-taken
+returns-in-Some-clause-taken g c line =
+    let words = map g.S.AsStr.text c.args.words.now in
+    let has = line_parts words _ c.split_output.result.1 line c.split_output.ensures.split in
+    let read = c.in_ok-task.ensures.taken (line_command words _ c.split_output.result.1 line c.split_output.ensures.split) in
+    c.in-Some.ensures.spelled ∙ ap₂ (λ front last. front ++ last) (read ∙ sym has.command) has.output_is ∙ line.spelled
+
+pub returns-in-Some-clause-spelled : goal.returns-in-Some-clause-spelled
+returns-in-Some-clause-spelled g c =
+    let words = map g.S.AsStr.text c.args.words.now in
+    c.in-Some.ensures.spelled ∙ ap (λ front. front ++ output_words c.split_output.result.1) c.in_ok-task.ensures.spelled
+    ∙ dashes_before words _ c.split_output.result.1 c.split_output.ensures.split
+
+pub returns-in-Some-clause-unflagged : goal.returns-in-Some-clause-unflagged
+returns-in-Some-clause-unflagged g c =
+    let words = map g.S.AsStr.text c.args.words.now in
+    flags_before words _ c.split_output.result.1 c.in-Some.task c.in-Some.ensures.named c.split_output.ensures.split c.in_ok-task.ensures.unflagged
+
+pub returns-in_ok-error-in-None-clause-memory : goal.returns-in_ok-error-in-None-clause-memory
+returns-in_ok-error-in-None-clause-memory g c line =
+    let words = map g.S.AsStr.text c.args.words.now in
+    let has = line_parts words _ c.split_output.result.1 line c.split_output.ensures.split in
+    let read = c.in_ok-task.ensures.taken (line_command words _ c.split_output.result.1 line c.split_output.ensures.split) in
+    absurd (no_output_lost line.task c.split_output.result.1 _ has.named (read ∙ sym has.command) c.in-None.ensures.none)

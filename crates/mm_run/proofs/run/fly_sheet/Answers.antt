@@ -3,8 +3,8 @@ use Rattle.mm_run.proofs.run.fly_sheet.Goals as goal
 
 pub returns-in-Ok-clause-flown : goal.returns-in-Ok-clause-flown
 returns-in-Ok-clause-flown g c =
-    given_flown c.args.problem.now c.args.memory.now c.args.sources.items c.args.links.items c.carry_out.new.memory c.args.sheet.now c.plan.result.now c.plan.ensures _
-    c.new-text.ensures.items c.in-Ok.ensures.carried_out
+    rw c.with_sheet.ensures (given_flown c.args.problem.now c.args.memory.now c.args.sources.items c.args.links.items c.carry_out.new.memory c.args.sheet.now c.plan.result.now c.plan.ensures _
+    c.new-text.ensures.items c.in-Ok.ensures.carried_out)
 
 pub returns-in-Err-clause-not_flown : goal.returns-in-Err-clause-not_flown
 returns-in-Err-clause-not_flown g c =

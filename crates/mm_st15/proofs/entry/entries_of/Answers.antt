@@ -1,3 +1,4 @@
+use Rattle.mm_st15.specs.Layout.{octets_of, Fits}
 use Rattle.mm_st15.proofs.EntryLemmas.{is_some_at, has_more, reads_more}
 use Rattle.mm_st15.proofs.entry.entries_of.Goals as goal
 
@@ -11,5 +12,5 @@ loop-preserved g c =
     let len = rw c.unwrap-entry.ensures at c.read.ensures.len in
     let fit = rw c.unwrap-entry.ensures at c.read.ensures.fits in
     rw c.in_ok-push.ensures.items (
-    reads_more g.E.Entry.spelling g.E.Entry.fits g.E.Entry.WIDTH _ _ _ c.args.count c.loop.counter c.unwrap-entry.result.0 c.unwrap-entry.result.1.now
+    reads_more (octets_of g.E.Entry.layout) (Fits g.E.Entry.layout) g.E.Entry.WIDTH _ _ _ c.args.count c.loop.counter c.unwrap-entry.result.0 c.unwrap-entry.result.1.now
     c.loop-test.true c.loop.invariant spelled len fit)

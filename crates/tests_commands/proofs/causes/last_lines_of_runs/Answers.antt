@@ -3,30 +3,14 @@ use Rattle.std.specs.Fmt.{digits}
 use Rattle.std.proofs.Common.{refl}
 use Rattle.tests_commands.proofs.causes.last_lines_of_runs.Goals as goal
 
-pub returns-clause-plan_shape : goal.returns-clause-plan_shape
+pub returns : goal.returns
 unfolding digits
-returns-clause-plan_shape c = refl
-
-pub returns-clause-not_ready : goal.returns-clause-not_ready
-unfolding digits
-returns-clause-not_ready c = refl
-
-pub returns-clause-size_differs : goal.returns-clause-size_differs
-unfolding digits
-returns-clause-size_differs c = refl
-
-pub returns-clause-clock_too_late : goal.returns-clause-clock_too_late
-unfolding digits
-returns-clause-clock_too_late c = refl
-
-pub returns-clause-no_memory : goal.returns-clause-no_memory
-unfolding digits
-returns-clause-no_memory c = refl
-
-pub returns-clause-log_mismatch : goal.returns-clause-log_mismatch
-unfolding digits
-returns-clause-log_mismatch c = refl
-
-pub returns-clause-channel_differs : goal.returns-clause-channel_differs
-unfolding digits
-returns-clause-channel_differs c = refl
+returns c = record {
+  plan_shape = refl;
+  not_ready = refl;
+  size_differs = refl;
+  clock_too_late = refl;
+  no_memory = refl;
+  log_mismatch = refl;
+  channel_differs = refl;
+}

@@ -1,7 +1,7 @@
 //! How numbers are written.
 use crate::tests::charts::samples::{ONE_STORE, chart_of, push_each, push_number};
 use std::alloc::{AllocError, Global};
-use std::test::Fail;
+use std::process::Abort;
 
 // How many steps have a million arrivals, the arrivals of the step after them, the loss, which is one block less than all
 // of them, and what the headline says of it.
@@ -22,7 +22,8 @@ static THOUSANDS: [(u16, u32, u32, &str); 5] = [
 fn many_come(alloc: Global, millions: u16, rest: u32) -> Result<String, AllocError> {
     let mut forecast = String::from_str(alloc, "step,window,A")?;
     push_each(&mut forecast, "\n", millions, ",0,1000000")?;
-    push_number(&mut forecast, "\n", u32::from(millions) + 1, ",0,")?;
+    let last = u32::from(millions).saturating_add(1);
+    push_number(&mut forecast, "\n", last, ",0,")?;
     push_number(&mut forecast, "", rest, "\n")?;
     Ok(forecast)
 }
@@ -35,15 +36,19 @@ fn none_leave(alloc: Global, millions: u16, loss: u32) -> Result<String, AllocEr
     Ok(plan)
 }
 
+// The chart of these steps.
+fn lost_chart(rt: &impl Abort, alloc: Global, millions: u16, rest: u32, loss: u32) -> String {
+    let forecast = many_come(alloc, millions, rest).expect(rt, "memory");
+    let plan = none_leave(alloc, millions, loss).expect(rt, "memory");
+    chart_of(rt, alloc, ONE_STORE, forecast.as_str(), plan.as_str())
+}
+
 #[test]
-fn thousands_are_separated(rt: HostRuntime) -> Result<(), Fail> {
+fn thousands_are_separated(rt: HostRuntime) {
     for (millions, rest, loss, wanted) in &THOUSANDS {
-        let forecast = many_come(rt.alloc(), *millions, *rest)?;
-        let plan = none_leave(rt.alloc(), *millions, *loss)?;
-        let chart = chart_of(&rt, rt.alloc(), ONE_STORE, forecast.as_str(), plan.as_str());
+        let chart = lost_chart(&rt, rt.alloc(), *millions, *rest, *loss);
         assert!(rt; chart.contains(wanted), "no {wanted}");
     }
-    Ok(())
 }
 
 // A forecast, a plan that dumps nothing, and what the headline says of the bound. Of the 2,346 blocks that come in step 2

@@ -74,8 +74,7 @@ fn a_picture_has_the_numbers_of_its_plan(rt: HostRuntime) {
 #[test]
 fn a_picture_has_the_verdict_of_its_plan(rt: HostRuntime) {
     let picture = picture_of(&rt, rt.alloc());
-    assert!(rt; picture.verdict() == Verdict::Least(2));
-    assert!(rt; picture.parts() == PARTS);
+    assert!(rt; (picture.verdict(), picture.parts()) == (Verdict::Least(2), PARTS));
 }
 
 #[test]

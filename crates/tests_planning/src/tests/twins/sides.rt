@@ -10,8 +10,7 @@ use std::process::Abort;
 // The least capacity of a cut between node 0 and node 1, which is the value that both solvers answer.
 fn least_capacity(rt: &impl Abort, alloc: Global, nodes: u32, arcs: &[ArcRow]) -> Option<u64> {
     let network = built(rt, alloc, nodes, arcs);
-    assert!(rt; network.node_count() > 1);
-    assert!(rt; network.node_count() <= MAX_TRIED);
+    assert!(rt; network.node_count() > 1 && network.node_count() <= MAX_TRIED);
     let least = least_cut(&network, 0, 1);
     assert!(rt; same_value(rt, alloc, &network, 0, 1) == least);
     least

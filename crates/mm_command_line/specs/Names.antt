@@ -1,0 +1,30 @@
+-- The names of a task's files.
+use Rattle.std.specs.Prelude.{Some, None}
+use Rattle.mm_command_line.specs.declared.task.FileNames.{FileNames}
+use Rattle.mm_command_line.specs.declared.task.PlanFiles.{PlanFiles}
+use Rattle.mm_command_line.specs.declared.task.Task.{Task}
+use Rattle.mm_command_line.specs.declared.task.Task.TheVariants.{Plan, Check, Chart, Table, Fly, Ask, Read}
+
+abbrev pub no_names : FileNames
+no_names = record { setup = None; forecast = None; plan = None; sources = None; links = None; packets = None }
+
+-- those of a judged plan
+abbrev pub names_of_plan : PlanFiles → FileNames
+names_of_plan files =
+    record no_names { setup = Some files.setup; forecast = Some files.forecast; plan = Some files.plan }
+
+-- those of a task
+abbrev pub names_in : Task → FileNames
+names_in (Plan setup forecast output) = record no_names { setup = Some setup; forecast = Some forecast }
+names_in (Check files) = names_of_plan files
+names_in (Chart files output) = names_of_plan files
+names_in (Table files output) = names_of_plan files
+names_in (Fly f) = record no_names {
+  setup = Some f.setup;
+  forecast = Some f.forecast;
+  plan = f.plan;
+  sources = Some f.sources;
+  links = Some f.links;
+}
+names_in (Ask setup requests) = record no_names { setup = Some setup; packets = Some requests }
+names_in (Read packets) = record no_names { packets = Some packets }

@@ -1,0 +1,24 @@
+-- What answers a run, by the texts of its files.
+use Rattle.std.proofs.Common.{refl, List, ℕ, Option, Some, None, Bor}
+use Rattle.mm_commands.specs.Contents.{Contents}
+use Rattle.mm_commands.specs.Answers.{FliesBytes, FliesOf, Flown, HoldsNamed, HoldsPlan, HoldsTexts, given_plan, status_of_run}
+use Rattle.mm_commands.specs.declared.texts.TaskTexts.{TaskTexts}
+use Rattle.mm_command_line.specs.Names.{names_in}
+use Rattle.mm_command_line.specs.declared.task.FlightFiles.{FlightFiles}
+use Rattle.mm_command_line.specs.declared.task.Task.TheVariants.{Fly}
+use Rattle.mm_run.specs.Printed.{text_of}
+use Rattle.mm_run.specs.declared.printed.Printed.{Printed}
+
+-- the plan that is given is that of its file
+holds_given : (contents : Contents) (name : Option (Bor (List ℕ))) (texts : TaskTexts) → HoldsNamed contents name texts.plan.items
+    → HoldsPlan contents name (given_plan name texts)
+holds_given contents (Some name) texts held = held
+holds_given contents None texts held = tt
+
+pub flown : (contents : Contents) (files : FlightFiles) (texts : TaskTexts) (printed : Printed) → HoldsTexts contents (names_in (Fly files)) texts
+    → FliesBytes (given_plan files.plan texts) printed texts.setup.items texts.forecast.items texts.sources.items texts.links.items
+    → Flown contents files (status_of_run printed.outcome) (text_of printed)
+flown contents files texts printed held flies =
+    let whole : FliesOf contents files printed =
+    (_, holds_given contents files.plan texts held.plan, (_, held.setup, (_, held.forecast, (_, held.sources, (_, held.links, flies))))) in
+    record { printed = printed; flies = whole; text_is = refl; status_is = refl }
