@@ -41,10 +41,15 @@ abbrev pub request_tested : SpacePacket → Option RequestFault → Result Space
 request_tested packet None = Ok packet
 request_tested packet (Some fault) = Err (of_request fault)
 
+-- the packet that the octets are, nothing after it, where it asks a request
+abbrev pub request_alone : List ℕ → Result SpacePacket LineFault
+request_alone octets = do
+  packet ← packet_alone octets
+  request_tested packet (request_fault packet)
+
 -- the packet with which a line asks a request, or the first test that fails: the digits, the
 -- packet, octets after it, the request
 unfoldable pub request_of : List ℕ → Result SpacePacket LineFault
 request_of line = do
   octets ← octets_in line
-  packet ← packet_alone octets
-  request_tested packet (request_fault packet)
+  request_alone octets

@@ -1,5 +1,5 @@
 //! From the bytes of a setup and of requests to the text that answers them.
-ghost use Rattle.std.specs.Prelude.{◌≡◌, IfOk, IfErr, OnOk};
+ghost use Rattle.std.specs.Prelude.{IfOk, IfErr, OnOk};
 ghost use Rattle.mm_ask.specs.Answering.{opened};
 ghost use Rattle.mm_ask.specs.Asking.{Answers, Converses, IsSetupFault, Passes};
 ghost use Rattle.mm_base.specs.Lines.{text_lines};

@@ -56,6 +56,7 @@ fn taken(counter: &mut u16) -> u16
 
 impl Counters {
     /// No report so far.
+    #[must_use]
     pub fn new() -> Counters
         ensures none { result ≡ no_counts }
     {
@@ -83,5 +84,15 @@ impl Counters {
         };
         self.sequence = (sequence + 1) % SEQUENCE_COUNTS;
         Numbers { sequence, counter }
+    }
+}
+
+impl Default for Counters {
+    ghost use Rattle.mm_ask.specs.Counting.{no_counts};
+
+    ghost is_default = { λ counts. counts ≡ no_counts };
+
+    fn default() -> Counters {
+        Counters::new()
     }
 }

@@ -19,7 +19,7 @@ pub use answering::Outcome;
 pub use ask::ask_bytes;
 pub use counters::{Counters, Numbers, SEQUENCE_COUNTS};
 pub use fault::LineFault;
-pub use line::{Asked, packet_alone, request_of};
+pub use line::{Asked, packet_alone, request_alone, request_of};
 pub use mm_base::NoMemory;
 pub use mm_problem::Fault;
 pub use read::read_bytes;

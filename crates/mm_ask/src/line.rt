@@ -5,7 +5,7 @@ ghost use Rattle.std.specs.List.{list_all};
 ghost use Rattle.mm_base.specs.Reading.{Gives};
 ghost use Rattle.mm_st15.specs.Request.{IsRequest, SpellsRequest};
 ghost use Rattle.mm_ask.specs.declared.fault.LineFault.TheVariants.{NoMemory};
-ghost use Rattle.mm_ask.specs.Line.{has_digits, octets_in, packet_alone, request_of};
+ghost use Rattle.mm_ask.specs.Line.{has_digits, octets_in, packet_alone, request_alone, request_of};
 
 use crate::fault::LineFault;
 use mm_base::passed_on;
@@ -81,6 +81,18 @@ impl From<mm_st15::Fault> for LineFault {
     }
 }
 
+/// The request of the packet that the octets are, with nothing after it. The tests come in this order: the packet,
+/// octets after it, the request.
+pub fn request_alone(alloc: Global, octets: &[u8]) -> Result<Asked, LineFault>
+    ensures asked { Gives NoMemory (λ asked. asked.packet) result (request_alone octets.now) }
+    ensures spelled { IfOk result (λ asked. IsRequest asked.request
+        × SpellsRequest asked.packet asked.request) }
+{
+    let packet = packet_alone(alloc, octets)?;
+    let request = Request::read(alloc, &packet)?;
+    Ok(Asked { packet, request })
+}
+
 /// The request that a line of hexadecimal digits asks. The tests come in this order: the digits,
 /// the packet, octets after it, the request.
 #[tactic(auto, unfolding(crate::specs::Line::request_of))]
@@ -97,7 +109,6 @@ pub fn request_of(alloc: Global, line: &[u8]) -> Result<Asked, LineFault>
     ensures digits { IfOk result (λ _. IsTrue (has_digits line.now)) }
 {
     let octets = octets_in(alloc, line)?;
-    let packet = packet_alone(alloc, &octets)?;
-    let request = Request::read(alloc, &packet)?;
-    Ok(Asked { packet, request })
+    let asked = request_alone(alloc, &octets)?;
+    Ok(asked)
 }

@@ -1,5 +1,5 @@
 //! The lines that are printed.
-ghost use Rattle.std.specs.Prelude.{◌≡◌, ◌+◌, ◌<◌, ◌^◌, ◌++◌, length, OnOk};
+ghost use Rattle.std.specs.Prelude.{◌≡◌, ◌++◌, OnOk};
 ghost use Rattle.mm_ask.specs.Text.{refused_text, answer_text, refused_line, answer_lines, report_line, place_text};
 
 use crate::fault::LineFault;

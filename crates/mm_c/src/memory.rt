@@ -51,6 +51,17 @@ impl FateTold {
 }
 
 impl TallyTold {
+    // What is told where nothing became of the packet.
+    fn nothing() -> TallyTold
+        ensures { result ≡ no_tally }
+    {
+        TallyTold {
+            kept: 0,
+            lost: 0,
+            refused: 0,
+        }
+    }
+
     // What became of a packet in these stores.
     fn of(tally: Tally) -> TallyTold
         ensures { result ≡ tally_told tally }
@@ -157,11 +168,7 @@ pub extern "C" fn mm_memory_record(
     ensures recorded { OnOpen (Records packet.now now tally.new answer.new) (tally.new ≡ no_tally)
         memory.old.loose.service memory.new.loose.service answer.new }
 {
-    *tally = TallyTold {
-        kept: 0,
-        lost: 0,
-        refused: 0,
-    };
+    *tally = TallyTold::nothing();
     if !memory.is_open {
         *answer = ended(Status::Closed);
         return;

@@ -5,8 +5,7 @@ use Rattle.mm_base.specs.Reading.{◌>>=◌}
 use Rattle.mm_packet.specs.Packet.{SpacePacket}
 use Rattle.mm_packet.specs.Spelling.{spelling}
 use Rattle.mm_packet.specs.declared.block.TheConstants.{BLOCK}
-use Rattle.mm_st15.specs.Request.{request_fault}
-use Rattle.mm_ask.specs.Line.{packet_alone, request_tested}
+use Rattle.mm_ask.specs.Line.{packet_alone, request_alone}
 use Rattle.mm_ask.specs.declared.fault.LineFault.{LineFault}
 use Rattle.mm_service.specs.declared.fault.Fault.{Fault}
 use Rattle.mm_service.specs.declared.fault.Fault.TheVariants.{BadId, TooLong}
@@ -32,10 +31,5 @@ block_of octets = do
   block_tested packet
 
 -- the packet that the octets are, nothing after it, where it asks a request
-abbrev pub request_alone : List ℕ → Result SpacePacket LineFault
-request_alone octets = do
-  packet ← packet_alone octets
-  request_tested packet (request_fault packet)
-
 abbrev pub request_of : List ℕ → Result SpacePacket Fault
 request_of octets = said (request_alone octets)

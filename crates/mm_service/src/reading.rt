@@ -2,15 +2,13 @@
 ghost use Rattle.std.specs.Prelude.{◌≡◌, IfOk};
 ghost use Rattle.mm_base.specs.Reading.{Gives};
 ghost use Rattle.mm_st15.specs.Request.{IsRequest, SpellsRequest};
-ghost use Rattle.mm_ask.specs.declared.fault.LineFault.TheVariants as octets_fault;
 ghost use Rattle.mm_service.specs.declared.fault.Fault.TheVariants.{NoMemory};
-ghost use Rattle.mm_service.specs.Reading.{id_tested, block_of, request_alone, request_of};
+ghost use Rattle.mm_service.specs.Reading.{id_tested, block_of, request_of};
 
 use crate::fault::Fault;
-use mm_ask::{Asked, LineFault, packet_alone};
+use mm_ask::{Asked, packet_alone, request_alone};
 use mm_base::StoreId;
 use mm_packet::BlockPacket;
-use mm_st15::Request;
 use std::alloc::Global;
 
 // The identifier that a text is.
@@ -35,17 +33,6 @@ pub(crate) fn block_of(alloc: Global, octets: &[u8]) -> Result<BlockPacket, Faul
 }
 
 // The request that the packet asks which the octets are.
-fn request_alone(alloc: Global, octets: &[u8]) -> Result<Asked, LineFault>
-    ensures asked { Gives octets_fault.NoMemory (λ asked. asked.packet) result (request_alone octets.now) }
-    ensures spelled { IfOk result (λ asked. IsRequest asked.request
-        × SpellsRequest asked.packet asked.request) }
-{
-    let packet = packet_alone(alloc, octets)?;
-    let request = Request::read(alloc, &packet)?;
-    Ok(Asked { packet, request })
-}
-
-// The same, with its fault as one of a call.
 pub(crate) fn request_of(alloc: Global, octets: &[u8]) -> Result<Asked, Fault>
     ensures asked { Gives NoMemory (λ asked. asked.packet) result (request_of octets.now) }
     ensures spelled { IfOk result (λ asked. IsRequest asked.request

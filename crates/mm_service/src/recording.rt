@@ -1,10 +1,10 @@
 //! A packet that is offered to each store that its report type is routed to.
-ghost use Rattle.std.specs.Prelude.{◌≡◌, ◌≤◌, ◌^◌, ◌<◌, ◌∷◌, length, map, All, IfOk, OnErr};
+ghost use Rattle.std.specs.Prelude.{◌≡◌, ◌≤◌, length, map, All, IfOk, OnErr};
 ghost use Rattle.mm_base.specs.Reading.{Gives};
 ghost use Rattle.mm_base.specs.declared.limits.TheConstants.{MAX_STORES};
 ghost use Rattle.mm_base.specs.SameRoutes.{same_route};
 ghost use Rattle.mm_control.specs.Routes.{has_row};
-ghost use Rattle.mm_service.specs.Recording.{is_routed, after_offer, tally_in, tally_over, after_record, recorded};
+ghost use Rattle.mm_service.specs.Recording.{is_routed, after_offer, tally_in, tally_over, recorded};
 
 use crate::fault::Fault;
 use crate::reading::block_of;

@@ -30,73 +30,120 @@ fn opened(rt: &impl Abort, alloc: Global) -> Service {
 // The request has this many instructions, which are done.
 fn does(rt: &impl Abort, alloc: Global, service: &mut Service, request: &[u8], count: usize) {
     let mut each = [0; INSTRUCTIONS];
-    assert!(rt; service.apply(alloc, 7, request, &mut each) == Ok(count));
-    for code in each.iter().take(count) {
-        assert!(rt; *code == DONE);
-    }
+    let applied = service.apply(alloc, 7, request, &mut each);
+    let are_done = each.iter().take(count).all(|code| *code == DONE);
+    assert!(rt; applied == Ok(count) && are_done, "{applied:?}");
+}
+
+// The packet is recorded at a moment: this becomes of it.
+fn records(rt: &impl Abort, alloc: Global, service: &mut Service, now: u64, want: Tally) {
+    let recorded = service.record(alloc, now, &PACKET);
+    assert!(rt; recorded == Ok(want), "{recorded:?}");
+}
+
+// The packet is offered to SCI at a moment: this becomes of it.
+fn offers(rt: &impl Abort, alloc: Global, service: &mut Service, now: u64, want: Fate) {
+    let offered = service.offer(alloc, b"SCI", now, &PACKET);
+    assert!(rt; offered == Ok(want), "{offered:?}");
+}
+
+// The buffer was full of the octet 9, and has these octets at its head.
+fn holds(rt: &impl Abort, buffer: &[u8], head: &[u8]) {
+    let is_left = match buffer.strip_prefix(head) {
+        Some(rest) => rest.iter().all(|octet| *octet == 9),
+        None => false,
+    };
+    assert!(rt; is_left, "{head:?}");
+}
+
+// What the retrieval from SCI gives next, and the octets that it writes.
+fn next_is(
+    rt: &impl Abort,
+    service: &mut Service,
+    want: Result<Option<Given>, Fault>,
+    head: &[u8],
+) {
+    let mut buffer = [9; BLOCK];
+    let given = service.next(b"SCI", &mut buffer);
+    holds(rt, &buffer, head);
+    assert!(rt; given == want, "{given:?}");
 }
 
 // The next packet of the retrieval has this storage time.
 fn gives(rt: &impl Abort, service: &mut Service, time: u64) {
-    let mut out = [9; BLOCK];
     let given = Given { time, len: 21 };
-    assert!(rt; service.next(b"SCI", &mut out) == Ok(Some(given)));
-    assert!(rt; out.starts_with(&PACKET) && out[21] == 9);
+    next_is(rt, service, Ok(Some(given)), &PACKET);
 }
+
+const KEPT: Tally = Tally {
+    kept: 1,
+    lost: 0,
+    refused: 0,
+};
+
+const REFUSED: Tally = Tally {
+    kept: 0,
+    lost: 0,
+    refused: 1,
+};
 
 #[test]
 fn packets_are_recorded_offered_and_retrieved(rt: HostRuntime) {
-    let alloc = rt.alloc();
-    let mut service = opened(&rt, alloc);
-    let tally = Tally {
-        kept: 1,
-        lost: 0,
-        refused: 0,
-    };
-    assert!(rt; service.record(alloc, 5, &PACKET) == Ok(tally));
-    assert!(rt; service.offer(alloc, b"SCI", 5, &PACKET) == Ok(Fate::Kept(6)));
-    does(&rt, alloc, &mut service, &RETRIEVE, 1);
+    let mut service = opened(&rt, rt.alloc());
+    records(&rt, rt.alloc(), &mut service, 5, KEPT);
+    offers(&rt, rt.alloc(), &mut service, 5, Fate::Kept(6));
+    does(&rt, rt.alloc(), &mut service, &RETRIEVE, 1);
     gives(&rt, &mut service, 5);
     gives(&rt, &mut service, 6);
-    let mut out = [9; BLOCK];
-    assert!(rt; service.next(b"SCI", &mut out) == Ok(None));
-    assert!(rt; service.next(b"SCI", &mut out) == Err(Fault::State(StateFault::Idle)));
+    next_is(&rt, &mut service, Ok(None), b"");
+    next_is(&rt, &mut service, Err(Fault::State(StateFault::Idle)), b"");
 }
 
 #[test]
 fn a_store_that_refuses_is_counted(rt: HostRuntime) {
-    let alloc = rt.alloc();
-    let mut service = opened(&rt, alloc);
-    does(&rt, alloc, &mut service, &DISABLE, 1);
-    let tally = Tally {
-        kept: 0,
-        lost: 0,
-        refused: 1,
-    };
-    assert!(rt; service.record(alloc, 8, &PACKET) == Ok(tally));
+    let mut service = opened(&rt, rt.alloc());
+    does(&rt, rt.alloc(), &mut service, &DISABLE, 1);
+    records(&rt, rt.alloc(), &mut service, 8, REFUSED);
 }
 
 // What a call for the next report tells.
-fn reported(rt: &impl Abort, alloc: Global, service: &mut Service, out: &mut [u8]) -> Reported {
-    service.report(alloc, out).expect(rt, "memory")
+fn reports(
+    rt: &impl Abort,
+    alloc: Global,
+    service: &mut Service,
+    buffer: &mut [u8],
+    want: Reported,
+) {
+    let told = service.report(alloc, buffer);
+    assert!(rt; told == Ok(want), "{told:?}");
 }
 
 #[test]
 fn a_report_waits_until_there_is_room(rt: HostRuntime) {
-    let alloc = rt.alloc();
-    let mut service = opened(&rt, alloc);
-    does(&rt, alloc, &mut service, &STATUS, 0);
-    let mut short = [9; 41];
-    assert!(rt; reported(&rt, alloc, &mut service, &mut short) == Reported::TooSmall(42));
-    assert!(rt; short == [9; 41]);
-    let mut out = [9; 43];
-    assert!(rt; reported(&rt, alloc, &mut service, &mut out) == Reported::Written(42));
-    assert!(rt; out.starts_with(&STATUSES) && out[42] == 9);
-    assert!(rt; reported(&rt, alloc, &mut service, &mut out) == Reported::End);
+    let mut service = opened(&rt, rt.alloc());
+    does(&rt, rt.alloc(), &mut service, &STATUS, 0);
+    let (mut short, mut long) = ([9; 41], [9; 43]);
+    reports(
+        &rt,
+        rt.alloc(),
+        &mut service,
+        &mut short,
+        Reported::TooSmall(42),
+    );
+    holds(&rt, &short, b"");
+    reports(
+        &rt,
+        rt.alloc(),
+        &mut service,
+        &mut long,
+        Reported::Written(42),
+    );
+    holds(&rt, &long, &STATUSES);
+    reports(&rt, rt.alloc(), &mut service, &mut long, Reported::End);
 }
 
 // Offers that are refused: an identifier, a packet, and what is shown of the refusal.
-static REFUSED: [(&[u8], &[u8], &str); 5] = [
+static REFUSED_OFFERS: [(&[u8], &[u8], &str); 5] = [
     (b"sci", &PACKET, "15 BadId"),
     (b"CAM", &PACKET, "23 NoSuchStore"),
     (b"SCI", &MORE, "49 HexLine"),
@@ -104,14 +151,25 @@ static REFUSED: [(&[u8], &[u8], &str); 5] = [
     (b"CAM", &MORE, "49 HexLine"),
 ];
 
+// The offer of a packet at moment 8 is refused, and shown so.
+fn refuses(
+    rt: &impl Abort,
+    alloc: Global,
+    service: &mut Service,
+    id: &[u8],
+    packet: &[u8],
+    text: &str,
+) {
+    let fault = service.offer(alloc, id, 8, packet).expect_err(rt, text);
+    let shown = fault.to_string(alloc).expect(rt, "memory");
+    assert!(rt; shown.as_str() == text, "{shown} and not {text}");
+}
+
 #[test]
 fn offers_that_are_refused(rt: HostRuntime) {
-    let alloc = rt.alloc();
-    let mut service = opened(&rt, alloc);
-    does(&rt, alloc, &mut service, &DISABLE, 1);
-    for (id, packet, text) in &REFUSED {
-        let fault = service.offer(alloc, id, 8, packet).expect_err(&rt, text);
-        let shown = fault.to_string(alloc).expect(&rt, "memory");
-        assert!(rt; shown.as_str() == *text, "{shown} and not {text}");
+    let mut service = opened(&rt, rt.alloc());
+    does(&rt, rt.alloc(), &mut service, &DISABLE, 1);
+    for (id, packet, text) in &REFUSED_OFFERS {
+        refuses(&rt, rt.alloc(), &mut service, id, packet, text);
     }
 }
