@@ -105,7 +105,7 @@ pub enum Refusal {
     LogMismatch,
     /// A store's size is out of its range.
     BadSize,
-    /// A line of requests is not one telecommand in hexadecimal digits.
+    /// A line is not one packet in hexadecimal digits.
     HexLine,
     /// A file could not be read.
     NotRead,

@@ -22,7 +22,8 @@ Option, after the files:
 Example:
   mm_tool chart setup.toml forecast.csv plan.txt --output chart.svg
 
-Exit status: 0 for a picture, whatever its headline, 1 for a refusal.";
+examples/mission/README.md reads such a picture. Exit status: 0 for a picture, whatever its headline, 1 for a
+refusal.";
 
 /// The command `chart`, with its files.
 pub(crate) fn chart_command<'a>(alloc: Global) -> Result<Command<'a>, AllocError>

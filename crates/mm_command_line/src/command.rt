@@ -30,7 +30,9 @@ Examples:
 
 Exit status: 0 where the task is done and, for check, the plan is least, for ask and read, nothing is refused; 1
 where something is refused, a run is halted, the verdict is another, or a write failed; 2 where the command
-line is no good, or help was asked for.";
+line is invalid, or help was asked for.
+
+Read next: docs/PLANNING.md, a day with two passes; docs/FORMATS.md has every file and printed line.";
 
 const SETUP_HELP: &str = "The packet stores, routes and limits of channels, in TOML";
 

@@ -23,7 +23,7 @@ Option, after the files:
 Example:
   mm_tool table setup.toml forecast.csv plan.txt --output table.csv
 
-Exit status: 0 for a table, 1 for a refusal.";
+docs/PLANNING.md works with such a table. Exit status: 0 for a table, 1 for a refusal.";
 
 /// The command `table`, with its files.
 pub(crate) fn table_command<'a>(alloc: Global) -> Result<Command<'a>, AllocError>

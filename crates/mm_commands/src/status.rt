@@ -8,7 +8,7 @@ pub enum Status {
     Done,
     /// Something is refused, a verdict is not `Least`, a run was halted, or a write failed.
     Refused,
-    /// The command line is no good, or help was asked for.
+    /// The command line is invalid, or help was asked for.
     BadCommandLine,
 }
 
