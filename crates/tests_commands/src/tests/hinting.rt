@@ -265,33 +265,6 @@ fn faults_of_a_forecast_are_shown(rt: HostRuntime) {
     hints(&rt, &FORECAST_HINTS);
 }
 
-// A forecast with this many steps is planned.
-fn plan_of_steps<R: Abort + AllocGlobal>(rt: &R, steps: u32) -> String {
-    let alloc = rt.alloc();
-    let mut script = String::new(alloc);
-    script.push_str(LONG).expect(rt, "memory");
-    for step in 0..steps {
-        let row = format!(in alloc; "{},2,3\n", step + 1).expect(rt, "memory");
-        script.push_str(row.as_str()).expect(rt, "memory");
-    }
-    script
-}
-
-const LONG: &str =
-    "plan S F\n=== S\n[[store]]\nid = \"A\"\nsize = 4\ntype = \"bounded\"\nchannel = 0\n=== F\nstep,window,A\n";
-
-#[test]
-fn too_many_steps_are_shown(rt: HostRuntime) {
-    let script = plan_of_steps(&rt, 300);
-    hints(
-        &rt,
-        &[(
-            script.as_str(),
-            "there are 300 records after the header; 1 to 256 can be",
-        )],
-    );
-}
-
 #[test]
 fn faults_of_a_plan_text_are_shown(rt: HostRuntime) {
     hints(&rt, &PLAN_HINTS);
