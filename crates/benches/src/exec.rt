@@ -1,5 +1,5 @@
 //! Times the recording and the dumping of packets by threads.
-mod counter;
+mod meter;
 mod packets;
 mod rounds;
 mod setting;

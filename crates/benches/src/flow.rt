@@ -39,12 +39,41 @@ fn read<R: Input + AllocGlobal>(rt: &R) -> Result<Network>
 // A network whose flow is 12: all that leaves node 0 arrives.
 const TWELVE: &str = "4 5\n0 2 7\n0 3 5\n2 3 4\n2 1 -\n3 1 6\n";
 
-/// The value that both solvers find in a tiny network.
+// Texts that are no networks.
+static REFUSED: [&str; 12] = [
+    "",
+    "1 0\n",
+    "65537 0\n",
+    "2 262145\n",
+    "2 1 \n0 1 5\n",
+    "2 1\n",
+    "2 1\n2 1 5\n",
+    "2 1\n0 2 5\n",
+    "2 2\n0 1 5\n0 1\n",
+    "2 1\n0 1 1099511627777\n",
+    "2 1\n0 1 -5\n",
+    "2 0\n0 1 5\n",
+];
+
+// Adds a line that says why a text is no network.
+fn push_refusal(alloc: Global, lines: &mut String, text: &str) -> Result<()> {
+    match text::read(alloc, text) {
+        Ok(_) => lines.push_str("\na network")?,
+        Err(fault) => lines.push_str(format!(in alloc; "\n{fault}")?.as_str())?,
+    }
+    Ok(())
+}
+
+/// The value that both solvers find in a tiny network, and why each of some texts is none, a line each.
 pub(crate) fn small(clock: &impl Clock, alloc: Global) -> Result<String> {
     let network = text::read(alloc, TWELVE)?;
     let levels = Solver::Levels.timed(clock, alloc, &network)?;
     let paths = Solver::Paths.timed(clock, alloc, &network)?;
-    Ok(format!(in alloc; "{} {}", levels.value, paths.value)?)
+    let mut told = format!(in alloc; "{} {}", levels.value, paths.value)?;
+    for text in &REFUSED {
+        push_refusal(alloc, &mut told, text)?;
+    }
+    Ok(told)
 }
 
 /// The words are a solver (`levels` or `paths`), and either `text` or a family (`tight`, `spare` or `made`) and a size.

@@ -8,7 +8,7 @@ use Rattle.mm_plan.specs.Sheet.{SheetRows}
 use Rattle.mm_plan.specs.Table.{amount}
 use Rattle.mm_plan.specs.Volumes.{loss}
 use Rattle.mm_memory.specs.Holdings.{Holdings, state_of}
-use Rattle.mm_exec.specs.Flying.{PlansFor}
+use Rattle.mm_planner.specs.PlanTexts.{PlansFor}
 
 -- how many packets the store with this identifier holds; none where there is no such store
 abbrev pub held_by : Holdings → List ℕ → ℕ

@@ -3,7 +3,8 @@ ghost use Rattle.std.specs.Prelude.{◌≡◌, ◌<◌, ◌-◌, ◌^◌, ◌⊎
 ghost use Rattle.mm_plan.specs.Sheet.{SheetRows};
 ghost use Rattle.mm_memory.specs.Holdings.{Holdings, memory_of};
 ghost use Rattle.mm_report.specs.declared.cause.Cause.TheVariants.{NoMemory};
-ghost use Rattle.mm_exec.specs.Flying.{AsForecast, Flies, FliesNot, PlansFor};
+ghost use Rattle.mm_exec.specs.Flying.{AsForecast, Flies, FliesNot};
+ghost use Rattle.mm_planner.specs.PlanTexts.{PlansFor};
 ghost use Rattle.mm_exec.specs.RunInput.{run_input};
 ghost use Rattle.mm_exec.specs.declared.flight.NotFlown.{NotFlown};
 ghost use Rattle.callers.specs.declared.ends.Burst.{Burst};

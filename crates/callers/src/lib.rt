@@ -14,5 +14,3 @@ pub mod requests;
 pub mod rest;
 pub mod service;
 pub mod stores;
-#[cfg(test)]
-mod tests;

@@ -1,4 +1,4 @@
-//! The calls that are made on a bounded store of four blocks, at a desk and on a store that threads share, and their answers.
+//! What is asked of a store through a seat or a port, and what it answers, with packets by their sequence counts.
 
 use mm_base::{Kind, NoMemory};
 use mm_desk::{Fault, Offered, Returned, StoreState};
@@ -6,9 +6,9 @@ use mm_packet::{BlockPacket, Header, Octets, Packet};
 use mm_store::{AnyStore, Stored};
 use std::alloc::Global;
 
-/// What is asked of a store, with a packet by its sequence count.
+/// What is asked of a store; the last three by its owner alone.
 #[derive(Clone, Copy)]
-pub(crate) enum Ask {
+pub enum Ask {
     Offer(u64, u16),
     Begin(u64, u64),
     Next,
@@ -16,29 +16,76 @@ pub(crate) enum Ask {
     Delete(u64),
     Disable,
     Enable,
+    Rest,
+    Resize(u32),
+    ChangeKind(Kind),
 }
 
-/// What it answers, with a packet by its sequence count.
+/// What a store answers.
 #[derive(Clone, Copy, PartialEq, Eq)]
-pub(crate) enum Told {
+pub enum Told {
     Kept(u64),
+    KeptOver(u64, u16),
+    Lost(u16),
+    Back(Fault, u16),
     Given(u64, u16),
+    End,
     Deleted(u32),
     Done,
-    /// No memory, and a packet that was offered is handed back.
-    NoMemory,
-    /// Nothing, since there was no memory for the packet to be offered.
+    Refused(Fault),
+    /// Nothing was asked: there was no memory for the packet to be offered, or the call is one of the owner.
     Unmade,
-    /// Any other answer.
-    Other,
 }
 
-/// A call of a seat, by its number, with its answer.
-pub(crate) type Call = (usize, Ask, Told);
+/// What a call answers that found no memory: a packet that was offered is handed back.
+pub fn told_of_lack(ask: Ask) -> Told {
+    match ask {
+        Ask::Offer(_, count) => Told::Back(Fault::NoMemory, count),
+        _ => Told::Refused(Fault::NoMemory),
+    }
+}
 
-/// The first seat offers, then the second; the first takes a copy of its packet
-/// back, and aborts. The calls that the example lacks follow.
-pub(crate) const CALLS: [Call; 8] = [
+/// The answer to an offer.
+pub fn told_of_offer(answer: &Result<Offered, Returned>) -> Told {
+    match answer {
+        Ok(Offered::Kept(time)) => Told::Kept(*time),
+        Ok(Offered::KeptOver(time, oldest)) => Told::KeptOver(*time, oldest.packet().count()),
+        Ok(Offered::Lost(packet)) => Told::Lost(packet.packet().count()),
+        Err(back) => Told::Back(back.fault, back.packet.packet().count()),
+    }
+}
+
+/// What a call that gives a copy gave.
+pub fn told_of_given(answer: &Result<Option<Stored>, Fault>) -> Told {
+    match answer {
+        Ok(Some(stored)) => Told::Given(stored.time, stored.packet.packet().count()),
+        Ok(None) => Told::End,
+        Err(fault) => Told::Refused(*fault),
+    }
+}
+
+/// The answer to a deletion.
+pub fn told_of_delete(answer: Result<u32, Fault>) -> Told {
+    match answer {
+        Ok(count) => Told::Deleted(count),
+        Err(fault) => Told::Refused(fault),
+    }
+}
+
+/// The answer to a call that is done or refused.
+pub fn told_of(answer: Result<(), Fault>) -> Told {
+    match answer {
+        Ok(()) => Told::Done,
+        Err(fault) => Told::Refused(fault),
+    }
+}
+
+/// A call through a seat, by its number, with its answer.
+pub(crate) type SeatCall = (usize, Ask, Told);
+
+/// The first seat offers, then the second; the first takes a copy of its packet back, and aborts. The calls that the example lacks
+/// follow.
+pub(crate) const CALLS: [SeatCall; 8] = [
     (0, Ask::Offer(7, 1), Told::Kept(7)),
     (1, Ask::Offer(7, 2), Told::Kept(8)),
     (0, Ask::Begin(1, u64::MAX), Told::Done),
@@ -66,47 +113,5 @@ pub(crate) fn packet(alloc: Global, count: u16) -> Result<BlockPacket, NoMemory>
     match BlockPacket::of(Packet::tm(header, 0, 0, 0, body)) {
         Ok(packet) => Ok(packet),
         Err(_) => Err(NoMemory),
-    }
-}
-
-/// What an offer of the packet with this sequence count is answered.
-pub(crate) fn told_of_offer(answer: &Result<Offered, Returned>, count: u16) -> Told {
-    match answer {
-        Ok(Offered::Kept(time)) => Told::Kept(*time),
-        Err(back) if back.fault == Fault::NoMemory => told_of_back(&back.packet, count),
-        _ => Told::Other,
-    }
-}
-
-// The packet with this sequence count is handed back for want of memory.
-fn told_of_back(packet: &BlockPacket, count: u16) -> Told {
-    if packet.packet().count() == count {
-        Told::NoMemory
-    } else {
-        Told::Other
-    }
-}
-
-pub(crate) fn told_of_next(answer: &Result<Option<Stored>, Fault>) -> Told {
-    match answer {
-        Ok(Some(stored)) => Told::Given(stored.time, stored.packet.packet().count()),
-        Err(Fault::NoMemory) => Told::NoMemory,
-        _ => Told::Other,
-    }
-}
-
-pub(crate) fn told_of_delete(answer: Result<u32, Fault>) -> Told {
-    match answer {
-        Ok(count) => Told::Deleted(count),
-        Err(Fault::NoMemory) => Told::NoMemory,
-        Err(_) => Told::Other,
-    }
-}
-
-pub(crate) fn told_of(answer: Result<(), Fault>) -> Told {
-    match answer {
-        Ok(()) => Told::Done,
-        Err(Fault::NoMemory) => Told::NoMemory,
-        Err(_) => Told::Other,
     }
 }

@@ -1,5 +1,6 @@
 //! A step's dump: two orders over two links, from a store of three packets and from one of two.
-ghost use Rattle.std.specs.Prelude.{◌≡◌, All, None, IsTrue};
+ghost use Rattle.std.specs.Prelude.{◌≡◌, ◌≢◌, ◌<◌, ◌≤◌, length, All, AllPairs, None, IsTrue};
+ghost use Rattle.mm_base.specs.declared.limits.TheConstants.{MAX_STORES};
 
 use crate::calls::{new_state, packet};
 use crate::link::{TestLink, new_links};
@@ -7,7 +8,7 @@ use crate::met::Met;
 use crate::traces::sent_over;
 use mm_base::{NoMemory, StoreId};
 use mm_desk::{Held, StoreState};
-use mm_dump::{Dumped, Order, dump, may_fail};
+use mm_dump::{Dumped, Link, Order, dump, may_fail};
 use mm_store::PacketStore;
 use std::alloc::Global;
 use std::sync::Wait;
@@ -74,17 +75,37 @@ fn are_left(stores: &[Held], links: &[TestLink], wanted: &[(u32, u64); 2], sent:
         .provided(sent_over(links) == Some(sent), "other packets sent")
 }
 
+/// What a dump by these orders answers, where the stores and the links are few and ready for one.
+pub fn dumped<L: Link + Send, R: Threads + Wait + Sync>(
+    rt: &R,
+    alloc: Global,
+    orders: &[Order],
+    stores: &mut Vec<Held>,
+    links: &mut [L],
+) -> Option<Result<Dumped, NoMemory>>
+    requires few { length orders.now ≤ MAX_STORES }
+    requires places { All (λ o. o.place < length stores.old.items) orders.now }
+    requires amounts { All (λ o. 1 ≤ o.amount) orders.now }
+    requires distinct { AllPairs (λ a b. a.place ≢ b.place) orders.now }
+{
+    let are_few = stores.len() <= 16 && !links.is_empty() && links.len() <= 4;
+    if !are_few || !may_fail(links) || !are_idle(stores) {
+        return None;
+    }
+    Some(dump(rt, alloc, orders, stores, links))
+}
+
 // What a dump answers of two packets of the first store and all that the second has, where it may be asked for.
-fn dumped<R: Threads + Wait + Sync>(
+fn both_dumped<R: Threads + Wait + Sync>(
     rt: &R,
     alloc: Global,
     stores: &mut Vec<Held>,
     links: &mut Vec<TestLink>,
 ) -> Option<Result<Dumped, NoMemory>> {
-    if stores.len() != 2 || links.len() != 2 || !may_fail(links) || !are_idle(stores) {
+    if stores.len() != 2 {
         return None;
     }
-    let orders = [
+    let (first, second) = (
         Order {
             place: 0,
             amount: 2,
@@ -93,8 +114,8 @@ fn dumped<R: Threads + Wait + Sync>(
             place: 1,
             amount: 4,
         },
-    ];
-    Some(dump(rt, alloc, &orders, stores, links))
+    );
+    dumped(rt, alloc, &[first, second], stores, links)
 }
 
 // What a dump left that answered so. Where there was no memory all is as before.
@@ -116,12 +137,12 @@ pub(crate) fn dumps<R: Threads + Wait + Sync>(rt: &R, alloc: Global) -> Met {
     let Ok(mut links) = new_links(alloc, 2) else {
         return Met::Unready;
     };
-    let first = dumped(rt, alloc, &mut stores, &mut links);
+    let first = both_dumped(rt, alloc, &mut stores, &mut links);
     let met = left(&first, &stores, &links);
     if !matches!(first, Some(Err(NoMemory))) {
         return met;
     }
-    let second = dumped(rt, alloc, &mut stores, &mut links);
+    let second = both_dumped(rt, alloc, &mut stores, &mut links);
     let again = left(&second, &stores, &links);
     met.and(again).provided(
         matches!(again, Met::Whole),

@@ -1,17 +1,17 @@
 //! Calls that may lack memory, in parts: each says what its calls answered, which is wrong where none of them may answer it.
 #![tactic(auto)]
 
-mod calls;
+pub mod calls;
 mod data;
-mod dumps;
+pub mod dumps;
 mod link;
 mod met;
 mod parts;
 mod records;
 mod requests;
 mod runs;
-mod seats;
-mod shared;
+pub mod seats;
+pub mod shared;
 mod texts;
 mod traces;
 

@@ -223,7 +223,32 @@ fn all_carried_out(alloc: Global, setup: &[u8], steps: &[Step]) -> Option<Met> {
     Some(met)
 }
 
+// A step of one instruction: its request, the store, its answer, whether that may be want of memory, what the store is before and after
+// it, and how many stores and routes are left.
+macro_rules! single {
+    ($packet:literal, $id:literal, $answer:expr, $may_lack:literal, $before:expr => $after:expr, left $left:expr) => {
+        Step {
+            packet: $packet,
+            each: &[Instruction {
+                alone: $packet,
+                id: $id,
+                answer: $answer,
+                may_lack: $may_lack,
+                before: $before,
+                after: $after,
+            }],
+            left: $left,
+        }
+    };
+}
+
 const STORAGE_ON: Answer = Answer::Refused(Fault::State(mm_desk::Fault::StorageOn));
+
+const NO_STORE: Answer = Answer::Refused(Fault::NoSuchStore);
+
+const TOO_MANY: Answer = Answer::Refused(Fault::TooManyStores);
+
+const BAD_SIZE: Answer = Answer::Refused(Fault::BadSize);
 
 // The store C, as the setup has it.
 const C: Shape = Shape {
@@ -231,103 +256,39 @@ const C: Shape = Shape {
     ..OF_TWO
 };
 
-// An instruction on the store C.
-const ON_C: Instruction = Instruction {
+// Storage off for C, which was created with four blocks.
+const C_OFF: Instruction = Instruction {
     alone: b"\x18\x64\xC0\0\0\x0D\x20\x0F\x02\0\0\x01C       ",
     id: b"C",
     answer: Answer::Done,
     may_lack: false,
-    before: Some(C),
-    after: Some(OF_TWO),
+    before: Some(OF_FOUR),
+    after: Some(OF_FOUR),
 };
 
+// The same for an identifier in small letters.
+const SCI_OFF: Instruction = Instruction {
+    id: b"sci",
+    answer: Answer::Refused(Fault::BadId),
+    before: None,
+    after: None,
+    ..C_OFF
+};
+
+// A seventeenth store, Z. Then the store C is deleted, whose storage is on; its storage is turned off, it is deleted with its route, and
+// its storage is turned on. It is created without a block, and then with four. Last, storage off by a request of two instructions.
 static DELETED: [Step; 8] = [
-    // A seventeenth store, Z.
-    Step {
-        packet: b"\x18\x64\xC0\0\0\x13\x20\x0F\x14\0\0\x01Z       \0\0\0\x04\x01\0",
-        each: &[Instruction {
-            id: b"Z",
-            answer: Answer::Refused(Fault::TooManyStores),
-            before: None,
-            after: None,
-            ..ON_C
-        }],
-        left: (16, 16),
-    },
-    // The store C is deleted, whose storage is on; its storage is turned off, and then it is deleted with its route.
-    Step {
-        packet: b"\x18\x64\xC0\0\0\x0D\x20\x0F\x15\0\0\x01C       ",
-        each: &[Instruction {
-            answer: STORAGE_ON,
-            after: Some(C),
-            ..ON_C
-        }],
-        left: (16, 16),
-    },
-    Step {
-        packet: b"\x18\x64\xC0\0\0\x0D\x20\x0F\x02\0\0\x01C       ",
-        each: &[ON_C],
-        left: (16, 16),
-    },
-    Step {
-        packet: b"\x18\x64\xC0\0\0\x0D\x20\x0F\x15\0\0\x01C       ",
-        each: &[Instruction {
-            before: Some(OF_TWO),
-            after: None,
-            ..ON_C
-        }],
-        left: (15, 15),
-    },
-    // Its storage is turned on.
-    Step {
-        packet: b"\x18\x64\xC0\0\0\x0D\x20\x0F\x01\0\0\x01C       ",
-        each: &[Instruction {
-            answer: Answer::Refused(Fault::NoSuchStore),
-            before: None,
-            after: None,
-            ..ON_C
-        }],
-        left: (15, 15),
-    },
-    // It is created without a block, and then with four.
-    Step {
-        packet: b"\x18\x64\xC0\0\0\x13\x20\x0F\x14\0\0\x01C       \0\0\0\0\x01\0",
-        each: &[Instruction {
-            answer: Answer::Refused(Fault::BadSize),
-            before: None,
-            after: None,
-            ..ON_C
-        }],
-        left: (15, 15),
-    },
-    Step {
-        packet: b"\x18\x64\xC0\0\0\x13\x20\x0F\x14\0\0\x01C       \0\0\0\x04\x01\0",
-        each: &[Instruction {
-            alone: b"\x18\x64\xC0\0\0\x13\x20\x0F\x14\0\0\x01C       \0\0\0\x04\x01\0",
-            may_lack: true,
-            before: None,
-            after: Some(OF_FOUR),
-            ..ON_C
-        }],
-        left: (16, 15),
-    },
-    // Storage off for an identifier in small letters, and for C.
+    single!(b"\x18\x64\xC0\0\0\x13\x20\x0F\x14\0\0\x01Z       \0\0\0\x04\x01\0", b"Z", TOO_MANY, false, None => None, left (16, 16)),
+    single!(b"\x18\x64\xC0\0\0\x0D\x20\x0F\x15\0\0\x01C       ", b"C", STORAGE_ON, false, Some(C) => Some(C), left (16, 16)),
+    single!(b"\x18\x64\xC0\0\0\x0D\x20\x0F\x02\0\0\x01C       ", b"C", Answer::Done, false, Some(C) => Some(OF_TWO), left (16, 16)),
+    single!(b"\x18\x64\xC0\0\0\x0D\x20\x0F\x15\0\0\x01C       ", b"C", Answer::Done, false, Some(OF_TWO) => None, left (15, 15)),
+    single!(b"\x18\x64\xC0\0\0\x0D\x20\x0F\x01\0\0\x01C       ", b"C", NO_STORE, false, None => None, left (15, 15)),
+    single!(b"\x18\x64\xC0\0\0\x13\x20\x0F\x14\0\0\x01C       \0\0\0\0\x01\0", b"C", BAD_SIZE, false, None => None, left (15, 15)),
+    single!(b"\x18\x64\xC0\0\0\x13\x20\x0F\x14\0\0\x01C       \0\0\0\x04\x01\0",
+        b"C", Answer::Done, true, None => Some(OF_FOUR), left (16, 15)),
     Step {
         packet: b"\x18\x64\xC0\0\0\x15\x20\x0F\x02\0\0\x02sci     C       ",
-        each: &[
-            Instruction {
-                id: b"sci",
-                answer: Answer::Refused(Fault::BadId),
-                before: None,
-                after: None,
-                ..ON_C
-            },
-            Instruction {
-                before: Some(OF_FOUR),
-                after: Some(OF_FOUR),
-                ..ON_C
-            },
-        ],
+        each: &[SCI_OFF, C_OFF],
         left: (16, 15),
     },
 ];
@@ -342,90 +303,51 @@ const CIRCULAR: Shape = Shape {
     ..OF_EIGHT
 };
 
-// A change of the store SCI that may find no memory.
-const ON_SCI: Instruction = Instruction {
-    alone: b"\x18\x64\xC0\0\0\x11\x20\x0F\x19\0\0\x01SCI     \0\0\0\x08",
-    id: b"SCI",
-    answer: Answer::Done,
-    may_lack: true,
-    before: Some(OF_FOUR),
-    after: Some(OF_EIGHT),
+// The store SCI, as the setup has it.
+const SCI: Shape = Shape {
+    storage: true,
+    ..OF_FOUR
 };
 
-// The store SCI is switched off, resized, made circular and bounded again, each by a request of its own; then A and B are created by one.
+// The store B, circular, of two blocks and on channel 1.
+const B: Shape = Shape {
+    kind: Kind::Circular,
+    channel: 1,
+    ..OF_TWO
+};
+
+// The store A is created.
+const A_MADE: Instruction = Instruction {
+    alone: b"\x18\x64\xC0\0\0\x13\x20\x0F\x14\0\0\x01A       \0\0\0\x04\x01\0",
+    id: b"A",
+    answer: Answer::Done,
+    may_lack: true,
+    before: None,
+    after: Some(OF_FOUR),
+};
+
+const B_MADE: Instruction = Instruction {
+    alone: b"\x18\x64\xC0\0\0\x13\x20\x0F\x14\0\0\x01B       \0\0\0\x02\0\x01",
+    id: b"B",
+    after: Some(B),
+    ..A_MADE
+};
+
+// The store SCI is switched off, resized, made circular and bounded again, each by a request of its own; then A and B are created by one;
+// and last, SCI, which is off, is as it was before A and B were created.
 static CREATED: [Step; 6] = [
-    Step {
-        packet: b"\x18\x64\xC0\0\0\x0D\x20\x0F\x02\0\0\x01SCI     ",
-        each: &[Instruction {
-            may_lack: false,
-            before: Some(Shape {
-                storage: true,
-                ..OF_FOUR
-            }),
-            after: Some(OF_FOUR),
-            ..ON_SCI
-        }],
-        left: (1, 1),
-    },
-    Step {
-        packet: b"\x18\x64\xC0\0\0\x11\x20\x0F\x19\0\0\x01SCI     \0\0\0\x08",
-        each: &[ON_SCI],
-        left: (1, 1),
-    },
-    Step {
-        packet: b"\x18\x64\xC0\0\0\x0D\x20\x0F\x1A\0\0\x01SCI     ",
-        each: &[Instruction {
-            alone: b"\x18\x64\xC0\0\0\x0D\x20\x0F\x1A\0\0\x01SCI     ",
-            before: Some(OF_EIGHT),
-            after: Some(CIRCULAR),
-            ..ON_SCI
-        }],
-        left: (1, 1),
-    },
-    Step {
-        packet: b"\x18\x64\xC0\0\0\x0D\x20\x0F\x1B\0\0\x01SCI     ",
-        each: &[Instruction {
-            alone: b"\x18\x64\xC0\0\0\x0D\x20\x0F\x1B\0\0\x01SCI     ",
-            before: Some(CIRCULAR),
-            after: Some(OF_EIGHT),
-            ..ON_SCI
-        }],
-        left: (1, 1),
-    },
+    single!(b"\x18\x64\xC0\0\0\x0D\x20\x0F\x02\0\0\x01SCI     ", b"SCI", Answer::Done, false, Some(SCI) => Some(OF_FOUR), left (1, 1)),
+    single!(b"\x18\x64\xC0\0\0\x11\x20\x0F\x19\0\0\x01SCI     \0\0\0\x08",
+        b"SCI", Answer::Done, true, Some(OF_FOUR) => Some(OF_EIGHT), left (1, 1)),
+    single!(b"\x18\x64\xC0\0\0\x0D\x20\x0F\x1A\0\0\x01SCI     ", b"SCI", Answer::Done, true, Some(OF_EIGHT) => Some(CIRCULAR), left (1, 1)),
+    single!(b"\x18\x64\xC0\0\0\x0D\x20\x0F\x1B\0\0\x01SCI     ", b"SCI", Answer::Done, true, Some(CIRCULAR) => Some(OF_EIGHT), left (1, 1)),
     Step {
         packet: b"\x18\x64\xC0\0\0\x21\x20\x0F\x14\0\0\x02A       \0\0\0\x04\x01\0B       \0\0\0\x02\0\x01",
-        each: &[
-            Instruction {
-                alone: b"\x18\x64\xC0\0\0\x13\x20\x0F\x14\0\0\x01A       \0\0\0\x04\x01\0",
-                id: b"A",
-                before: None,
-                after: Some(OF_FOUR),
-                ..ON_SCI
-            },
-            Instruction {
-                alone: b"\x18\x64\xC0\0\0\x13\x20\x0F\x14\0\0\x01B       \0\0\0\x02\0\x01",
-                id: b"B",
-                before: None,
-                after: Some(Shape {
-                    kind: Kind::Circular,
-                    channel: 1,
-                    ..OF_TWO
-                }),
-                ..ON_SCI
-            },
-        ],
+        each: &[A_MADE, B_MADE],
         left: (3, 1),
     },
-    // SCI, which is off, is as it was before A and B were created.
-    Step {
-        packet: b"\x18\x64\xC0\0\0\x0D\x20\x0F\x02\0\0\x01SCI     ",
-        each: &[Instruction {
-            may_lack: false,
-            before: Some(OF_EIGHT),
-            ..ON_SCI
-        }],
-        left: (3, 1),
-    },
+    single!(b"\x18\x64\xC0\0\0\x0D\x20\x0F\x02\0\0\x01SCI     ",
+        b"SCI", Answer::Done, false, Some(OF_EIGHT) => Some(OF_EIGHT), left (3, 1)),
 ];
 
 /// What came of the requests that resize a store, change its kind and create two stores.

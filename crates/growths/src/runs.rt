@@ -5,7 +5,7 @@ use crate::met::Met;
 use crate::traces::{Traces, traces_of};
 use mm_base::StoreId;
 use mm_dump::may_fail;
-use mm_exec::{Cause, Flight, Flown, Halted, NotFlown, carry_out, fly};
+use mm_exec::{Cause, Flown, Halted, NotFlown, carry_out, fly};
 use mm_memory::Memory;
 use mm_plan::Sheet;
 use mm_problem::{Problem, Setup};
@@ -78,13 +78,7 @@ const TEN_CAME: &[u8] = b"step 1 SCI arrived 3 lost 0 dumped 2 held 1\n\
     total arrived 10 lost 2 dumped 4 held 4\n";
 
 // What a run is made on.
-#[derive(Drop)]
-struct Stage {
-    memory: Memory,
-    problem: Problem,
-    sources: Vec<ScriptedSource>,
-    links: Vec<TestLink>,
-}
+type Stage = (Memory, Problem, Vec<ScriptedSource>, Vec<TestLink>);
 
 // The memory and the problem of the first plan.
 fn first_problem(alloc: Global) -> Option<(Memory, Problem)> {
@@ -112,12 +106,7 @@ fn stage_in_room(alloc: Global, sources: &[&[u8]], links: usize) -> Option<Stage
     let (memory, problem) = first_problem(alloc)?;
     let sources = sources_of(alloc, sources)?;
     match new_links(alloc, links) {
-        Ok(links) => Some(Stage {
-            memory,
-            problem,
-            sources,
-            links,
-        }),
+        Ok(links) => Some((memory, problem, sources, links)),
         Err(_) => None,
     }
 }
@@ -150,16 +139,18 @@ fn all_given(left: &Traces, packets: u32) -> Met {
         )
 }
 
-// What a run left that went through, of this many packets.
+// What a run left that went through: its packets are this many, and its report is this.
 fn whole(
     alloc: Global,
     memory: &Memory,
-    mut flight: Flight<ScriptedSource, TestLink>,
-    packets: u32,
-    want: &[u8],
+    report: &Report,
+    sources: &mut [ScriptedSource],
+    links: &[TestLink],
+    want: (u32, &[u8]),
 ) -> Met {
-    match left_by(memory, &mut flight.sources, &flight.links) {
-        Some(left) => told(alloc, &flight.report, want).and(all_given(&left, packets)),
+    let (packets, text) = want;
+    match left_by(memory, sources, links) {
+        Some(left) => told(alloc, report, text).and(all_given(&left, packets)),
         None => Met::Wrong("what a run may not leave"),
     }
 }
@@ -219,18 +210,23 @@ fn halted_for_want_of_memory(
 
 // What came of a run of the first plan, with eleven packets in place of ten.
 fn carried<R: Threads + Wait + Sync>(rt: &R, alloc: Global, stage: Stage, sheet: &Sheet) -> Met {
-    let Stage {
-        mut memory,
-        problem,
-        sources,
-        links,
-    } = stage;
+    let (mut memory, problem, sources, links) = stage;
     if !may_fail(&links) {
         return Met::Unready;
     }
     let plan = sheet.plan();
     match carry_out(rt, alloc, &mut memory, &problem, plan, sources, links, 0) {
-        Ok(flight) => whole(alloc, &memory, flight, 11, ELEVEN_CAME),
+        Ok(mut flight) => {
+            let want = (11, ELEVEN_CAME);
+            whole(
+                alloc,
+                &memory,
+                &flight.report,
+                &mut flight.sources,
+                &flight.links,
+                want,
+            )
+        }
         Err(end) => halted_for_want_of_memory(alloc, &memory, end, 11),
     }
 }
@@ -274,20 +270,17 @@ fn unplanned(memory: &Memory, mut end: Halted<ScriptedSource, TestLink>) -> Met 
 }
 
 // What came of a run that was planned and went through.
-fn flown(alloc: Global, memory: &Memory, flown: Flown<ScriptedSource, TestLink>) -> Met {
-    let Flown {
-        sheet,
-        report,
-        sources,
-        links,
-    } = flown;
-    let flight = Flight {
-        report,
-        sources,
-        links,
-    };
-    let met = whole(alloc, memory, flight, 10, TEN_CAME);
-    met.provided(sheet.as_slice() == PLAN, "another plan")
+fn flown(alloc: Global, memory: &Memory, mut done: Flown<ScriptedSource, TestLink>) -> Met {
+    let want = (10, TEN_CAME);
+    let met = whole(
+        alloc,
+        memory,
+        &done.report,
+        &mut done.sources,
+        &done.links,
+        want,
+    );
+    met.provided(done.sheet.as_slice() == PLAN, "another plan")
 }
 
 // What came of a run that was halted, or not planned.
@@ -302,15 +295,9 @@ fn not_flown(alloc: Global, memory: &Memory, end: NotFlown<ScriptedSource, TestL
 
 /// What came of a run that begins with its plan, with one source and one link, in which what comes is what is forecast.
 pub(crate) fn flight<R: Threads + Wait + Sync>(rt: &R, alloc: Global) -> Met {
-    let Some(stage) = stage_in_room(alloc, &[OF_ONE], 1) else {
+    let Some((mut memory, problem, sources, links)) = stage_in_room(alloc, &[OF_ONE], 1) else {
         return Met::Unready;
     };
-    let Stage {
-        mut memory,
-        problem,
-        sources,
-        links,
-    } = stage;
     if !may_fail(&links) {
         return Met::Unready;
     }

@@ -3,7 +3,8 @@ ghost use Rattle.std.specs.Prelude.{◌≡◌};
 ghost use Rattle.mm_desk.specs.Runs.{opening_at};
 
 use crate::calls::{
-    Ask, CALLS, Told, new_state, packet, told_of, told_of_delete, told_of_next, told_of_offer,
+    Ask, CALLS, SeatCall, Told, new_state, packet, told_of, told_of_delete, told_of_given,
+    told_of_lack, told_of_offer,
 };
 use crate::met::Met;
 use mm_base::NoMemory;
@@ -12,21 +13,6 @@ use mm_store::PacketStore;
 use std::alloc::Global;
 use std::marker::Brand;
 use std::sync::Wait;
-
-// What an offer answers, where there is memory for its packet.
-fn offered<N: Opening, R: Wait>(
-    rt: &R,
-    alloc: Global,
-    desk: &Desk<N>,
-    seat: &mut Seat<N>,
-    now: u64,
-    count: u16,
-) -> Told {
-    match packet(alloc, count) {
-        Ok(packet) => told_of_offer(&desk.offer(rt, alloc, seat, now, packet), count),
-        Err(NoMemory) => Told::Unmade,
-    }
-}
 
 // Makes a call that is done or refused: a begin, a switch, or else an abort.
 fn done<N: Opening, R: Wait>(
@@ -44,8 +30,8 @@ fn done<N: Opening, R: Wait>(
     }
 }
 
-// What a call answers.
-fn answer<N: Opening, R: Wait>(
+/// What a desk answers through a seat.
+pub fn answer<N: Opening, R: Wait>(
     rt: &R,
     alloc: Global,
     desk: &Desk<N>,
@@ -53,33 +39,40 @@ fn answer<N: Opening, R: Wait>(
     ask: Ask,
 ) -> Told {
     match ask {
-        Ask::Offer(now, count) => offered(rt, alloc, desk, seat, now, count),
-        Ask::Next => told_of_next(&desk.next(rt, alloc, seat)),
+        Ask::Offer(now, count) => match packet(alloc, count) {
+            Ok(packet) => told_of_offer(&desk.offer(rt, alloc, seat, now, packet)),
+            Err(NoMemory) => Told::Unmade,
+        },
+        Ask::Next => told_of_given(&desk.next(rt, alloc, seat)),
         Ask::Delete(limit) => told_of_delete(desk.delete(rt, alloc, seat, limit)),
+        Ask::Rest | Ask::Resize(_) | Ask::ChangeKind(_) => Told::Unmade,
         _ => told_of(done(rt, alloc, desk, seat, ask)),
     }
 }
 
-// What came of a call. One that found no memory is not listed, and is asked once more.
+// What came of a call through its seat. One that found no memory is not listed, and is asked once more.
 fn called<N: Opening, R: Wait>(
     rt: &R,
     alloc: Global,
     desk: &Desk<N>,
-    seat: &mut Seat<N>,
-    ask: Ask,
-    want: Told,
+    seats: &mut [Seat<N>],
+    call: SeatCall,
 ) -> Met {
+    let (number, ask, want) = call;
+    let Some(seat) = seats.get_mut(number) else {
+        return Met::Wrong("a seat is missing");
+    };
     let before = seat.list().len();
     let first = answer(rt, alloc, desk, seat, ask);
     let listed = seat.list().len() > before;
-    let met = match first {
-        Told::Unmade => Met::Unready,
-        Told::NoMemory => Met::Wanted,
-        _ => {
-            return Met::Whole
-                .provided(first == want, "another answer")
-                .provided(listed, "a call that is not listed");
-        }
+    let met = if first == Told::Unmade {
+        Met::Unready
+    } else if first == told_of_lack(ask) {
+        Met::Wanted
+    } else {
+        return Met::Whole
+            .provided(first == want, "another answer")
+            .provided(listed, "a call that is not listed");
     };
     let second = answer(rt, alloc, desk, seat, ask);
     met.provided(!listed, "listed without memory")
@@ -94,12 +87,8 @@ fn all_called<N: Opening, R: Wait>(
     seats: &mut [Seat<N>],
 ) -> Met {
     let mut met = Met::Whole;
-    for (number, ask, want) in CALLS {
-        let one = match seats.get_mut(number) {
-            Some(seat) => called(rt, alloc, desk, seat, ask, want),
-            None => Met::Wrong("a seat is missing"),
-        };
-        met = met.and(one);
+    for call in CALLS {
+        met = met.and(called(rt, alloc, desk, seats, call));
     }
     met
 }

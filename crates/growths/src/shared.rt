@@ -3,7 +3,8 @@ ghost use Rattle.std.specs.Prelude.{◌≡◌};
 ghost use Rattle.mm_shared.specs.Views.{new_ports};
 
 use crate::calls::{
-    Ask, CALLS, Call, Told, new_state, packet, told_of, told_of_delete, told_of_next, told_of_offer,
+    Ask, CALLS, SeatCall, Told, new_state, packet, told_of, told_of_delete, told_of_given,
+    told_of_offer,
 };
 use crate::met::Met;
 use mm_base::NoMemory;
@@ -13,18 +14,24 @@ use mm_store::PacketStore;
 use std::alloc::Global;
 use std::sync::Wait;
 
-// What a call answers.
-fn answer<R: Wait>(rt: &R, alloc: Global, store: &SharedStore, port: &mut Port, ask: Ask) -> Told
+/// What a store answers through a port.
+pub fn answer<R: Wait>(
+    rt: &R,
+    alloc: Global,
+    store: &SharedStore,
+    port: &mut Port,
+    ask: Ask,
+) -> Told
     requires of { port.old.of ≡ store.now.id }
     ensures same { (port.new.of ≡ port.old.of) × (port.new.number ≡ port.old.number) }
 {
     match ask {
         Ask::Offer(now, count) => match packet(alloc, count) {
-            Ok(packet) => told_of_offer(&store.offer(rt, port, now, packet), count),
+            Ok(packet) => told_of_offer(&store.offer(rt, port, now, packet)),
             Err(NoMemory) => Told::Unmade,
         },
         Ask::Begin(from, to) => told_of(store.begin(rt, port, from, to)),
-        Ask::Next => told_of_next(&store.next(rt, alloc, port)),
+        Ask::Next => told_of_given(&store.next(rt, alloc, port)),
         Ask::Abort => told_of(store.abort(rt, port)),
         Ask::Delete(limit) => told_of_delete(store.delete(rt, port, limit)),
         Ask::Disable => {
@@ -35,6 +42,7 @@ fn answer<R: Wait>(rt: &R, alloc: Global, store: &SharedStore, port: &mut Port, 
             store.enable(rt, port);
             Told::Done
         }
+        _ => Told::Unmade,
     }
 }
 
@@ -65,7 +73,7 @@ fn called_through<R: Wait>(
     store: &SharedStore,
     first: &mut Port,
     second: &mut Port,
-    call: Call,
+    call: SeatCall,
 ) -> Met
     requires of { (first.old.of ≡ store.now.id) × (second.old.of ≡ store.now.id) }
     ensures first { (first.new.of ≡ first.old.of) × (first.new.number ≡ first.old.number) }

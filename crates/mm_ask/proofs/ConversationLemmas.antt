@@ -7,11 +7,12 @@ use Rattle.mm_st15.specs.declared.report.Report.{Report}
 use Rattle.mm_st15.specs.declared.report_kind.ReportKind.{ReportKind}
 use Rattle.mm_memory.specs.Reports.{reports_on}
 use Rattle.mm_ask.specs.declared.fault.LineFault.{LineFault}
-use Rattle.mm_ask.specs.Answering.{Standing, with_report, with_reports, with_answers, AnswersTo}
-use Rattle.mm_ask.specs.Asking.{Passes, Converses}
+use Rattle.mm_ask.specs.Answering.{Standing, with_report, with_reports, with_answers, AnswersTo, Follows}
+use Rattle.mm_ask.specs.Asking.{Converses}
 use Rattle.mm_ask.specs.Counting.{Counts, no_counts, counted, counts_after}
 use Rattle.mm_ask.specs.Laws.{kinds_of, told_of, told_in, told}
 use Rattle.mm_ask.specs.Line.{request_of}
+use Rattle.mm_ask.specs.Lines.{Passes}
 
 -- reports are counted from where the counts stand
 reports_from : (line : ℕ) (asked : SpacePacket) (reports : List Report) (s : Standing) → (with_reports line asked reports s).counts ≡ fold counted s.counts (kinds_of reports)
@@ -38,7 +39,7 @@ answers_count line (Ok asked) s t answers before from =
 answers_count line (Err fault) s t answers before from = counts_same before t.counts (ap (λ (x : Standing). x.counts) answers ∙ from)
 
 -- what a line leaves
-passes_count : (line : ℕ) (octets : List ℕ) (s t : Standing) (passes : Passes line octets s t) (before : List ReportKind) → s.counts ≡ counts_after before
+passes_count : (line : ℕ) (octets : List ℕ) (s t : Standing) (passes : Passes Follows line octets s t) (before : List ReportKind) → s.counts ≡ counts_after before
     → t.counts ≡ counts_after (before ++ told_in line octets s t passes)
 passes_count line [] s t passes before from = counts_same before t.counts (ap (λ (x : Standing). x.counts) passes ∙ from)
 passes_count line (c ∷ cs) s t (inl answers) before from = answers_count line (request_of (c ∷ cs)) s t answers before from

@@ -11,6 +11,7 @@ use Rattle.mm_st15.specs.Report.{report_fault}
 use Rattle.mm_st15.specs.Request.{request_fault}
 use Rattle.mm_ask.specs.declared.fault.LineFault.{LineFault}
 use Rattle.mm_ask.specs.Label.{is_answer, labelled}
+use Rattle.mm_ask.specs.Lines.{Passes}
 use Rattle.mm_ask.specs.PacketWords.{header_line, request_lines, report_lines}
 use Rattle.mm_ask.specs.Reads.{SoFar, nothing, with_lines, packet_of, ShowsRequest, ShowsReport, ShowsOr, ShowsData, ShowsResult, ShowsLine, Shows, ShowsEach, PacketsReadOneWay}
 
@@ -40,7 +41,7 @@ line_once : (answer : Bool) (line : ℕ) (octets : List ℕ) (s t u : SoFar) →
 line_once true line octets s t u a b = a ∙ sym b
 line_once false line octets s t u a b = result_once (labelled line octets).0 (packet_of (labelled line octets).1) s t u a b
 
-shows_once : (line : ℕ) (octets : List ℕ) (s t u : SoFar) → Shows line octets s t → Shows line octets s u → t ≡ u
+shows_once : (line : ℕ) (octets : List ℕ) (s t u : SoFar) → Passes Shows line octets s t → Passes Shows line octets s u → t ≡ u
 shows_once line [] s t u a b = a ∙ sym b
 shows_once line (c ∷ cs) s t u a b = line_once (is_answer (c ∷ cs)) line (c ∷ cs) s t u a b
 

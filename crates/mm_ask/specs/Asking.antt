@@ -1,5 +1,5 @@
 -- A whole conversation, from the setup and the lines.
-use Rattle.std.specs.Prelude.{◌≡◌, ℕ, ◌+◌, List, [], ◌∷◌, Ok, Err}
+use Rattle.std.specs.Prelude.{◌≡◌, ℕ, List, Ok, Err}
 use Rattle.mm_problem.specs.Document.{setup_of}
 use Rattle.mm_problem.specs.declared.fault.Fault.{Fault}
 use Rattle.mm_problem.specs.declared.fault.Fault.TheVariants.{NoMemory}
@@ -8,16 +8,11 @@ use Rattle.mm_problem.specs.Setup.{SetupRows}
 use Rattle.mm_memory.specs.Holdings.{memory_of}
 use Rattle.mm_ask.specs.declared.answering.Outcome.{Outcome}
 use Rattle.mm_ask.specs.Answering.{Standing, opened, Follows}
-
--- what one line leaves; an empty one is passed over
-abbrev pub Passes : ℕ → List ℕ → Standing → Standing → Type 0
-Passes line [] s t = t ≡ s
-Passes line (c ∷ cs) s t = Follows line (c ∷ cs) s t
+use Rattle.mm_ask.specs.Lines.{PassesEach}
 
 -- what lines leave, of which the first has this number
 abbrev pub Converses : ℕ → List (List ℕ) → Standing → Standing → Type 0
-Converses line [] s t = t ≡ s
-Converses line (octets ∷ more) s t = (next : Standing) × Passes line octets s next × Converses (line + 1) more next t
+Converses = PassesEach Follows
 
 -- the text answers the requests, line by line, from the memory of the setup on, and the outcome is
 -- theirs

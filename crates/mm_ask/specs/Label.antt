@@ -1,20 +1,11 @@
 -- How a line of packets names its packet.
-use Rattle.std.specs.Prelude.{ℕ, ◌+◌, ◌-◌, ◌^◌, ◌==◌, Bool, ◌||◌, false, List, codes, take, drop, position, Option, Some, None, if◌then◌else◌}
-use Rattle.std.specs.Option.{option_map}
+use Rattle.std.specs.Prelude.{ℕ, ◌-◌, ◌^◌, Bool, ◌||◌, false, List, codes, Option, Some, None, if◌then◌else◌}
 use Rattle.std.specs.Str.{bytes_eq}
-use Rattle.mm_base.specs.Characters.{space}
+use Rattle.mm_base.specs.Lines.{cut_word}
 use Rattle.mm_base.specs.Numbers.{numeral_of}
 use Rattle.mm_base.specs.Options.{◌>>=◌}
 use Rattle.mm_base.specs.declared.numbers.Numeral.{Numeral}
 use Rattle.mm_base.specs.declared.numbers.Numeral.TheVariants.{NotNumber, TooLarge, Number}
-
--- what stands before this place, and what stands after it
-abbrev pub parts_at : List ℕ → ℕ → List ℕ × List ℕ
-parts_at text i = (take i text, drop (i + 1) text)
-
--- the text up to the first space, and what follows the space
-abbrev pub cut_word : List ℕ → Option (List ℕ × List ℕ)
-cut_word text = option_map (parts_at text) (position (λ c. c == space) text)
 
 -- whether the first word of a text is this one, with a space after it
 abbrev pub is_first_word : List ℕ → Option (List ℕ × List ℕ) → Bool

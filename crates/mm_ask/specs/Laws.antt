@@ -8,8 +8,9 @@ use Rattle.mm_memory.specs.Holdings.{Holdings}
 use Rattle.mm_memory.specs.Reports.{reports_on}
 use Rattle.mm_ask.specs.declared.fault.LineFault.{LineFault}
 use Rattle.mm_ask.specs.Answering.{Standing, opened, with_reports, AnswersTo, Follows}
-use Rattle.mm_ask.specs.Asking.{Passes, Converses}
+use Rattle.mm_ask.specs.Asking.{Converses}
 use Rattle.mm_ask.specs.Line.{request_of}
+use Rattle.mm_ask.specs.Lines.{Passes}
 use Rattle.mm_st15.specs.declared.report_kind.ReportKind.{ReportKind}
 use Rattle.mm_ask.specs.declared.counters.TheConstants.{SEQUENCE_COUNTS}
 use Rattle.mm_ask.specs.Counting.{counts_after, counter_of, how_many}
@@ -34,7 +35,7 @@ abbrev pub told_by : (line : ℕ) (octets : List ℕ) (s t : Standing) → Follo
 told_by line octets s t (inl answers) = told_of line (request_of octets) s t answers
 told_by line octets s t (inr lacks) = []
 
-abbrev pub told_in : (line : ℕ) (octets : List ℕ) (s t : Standing) → Passes line octets s t → List ReportKind
+abbrev pub told_in : (line : ℕ) (octets : List ℕ) (s t : Standing) → Passes Follows line octets s t → List ReportKind
 told_in line [] s t passes = []
 told_in line (c ∷ cs) s t passes = told_by line (c ∷ cs) s t passes
 

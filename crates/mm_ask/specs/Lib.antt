@@ -1,5 +1,6 @@
 pub mod Fault
 pub mod Line
+pub mod Lines
 pub mod Counting
 pub mod Telemetry
 pub mod Text

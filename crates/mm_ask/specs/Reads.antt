@@ -1,5 +1,5 @@
 -- What the lines of packets read as.
-use Rattle.std.specs.Prelude.{◌≡◌, ℕ, ◌+◌, ◌==◌, Bool, true, false, not, List, [], ◌∷◌, ◌++◌, filter, Option, Some, None, Result, Ok, Err}
+use Rattle.std.specs.Prelude.{◌≡◌, ℕ, ◌==◌, Bool, true, false, not, List, [], ◌∷◌, ◌++◌, filter, Option, Some, None, Result, Ok, Err}
 use Rattle.mm_base.specs.Characters.{line_feed, space}
 use Rattle.mm_base.specs.Lines.{text_lines}
 use Rattle.mm_base.specs.Reading.{◌>>=◌}
@@ -17,6 +17,7 @@ use Rattle.mm_ask.specs.declared.fault.LineFault.{LineFault}
 use Rattle.mm_ask.specs.Fault.{of_request}
 use Rattle.mm_ask.specs.Label.{is_answer, labelled}
 use Rattle.mm_ask.specs.Line.{octets_in, packet_alone}
+use Rattle.mm_ask.specs.Lines.{PassesEach}
 use Rattle.mm_ask.specs.PacketWords.{header_line, request_lines, report_lines}
 use Rattle.mm_ask.specs.Text.{refused_line}
 
@@ -89,15 +90,13 @@ abbrev pub ShowsLine : Bool → ℕ → List ℕ → SoFar → SoFar → Type 0
 ShowsLine true line octets s t = t ≡ with_lines (octets ++ line_feed ∷ []) s
 ShowsLine false line octets s t = ShowsDigits (labelled line octets) s t
 
--- what a line leaves; an empty one is passed over
+-- what a line that is not empty leaves
 abbrev pub Shows : ℕ → List ℕ → SoFar → SoFar → Type 0
-Shows line [] s t = t ≡ s
-Shows line (c ∷ cs) s t = ShowsLine (is_answer (c ∷ cs)) line (c ∷ cs) s t
+Shows line octets s t = ShowsLine (is_answer octets) line octets s t
 
 -- what lines leave, of which the first has this number
 abbrev pub ShowsEach : ℕ → List (List ℕ) → SoFar → SoFar → Type 0
-ShowsEach line [] s t = t ≡ s
-ShowsEach line (octets ∷ more) s t = (next : SoFar) × Shows line octets s next × ShowsEach (line + 1) more next t
+ShowsEach = PassesEach Shows
 
 -- the text and the outcome are what the lines of packets read as
 pub record Reads (packets : List ℕ) (outcome : Outcome) (text : List ℕ) : Type 0 where

@@ -7,6 +7,7 @@ ghost use Rattle.mm_st15.specs.Request.{IsRequest, SpellsRequest};
 use crate::counters::Counters;
 use crate::fault::LineFault;
 use crate::line::{Asked, request_of};
+use crate::lines::TakeLine;
 use crate::telemetry::telemetry_octets;
 use crate::text::{push_answer_lines, push_refused_line, push_report_line};
 use mm_base::NoMemory;
@@ -65,7 +66,7 @@ impl Outcome {
 }
 
 impl Conversation {
-    ghost use Rattle.mm_ask.specs.Answering.{Applied, Follows, opened, with_answers, with_report, with_reports, refused_whole};
+    ghost use Rattle.mm_ask.specs.Answering.{Applied, opened, with_answers, with_report, with_reports, refused_whole};
 
     /// A conversation that begins.
     pub(crate) fn new(alloc: Global, memory: Memory) -> Conversation
@@ -157,11 +158,14 @@ impl Conversation {
             Err(NoMemory) => self.refuse(line, LineFault::NoMemory),
         }
     }
+}
 
-    /// Answers a line, which has this number.
-    pub(crate) fn answer(&mut self, alloc: Global, line: u64, octets: &[u8]) -> Result<(), NoMemory>
-        ensures { OnOk result (Follows line octets.now self.old self.new) }
-    {
+impl TakeLine for Conversation {
+    ghost use Rattle.mm_ask.specs.Answering.{Follows};
+
+    ghost leaves = { Follows };
+
+    fn take(&mut self, alloc: Global, line: u64, octets: &[u8]) -> Result<(), NoMemory> {
         match request_of(alloc, octets) {
             Ok(asked) => self.apply(alloc, line, &asked),
             Err(fault) => self.refuse(line, fault),

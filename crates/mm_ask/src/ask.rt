@@ -1,46 +1,16 @@
 //! From the bytes of a setup and of requests to the text that answers them.
-ghost use Rattle.std.specs.Prelude.{IfOk, IfErr, OnOk};
+ghost use Rattle.std.specs.Prelude.{IfOk, IfErr};
 ghost use Rattle.mm_ask.specs.Answering.{opened};
-ghost use Rattle.mm_ask.specs.Asking.{Answers, Converses, IsSetupFault, Passes};
+ghost use Rattle.mm_ask.specs.Asking.{Answers, Converses, IsSetupFault};
 ghost use Rattle.mm_base.specs.Lines.{text_lines};
 ghost use Rattle.mm_memory.specs.Holdings.{memory_of};
 
 use crate::answering::{Conversation, Outcome};
+use crate::lines::take_lines;
 use mm_base::NoMemory;
-use mm_base::lines::split_line;
 use mm_memory::Memory;
 use mm_problem::{Fault, Setup};
 use std::alloc::Global;
-
-// Answers a line, which has this number; an empty one is passed over.
-fn pass(
-    alloc: Global,
-    conversation: &mut Conversation,
-    line: u64,
-    octets: &[u8],
-) -> Result<(), NoMemory>
-    ensures { OnOk result (Passes line octets.now conversation.old conversation.new) }
-{
-    if octets.is_empty() {
-        Ok(())
-    } else {
-        conversation.answer(alloc, line, octets)
-    }
-}
-
-// Answers each line of the requests, in order.
-fn converse(alloc: Global, conversation: &mut Conversation, requests: &[u8]) -> Result<(), NoMemory>
-    ensures { OnOk result (Converses 1 (text_lines requests.now) conversation.old conversation.new) }
-{
-    let mut rest = requests;
-    let mut line: u64 = 1;
-    while let Some((octets, after)) = split_line(rest) {
-        pass(alloc, conversation, line, octets)?;
-        rest = after;
-        line += 1;
-    }
-    pass(alloc, conversation, line, rest)
-}
 
 // The conversation that the requests have with the memory of the setup.
 fn conversation_of(alloc: Global, setup: &Setup, requests: &[u8]) -> Result<Conversation, NoMemory>
@@ -48,7 +18,7 @@ fn conversation_of(alloc: Global, setup: &Setup, requests: &[u8]) -> Result<Conv
 {
     let memory = Memory::of_setup(alloc, setup)?;
     let mut conversation = Conversation::new(alloc, memory);
-    converse(alloc, &mut conversation, requests)?;
+    take_lines(alloc, &mut conversation, requests)?;
     Ok(conversation)
 }
 

@@ -2,16 +2,17 @@
 ghost use Rattle.std.specs.Prelude.{◌≡◌, ◌++◌, ℕ, List, OnOk};
 ghost use Rattle.mm_ask.specs.EntryWords.{named, id_words, type_words, storage_words, retrieval_words};
 
+use crate::text::Pushed;
 use mm_base::StoreId;
 use mm_base::numbers::push_number;
 use mm_st15::{
     Channel, Configuration, ReportType, Row, Size, Status, Summary, Target, TimeLimit, TimeRange,
 };
-use std::alloc::{AllocError, Global};
+use std::alloc::Global;
 
 /// Writes a word and its number.
 #[tactic(auto, using(std::proofs::Common::append_assoc), unfolding(crate::specs::EntryWords::named))]
-pub(crate) fn push_named(text: &mut Vec<u8>, word: &[u8], number: u64) -> Result<(), AllocError>
+pub(crate) fn push_named(text: &mut Vec<u8>, word: &[u8], number: u64) -> Pushed
     ensures { OnOk result (text.new.items ≡ text.old.items ++ named word.now number) }
 {
     text.extend_from_slice(word)?;
@@ -20,7 +21,7 @@ pub(crate) fn push_named(text: &mut Vec<u8>, word: &[u8], number: u64) -> Result
 
 /// Writes the text of an identifier, or the hexadecimal digits of octets that are none.
 #[tactic(auto, using(crate::proofs::WordLemmas::words_of_id, crate::proofs::WordLemmas::words_of_other))]
-pub(crate) fn push_id(alloc: Global, text: &mut Vec<u8>, octets: &[u8; 8]) -> Result<(), AllocError>
+pub(crate) fn push_id(alloc: Global, text: &mut Vec<u8>, octets: &[u8; 8]) -> Pushed
     ensures { OnOk result (text.new.items ≡ text.old.items ++ id_words octets.now) }
 {
     match StoreId::of_field(*octets) {
@@ -34,7 +35,7 @@ pub(crate) fn push_id(alloc: Global, text: &mut Vec<u8>, octets: &[u8; 8]) -> Re
 
 // Writes the type of a store.
 #[tactic(auto, unfolding(crate::specs::EntryWords::type_words))]
-fn push_type(text: &mut Vec<u8>, kind: u8) -> Result<(), AllocError>
+fn push_type(text: &mut Vec<u8>, kind: u8) -> Pushed
     ensures { OnOk result (text.new.items ≡ text.old.items ++ type_words kind) }
 {
     match kind {
@@ -46,7 +47,7 @@ fn push_type(text: &mut Vec<u8>, kind: u8) -> Result<(), AllocError>
 
 // Writes whether storage is on.
 #[tactic(auto, unfolding(crate::specs::EntryWords::storage_words))]
-fn push_storage(text: &mut Vec<u8>, status: u8) -> Result<(), AllocError>
+fn push_storage(text: &mut Vec<u8>, status: u8) -> Pushed
     ensures { OnOk result (text.new.items ≡ text.old.items ++ storage_words status) }
 {
     match status {
@@ -58,7 +59,7 @@ fn push_storage(text: &mut Vec<u8>, status: u8) -> Result<(), AllocError>
 
 // Writes whether a retrieval is on.
 #[tactic(auto, unfolding(crate::specs::EntryWords::retrieval_words))]
-fn push_retrieval(text: &mut Vec<u8>, status: u8) -> Result<(), AllocError>
+fn push_retrieval(text: &mut Vec<u8>, status: u8) -> Pushed
     ensures { OnOk result (text.new.items ≡ text.old.items ++ retrieval_words status) }
 {
     match status {
@@ -74,7 +75,7 @@ pub(crate) trait InWords {
     ghost words: { Self → List ℕ };
 
     // Writes the words at the end.
-    fn push(&self, alloc: Global, text: &mut Vec<u8>) -> Result<(), AllocError>
+    fn push(&self, alloc: Global, text: &mut Vec<u8>) -> Pushed
         ensures words { OnOk result (text.new.items ≡ text.old.items ++ Self.words self.now) };
 }
 
@@ -83,7 +84,7 @@ impl InWords for Target {
 
     ghost words = { target_words };
 
-    fn push(&self, alloc: Global, text: &mut Vec<u8>) -> Result<(), AllocError> {
+    fn push(&self, alloc: Global, text: &mut Vec<u8>) -> Pushed {
         push_id(alloc, text, &self.id)
     }
 }
@@ -94,7 +95,7 @@ impl InWords for ReportType {
     ghost words = { report_type_words };
 
     #[tactic(auto, using(std::proofs::Common::append_assoc))]
-    fn push(&self, alloc: Global, text: &mut Vec<u8>) -> Result<(), AllocError> {
+    fn push(&self, alloc: Global, text: &mut Vec<u8>) -> Pushed {
         push_id(alloc, text, &self.id)?;
         push_named(text, b" apid ", u64::from(self.apid))?;
         push_named(text, b" service ", u64::from(self.service))?;
@@ -108,7 +109,7 @@ impl InWords for TimeRange {
     ghost words = { time_range_words };
 
     #[tactic(auto, using(std::proofs::Common::append_assoc))]
-    fn push(&self, alloc: Global, text: &mut Vec<u8>) -> Result<(), AllocError> {
+    fn push(&self, alloc: Global, text: &mut Vec<u8>) -> Pushed {
         push_id(alloc, text, &self.id)?;
         push_named(text, b" from ", self.from)?;
         push_named(text, b" to ", self.to)
@@ -121,7 +122,7 @@ impl InWords for TimeLimit {
     ghost words = { time_limit_words };
 
     #[tactic(auto, using(std::proofs::Common::append_assoc))]
-    fn push(&self, alloc: Global, text: &mut Vec<u8>) -> Result<(), AllocError> {
+    fn push(&self, alloc: Global, text: &mut Vec<u8>) -> Pushed {
         push_id(alloc, text, &self.id)?;
         push_named(text, b" up to ", self.limit)
     }
@@ -133,7 +134,7 @@ impl InWords for Configuration {
     ghost words = { configuration_words };
 
     #[tactic(auto, using(std::proofs::Common::append_assoc))]
-    fn push(&self, alloc: Global, text: &mut Vec<u8>) -> Result<(), AllocError> {
+    fn push(&self, alloc: Global, text: &mut Vec<u8>) -> Pushed {
         push_id(alloc, text, &self.id)?;
         push_named(text, b" size ", u64::from(self.size))?;
         push_type(text, self.kind)?;
@@ -147,7 +148,7 @@ impl InWords for Size {
     ghost words = { size_words };
 
     #[tactic(auto, using(std::proofs::Common::append_assoc))]
-    fn push(&self, alloc: Global, text: &mut Vec<u8>) -> Result<(), AllocError> {
+    fn push(&self, alloc: Global, text: &mut Vec<u8>) -> Pushed {
         push_id(alloc, text, &self.id)?;
         push_named(text, b" size ", u64::from(self.size))
     }
@@ -159,7 +160,7 @@ impl InWords for Channel {
     ghost words = { channel_words };
 
     #[tactic(auto, using(std::proofs::Common::append_assoc))]
-    fn push(&self, alloc: Global, text: &mut Vec<u8>) -> Result<(), AllocError> {
+    fn push(&self, alloc: Global, text: &mut Vec<u8>) -> Pushed {
         push_id(alloc, text, &self.id)?;
         push_named(text, b" channel ", u64::from(self.channel))
     }
@@ -171,7 +172,7 @@ impl InWords for Row {
     ghost words = { row_words };
 
     #[tactic(auto, using(std::proofs::Common::append_assoc))]
-    fn push(&self, _alloc: Global, text: &mut Vec<u8>) -> Result<(), AllocError> {
+    fn push(&self, _alloc: Global, text: &mut Vec<u8>) -> Pushed {
         push_named(text, b"apid ", u64::from(self.apid))?;
         push_named(text, b" service ", u64::from(self.service))?;
         push_named(text, b" subtype ", u64::from(self.subtype))
@@ -184,7 +185,7 @@ impl InWords for Summary {
     ghost words = { summary_words };
 
     #[tactic(auto, using(std::proofs::Common::append_assoc))]
-    fn push(&self, alloc: Global, text: &mut Vec<u8>) -> Result<(), AllocError> {
+    fn push(&self, alloc: Global, text: &mut Vec<u8>) -> Pushed {
         push_id(alloc, text, &self.id)?;
         push_named(text, b" oldest ", self.oldest)?;
         push_named(text, b" newest ", self.newest)?;
@@ -198,7 +199,7 @@ impl InWords for Status {
     ghost words = { status_words };
 
     #[tactic(auto, using(std::proofs::Common::append_assoc))]
-    fn push(&self, alloc: Global, text: &mut Vec<u8>) -> Result<(), AllocError> {
+    fn push(&self, alloc: Global, text: &mut Vec<u8>) -> Pushed {
         push_id(alloc, text, &self.id)?;
         push_storage(text, self.storage)?;
         push_retrieval(text, self.retrieval)

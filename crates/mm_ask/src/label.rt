@@ -1,26 +1,11 @@
 //! How a line of packets names its packet.
-ghost use Rattle.std.specs.Prelude.{◌≡◌, ◌==◌, ◌<◌, codes, length, position, IfSome};
+ghost use Rattle.std.specs.Prelude.{◌≡◌, codes};
 ghost use Rattle.std.specs.Option.{option_map};
-ghost use Rattle.mm_base.specs.Characters.{space};
-ghost use Rattle.mm_ask.specs.Label.{cut_word, is_first_word, is_answer, reported, labelled};
+ghost use Rattle.mm_base.specs.Lines.{cut_word};
+ghost use Rattle.mm_ask.specs.Label.{is_first_word, is_answer, reported, labelled};
 
+use mm_base::lines::cut_word;
 use mm_base::numbers::Numeral;
-
-fn first_space(text: &[u8]) -> Option<usize>
-    ensures space { result ≡ position (λ c. c == space) text.now }
-    ensures within { IfSome result (λ i. i < length text.now) }
-{
-    text.iter().position(|octet| *octet == b' ')
-}
-
-// The text up to the first space, and what follows the space.
-fn cut_word(text: &[u8]) -> Option<(&[u8], &[u8])>
-    ensures { option_map (λ parts. (parts.0.now, parts.1.now)) result ≡ cut_word text.now }
-{
-    let space = first_space(text)?;
-    let (_, rest) = text.split_at(space + 1);
-    Some((&text[..space], rest))
-}
 
 // Whether `refused` is the first word, with a space after it.
 fn says_refused(text: &[u8]) -> bool

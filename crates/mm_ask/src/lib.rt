@@ -10,6 +10,7 @@ mod fault;
 mod label;
 pub mod laws;
 mod line;
+mod lines;
 mod packet_words;
 mod read;
 mod telemetry;

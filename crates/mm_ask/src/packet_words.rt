@@ -1,15 +1,16 @@
 //! Packets, requests and reports as lines of words and numbers.
-ghost use Rattle.std.specs.Prelude.{◌≡◌, ◌<◌, ◌++◌, length, OnOk};
+ghost use Rattle.std.specs.Prelude.{◌≡◌, ◌<◌, [], ◌∷◌, ◌++◌, length, OnOk};
+ghost use Rattle.mm_base.specs.Characters.{line_feed};
 ghost use Rattle.mm_packet.specs.Spelling.{data_length};
 ghost use Rattle.mm_st15.specs.Request.{HasCount, kind_of, count_of};
 ghost use Rattle.mm_ask.specs.PacketWords.{type_word, low_word, type_fields, primary_words, secondary_words, header_line, title_line, instruction_line, instruction_lines, entry_line, entry_lines, titled_entries, titled_instructions, request_lines, control_line, report_lines};
 
 use crate::entry_words::{InWords, push_id, push_named};
-use crate::text::push_place;
+use crate::text::{Pushed, end_line, push_place};
 use mm_base::numbers::push_number;
 use mm_packet::Packet;
 use mm_st15::{Entries, Report, Request};
-use std::alloc::{AllocError, Global};
+use std::alloc::Global;
 
 // The octets of the data field, less 1.
 fn data_length(packet: &Packet) -> u64
@@ -41,7 +42,7 @@ fn low_word(packet: &Packet) -> &'static [u8]
 
 // Writes the fields that only packets of this type have.
 #[tactic(auto, using(std::proofs::Common::append_assoc, crate::proofs::HeaderLemmas::telecommand_words))]
-fn push_type_fields(text: &mut Vec<u8>, packet: &Packet) -> Result<(), AllocError>
+fn push_type_fields(text: &mut Vec<u8>, packet: &Packet) -> Pushed
     ensures { OnOk result (text.new.items ≡ text.old.items ++ type_fields packet.now.kind) }
 {
     if packet.is_telecommand() {
@@ -54,7 +55,7 @@ fn push_type_fields(text: &mut Vec<u8>, packet: &Packet) -> Result<(), AllocErro
 
 // Writes the fields of the primary header.
 #[tactic(auto, using(std::proofs::Common::append_assoc), unfolding(crate::specs::PacketWords::primary_words))]
-fn push_primary(text: &mut Vec<u8>, packet: &Packet) -> Result<(), AllocError>
+fn push_primary(text: &mut Vec<u8>, packet: &Packet) -> Pushed
     ensures { OnOk result (text.new.items ≡ text.old.items ++ primary_words packet.now) }
 {
     text.extend_from_slice(type_word(packet))?;
@@ -65,7 +66,7 @@ fn push_primary(text: &mut Vec<u8>, packet: &Packet) -> Result<(), AllocError>
 
 // Writes the fields of the secondary header.
 #[tactic(auto, using(std::proofs::Common::append_assoc), unfolding(crate::specs::PacketWords::secondary_words))]
-fn push_secondary(text: &mut Vec<u8>, packet: &Packet) -> Result<(), AllocError>
+fn push_secondary(text: &mut Vec<u8>, packet: &Packet) -> Pushed
     ensures { OnOk result (text.new.items ≡ text.old.items ++ secondary_words packet.now) }
 {
     push_named(text, low_word(packet), u64::from(packet.low()))?;
@@ -76,29 +77,32 @@ fn push_secondary(text: &mut Vec<u8>, packet: &Packet) -> Result<(), AllocError>
 
 /// Writes the line on the headers of a packet.
 #[tactic(auto, using(std::proofs::Common::append_assoc))]
-pub(crate) fn push_header_line(
-    text: &mut Vec<u8>,
-    number: u64,
-    packet: &Packet,
-) -> Result<(), AllocError>
+pub(crate) fn push_header_line(text: &mut Vec<u8>, number: u64, packet: &Packet) -> Pushed
     ensures { OnOk result (text.new.items ≡ text.old.items ++ header_line number packet.now) }
 {
     push_number(text, number)?;
     push_primary(text, packet)?;
     push_secondary(text, packet)?;
-    text.push(b'\n')?;
-    Ok(())
+    end_line(text)
 }
 
 // Writes the line that says what a request asks, or what a report tells.
 #[tactic(auto, using(std::proofs::Common::append_assoc))]
-fn push_title(text: &mut Vec<u8>, title: &[u8]) -> Result<(), AllocError>
+fn push_title(text: &mut Vec<u8>, title: &[u8]) -> Pushed
     ensures { OnOk result (text.new.items ≡ text.old.items ++ title_line title.now) }
 {
     text.extend_from_slice(b"  ")?;
     text.extend_from_slice(title)?;
-    text.push(b'\n')?;
-    Ok(())
+    end_line(text)
+}
+
+// Writes the words of an instruction or an entry, and ends its line.
+#[tactic(auto, using(std::proofs::Common::append_assoc))]
+fn push_words<E: InWords>(alloc: Global, text: &mut Vec<u8>, entry: &E) -> Pushed
+    ensures { OnOk result (text.new.items ≡ text.old.items ++ E.words entry.now ++ line_feed ∷ []) }
+{
+    entry.push(alloc, text)?;
+    end_line(text)
 }
 
 // Writes the line on an instruction.
@@ -109,16 +113,14 @@ fn push_instruction<E: InWords>(
     number: u64,
     place: u64,
     entry: &E,
-) -> Result<(), AllocError>
+) -> Pushed
     ensures { OnOk result (text.new.items
         ≡ text.old.items ++ instruction_line number place (E.words entry.now)) }
 {
     text.extend_from_slice(b"    ")?;
     push_place(text, number, place)?;
     text.push(b' ')?;
-    entry.push(alloc, text)?;
-    text.push(b'\n')?;
-    Ok(())
+    push_words(alloc, text, entry)
 }
 
 // Writes the lines on the instructions of a request, whose places count from 1.
@@ -128,7 +130,7 @@ fn push_instructions<E: InWords>(
     text: &mut Vec<u8>,
     number: u64,
     entries: &[E],
-) -> Result<(), AllocError>
+) -> Pushed
     requires { length entries.now < 256 }
     ensures { OnOk result (text.new.items
         ≡ text.old.items ++ instruction_lines E.words number 1 entries.now) }
@@ -151,7 +153,7 @@ fn push_titled<E: InWords>(
     title: &[u8],
     number: u64,
     entries: &Entries<E>,
-) -> Result<(), AllocError>
+) -> Pushed
     requires { length entries.now < 256 }
     ensures { OnOk result (text.new.items
         ≡ text.old.items ++ titled_instructions title.now E.words number entries.now) }
@@ -161,12 +163,7 @@ fn push_titled<E: InWords>(
 }
 
 /// Writes the lines on a request.
-pub(crate) fn push_request(
-    alloc: Global,
-    text: &mut Vec<u8>,
-    n: u64,
-    request: &Request,
-) -> Result<(), AllocError>
+pub(crate) fn push_request(alloc: Global, text: &mut Vec<u8>, n: u64, request: &Request) -> Pushed
     requires { HasCount (kind_of request.now) (count_of request.now) }
     ensures { OnOk result (text.new.items ≡ text.old.items ++ request_lines n request.now) }
 {
@@ -193,22 +190,16 @@ pub(crate) fn push_request(
 
 // Writes the line on an entry of a report.
 #[tactic(auto, using(std::proofs::Common::append_assoc))]
-fn push_entry<E: InWords>(alloc: Global, text: &mut Vec<u8>, entry: &E) -> Result<(), AllocError>
+fn push_entry<E: InWords>(alloc: Global, text: &mut Vec<u8>, entry: &E) -> Pushed
     ensures { OnOk result (text.new.items ≡ text.old.items ++ entry_line (E.words entry.now)) }
 {
     text.extend_from_slice(b"    ")?;
-    entry.push(alloc, text)?;
-    text.push(b'\n')?;
-    Ok(())
+    push_words(alloc, text, entry)
 }
 
 // Writes the lines on the entries of a report.
 #[tactic(auto, using(std::proofs::Common::append_assoc))]
-fn push_entries<E: InWords>(
-    alloc: Global,
-    text: &mut Vec<u8>,
-    entries: &Entries<E>,
-) -> Result<(), AllocError>
+fn push_entries<E: InWords>(alloc: Global, text: &mut Vec<u8>, entries: &Entries<E>) -> Pushed
     ensures { OnOk result (text.new.items ≡ text.old.items ++ entry_lines E.words entries.now) }
 {
     let mut rest = entries.as_slice();
@@ -226,7 +217,7 @@ fn push_titled_entries<E: InWords>(
     text: &mut Vec<u8>,
     title: &[u8],
     entries: &Entries<E>,
-) -> Result<(), AllocError>
+) -> Pushed
     ensures { OnOk result (text.new.items
         ≡ text.old.items ++ titled_entries title.now E.words entries.now) }
 {
@@ -236,22 +227,17 @@ fn push_titled_entries<E: InWords>(
 
 // Writes the line on the store whose storage control is told.
 #[tactic(auto, using(std::proofs::Common::append_assoc))]
-fn push_control(alloc: Global, text: &mut Vec<u8>, id: &[u8; 8]) -> Result<(), AllocError>
+fn push_control(alloc: Global, text: &mut Vec<u8>, id: &[u8; 8]) -> Pushed
     ensures { OnOk result (text.new.items ≡ text.old.items ++ control_line id.now) }
 {
     text.extend_from_slice(b"  storage control of ")?;
     push_id(alloc, text, id)?;
-    text.push(b'\n')?;
-    Ok(())
+    end_line(text)
 }
 
 /// Writes the lines on a report.
 #[tactic(auto, using(std::proofs::Common::append_assoc))]
-pub(crate) fn push_report(
-    alloc: Global,
-    text: &mut Vec<u8>,
-    report: &Report,
-) -> Result<(), AllocError>
+pub(crate) fn push_report(alloc: Global, text: &mut Vec<u8>, report: &Report) -> Pushed
     ensures { OnOk result (text.new.items ≡ text.old.items ++ report_lines report.now) }
 {
     match report {

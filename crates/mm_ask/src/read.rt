@@ -1,22 +1,20 @@
 //! Packets in hexadecimal digits, read in words and numbers.
 ghost use Rattle.std.specs.Prelude.{◌≡◌, ◌∷◌, ◌++◌, [], IfOk, OnOk};
 ghost use Rattle.mm_base.specs.Characters.{line_feed};
-ghost use Rattle.mm_base.specs.Lines.{text_lines};
 ghost use Rattle.mm_base.specs.Reading.{Gives};
 ghost use Rattle.mm_st15.specs.Report.{report_fault};
 ghost use Rattle.mm_st15.specs.Request.{HasCount, count_of, kind_of, request_fault};
-ghost use Rattle.mm_ask.specs.Label.{is_answer};
 ghost use Rattle.mm_ask.specs.PacketWords.{request_lines};
-ghost use Rattle.mm_ask.specs.Reads.{ShowsEach, Reads, packet_of, without_spaces};
+ghost use Rattle.mm_ask.specs.Reads.{Reads, packet_of, without_spaces};
 
 use crate::answering::Outcome;
 use crate::fault::LineFault;
 use crate::label::{is_answer, labelled};
 use crate::line::{octets_in, packet_alone};
+use crate::lines::{TakeLine, take_lines};
 use crate::packet_words::{push_header_line, push_report, push_request};
 use crate::text::push_refused_line;
 use mm_base::NoMemory;
-use mm_base::lines::split_line;
 use mm_packet::Packet;
 use mm_st15::{Report, Request};
 use std::alloc::{AllocError, Global};
@@ -61,7 +59,7 @@ fn packet_of(alloc: Global, digits: &[u8]) -> Result<Packet, LineFault>
 }
 
 impl Reading {
-    ghost use Rattle.mm_ask.specs.Reads.{nothing, with_lines, with_refused, ShowsRequest, ShowsReport, ShowsOr, ShowsPacket, ShowsResult, ShowsLine, Shows};
+    ghost use Rattle.mm_ask.specs.Reads.{nothing, with_lines, with_refused, ShowsRequest, ShowsReport, ShowsOr, ShowsPacket, ShowsResult};
 
     fn new(alloc: Global) -> Reading
         ensures { result ≡ nothing }
@@ -70,14 +68,6 @@ impl Reading {
             text: Vec::new(alloc),
             outcome: Outcome::AllDone,
         }
-    }
-
-    // Its outcome and its text.
-    fn into_parts(self) -> (Outcome, Vec<u8>)
-        ensures outcome { result.0 ≡ self.outcome }
-        ensures text { result.1.items ≡ self.text }
-    {
-        (self.outcome, self.text)
     }
 
     // Prints the first test that a line or its packet fails.
@@ -162,11 +152,14 @@ impl Reading {
             Err(fault) => self.refuse(number, fault),
         }
     }
+}
 
-    // Reads a line that is not empty.
-    fn filled_line(&mut self, alloc: Global, line: u64, octets: &[u8]) -> Result<(), NoMemory>
-        ensures { OnOk result (ShowsLine (is_answer octets.now) line octets.now self.old self.new) }
-    {
+impl TakeLine for Reading {
+    ghost use Rattle.mm_ask.specs.Reads.{Shows};
+
+    ghost leaves = { Shows };
+
+    fn take(&mut self, alloc: Global, line: u64, octets: &[u8]) -> Result<(), NoMemory> {
         if is_answer(octets) {
             self.repeat(octets)
         } else {
@@ -174,31 +167,6 @@ impl Reading {
             self.digits(alloc, number, digits)
         }
     }
-
-    // Reads a line, which has this number; an empty one is passed over.
-    fn line(&mut self, alloc: Global, line: u64, octets: &[u8]) -> Result<(), NoMemory>
-        ensures { OnOk result (Shows line octets.now self.old self.new) }
-    {
-        if octets.is_empty() {
-            Ok(())
-        } else {
-            self.filled_line(alloc, line, octets)
-        }
-    }
-}
-
-// Reads each line, in order.
-fn read_each(alloc: Global, reading: &mut Reading, packets: &[u8]) -> Result<(), NoMemory>
-    ensures { OnOk result (ShowsEach 1 (text_lines packets.now) reading.old reading.new) }
-{
-    let mut rest = packets;
-    let mut line: u64 = 1;
-    while let Some((octets, after)) = split_line(rest) {
-        reading.line(alloc, line, octets)?;
-        rest = after;
-        line += 1;
-    }
-    reading.line(alloc, line, rest)
 }
 
 /// The text that says in words and numbers what packets are, one a line in hexadecimal digits, or after the words with
@@ -207,6 +175,6 @@ pub fn read_bytes(alloc: Global, packets: &[u8]) -> Result<(Outcome, Vec<u8>), N
     ensures reads { IfOk result (λ r. Reads packets.now r.0 r.1.items) }
 {
     let mut reading = Reading::new(alloc);
-    read_each(alloc, &mut reading, packets)?;
-    Ok(reading.into_parts())
+    take_lines(alloc, &mut reading, packets)?;
+    Ok((reading.outcome, reading.text))
 }

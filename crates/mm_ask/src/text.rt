@@ -1,5 +1,6 @@
 //! The lines that are printed.
-ghost use Rattle.std.specs.Prelude.{◌≡◌, ◌++◌, OnOk};
+ghost use Rattle.std.specs.Prelude.{◌≡◌, [], ◌∷◌, ◌++◌, OnOk};
+ghost use Rattle.mm_base.specs.Characters.{line_feed};
 ghost use Rattle.mm_ask.specs.Text.{refused_text, answer_text, refused_line, answer_lines, report_line, place_text};
 
 use crate::fault::LineFault;
@@ -8,19 +9,29 @@ use mm_base::{Refusal, Refused};
 use mm_memory::Answer;
 use std::alloc::{AllocError, Global};
 
+/// Whether memory was found for what a text was to have.
+pub(crate) type Pushed = Result<(), AllocError>;
+
+/// Ends a line.
+pub(crate) fn end_line(text: &mut Vec<u8>) -> Pushed
+    ensures { OnOk result (text.new.items ≡ text.old.items ++ line_feed ∷ []) }
+{
+    text.push(b'\n')?;
+    Ok(())
+}
+
 #[tactic(auto, using(std::proofs::Common::append_assoc))]
-fn push_refused(text: &mut Vec<u8>, refusal: Refusal) -> Result<(), AllocError>
+fn push_refused(text: &mut Vec<u8>, refusal: Refusal) -> Pushed
     ensures { OnOk result (text.new.items ≡ text.old.items ++ refused_text refusal) }
 {
     text.extend_from_slice(b" refused ")?;
     push_number(text, u64::from(refusal.number()))?;
     text.push(b' ')?;
     text.extend_from_slice(refusal.name().as_bytes())?;
-    text.push(b'\n')?;
-    Ok(())
+    end_line(text)
 }
 
-fn push_answer(text: &mut Vec<u8>, answer: Answer) -> Result<(), AllocError>
+fn push_answer(text: &mut Vec<u8>, answer: Answer) -> Pushed
     ensures { OnOk result (text.new.items ≡ text.old.items ++ answer_text answer) }
 {
     match answer {
@@ -31,11 +42,7 @@ fn push_answer(text: &mut Vec<u8>, answer: Answer) -> Result<(), AllocError>
 
 /// The line on a request that is refused whole.
 #[tactic(auto, using(std::proofs::Common::append_assoc))]
-pub(crate) fn push_refused_line(
-    text: &mut Vec<u8>,
-    line: u64,
-    fault: LineFault,
-) -> Result<(), AllocError>
+pub(crate) fn push_refused_line(text: &mut Vec<u8>, line: u64, fault: LineFault) -> Pushed
     ensures { OnOk result (text.new.items ≡ text.old.items ++ refused_line line fault) }
 {
     push_number(text, line)?;
@@ -44,7 +51,7 @@ pub(crate) fn push_refused_line(
 
 /// Begins the line on an instruction with its place in the request.
 #[tactic(auto, using(std::proofs::Common::append_assoc))]
-pub(crate) fn push_place(text: &mut Vec<u8>, line: u64, place: u64) -> Result<(), AllocError>
+pub(crate) fn push_place(text: &mut Vec<u8>, line: u64, place: u64) -> Pushed
     ensures { OnOk result (text.new.items ≡ text.old.items ++ place_text line place) }
 {
     push_number(text, line)?;
@@ -54,11 +61,7 @@ pub(crate) fn push_place(text: &mut Vec<u8>, line: u64, place: u64) -> Result<()
 
 /// The lines on the instructions of a request, whose places count from 1.
 #[tactic(auto, using(std::proofs::Common::append_assoc))]
-pub(crate) fn push_answer_lines(
-    text: &mut Vec<u8>,
-    line: u64,
-    answers: &[Answer],
-) -> Result<(), AllocError>
+pub(crate) fn push_answer_lines(text: &mut Vec<u8>, line: u64, answers: &[Answer]) -> Pushed
     ensures { OnOk result (text.new.items ≡ text.old.items ++ answer_lines line 1 answers.now) }
 {
     let mut rest = answers;
@@ -79,13 +82,12 @@ pub(crate) fn push_report_line(
     text: &mut Vec<u8>,
     line: u64,
     octets: &[u8],
-) -> Result<(), AllocError>
+) -> Pushed
     ensures { OnOk result (text.new.items ≡ text.old.items ++ report_line line octets.now) }
 {
     let digits = hex::encode_upper(alloc, octets)?;
     push_number(text, line)?;
     text.extend_from_slice(b" report ")?;
     text.extend_from_slice(digits.as_bytes())?;
-    text.push(b'\n')?;
-    Ok(())
+    end_line(text)
 }

@@ -2,6 +2,7 @@ pub mod IdFields
 pub mod NumberLaws
 pub mod NumberTexts
 mod LineLemmas
+mod FileLines
 pub mod Elements
 pub mod Tests
 pub mod Pairs

@@ -1,8 +1,27 @@
--- The lines of a text.
-use Rattle.std.specs.Prelude.{ℕ, ◌==◌, List}
+-- The lines and words of a text.
+use Rattle.std.specs.Prelude.{ℕ, ◌+◌, ◌==◌, List, [], ◌∷◌, take, drop, position, Option}
 use Rattle.std.specs.List.{slice_split}
-use Rattle.mm_base.specs.Characters.{line_feed}
+use Rattle.std.specs.Option.{option_map}
+use Rattle.mm_base.specs.Characters.{line_feed, space}
 
 -- what stands between the line feeds of a text; the last of it is empty where the text ends with one
 abbrev pub text_lines : List ℕ → List (List ℕ)
 text_lines text = slice_split (λ c. c == line_feed) text
+
+-- these without an empty last one
+abbrev pub but_empty_last : List (List ℕ) → List (List ℕ)
+but_empty_last [] = []
+but_empty_last ([] ∷ []) = []
+but_empty_last (line ∷ lines) = line ∷ but_empty_last lines
+
+-- the lines of a file; the line feed of the last one may be missing
+abbrev pub file_lines : List ℕ → List (List ℕ)
+file_lines text = but_empty_last (text_lines text)
+
+-- what stands before this place, and what stands after it
+abbrev pub parts_at : List ℕ → ℕ → List ℕ × List ℕ
+parts_at text i = (take i text, drop (i + 1) text)
+
+-- the text up to the first space, and what follows the space
+abbrev pub cut_word : List ℕ → Option (List ℕ × List ℕ)
+cut_word text = option_map (parts_at text) (position (λ c. c == space) text)

@@ -1,5 +1,5 @@
 -- The records of a table balance.
-use Rattle.std.proofs.Common.{◌≡◌, ℕ, ◌+◌, ◌-◌, ◌≤◌, min, arith}
+use Rattle.std.proofs.Common.{◌-◌, arith}
 use Rattle.mm_plan.proofs.Steps.{left_step}
 use Rattle.mm_chart.specs.Table.{RecordsBalance}
 

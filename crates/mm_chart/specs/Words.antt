@@ -72,13 +72,13 @@ marked_where LimitsCount = MARKED_LIMITS.now
 marked_where _ = MARKED.now
 
 -- before one step or several
-unfoldable pub step_word : Drawn → Series → List ℕ
-step_word p x = if marks p x == 1 then said (codes "In step") else said (codes "In steps")
+unfoldable pub step_word : ℕ → List ℕ
+step_word n = if n == 1 then said (codes "In step") else said (codes "In steps")
 
 -- the steps as ranges, or their number where they are many ranges
 unfoldable pub in_steps : Drawn → Series → List ℕ
 in_steps p x =
-    if nat_le (ranges_of p x) MANY_RANGES then step_word p x ++ flat_map (range_part p x) (steps p.problem)
+    if nat_le (ranges_of p x) MANY_RANGES then step_word (marks p x) ++ flat_map (range_part p x) (steps p.problem)
     else said (codes "In the ") ++ grouped (marks p x) ++ marked_where x
 
 -- ---- why no plan loses fewer
@@ -105,14 +105,19 @@ sum_line p y bound =
 unfoldable pub why_heading : ℕ → List ℕ → List ℕ
 why_heading y bound = opened style.Heading MARGIN y ++ said WHY.now ++ bound ++ closed
 
+-- what leaves by windows, and by limits
+unfoldable pub leaving : Drawn → List ℕ
+leaving p =
+    steps_line p CountedWindow (word_line p.problem 3) (at_most (windows_sum p.problem (cut p) (counts p)) BY_WINDOWS.now) NO_WINDOWS.now
+    ++ steps_line p LimitsCount (word_line p.problem 4) (at_most (limits_sum p.problem (cut p) (counts p)) BY_LIMITS.now) NO_LIMITS.now
+
 -- what comes, less what the stores hold, less what leaves
 unfoldable pub why : Drawn → List ℕ → List ℕ
 why p bound =
     why_heading (word_line p.problem 0) bound
     ++ counted style.Plain MARGIN (word_line p.problem 1) IN_STRETCHES.now (coming_sum p.problem (cut p)) COME.now
     ++ counted style.Plain MARGIN (word_line p.problem 2) AS_ENDS.now (held_sum p.problem (cut p)) STAND.now
-    ++ steps_line p CountedWindow (word_line p.problem 3) (at_most (windows_sum p.problem (cut p) (counts p)) BY_WINDOWS.now) NO_WINDOWS.now
-    ++ steps_line p LimitsCount (word_line p.problem 4) (at_most (limits_sum p.problem (cut p) (counts p)) BY_LIMITS.now) NO_LIMITS.now
+    ++ leaving p
     ++ sum_line p (word_line p.problem 5) bound
 
 -- ---- what would help

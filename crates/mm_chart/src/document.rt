@@ -7,13 +7,16 @@ ghost use Rattle.mm_chart.specs.Charts.{head, chart, Charts};
 
 use crate::headline::push_headline;
 use crate::layout::word_line;
-use crate::pen::{push_said, push_value};
+use crate::pen::{Pushed, push_said, push_value};
 use crate::picture::Picture;
 use crate::rows::push_rows;
 use crate::words::{push_words, word_lines};
 use mm_cut::{Fault, read_sheet};
 use mm_problem::read_problem;
-use std::alloc::{AllocError, Global};
+use std::alloc::Global;
+
+/// What is made of three texts, or the first fault of them.
+pub type Result<T, E = Fault> = std::result::Result<T, E>;
 
 /// The beginning of the document, up to its height.
 pub const OPENING: &[u8] =
@@ -33,7 +36,7 @@ pub const LEGEND: &[u8] =
 
 // The first line of the document.
 #[tactic(auto, using(std::proofs::Common::append_assoc), unfolding(crate::specs::Charts::head))]
-fn push_head(text: &mut Vec<u8>, picture: &Picture) -> Result<(), AllocError>
+fn push_head(text: &mut Vec<u8>, picture: &Picture) -> Pushed
     ensures { OnOk result (text.new.items ≡ text.old.items ++ head picture.now) }
 {
     let height = word_line(picture.problem(), word_lines(picture.verdict()));
@@ -55,23 +58,9 @@ fn push_chart(alloc: Global, text: &mut Vec<u8>, picture: &Picture) -> Result<()
     Ok(())
 }
 
-/// The document of a picture: Scalable Vector Graphics (SVG) 1.1, by itself.
-pub fn draw(alloc: Global, picture: &Picture) -> Result<Vec<u8>, mm_base::NoMemory>
-    ensures { IfOk result (λ text. text.items ≡ chart picture.now) }
-{
-    let mut text = Vec::new(alloc);
-    push_chart(alloc, &mut text, picture)?;
-    Ok(text)
-}
-
 /// The chart of the plan that the plan text says, for the problem that the setup and the forecast say. The faults come
 /// in this order: of the setup, of the forecast, of the plan text, of its shape.
-pub fn chart_bytes(
-    alloc: Global,
-    setup: &[u8],
-    forecast: &[u8],
-    plan: &[u8],
-) -> Result<Vec<u8>, Fault>
+pub fn chart_bytes(alloc: Global, setup: &[u8], forecast: &[u8], plan: &[u8]) -> Result<Vec<u8>>
     ensures chart { IfOk result (λ text. Charts setup.now forecast.now plan.now text.items) }
     ensures refused { IfRefused NoMemory result (IsFaultOf setup.now forecast.now plan.now) }
 {
@@ -79,5 +68,14 @@ pub fn chart_bytes(
     let sheet = read_sheet(alloc, &problem, plan)?;
     let picture = Picture::new(alloc, problem, sheet)?;
     let text = draw(alloc, &picture)?;
+    Ok(text)
+}
+
+/// The document of a picture: Scalable Vector Graphics (SVG) 1.1, by itself.
+pub fn draw(alloc: Global, picture: &Picture) -> Result<Vec<u8>, mm_base::NoMemory>
+    ensures { IfOk result (λ text. text.items ≡ chart picture.now) }
+{
+    let mut text = Vec::new(alloc);
+    push_chart(alloc, &mut text, picture)?;
     Ok(text)
 }

@@ -5,18 +5,19 @@ ghost use Rattle.mm_chart.specs.Words.{of_all, headline_of, headline};
 
 use crate::layout::{HEADLINE_AT, MARGIN};
 use crate::pen::{
-    Style, push_closed, push_grouped, push_labelled, push_opened, push_said, push_signed_grouped,
+    Pushed, Style, push_closed, push_grouped, push_labelled, push_opened, push_said,
+    push_signed_grouped,
 };
 use crate::phrases::{NO_FEWER, ONLY_SHOWN};
 use crate::picture::Picture;
 use crate::rows::all_coming;
 use mm_base::NoMemory;
 use mm_cut::{Verdict, verdict_line};
-use std::alloc::{AllocError, Global};
+use std::alloc::Global;
 
 // Some of all blocks.
 #[tactic(auto, using(std::proofs::Common::append_assoc), unfolding(crate::specs::Words::of_all))]
-fn push_of_all(text: &mut Vec<u8>, picture: &Picture, number: u64) -> Result<(), AllocError>
+fn push_of_all(text: &mut Vec<u8>, picture: &Picture, number: u64) -> Pushed
     ensures { OnOk result (text.new.items ≡ text.old.items ++ of_all picture.now number) }
 {
     push_grouped(text, number)?;
@@ -26,7 +27,7 @@ fn push_of_all(text: &mut Vec<u8>, picture: &Picture, number: u64) -> Result<(),
 
 // The headline where no plan loses fewer.
 #[tactic(auto, using(std::proofs::Common::append_assoc), unfolding(crate::specs::Words::headline_of))]
-fn push_least(text: &mut Vec<u8>, picture: &Picture, loss: u64) -> Result<(), AllocError>
+fn push_least(text: &mut Vec<u8>, picture: &Picture, loss: u64) -> Pushed
     ensures { OnOk result (text.new.items ≡ text.old.items ++ headline_of picture.now (Least loss)) }
 {
     push_opened(text, Style::Headline, MARGIN, HEADLINE_AT)?;
@@ -37,12 +38,7 @@ fn push_least(text: &mut Vec<u8>, picture: &Picture, loss: u64) -> Result<(), Al
 
 // The headline where the cut does not show it.
 #[tactic(auto, using(std::proofs::Common::append_assoc), unfolding(crate::specs::Words::headline_of))]
-fn push_not_shown(
-    text: &mut Vec<u8>,
-    picture: &Picture,
-    loss: u64,
-    bound: i64,
-) -> Result<(), AllocError>
+fn push_not_shown(text: &mut Vec<u8>, picture: &Picture, loss: u64, bound: i64) -> Pushed
     ensures { OnOk result (text.new.items ≡ text.old.items ++ headline_of picture.now (NotShown loss bound)) }
 {
     push_opened(text, Style::Doubtful, MARGIN, HEADLINE_AT)?;

@@ -48,13 +48,16 @@ pub fn sum_words_are()
 
 /// The words of what would help.
 pub fn helping_words_are()
-    ensures heading { HELP.now ≡ codes "What would help: only these changes can lower the loss, and no change anywhere else can" }
+    ensures heading { HELP.now
+        ≡ codes "What would help: only these changes can lower the loss, and no change anywhere else can" }
     ensures windows { WIDER.now ≡ codes " a wider window." }
     ensures no_windows { NO_WIDER.now ≡ codes "No wider window." }
-    ensures limits { HIGHER.now ≡ codes " a higher limit of a channel marked there, or another channel for a store shaded there." }
+    ensures limits { HIGHER.now
+        ≡ codes " a higher limit of a channel marked there, or another channel for a store shaded there." }
     ensures no_limits { NO_HIGHER.now ≡ codes "No higher limit, and no other channel for a store." }
     ensures stores { LARGER.now ≡ codes "Larger stores:" }
-    ensures arrivals { FEWER.now ≡ codes "In the shaded stretches, fewer blocks that come, or stand there as step 1 begins." }
+    ensures arrivals { FEWER.now
+        ≡ codes "In the shaded stretches, fewer blocks that come, or stand there as step 1 begins." }
 {}
 
 /// What follows the number of steps that are too many to list.

@@ -2,17 +2,17 @@
 ghost use Rattle.std.specs.Prelude.{◌≡◌, ◌≤◌, ◌++◌, OnOk, flat_map};
 ghost use Rattle.mm_base.specs.declared.limits.TheConstants.{MAX_STEPS};
 ghost use Rattle.mm_problem.specs.Dumping.{steps};
+ghost use Rattle.mm_chart.specs.Layout.{word_line};
 ghost use Rattle.mm_chart.specs.Series.{IsSeries};
 ghost use Rattle.mm_chart.specs.Words.{is_marked, begins, ranges_of, range_first, range_last, range_part, marks, marked_where, step_word, in_steps, steps_line};
 
-use crate::layout::MARGIN;
+use crate::layout::{MARGIN, word_line};
 use crate::pen::{
-    Style, push_closed, push_grouped, push_labelled, push_opened, push_said, push_value,
+    Pushed, Style, push_closed, push_grouped, push_labelled, push_opened, push_said, push_value,
 };
 use crate::phrases::{MANY_RANGES, MARKED, MARKED_LIMITS, MARKED_PASSES, MARKED_WINDOWS};
-use crate::picture::Picture;
+use crate::picture::{Picture, one_if};
 use crate::series::Series;
-use std::alloc::AllocError;
 
 // Whether a step has a number of the series.
 fn is_marked(picture: &Picture, series: Series, step: u32) -> bool
@@ -22,24 +22,34 @@ fn is_marked(picture: &Picture, series: Series, step: u32) -> bool
     picture.amount_at(series, step) > 0
 }
 
-// How many ranges of such steps there are.
+// How many such steps there are, and how many ranges they make.
+#[derive(Clone, Copy)]
+struct Marks {
+    steps: u64,
+    ranges: u64,
+}
+
+// The marks of a series.
 #[tactic(auto, using(crate::proofs::Ranges::sum_by_next))]
-fn ranges_of(picture: &Picture, series: Series) -> u64
+fn marks_of(picture: &Picture, series: Series) -> Marks
     requires { IsSeries picture.now series }
-    ensures { result ≡ ranges_of picture.now series }
+    ensures steps { result.steps ≡ marks picture.now series }
+    ensures ranges { result.ranges ≡ ranges_of picture.now series }
 {
+    let mut steps: u64 = 0;
     let mut ranges: u64 = 0;
     for step in 1..picture.problem().steps() + 1 {
-        if is_marked(picture, series, step) && !is_marked(picture, series, step - 1) {
-            ranges += 1;
-        }
+        let here = is_marked(picture, series, step);
+        let before = is_marked(picture, series, step - 1);
+        steps += one_if(here);
+        ranges += one_if(here && !before);
     }
-    ranges
+    Marks { steps, ranges }
 }
 
 // The first step of a range, where the step before is not in it.
 #[tactic(auto, unfolding(crate::specs::Words::range_first))]
-fn push_range_first(text: &mut Vec<u8>, before: bool, step: u32) -> Result<(), AllocError>
+fn push_range_first(text: &mut Vec<u8>, before: bool, step: u32) -> Pushed
     ensures { OnOk result (text.new.items ≡ text.old.items ++ range_first before step) }
 {
     if before {
@@ -50,12 +60,7 @@ fn push_range_first(text: &mut Vec<u8>, before: bool, step: u32) -> Result<(), A
 
 // Its last step, where the step after is not in it: its number, where it has several, and a comma.
 #[tactic(auto, using(std::proofs::Common::append_assoc), unfolding(crate::specs::Words::range_last))]
-fn push_range_last(
-    text: &mut Vec<u8>,
-    before: bool,
-    after: bool,
-    step: u32,
-) -> Result<(), AllocError>
+fn push_range_last(text: &mut Vec<u8>, before: bool, after: bool, step: u32) -> Pushed
     ensures { OnOk result (text.new.items ≡ text.old.items ++ range_last before after step) }
 {
     if after {
@@ -69,12 +74,7 @@ fn push_range_last(
 
 // What a step adds to the ranges.
 #[tactic(auto, using(std::proofs::Common::append_assoc), unfolding(crate::specs::Words::range_part))]
-fn push_range_part(
-    text: &mut Vec<u8>,
-    picture: &Picture,
-    series: Series,
-    step: u32,
-) -> Result<(), AllocError>
+fn push_range_part(text: &mut Vec<u8>, picture: &Picture, series: Series, step: u32) -> Pushed
     requires series { IsSeries picture.now series }
     requires first { 1 ≤ step }
     requires last { step ≤ MAX_STEPS }
@@ -89,7 +89,7 @@ fn push_range_part(
 }
 
 #[tactic(auto, using(std::proofs::Common::append_assoc, crate::proofs::Ranges::flat_map_next))]
-fn push_ranges(text: &mut Vec<u8>, picture: &Picture, series: Series) -> Result<(), AllocError>
+fn push_ranges(text: &mut Vec<u8>, picture: &Picture, series: Series) -> Pushed
     requires { IsSeries picture.now series }
     ensures { OnOk result (text.new.items ≡ text.old.items ++ flat_map (range_part picture.now series) (steps picture.now.problem)) }
 {
@@ -97,21 +97,6 @@ fn push_ranges(text: &mut Vec<u8>, picture: &Picture, series: Series) -> Result<
         push_range_part(text, picture, series, step)?;
     }
     Ok(())
-}
-
-// How many such steps there are.
-#[tactic(auto, using(crate::proofs::Ranges::sum_by_next))]
-fn marks(picture: &Picture, series: Series) -> u64
-    requires { IsSeries picture.now series }
-    ensures { result ≡ marks picture.now series }
-{
-    let mut marks: u64 = 0;
-    for step in 1..picture.problem().steps() + 1 {
-        if is_marked(picture, series, step) {
-            marks += 1;
-        }
-    }
-    marks
 }
 
 // Where such steps are marked.
@@ -128,11 +113,10 @@ fn marked_where(series: Series) -> &'static [u8]
 
 // Before one step or several.
 #[tactic(auto, unfolding(crate::specs::Words::step_word))]
-fn push_step_word(text: &mut Vec<u8>, picture: &Picture, series: Series) -> Result<(), AllocError>
-    requires { IsSeries picture.now series }
-    ensures { OnOk result (text.new.items ≡ text.old.items ++ step_word picture.now series) }
+fn push_step_word(text: &mut Vec<u8>, steps: u64) -> Pushed
+    ensures { OnOk result (text.new.items ≡ text.old.items ++ step_word steps) }
 {
-    if marks(picture, series) == 1 {
+    if steps == 1 {
         push_said(text, b"In step")
     } else {
         push_said(text, b"In steps")
@@ -141,16 +125,17 @@ fn push_step_word(text: &mut Vec<u8>, picture: &Picture, series: Series) -> Resu
 
 // The steps as ranges, or their number where they are many ranges.
 #[tactic(auto, using(std::proofs::Common::append_assoc), unfolding(crate::specs::Words::in_steps))]
-fn push_in_steps(text: &mut Vec<u8>, picture: &Picture, series: Series) -> Result<(), AllocError>
+fn push_in_steps(text: &mut Vec<u8>, picture: &Picture, series: Series) -> Pushed
     requires { IsSeries picture.now series }
     ensures { OnOk result (text.new.items ≡ text.old.items ++ in_steps picture.now series) }
 {
-    if ranges_of(picture, series) <= MANY_RANGES {
-        push_step_word(text, picture, series)?;
+    let marks = marks_of(picture, series);
+    if marks.ranges <= MANY_RANGES {
+        push_step_word(text, marks.steps)?;
         return push_ranges(text, picture, series);
     }
     push_said(text, b"In the ")?;
-    push_grouped(text, marks(picture, series))?;
+    push_grouped(text, marks.steps)?;
     text.extend_from_slice(marked_where(series))
 }
 
@@ -160,13 +145,16 @@ pub(crate) fn push_steps_line(
     text: &mut Vec<u8>,
     picture: &Picture,
     series: Series,
-    y: u32,
+    line: u32,
     words: &[u8],
     none: &[u8],
-) -> Result<(), AllocError>
-    requires { IsSeries picture.now series }
-    ensures { OnOk result (text.new.items ≡ text.old.items ++ steps_line picture.now series y words.now none.now) }
+) -> Pushed
+    requires series { IsSeries picture.now series }
+    requires line { line ≤ 13 }
+    ensures { OnOk result (text.new.items ≡ text.old.items
+        ++ steps_line picture.now series (word_line picture.now.problem line) words.now none.now) }
 {
+    let y = word_line(picture.problem(), line);
     if picture.total(series) == 0 {
         return push_labelled(text, Style::Plain, MARGIN, y, none);
     }

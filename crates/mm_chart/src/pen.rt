@@ -14,8 +14,19 @@ use itoa::Buffer;
 use mm_base::numbers::push_number;
 use std::alloc::AllocError;
 
+/// How a line of words looks, and where it begins.
+#[derive(Clone, Copy)]
+pub(crate) struct Line {
+    pub(crate) style: Style,
+    pub(crate) x: u32,
+    pub(crate) y: u32,
+}
+
+/// What a function answers that writes: an error only where memory is refused.
+pub(crate) type Pushed = Result<(), AllocError>;
+
 /// How words look.
-#[derive(Clone, Copy, Debug, PartialEq, Eq)]
+#[derive(Clone, Copy)]
 pub enum Style {
     Headline,
     /// A headline where less is shown.
@@ -35,48 +46,6 @@ pub enum Style {
     Plain,
 }
 
-// Writes fixed words.
-#[tactic(auto, unfolding(crate::specs::Svg::said))]
-pub(crate) fn push_said(text: &mut Vec<u8>, words: &[u8]) -> Result<(), AllocError>
-    ensures { OnOk result (text.new.items ≡ text.old.items ++ said words.now) }
-{
-    text.extend_from_slice(words)
-}
-
-// Digits with a comma after each that has a whole number of thousands after it.
-fn push_separated(text: &mut Vec<u8>, digits: &[u8]) -> Result<(), AllocError>
-    ensures { OnOk result (text.new.items ≡ text.old.items ++ separated digits.now) }
-{
-    let mut rest = digits;
-    while let [digit, after @ ..] = rest {
-        text.push(*digit)?;
-        if !after.is_empty() && after.len() % 3 == 0 {
-            text.push(b',')?;
-        }
-        rest = after;
-    }
-    Ok(())
-}
-
-/// Writes a number with its thousands separated.
-pub fn push_grouped(text: &mut Vec<u8>, number: u64) -> Result<(), AllocError>
-    ensures { OnOk result (text.new.items ≡ text.old.items ++ grouped number) }
-{
-    let mut buffer = Buffer::new();
-    push_separated(text, buffer.format(number).as_bytes())
-}
-
-/// Writes a number that may be below 0.
-#[tactic(auto, using(std::proofs::Common::append_assoc))]
-pub fn push_signed_grouped(text: &mut Vec<u8>, number: i64) -> Result<(), AllocError>
-    ensures { OnOk result (text.new.items ≡ text.old.items ++ signed_grouped number) }
-{
-    if number < 0 {
-        push_said(text, b"&#8722;")?;
-    }
-    push_grouped(text, number.unsigned_abs())
-}
-
 impl Style {
     fn name(self) -> &'static [u8]
         ensures { result.now ≡ style_name self }
@@ -94,26 +63,7 @@ impl Style {
             Style::Plain => b"w",
         }
     }
-}
 
-// Writes a word and a number.
-#[tactic(auto, using(std::proofs::Common::append_assoc))]
-pub(crate) fn push_value(text: &mut Vec<u8>, word: &[u8], number: u32) -> Result<(), AllocError>
-    ensures { OnOk result (text.new.items ≡ text.old.items ++ (said word.now ++ decimal number)) }
-{
-    push_said(text, word)?;
-    push_number(text, u64::from(number))
-}
-
-/// How a line of words looks, and where it begins.
-#[derive(Clone, Copy)]
-pub(crate) struct Line {
-    pub(crate) style: Style,
-    pub(crate) x: u32,
-    pub(crate) y: u32,
-}
-
-impl Style {
     // A line in this style that begins there.
     pub(crate) fn at(self, x: u32, y: u32) -> Line
         ensures { result ≡ record { style = self; x = x; y = y } }
@@ -122,14 +72,60 @@ impl Style {
     }
 }
 
+// Writes fixed words.
+#[tactic(auto, unfolding(crate::specs::Svg::said))]
+pub(crate) fn push_said(text: &mut Vec<u8>, words: &[u8]) -> Pushed
+    ensures { OnOk result (text.new.items ≡ text.old.items ++ said words.now) }
+{
+    text.extend_from_slice(words)
+}
+
+// Digits with a comma after each that has a whole number of thousands after it.
+fn push_separated(text: &mut Vec<u8>, digits: &[u8]) -> Pushed
+    ensures { OnOk result (text.new.items ≡ text.old.items ++ separated digits.now) }
+{
+    let mut rest = digits;
+    while let [digit, after @ ..] = rest {
+        text.push(*digit)?;
+        if !after.is_empty() && after.len() % 3 == 0 {
+            text.push(b',')?;
+        }
+        rest = after;
+    }
+    Ok(())
+}
+
+/// Writes a number with its thousands separated.
+pub fn push_grouped(text: &mut Vec<u8>, number: u64) -> Pushed
+    ensures { OnOk result (text.new.items ≡ text.old.items ++ grouped number) }
+{
+    let mut buffer = Buffer::new();
+    push_separated(text, buffer.format(number).as_bytes())
+}
+
+/// Writes a number that may be below 0.
+#[tactic(auto, using(std::proofs::Common::append_assoc))]
+pub fn push_signed_grouped(text: &mut Vec<u8>, number: i64) -> Pushed
+    ensures { OnOk result (text.new.items ≡ text.old.items ++ signed_grouped number) }
+{
+    if number < 0 {
+        push_said(text, b"&#8722;")?;
+    }
+    push_grouped(text, number.unsigned_abs())
+}
+
+// Writes a word and a number.
+#[tactic(auto, using(std::proofs::Common::append_assoc))]
+pub(crate) fn push_value(text: &mut Vec<u8>, word: &[u8], number: u32) -> Pushed
+    ensures { OnOk result (text.new.items ≡ text.old.items ++ (said word.now ++ decimal number)) }
+{
+    push_said(text, word)?;
+    push_number(text, u64::from(number))
+}
+
 // Begins words at a place.
 #[tactic(auto, using(std::proofs::Common::append_assoc), unfolding(crate::specs::Svg::opened))]
-pub(crate) fn push_opened(
-    text: &mut Vec<u8>,
-    style: Style,
-    x: u32,
-    y: u32,
-) -> Result<(), AllocError>
+pub(crate) fn push_opened(text: &mut Vec<u8>, style: Style, x: u32, y: u32) -> Pushed
     ensures { OnOk result (text.new.items ≡ text.old.items ++ opened style x y) }
 {
     push_said(text, b"<text class='")?;
@@ -141,7 +137,7 @@ pub(crate) fn push_opened(
 
 // Ends them.
 #[tactic(auto, unfolding(crate::specs::Svg::closed))]
-pub(crate) fn push_closed(text: &mut Vec<u8>) -> Result<(), AllocError>
+pub(crate) fn push_closed(text: &mut Vec<u8>) -> Pushed
     ensures { OnOk result (text.new.items ≡ text.old.items ++ closed) }
 {
     push_said(text, b"</text>\n")
@@ -155,7 +151,7 @@ pub(crate) fn push_labelled(
     x: u32,
     y: u32,
     words: &[u8],
-) -> Result<(), AllocError>
+) -> Pushed
     ensures { OnOk result (text.new.items ≡ text.old.items ++ labelled style x y words.now) }
 {
     push_opened(text, style, x, y)?;
@@ -175,7 +171,7 @@ fn height_of(picture: &Picture, series: Series, whole: u64, step: u32) -> u32
 
 // To the right edge of a step.
 #[tactic(auto, unfolding(crate::specs::Svg::right_to))]
-fn push_right(text: &mut Vec<u8>, picture: &Picture, step: u32) -> Result<(), AllocError>
+fn push_right(text: &mut Vec<u8>, picture: &Picture, step: u32) -> Pushed
     requires { step ≤ MAX_STEPS }
     ensures { OnOk result (text.new.items ≡ text.old.items ++ right_to picture.now step) }
 {
@@ -185,7 +181,7 @@ fn push_right(text: &mut Vec<u8>, picture: &Picture, step: u32) -> Result<(), Al
 
 // Up or down to a line.
 #[tactic(auto, unfolding(crate::specs::Svg::line_at))]
-pub(crate) fn push_line(text: &mut Vec<u8>, y: u32) -> Result<(), AllocError>
+pub(crate) fn push_line(text: &mut Vec<u8>, y: u32) -> Pushed
     ensures { OnOk result (text.new.items ≡ text.old.items ++ line_at y) }
 {
     push_said(text, b"V")?;
@@ -194,7 +190,7 @@ pub(crate) fn push_line(text: &mut Vec<u8>, y: u32) -> Result<(), AllocError>
 
 // To a place.
 #[tactic(auto, using(std::proofs::Common::append_assoc), unfolding(crate::specs::Svg::begun))]
-pub(crate) fn push_begun(text: &mut Vec<u8>, x: u32, y: u32) -> Result<(), AllocError>
+pub(crate) fn push_begun(text: &mut Vec<u8>, x: u32, y: u32) -> Pushed
     ensures { OnOk result (text.new.items ≡ text.old.items ++ begun x y) }
 {
     push_said(text, b"M")?;
@@ -212,7 +208,7 @@ fn push_outline(
     before: u32,
     here: u32,
     step: u32,
-) -> Result<(), AllocError>
+) -> Pushed
     requires first { 1 ≤ step }
     requires last { step ≤ MAX_STEPS }
     requires high { here ≤ base }
@@ -251,12 +247,7 @@ fn series_name(series: Series) -> &'static [u8]
 
 // The outlines of all steps.
 #[tactic(auto, using(std::proofs::Common::append_assoc, crate::proofs::Ranges::flat_map_next), unfolding(crate::specs::Svg::step_outline))]
-fn push_steps(
-    text: &mut Vec<u8>,
-    picture: &Picture,
-    series: Series,
-    whole: u64,
-) -> Result<(), AllocError>
+fn push_steps(text: &mut Vec<u8>, picture: &Picture, series: Series, whole: u64) -> Pushed
     requires series { IsSeries picture.now series }
     requires placed { IsPlaced series }
     requires whole { whole ≤ 2 ^ 40 }
@@ -274,7 +265,7 @@ fn push_steps(
 
 // Begins the outline of a series.
 #[tactic(auto, using(std::proofs::Common::append_assoc), unfolding(crate::specs::Svg::path_begun))]
-fn push_path(text: &mut Vec<u8>, series: Series) -> Result<(), AllocError>
+fn push_path(text: &mut Vec<u8>, series: Series) -> Pushed
     ensures { OnOk result (text.new.items ≡ text.old.items ++ path_begun series) }
 {
     push_said(text, b"<path class='")?;
@@ -284,7 +275,7 @@ fn push_path(text: &mut Vec<u8>, series: Series) -> Result<(), AllocError>
 
 // The outline of a series over all steps.
 #[tactic(auto, using(std::proofs::Common::append_assoc), unfolding(crate::specs::Svg::outlined))]
-fn push_outlined(text: &mut Vec<u8>, picture: &Picture, series: Series) -> Result<(), AllocError>
+fn push_outlined(text: &mut Vec<u8>, picture: &Picture, series: Series) -> Pushed
     requires series { IsSeries picture.now series }
     requires placed { IsPlaced series }
     ensures { OnOk result (text.new.items ≡ text.old.items ++ outlined picture.now series) }
@@ -297,7 +288,7 @@ fn push_outlined(text: &mut Vec<u8>, picture: &Picture, series: Series) -> Resul
 
 /// Draws a series over all steps, or nothing where it has none.
 #[tactic(auto, unfolding(crate::specs::Svg::profile))]
-pub fn push_profile(text: &mut Vec<u8>, picture: &Picture, series: Series) -> Result<(), AllocError>
+pub fn push_profile(text: &mut Vec<u8>, picture: &Picture, series: Series) -> Pushed
     requires series { IsSeries picture.now series }
     requires placed { IsPlaced series }
     ensures { OnOk result (text.new.items ≡ text.old.items ++ profile picture.now series) }

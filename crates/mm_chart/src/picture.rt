@@ -57,7 +57,7 @@ fn has_cut(verdict: Verdict) -> bool
     }
 }
 
-fn one_if(test: bool) -> u64
+pub(crate) fn one_if(test: bool) -> u64
     ensures one { result ≡ one_if test }
     ensures most { result ≤ 1 }
 {

@@ -11,14 +11,13 @@ use crate::layout::{
     step_width, store_base, tick_every,
 };
 use crate::pen::{
-    Line, Style, push_begun, push_closed, push_grouped, push_labelled, push_line, push_opened,
-    push_profile, push_said, push_value,
+    Line, Pushed, Style, push_begun, push_closed, push_grouped, push_labelled, push_line,
+    push_opened, push_profile, push_said, push_value,
 };
 use crate::picture::Picture;
 use crate::series::Series;
 use mm_base::numbers::push_number;
 use mm_problem::Problem;
-use std::alloc::AllocError;
 
 // Where the words at the right of a row begin.
 fn right(problem: &Problem) -> u32
@@ -35,7 +34,7 @@ pub(crate) fn push_counted(
     front: &[u8],
     number: u64,
     back: &[u8],
-) -> Result<(), AllocError>
+) -> Pushed
     ensures { OnOk result (text.new.items ≡ text.old.items ++ counted line.style line.x line.y front.now number back.now) }
 {
     push_opened(text, line.style, line.x, line.y)?;
@@ -47,11 +46,7 @@ pub(crate) fn push_counted(
 
 // The identifier of a store: it has no character that wants to be escaped.
 #[tactic(auto, using(crate::proofs::Names::escaped_id), unfolding(crate::specs::Rows::name))]
-pub(crate) fn push_name(
-    text: &mut Vec<u8>,
-    problem: &Problem,
-    store: usize,
-) -> Result<(), AllocError>
+pub(crate) fn push_name(text: &mut Vec<u8>, problem: &Problem, store: usize) -> Pushed
     requires { store < length problem.now.rows }
     ensures { OnOk result (text.new.items ≡ text.old.items ++ name problem.now store) }
 {
@@ -61,12 +56,7 @@ pub(crate) fn push_name(
 
 // The frame of a row.
 #[tactic(auto, using(std::proofs::Common::append_assoc), unfolding(crate::specs::Rows::frame))]
-fn push_frame(
-    text: &mut Vec<u8>,
-    problem: &Problem,
-    base: u32,
-    height: u32,
-) -> Result<(), AllocError>
+fn push_frame(text: &mut Vec<u8>, problem: &Problem, base: u32, height: u32) -> Pushed
     requires { height ≤ base }
     ensures { OnOk result (text.new.items ≡ text.old.items ++ frame problem.now base height) }
 {
@@ -79,39 +69,22 @@ fn push_frame(
 }
 
 #[tactic(auto, using(std::proofs::Common::append_assoc), unfolding(crate::specs::Rows::windows_words))]
-fn push_windows_words(text: &mut Vec<u8>, picture: &Picture) -> Result<(), AllocError>
+fn push_windows_words(text: &mut Vec<u8>, picture: &Picture) -> Pushed
     ensures { OnOk result (text.new.items ≡ text.old.items ++ windows_words picture.now) }
 {
     let right = right(picture.problem());
-    push_labelled(text, Style::Name, NAME_AT, WINDOW_BASE - 18, b"windows")?;
     let most = picture.most(Series::Window);
-    push_counted(
-        text,
-        Style::Side.at(NAME_AT, WINDOW_BASE - 4),
-        b"up to ",
-        most,
-        b"",
-    )?;
     let used = picture.total(Series::Used);
-    push_counted(
-        text,
-        Style::Total.at(right, WINDOW_BASE - 18),
-        b"",
-        used,
-        b" sent",
-    )?;
     let windows = picture.total(Series::Window);
-    push_counted(
-        text,
-        Style::Total.at(right, WINDOW_BASE - 4),
-        b"of ",
-        windows,
-        b"",
-    )
+    let (upper, lower) = (WINDOW_BASE - 18, WINDOW_BASE - 4);
+    push_labelled(text, Style::Name, NAME_AT, upper, b"windows")?;
+    push_counted(text, Style::Side.at(NAME_AT, lower), b"up to ", most, b"")?;
+    push_counted(text, Style::Total.at(right, upper), b"", used, b" sent")?;
+    push_counted(text, Style::Total.at(right, lower), b"of ", windows, b"")
 }
 
 #[tactic(auto, using(std::proofs::Common::append_assoc), unfolding(crate::specs::Rows::windows_row))]
-fn push_windows_row(text: &mut Vec<u8>, picture: &Picture) -> Result<(), AllocError>
+fn push_windows_row(text: &mut Vec<u8>, picture: &Picture) -> Pushed
     ensures { OnOk result (text.new.items ≡ text.old.items ++ windows_row picture.now) }
 {
     push_profile(text, picture, Series::WindowCounts)?;
@@ -123,7 +96,7 @@ fn push_windows_row(text: &mut Vec<u8>, picture: &Picture) -> Result<(), AllocEr
 
 // The channel and its limit.
 #[tactic(auto, using(std::proofs::Common::append_assoc), unfolding(crate::specs::Rows::channel_side))]
-fn push_channel_side(text: &mut Vec<u8>, picture: &Picture, channel: u8) -> Result<(), AllocError>
+fn push_channel_side(text: &mut Vec<u8>, picture: &Picture, channel: u8) -> Pushed
     ensures { OnOk result (text.new.items ≡ text.old.items ++ channel_side picture.now channel) }
 {
     let base = channel_base(picture.problem(), channel);
@@ -137,7 +110,7 @@ fn push_channel_side(text: &mut Vec<u8>, picture: &Picture, channel: u8) -> Resu
 }
 
 #[tactic(auto, using(std::proofs::Common::append_assoc), unfolding(crate::specs::Rows::channel_row))]
-fn push_channel_row(text: &mut Vec<u8>, picture: &Picture, channel: u8) -> Result<(), AllocError>
+fn push_channel_row(text: &mut Vec<u8>, picture: &Picture, channel: u8) -> Pushed
     ensures { OnOk result (text.new.items ≡ text.old.items ++ channel_row picture.now channel) }
 {
     let base = channel_base(picture.problem(), channel);
@@ -152,7 +125,7 @@ fn push_channel_row(text: &mut Vec<u8>, picture: &Picture, channel: u8) -> Resul
 
 // Nothing for a channel without a limit.
 #[tactic(auto, unfolding(crate::specs::Rows::channel_part))]
-fn push_channel_part(text: &mut Vec<u8>, picture: &Picture, channel: u8) -> Result<(), AllocError>
+fn push_channel_part(text: &mut Vec<u8>, picture: &Picture, channel: u8) -> Pushed
     ensures { OnOk result (text.new.items ≡ text.old.items ++ channel_part picture.now channel) }
 {
     if has_limit(picture.problem(), channel) == 0 {
@@ -162,7 +135,7 @@ fn push_channel_part(text: &mut Vec<u8>, picture: &Picture, channel: u8) -> Resu
 }
 
 #[tactic(auto, using(std::proofs::Common::append_assoc, crate::proofs::Ranges::flat_map_range_more))]
-fn push_channels(text: &mut Vec<u8>, picture: &Picture) -> Result<(), AllocError>
+fn push_channels(text: &mut Vec<u8>, picture: &Picture) -> Pushed
     ensures { OnOk result (text.new.items ≡ text.old.items ++ flat_map (channel_part picture.now) (channels picture.now.problem)) }
 {
     for channel in 0..picture.problem().channels() {
@@ -195,7 +168,7 @@ pub(crate) fn all_coming(picture: &Picture) -> u64
 
 // A store's size and channel.
 #[tactic(auto, using(std::proofs::Common::append_assoc), unfolding(crate::specs::Rows::store_side))]
-fn push_store_side(text: &mut Vec<u8>, picture: &Picture, store: usize) -> Result<(), AllocError>
+fn push_store_side(text: &mut Vec<u8>, picture: &Picture, store: usize) -> Pushed
     requires store { store < length picture.now.problem.rows }
     requires few { store < MAX_STORES }
     ensures { OnOk result (text.new.items ≡ text.old.items ++ store_side picture.now store) }
@@ -209,7 +182,7 @@ fn push_store_side(text: &mut Vec<u8>, picture: &Picture, store: usize) -> Resul
 
 // What it loses.
 #[tactic(auto, unfolding(crate::specs::Rows::store_loss))]
-fn push_store_loss(text: &mut Vec<u8>, picture: &Picture, store: usize) -> Result<(), AllocError>
+fn push_store_loss(text: &mut Vec<u8>, picture: &Picture, store: usize) -> Pushed
     requires store { store < length picture.now.problem.rows }
     requires few { store < MAX_STORES }
     ensures { OnOk result (text.new.items ≡ text.old.items ++ store_loss picture.now store) }
@@ -224,7 +197,7 @@ fn push_store_loss(text: &mut Vec<u8>, picture: &Picture, store: usize) -> Resul
 }
 
 #[tactic(auto, using(std::proofs::Common::append_assoc), unfolding(crate::specs::Rows::store_words))]
-fn push_store_words(text: &mut Vec<u8>, picture: &Picture, store: usize) -> Result<(), AllocError>
+fn push_store_words(text: &mut Vec<u8>, picture: &Picture, store: usize) -> Pushed
     requires store { store < length picture.now.problem.rows }
     requires few { store < MAX_STORES }
     ensures { OnOk result (text.new.items ≡ text.old.items ++ store_words picture.now store) }
@@ -237,17 +210,12 @@ fn push_store_words(text: &mut Vec<u8>, picture: &Picture, store: usize) -> Resu
     push_store_side(text, picture, store)?;
     push_store_loss(text, picture, store)?;
     let coming = coming_to(picture, store);
-    push_counted(
-        text,
-        Style::Total.at(right(problem), base - 4),
-        b"of ",
-        coming,
-        b"",
-    )
+    let at_right = Style::Total.at(right(problem), base - 4);
+    push_counted(text, at_right, b"of ", coming, b"")
 }
 
 #[tactic(auto, using(std::proofs::Common::append_assoc), unfolding(crate::specs::Rows::store_bars))]
-fn push_store_bars(text: &mut Vec<u8>, picture: &Picture, store: usize) -> Result<(), AllocError>
+fn push_store_bars(text: &mut Vec<u8>, picture: &Picture, store: usize) -> Pushed
     requires store { store < length picture.now.problem.rows }
     requires few { store < MAX_STORES }
     ensures { OnOk result (text.new.items ≡ text.old.items ++ store_bars picture.now store) }
@@ -260,7 +228,7 @@ fn push_store_bars(text: &mut Vec<u8>, picture: &Picture, store: usize) -> Resul
 }
 
 #[tactic(auto, using(std::proofs::Common::append_assoc), unfolding(crate::specs::Rows::store_row))]
-fn push_store_row(text: &mut Vec<u8>, picture: &Picture, store: usize) -> Result<(), AllocError>
+fn push_store_row(text: &mut Vec<u8>, picture: &Picture, store: usize) -> Pushed
     requires store { store < length picture.now.problem.rows }
     requires few { store < MAX_STORES }
     ensures { OnOk result (text.new.items ≡ text.old.items ++ store_row picture.now store) }
@@ -272,7 +240,7 @@ fn push_store_row(text: &mut Vec<u8>, picture: &Picture, store: usize) -> Result
 }
 
 #[tactic(auto, using(std::proofs::Common::append_assoc, crate::proofs::Ranges::flat_map_range_more))]
-fn push_stores(text: &mut Vec<u8>, picture: &Picture) -> Result<(), AllocError>
+fn push_stores(text: &mut Vec<u8>, picture: &Picture) -> Pushed
     ensures { OnOk result (text.new.items ≡ text.old.items ++ flat_map (store_row picture.now) (stores picture.now.problem)) }
 {
     for store in 0..picture.problem().stores() {
@@ -283,7 +251,7 @@ fn push_stores(text: &mut Vec<u8>, picture: &Picture) -> Result<(), AllocError>
 
 // A line from a tick through all rows.
 #[tactic(auto, using(std::proofs::Common::append_assoc), unfolding(crate::specs::Rows::guide))]
-fn push_guide(text: &mut Vec<u8>, problem: &Problem, x: u32) -> Result<(), AllocError>
+fn push_guide(text: &mut Vec<u8>, problem: &Problem, x: u32) -> Pushed
     ensures { OnOk result (text.new.items ≡ text.old.items ++ guide problem.now x) }
 {
     push_said(text, b"<path class='i' d='")?;
@@ -294,7 +262,7 @@ fn push_guide(text: &mut Vec<u8>, problem: &Problem, x: u32) -> Result<(), Alloc
 
 // The number of a step, and a line from it.
 #[tactic(auto, using(std::proofs::Common::append_assoc), unfolding(crate::specs::Rows::numbered))]
-fn push_numbered(text: &mut Vec<u8>, problem: &Problem, step: u32, x: u32) -> Result<(), AllocError>
+fn push_numbered(text: &mut Vec<u8>, problem: &Problem, step: u32, x: u32) -> Pushed
     ensures { OnOk result (text.new.items ≡ text.old.items ++ numbered problem.now step x) }
 {
     push_opened(text, Style::Tick, x, TICK_AT)?;
@@ -305,7 +273,7 @@ fn push_numbered(text: &mut Vec<u8>, problem: &Problem, step: u32, x: u32) -> Re
 
 // The number of a step, where a tick is due.
 #[tactic(auto, using(std::proofs::Common::append_assoc), unfolding(crate::specs::Rows::tick))]
-fn push_tick(text: &mut Vec<u8>, picture: &Picture, step: u32) -> Result<(), AllocError>
+fn push_tick(text: &mut Vec<u8>, picture: &Picture, step: u32) -> Pushed
     requires first { 1 ≤ step }
     requires last { step ≤ MAX_STEPS }
     ensures { OnOk result (text.new.items ≡ text.old.items ++ tick picture.now step) }
@@ -319,7 +287,7 @@ fn push_tick(text: &mut Vec<u8>, picture: &Picture, step: u32) -> Result<(), All
 }
 
 #[tactic(auto, using(std::proofs::Common::append_assoc, crate::proofs::Ranges::flat_map_next))]
-fn push_ticks(text: &mut Vec<u8>, picture: &Picture) -> Result<(), AllocError>
+fn push_ticks(text: &mut Vec<u8>, picture: &Picture) -> Pushed
     ensures { OnOk result (text.new.items ≡ text.old.items ++ flat_map (tick picture.now) (steps picture.now.problem)) }
 {
     for step in 1..picture.problem().steps() + 1 {
@@ -330,7 +298,7 @@ fn push_ticks(text: &mut Vec<u8>, picture: &Picture) -> Result<(), AllocError>
 
 /// Writes the ticks, and the rows of the windows, the channels with a limit, and the stores.
 #[tactic(auto, using(std::proofs::Common::append_assoc), unfolding(crate::specs::Rows::rows))]
-pub fn push_rows(text: &mut Vec<u8>, picture: &Picture) -> Result<(), AllocError>
+pub fn push_rows(text: &mut Vec<u8>, picture: &Picture) -> Pushed
     ensures { OnOk result (text.new.items ≡ text.old.items ++ rows picture.now) }
 {
     push_labelled(text, Style::Side, NAME_AT, TICK_AT, b"step")?;

@@ -11,7 +11,7 @@ use mm_problem::Problem;
 use std::alloc::Global;
 
 /// A stretch with the place and the channel of its store.
-#[derive(Clone, Copy, Debug, PartialEq, Eq)]
+#[derive(Clone, Copy, Debug)]
 pub struct Shade {
     pub store: usize,
     pub channel: u8,

@@ -7,14 +7,26 @@ ghost use Rattle.mm_problem.specs.Dumping.{steps};
 ghost use Rattle.mm_plan.specs.Table.{amount, HasShape};
 ghost use Rattle.mm_chart.specs.Table.{dumped, next_cell, place_cells, volume_cells, record_of, step_records, table, IsTableOf, IsSimulation};
 
+use crate::document::Result;
+use crate::pen::Pushed;
 use mm_base::numbers::push_number;
-use mm_cut::{Fault, read_sheet};
+use mm_cut::read_sheet;
 use mm_plan::{Plan, Simulated, simulate};
 use mm_problem::{Problem, read_problem};
-use std::alloc::{AllocError, Global};
+use std::alloc::Global;
+
+/// A plan for a problem, and what it does to the stores.
+#[derive(Drop)]
+struct Course<'a> {
+    problem: &'a Problem,
+    plan: &'a Plan,
+    volumes: Simulated,
+    ghost shape: { HasShape problem.now plan.now },
+    ghost are_volumes: { IsSimulation problem.now (amount plan.now) volumes },
+}
 
 // A cell after another of its record.
-fn push_next(text: &mut Vec<u8>, cell: &[u8]) -> Result<(), AllocError>
+fn push_next(text: &mut Vec<u8>, cell: &[u8]) -> Pushed
     ensures { OnOk result (text.new.items ≡ text.old.items ++ next_cell cell.now) }
 {
     text.push(b',')?;
@@ -22,7 +34,7 @@ fn push_next(text: &mut Vec<u8>, cell: &[u8]) -> Result<(), AllocError>
 }
 
 // A number after another cell of its record.
-fn push_next_number(text: &mut Vec<u8>, number: u32) -> Result<(), AllocError>
+fn push_next_number(text: &mut Vec<u8>, number: u32) -> Pushed
     ensures { OnOk result (text.new.items ≡ text.old.items ++ next_cell (decimal number)) }
 {
     text.push(b',')?;
@@ -31,12 +43,7 @@ fn push_next_number(text: &mut Vec<u8>, number: u32) -> Result<(), AllocError>
 
 // The cells that say which step and which store it is.
 #[tactic(auto, using(std::proofs::Common::append_assoc), unfolding(crate::specs::Table::place_cells))]
-fn push_place(
-    text: &mut Vec<u8>,
-    problem: &Problem,
-    step: u32,
-    store: usize,
-) -> Result<(), AllocError>
+fn push_place(text: &mut Vec<u8>, problem: &Problem, step: u32, store: usize) -> Pushed
     requires store { store < length problem.now.rows }
     requires first { 1 ≤ step }
     requires last { step ≤ length problem.now.windows }
@@ -49,26 +56,19 @@ fn push_place(
 }
 
 // What a plan dumps from a store in a step.
-fn dumped(problem: &Problem, plan: &Plan, volumes: &Simulated, step: u32, store: usize) -> u32
-    requires shape { HasShape problem.now plan.now }
-    requires volumes { IsSimulation problem.now (amount plan.now) volumes.now }
-    requires store { store < length problem.now.rows }
+fn dumped(course: &Course<'_>, step: u32, store: usize) -> u32
+    requires store { store < length course.now.problem.now.rows }
     requires first { 1 ≤ step }
-    requires last { step ≤ length problem.now.windows }
-    ensures { result ≡ dumped problem.now (amount plan.now) store step }
+    requires last { step ≤ length course.now.problem.now.windows }
+    ensures { result ≡ dumped course.now.problem.now (amount course.now.plan.now) store step }
 {
-    plan.amount(store, step).min(volumes.written(store, step))
+    let stands = course.volumes.written(store, step);
+    course.plan.amount(store, step).min(stands)
 }
 
 // The cells of a record that say what happens in the step.
 #[tactic(auto, using(std::proofs::Common::append_assoc), unfolding(crate::specs::Table::volume_cells))]
-fn push_volumes(
-    text: &mut Vec<u8>,
-    arrived: u32,
-    lost: u32,
-    dumped: u32,
-    held: u32,
-) -> Result<(), AllocError>
+fn push_volumes(text: &mut Vec<u8>, arrived: u32, lost: u32, dumped: u32, held: u32) -> Pushed
     ensures { OnOk result (text.new.items ≡ text.old.items ++ volume_cells arrived lost dumped held) }
 {
     push_next_number(text, arrived)?;
@@ -81,67 +81,43 @@ fn push_volumes(
 
 // What a step does to a store.
 #[tactic(auto, using(std::proofs::Common::append_assoc), unfolding(crate::specs::Table::record_of))]
-fn push_record(
-    text: &mut Vec<u8>,
-    problem: &Problem,
-    plan: &Plan,
-    volumes: &Simulated,
-    step: u32,
-    store: usize,
-) -> Result<(), AllocError>
-    requires shape { HasShape problem.now plan.now }
-    requires volumes { IsSimulation problem.now (amount plan.now) volumes.now }
-    requires store { store < length problem.now.rows }
+fn push_record(text: &mut Vec<u8>, course: &Course<'_>, step: u32, store: usize) -> Pushed
+    requires store { store < length course.now.problem.now.rows }
     requires first { 1 ≤ step }
-    requires last { step ≤ length problem.now.windows }
+    requires last { step ≤ length course.now.problem.now.windows }
     ensures { OnOk result (text.new.items ≡ text.old.items
-        ++ record_of problem.now (amount plan.now) step store) }
+        ++ record_of course.now.problem.now (amount course.now.plan.now) step store) }
 {
-    push_place(text, problem, step, store)?;
-    let arrived = problem.arrivals(store, step);
-    let lost = volumes.lost(store, step);
-    let dumped = dumped(problem, plan, volumes, step, store);
-    let held = volumes.left(store, step);
+    push_place(text, course.problem, step, store)?;
+    let arrived = course.problem.arrivals(store, step);
+    let lost = course.volumes.lost(store, step);
+    let dumped = dumped(course, step, store);
+    let held = course.volumes.left(store, step);
     push_volumes(text, arrived, lost, dumped, held)
 }
 
 // The records of a step.
 #[tactic(auto, using(std::proofs::Common::append_assoc, crate::proofs::Ranges::flat_map_range_more), unfolding(crate::specs::Table::step_records))]
-fn push_step(
-    text: &mut Vec<u8>,
-    problem: &Problem,
-    plan: &Plan,
-    volumes: &Simulated,
-    step: u32,
-) -> Result<(), AllocError>
-    requires shape { HasShape problem.now plan.now }
-    requires volumes { IsSimulation problem.now (amount plan.now) volumes.now }
+fn push_step(text: &mut Vec<u8>, course: &Course<'_>, step: u32) -> Pushed
     requires first { 1 ≤ step }
-    requires last { step ≤ length problem.now.windows }
+    requires last { step ≤ length course.now.problem.now.windows }
     ensures { OnOk result (text.new.items ≡ text.old.items
-        ++ step_records problem.now (amount plan.now) step) }
+        ++ step_records course.now.problem.now (amount course.now.plan.now) step) }
 {
-    for store in 0..problem.stores() {
-        push_record(text, problem, plan, volumes, step, store)?;
+    for store in 0..course.problem.stores() {
+        push_record(text, course, step, store)?;
     }
     Ok(())
 }
 
 // The records of all steps.
 #[tactic(auto, using(std::proofs::Common::append_assoc, crate::proofs::Ranges::flat_map_next))]
-fn push_steps(
-    text: &mut Vec<u8>,
-    problem: &Problem,
-    plan: &Plan,
-    volumes: &Simulated,
-) -> Result<(), AllocError>
-    requires shape { HasShape problem.now plan.now }
-    requires volumes { IsSimulation problem.now (amount plan.now) volumes.now }
+fn push_steps(text: &mut Vec<u8>, course: &Course<'_>) -> Pushed
     ensures { OnOk result (text.new.items ≡ text.old.items
-        ++ flat_map (step_records problem.now (amount plan.now)) (steps problem.now)) }
+        ++ flat_map (step_records course.now.problem.now (amount course.now.plan.now)) (steps course.now.problem.now)) }
 {
-    for step in 1..problem.steps() + 1 {
-        push_step(text, problem, plan, volumes, step)?;
+    for step in 1..course.problem.steps() + 1 {
+        push_step(text, course, step)?;
     }
     Ok(())
 }
@@ -153,20 +129,20 @@ fn table_of(alloc: Global, problem: &Problem, plan: &Plan) -> Result<Vec<u8>, mm
     ensures { IfOk result (λ text. text.items ≡ table problem.now (amount plan.now)) }
 {
     let volumes = simulate(alloc, problem, plan)?;
+    let course = Course {
+        problem,
+        plan,
+        volumes,
+    };
     let mut text = Vec::new(alloc);
     text.extend_from_slice(b"step,window,store,arrived,lost,dumped,held\n")?;
-    push_steps(&mut text, problem, plan, &volumes)?;
+    push_steps(&mut text, &course)?;
     Ok(text)
 }
 
 /// The table of the plan that the plan text says, for the problem that the setup and the forecast say: comma separated
 /// values, a header and a record for each step and store. The faults come in the order of `chart_bytes`.
-pub fn table_bytes(
-    alloc: Global,
-    setup: &[u8],
-    forecast: &[u8],
-    plan: &[u8],
-) -> Result<Vec<u8>, Fault>
+pub fn table_bytes(alloc: Global, setup: &[u8], forecast: &[u8], plan: &[u8]) -> Result<Vec<u8>>
     ensures table { IfOk result (λ text. IsTableOf setup.now forecast.now plan.now text.items) }
     ensures refused { IfRefused NoMemory result (IsFaultOf setup.now forecast.now plan.now) }
 {

@@ -1,14 +1,15 @@
 //! What a chart says in words: why no plan loses fewer, and what would help.
 ghost use Rattle.std.specs.Prelude.{◌≡◌, ◌<◌, ◌≤◌, ◌^◌, ◌++◌, ◌∷◌, [], IfOk, OnOk, length, codes, flat_map};
 ghost use Rattle.mm_problem.specs.Dumping.{stores};
-ghost use Rattle.mm_cut.specs.declared.verdict.Verdict.TheVariants.{NotShown, Least};
-ghost use Rattle.mm_chart.specs.Svg.{said, grouped, closed};
-ghost use Rattle.mm_chart.specs.Words.{why_heading, words_of, at_most, sum_line, why, stretched, broken, stretched_at, stores_line, help, words, word_lines};
+ghost use Rattle.mm_cut.specs.declared.verdict.Verdict.TheVariants.{Least};
+ghost use Rattle.mm_chart.specs.Svg.{said, grouped, signed_grouped, closed};
+ghost use Rattle.mm_chart.specs.Words.{why_heading, words_of, at_most, sum_line, leaving, why, stretched, broken, stretched_at, stores_line, help, words, word_lines};
 
 use crate::layout::{LINE_PITCH, MARGIN, word_line};
 use crate::marked::push_steps_line;
 use crate::pen::{
-    Style, push_closed, push_grouped, push_labelled, push_opened, push_said, push_signed_grouped,
+    Pushed, Style, push_closed, push_grouped, push_labelled, push_opened, push_said,
+    push_signed_grouped,
 };
 use crate::phrases::{
     AS_ENDS, AT_LEAST, BY_LIMITS, BY_WINDOWS, COME, FEWER, HELP, HIGHER, IN_STRETCHES, INDENT,
@@ -22,7 +23,7 @@ use std::alloc::{AllocError, Global};
 
 // What leaves at most.
 #[tactic(auto, using(std::proofs::Common::append_assoc), unfolding(crate::specs::Words::at_most))]
-fn push_at_most(text: &mut Vec<u8>, number: u64, back: &[u8]) -> Result<(), AllocError>
+fn push_at_most(text: &mut Vec<u8>, number: u64, back: &[u8]) -> Pushed
     ensures { OnOk result (text.new.items ≡ text.old.items ++ at_most number back.now) }
 {
     push_said(text, b" at most ")?;
@@ -41,7 +42,7 @@ fn at_most(alloc: Global, number: u64, back: &[u8]) -> Result<Vec<u8>, AllocErro
 
 // A number that is taken away.
 #[tactic(auto, using(std::proofs::Common::append_assoc))]
-fn push_less(text: &mut Vec<u8>, number: u64) -> Result<(), AllocError>
+fn push_less(text: &mut Vec<u8>, number: u64) -> Pushed
     ensures { OnOk result (text.new.items ≡ text.old.items ++ (said (codes " &#8722; ") ++ grouped number)) }
 {
     push_said(text, b" &#8722; ")?;
@@ -50,12 +51,7 @@ fn push_less(text: &mut Vec<u8>, number: u64) -> Result<(), AllocError>
 
 // The sum.
 #[tactic(auto, using(std::proofs::Common::append_assoc), unfolding(crate::specs::Words::sum_line))]
-fn push_sum_line(
-    text: &mut Vec<u8>,
-    picture: &Picture,
-    y: u32,
-    bound: &[u8],
-) -> Result<(), AllocError>
+fn push_sum_line(text: &mut Vec<u8>, picture: &Picture, y: u32, bound: &[u8]) -> Pushed
     ensures { OnOk result (text.new.items ≡ text.old.items ++ sum_line picture.now y bound.now) }
 {
     push_opened(text, Style::Plain, MARGIN, y)?;
@@ -69,7 +65,7 @@ fn push_sum_line(
 
 // What is left.
 #[tactic(auto, using(std::proofs::Common::append_assoc))]
-fn push_result(text: &mut Vec<u8>, bound: &[u8]) -> Result<(), AllocError>
+fn push_result(text: &mut Vec<u8>, bound: &[u8]) -> Pushed
     ensures { OnOk result (text.new.items ≡ text.old.items
         ++ (said (codes " = ") ++ bound.now ++ said AT_LEAST.now ++ closed)) }
 {
@@ -81,7 +77,7 @@ fn push_result(text: &mut Vec<u8>, bound: &[u8]) -> Result<(), AllocError>
 
 // What is to be shown.
 #[tactic(auto, using(std::proofs::Common::append_assoc), unfolding(crate::specs::Words::why_heading))]
-fn push_why_heading(text: &mut Vec<u8>, y: u32, bound: &[u8]) -> Result<(), AllocError>
+fn push_why_heading(text: &mut Vec<u8>, y: u32, bound: &[u8]) -> Pushed
     ensures { OnOk result (text.new.items ≡ text.old.items ++ why_heading y bound.now) }
 {
     push_opened(text, Style::Heading, MARGIN, y)?;
@@ -90,57 +86,37 @@ fn push_why_heading(text: &mut Vec<u8>, y: u32, bound: &[u8]) -> Result<(), Allo
     push_closed(text)
 }
 
+// What leaves by windows, and by limits.
+#[tactic(auto, using(std::proofs::Common::append_assoc), unfolding(crate::specs::Words::leaving))]
+fn push_leaving(alloc: Global, text: &mut Vec<u8>, picture: &Picture) -> Pushed
+    ensures { OnOk result (text.new.items ≡ text.old.items ++ leaving picture.now) }
+{
+    let parts = picture.parts();
+    let words = at_most(alloc, parts.windows, BY_WINDOWS)?;
+    push_steps_line(text, picture, Series::CountedWindow, 3, &words, NO_WINDOWS)?;
+    let words = at_most(alloc, parts.limits, BY_LIMITS)?;
+    push_steps_line(text, picture, Series::LimitsCount, 4, &words, NO_LIMITS)
+}
+
 // What comes, less what the stores hold, less what leaves.
 #[tactic(auto, using(std::proofs::Common::append_assoc), unfolding(crate::specs::Words::why))]
-fn push_why(
-    alloc: Global,
-    text: &mut Vec<u8>,
-    picture: &Picture,
-    bound: &[u8],
-) -> Result<(), AllocError>
+fn push_why(alloc: Global, text: &mut Vec<u8>, picture: &Picture, bound: &[u8]) -> Pushed
     ensures { OnOk result (text.new.items ≡ text.old.items ++ why picture.now bound.now) }
 {
     let problem = picture.problem();
     let parts = picture.parts();
-    let windows = at_most(alloc, parts.windows, BY_WINDOWS)?;
-    let limits = at_most(alloc, parts.limits, BY_LIMITS)?;
     push_why_heading(text, word_line(problem, 0), bound)?;
-    push_counted(
-        text,
-        Style::Plain.at(MARGIN, word_line(problem, 1)),
-        IN_STRETCHES,
-        parts.coming,
-        COME,
-    )?;
-    push_counted(
-        text,
-        Style::Plain.at(MARGIN, word_line(problem, 2)),
-        AS_ENDS,
-        parts.held,
-        STAND,
-    )?;
-    push_steps_line(
-        text,
-        picture,
-        Series::CountedWindow,
-        word_line(problem, 3),
-        windows.as_slice(),
-        NO_WINDOWS,
-    )?;
-    push_steps_line(
-        text,
-        picture,
-        Series::LimitsCount,
-        word_line(problem, 4),
-        limits.as_slice(),
-        NO_LIMITS,
-    )?;
+    let come_at = Style::Plain.at(MARGIN, word_line(problem, 1));
+    push_counted(text, come_at, IN_STRETCHES, parts.coming, COME)?;
+    let stand_at = Style::Plain.at(MARGIN, word_line(problem, 2));
+    push_counted(text, stand_at, AS_ENDS, parts.held, STAND)?;
+    push_leaving(alloc, text, picture)?;
     push_sum_line(text, picture, word_line(problem, 5), bound)
 }
 
 // The identifier of a store with a stretch.
 #[tactic(auto, using(std::proofs::Common::append_assoc), unfolding(crate::specs::Words::stretched))]
-fn push_stretched(text: &mut Vec<u8>, picture: &Picture, store: usize) -> Result<(), AllocError>
+fn push_stretched(text: &mut Vec<u8>, picture: &Picture, store: usize) -> Pushed
     requires { store < length picture.now.problem.rows }
     ensures { OnOk result (text.new.items ≡ text.old.items ++ stretched picture.now store) }
 {
@@ -153,7 +129,7 @@ fn push_stretched(text: &mut Vec<u8>, picture: &Picture, store: usize) -> Result
 
 // A new line, before the ninth store.
 #[tactic(auto, using(std::proofs::Common::append_assoc), unfolding(crate::specs::Words::broken))]
-fn push_broken(text: &mut Vec<u8>, y: u32, store: usize) -> Result<(), AllocError>
+fn push_broken(text: &mut Vec<u8>, y: u32, store: usize) -> Pushed
     requires { y < 2 ^ 20 }
     ensures { OnOk result (text.new.items ≡ text.old.items ++ broken y store) }
 {
@@ -166,12 +142,7 @@ fn push_broken(text: &mut Vec<u8>, y: u32, store: usize) -> Result<(), AllocErro
 
 // The identifier of a store with a stretch, on a line of 8 stores.
 #[tactic(auto, using(std::proofs::Common::append_assoc), unfolding(crate::specs::Words::stretched_at))]
-fn push_stretched_at(
-    text: &mut Vec<u8>,
-    picture: &Picture,
-    y: u32,
-    store: usize,
-) -> Result<(), AllocError>
+fn push_stretched_at(text: &mut Vec<u8>, picture: &Picture, y: u32, store: usize) -> Pushed
     requires store { store < length picture.now.problem.rows }
     requires height { y < 2 ^ 20 }
     ensures { OnOk result (text.new.items ≡ text.old.items ++ stretched_at picture.now y store) }
@@ -181,7 +152,7 @@ fn push_stretched_at(
 }
 
 #[tactic(auto, using(std::proofs::Common::append_assoc, crate::proofs::Ranges::flat_map_range_more))]
-fn push_all_stretched(text: &mut Vec<u8>, picture: &Picture, y: u32) -> Result<(), AllocError>
+fn push_all_stretched(text: &mut Vec<u8>, picture: &Picture, y: u32) -> Pushed
     requires { y < 2 ^ 20 }
     ensures { OnOk result (text.new.items ≡ text.old.items ++ flat_map (stretched_at picture.now y) (stores picture.now.problem)) }
 {
@@ -193,7 +164,7 @@ fn push_all_stretched(text: &mut Vec<u8>, picture: &Picture, y: u32) -> Result<(
 
 // The stores that have a stretch.
 #[tactic(auto, using(std::proofs::Common::append_assoc), unfolding(crate::specs::Words::stores_line))]
-fn push_stores_line(text: &mut Vec<u8>, picture: &Picture, y: u32) -> Result<(), AllocError>
+fn push_stores_line(text: &mut Vec<u8>, picture: &Picture, y: u32) -> Pushed
     requires { y < 2 ^ 20 }
     ensures { OnOk result (text.new.items ≡ text.old.items ++ stores_line picture.now y) }
 {
@@ -205,39 +176,20 @@ fn push_stores_line(text: &mut Vec<u8>, picture: &Picture, y: u32) -> Result<(),
 
 // What the cut counts: nothing else can lower the loss.
 #[tactic(auto, using(std::proofs::Common::append_assoc), unfolding(crate::specs::Words::help))]
-fn push_help(text: &mut Vec<u8>, picture: &Picture) -> Result<(), AllocError>
+fn push_help(text: &mut Vec<u8>, picture: &Picture) -> Pushed
     ensures { OnOk result (text.new.items ≡ text.old.items ++ help picture.now) }
 {
     let problem = picture.problem();
     push_labelled(text, Style::Heading, MARGIN, word_line(problem, 7), HELP)?;
-    push_steps_line(
-        text,
-        picture,
-        Series::WindowCounts,
-        word_line(problem, 8),
-        WIDER,
-        NO_WIDER,
-    )?;
-    push_steps_line(
-        text,
-        picture,
-        Series::LimitsCount,
-        word_line(problem, 9),
-        HIGHER,
-        NO_HIGHER,
-    )?;
+    push_steps_line(text, picture, Series::WindowCounts, 8, WIDER, NO_WIDER)?;
+    push_steps_line(text, picture, Series::LimitsCount, 9, HIGHER, NO_HIGHER)?;
     push_labelled(text, Style::Plain, MARGIN, word_line(problem, 10), FEWER)?;
     push_stores_line(text, picture, word_line(problem, 11))
 }
 
 // The sum and the help of a plan that loses least.
 #[tactic(auto, using(std::proofs::Common::append_assoc), unfolding(crate::specs::Words::words_of))]
-fn push_least_words(
-    alloc: Global,
-    text: &mut Vec<u8>,
-    picture: &Picture,
-    loss: u64,
-) -> Result<(), AllocError>
+fn push_least_words(alloc: Global, text: &mut Vec<u8>, picture: &Picture, loss: u64) -> Pushed
     ensures { OnOk result (text.new.items ≡ text.old.items ++ words_of picture.now (Least loss)) }
 {
     if loss == 0 {
@@ -250,15 +202,8 @@ fn push_least_words(
 }
 
 // The sum where the cut does not show that no plan loses fewer.
-#[tactic(auto, unfolding(crate::specs::Words::words_of))]
-fn push_other_words(
-    alloc: Global,
-    text: &mut Vec<u8>,
-    picture: &Picture,
-    loss: u64,
-    bound: i64,
-) -> Result<(), AllocError>
-    ensures { OnOk result (text.new.items ≡ text.old.items ++ words_of picture.now (NotShown loss bound)) }
+fn push_other_words(alloc: Global, text: &mut Vec<u8>, picture: &Picture, bound: i64) -> Pushed
+    ensures { OnOk result (text.new.items ≡ text.old.items ++ why picture.now (signed_grouped bound)) }
 {
     let mut number = Vec::new(alloc);
     push_signed_grouped(&mut number, bound)?;
@@ -267,16 +212,12 @@ fn push_other_words(
 
 /// Writes why no plan loses fewer than the cut's bound, and what would help.
 #[tactic(auto, unfolding(crate::specs::Words::words_of))]
-pub(crate) fn push_words(
-    alloc: Global,
-    text: &mut Vec<u8>,
-    picture: &Picture,
-) -> Result<(), AllocError>
+pub(crate) fn push_words(alloc: Global, text: &mut Vec<u8>, picture: &Picture) -> Pushed
     ensures { OnOk result (text.new.items ≡ text.old.items ++ words picture.now) }
 {
     match picture.verdict() {
         Verdict::Least(loss) => push_least_words(alloc, text, picture, loss),
-        Verdict::NotShown { loss, bound } => push_other_words(alloc, text, picture, loss, bound),
+        Verdict::NotShown { bound, .. } => push_other_words(alloc, text, picture, bound),
         _ => Ok(()),
     }
 }

@@ -1,18 +1,19 @@
 -- What is read spells the words, without the first `--`.
-use Rattle.std.proofs.Common.{◌≡◌, ◌∙◌, ◌||◌, ◌++◌, ℕ, Bool, cond, map, not, true, false, true≢false, refl, sym, ap, subst, List, [], ◌∷◌, Option, Some, None, is_some, codes}
+use Rattle.std.proofs.Common.{◌≡◌, ◌∙◌, ◌||◌, ◌++◌, ℕ, Bool, cond, map, not, true, false, true≢false, refl, sym, ap, subst, List, [], ◌∷◌, Option, Some, None, is_some, codes, append_assoc}
 use Rattle.std.specs.List.{find, fold, list_all, list_any}
 use Rattle.std.specs.Option.{option_map, option_map_or, unwrap_or}
 use Rattle.std.specs.Str.{bytes_eq}
+use Rattle.std.proofs.lemmas.List.{append-nil}
 use Rattle.std.proofs.lemmas.Slice.Eq.{bytes_eq-Decides}
 use Rattle.clap.specs.Faults.{entered_fault, fault_of, is_simple_and_free, level_fault, turn_fault, walk_fault}
 use Rattle.clap.specs.Walk.{Names, Rule, Text, Walk, answers_to, arg_by_long, arg_by_short, finished, has_long, has_short, idle, nothing_held, rows_after, subcommand_met, trailing, walk, walk_from, walked}
 use Rattle.clap.specs.Simple.{App, HasMatchesOf, entered, filled, filled_from, help_rule, index_after, is_simple, subcommand_of, subcommand_rows_of}
 use Rattle.clap.specs.declared.parser.matches.ArgMatches.{ArgMatches}
-use Rattle.mm_command_line.specs.Commands.{Form, ask, chart, check, file_rule, fly, line_found, line_read, names_read, plan, read, run, table, tool}
+use Rattle.mm_command_line.specs.Commands.{Form, commands, file_rule, line_found, line_read, names_read, tool}
 use Rattle.mm_command_line.specs.Lines.{before_dashes, is_flag, without_dashes}
 use Rattle.mm_command_line.proofs.Entering.{built_tool, rules, tool_enters, tool_simple, walk_is, words_known}
 use Rattle.mm_command_line.proofs.Exact.{HasOnlyHelp, IsHelp, all_placed, dashes, help, if_help, name, no_fault, or_else_none, turn, turn_of, walk_ends, walked_met}
-use Rattle.mm_command_line.proofs.Taking.{IsCommandOf, has_ask, has_chart, has_check, has_fly, has_plan, has_read, has_run, has_table, leaf, line_known, reads_ask, reads_check, reads_fly, reads_plan, reads_read, reads_run, rows_found}
+use Rattle.mm_command_line.proofs.Taking.{Counts, Each, IsCommandOf, has_each, leaf, line_known, rows_found}
 use Rattle.mm_command_line.proofs.Walking.{IsReady}
 
 -- ---- how many words a command takes
@@ -24,56 +25,18 @@ same_names : (a b : List Text) → Some a ≡ Some b → b ≡ a
 same_names a b e = sym (ap (λ o. unwrap_or o a) e)
 
 -- where each word has a file, and each file a word, the words that are found are those that were put
-IsCounted : List Text → Type 0
-IsCounted ids = (word : Text) (names found : List Text) → all_placed (leaf (word, ids)).rules (walk_from nothing_held) names ≡ true
-    → names_read ids (rows_found (word, ids) names) ≡ Some found → found ≡ names
-
-counts_plan : IsCounted plan.1
-unfolding IsCounted
-counts_plan word [] found all e = absurd (not_found found e)
-counts_plan word (a ∷ []) found all e = absurd (not_found found e)
-counts_plan word (a ∷ b ∷ []) found all e = same_names _ found (sym (reads_plan word a b).found ∙ e)
-counts_plan word (a ∷ b ∷ x ∷ rest) found all e = absurd (true≢false (sym all))
-
-counts_ask : IsCounted ask.1
-unfolding IsCounted
-counts_ask word [] found all e = absurd (not_found found e)
-counts_ask word (a ∷ []) found all e = absurd (not_found found e)
-counts_ask word (a ∷ b ∷ []) found all e = same_names _ found (sym (reads_ask word a b).found ∙ e)
-counts_ask word (a ∷ b ∷ x ∷ rest) found all e = absurd (true≢false (sym all))
-
-counts_read : IsCounted read.1
-unfolding IsCounted
-counts_read word [] found all e = absurd (not_found found e)
-counts_read word (a ∷ []) found all e = same_names _ found (sym (reads_read word a).found ∙ e)
-counts_read word (a ∷ x ∷ rest) found all e = absurd (true≢false (sym all))
-
-counts_check : IsCounted check.1
-unfolding IsCounted
-counts_check word [] found all e = absurd (not_found found e)
-counts_check word (a ∷ []) found all e = absurd (not_found found e)
-counts_check word (a ∷ b ∷ []) found all e = absurd (not_found found e)
-counts_check word (a ∷ b ∷ c ∷ []) found all e = same_names _ found (sym (reads_check word a b c).found ∙ e)
-counts_check word (a ∷ b ∷ c ∷ x ∷ rest) found all e = absurd (true≢false (sym all))
-
-counts_fly : IsCounted fly.1
-unfolding IsCounted
-counts_fly word [] found all e = absurd (not_found found e)
-counts_fly word (a ∷ []) found all e = absurd (not_found found e)
-counts_fly word (a ∷ b ∷ []) found all e = absurd (not_found found e)
-counts_fly word (a ∷ b ∷ c ∷ []) found all e = absurd (not_found found e)
-counts_fly word (a ∷ b ∷ c ∷ d ∷ []) found all e = same_names _ found (sym (reads_fly word a b c d).found ∙ e)
-counts_fly word (a ∷ b ∷ c ∷ d ∷ x ∷ rest) found all e = absurd (true≢false (sym all))
-
-counts_run : IsCounted run.1
-unfolding IsCounted
-counts_run word [] found all e = absurd (not_found found e)
-counts_run word (a ∷ []) found all e = absurd (not_found found e)
-counts_run word (a ∷ b ∷ []) found all e = absurd (not_found found e)
-counts_run word (a ∷ b ∷ c ∷ []) found all e = absurd (not_found found e)
-counts_run word (a ∷ b ∷ c ∷ d ∷ []) found all e = absurd (not_found found e)
-counts_run word (a ∷ b ∷ c ∷ d ∷ f ∷ []) found all e = same_names _ found (sym (reads_run word a b c d f).found ∙ e)
-counts_run word (a ∷ b ∷ c ∷ d ∷ f ∷ x ∷ rest) found all e = absurd (true≢false (sym all))
+counted : (form : Form) (ids words names found : List Text) → Counts form ids words → all_placed (leaf form).rules (walk_from nothing_held) (words ++ names) ≡ true
+    → names_read form.1 (rows_found form (words ++ names)) ≡ Some found → found ≡ words ++ names
+counted form [] words [] found counts all e =
+    let whole = append-nil words in
+    same_names words found (sym counts.0.found ∙ ap (λ ws. names_read form.1 (rows_found form ws)) (sym whole) ∙ e) ∙ sym whole
+counted form [] words (word ∷ rest) found counts all e = absurd (true≢false (sym all ∙ counts.1 word rest))
+counted form (id ∷ ids) words [] found counts all e =
+    absurd (not_found found (sym counts.0 ∙ ap (λ ws. names_read form.1 (rows_found form ws)) (sym (append-nil words)) ∙ e))
+counted form (id ∷ ids) words (word ∷ rest) found counts all e =
+    let same = append_assoc words (word ∷ []) rest in
+    counted form ids (words ++ word ∷ []) rest found (counts.1 word) (ap (all_placed (leaf form).rules (walk_from nothing_held)) same ∙ all)
+    (ap (λ ws. names_read form.1 (rows_found form ws)) same ∙ e) ∙ same
 
 -- a line that was read has the word, and the names that were found
 read_line : (word : Text) (names : Option (List Text)) (line : List Text) → option_map (λ names. word ∷ names) names ≡ Some line → (found : List Text) × (names ≡ Some found) × (line ≡ word ∷ found)
@@ -124,7 +87,7 @@ pub record IsSpelled (words line : List Text) : Type 0 where
 IsExact : List Text → Text → Type 0
 IsExact files word = (line : List Text) → IsRead (word ∷ files) line → IsSpelled (word ∷ files) line
 
-module _ (form : Form) (has : IsCommandOf form) (counts : IsCounted form.1) (files line : List Text) (read : IsRead (form.0 ∷ files) line) where
+module _ (form : Form) (has : IsCommandOf form) (files line : List Text) (read : IsRead (form.0 ∷ files) line) where
   no_fault_below : walk_fault (leaf form) [] (walk_from nothing_held) files ≡ []
   no_fault_below =
       let at_stop : entered_fault built_tool (Some (form.0, files)) ≡ [] = sym (ap (λ (w : Walk). entered_fault built_tool w.stopped) (walk_is form.0 files has.met)) ∙ read.below in
@@ -132,7 +95,6 @@ module _ (form : Form) (has : IsCommandOf form) (counts : IsCounted form.1) (fil
       (or_else_none (walk_fault (leaf form) [] (walk_from nothing_held) files) _ at_leaf).0
 
   line_of_form : (line ≡ form.0 ∷ without_dashes files) × (list_any is_flag (before_dashes files) ≡ false)
-  unfolding IsCounted
   line_of_form =
       let names = without_dashes files in
       let ends = walk_ends (leaf form) (only_help form) (walk_from nothing_held) files at_start refl no_fault_below in
@@ -140,7 +102,7 @@ module _ (form : Form) (has : IsCommandOf form) (counts : IsCounted form.1) (fil
       sym (ap line_found (tool_enters form.0 files (leaf form) has.met has.entered)) ∙ read.found in
       let placed : line_read form.0 (rows_found form names) ≡ Some line = sym (ap (λ h. line_read form.0 (finished (leaf form).rules h)) ends.end) ∙ at_leaf in
       let told = read_line form.0 (names_read form.1 (rows_found form names)) line (sym (line_known form (rows_found form names) has) ∙ placed) in
-      (told.2 ∙ ap (λ found. form.0 ∷ found) (counts form.0 names told.0 ends.all told.1), ends.unflagged)
+      (told.2 ∙ ap (λ found. form.0 ∷ found) (counted form form.1 [] names told.0 has.counts ends.all told.1), ends.unflagged)
 
   -- of a command, whose word is no `--`
   spelled_by : IsSpelled (form.0 ∷ files) line
@@ -149,9 +111,9 @@ module _ (form : Form) (has : IsCommandOf form) (counts : IsCounted form.1) (fil
     unflagged = ap (λ b. list_any is_flag (cond b [] (form.0 ∷ before_dashes files))) has.plain ∙ ap (λ b. b || list_any is_flag (before_dashes files)) has.unflagged ∙ line_of_form.1;
   }
 
-exact_command : (form : Form) → IsCommandOf form → IsCounted form.1 → (files : List Text) → IsExact files form.0
+exact_command : (files : List Text) (form : Form) → IsCommandOf form → IsExact files form.0
 unfolding IsExact
-exact_command form has counts files line read = spelled_by form has counts files line read
+exact_command files form has line read = spelled_by form has files line read
 
 -- help is no task
 exact_help : (files : List Text) → IsExact files (codes "help")
@@ -195,52 +157,29 @@ exact_unknown word files none line read =
     let nowhere : line_found (subcommand_of tool (word ∷ files)) ≡ None = ap (λ stop. line_found (entered built_tool stop)) (stays_above word files none read.above) in
     absurd (not_found line (sym nowhere ∙ read.found))
 
--- what holds of each of some words, and of a word that is none of them, holds of any word
-abbrev Each : (Text → Type 0) → List Text → Type 0
-Each P [] = Unit {0}
-Each P (first ∷ rest) = P first × Each P rest
+-- a command as one of the names that the parser knows
+abbrev labels : List Form → Names
+labels = map (λ form. (form.0, []))
 
-abbrev labels : List Text → Names
-labels = map (λ known. (known, []))
-
-named_or_not : (P : Text → Type 0) (words : List Text) (word : Text) → Each P words → (find (answers_to word) (labels words) ≡ None → P word) → P word
+-- what holds of the word of each of these commands, and of a word that is none of them, holds of any word
+named_or_not : (P : Text → Type 0) (forms : List Form) (word : Text) → Each (λ form. P form.0) forms → (find (answers_to word) (labels forms) ≡ None → P word) → P word
 named_or_not P [] word each other = other refl
-named_or_not P (first ∷ rest) word each other = go (bytes_eq first word) refl (named_or_not P rest word each.1)
+named_or_not P (form ∷ rest) word each other = go (bytes_eq form.0 word) refl (named_or_not P rest word each.1)
   where
-    go : (b : Bool) → bytes_eq first word ≡ b → ((find (answers_to word) (labels rest) ≡ None → P word) → P word) → P word
-    go true is later = subst P ((bytes_eq-Decides first word).0 is) each.0
-    go false is later = later (λ none. other (ap (λ b. cond (b || false) (Some (first, [])) (find (answers_to word) (labels rest))) is ∙ none))
+    go : (b : Bool) → bytes_eq form.0 word ≡ b → ((find (answers_to word) (labels rest) ≡ None → P word) → P word) → P word
+    go true is later = subst P ((bytes_eq-Decides form.0 word).0 is) each.0
+    go false is later = later (λ none. other (ap (λ b. cond (b || false) (Some (form.0, [])) (find (answers_to word) (labels rest))) is ∙ none))
 
-known_names : List Text
-known_names = plan.0 ∷ check.0 ∷ chart.0 ∷ table.0 ∷ run.0 ∷ fly.0 ∷ ask.0 ∷ read.0 ∷ codes "help" ∷ []
+-- what follows for each command from what is known of it, and one more
+each_then : (P Q : Form → Type 0) (forms : List Form) (last : Form) → ((form : Form) → P form → Q form) → Each P forms → Q last → Each Q (forms ++ last ∷ [])
+each_then P Q [] last step each more = (more, tt)
+each_then P Q (form ∷ forms) last step each more = (step form each.0, each_then P Q forms last step each.1 more)
 
 exact_word : (word : Text) (files : List Text) → IsExact files word
-unfolding known_names
-exact_word word files = named_or_not (IsExact files) known_names word (
-  exact_command plan has_plan counts_plan files,
-  (
-    exact_command check has_check counts_check files,
-    (
-      exact_command chart has_chart counts_check files,
-      (
-        exact_command table has_table counts_check files,
-        (
-          exact_command run has_run counts_run files,
-          (
-            exact_command fly has_fly counts_fly files,
-            (
-              exact_command ask has_ask counts_ask files,
-              (
-                exact_command read has_read counts_read files,
-                (exact_help files, tt),
-              ),
-            ),
-          ),
-        ),
-      ),
-    ),
-  ),
-)
+exact_word word files =
+    let help_form : Form = (codes "help", []) in
+    named_or_not (IsExact files) (commands ++ help_form ∷ []) word
+    (each_then IsCommandOf (λ form. IsExact files form.0) commands help_form (exact_command files) has_each (exact_help files))
     (λ none. exact_unknown word files (ap (option_map (λ (label : Text × List Text). label.0)) none))
 
 exact : (words line : List Text) → IsRead words line → IsSpelled words line

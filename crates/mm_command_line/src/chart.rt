@@ -1,14 +1,8 @@
-//! The command `chart`: the chart of a dump plan.
-ghost use Rattle.std.specs.Prelude.{IfOk};
-ghost use Rattle.mm_command_line.specs.Commands.{IsCommand, chart};
+//! The help of the command `chart`: the chart of a dump plan.
 
-use crate::command::judging_command;
-use clap::Command;
-use std::alloc::{AllocError, Global};
+pub(crate) const ABOUT: &str = "Draws a dump plan: what is lost, when, and why no plan loses fewer";
 
-const ABOUT: &str = "Draws a dump plan: what is lost, when, and why no plan loses fewer";
-
-const HELP: &str = "\
+pub(crate) const HELP: &str = "\
 Prints one document, a picture in Scalable Vector Graphics (SVG) 1.1 for any browser. It has a row for the
 windows, for each channel with a limit and for each store, the cut, and in words the sum that shows that no
 plan loses fewer blocks, and which windows, limits, sizes and arrivals alone could change that. Its headline
@@ -24,10 +18,3 @@ Example:
 
 examples/mission/README.md reads such a picture. Exit status: 0 for a picture, whatever its headline, 1 for a
 refusal.";
-
-/// The command `chart`, with its files.
-pub(crate) fn chart_command<'a>(alloc: Global) -> Result<Command<'a>, AllocError>
-    ensures files { IfOk result (IsCommand chart) }
-{
-    judging_command(alloc, "chart", ABOUT, HELP)
-}

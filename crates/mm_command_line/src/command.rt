@@ -1,12 +1,11 @@
 //! The commands of the program, with their files and their help.
 ghost use Rattle.std.specs.Prelude.{◌≡◌, IfOk, [], ◌∷◌, codes, false};
 ghost use Rattle.clap.specs.Words.{app_of, rule_of};
-ghost use Rattle.mm_command_line.specs.Commands.{AddsFiles, IsCommand, ask, check, file_rule, plan, tool, bare};
+ghost use Rattle.mm_command_line.specs.Commands.{AddsFiles, IsCommand, ask, file_rule, tool, bare};
 
-use crate::chart::chart_command;
 use crate::flight::{fly_command, run_command};
 use crate::read::read_command;
-use crate::table::table_command;
+use crate::{chart, table};
 use clap::{Arg, Command};
 use std::alloc::{AllocError, Global};
 
@@ -178,18 +177,6 @@ pub(crate) fn judging_command<'a>(
     )
 }
 
-fn plan_command<'a>(alloc: Global) -> Result<Command<'a>, AllocError>
-    ensures files { IfOk result (IsCommand plan) }
-{
-    problem_command(alloc, "plan", PLAN_ABOUT, PLAN_HELP)
-}
-
-fn check_command<'a>(alloc: Global) -> Result<Command<'a>, AllocError>
-    ensures files { IfOk result (IsCommand check) }
-{
-    judging_command(alloc, "check", CHECK_ABOUT, CHECK_HELP)
-}
-
 fn ask_command<'a>(alloc: Global) -> Result<Command<'a>, AllocError>
     ensures files { IfOk result (IsCommand ask) }
 {
@@ -216,10 +203,10 @@ pub(crate) fn tool_command<'a>(alloc: Global) -> Result<Command<'a>, AllocError>
     ensures commands { IfOk result (λ c. app_of c ≡ tool) }
 {
     bare_command(alloc)?
-        .subcommand(plan_command(alloc)?)?
-        .subcommand(check_command(alloc)?)?
-        .subcommand(chart_command(alloc)?)?
-        .subcommand(table_command(alloc)?)?
+        .subcommand(problem_command(alloc, "plan", PLAN_ABOUT, PLAN_HELP)?)?
+        .subcommand(judging_command(alloc, "check", CHECK_ABOUT, CHECK_HELP)?)?
+        .subcommand(judging_command(alloc, "chart", chart::ABOUT, chart::HELP)?)?
+        .subcommand(judging_command(alloc, "table", table::ABOUT, table::HELP)?)?
         .subcommand(run_command(alloc)?)?
         .subcommand(fly_command(alloc)?)?
         .subcommand(ask_command(alloc)?)?

@@ -1,14 +1,9 @@
-//! The command `table`: what a dump plan does to each store, in numbers for a spreadsheet.
-ghost use Rattle.std.specs.Prelude.{IfOk};
-ghost use Rattle.mm_command_line.specs.Commands.{IsCommand, table};
+//! The help of the command `table`: what a dump plan does to each store, in numbers for a spreadsheet.
 
-use crate::command::judging_command;
-use clap::Command;
-use std::alloc::{AllocError, Global};
+pub(crate) const ABOUT: &str =
+    "Prints what a dump plan does to each store in each step, for a spreadsheet";
 
-const ABOUT: &str = "Prints what a dump plan does to each store in each step, for a spreadsheet";
-
-const HELP: &str = "\
+pub(crate) const HELP: &str = "\
 Prints comma separated values: a header, and then a record for each step and store, with its cells in blocks:
   step,window,store,arrived,lost,dumped,held
 The stores are in the order of the setup in each step. `held` is what the store holds as the step ends: it is
@@ -24,10 +19,3 @@ Example:
   mm_tool table setup.toml forecast.csv plan.txt --output table.csv
 
 docs/PLANNING.md works with such a table. Exit status: 0 for a table, 1 for a refusal.";
-
-/// The command `table`, with its files.
-pub(crate) fn table_command<'a>(alloc: Global) -> Result<Command<'a>, AllocError>
-    ensures files { IfOk result (IsCommand table) }
-{
-    judging_command(alloc, "table", ABOUT, HELP)
-}

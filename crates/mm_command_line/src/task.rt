@@ -2,6 +2,7 @@
 ghost use Rattle.std.specs.Prelude.{◌≡◌, ◌++◌, ◌&&◌, not, true, is_some, IfSome, IfNone};
 ghost use Rattle.mm_command_line.specs.Lines.{command_words, gives_text, output_of, output_words, spelling};
 ghost use Rattle.mm_command_line.specs.Names.{names_in, names_of_plan, no_names};
+ghost use Rattle.mm_command_line.specs.declared.task.Task.TheVariants.{Fly};
 
 /// What a file of a task has.
 #[derive(Clone, Copy)]
@@ -70,6 +71,21 @@ pub struct FlightFiles<'a> {
     pub links: &'a str,
 }
 
+impl<'a> FlightFiles<'a> {
+    fn names(self) -> FileNames<'a>
+        ensures { result ≡ names_in (Fly self.entry) }
+    {
+        FileNames {
+            setup: Some(self.setup),
+            forecast: Some(self.forecast),
+            plan: self.plan,
+            sources: Some(self.sources),
+            links: Some(self.links),
+            packets: None,
+        }
+    }
+}
+
 /// What the program is asked to do. Of a task with an `output` the text goes into the file of that name, and is printed where there is none.
 #[derive(Clone, Copy)]
 pub enum Task<'a> {
@@ -122,14 +138,7 @@ impl<'a> Task<'a> {
             Task::Check(files) | Task::Chart { files, .. } | Task::Table { files, .. } => {
                 files.names()
             }
-            Task::Fly(files) => FileNames {
-                setup: Some(files.setup),
-                forecast: Some(files.forecast),
-                plan: files.plan,
-                sources: Some(files.sources),
-                links: Some(files.links),
-                packets: None,
-            },
+            Task::Fly(files) => files.names(),
             Task::Ask { setup, requests } => FileNames {
                 setup: Some(setup),
                 packets: Some(requests),

@@ -1,5 +1,5 @@
 -- What is said of a task that is refused.
-use Rattle.std.proofs.Common.{◌≡◌, ◌⊎◌, ℕ, List, ◌∷◌, ◌++◌, [], refl, sym, subst, inl, inr, Result, Ok, Err, IsErrAnd, IfErr, IfOk, Option, Some, None, Bor}
+use Rattle.std.proofs.Common.{◌≡◌, ◌⊎◌, ℕ, List, ◌∷◌, ◌++◌, [], refl, sym, subst, inl, inr, Result, Ok, Err, IsErrAnd, IfErr, IfOk, Option, Some, None, Bor, append_assoc}
 use Rattle.mm_commands.specs.Contents.{Contents, MayBeUnread}
 use Rattle.std.specs.Io.KnownBytes.{Appends}
 use Rattle.mm_commands.specs.Answers.{Holds, HoldsNamed}
@@ -50,6 +50,18 @@ pub unread-after-named : (contents now : Contents) (name : Option (Bor (List ℕ
     → HoldsNamed now name octets → IsUnread contents rest e → IsUnread contents (names_of name ++ rest) e
 unread-after-named contents now (Some name) octets rest e same holds unread = unread-after contents now name.now octets rest e same holds unread
 unread-after-named contents now None octets rest e same holds unread = unread
+
+module _ (contents now : Contents) (first second : Option (Bor (List ℕ))) (rest : List (List ℕ)) (e : Fault) (same : now ≡ contents) where
+  -- one of two files was not read, which come before the others
+  pub unread-of-two : IsUnread now (names_of first ++ names_of second) e → IsUnread contents (names_of first ++ (names_of second ++ rest)) e
+  unread-of-two unread = subst (λ names. IsUnread contents names e) (append_assoc (names_of first) (names_of second) rest)
+      (unread-append contents now (names_of first ++ names_of second) rest e same unread)
+
+  -- two files were read, and one of those after them was not
+  pub unread-after-two : (x y : List ℕ) → HoldsNamed now first x → HoldsNamed now second y → IsUnread contents rest e
+      → IsUnread contents (names_of first ++ (names_of second ++ rest)) e
+  unread-after-two x y one other unread =
+      unread-after-named contents now first x (names_of second ++ rest) e same one (unread-after-named contents now second y rest e same other unread)
 
 -- what was held when as much was known as later
 pub held-later : (contents now : Contents) (name : Option (Bor (List ℕ))) (octets : List ℕ) → now ≡ contents → HoldsNamed now name octets → HoldsNamed contents name octets

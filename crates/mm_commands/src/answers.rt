@@ -133,10 +133,7 @@ pub(crate) fn answer_to<'a, R: Threads + Wait + Sync>(
             let text = table_bytes(alloc, &texts.setup, &texts.forecast, &texts.plan)?;
             Ok(Answer::Text { text, output })
         }
-        Task::Fly(files) => {
-            let printed = carry_out(rt, alloc, files, texts)?;
-            Ok(Answer::Run(printed))
-        }
+        Task::Fly(files) => Ok(Answer::Run(carry_out(rt, alloc, files, texts)?)),
         Task::Ask { .. } => {
             let (outcome, lines) = ask_bytes(alloc, &texts.setup, &texts.packets)?;
             Ok(Answer::Lines { outcome, lines })

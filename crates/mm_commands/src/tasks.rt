@@ -22,9 +22,9 @@ use std::sync::Wait;
 use std::thread::Threads;
 
 // Says why a task is refused, what that means, and what is found.
-fn refuse<W: Write, E: Write>(
-    task: Option<Task<'_>>,
-    fault: Fault<'_>,
+fn refuse<'a, W: Write, E: Write>(
+    task: Option<Task<'a>>,
+    fault: Fault<'a>,
     hint: Option<Hint>,
     out: &mut W,
     err: &mut E,

@@ -1,5 +1,5 @@
 //! The texts of a task's files.
-ghost use Rattle.std.specs.Prelude.{◌≡◌, IfOk, IfErr, [], ◌∷◌};
+ghost use Rattle.std.specs.Prelude.{◌≡◌, ◌++◌, IfOk, IfErr, [], ◌∷◌};
 ghost use Rattle.mm_commands.specs.Answers.{Holds, HoldsNamed, HoldsTexts};
 ghost use Rattle.mm_commands.specs.Refusing.{IsUnread, listed, names_of};
 
@@ -55,6 +55,23 @@ fn read_named<'a, F: Files>(
     }
 }
 
+// The bytes of one file and then of another, where they are named.
+fn read_two<'a, F: Files>(
+    alloc: Global,
+    files: &mut F,
+    first: Option<&'a str>,
+    second: Option<&'a str>,
+) -> Result<(Vec<u8>, Vec<u8>), Fault<'a>>
+    ensures first { IfOk result (λ texts. HoldsNamed (F.content files.old) first.entry texts.0.items) }
+    ensures second { IfOk result (λ texts. HoldsNamed (F.content files.old) second.entry texts.1.items) }
+    ensures unread { IfErr result (IsUnread (F.content files.old) (names_of first.entry ++ names_of second.entry)) }
+    ensures stays { F.content files.new ≡ F.content files.old }
+{
+    let one = read_named(alloc, files, first)?;
+    let other = read_named(alloc, files, second)?;
+    Ok((one, other))
+}
+
 impl TaskTexts {
     /// Reads the files of these names, one after another.
     pub(crate) fn read<'a, F: Files>(
@@ -66,13 +83,16 @@ impl TaskTexts {
         ensures unread { IfErr result (IsUnread (F.content files.old) (listed names.entry)) }
         ensures stays { F.content files.new ≡ F.content files.old }
     {
+        let (setup, forecast) = read_two(alloc, files, names.setup, names.forecast)?;
+        let (plan, sources) = read_two(alloc, files, names.plan, names.sources)?;
+        let (links, packets) = read_two(alloc, files, names.links, names.packets)?;
         Ok(TaskTexts {
-            setup: read_named(alloc, files, names.setup)?,
-            forecast: read_named(alloc, files, names.forecast)?,
-            plan: read_named(alloc, files, names.plan)?,
-            sources: read_named(alloc, files, names.sources)?,
-            links: read_named(alloc, files, names.links)?,
-            packets: read_named(alloc, files, names.packets)?,
+            setup,
+            forecast,
+            plan,
+            sources,
+            links,
+            packets,
         })
     }
 

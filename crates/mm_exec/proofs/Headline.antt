@@ -1,37 +1,17 @@
 -- What was printed is what is lost.
 use Rattle.std.proofs.Common.{◌≡◌, ℕ, zero, suc, ◌+◌, ◌-◌, ◌<◌, ◌≤◌, min, List, length, sym, ap, subst, ◌∙◌, arith}
 use Rattle.std.specs.Prelude.{pos}
-use Rattle.std.specs.List.Sorted.{IsSortedByKey}
 use Rattle.mm_base.proofs.RangeSums.{sum_by_range_same}
 use Rattle.mm_problem.specs.Dumping.{Dumping, size, arrivals}
 use Rattle.mm_plan.specs.Table.{amount}
 use Rattle.mm_plan.specs.Volumes.{Amounts, left, written, lost, store_loss, loss}
-use Rattle.mm_plan.specs.Sheet.{SheetRows, IsSheet, IsShapedFor}
-use Rattle.mm_plan.specs.Printing.{IsOrdered, IsPrinted, stretch_key, key_cmp}
+use Rattle.mm_plan.specs.Sheet.{SheetRows}
 use Rattle.mm_plan.proofs.Steps.{left_start, left_step}
-use Rattle.mm_planner.specs.Planned.{ShowsLeast}
-use Rattle.mm_planner.specs.PlanTexts.{ShowsInOrder}
+use Rattle.mm_planner.specs.PlanTexts.{PlansFor}
 use Rattle.mm_report.specs.Report.{Reported, totals_of}
 use Rattle.mm_exec.specs.RunInput.{RunInput, as_came}
-use Rattle.mm_exec.specs.Flying.{PlansFor, LosesWhatIsPrinted}
+use Rattle.mm_exec.specs.Flying.{LosesWhatIsPrinted}
 use Rattle.mm_exec.proofs.Coming.{came_at}
-
--- a printed sheet that shows that its plan loses least, from the law that it does so in the order in which it is printed
-pub printed_plans : ShowsInOrder → (q : Dumping) (text : List ℕ) (s : SheetRows) → IsSheet s → IsShapedFor q s → ShowsLeast q s.plan s.cut s.by_channels s.loss → s.bound ≡ pos s.loss
-    → (printed : IsPrinted s text) → PlansFor q text printed.0
-printed_plans shows_in_order q text s is shaped shows tight printed =
-    let r = printed.0 in
-    let ordered : IsOrdered s r = printed.1 in
-    record {
-      says_sheet = record {
-        is_sheet = printed.2 is;
-        text = printed.3;
-        shape = record { stores = ordered.stores ∙ shaped.stores; steps = ap (λ x. x.steps) ordered.plan ∙ shaped.steps };
-      };
-      shows_least = shows_in_order q s r shows ordered;
-      tight = ordered.bound ∙ tight ∙ ap pos (sym ordered.loss);
-      in_order = record { cut = subst (λ ids. IsSortedByKey (stretch_key ids) key_cmp r.cut) (sym ordered.stores) ordered.cut.order; counts = ordered.counts.order };
-    }
 
 -- where as much arrives, a plan leaves and loses as much
 module _ (q : Dumping) (other : List ℕ) (x : Amounts)

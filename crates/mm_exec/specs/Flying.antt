@@ -7,9 +7,7 @@ use Rattle.mm_plan.specs.Volumes.{Amounts, loss}
 use Rattle.mm_plan.specs.Fit.{Fits}
 use Rattle.mm_plan.specs.Sheet.{SheetRows}
 use Rattle.mm_cut.specs.Cuts.{IsCut, bound}
-use Rattle.mm_planner.specs.Checking.{SaysSheet}
-use Rattle.mm_planner.specs.Planned.{ShowsLeast}
-use Rattle.mm_planner.specs.PlanTexts.{IsInOrder}
+use Rattle.mm_planner.specs.PlanTexts.{PlansFor}
 use Rattle.mm_memory.specs.Holdings.{Holdings}
 use Rattle.mm_dump.specs.Sending.{Sent}
 use Rattle.mm_report.specs.declared.cause.Cause.TheVariants.{NoMemory}
@@ -17,23 +15,8 @@ use Rattle.mm_report.specs.Report.{Reported, totals_of}
 use Rattle.mm_exec.specs.AsPlanned.{AtEach}
 use Rattle.mm_exec.specs.declared.flight.Flown.{Flown}
 use Rattle.mm_exec.specs.declared.flight.NotFlown.{NotFlown}
-use Rattle.mm_exec.specs.declared.flying.Printed.{Printed}
 use Rattle.mm_exec.specs.RunInput.{RunInput, run_input, came}
 use Rattle.mm_exec.specs.Ending.{IsCarriedOut, IsHalted}
-
--- the text says this sheet for the problem, in the order in which sheets are printed, and the sheet shows that its plan loses least: what
--- `mm_planner` promises of a text for a setup and a forecast, here for a problem
-pub record PlansFor (q : Dumping) (text : List ℕ) (sheet : SheetRows) : Type 0 where
-  pub says_sheet : SaysSheet q text sheet
-  pub shows_least : ShowsLeast q sheet.plan sheet.cut sheet.by_channels sheet.loss
-  pub tight : sheet.bound ≡ pos sheet.loss
-  pub in_order : IsInOrder sheet
-
--- the plan and its text, which says the plan
-pub record IsPrintedFor (q : Dumping) (printed : Printed) : Type 0 where
-  pub sheet : SheetRows
-  pub plans : PlansFor q printed.text.items sheet
-  pub plan_is : printed.sheet.plan ≡ sheet.plan
 
 -- what came is what was forecast, in each store and step
 abbrev pub AsForecast : RunInput → Type 0

@@ -38,6 +38,9 @@ pub struct NotFlown<S: Drop, L: Drop> {
     pub halted: Halted<S, L>,
 }
 
+/// What a run that is planned, printed and carried out gives.
+pub type FlyResult<S, L> = Result<Flown<S, L>, NotFlown<S, L>>;
+
 impl<S: Drop, L: Drop> Flight<S, L> {
     /// The same with the text of its plan.
     pub fn with_sheet(self, sheet: Vec<u8>) -> Flown<S, L>

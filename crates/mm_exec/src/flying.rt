@@ -1,39 +1,20 @@
 //! A run that begins with its plan.
 ghost use Rattle.std.specs.Prelude.{◌-◌, ◌<◌, ◌^◌, ◌⊎◌, All, IfOk, IfErr};
-ghost use Rattle.mm_exec.specs.Flying.{IsPrintedFor, Flies, FliesNot, HasNoPlan};
+ghost use Rattle.mm_exec.specs.Flying.{Flies, FliesNot, HasNoPlan};
 ghost use Rattle.mm_exec.specs.Step.{NeverRefused};
 ghost use Rattle.mm_exec.specs.Course.{AreWithinLimits};
 
-use crate::flight::{Flown, Halted, NotFlown};
+use crate::flight::{FlyResult, Halted, NotFlown};
 use crate::run::carry_out;
-use mm_base::NoMemory;
 use mm_dump::Link;
 use mm_memory::Memory;
-use mm_plan::Sheet;
-use mm_planner::{sheet, sheets_show_in_order};
+use mm_planner::{PrintedPlan, print_plan};
 use mm_problem::Problem;
 use mm_record::Source;
 use mm_report::{Cause, Report};
 use std::alloc::Global;
 use std::sync::Wait;
 use std::thread::Threads;
-
-/// The sheet of a plan that loses least, and its text.
-#[derive(Drop)]
-pub(crate) struct Printed {
-    pub(crate) sheet: Sheet,
-    pub(crate) text: Vec<u8>,
-}
-
-// Plans, and prints the sheet.
-fn print_plan(alloc: Global, problem: &Problem) -> Result<Printed, NoMemory>
-    ensures { IfOk result (IsPrintedFor problem.now) }
-{
-    sheets_show_in_order();
-    let sheet = sheet(alloc, problem)?;
-    let text = sheet.print(alloc)?;
-    Ok(Printed { sheet, text })
-}
 
 /// Plans, prints the plan with the cut that shows that it loses least, and carries it out.
 ///
@@ -48,7 +29,7 @@ pub fn fly<S: Source + Send + Drop, L: Link + Send + Drop, R: Threads + Wait + S
     sources: Vec<S>,
     links: Vec<L>,
     base: u64,
-) -> Result<Flown<S, L>, NotFlown<S, L>>
+) -> FlyResult<S, L>
     requires links { All (λ l. L.failed l < 2 ^ 64 - 1) links.items }
     ensures flown { IfOk result (Flies S.gives L.sent L.failed problem.now base memory.old sources.items links.items memory.new) }
     ensures not_flown { IfErr result (λ ended. FliesNot S.gives L.sent L.failed problem.now base memory.old sources.items links.items memory.new ended
@@ -56,7 +37,7 @@ pub fn fly<S: Source + Send + Drop, L: Link + Send + Drop, R: Threads + Wait + S
     // Where counts are far from their end, no store refuses a packet.
     ensures far { AreWithinLimits S.gives memory.old.stores sources.items → IfErr result (λ ended. NeverRefused ended.halted.cause) }
 {
-    let Ok(Printed { sheet, text }) = print_plan(alloc, problem) else {
+    let Ok(PrintedPlan { sheet, text }) = print_plan(alloc, problem) else {
         return Err(NotFlown {
             sheet: Vec::new(alloc),
             halted: Halted {

@@ -15,7 +15,7 @@ mod run;
 mod step;
 mod tallies;
 
-pub use flight::{Flight, Flown, Halted, NotFlown};
+pub use flight::{Flight, Flown, FlyResult, Halted, NotFlown};
 pub use flying::fly;
 pub use laws::{
     broken_steps_are_logs, draws_meet_no_refusal, halves_make_step_runs, runs_lose_as_planned,

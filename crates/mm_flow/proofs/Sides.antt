@@ -130,26 +130,16 @@ module _ (g : Graph) (source sink : ℕ) (f : Flow) (value : ℕ) (side : Side) 
   unfolding above
   ends_below k lt = omega (arith, get_or-le-sum_by (λ (a : Arc). a.from + a.to) g.arcs k no_arc lt)
 
-  -- what leaves the side's nodes is what leaves the side and what stays inside
-  leaving_all : sum_by (λ n. cond (side n) (leaving g f n) 0) (range_with_len 0 above) ≡ flow_out g side f + sum_by (λ k. cond (side (arc g k).from && side (arc g k).to) (f k) 0) (places g)
-  leaving_all = omega (
-    arith,
-    nodes_by_other_end side f (λ k. (arc g k).from) (λ k. (arc g k).to) (leaving g f) (length g.arcs) above (λ k lt. omega (arith, ends_below k lt)) (leaving-sum_by g f),
-    flow_out-sum_by g side f,
-  )
-
-  -- what enters the side's nodes is what enters the side and what stays inside
-  entering_all : sum_by (λ n. cond (side n) (entering g f n) 0) (range_with_len 0 above) ≡ flow_in g side f + sum_by (λ k. cond (side (arc g k).from && side (arc g k).to) (f k) 0) (places g)
-  entering_all = omega (
-    arith,
-    nodes_by_other_end side f (λ k. (arc g k).to) (λ k. (arc g k).from) (entering g f) (length g.arcs) above (λ k lt. omega (arith, ends_below k lt)) (entering-sum_by g f),
-    flow_in-sum_by g side f,
-    sum_by_range_same (λ k. cond (side (arc g k).to && side (arc g k).from) (f k) 0) (λ k. cond (side (arc g k).from && side (arc g k).to) (f k) 0) 0 (length g.arcs) (λ k _ _. both_orders (side (arc g k).to) (side (arc g k).from) (f k)),
-  )
-
   -- the net flow over a side with the source and without the sink is the value
   pub net_flow : flow_out g side f ≡ flow_in g side f + value
-  net_flow = omega (arith, at_nodes, leaving_all, entering_all)
+  net_flow =
+      let from = λ (k : ℕ). (arc g k).from in
+      let to = λ (k : ℕ). (arc g k).to in
+      let inside = λ (k : ℕ). cond (side (from k) && side (to k)) (f k) 0 in
+      let leaving_all = nodes_by_other_end side f from to (leaving g f) (length g.arcs) above (λ k lt. omega (arith, ends_below k lt)) (leaving-sum_by g f) in
+      let entering_all = nodes_by_other_end side f to from (entering g f) (length g.arcs) above (λ k lt. omega (arith, ends_below k lt)) (entering-sum_by g f) in
+      let turned = sum_by_range_same (λ k. cond (side (to k) && side (from k)) (f k) 0) inside 0 (length g.arcs) (λ k _ _. both_orders (side (to k)) (side (from k)) (f k)) in
+      omega (arith, at_nodes, leaving_all, entering_all, turned, flow_out-sum_by g side f, flow_in-sum_by g side f)
 
 -- a number within a capacity that there is
 within_limit : (most : Option ℕ) (x : ℕ) → IsSome most → ((b : ℕ) → most ≡ Some b → x ≤ b) → x ≤ unwrap_or most 0

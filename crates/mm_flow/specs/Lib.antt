@@ -9,6 +9,7 @@ pub mod Levels
 pub mod Links
 pub mod Marks
 pub mod Phase
+pub mod Refusing
 pub mod Residual
 pub mod Solution
 pub mod Tables

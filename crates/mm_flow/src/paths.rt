@@ -1,8 +1,9 @@
 //! A maximum flow by shortest augmenting paths (Ford and Fulkerson, 1956; Edmonds and Karp, 1972).
-ghost use Rattle.std.specs.Prelude.{◌≡◌, ◌≢◌, ◌<◌, ◌↔◌, IfOk, OnOk, IsErrOf};
-ghost use Rattle.mm_flow.specs.Solution.{IsSolved, HasUnlimitedPath};
+ghost use Rattle.std.specs.Prelude.{◌<◌, IfOk};
+ghost use Rattle.mm_flow.specs.Refusing.{RefusesFaults};
+ghost use Rattle.mm_flow.specs.Solution.{IsSolved};
 
-use crate::fault::Fault;
+use crate::fault::Answer;
 use crate::network::Network;
 use crate::solved::Solved;
 use crate::tables::Tables;
@@ -12,21 +13,11 @@ use std::alloc::Global;
 ///
 /// `SameEnds` is tested first. Where a path of unlimited arcs leads from the source to the sink the answer is
 /// `Unbounded`. Want of memory aside, these are the only refusals.
-pub fn solve_paths(
-    alloc: Global,
-    network: &Network,
-    source: u32,
-    sink: u32,
-) -> Result<Solved, Fault>
+pub fn solve_paths(alloc: Global, network: &Network, source: u32, sink: u32) -> Answer<Solved>
     requires source { source < network.now.graph.nodes }
     requires sink { sink < network.now.graph.nodes }
     ensures solved { IfOk result (IsSolved network.now.graph source sink) }
-    ensures same_ends { IsErrOf result Fault.SameEnds ↔ (source ≡ sink) }
-
-    // Want of memory aside, these two say exactly when the answer is `Unbounded`.
-    ensures unbounded { IsErrOf result Fault.Unbounded
-        → (source ≢ sink) × HasUnlimitedPath network.now.graph source sink }
-    ensures bounded { OnOk result (¬ HasUnlimitedPath network.now.graph source sink) }
+    ensures refused { RefusesFaults network.now.graph source sink result }
 {
     let mut tables = Tables::new(alloc, network, source, sink)?;
     while tables.search_anew() {

@@ -30,21 +30,6 @@ pub(crate) fn tail(network: &Network, entry: usize) -> u32
     }
 }
 
-// The node that an entry leads to.
-#[tactic(auto, unfolding(crate::specs::Residual::head))]
-pub(crate) fn head(network: &Network, entry: usize) -> u32
-    requires { entry < entries network.now.graph }
-    ensures node { result ≡ head network.now.graph entry }
-    ensures known { result < network.now.graph.nodes }
-{
-    let arcs = network.arc_count();
-    if entry < arcs {
-        network.arc(entry).to
-    } else {
-        network.arc(entry - arcs).from
-    }
-}
-
 // The entry of the same arc that leads the other way.
 #[tactic(auto, unfolding(crate::specs::Residual::twin))]
 pub(crate) fn twin(network: &Network, entry: usize) -> usize
@@ -59,6 +44,15 @@ pub(crate) fn twin(network: &Network, entry: usize) -> usize
     } else {
         entry - arcs
     }
+}
+
+// The node that an entry leads to, which its twin leaves.
+pub(crate) fn head(network: &Network, entry: usize) -> u32
+    requires { entry < entries network.now.graph }
+    ensures node { result ≡ head network.now.graph entry }
+    ensures known { result < network.now.graph.nodes }
+{
+    tail(network, twin(network, entry))
 }
 
 // What an entry can still carry.

@@ -1,9 +1,10 @@
 //! A solver at work: its tables, all reserved before its first augmentation, and the flow so far.
-ghost use Rattle.std.specs.Prelude.{◌≡◌, ◌≢◌, ◌<◌, ◌↔◌, ℕ, true, false, IfOk, OnOk, IsErrOf};
-ghost use Rattle.mm_flow.specs.Solution.{IsSolved, HasUnlimitedPath};
+ghost use Rattle.std.specs.Prelude.{◌≡◌, ◌<◌, ℕ, true, false, IfOk};
+ghost use Rattle.mm_flow.specs.Refusing.{RefusesFaults};
+ghost use Rattle.mm_flow.specs.Solution.{IsSolved};
 ghost use Rattle.mm_flow.specs.Tables.{IsAtWork};
 
-use crate::fault::Fault;
+use crate::fault::{Answer, Fault};
 use crate::limits::UNLIMITED;
 use crate::links::Links;
 use crate::network::Network;
@@ -29,19 +30,11 @@ impl<'a> Tables<'a> {
     ghost use Rattle.mm_flow.specs.Task.{IsTask, SameTask, IsOpen, Reaches, IsOver};
 
     // Tables with a flow of nothing, unless a path of unlimited arcs leads from the source to the sink.
-    pub(crate) fn new(
-        alloc: Global,
-        network: &'a Network,
-        source: u32,
-        sink: u32,
-    ) -> Result<Tables<'a>, Fault>
+    pub(crate) fn new(alloc: Global, network: &'a Network, source: u32, sink: u32) -> Answer<Self>
         requires source { source < network.now.graph.nodes }
         requires sink { sink < network.now.graph.nodes }
         ensures task { IfOk result (IsTask network.now.graph source sink) }
-        ensures same_ends { IsErrOf result Fault.SameEnds ↔ (source ≡ sink) }
-        ensures unbounded { IsErrOf result Fault.Unbounded
-            → (source ≢ sink) × HasUnlimitedPath network.now.graph source sink }
-        ensures bounded { OnOk result (¬ HasUnlimitedPath network.now.graph source sink) }
+        ensures refused { RefusesFaults network.now.graph source sink result }
     {
         if source == sink {
             return Err(Fault::SameEnds);

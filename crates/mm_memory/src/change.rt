@@ -22,26 +22,14 @@ pub(crate) fn change_store(held: &mut Held, change: &StoreChange) -> Result<(), 
             held.state.disable();
             Ok(())
         }
-        StoreChange::Begin(from, to) => {
-            held.state.begin(*from, *to)?;
-            Ok(())
-        }
-        StoreChange::Abort => {
-            held.state.abort()?;
-            Ok(())
-        }
+        StoreChange::Begin(from, to) => Ok(held.state.begin(*from, *to)?),
+        StoreChange::Abort => Ok(held.state.abort()?),
         StoreChange::DeleteContent(limit) => {
             let _count = held.state.delete(*limit)?;
             Ok(())
         }
-        StoreChange::Resize(size) => {
-            held.state.resize(size.count())?;
-            Ok(())
-        }
-        StoreChange::SetKind(kind) => {
-            held.state.change_kind(*kind)?;
-            Ok(())
-        }
+        StoreChange::Resize(size) => Ok(held.state.resize(size.count())?),
+        StoreChange::SetKind(kind) => Ok(held.state.change_kind(*kind)?),
         StoreChange::SetChannel(channel) => {
             held.state.at_rest()?;
             held.channel = *channel;

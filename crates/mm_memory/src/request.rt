@@ -2,6 +2,7 @@
 ghost use Rattle.std.specs.Prelude.{◌≡◌, map, IfOk};
 ghost use Rattle.mm_memory.specs.Instruction.{for_targets, instructions_of};
 ghost use Rattle.mm_memory.specs.declared.instruction.Action.TheVariants.{Change as Changes};
+ghost use Rattle.mm_memory.specs.declared.instruction.StoreChange.TheVariants.{SetKind};
 
 use crate::fault::Fault;
 use crate::instruction::{Action, Instruction, RouteChange, StoreChange};
@@ -10,12 +11,11 @@ use mm_base::{Kind, NoMemory};
 use mm_st15::{Entries, Request, Target};
 use std::alloc::Global;
 
+/// Instructions in order, each or the test that it fails.
+pub(crate) type Instructions = Result<Vec<Result<Instruction, Fault>>, NoMemory>;
+
 // The instructions with these fields, in order, or the test that one fails.
-fn each<E: Validate>(
-    alloc: Global,
-    entries: &Entries<E>,
-    context: E::Context,
-) -> Result<Vec<Result<Instruction, Fault>>, NoMemory>
+fn each<E: Validate>(alloc: Global, entries: &Entries<E>, context: E::Context) -> Instructions
     ensures { IfOk result (λ all. all.items ≡ map (E.validated context) entries.now) }
 {
     let all = entries
@@ -27,21 +27,21 @@ fn each<E: Validate>(
 }
 
 // The same change of each store that is named.
-fn change_each(
-    alloc: Global,
-    targets: &Entries<Target>,
-    change: StoreChange,
-) -> Result<Vec<Result<Instruction, Fault>>, NoMemory>
+fn change_each(alloc: Global, targets: &Entries<Target>, change: StoreChange) -> Instructions
     ensures { IfOk result (λ all. all.items ≡ for_targets (Changes change) targets.now) }
 {
     each(alloc, targets, Action::Change(change))
 }
 
+// This kind for each store that is named.
+fn set_kind_each(alloc: Global, targets: &Entries<Target>, kind: Kind) -> Instructions
+    ensures { IfOk result (λ all. all.items ≡ for_targets (Changes (SetKind kind)) targets.now) }
+{
+    change_each(alloc, targets, StoreChange::SetKind(kind))
+}
+
 // The instructions of a request, in order.
-pub(crate) fn instructions_of(
-    alloc: Global,
-    request: &Request,
-) -> Result<Vec<Result<Instruction, Fault>>, NoMemory>
+pub(crate) fn instructions_of(alloc: Global, request: &Request) -> Instructions
     ensures { IfOk result (λ all. all.items ≡ instructions_of request.now) }
 {
     match request {
@@ -59,16 +59,8 @@ pub(crate) fn instructions_of(
         Request::DeleteStores(targets) => each(alloc, targets, Action::Delete),
         Request::ReportConfiguration => Ok(Vec::new(alloc)),
         Request::ResizeStores(sizes) => each(alloc, sizes, ()),
-        Request::ChangeToCircular(targets) => change_each(
-            alloc,
-            targets,
-            StoreChange::SetKind(Kind::Circular),
-        ),
-        Request::ChangeToBounded(targets) => change_each(
-            alloc,
-            targets,
-            StoreChange::SetKind(Kind::Bounded),
-        ),
+        Request::ChangeToCircular(targets) => set_kind_each(alloc, targets, Kind::Circular),
+        Request::ChangeToBounded(targets) => set_kind_each(alloc, targets, Kind::Bounded),
         Request::ChangeChannel(channels) => each(alloc, channels, ()),
     }
 }

@@ -12,7 +12,10 @@ use mm_base::StoreId;
 use mm_base::numbers::push_number;
 use std::alloc::{AllocError, Global};
 
-fn push_word(text: &mut Vec<u8>, word: &[u8]) -> Result<(), AllocError>
+/// Whether memory was found for what was to be pushed.
+pub(crate) type Pushed = Result<(), AllocError>;
+
+fn push_word(text: &mut Vec<u8>, word: &[u8]) -> Pushed
     ensures { OnOk result (text.new.items ≡ text.old.items ++ space ∷ word.now) }
 {
     text.push(b' ')?;
@@ -20,7 +23,7 @@ fn push_word(text: &mut Vec<u8>, word: &[u8]) -> Result<(), AllocError>
     Ok(())
 }
 
-fn push_number_word(text: &mut Vec<u8>, number: u64) -> Result<(), AllocError>
+fn push_number_word(text: &mut Vec<u8>, number: u64) -> Pushed
     ensures { OnOk result (text.new.items ≡ text.old.items ++ space ∷ decimal number) }
 {
     text.push(b' ')?;
@@ -28,7 +31,7 @@ fn push_number_word(text: &mut Vec<u8>, number: u64) -> Result<(), AllocError>
 }
 
 #[tactic(auto, using(std::proofs::Common::append_assoc), unfolding(crate::specs::Printing::ended, crate::specs::Sheet::line_text))]
-fn push_title(text: &mut Vec<u8>, second: bool) -> Result<(), AllocError>
+fn push_title(text: &mut Vec<u8>, second: bool) -> Pushed
     ensures { OnOk result (text.new.items ≡ text.old.items ++ ended (title_line second)) }
 {
     if second {
@@ -39,7 +42,7 @@ fn push_title(text: &mut Vec<u8>, second: bool) -> Result<(), AllocError>
     Ok(())
 }
 
-fn push_ids(text: &mut Vec<u8>, ids: &[StoreId]) -> Result<(), AllocError>
+fn push_ids(text: &mut Vec<u8>, ids: &[StoreId]) -> Pushed
     ensures { OnOk result (text.new.items ≡ text.old.items ++ spaced (map id_text ids.now)) }
 {
     let mut rest = ids;
@@ -50,7 +53,7 @@ fn push_ids(text: &mut Vec<u8>, ids: &[StoreId]) -> Result<(), AllocError>
     Ok(())
 }
 
-fn push_stores(text: &mut Vec<u8>, ids: &[StoreId]) -> Result<(), AllocError>
+fn push_stores(text: &mut Vec<u8>, ids: &[StoreId]) -> Pushed
     ensures { OnOk result (text.new.items ≡ text.old.items ++ ended (stores_line ids.now)) }
 {
     text.extend_from_slice(b"stores")?;
@@ -59,7 +62,7 @@ fn push_stores(text: &mut Vec<u8>, ids: &[StoreId]) -> Result<(), AllocError>
     Ok(())
 }
 
-fn push_amounts(text: &mut Vec<u8>, amounts: &[u32]) -> Result<(), AllocError>
+fn push_amounts(text: &mut Vec<u8>, amounts: &[u32]) -> Pushed
     ensures { OnOk result (text.new.items ≡ text.old.items ++ spaced (map decimal amounts.now)) }
 {
     let mut rest = amounts;
@@ -70,7 +73,7 @@ fn push_amounts(text: &mut Vec<u8>, amounts: &[u32]) -> Result<(), AllocError>
     Ok(())
 }
 
-fn push_dump(text: &mut Vec<u8>, step: u32, amounts: &[u32]) -> Result<(), AllocError>
+fn push_dump(text: &mut Vec<u8>, step: u32, amounts: &[u32]) -> Pushed
     ensures { OnOk result (text.new.items ≡ text.old.items ++ ended (dump_line step amounts.now)) }
 {
     text.extend_from_slice(b"dump")?;
@@ -81,12 +84,7 @@ fn push_dump(text: &mut Vec<u8>, step: u32, amounts: &[u32]) -> Result<(), Alloc
 }
 
 // A line for each step, with the amounts of as many stores.
-fn push_dumps(
-    text: &mut Vec<u8>,
-    stores: usize,
-    steps: u32,
-    amounts: &[u32],
-) -> Result<(), AllocError>
+fn push_dumps(text: &mut Vec<u8>, stores: usize, steps: u32, amounts: &[u32]) -> Pushed
     requires { length amounts.now ≡ steps * stores }
     ensures { OnOk result (text.new.items ≡ text.old.items ++ all_ended (dump_lines stores 1 steps amounts.now)) }
 {
@@ -100,14 +98,14 @@ fn push_dumps(
 }
 
 // A line for each step of the plan.
-fn push_plan(text: &mut Vec<u8>, plan: &Plan) -> Result<(), AllocError>
+fn push_plan(text: &mut Vec<u8>, plan: &Plan) -> Pushed
     ensures { OnOk result (text.new.items ≡ text.old.items ++ all_ended (plan_lines plan.now)) }
 {
     push_dumps(text, plan.stores, plan.steps, plan.amounts.as_slice())
 }
 
 #[tactic(auto, using(std::proofs::Common::append_assoc), unfolding(crate::specs::Printing::ended, crate::specs::Sheet::line_text))]
-fn push_loss(text: &mut Vec<u8>, loss: u64) -> Result<(), AllocError>
+fn push_loss(text: &mut Vec<u8>, loss: u64) -> Pushed
     ensures { OnOk result (text.new.items ≡ text.old.items ++ ended (loss_line loss)) }
 {
     text.extend_from_slice(b"loss")?;
@@ -117,7 +115,7 @@ fn push_loss(text: &mut Vec<u8>, loss: u64) -> Result<(), AllocError>
 }
 
 #[tactic(auto, using(std::proofs::Common::append_assoc), unfolding(crate::specs::Printing::ended, crate::specs::Sheet::line_text))]
-fn push_stretch(text: &mut Vec<u8>, stretch: Stretch) -> Result<(), AllocError>
+fn push_stretch(text: &mut Vec<u8>, stretch: Stretch) -> Pushed
     ensures { OnOk result (text.new.items ≡ text.old.items ++ ended (stretch_line stretch)) }
 {
     text.extend_from_slice(b"stretch")?;
@@ -128,7 +126,7 @@ fn push_stretch(text: &mut Vec<u8>, stretch: Stretch) -> Result<(), AllocError>
     Ok(())
 }
 
-fn push_cut(text: &mut Vec<u8>, cut: &[Stretch]) -> Result<(), AllocError>
+fn push_cut(text: &mut Vec<u8>, cut: &[Stretch]) -> Pushed
     ensures { OnOk result (text.new.items ≡ text.old.items ++ all_ended (map stretch_line cut.now)) }
 {
     let mut rest = cut;
@@ -140,7 +138,7 @@ fn push_cut(text: &mut Vec<u8>, cut: &[Stretch]) -> Result<(), AllocError>
 }
 
 #[tactic(auto, using(std::proofs::Common::append_assoc), unfolding(crate::specs::Printing::ended, crate::specs::Sheet::line_text))]
-fn push_count(text: &mut Vec<u8>, step: u32) -> Result<(), AllocError>
+fn push_count(text: &mut Vec<u8>, step: u32) -> Pushed
     ensures { OnOk result (text.new.items ≡ text.old.items ++ ended (count_line step)) }
 {
     text.extend_from_slice(b"count")?;
@@ -149,7 +147,7 @@ fn push_count(text: &mut Vec<u8>, step: u32) -> Result<(), AllocError>
     Ok(())
 }
 
-fn push_counts(text: &mut Vec<u8>, steps: &[u32]) -> Result<(), AllocError>
+fn push_counts(text: &mut Vec<u8>, steps: &[u32]) -> Pushed
     ensures { OnOk result (text.new.items ≡ text.old.items ++ all_ended (map count_line steps.now)) }
 {
     let mut rest = steps;
@@ -161,7 +159,7 @@ fn push_counts(text: &mut Vec<u8>, steps: &[u32]) -> Result<(), AllocError>
 }
 
 #[tactic(auto, using(std::proofs::Common::append_assoc), unfolding(crate::specs::Printing::ended, crate::specs::Sheet::line_text))]
-fn push_bound(text: &mut Vec<u8>, bound: i64) -> Result<(), AllocError>
+fn push_bound(text: &mut Vec<u8>, bound: i64) -> Pushed
     ensures { OnOk result (text.new.items ≡ text.old.items ++ ended (bound_line bound)) }
 {
     text.extend_from_slice(b"bound")?;
@@ -175,7 +173,7 @@ fn push_bound(text: &mut Vec<u8>, bound: i64) -> Result<(), AllocError>
 }
 
 #[tactic(auto, using(std::proofs::Common::append_assoc), unfolding(crate::specs::Printing::ended, crate::specs::Sheet::line_text))]
-fn push_end(text: &mut Vec<u8>) -> Result<(), AllocError>
+fn push_end(text: &mut Vec<u8>) -> Pushed
     ensures { OnOk result (text.new.items ≡ text.old.items ++ ended end_line) }
 {
     text.extend_from_slice(b"end\n")?;
@@ -184,12 +182,7 @@ fn push_end(text: &mut Vec<u8>) -> Result<(), AllocError>
 
 // The lines up to the dumps.
 #[tactic(auto, using(std::proofs::Common::append_assoc))]
-pub(crate) fn push_front(
-    text: &mut Vec<u8>,
-    second: bool,
-    ids: &[StoreId],
-    plan: &Plan,
-) -> Result<(), AllocError>
+pub(crate) fn push_front(text: &mut Vec<u8>, second: bool, ids: &[StoreId], plan: &Plan) -> Pushed
     ensures { OnOk result (text.new.items ≡ text.old.items
         ++ (ended (title_line second) ++ ended (stores_line ids.now) ++ all_ended (plan_lines plan.now))) }
 {
@@ -207,7 +200,7 @@ pub(crate) fn push_certificate(
     cut: &[Stretch],
     by_channels: &[u32],
     bound: i64,
-) -> Result<(), AllocError>
+) -> Pushed
     ensures { OnOk result (text.new.items ≡ text.old.items
         ++ (ended (loss_line loss) ++ all_ended (map stretch_line cut.now) ++ all_ended (map count_line by_channels.now)
         ++ ended (bound_line bound) ++ ended end_line)) }

@@ -9,10 +9,11 @@ ghost use Rattle.mm_plan.specs.Tabled.{AreTabled};
 
 use crate::loss::loss_of;
 use crate::plan::Plan;
+use crate::print::Pushed;
 use mm_base::NoMemory;
 use mm_base::grid::place;
 use mm_problem::Problem;
-use std::alloc::{AllocError, Global};
+use std::alloc::Global;
 use std::marker::Model;
 
 // Blocks for each store and step, step by step, in each the stores in order.
@@ -81,13 +82,7 @@ impl Simulated {
 
 impl Tables {
     // Adds what the plan does to one store in one step.
-    fn push(
-        &mut self,
-        problem: &Problem,
-        plan: &Plan,
-        store: usize,
-        step: u32,
-    ) -> Result<(), AllocError>
+    fn push(&mut self, problem: &Problem, plan: &Plan, store: usize, step: u32) -> Pushed
         requires shape { HasShape problem.now plan.now }
         requires store { store < length problem.now.rows }
         requires first { 1 ≤ step }
@@ -110,7 +105,7 @@ impl Tables {
     }
 
     // Adds what the plan does in one step.
-    fn push_step(&mut self, problem: &Problem, plan: &Plan, step: u32) -> Result<(), AllocError>
+    fn push_step(&mut self, problem: &Problem, plan: &Plan, step: u32) -> Pushed
         requires shape { HasShape problem.now plan.now }
         requires first { 1 ≤ step }
         requires last { step ≤ length problem.now.windows }

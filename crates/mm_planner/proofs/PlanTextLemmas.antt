@@ -13,11 +13,11 @@ use Rattle.mm_cut.specs.Verdicts.{VerdictsExclude, IsVerdict}
 use Rattle.mm_cut.specs.declared.verdict.Verdict.TheVariants.{Least}
 use Rattle.mm_problem.specs.Texts.{SaysProblem}
 use Rattle.mm_planner.specs.Planned.{SheetShows}
-use Rattle.mm_planner.specs.PlanTexts.{PlansLeast, PlansCheckLeast, ShowsInOrder}
+use Rattle.mm_planner.specs.PlanTexts.{PlansLeast, PlansFor, PlansCheckLeast}
 use Rattle.mm_planner.proofs.CutOrder.{cut_in_order, bound_in_order}
 
 -- in the order in which it is printed, a sheet shows the same
-pub shows_in_order : ShowsInOrder
+shows_in_order : (q : Dumping) (s r : SheetRows) → SheetShows q s → IsOrdered s r → SheetShows q r
 shows_in_order q s r shows ordered =
     let same_plan = sym ordered.plan in
     let same_loss = sym ordered.loss in
@@ -30,15 +30,13 @@ shows_in_order q s r shows ordered =
       bound = bound_in_order q s.cut r.cut s.by_channels r.by_channels ordered.cut.same ordered.counts.same ∙ shows.bound ∙ ap pos same_loss;
     }
 
--- the printed text of a sheet that shows it plans least
-pub printed_plans_least : (setup forecast text : List ℕ) (q : Dumping) (s : SheetRows) → SaysProblem setup forecast q → IsSheet s → IsShapedFor q s → SheetShows q s → s.bound ≡ pos s.loss → IsPrinted s text → PlansLeast setup forecast text
-printed_plans_least setup forecast text q s says is shaped shows tight printed =
+-- a sheet that shows that its plan loses least, and its text
+pub printed_plans : (q : Dumping) (s : SheetRows) (text : List ℕ) → IsSheet s → IsShapedFor q s → SheetShows q s → s.bound ≡ pos s.loss
+    → (printed : IsPrinted s text) → PlansFor q text printed.0
+printed_plans q s text is shaped shows tight printed =
     let r = printed.0 in
     let ordered : IsOrdered s r = printed.1 in
     record {
-      problem = q;
-      sheet = r;
-      says_problem = says;
       says_sheet = record {
         is_sheet = printed.2 is;
         text = printed.3;
@@ -46,7 +44,10 @@ printed_plans_least setup forecast text q s says is shaped shows tight printed =
       };
       shows_least = shows_in_order q s r shows ordered;
       tight = ordered.bound ∙ tight ∙ ap pos (sym ordered.loss);
-      in_order = record { cut = subst (λ ids. IsSortedByKey (stretch_key ids) key_cmp r.cut) (sym ordered.stores) ordered.cut.order; counts = ordered.counts.order };
+      in_order = record {
+        cut = subst (λ ids. IsSortedByKey (stretch_key ids) key_cmp r.cut) (sym ordered.stores) ordered.cut.order;
+        counts = ordered.counts.order;
+      };
     }
 
 -- ---- the law
@@ -70,8 +71,8 @@ plans_check_least exclude one_sheet setup forecast text planned v checks =
     let q = planned.problem in
     let s = planned.sheet in
     let same_problem = one_problem setup forecast checks.problem q checks.says_problem planned.says_problem in
-    let same_sheet = one_sheet checks.sheet s checks.says_sheet.is_sheet planned.says_sheet.is_sheet (sym checks.says_sheet.text ∙ planned.says_sheet.text) in
+    let same_sheet = one_sheet checks.sheet s checks.says_sheet.is_sheet planned.plans.says_sheet.is_sheet (sym checks.says_sheet.text ∙ planned.plans.says_sheet.text) in
     let said : IsVerdict q (amount s.plan) s.cut s.by_channels s.loss s.bound v =
     subst (λ r. IsVerdict q (amount r.plan) r.cut r.by_channels r.loss r.bound v) same_sheet
     (subst (λ p. IsVerdict p (amount checks.sheet.plan) checks.sheet.cut checks.sheet.by_channels checks.sheet.loss checks.sheet.bound v) same_problem checks.verdict) in
-    exclude q (amount s.plan) s.cut s.by_channels s.loss s.bound v (Least (loss q (amount s.plan))) said (least_verdict q s planned.shows_least planned.tight)
+    exclude q (amount s.plan) s.cut s.by_channels s.loss s.bound v (Least (loss q (amount s.plan))) said (least_verdict q s planned.plans.shows_least planned.plans.tight)

@@ -6,30 +6,41 @@ use Rattle.mm_problem.specs.Dumping.{Dumping}
 use Rattle.mm_plan.specs.Table.{amount}
 use Rattle.mm_plan.specs.Volumes.{loss}
 use Rattle.mm_plan.specs.Sheet.{SheetRows}
-use Rattle.mm_plan.specs.Printing.{IsOrdered, stretch_key, key_cmp}
+use Rattle.mm_plan.specs.Printing.{stretch_key, key_cmp}
 use Rattle.mm_cut.specs.declared.verdict.Verdict.{Verdict}
 use Rattle.mm_cut.specs.declared.verdict.Verdict.TheVariants.{Least}
 use Rattle.mm_cut.specs.declared.fault.Fault.{Fault}
 use Rattle.mm_cut.specs.declared.fault.Fault.TheVariants.{NoMemory, Problem, Plan}
 use Rattle.mm_problem.specs.Texts.{problem_in, SaysProblem}
 use Rattle.mm_cut.specs.Checking.{SaysSheet, Checks}
-use Rattle.mm_planner.specs.Planned.{ShowsLeast, SheetShows}
+use Rattle.mm_planner.specs.Planned.{ShowsLeast}
+use Rattle.mm_planner.specs.declared.texts.PrintedPlan.{PrintedPlan}
 
 -- the stretches stand in store order, then by first and by last step, and the counted steps rise
 pub record IsInOrder (s : SheetRows) : Type 0 where
   pub cut : IsSortedByKey (stretch_key s.stores) key_cmp s.cut
   pub counts : IsNonDecreasing s.by_channels
 
--- the text says a sheet, in order, for the problem that the setup and the forecast say, and the sheet shows that its plan loses
--- least: loss and bound are as it says, and are one number
+-- the text says this sheet for the problem, in the order in which sheets are printed, and the sheet shows that its plan loses least:
+-- loss and bound are as it says, and are one number
+pub record PlansFor (q : Dumping) (text : List ℕ) (sheet : SheetRows) : Type 0 where
+  pub says_sheet : SaysSheet q text sheet
+  pub shows_least : ShowsLeast q sheet.plan sheet.cut sheet.by_channels sheet.loss
+  pub tight : sheet.bound ≡ pos sheet.loss
+  pub in_order : IsInOrder sheet
+
+-- the plan and its text, which says the plan
+pub record IsPrintedFor (q : Dumping) (printed : PrintedPlan) : Type 0 where
+  pub sheet : SheetRows
+  pub plans : PlansFor q printed.text.items sheet
+  pub plan_is : printed.sheet.plan ≡ sheet.plan
+
+-- the text says a sheet for the problem that the setup and the forecast say, and the sheet shows that its plan loses least
 pub record PlansLeast (setup forecast text : List ℕ) : Type 0 where
   pub problem : Dumping
   pub sheet : SheetRows
   pub says_problem : SaysProblem setup forecast problem
-  pub says_sheet : SaysSheet problem text sheet
-  pub shows_least : ShowsLeast problem sheet.plan sheet.cut sheet.by_channels sheet.loss
-  pub tight : sheet.bound ≡ pos sheet.loss
-  pub in_order : IsInOrder sheet
+  pub plans : PlansFor problem text sheet
 
 -- the first fault of the setup and the forecast; want of memory is none, whoever lacked it
 abbrev pub IsPlanningFault : List ℕ → List ℕ → Fault → Type 0
@@ -43,7 +54,3 @@ abbrev pub PlansCheckLeast : Type 0
 PlansCheckLeast =
     (setup forecast text : List ℕ) (planned : PlansLeast setup forecast text) (v : Verdict) → Checks setup forecast text v
     → v ≡ Least (loss planned.problem (amount planned.sheet.plan))
-
--- a sheet that shows that its plan loses least shows it in the order in which it is printed too
-abbrev pub ShowsInOrder : Type 0
-ShowsInOrder = (q : Dumping) (s r : SheetRows) → SheetShows q s → IsOrdered s r → SheetShows q r

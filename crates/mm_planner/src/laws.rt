@@ -1,6 +1,6 @@
 //! What holds of every solution of a problem's network, whatever solves it, and of every text that plans least.
 ghost use Rattle.mm_planner.specs.Planned.{SolutionsPlan};
-ghost use Rattle.mm_planner.specs.PlanTexts.{PlansCheckLeast, ShowsInOrder};
+ghost use Rattle.mm_planner.specs.PlanTexts.{PlansCheckLeast};
 
 /// Every solution of a problem's network gives a plan that loses least and the cut that shows it.
 pub fn solutions_plan()
@@ -16,8 +16,3 @@ pub fn plans_check_least()
     mm_cut::verdicts_exclude();
     mm_plan::laws::one_text_one_sheet()
 }
-
-/// A sheet that shows that its plan loses least shows it too with its cut in the order in which it is printed.
-pub fn sheets_show_in_order()
-    ensures { ShowsInOrder }
-{}

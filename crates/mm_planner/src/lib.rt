@@ -13,10 +13,10 @@ mod texts;
 mod way;
 
 pub use building::network_of;
-pub use laws::{plans_check_least, sheets_show_in_order, solutions_plan};
+pub use laws::{plans_check_least, solutions_plan};
 pub use mm_base::NoMemory;
 pub use mm_cut::{Fault, check_bytes};
 pub use nodes::{SINK, SOURCE};
 pub use planner::{Planned, plan, plan_by_flow};
 pub use sheets::sheet;
-pub use texts::plan_bytes;
+pub use texts::{PrintedPlan, plan_bytes, print_plan};

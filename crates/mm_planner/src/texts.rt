@@ -1,22 +1,39 @@
-//! From the bytes of a setup and a forecast to the text of a plan.
+//! From a problem, or the bytes of a setup and a forecast, to the text of a plan.
 ghost use Rattle.std.specs.Prelude.{IfOk};
 ghost use Rattle.mm_base.specs.Reading.{IfRefused};
-ghost use Rattle.mm_cut.specs.declared.fault.Fault.TheVariants.{NoMemory};
-ghost use Rattle.mm_planner.specs.PlanTexts.{PlansLeast, IsPlanningFault};
+ghost use Rattle.mm_cut.specs.declared.fault.Fault.TheVariants as fault;
+ghost use Rattle.mm_planner.specs.PlanTexts.{IsPrintedFor, PlansLeast, IsPlanningFault};
 
 use crate::sheets::sheet;
+use mm_base::NoMemory;
 use mm_cut::Fault;
-use mm_problem::read_problem;
+use mm_plan::Sheet;
+use mm_problem::{Problem, read_problem};
 use std::alloc::Global;
+
+/// The sheet of a plan that loses least, and its text.
+#[derive(Drop)]
+pub struct PrintedPlan {
+    pub sheet: Sheet,
+    pub text: Vec<u8>,
+}
+
+/// Plans, and prints the sheet.
+pub fn print_plan(alloc: Global, problem: &Problem) -> Result<PrintedPlan, NoMemory>
+    ensures { IfOk result (IsPrintedFor problem.now) }
+{
+    let sheet = sheet(alloc, problem)?;
+    let text = sheet.print(alloc)?;
+    Ok(PrintedPlan { sheet, text })
+}
 
 /// The text of a dump plan that loses least in the problem that the setup and the forecast say, with the cut that shows
 /// it. Otherwise the first fault, of the setup and then of the forecast.
 pub fn plan_bytes(alloc: Global, setup: &[u8], forecast: &[u8]) -> Result<Vec<u8>, Fault>
     ensures text { IfOk result (λ text. PlansLeast setup.now forecast.now text.items) }
-    ensures refused { IfRefused NoMemory result (IsPlanningFault setup.now forecast.now) }
+    ensures refused { IfRefused fault.NoMemory result (IsPlanningFault setup.now forecast.now) }
 {
     let problem = read_problem(alloc, setup, forecast)?;
-    let sheet = sheet(alloc, &problem)?;
-    let text = sheet.print(alloc)?;
-    Ok(text)
+    let printed = print_plan(alloc, &problem)?;
+    Ok(printed.text)
 }

@@ -1,9 +1,10 @@
 //! The tests of a problem from data, which are those of the readers.
-ghost use Rattle.std.specs.Prelude.{◌≤◌, [], length, pos};
+ghost use Rattle.std.specs.Prelude.{◌≤◌, ◌<◌, List, [], length, pos, Result};
 ghost use Rattle.mm_base.specs.Reading.{Gives};
-ghost use Rattle.mm_base.specs.declared.limits.TheConstants.{MAX_STORES, MAX_BLOCKS, CHANNELS};
-ghost use Rattle.mm_problem.specs.Data.{store_fits, limit_fits, rows_fit, amounts_fit, step_fits, steps_fit};
+ghost use Rattle.mm_base.specs.declared.limits.TheConstants.{MAX_BLOCKS, MAX_CHANNEL};
+ghost use Rattle.mm_problem.specs.Data.{rows_fit, amounts_fit, step_fits, steps_fit};
 ghost use Rattle.mm_problem.specs.Keys.{within};
+ghost use Rattle.mm_problem.specs.declared.fault.Fault.{Fault};
 ghost use Rattle.mm_problem.specs.declared.fault.Fault.TheVariants.{NoMemory};
 
 use crate::fault::{Fault, Name};
@@ -13,59 +14,58 @@ use crate::steps::test_another_step;
 use crate::tables::{test_new_limit, test_new_store};
 use mm_base::{LimitRow, MAX_BLOCKS, MAX_CHANNEL, StoreRow};
 
-// Tests a store after these earlier ones.
-#[tactic(auto, unfolding(crate::specs::Data::store_fits))]
-fn test_store(earlier: &[StoreRow], row: &StoreRow) -> Result<(), Fault>
-    requires { length earlier.now ≤ MAX_STORES }
-    ensures { Gives NoMemory (λ x. x) result (store_fits earlier.now row.now) }
-{
-    within(1, MAX_BLOCKS, Name::Size, i64::from(row.size))?;
-    within(
-        0,
-        u32::from(MAX_CHANNEL),
-        Name::Channel,
-        i64::from(row.channel),
-    )?;
-    within(0, row.size, Name::Start, i64::from(row.start))?;
-    test_new_store(earlier, row)
+// A row that is tested after the rows before it.
+pub(crate) trait Tested: Sized {
+    // Its tests, in order.
+    ghost fits: { List Self → Self → Result (Unit {0}) Fault };
+
+    fn test(earlier: &[Self], row: &Self) -> Result<(), Fault>
+        requires { length earlier.now < 256 }
+        ensures { Gives NoMemory (λ x. x) result (fits earlier.now row.now) };
 }
 
-// Tests a limit after these earlier ones.
-#[tactic(auto, unfolding(crate::specs::Data::limit_fits))]
-fn test_limit(earlier: &[LimitRow], row: &LimitRow) -> Result<(), Fault>
-    requires { length earlier.now ≤ CHANNELS }
-    ensures { Gives NoMemory (λ x. x) result (limit_fits earlier.now row.now) }
+// Tests a virtual channel.
+fn test_channel(channel: u8) -> Result<u32, Fault>
+    ensures { Gives NoMemory (λ n. n) result (within 0 MAX_CHANNEL Name.Channel (pos channel)) }
 {
-    within(
-        0,
-        u32::from(MAX_CHANNEL),
-        Name::Channel,
-        i64::from(row.channel),
-    )?;
-    test_amount(Name::Blocks, row.blocks)?;
-    test_new_limit(earlier, row)
+    within(0, u32::from(MAX_CHANNEL), Name::Channel, i64::from(channel))
 }
 
-// Tests stores, each after those before it.
-#[tactic(auto, using(crate::proofs::DataLaws::no_row_left))]
-pub(crate) fn test_stores(rows: &[StoreRow]) -> Result<(), Fault>
-    requires { length rows.now ≤ MAX_STORES }
-    ensures { Gives NoMemory (λ x. x) result (rows_fit store_fits [] rows.now) }
-{
-    for (place, row) in rows.iter().enumerate() {
-        test_store(&rows[..place], row)?;
+impl Tested for StoreRow {
+    ghost use Rattle.mm_problem.specs.Data.{store_fits};
+
+    ghost fits = { store_fits };
+
+    #[tactic(auto, unfolding(crate::specs::Data::store_fits))]
+    fn test(earlier: &[StoreRow], row: &StoreRow) -> Result<(), Fault> {
+        within(1, MAX_BLOCKS, Name::Size, i64::from(row.size))?;
+        test_channel(row.channel)?;
+        within(0, row.size, Name::Start, i64::from(row.start))?;
+        test_new_store(earlier, row)
     }
-    Ok(())
 }
 
-// Tests limits, each after those before it.
+impl Tested for LimitRow {
+    ghost use Rattle.mm_problem.specs.Data.{limit_fits};
+
+    ghost fits = { limit_fits };
+
+    #[tactic(auto, unfolding(crate::specs::Data::limit_fits))]
+    fn test(earlier: &[LimitRow], row: &LimitRow) -> Result<(), Fault> {
+        test_channel(row.channel)?;
+        test_amount(Name::Blocks, row.blocks)?;
+        test_new_limit(earlier, row)
+    }
+}
+
+// Tests rows, each after those before it.
 #[tactic(auto, using(crate::proofs::DataLaws::no_row_left))]
-pub(crate) fn test_limits(rows: &[LimitRow]) -> Result<(), Fault>
-    requires { length rows.now ≤ CHANNELS }
-    ensures { Gives NoMemory (λ x. x) result (rows_fit limit_fits [] rows.now) }
+pub(crate) fn test_rows<R: Tested>(rows: &[R]) -> Result<(), Fault>
+    requires { length rows.now ≤ 256 }
+    ensures { Gives NoMemory (λ x. x) result (rows_fit R.fits [] rows.now) }
 {
     for (place, row) in rows.iter().enumerate() {
-        test_limit(&rows[..place], row)?;
+        R::test(&rows[..place], row)?;
     }
     Ok(())
 }

@@ -9,7 +9,7 @@ ghost use Rattle.mm_problem.specs.Rest.{rows_from, starts_fit, rest_from};
 ghost use Rattle.mm_problem.specs.declared.fault.Fault.TheVariants.{NoMemory};
 ghost use Rattle.mm_base.specs.Reading.{Gives};
 
-use crate::data::{test_limits, test_steps, test_stores};
+use crate::data::{test_rows, test_steps};
 use crate::document::{test_limit_count, test_store_count};
 use crate::fault::{Fault, Name};
 use crate::reading::test;
@@ -120,8 +120,8 @@ impl Problem {
     {
         test_store_count(rows.len())?;
         test_limit_count(limits.len())?;
-        test_stores(rows)?;
-        test_limits(limits)?;
+        test_rows(rows)?;
+        test_rows(limits)?;
         test_steps(rows.len(), windows, arrivals)?;
         test_some_step(windows.len())?;
         let rows = Vec::from_slice(alloc, rows)?;

@@ -28,3 +28,10 @@ impl Node {
         }
     }
 }
+
+/// A node of a span, which counts from 0.
+#[derive(Clone, Copy)]
+pub(crate) struct Place {
+    pub(crate) span: usize,
+    pub(crate) node: Node,
+}

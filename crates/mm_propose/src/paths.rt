@@ -1,15 +1,8 @@
 //! Paths by which a block that is lost could go instead, walked back from where it would end.
-use crate::node::Node;
+use crate::node::{Node, Place};
 use crate::spans::Span;
 use crate::stores::Stores;
 use mm_problem::{CHANNELS, MAX_STORES};
-
-/// A node of a span, which counts from 0.
-#[derive(Clone, Copy)]
-pub(crate) struct Place {
-    pub(crate) span: usize,
-    pub(crate) node: Node,
-}
 
 /// What an arc changes in its span, by store or by channel.
 #[derive(Clone, Copy)]

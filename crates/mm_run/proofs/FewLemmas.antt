@@ -12,7 +12,7 @@ use Rattle.mm_run.specs.declared.source.ScriptedSource.{ScriptedSource}
 use Rattle.mm_run.specs.declared.source.TheConstants.{MAX_PACKETS}
 use Rattle.mm_run.specs.SourceLine.{source_line_at}
 use Rattle.mm_run.specs.Sources.{is_of, packets_of, has_room, with_source_line, with_line, with_lines, source_lines_of, given, AreFrom, AreFew, Says}
-use Rattle.mm_run.specs.Words.{file_lines}
+use Rattle.mm_base.specs.Lines.{file_lines}
 use Rattle.mm_run.proofs.Picked.{picked-more}
 
 -- of each source and step there are few lines

@@ -1,7 +1,6 @@
 pub mod DraftLemmas
 pub mod FewLemmas
 pub mod GivenLemmas
-pub mod LineLemmas
 pub mod LinkLemmas
 pub mod Picked
 pub mod Endings

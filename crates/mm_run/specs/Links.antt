@@ -9,7 +9,8 @@ use Rattle.mm_run.specs.declared.link.ScriptedLink.{ScriptedLink}
 use Rattle.mm_run.specs.declared.links.Failing.{Failing}
 use Rattle.mm_run.specs.declared.links.TheConstants.{MAX_WRITTEN, MAX_SEND}
 use Rattle.mm_run.specs.LinkView.{new_link}
-use Rattle.mm_run.specs.Words.{file_lines, cut_word, number_in}
+use Rattle.mm_base.specs.Lines.{file_lines, cut_word}
+use Rattle.mm_run.specs.Words.{number_in}
 
 -- the number of links that a line `links N` says
 unfoldable pub count_at : ScriptFault → List ℕ → Result ℕ ScriptFault

@@ -11,7 +11,8 @@ use Rattle.mm_packet.specs.declared.block.TheConstants.{BLOCK}
 use Rattle.mm_run.specs.declared.source_line.SourceLine.{SourceLine}
 use Rattle.mm_run.specs.declared.source_line.TheConstants.{MAX_SOURCES}
 use Rattle.mm_run.specs.declared.script_fault.ScriptFault.{ScriptFault}
-use Rattle.mm_run.specs.Words.{cut_word, number_in}
+use Rattle.mm_base.specs.Lines.{cut_word}
+use Rattle.mm_run.specs.Words.{number_in}
 
 -- a value, or this fault in place of any other
 abbrev pub or_fault : {A E : Type 0} → ScriptFault → Result A E → Result A ScriptFault

@@ -8,7 +8,7 @@ use Rattle.mm_run.specs.declared.script_fault.ScriptFault.TheVariants.{SourcesTe
 use Rattle.mm_run.specs.declared.source.ScriptedSource.{ScriptedSource}
 use Rattle.mm_run.specs.declared.source.TheConstants.{MAX_PACKETS}
 use Rattle.mm_run.specs.SourceLine.{source_line_at}
-use Rattle.mm_run.specs.Words.{file_lines}
+use Rattle.mm_base.specs.Lines.{file_lines}
 
 -- whether a line is of this source and this step
 abbrev pub is_of : ℕ → ℕ → SourceLine → Bool

@@ -3,13 +3,14 @@ ghost use Rattle.std.specs.Prelude.{◌≡◌, ◌-◌, ◌≤◌, ◌++◌, ◌
 ghost use Rattle.std.proofs.Math.ListN.{replicate};
 ghost use Rattle.mm_base.specs.Reading.{Gives, IfRefused};
 ghost use Rattle.mm_run.specs.Links.{count_at, failing_at, with_failing, linked_of, AreLinked, AreFailing, SaysLinks};
-ghost use Rattle.mm_run.specs.Words.{file_lines};
+ghost use Rattle.mm_base.specs.Lines.{file_lines};
 ghost use Rattle.mm_run.specs.LinkView.{new_link};
 
 use crate::link::ScriptedLink;
 use crate::script_fault::ScriptFault;
-use crate::words::{cut_word, first_line, number_in};
+use crate::words::number_in;
 use mm_base::NoMemory;
+use mm_base::lines::{cut_word, first_line};
 use std::alloc::Global;
 
 /// The greatest number of links that a text can say: one of two digits. A run takes fewer.

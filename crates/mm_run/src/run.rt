@@ -20,7 +20,7 @@ use crate::texts::{
     read_sources_and_links,
 };
 use mm_base::NoMemory;
-use mm_exec::{Flown, Halted, NotFlown, carry_out, fly};
+use mm_exec::{Flown, FlyResult, Halted, NotFlown, carry_out, fly};
 use mm_memory::Memory;
 use mm_plan::Sheet;
 use mm_problem::Problem;
@@ -37,7 +37,7 @@ fn fly_sheet<R: Threads + Wait + Sync>(
     problem: &Problem,
     sources: Vec<ScriptedSource>,
     links: Vec<ScriptedLink>,
-) -> Result<Flown<ScriptedSource, ScriptedLink>, NotFlown<ScriptedSource, ScriptedLink>>
+) -> FlyResult<ScriptedSource, ScriptedLink>
     requires links { All (λ l. l.failed < 2 ^ 64 - 1) links.items }
     ensures flown { IfOk result (IsFlown (Some sheet.now) problem.now memory.old sources.items links.items memory.new) }
     ensures not_flown { IfErr result (IsNotFlown (Some sheet.now) problem.now memory.old sources.items links.items memory.new) }
@@ -57,12 +57,12 @@ fn fly_sheet<R: Threads + Wait + Sync>(
 fn fly_plan<R: Threads + Wait + Sync>(
     rt: &R,
     alloc: Global,
-    sheet: Option<Sheet>,
     memory: &mut Memory,
     problem: &Problem,
+    sheet: Option<Sheet>,
     sources: Vec<ScriptedSource>,
     links: Vec<ScriptedLink>,
-) -> Result<Flown<ScriptedSource, ScriptedLink>, NotFlown<ScriptedSource, ScriptedLink>>
+) -> FlyResult<ScriptedSource, ScriptedLink>
     requires links { All (λ l. l.failed < 2 ^ 64 - 1) links.items }
     ensures flown { IfOk result (IsFlown sheet problem.now memory.old sources.items links.items memory.new) }
     ensures not_flown { IfErr result (IsNotFlown sheet problem.now memory.old sources.items links.items memory.new) }
@@ -99,7 +99,7 @@ fn carry<R: Threads + Wait + Sync>(
     constants_are();
     offer_all(alloc, &mut memory, opening.as_slice())?;
     let reserved = ReservedLines::new(alloc)?;
-    match fly_plan(rt, alloc, sheet, &mut memory, &problem, sources, links) {
+    match fly_plan(rt, alloc, &mut memory, &problem, sheet, sources, links) {
         Ok(Flown { sheet, report, .. }) => Printed::whole(alloc, sheet, reserved, &report),
         Err(NotFlown { sheet, halted }) => {
             let Halted { cause, report, .. } = halted;

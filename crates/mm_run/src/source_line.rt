@@ -6,8 +6,9 @@ ghost use Rattle.mm_run.specs.declared.script_fault.ScriptFault.TheVariants.{NoM
 
 use crate::packet::packet_in;
 use crate::script_fault::ScriptFault;
-use crate::words::{cut_word, number_in};
+use crate::words::number_in;
 use mm_base::MAX_STEPS;
+use mm_base::lines::cut_word;
 use mm_packet::BlockPacket;
 use std::alloc::Global;
 

@@ -9,8 +9,8 @@ ghost use Rattle.mm_run.specs.Sources.{given, Says, AreFew, source_lines_of};
 use crate::script_fault::ScriptFault;
 use crate::source::{MAX_PACKETS, ScriptedSource};
 use crate::source_line::{MAX_SOURCES, SourceLine, source_line_at};
-use crate::words::first_line;
 use mm_base::NoMemory;
+use mm_base::lines::first_line;
 use mm_packet::BlockPacket;
 use std::alloc::Global;
 

@@ -37,6 +37,18 @@ at_rest m = (knows m.0.first m.0.lists None, [])
 abbrev pub Holds : Seated → Seated → Type 0
 Holds m n = (s : State) × (n ≡ holding m s s)
 
+-- a seat of this table, which has one slot, may take the state: it is at rest, and has a seat of the store at least
+pub record MayTake (id : TableId) (seat : Seat State Knows) : Type 0 where
+  pub of : seat.table_id ≡ id
+  pub one : HasOneSlot id
+  pub rest : IsAtRest seat.me
+  pub seated : 0 < length seat.me.0.lists
+
+-- the seat has taken the state
+pub record HasTaken (seat after : Seat State Knows) : Type 0 where
+  pub of : after.table_id ≡ seat.table_id
+  pub holds : Holds seat.me after.me
+
 -- the seat holds a state as it was taken
 pub record IsAsTaken (m : Seated) : Type 0 where
   pub taken : State

@@ -1,6 +1,6 @@
 //! The lock of a shared store: its state is taken, and given back.
-ghost use Rattle.std.specs.Prelude.{◌≡◌, ◌<◌, length, MatchBool};
-ghost use Rattle.mm_shared.specs.Steps.{HasOneSlot, IsAtRest, Holds, HasCalled, IsAsTaken, called, at_rest};
+ghost use Rattle.std.specs.Prelude.{◌≡◌, MatchBool};
+ghost use Rattle.mm_shared.specs.Steps.{HasOneSlot, MayTake, Holds, HasTaken, HasCalled, IsAsTaken, called, at_rest};
 
 use crate::rule::{Call, Give, Restore, StoreSeat, StoreTable, Take};
 use std::hint::spin_loop;
@@ -18,10 +18,7 @@ const TRIES: u32 = 100;
 
 // Takes the state, where it comes free soon.
 fn try_take(table: &StoreTable, seat: &mut StoreSeat) -> bool
-    requires of { seat.old.table_id ≡ table.now.table_id }
-    requires one { HasOneSlot table.now.table_id }
-    requires rest { IsAtRest seat.old.me }
-    requires seated { 0 < length seat.old.me.0.lists }
+    requires may { MayTake table.now.table_id seat.old }
     ensures of { seat.new.table_id ≡ seat.old.table_id }
     ensures took { MatchBool result (Holds seat.old.me seat.new.me) (seat.new.me ≡ seat.old.me) }
 {
@@ -34,14 +31,10 @@ fn try_take(table: &StoreTable, seat: &mut StoreSeat) -> bool
     false
 }
 
-// Takes the state.
-pub(crate) fn take<R: Wait>(rt: &R, table: &StoreTable, seat: &mut StoreSeat)
-    requires of { seat.old.table_id ≡ table.now.table_id }
-    requires one { HasOneSlot table.now.table_id }
-    requires rest { IsAtRest seat.old.me }
-    requires seated { 0 < length seat.old.me.0.lists }
-    ensures of { seat.new.table_id ≡ seat.old.table_id }
-    ensures holds { Holds seat.old.me seat.new.me }
+// Takes the state once it comes free.
+fn wait<R: Wait>(rt: &R, table: &StoreTable, seat: &mut StoreSeat)
+    requires may { MayTake table.now.table_id seat.old }
+    ensures took { HasTaken seat.old seat.new }
 {
     if try_take(table, seat) {
         return;
@@ -53,6 +46,16 @@ pub(crate) fn take<R: Wait>(rt: &R, table: &StoreTable, seat: &mut StoreSeat)
         table.park(rt, 0, AWAITED as u32);
     }
     unreachable!()
+}
+
+// Takes the state. Where it is free this is one step.
+pub(crate) fn take<R: Wait>(rt: &R, table: &StoreTable, seat: &mut StoreSeat)
+    requires may { MayTake table.now.table_id seat.old }
+    ensures took { HasTaken seat.old seat.new }
+{
+    if table.compare_exchange::<Take>(seat, 0, FREE, LOCKED) != FREE {
+        wait(rt, table, seat);
+    }
 }
 
 // Gives the state back after a call on it. What was asked and answered is for the proof alone.

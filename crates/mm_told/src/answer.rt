@@ -6,7 +6,7 @@ use crate::reason::Reason;
 use crate::refused_at::RefusedAt;
 
 /// How a call ended.
-#[derive(Clone, Copy, Debug, PartialEq, Eq)]
+#[derive(Clone, Copy)]
 pub enum Status {
     /// The text is in the buffer.
     Written,
@@ -34,7 +34,7 @@ impl Status {
 
 /// The answer to a call with a buffer for a text.
 #[repr(C)]
-#[derive(Clone, Copy, Debug, PartialEq, Eq)]
+#[derive(Clone, Copy)]
 pub struct Answer {
     /// The code of a `Status`.
     pub status: u32,

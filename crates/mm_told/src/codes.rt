@@ -6,7 +6,7 @@ use mm_base::Refusal;
 use mm_problem::Name;
 
 /// What is told of the place of a fault: which fields of `RefusedAt` say something.
-#[derive(Clone, Copy, Debug, PartialEq, Eq)]
+#[derive(Clone, Copy)]
 pub enum Place {
     /// None of them.
     Whole,

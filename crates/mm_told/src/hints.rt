@@ -1,14 +1,5 @@
 //! What is found in the files of a task that is refused, for people: one line that says what to change.
 
-// Shows a case by its text: one row for each case.
-macro_rules! show_case {
-    ($hint:expr, $f:expr; $($case:pat => $text:literal $(, $shown:expr)?;)*) => {
-        match $hint {
-            $($case => write!($f, $text $(, $shown)?),)*
-        }
-    };
-}
-
 mod cells;
 mod ends;
 mod excerpt;
@@ -19,6 +10,7 @@ mod lines;
 mod notes;
 mod packets;
 mod plan;
+mod sentence;
 mod setup;
 mod tables;
 
@@ -26,22 +18,17 @@ use crate::reason::Reason;
 use crate::spot::Spot;
 pub use ends::{EndsHint, ReportType, opening_hint};
 use ends::{counts_hint, links_hint, sources_hint};
-pub use excerpt::Excerpt;
-pub use fit::{FitHint, fit_hint};
-pub use forecast::ForecastHint;
+pub use fit::fit_hint;
 use forecast::forecast_hint;
-pub use form::FormHint;
 use mm_base::Refusal;
 use mm_problem::Name;
 pub use notes::{Note, notes_on};
-pub use packets::{PacketHint, request_hint};
-pub use plan::PlanHint;
+pub use packets::request_hint;
 use plan::{plan_hint, shape_hint};
-pub use setup::SetupHint;
+pub use sentence::Sentence;
 use setup::setup_hint;
 use std::alloc::Global;
 use std::fmt;
-pub use tables::TableAt;
 
 /// The bytes of a task's files; none for a file that the task does not have.
 #[derive(Clone, Copy)]
@@ -56,27 +43,16 @@ pub struct Texts<'a> {
 /// What is found in a file that is refused. It is shown in one line without its end.
 #[derive(Clone, Copy)]
 pub enum Hint {
-    Form(FormHint),
-    Setup(SetupHint),
-    Forecast(ForecastHint),
-    Plan(PlanHint),
-    Fit(FitHint),
-    Packet(PacketHint),
+    Said(Sentence),
     Ends(EndsHint),
-}
-
-// Shows what each of these cases holds.
-macro_rules! show_inner {
-    ($hint:expr, $f:expr; $($case:ident),*) => {
-        match $hint {
-            $(Hint::$case(inner) => fmt::Display::fmt(inner, $f),)*
-        }
-    };
 }
 
 impl fmt::Display for Hint {
     fn fmt<W: fmt::Write>(&self, f: &mut fmt::Formatter<W>) -> fmt::Result {
-        show_inner!(self, f; Form, Setup, Forecast, Plan, Fit, Packet, Ends)
+        match self {
+            Hint::Said(sentence) => write!(f, "{sentence}"),
+            Hint::Ends(hint) => write!(f, "{}", hint.sentence()),
+        }
     }
 }
 
@@ -92,9 +68,8 @@ fn is_of_forecast(reason: Reason) -> bool {
     }
 }
 
-/// What is found in the files of a task that is refused for this reason, if more can be said of it.
-#[must_use]
-pub fn hint_for(alloc: Global, reason: Reason, texts: Texts<'_>) -> Option<Hint> {
+// What is found in a file that is refused for this reason.
+fn said_of(alloc: Global, reason: Reason, texts: Texts<'_>) -> Option<Sentence> {
     if is_of_forecast(reason) {
         return forecast_hint(alloc, reason, texts);
     }
@@ -106,7 +81,15 @@ pub fn hint_for(alloc: Global, reason: Reason, texts: Texts<'_>) -> Option<Hint>
         (Refusal::Shape, _) => shape_hint(alloc, texts),
         (Refusal::SourcesText, Spot::Line(line)) => sources_hint(texts.sources, line),
         (Refusal::LinksText, Spot::Line(line)) => links_hint(texts.links, line),
-        (Refusal::Counts, _) => counts_hint(texts),
         _ => None,
     }
+}
+
+/// What is found in the files of a task that is refused for this reason, if more can be said of it.
+#[must_use]
+pub fn hint_for(alloc: Global, reason: Reason, texts: Texts<'_>) -> Option<Hint> {
+    if matches!(reason.refusal, Refusal::Counts) {
+        return Some(Hint::Ends(counts_hint(texts)?));
+    }
+    Some(Hint::Said(said_of(alloc, reason, texts)?))
 }

@@ -7,7 +7,7 @@ use mm_base::{Refusal, Refused};
 use std::fmt;
 
 /// Why a call is refused: which refusal it is, and where in its text the fault is. It is shown as its number, its name and its fields.
-#[derive(Clone, Copy, Debug, PartialEq, Eq)]
+#[derive(Clone, Copy)]
 pub struct Reason {
     pub refusal: Refusal,
     pub spot: Spot,

@@ -1,15 +1,17 @@
 //! A refusal with its place, as it crosses to C.
 ghost use Rattle.std.specs.Prelude.{◌≡◌, Some};
+ghost use Rattle.mm_told.specs.Codes.{code_of_name};
 ghost use Rattle.mm_told.specs.RefusedAts.{bare, told_of, spot_told, reason_told};
 
 use crate::codes::{Place, code_of_name, name_coded, place_coded, refusal_numbered};
 use crate::reason::Reason;
 use crate::spot::Spot;
+use mm_problem::Name;
 
 /// A refusal with its place. `place` is the code of a `Place`, and says which of the further fields say something; the others are 0.
 /// Lines, rows and columns count from 1, row 0 is the top of the setup, and `name` is the place of a name in `NAMES`.
 #[repr(C)]
-#[derive(Clone, Copy, Debug, PartialEq, Eq)]
+#[derive(Clone, Copy)]
 pub struct RefusedAt {
     /// The refusal's number.
     pub number: u32,
@@ -31,6 +33,16 @@ impl RefusedAt {
             column: 0,
             line: 0,
             name: 0,
+        }
+    }
+
+    fn named(number: u32, place: Place, row: u32, name: Name) -> RefusedAt
+        ensures { result ≡ record (bare number place) { row = row; name = code_of_name name } }
+    {
+        RefusedAt {
+            row,
+            name: code_of_name(name),
+            ..RefusedAt::bare(number, place)
         }
     }
 
@@ -70,15 +82,8 @@ impl RefusedAt {
                 column,
                 ..RefusedAt::bare(number, Place::Cell)
             },
-            Spot::Key { row, name } => RefusedAt {
-                row,
-                name: code_of_name(name),
-                ..RefusedAt::bare(number, Place::Key)
-            },
-            Spot::Number(name) => RefusedAt {
-                name: code_of_name(name),
-                ..RefusedAt::bare(number, Place::Number)
-            },
+            Spot::Key { row, name } => RefusedAt::named(number, Place::Key, row, name),
+            Spot::Number(name) => RefusedAt::named(number, Place::Number, 0, name),
         }
     }
 

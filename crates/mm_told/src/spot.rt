@@ -6,7 +6,7 @@ use mm_problem::Name;
 use std::fmt;
 
 /// Where in its text a fault is. It is shown as the fields of a refusal's line, after its number and its name.
-#[derive(Clone, Copy, Debug, PartialEq, Eq)]
+#[derive(Clone, Copy)]
 pub enum Spot {
     /// Nowhere, or no one place.
     Whole,

@@ -5,7 +5,7 @@ ghost use Rattle.mm_told.specs.Verdicts.{code_of_kind, told_by, told_of, nothing
 use mm_cut::Verdict;
 
 /// Which verdict is told.
-#[derive(Clone, Copy, Debug, PartialEq, Eq)]
+#[derive(Clone, Copy)]
 pub enum VerdictKind {
     /// None: the call is refused.
     Nothing,
@@ -31,7 +31,7 @@ impl VerdictKind {
 /// A verdict. `kind` is the code of a `VerdictKind`, and says which of the further fields say something; the others are 0. Losses and
 /// bounds are in blocks; `place` is a step, or the place of a stretch or of a counted step, from 1.
 #[repr(C)]
-#[derive(Clone, Copy, Debug, PartialEq, Eq)]
+#[derive(Clone, Copy)]
 pub struct VerdictTold {
     pub kind: u32,
     pub place: u32,

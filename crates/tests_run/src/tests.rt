@@ -1,8 +1,9 @@
-//! Tests of desks and shared stores, recorders, dump workers, and whole runs.
+//! Tests of desks and shared stores, recorders, dump workers, whole runs, and the callers of docs/LIBRARY.md.
 
 mod calls;
 mod desks;
 mod dumps;
+mod first_calls;
 mod gates;
 mod links;
 mod records;

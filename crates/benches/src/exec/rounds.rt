@@ -1,9 +1,10 @@
 //! Steps of recorders and of dump workers, and the time that they take.
 
-use crate::exec::counter::{Counter, counters};
+use crate::exec::meter::{Meter, meters};
 use crate::exec::packets::{Batch, STEP, batches, silence};
 use crate::exec::setting::Setting;
 use anyhow::Result;
+use callers::radio::Radio;
 use mm_base::StoreId;
 use mm_dump::may_fail;
 use mm_exec::carry_out;
@@ -153,7 +154,7 @@ impl Trial {
         &mut self,
         rt: &R,
         alloc: Global,
-        links: Vec<Counter>,
+        links: Vec<Radio<Meter>>,
     ) -> Result<()> {
         let sources = silence(alloc, &self.setting)?;
         if !may_fail(&links) {
@@ -170,7 +171,7 @@ impl Trial {
                 let totals = flight.report.totals();
                 self.tally.dumped = self.tally.dumped.saturating_add(totals.dumped);
                 for link in &flight.links {
-                    self.tally.octets = self.tally.octets.saturating_add(link.octets());
+                    self.tally.octets = self.tally.octets.saturating_add(link.modem.octets());
                 }
                 Ok(())
             }
@@ -192,7 +193,7 @@ impl Trial {
         if mode == Mode::Record {
             self.delete(alloc)
         } else {
-            let links = counters(alloc, &self.setting)?;
+            let links = meters(alloc, &self.setting)?;
             self.dump(rt, alloc, links)
         }
     }

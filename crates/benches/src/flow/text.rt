@@ -77,38 +77,3 @@ pub(crate) fn read(alloc: Global, text: &str) -> Result<Network, TextFault>
         None => Ok(network),
     }
 }
-
-#[cfg(test)]
-mod tests {
-    use super::*;
-    use mm_flow::solve;
-    use std::test::Fail;
-
-    #[test]
-    fn a_network_is_read(rt: HostRuntime) -> Result<(), Fail> {
-        let network = read(rt.alloc(), "4 5\n0 2 7\n0 3 5\n2 3 4\n2 1 -\n3 1 6\n")?;
-        assert_eq!(rt; solve(rt.alloc(), &network, 0, 1)?.value, 12);
-        Ok(())
-    }
-
-    #[test]
-    fn other_texts_are_refused(rt: HostRuntime) -> Result<(), Fail> {
-        for (text, fault) in [
-            ("", TextFault::Head),
-            ("1 0\n", TextFault::Head),
-            ("65537 0\n", TextFault::Head),
-            ("2 262145\n", TextFault::Head),
-            ("2 1 \n0 1 5\n", TextFault::Head),
-            ("2 1\n", TextFault::Arc(0)),
-            ("2 1\n2 1 5\n", TextFault::Arc(0)),
-            ("2 1\n0 2 5\n", TextFault::Arc(0)),
-            ("2 2\n0 1 5\n0 1\n", TextFault::Arc(1)),
-            ("2 1\n0 1 1099511627777\n", TextFault::Arc(0)),
-            ("2 1\n0 1 -5\n", TextFault::Arc(0)),
-            ("2 0\n0 1 5\n", TextFault::More),
-        ] {
-            assert!(rt; read(rt.alloc(), text).err() == Some(fault), "{text}");
-        }
-        Ok(())
-    }
-}

@@ -80,15 +80,14 @@ impl<'a> Record<'a> {
     /// The cell in this column, from 1.
     pub(crate) fn cell(&self, column: u32) -> Option<&'a [u8]> {
         let mut rest = self.text;
-        let mut cell: u32 = 1;
-        while let Some((front, after)) = cut_cell(rest) {
-            if cell == column {
-                return Some(front);
-            }
+        for _ in 1..column {
+            let (_, after) = cut_cell(rest)?;
             rest = after;
-            cell = cell.saturating_add(1);
         }
-        if cell == column { Some(rest) } else { None }
+        match cut_cell(rest) {
+            Some((cell, _)) => Some(cell),
+            None => Some(rest),
+        }
     }
 
     /// The first cell with a number above 1,000,000.

@@ -4,6 +4,7 @@ use crate::hints::excerpt::Excerpt;
 use crate::hints::form::{form_hint, quoted};
 use crate::hints::lines::{cut_word, first_line, line_at};
 use crate::hints::packets::{number_in, packet_hint};
+use crate::hints::sentence::{Sentence, Shown};
 use crate::hints::{Hint, Texts};
 use mm_base::numbers::Numeral;
 use mm_base::{RouteRow, StoreId, StoreRow};
@@ -31,14 +32,31 @@ pub enum EndsHint {
     },
 }
 
-impl fmt::Display for EndsHint {
-    fn fmt<W: fmt::Write>(&self, f: &mut fmt::Formatter<W>) -> fmt::Result {
-        show_case! { self, f;
-            EndsHint::Sources { found } => "the file of sources has {found} sources";
-            EndsHint::Links { found } => "the file of links says links {found}";
-            EndsHint::NoRoute { store } => "no route of the setup leads to {}, so no packet can come to it", Excerpt::of_id(store);
-            EndsHint::Opening { store, found, start } =>
-                "{found} packets of step 0 go to {}, and its start is {start}", Excerpt::of_id(store);
+impl EndsHint {
+    pub(crate) fn sentence(self) -> Sentence {
+        match self {
+            EndsHint::Sources { found } => {
+                Sentence::new("the file of sources has {} sources", &[Shown::Count(found)])
+            }
+            EndsHint::Links { found } => {
+                Sentence::new("the file of links says links {}", &[Shown::Count(found)])
+            }
+            EndsHint::NoRoute { store } => Sentence::new(
+                "no route of the setup leads to {}, so no packet can come to it",
+                &[Shown::Text(Excerpt::of_id(&store))],
+            ),
+            EndsHint::Opening {
+                store,
+                found,
+                start,
+            } => Sentence::new(
+                "{} packets of step 0 go to {}, and its start is {}",
+                &[
+                    Shown::Count(found),
+                    Shown::Text(Excerpt::of_id(&store)),
+                    Shown::Count(u64::from(start)),
+                ],
+            ),
         }
     }
 }
@@ -54,23 +72,23 @@ fn parts_of(line: &[u8]) -> Option<(u64, u64, &[u8])> {
 }
 
 /// What is found in this line of the sources.
-pub(crate) fn sources_hint(text: &[u8], line: u64) -> Option<Hint> {
+pub(crate) fn sources_hint(text: &[u8], line: u64) -> Option<Sentence> {
     if let Some(hint) = form_hint(text, line) {
-        return Some(Hint::Form(hint));
+        return Some(hint);
     }
     if let Some((_, _, digits)) = parts_of(line_at(text, line)?) {
         if let Some(hint) = packet_hint(digits, line) {
-            return Some(Hint::Packet(hint));
+            return Some(hint);
         }
     }
-    Some(Hint::Form(quoted(text, line)?))
+    quoted(text, line)
 }
 
 /// What is found in this line of the links.
-pub(crate) fn links_hint(text: &[u8], line: u64) -> Option<Hint> {
+pub(crate) fn links_hint(text: &[u8], line: u64) -> Option<Sentence> {
     match form_hint(text, line) {
-        Some(hint) => Some(Hint::Form(hint)),
-        None => Some(Hint::Form(quoted(text, line)?)),
+        Some(hint) => Some(hint),
+        None => quoted(text, line),
     }
 }
 
@@ -98,13 +116,13 @@ fn links_in(text: &[u8]) -> Option<u64> {
 }
 
 /// How many sources or links there are, where a run takes another number.
-pub(crate) fn counts_hint(texts: Texts<'_>) -> Option<Hint> {
+pub(crate) fn counts_hint(texts: Texts<'_>) -> Option<EndsHint> {
     let found = sources_in(texts.sources);
     if found == 0 {
-        return Some(Hint::Ends(EndsHint::Sources { found }));
+        return Some(EndsHint::Sources { found });
     }
     let found = links_in(texts.links)?;
-    Some(Hint::Ends(EndsHint::Links { found }))
+    Some(EndsHint::Links { found })
 }
 
 /// The digits of the packet of a line of sources.
@@ -158,12 +176,15 @@ fn comes_before(line: &[u8], routes: &[RouteRow], store: StoreId) -> bool {
     let Some((_, 0, digits)) = parts_of(line) else {
         return false;
     };
-    match ReportType::of(digits) {
-        Some(report) => routes
-            .iter()
-            .any(|route| route.store == store && report.is_taken(route)),
-        None => false,
+    let Some(report) = ReportType::of(digits) else {
+        return false;
+    };
+    for route in routes {
+        if route.store == store && report.is_taken(route) {
+            return true;
+        }
     }
+    false
 }
 
 // How many packets of step 0 go to a store.
@@ -181,7 +202,12 @@ fn opening_of(sources: &[u8], routes: &[RouteRow], store: StoreId) -> u64 {
 
 /// Whether a route leads to a store.
 pub(crate) fn is_reached(routes: &[RouteRow], store: StoreId) -> bool {
-    routes.iter().any(|route| route.store == store)
+    for route in routes {
+        if route.store == store {
+            return true;
+        }
+    }
+    false
 }
 
 // Why a store holds another number of packets than its start says.
@@ -201,9 +227,10 @@ fn opening(setup: &Setup, row: &StoreRow, sources: &[u8]) -> EndsHint {
 #[must_use]
 pub fn opening_hint(alloc: Global, texts: Texts<'_>, store: &str) -> Option<Hint> {
     let setup = Setup::read(alloc, texts.setup).ok()?;
-    let row = setup
-        .stores()
-        .iter()
-        .find(|row| row.id.text() == store.as_bytes())?;
-    Some(Hint::Ends(opening(&setup, row, texts.sources)))
+    for row in setup.stores() {
+        if row.id.text() == store.as_bytes() {
+            return Some(Hint::Ends(opening(&setup, row, texts.sources)));
+        }
+    }
+    None
 }

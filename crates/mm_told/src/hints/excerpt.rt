@@ -9,8 +9,8 @@ const ROOM: usize = 160;
 /// A piece of a text, as a line quotes it: in quotes, with `?` for a byte that is not printable ASCII, and `..` where the text goes on.
 #[derive(Clone, Copy)]
 pub struct Excerpt {
-    bytes: [u8; ROOM],
-    len: usize,
+    pub(crate) bytes: [u8; ROOM],
+    pub(crate) len: usize,
     is_cut: bool,
 }
 

@@ -1,38 +1,12 @@
 //! Hints on a plan that does not fit.
 
 use crate::hints::lines::line_at;
+use crate::hints::sentence::{Sentence, Shown};
 use crate::hints::{Hint, Texts};
 use mm_base::MAX_BLOCKS;
 use mm_base::numbers::Numeral;
 use mm_problem::{Problem, read_problem};
 use std::alloc::Global;
-use std::fmt;
-
-/// By how much a step of a plan does not fit.
-#[derive(Clone, Copy)]
-pub enum FitHint {
-    Window {
-        step: u32,
-        dumped: u64,
-        window: u32,
-    },
-    Channel {
-        step: u32,
-        dumped: u64,
-        channel: u8,
-        limit: u32,
-    },
-}
-
-impl fmt::Display for FitHint {
-    fn fmt<W: fmt::Write>(&self, f: &mut fmt::Formatter<W>) -> fmt::Result {
-        show_case! { self, f;
-            FitHint::Window { step, dumped, window } => "step {step} dumps {dumped} blocks, and its window is {window}";
-            FitHint::Channel { step, dumped, channel, limit } =>
-                "step {step} dumps {dumped} blocks on channel {channel}, whose limit is {limit}";
-        }
-    }
-}
 
 // Whether a store is on this channel, or any store where none is given.
 fn is_on(problem: &Problem, store: usize, channel: Option<u8>) -> bool {
@@ -55,30 +29,43 @@ fn dumped(problem: &Problem, line: &str, channel: Option<u8>) -> u64 {
     dumped
 }
 
-fn in_step(problem: &Problem, line: &str, step: u32) -> Option<FitHint> {
+// By how much the line of a step passes the limit of a channel.
+fn in_channel(problem: &Problem, line: &str, step: u32, channel: u8) -> Option<Sentence> {
+    let limit = u64::from(problem.limit(channel)?);
+    let dumped = dumped(problem, line, Some(channel));
+    if dumped <= limit {
+        return None;
+    }
+    Some(Sentence::new(
+        "step {} dumps {} blocks on channel {}, whose limit is {}",
+        &[
+            Shown::Count(u64::from(step)),
+            Shown::Count(dumped),
+            Shown::Count(u64::from(channel)),
+            Shown::Count(limit),
+        ],
+    ))
+}
+
+// By how much the line of a step passes the window, or else the limit of a channel.
+fn in_step(problem: &Problem, line: &str, step: u32) -> Option<Sentence> {
     if step < 1 || problem.steps() < step {
         return None;
     }
-    let window = problem.window(step);
-    let all = dumped(problem, line, None);
-    if all > u64::from(window) {
-        return Some(FitHint::Window {
-            step,
-            dumped: all,
-            window,
-        });
+    let window = u64::from(problem.window(step));
+    let dumped = dumped(problem, line, None);
+    if dumped > window {
+        let shown = [
+            Shown::Count(u64::from(step)),
+            Shown::Count(dumped),
+            Shown::Count(window),
+        ];
+        let words = "step {} dumps {} blocks, and its window is {}";
+        return Some(Sentence::new(words, &shown));
     }
     for channel in 0..problem.channels() {
-        if let Some(limit) = problem.limit(channel) {
-            let dumped = dumped(problem, line, Some(channel));
-            if dumped > u64::from(limit) {
-                return Some(FitHint::Channel {
-                    step,
-                    dumped,
-                    channel,
-                    limit,
-                });
-            }
+        if let Some(hint) = in_channel(problem, line, step, channel) {
+            return Some(hint);
         }
     }
     None
@@ -91,5 +78,5 @@ pub fn fit_hint(alloc: Global, texts: Texts<'_>, step: u32) -> Option<Hint> {
     // The first two lines are the form and the stores.
     let line = line_at(texts.plan, u64::from(step).saturating_add(2))?;
     let line = std::str::from_utf8(line).ok()?;
-    Some(Hint::Fit(in_step(&problem, line, step)?))
+    Some(Hint::Said(in_step(&problem, line, step)?))
 }

@@ -1,64 +1,16 @@
-//! Hints on a forecast.
+//! Hints on a forecast. Lines are counted as an editor does, so the header is line 1.
 
+use crate::hints::Texts;
 use crate::hints::cells::{Wanted, record_in, rows_in};
 use crate::hints::excerpt::Excerpt;
-use crate::hints::form::FormHint;
-use crate::hints::lines::{after_mark, first_line, is_utf16, lines_with};
-use crate::hints::{Hint, Texts};
+use crate::hints::form::{swapped, utf16_hint};
+use crate::hints::lines::{after_mark, first_line, lines_with};
+use crate::hints::sentence::{Sentence, Shown};
 use crate::reason::Reason;
 use crate::spot::Spot;
 use mm_base::Refusal;
 use mm_problem::{Name, Setup};
 use std::alloc::Global;
-use std::fmt;
-
-/// What is found in a forecast. Lines are counted as an editor does, so the header is line 1.
-#[derive(Clone, Copy)]
-pub enum ForecastHint {
-    Semicolons,
-    Header {
-        found: Excerpt,
-        wanted: Excerpt,
-    },
-    Cells {
-        row: u32,
-        line: u64,
-        found: u32,
-        wanted: u32,
-    },
-    Cell {
-        line: u64,
-        cell: Excerpt,
-    },
-    Step {
-        line: u64,
-        cell: Excerpt,
-        wanted: u32,
-    },
-    Steps {
-        found: u32,
-    },
-    TooLarge {
-        line: u64,
-        cell: Excerpt,
-    },
-}
-
-impl fmt::Display for ForecastHint {
-    fn fmt<W: fmt::Write>(&self, f: &mut fmt::Formatter<W>) -> fmt::Result {
-        show_case! { self, f;
-            ForecastHint::Semicolons => "semicolons separate the cells; save the file with commas";
-            ForecastHint::Header { found, wanted } => "the header is {found}, and {wanted} is expected";
-            ForecastHint::Cells { row, line, found, wanted } =>
-                "row {row} is line {line} of the file, whose header is line 1; cells: {found} there, {wanted} in the header";
-            ForecastHint::Cell { line, cell } => "the cell is {cell} in line {line} of the file, whose header is line 1";
-            ForecastHint::Step { line, cell, wanted } =>
-                "the step is {cell} in line {line} of the file, whose header is line 1; it is to be {wanted}";
-            ForecastHint::Steps { found } => "there are {found} records after the header; 1 to 256 can be";
-            ForecastHint::TooLarge { line, cell } => "line {line} of the file has {cell}; 1,000,000 is the most";
-        }
-    }
-}
 
 // The header that the stores of a setup want.
 fn wanted_header(setup: &Setup) -> Excerpt {
@@ -70,80 +22,90 @@ fn wanted_header(setup: &Setup) -> Excerpt {
     wanted
 }
 
-fn header_hint(alloc: Global, texts: Texts<'_>) -> Option<ForecastHint> {
+fn header_hint(alloc: Global, texts: Texts<'_>) -> Option<Sentence> {
     let header = match first_line(after_mark(texts.forecast)) {
         Some((line, _)) => line.strip_suffix(b"\r").unwrap_or(line),
         None => &[],
     };
     if header.contains(&b';') && !header.contains(&b',') {
-        return Some(ForecastHint::Semicolons);
+        let words = "semicolons separate the cells; save the file with commas";
+        return Some(Sentence::new(words, &[]));
     }
     let setup = Setup::read(alloc, texts.setup).ok()?;
-    Some(ForecastHint::Header {
-        found: Excerpt::of(header),
-        wanted: wanted_header(&setup),
-    })
+    let found = Shown::Text(Excerpt::of(header));
+    let wanted = Shown::Text(wanted_header(&setup));
+    let words = "the header is {}, and {} is expected";
+    Some(Sentence::new(words, &[found, wanted]))
 }
 
-fn cells_hint(text: &[u8]) -> Option<ForecastHint> {
+fn cells_hint(text: &[u8]) -> Option<Sentence> {
     let wanted = record_in(text, Wanted::Row(0))?.cells();
     let record = record_in(text, Wanted::Uneven { cells: wanted })?;
-    Some(ForecastHint::Cells {
-        row: record.row,
-        line: record.line,
-        found: record.cells(),
-        wanted,
-    })
+    Some(Sentence::new(
+        "row {} is line {} of the file, whose header is line 1; cells: {} there, {} in the header",
+        &[
+            Shown::Count(u64::from(record.row)),
+            Shown::Count(record.line),
+            Shown::Count(u64::from(record.cells())),
+            Shown::Count(u64::from(wanted)),
+        ],
+    ))
 }
 
-fn cell_hint(text: &[u8], row: u32, column: u32) -> Option<ForecastHint> {
+// The cell in this row and column, and the line that it stands in.
+fn cell_at(text: &[u8], row: u32, column: u32) -> Option<[Shown; 2]> {
     let record = record_in(text, Wanted::Row(row))?;
     let cell = Excerpt::of(record.cell(column)?);
-    Some(ForecastHint::Cell {
-        line: record.line,
-        cell,
-    })
+    Some([Shown::Text(cell), Shown::Count(record.line)])
 }
 
-fn step_hint(text: &[u8], row: u32) -> Option<ForecastHint> {
-    let record = record_in(text, Wanted::Row(row))?;
-    let cell = Excerpt::of(record.cell(1)?);
-    Some(ForecastHint::Step {
-        line: record.line,
-        cell,
-        wanted: row,
-    })
+fn cell_hint(text: &[u8], row: u32, column: u32) -> Option<Sentence> {
+    let words = "the cell is {} in line {} of the file, whose header is line 1";
+    Some(Sentence::new(words, &cell_at(text, row, column)?))
 }
 
-fn large_hint(text: &[u8]) -> Option<ForecastHint> {
+fn step_hint(text: &[u8], row: u32) -> Option<Sentence> {
+    let [cell, line] = cell_at(text, row, 1)?;
+    let wanted = Shown::Count(u64::from(row));
+    Some(Sentence::new(
+        "the step is {} in line {} of the file, whose header is line 1; it is to be {}",
+        &[cell, line, wanted],
+    ))
+}
+
+fn steps_hint(text: &[u8]) -> Sentence {
+    let found = Shown::Count(u64::from(rows_in(text)));
+    let words = "there are {} records after the header; 1 to 256 can be";
+    Sentence::new(words, &[found])
+}
+
+fn large_hint(text: &[u8]) -> Option<Sentence> {
     let record = record_in(text, Wanted::TooLarge)?;
     let cell = Excerpt::of(record.too_large()?);
-    Some(ForecastHint::TooLarge {
-        line: record.line,
-        cell,
-    })
+    Some(Sentence::new(
+        "line {} of the file has {}; 1,000,000 is the most",
+        &[Shown::Count(record.line), Shown::Text(cell)],
+    ))
 }
 
-fn in_forecast(alloc: Global, reason: Reason, texts: Texts<'_>) -> Option<ForecastHint> {
+fn in_forecast(alloc: Global, reason: Reason, texts: Texts<'_>) -> Option<Sentence> {
     match (reason.refusal, reason.spot) {
         (Refusal::Header, _) => header_hint(alloc, texts),
         (Refusal::ForecastText, _) => cells_hint(texts.forecast),
         (Refusal::Cell, Spot::Cell { row, column }) => cell_hint(texts.forecast, row, column),
         (Refusal::StepNumber, Spot::Row(row)) => step_hint(texts.forecast, row),
-        (Refusal::Limit, Spot::Number(Name::Steps)) => Some(ForecastHint::Steps {
-            found: rows_in(texts.forecast),
-        }),
+        (Refusal::Limit, Spot::Number(Name::Steps)) => Some(steps_hint(texts.forecast)),
         _ => large_hint(texts.forecast),
     }
 }
 
 /// What is found in a forecast that is refused for this reason.
-pub(crate) fn forecast_hint(alloc: Global, reason: Reason, texts: Texts<'_>) -> Option<Hint> {
-    if is_utf16(texts.forecast) {
-        return Some(Hint::Form(FormHint::Utf16));
+pub(crate) fn forecast_hint(alloc: Global, reason: Reason, texts: Texts<'_>) -> Option<Sentence> {
+    if let Some(hint) = utf16_hint(texts.forecast) {
+        return Some(hint);
     }
     if lines_with(texts.forecast, b"[[store]]") > 0 {
-        return Some(Hint::Form(FormHint::Swapped));
+        return Some(swapped());
     }
-    Some(Hint::Forecast(in_forecast(alloc, reason, texts)?))
+    in_forecast(alloc, reason, texts)
 }

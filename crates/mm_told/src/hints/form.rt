@@ -2,49 +2,43 @@
 
 use crate::hints::excerpt::Excerpt;
 use crate::hints::lines::{has_mark, is_utf16, line_at};
-use std::fmt;
+use crate::hints::sentence::{Sentence, Shown};
 
-/// What is found in the form of a file.
-#[derive(Clone, Copy)]
-pub enum FormHint {
-    Utf16,
-    /// A byte order mark, where none can stand.
-    Mark,
-    CrLf { line: u64 },
-    /// The files of a setup and of a forecast stand for one another.
-    Swapped,
-    /// The line as it is.
-    Line { line: u64, text: Excerpt },
+/// What is found in a text that is in UTF-16.
+pub(crate) fn utf16_hint(text: &[u8]) -> Option<Sentence> {
+    if is_utf16(text) {
+        Some(Sentence::new("the file is in UTF-16; save it in UTF-8", &[]))
+    } else {
+        None
+    }
 }
 
-impl fmt::Display for FormHint {
-    fn fmt<W: fmt::Write>(&self, f: &mut fmt::Formatter<W>) -> fmt::Result {
-        show_case! { self, f;
-            FormHint::Utf16 => "the file is in UTF-16; save it in UTF-8";
-            FormHint::Mark => "the file begins with a byte order mark; save it in UTF-8 without one";
-            FormHint::CrLf { line } => "line {line} ends with CR LF; save the file with LF alone";
-            FormHint::Swapped => "the files are in another order; name the setup first, then the forecast";
-            FormHint::Line { line, text } => "line {line} is {text}";
-        }
-    }
+/// The files of a setup and of a forecast stand for one another.
+pub(crate) fn swapped() -> Sentence {
+    Sentence::new(
+        "the files are in another order; name the setup first, then the forecast",
+        &[],
+    )
 }
 
 /// What is found in the form of a file whose lines end with LF alone, and in this line of it.
-pub(crate) fn form_hint(text: &[u8], line: u64) -> Option<FormHint> {
-    if is_utf16(text) {
-        return Some(FormHint::Utf16);
+pub(crate) fn form_hint(text: &[u8], line: u64) -> Option<Sentence> {
+    if let Some(hint) = utf16_hint(text) {
+        return Some(hint);
     }
     if has_mark(text) {
-        return Some(FormHint::Mark);
+        let words = "the file begins with a byte order mark; save it in UTF-8 without one";
+        return Some(Sentence::new(words, &[]));
     }
     if line_at(text, line)?.ends_with(b"\r") {
-        return Some(FormHint::CrLf { line });
+        let words = "line {} ends with CR LF; save the file with LF alone";
+        return Some(Sentence::new(words, &[Shown::Count(line)]));
     }
     None
 }
 
 /// The line as it is.
-pub(crate) fn quoted(text: &[u8], line: u64) -> Option<FormHint> {
+pub(crate) fn quoted(text: &[u8], line: u64) -> Option<Sentence> {
     let text = Excerpt::of(line_at(text, line)?);
-    Some(FormHint::Line { line, text })
+    Some(Sentence::new("line {} is {}", &[Shown::Count(line), Shown::Text(text)]))
 }

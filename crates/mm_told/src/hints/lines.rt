@@ -17,15 +17,12 @@ pub(crate) fn first_line(text: &[u8]) -> Option<(&[u8], &[u8])>
 /// The line of this number, from 1, without its line feed.
 pub(crate) fn line_at(text: &[u8], number: u64) -> Option<&[u8]> {
     let mut rest = text;
-    let mut line: u64 = 1;
-    while let Some((front, after)) = first_line(rest) {
-        if line == number {
-            return Some(front);
-        }
+    for _ in 0..number.checked_sub(1)? {
+        let (_, after) = first_line(rest)?;
         rest = after;
-        line = line.saturating_add(1);
     }
-    None
+    let (line, _) = first_line(rest)?;
+    Some(line)
 }
 
 /// The number of the line, from 1, in which the byte at this place stands.
@@ -41,8 +38,12 @@ pub(crate) fn line_of(text: &[u8], place: usize) -> u64 {
 
 /// The text up to the first space, and what follows the space.
 pub(crate) fn cut_word(text: &[u8]) -> Option<(&[u8], &[u8])> {
-    let space = text.iter().position(|byte| *byte == b' ')?;
-    Some((&text[..space], &text[space + 1..]))
+    for (space, byte) in text.iter().enumerate() {
+        if *byte == b' ' {
+            return Some((&text[..space], &text[space + 1..]));
+        }
+    }
+    None
 }
 
 /// Whether the text is as UTF-16 is: it begins with its mark, or with an ASCII character in two bytes.

@@ -22,19 +22,40 @@ pub enum Note {
 
 impl fmt::Display for Note {
     fn fmt<W: fmt::Write>(&self, f: &mut fmt::Formatter<W>) -> fmt::Result {
-        show_case! { self, f;
-            Note::LimitOfNone { channel } => "the setup has a limit for channel {channel}, on which no store is";
-            Note::Unreached { store } => "no route of the setup leads to {}, so nothing arrives there", Excerpt::of_id(store);
-            Note::Untaken { line, report } =>
-                "no route takes {report}, as line {line} of the sources has it; such packets go to no store";
+        match self {
+            Note::LimitOfNone { channel } => {
+                write!(
+                    f,
+                    "the setup has a limit for channel {channel}, on which no store is"
+                )
+            }
+            Note::Unreached { store } => write!(
+                f,
+                "no route of the setup leads to {}, so nothing arrives there",
+                Excerpt::of_id(store)
+            ),
+            Note::Untaken { line, report } => write!(
+                f,
+                "no route takes {report}, as line {line} of the sources has it; such packets go to no store"
+            ),
         }
     }
+}
+
+// Whether a store of the setup is on this channel.
+fn is_used(setup: &Setup, channel: u8) -> bool {
+    for row in setup.stores() {
+        if row.channel == channel {
+            return true;
+        }
+    }
+    false
 }
 
 fn push_limits(notes: &mut Vec<Note>, setup: &Setup) -> Result<(), NoMemory> {
     for limit in setup.limits() {
         let channel = limit.channel;
-        if !setup.stores().iter().any(|row| row.channel == channel) {
+        if !is_used(setup, channel) {
             notes.push(Note::LimitOfNone { channel })?;
         }
     }
@@ -53,11 +74,12 @@ fn push_stores(notes: &mut Vec<Note>, setup: &Setup) -> Result<(), NoMemory> {
 // Whether no route takes the telemetry of a line of sources.
 fn untaken(setup: &Setup, line: &[u8]) -> Option<ReportType> {
     let report = ReportType::of(digits_of(line)?)?;
-    if setup.routes().iter().any(|route| report.is_taken(route)) {
-        None
-    } else {
-        Some(report)
+    for route in setup.routes() {
+        if report.is_taken(route) {
+            return None;
+        }
     }
+    Some(report)
 }
 
 // The first line of the sources that no route takes.

@@ -4,30 +4,8 @@ use crate::hints::Hint;
 use crate::hints::excerpt::Excerpt;
 use crate::hints::form::form_hint;
 use crate::hints::lines::line_at;
+use crate::hints::sentence::{Sentence, Shown};
 use mm_base::Refusal;
-use std::fmt;
-
-/// What is found in the digits of a packet.
-#[derive(Clone, Copy)]
-pub enum PacketHint {
-    Spaces { line: u64 },
-    NoDigit { line: u64, byte: Excerpt },
-    OddDigits { line: u64 },
-    /// The packet data length says another number of octets than there are.
-    Octets { line: u64, says: u64, found: u64 },
-}
-
-impl fmt::Display for PacketHint {
-    fn fmt<W: fmt::Write>(&self, f: &mut fmt::Formatter<W>) -> fmt::Result {
-        show_case! { self, f;
-            PacketHint::Spaces { line } => "line {line} has spaces between digits; write the digits without them";
-            PacketHint::NoDigit { line, byte } => "line {line} has {byte}, which is no hexadecimal digit";
-            PacketHint::OddDigits { line } => "line {line} has an odd number of digits; write two for each octet";
-            PacketHint::Octets { line, says, found } =>
-                "line {line} has {found} octets, and its packet data length says {says} in all";
-        }
-    }
-}
 
 // The value of a hexadecimal digit.
 fn digit(byte: u8) -> Option<u64> {
@@ -52,28 +30,49 @@ pub(crate) fn number_in(digits: &[u8], first: usize, octets: usize) -> Option<u6
     Some(number)
 }
 
-/// What is found in the digits of a packet in this line.
-pub(crate) fn packet_hint(digits: &[u8], line: u64) -> Option<PacketHint> {
-    if digits.contains(&b' ') {
-        return Some(PacketHint::Spaces { line });
+// The first byte that is no hexadecimal digit.
+fn no_digit(digits: &[u8]) -> Option<u8> {
+    for byte in digits {
+        if !byte.is_ascii_hexdigit() {
+            return Some(*byte);
+        }
     }
-    if let Some(byte) = digits.iter().find(|byte| !byte.is_ascii_hexdigit()) {
-        let byte = Excerpt::of(&[*byte]);
-        return Some(PacketHint::NoDigit { line, byte });
-    }
-    if digits.len() % 2 == 1 {
-        return Some(PacketHint::OddDigits { line });
-    }
+    None
+}
+
+// What is found where the packet data length says another number of octets than there are.
+fn octets_hint(digits: &[u8], line: u64) -> Option<Sentence> {
     if digits.len() < 12 {
         return None;
     }
     let found = (digits.len() / 2) as u64;
     let says = number_in(digits, 4, 2)?.checked_add(7)?;
     if says == found {
-        None
-    } else {
-        Some(PacketHint::Octets { line, says, found })
+        return None;
     }
+    Some(Sentence::new(
+        "line {} has {} octets, and its packet data length says {} in all",
+        &[Shown::Count(line), Shown::Count(found), Shown::Count(says)],
+    ))
+}
+
+/// What is found in the digits of a packet in this line.
+pub(crate) fn packet_hint(digits: &[u8], line: u64) -> Option<Sentence> {
+    let shown = Shown::Count(line);
+    if digits.contains(&b' ') {
+        let words = "line {} has spaces between digits; write the digits without them";
+        return Some(Sentence::new(words, &[shown]));
+    }
+    if let Some(byte) = no_digit(digits) {
+        let byte = Shown::Text(Excerpt::of(&[byte]));
+        let words = "line {} has {}, which is no hexadecimal digit";
+        return Some(Sentence::new(words, &[shown, byte]));
+    }
+    if digits.len() % 2 == 1 {
+        let words = "line {} has an odd number of digits; write two for each octet";
+        return Some(Sentence::new(words, &[shown]));
+    }
+    octets_hint(digits, line)
 }
 
 /// What is found in this line of a file of requests, which is refused so.
@@ -83,7 +82,7 @@ pub fn request_hint(refusal: Refusal, requests: &[u8], line: u64) -> Option<Hint
         return None;
     }
     match form_hint(requests, line) {
-        Some(hint) => Some(Hint::Form(hint)),
-        None => Some(Hint::Packet(packet_hint(line_at(requests, line)?, line)?)),
+        Some(hint) => Some(Hint::Said(hint)),
+        None => Some(Hint::Said(packet_hint(line_at(requests, line)?, line)?)),
     }
 }

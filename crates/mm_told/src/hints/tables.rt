@@ -73,7 +73,12 @@ pub(crate) fn unknown_key(table: &Table, keys: &[Name]) -> Option<Excerpt> {
 }
 
 fn is_among(key: &str, keys: &[Name]) -> bool {
-    keys.iter().any(|name| name.text() == key)
+    for name in keys {
+        if name.text() == key {
+            return true;
+        }
+    }
+    false
 }
 
 /// What names a table: its array and row, and its identifier if it has one.

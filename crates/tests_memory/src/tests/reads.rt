@@ -3,6 +3,11 @@ use mm_ask::{Outcome, read_bytes};
 use std::alloc::AllocGlobal;
 use std::process::Abort;
 
+// Texts of packets, and the lines that each reads as.
+macro_rules! read_as {
+    ($($packets:literal => $($line:literal)*;)*) => { [$(($packets, concat!($($line, "\n"),*))),*] };
+}
+
 mod lines;
 mod refusals;
 mod reports;
@@ -17,16 +22,9 @@ fn reads<R: Abort + AllocGlobal>(rt: &R, packets: &str, outcome: Outcome, want: 
     assert!(rt; is_told, "{packets} reads as {text} and not {want}");
 }
 
-// Each of these texts of packets reads as the text beside it, and is a packet of the service.
-fn each_reads<R: Abort + AllocGlobal>(rt: &R, packets: &[(&str, &str)]) {
+// Each of these texts reads as the lines beside it, with this outcome.
+fn each_reads<R: Abort + AllocGlobal>(rt: &R, outcome: Outcome, packets: &[(&str, &str)]) {
     for (packets, want) in packets {
-        reads(rt, packets, Outcome::AllDone, want);
-    }
-}
-
-// Each of these texts reads as the text beside it, in which something is refused.
-fn each_is_refused<R: Abort + AllocGlobal>(rt: &R, packets: &[(&str, &str)]) {
-    for (packets, want) in packets {
-        reads(rt, packets, Outcome::SomeRefused, want);
+        reads(rt, packets, outcome, want);
     }
 }

@@ -31,8 +31,10 @@ fn opened(rt: &impl Abort, alloc: Global) -> Service {
 fn does(rt: &impl Abort, alloc: Global, service: &mut Service, request: &[u8], count: usize) {
     let mut each = [0; INSTRUCTIONS];
     let applied = service.apply(alloc, 7, request, &mut each);
-    let are_done = each.iter().take(count).all(|code| *code == DONE);
-    assert!(rt; applied == Ok(count) && are_done, "{applied:?}");
+    assert!(rt; applied == Ok(count), "{applied:?}");
+    for code in each.iter().take(count) {
+        assert!(rt; *code == DONE, "{code}");
+    }
 }
 
 // The packet is recorded at a moment: this becomes of it.
@@ -49,11 +51,10 @@ fn offers(rt: &impl Abort, alloc: Global, service: &mut Service, now: u64, want:
 
 // The buffer was full of the octet 9, and has these octets at its head.
 fn holds(rt: &impl Abort, buffer: &[u8], head: &[u8]) {
-    let is_left = match buffer.strip_prefix(head) {
-        Some(rest) => rest.iter().all(|octet| *octet == 9),
-        None => false,
-    };
-    assert!(rt; is_left, "{head:?}");
+    let rest = buffer.strip_prefix(head).expect(rt, "its head");
+    for octet in rest {
+        assert!(rt; *octet == 9, "{head:?}");
+    }
 }
 
 // What the retrieval from SCI gives next, and the octets that it writes.

@@ -3,9 +3,20 @@ use crate::tests::samples::{
     A_LIMITED, CHANNEL_LIMIT_CUT, FIRST_RUN, SCI, THREE_STEPS, TWO_STEPS_OF_A,
 };
 use mm_chart::chart_bytes;
-use samples::{chart_of, has_lines};
+use samples::{chart_of, has_lines, is_fault};
 use std::alloc::Global;
 use std::process::Abort;
+
+// Nothing is written of the faulty texts, but their faults.
+macro_rules! writes_nothing {
+    ($rt:expr, $write:ident) => {
+        for (setup, forecast, plan, wanted) in &FAULTY {
+            let (setup, forecast) = (setup.as_bytes(), forecast.as_bytes());
+            let written = $write($rt.alloc(), setup, forecast, plan.as_bytes());
+            is_fault($rt, $rt.alloc(), written, wanted);
+        }
+    };
+}
 
 mod numbers;
 mod pictures;
@@ -138,18 +149,7 @@ pub(crate) static FAULTY: [(&str, &str, &str, &str); 4] = [
     (A_LIMITED, TWO_STEPS_OF_A, FIRST_RUN, "35 Shape"),
 ];
 
-// The fault of these texts, as it is printed.
-fn told(rt: &impl Abort, alloc: Global, setup: &str, forecast: &str, plan: &str) -> String {
-    let (setup, forecast) = (setup.as_bytes(), forecast.as_bytes());
-    let chart = chart_bytes(alloc, setup, forecast, plan.as_bytes());
-    let fault = chart.expect_err(rt, "a fault");
-    fault.to_string(alloc).expect(rt, "memory")
-}
-
 #[test]
 fn the_first_fault_is_told_and_nothing_is_drawn(rt: HostRuntime) {
-    for (setup, forecast, plan, wanted) in &FAULTY {
-        let text = told(&rt, rt.alloc(), setup, forecast, plan);
-        assert!(rt; text.as_str() == *wanted, "{text} and not {wanted}");
-    }
+    writes_nothing!(&rt, chart_bytes)
 }

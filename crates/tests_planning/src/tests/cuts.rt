@@ -8,11 +8,6 @@ use mm_plan::{Fault, Sheet, fits, loss_of};
 use mm_problem::Problem;
 use std::process::Abort;
 
-const A: &str = "[[store]]\nid = \"A\"\nsize = 3\ntype = \"bounded\"\nchannel = 0\n";
-
-const A_AND_B_LIMITED: &str =
-    "[[store]]\nid = \"A\"\nsize = 3\ntype = \"bounded\"\nchannel = 0\n\n[[store]]\nid = \"B\"\nsize = 3\ntype = \"bounded\"\nchannel = 0\n\n[[limit]]\nchannel = 0\nblocks = 1\n";
-
 // A plan with its cut, and what is found of them by hand.
 struct Row {
     name: &'static str,
@@ -25,138 +20,71 @@ struct Row {
     verdict: Verdict,
 }
 
-static ROWS: [Row; 13] = [
-    Row {
-        name: "first_run",
-        setup: SCI,
-        forecast: THREE_STEPS,
-        sheet: FIRST_RUN,
-        misfit: None,
-        loss: 2,
-        bound: Some(2),
-        verdict: Verdict::Least(2),
-    },
-    Row {
-        name: "plan_that_loses_more",
-        setup: SCI,
-        forecast: THREE_STEPS,
-        sheet: "mmplan 1\nstores SCI\ndump 1 2\ndump 2 1\ndump 3 0\nloss 3\nstretch SCI 1 3\nbound 2\nend\n",
-        misfit: None,
-        loss: 3,
-        bound: Some(2),
-        verdict: Verdict::NotShown { loss: 3, bound: 2 },
-    },
-    Row {
-        name: "plan_that_does_not_fit",
-        setup: SCI,
-        forecast: THREE_STEPS,
-        sheet: "mmplan 1\nstores SCI\ndump 1 3\ndump 2 1\ndump 3 0\nloss 2\nstretch SCI 1 3\nbound 2\nend\n",
-        misfit: Some(1),
-        loss: 2,
-        bound: Some(2),
-        verdict: Verdict::DoesNotFit(1),
-    },
-    Row {
-        name: "two_stretches_of_one_store",
-        setup: SCI_OF_SIZE_2,
-        forecast: APART,
-        sheet: "mmplan 1\nstores SCI\ndump 1 0\ndump 2 2\ndump 3 0\nloss 6\nstretch SCI 1 1\nstretch SCI 3 3\nbound 6\nend\n",
-        misfit: None,
-        loss: 6,
-        bound: Some(6),
-        verdict: Verdict::Least(6),
-    },
-    Row {
-        name: "the same in one stretch, whose inner windows take more than it gains",
-        setup: SCI_OF_SIZE_2,
-        forecast: APART,
-        sheet: "mmplan 1\nstores SCI\ndump 1 0\ndump 2 2\ndump 3 0\nloss 6\nstretch SCI 1 3\nbound -1\nend\n",
-        misfit: None,
-        loss: 6,
-        bound: Some(-1),
-        verdict: Verdict::NotShown { loss: 6, bound: -1 },
-    },
-    Row {
-        name: "amount_above_content",
-        setup: SCI_OF_SIZE_2,
-        forecast: APART,
-        sheet: "mmplan 1\nstores SCI\ndump 1 0\ndump 2 9\ndump 3 0\nloss 6\nstretch SCI 1 1\nstretch SCI 3 3\nbound 6\nend\n",
-        misfit: None,
-        loss: 6,
-        bound: Some(6),
-        verdict: Verdict::Least(6),
-    },
-    Row {
-        name: "opening_contents_plan, with the loss of first_run",
-        setup: SCI_STARTS_WITH_2,
-        forecast: THREE_STEPS,
-        sheet: FIRST_RUN,
-        misfit: None,
-        loss: 4,
-        bound: Some(4),
-        verdict: Verdict::LossIs(4),
-    },
-    Row {
-        name: "channel_limit_cut",
-        setup: A_LIMITED,
-        forecast: TWO_STEPS_OF_A,
-        sheet: CHANNEL_LIMIT_CUT,
-        misfit: None,
-        loss: 2,
-        bound: Some(2),
-        verdict: Verdict::Least(2),
-    },
-    Row {
-        name: "more than the channel's limit, though not more than the window",
-        setup: A_LIMITED,
-        forecast: TWO_STEPS_OF_A,
-        sheet: "mmplan 1\nstores A\ndump 1 2\ndump 2 0\nloss 1\nstretch A 1 2\nbound -2\nend\n",
-        misfit: Some(1),
-        loss: 1,
-        bound: Some(-2),
-        verdict: Verdict::DoesNotFit(1),
-    },
-    Row {
-        name: "foresight_beats_even_split, with the even split",
-        setup: A_AND_B,
-        forecast: "step,window,A,B\n1,2,3,3\n2,0,2,0\n",
-        sheet: "mmplan 1\nstores A B\ndump 1 1 1\ndump 2 0 0\nloss 1\nbound 0\nend\n",
-        misfit: None,
-        loss: 1,
-        bound: Some(0),
-        verdict: Verdict::NotShown { loss: 1, bound: 0 },
-    },
-    Row {
-        name: "two_stretches_share_a_window",
-        setup: A_AND_B,
-        forecast: "step,window,A,B\n1,2,3,3\n2,0,2,2\n",
-        sheet: "mmplan 1\nstores A B\ndump 1 1 1\ndump 2 0 0\nloss 2\nstretch A 1 2\nstretch B 1 2\nbound 2\nend\n",
-        misfit: None,
-        loss: 2,
-        bound: Some(2),
-        verdict: Verdict::Least(2),
-    },
-    Row {
-        name: "two stores of one channel, whose limit counts once",
-        setup: A_AND_B_LIMITED,
-        forecast: "step,window,A,B\n1,5,3,3\n2,0,2,2\n",
-        sheet: "mmplan 2\nstores A B\ndump 1 1 0\ndump 2 0 0\nloss 3\nstretch A 1 2\nstretch B 1 2\ncount 1 channels\nbound 3\nend\n",
-        misfit: None,
-        loss: 3,
-        bound: Some(3),
-        verdict: Verdict::Least(3),
-    },
-    Row {
-        name: "a count of a step at which the channel has no limit",
-        setup: A,
-        forecast: TWO_STEPS_OF_A,
-        sheet: CHANNEL_LIMIT_CUT,
-        misfit: None,
-        loss: 2,
-        bound: None,
-        verdict: Verdict::BadCount(1),
-    },
-];
+// Plans by name: the texts of the setup, of the forecast and of the plan, and what is found.
+macro_rules! rows {
+    ($(
+        name: $name:literal, $setup:expr, $forecast:expr, $sheet:expr =>
+            misfit $misfit:expr, loss $loss:literal, bound $bound:expr, $verdict:ident $found:tt;
+    )+) => {
+        [$(Row {
+            name: $name, setup: $setup, forecast: $forecast, sheet: $sheet,
+            misfit: $misfit, loss: $loss, bound: $bound, verdict: Verdict::$verdict $found
+        }),+]
+    };
+}
+
+static ROWS: [Row; 13] = rows! {
+    name: "first_run",
+    SCI, THREE_STEPS, FIRST_RUN =>
+        misfit None, loss 2, bound Some(2), Least(2);
+    name: "plan_that_loses_more",
+    SCI, THREE_STEPS,
+    "mmplan 1\nstores SCI\ndump 1 2\ndump 2 1\ndump 3 0\nloss 3\nstretch SCI 1 3\nbound 2\nend\n" =>
+        misfit None, loss 3, bound Some(2), NotShown { loss: 3, bound: 2 };
+    name: "plan_that_does_not_fit",
+    SCI, THREE_STEPS,
+    "mmplan 1\nstores SCI\ndump 1 3\ndump 2 1\ndump 3 0\nloss 2\nstretch SCI 1 3\nbound 2\nend\n" =>
+        misfit Some(1), loss 2, bound Some(2), DoesNotFit(1);
+    name: "two_stretches_of_one_store",
+    SCI_OF_SIZE_2, APART,
+    "mmplan 1\nstores SCI\ndump 1 0\ndump 2 2\ndump 3 0\nloss 6\nstretch SCI 1 1\nstretch SCI 3 3\nbound 6\nend\n" =>
+        misfit None, loss 6, bound Some(6), Least(6);
+    name: "the same in one stretch, whose inner windows take more than it gains",
+    SCI_OF_SIZE_2, APART,
+    "mmplan 1\nstores SCI\ndump 1 0\ndump 2 2\ndump 3 0\nloss 6\nstretch SCI 1 3\nbound -1\nend\n" =>
+        misfit None, loss 6, bound Some(-1), NotShown { loss: 6, bound: -1 };
+    name: "amount_above_content",
+    SCI_OF_SIZE_2, APART,
+    "mmplan 1\nstores SCI\ndump 1 0\ndump 2 9\ndump 3 0\nloss 6\nstretch SCI 1 1\nstretch SCI 3 3\nbound 6\nend\n" =>
+        misfit None, loss 6, bound Some(6), Least(6);
+    name: "opening_contents_plan, with the loss of first_run",
+    SCI_STARTS_WITH_2, THREE_STEPS, FIRST_RUN =>
+        misfit None, loss 4, bound Some(4), LossIs(4);
+    name: "channel_limit_cut",
+    A_LIMITED, TWO_STEPS_OF_A, CHANNEL_LIMIT_CUT =>
+        misfit None, loss 2, bound Some(2), Least(2);
+    name: "more than the channel's limit, though not more than the window",
+    A_LIMITED, TWO_STEPS_OF_A,
+    "mmplan 1\nstores A\ndump 1 2\ndump 2 0\nloss 1\nstretch A 1 2\nbound -2\nend\n" =>
+        misfit Some(1), loss 1, bound Some(-2), DoesNotFit(1);
+    name: "foresight_beats_even_split, with the even split",
+    A_AND_B, "step,window,A,B\n1,2,3,3\n2,0,2,0\n",
+    "mmplan 1\nstores A B\ndump 1 1 1\ndump 2 0 0\nloss 1\nbound 0\nend\n" =>
+        misfit None, loss 1, bound Some(0), NotShown { loss: 1, bound: 0 };
+    name: "two_stretches_share_a_window",
+    A_AND_B, "step,window,A,B\n1,2,3,3\n2,0,2,2\n",
+    "mmplan 1\nstores A B\ndump 1 1 1\ndump 2 0 0\nloss 2\nstretch A 1 2\nstretch B 1 2\nbound 2\nend\n" =>
+        misfit None, loss 2, bound Some(2), Least(2);
+    name: "two stores of one channel, whose limit counts once",
+    "[[store]]\nid = \"A\"\nsize = 3\ntype = \"bounded\"\nchannel = 0\n\n[[store]]\nid = \"B\"\nsize = 3\ntype = \"bounded\"\nchannel = 0\n\n[[limit]]\nchannel = 0\nblocks = 1\n",
+    "step,window,A,B\n1,5,3,3\n2,0,2,2\n",
+    "mmplan 2\nstores A B\ndump 1 1 0\ndump 2 0 0\nloss 3\nstretch A 1 2\nstretch B 1 2\ncount 1 channels\nbound 3\nend\n" =>
+        misfit None, loss 3, bound Some(3), Least(3);
+    name: "a count of a step at which the channel has no limit",
+    "[[store]]\nid = \"A\"\nsize = 3\ntype = \"bounded\"\nchannel = 0\n", TWO_STEPS_OF_A,
+    CHANNEL_LIMIT_CUT =>
+        misfit None, loss 2, bound None, BadCount(1);
+};
 
 // The cut's bound, where it is a cut of the problem.
 fn bound_of(problem: &Problem, sheet: &Sheet) -> Option<i64> {

@@ -21,82 +21,42 @@ struct Case {
     value: Option<u64>,
 }
 
-static CASES: [Case; 5] = [
-    Case {
-        name: "greatest capacities",
-        nodes: 2,
-        arcs: &[(0, 1, Some(MAX_CAPACITY)), (0, 1, Some(MAX_CAPACITY))],
-        value: Some(2 * MAX_CAPACITY),
-    },
+// The capacity of an arc; `any` where it is unlimited.
+macro_rules! capacity {
+    (any) => { None };
+    ($most:expr) => { Some($most) };
+}
+
+// Networks by name: how many nodes each has, the value, and the arcs.
+macro_rules! networks {
+    ($(name: $name:literal, $nodes:literal nodes, $value:expr => $($from:literal $to:literal $most:tt),+;)+) => {
+        [$(Case { name: $name, nodes: $nodes, arcs: &[$(($from, $to, capacity!($most))),+], value: $value }),+]
+    };
+}
+
+static CASES: [Case; 5] = networks! {
+    name: "greatest capacities",
+    2 nodes, Some(2 * MAX_CAPACITY) =>
+        0 1 MAX_CAPACITY, 0 1 MAX_CAPACITY;
     // The shortest path 0 1 2 7 has to be taken back. The two of the answer are 0 1 5 6 7 and 0 3 4 2 7,
     // and the source has arcs for 2.
-    Case {
-        name: "a path that is taken back",
-        nodes: 8,
-        arcs: &[
-            (0, 1, Some(1)),
-            (1, 2, Some(1)),
-            (2, 7, Some(1)),
-            (0, 3, Some(1)),
-            (3, 4, Some(1)),
-            (4, 2, Some(1)),
-            (1, 5, Some(1)),
-            (5, 6, Some(1)),
-            (6, 7, Some(1)),
-        ],
-        value: Some(2),
-    },
+    name: "a path that is taken back",
+    8 nodes, Some(2) =>
+        0 1 1, 1 2 1, 2 7 1, 0 3 1, 3 4 1, 4 2 1, 1 5 1, 5 6 1, 6 7 1;
     // Nodes 1 to 3 are matched with 4 to 6. Each pair has node 3 or 4, so two pairs are the most.
-    Case {
-        name: "a matching",
-        nodes: 8,
-        arcs: &[
-            (0, 1, Some(1)),
-            (0, 2, Some(1)),
-            (0, 3, Some(1)),
-            (1, 4, None),
-            (2, 4, None),
-            (3, 4, None),
-            (3, 5, None),
-            (3, 6, None),
-            (4, 7, Some(1)),
-            (5, 7, Some(1)),
-            (6, 7, Some(1)),
-        ],
-        value: Some(2),
-    },
+    name: "a matching",
+    8 nodes, Some(2) =>
+        0 1 1, 0 2 1, 0 3 1, 1 4 any, 2 4 any, 3 4 any, 3 5 any, 3 6 any, 4 7 1, 5 7 1, 6 7 1;
     // Cormen, Leiserson, Rivest and Stein, "Introduction to Algorithms", third edition, figures 26.1
     // and 26.6: 23.
-    Case {
-        name: "the lucky puck network",
-        nodes: 6,
-        arcs: &[
-            (0, 1, Some(16)),
-            (0, 2, Some(13)),
-            (2, 1, Some(4)),
-            (1, 3, Some(12)),
-            (3, 2, Some(9)),
-            (2, 4, Some(14)),
-            (4, 3, Some(7)),
-            (3, 5, Some(20)),
-            (4, 5, Some(4)),
-        ],
-        value: Some(23),
-    },
+    name: "the lucky puck network",
+    6 nodes, Some(23) =>
+        0 1 16, 0 2 13, 2 1 4, 1 3 12, 3 2 9, 2 4 14, 4 3 7, 3 5 20, 4 5 4;
     // The same book, figure 26.7, where a bad choice of paths needs 2,000,000 of them.
-    Case {
-        name: "a bridge of 1",
-        nodes: 4,
-        arcs: &[
-            (0, 1, Some(1_000_000)),
-            (0, 2, Some(1_000_000)),
-            (1, 2, Some(1)),
-            (1, 3, Some(1_000_000)),
-            (2, 3, Some(1_000_000)),
-        ],
-        value: Some(2_000_000),
-    },
-];
+    name: "a bridge of 1",
+    4 nodes, Some(2_000_000) =>
+        0 1 1_000_000, 0 2 1_000_000, 1 2 1, 1 3 1_000_000, 2 3 1_000_000;
+};
 
 // The network of so many nodes with these arcs.
 pub(crate) fn built(rt: &impl Abort, alloc: Global, nodes: u32, arcs: &[ArcRow]) -> Network {

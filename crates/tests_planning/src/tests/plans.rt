@@ -55,34 +55,59 @@ fn has_amounts(rt: &impl Abort, problem: &Problem, plan: &Plan, wanted: &[u32], 
     assert!(rt; wanted.next() == None);
 }
 
+// The plan has the problem's shape and this loss.
+fn loses(rt: &impl Abort, problem: &Problem, plan: &Plan, loss: u64) {
+    assert!(rt; plan.has_shape(problem));
+    assert!(rt; loss_of(problem, plan) == loss);
+}
+
 #[test]
 fn nothing_leaves_by_the_plan_of_zeros(rt: HostRuntime) {
     let problem = problem_of(&rt, rt.alloc(), SCI, THREE_STEPS);
     let plan = Plan::zero(rt.alloc(), &problem).expect(&rt, "memory");
     has_amounts(&rt, &problem, &plan, &[0, 0, 0], "zeros");
-    assert!(rt; loss_of(&problem, &plan) == 6);
+    loses(&rt, &problem, &plan, 6);
     let other = problem_of(&rt, rt.alloc(), A_AND_B, A_AND_B_IDLE);
     assert!(rt; !plan.has_shape(&other));
+}
+
+// The plan of zeros with one amount that is set: of a store, in a step.
+fn one_set(rt: &impl Abort, alloc: Global, problem: &Problem, set: (usize, u32, u32)) -> Plan {
+    let (store, step, amount) = set;
+    assert!(rt; store < problem.stores() && 0 < step && step <= problem.steps());
+    assert!(rt; amount <= 10);
+    let mut plan = Plan::zero(alloc, problem).expect(rt, "memory");
+    plan.set(store, step, amount);
+    plan
+}
+
+// The plan of this problem with one amount that is set has these amounts, and this loss.
+fn sets_one(
+    rt: &impl Abort,
+    alloc: Global,
+    texts: (&str, &str),
+    set: (usize, u32, u32),
+    wanted: &[u32],
+    loss: u64,
+) {
+    let problem = problem_of(rt, alloc, texts.0, texts.1);
+    let plan = one_set(rt, alloc, &problem, set);
+    has_amounts(rt, &problem, &plan, wanted, "one is set");
+    loses(rt, &problem, &plan, loss);
 }
 
 // 3, 4, 4 blocks are written, 3, 3, 4 are left, and 0, 2, 3 are lost.
 #[test]
 fn one_amount_is_set(rt: HostRuntime) {
-    let problem = problem_of(&rt, rt.alloc(), SCI, THREE_STEPS);
-    assert!(rt; problem.stores() == 1 && problem.steps() == 3);
-    let mut plan = Plan::zero(rt.alloc(), &problem).expect(&rt, "memory");
-    plan.set(0, 2, 1);
-    has_amounts(&rt, &problem, &plan, &[0, 1, 0], "one is set");
-    assert!(rt; loss_of(&problem, &plan) == 5);
+    let texts = (SCI, THREE_STEPS);
+    sets_one(&rt, rt.alloc(), texts, (0, 2, 1), &[0, 1, 0], 5);
 }
 
+// Nothing arrives, so nothing is lost.
 #[test]
 fn one_amount_of_two_stores_is_set(rt: HostRuntime) {
-    let problem = problem_of(&rt, rt.alloc(), A_AND_B, A_AND_B_IDLE);
-    assert!(rt; problem.stores() == 2 && problem.steps() == 3);
-    let mut plan = Plan::zero(rt.alloc(), &problem).expect(&rt, "memory");
-    plan.set(1, 2, 7);
-    has_amounts(&rt, &problem, &plan, &[0, 0, 0, 7, 0, 0], "one is set");
+    let texts = (A_AND_B, A_AND_B_IDLE);
+    sets_one(&rt, rt.alloc(), texts, (1, 2, 7), &[0, 0, 0, 7, 0, 0], 0);
 }
 
 // A plan, and the amounts that it has once it is filled.

@@ -135,25 +135,22 @@ pub(crate) struct Pair {
     pub(crate) loss: u64,
 }
 
+// Pairs by name: what each of the two stores has, the steps, and the least loss.
+macro_rules! pairs {
+    ($(name: $name:literal, sizes $sizes:expr, starts $starts:expr, limits $limits:expr, $steps:literal => $loss:literal;)+) => {
+        [$(Pair { name: $name, sizes: $sizes, starts: $starts, limits: $limits, steps: $steps, loss: $loss }),+]
+    };
+}
+
+pub(crate) use pairs;
+
 // The store that overflows first is not always to be served first, where channels have limits: one block more is lost.
-pub(crate) static WHERE_GREED_FAILS: [Pair; 2] = [
-    Pair {
-        name: "greed_loses_6",
-        sizes: [2, 1],
-        starts: [2, 1],
-        limits: [1, 1],
-        steps: "1,1,1,2\n2,2,0,0\n3,1,0,2\n4,2,2,2\n5,1,0,0\n",
-        loss: 5,
-    },
-    Pair {
-        name: "greed_loses_1",
-        sizes: [2, 2],
-        starts: [1, 1],
-        limits: [2, 1],
-        steps: "1,1,0,0\n2,2,1,1\n3,0,1,2\n",
-        loss: 0,
-    },
-];
+pub(crate) static WHERE_GREED_FAILS: [Pair; 2] = pairs! {
+    name: "greed_loses_6",
+    sizes [2, 1], starts [2, 1], limits [1, 1], "1,1,1,2\n2,2,0,0\n3,1,0,2\n4,2,2,2\n5,1,0,0\n" => 5;
+    name: "greed_loses_1",
+    sizes [2, 2], starts [1, 1], limits [2, 1], "1,1,0,0\n2,2,1,1\n3,0,1,2\n" => 0;
+};
 
 // The setup of two stores with limits.
 pub(crate) fn pair_setup(rt: &impl Abort, alloc: Global, pair: &Pair) -> String {

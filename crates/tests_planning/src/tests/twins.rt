@@ -131,13 +131,18 @@ fn each_size_loses_least(rt: &impl Abort, alloc: Global, limit: &str, forecast: 
     }
 }
 
-static FORECASTS: [&str; 5] = [
-    "step,window,A,B\n1,2,3,1\n2,1,0,2\n3,2,2,2\n",
-    "step,window,A,B\n1,0,2,2\n2,3,1,0\n3,1,3,3\n",
-    "step,window,A,B\n1,3,0,4\n2,0,4,0\n3,2,1,1\n",
-    "step,window,A,B\n1,1,1,1\n2,1,1,1\n3,1,1,1\n",
-    "step,window,A,B\n1,4,5,0\n2,0,0,5\n",
-];
+// Forecasts for the two stores, by their steps.
+macro_rules! forecasts {
+    ($($($step:literal)+;)+) => { [$(concat!("step,window,A,B\n", $($step, "\n"),+)),+] };
+}
+
+static FORECASTS: [&str; 5] = forecasts! {
+    "1,2,3,1" "2,1,0,2" "3,2,2,2";
+    "1,0,2,2" "2,3,1,0" "3,1,3,3";
+    "1,3,0,4" "2,0,4,0" "3,2,1,1";
+    "1,1,1,1" "2,1,1,1" "3,1,1,1";
+    "1,4,5,0" "2,0,0,5";
+};
 
 #[test]
 fn the_planner_loses_no_more_than_the_best_of_all_plans(rt: HostRuntime) {

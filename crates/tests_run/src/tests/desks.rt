@@ -2,10 +2,10 @@
 ghost use Rattle.std.specs.Prelude.{◌≡◌};
 ghost use Rattle.mm_desk.specs.Runs.{opening_at};
 
-use crate::tests::calls::{
-    Ask, Told, told_of, told_of_delete, told_of_given, told_of_offer, told_of_reply,
-};
-use crate::tests::samples::{has, is_told, packet, store_with};
+use crate::tests::calls::told_of_reply;
+use crate::tests::samples::{has, is_told, store_with};
+use growths::calls::{Ask, Told};
+use growths::seats::answer;
 use mm_base::Kind;
 use mm_desk::agree::{agrees, is_below, is_part};
 use mm_desk::{
@@ -17,41 +17,6 @@ use std::marker::Brand;
 use std::process::Abort;
 use std::sync::Wait;
 use std::sync::ledger::Blank;
-
-// Makes a call through a seat that is done or refused.
-fn does<N: Opening, R: Wait + Abort>(
-    rt: &R,
-    alloc: Global,
-    desk: &Desk<N>,
-    seat: &mut Seat<N>,
-    ask: Ask,
-) -> Result<(), Fault> {
-    match ask {
-        Ask::Begin(from, to) => desk.begin(rt, alloc, seat, from, to),
-        Ask::Abort => desk.abort(rt, alloc, seat),
-        Ask::Enable => desk.enable(rt, alloc, seat),
-        Ask::Disable => desk.disable(rt, alloc, seat),
-        _ => panic!(rt; "a call of the owner"),
-    }
-}
-
-// What a desk answers through a seat.
-fn answer<N: Opening, R: Wait + Abort>(
-    rt: &R,
-    alloc: Global,
-    desk: &Desk<N>,
-    seat: &mut Seat<N>,
-    ask: Ask,
-) -> Told {
-    match ask {
-        Ask::Offer(now, count) => {
-            told_of_offer(&desk.offer(rt, alloc, seat, now, packet(rt, alloc, count)))
-        }
-        Ask::Next => told_of_given(&desk.next(rt, alloc, seat)),
-        Ask::Delete(limit) => told_of_delete(desk.delete(rt, alloc, seat, limit)),
-        _ => told_of(does(rt, alloc, desk, seat, ask)),
-    }
-}
 
 // The number of a seat, what is asked through it, and what is answered.
 type SeatCall = (u32, Ask, Told);

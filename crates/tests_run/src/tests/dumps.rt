@@ -1,11 +1,11 @@
 //! Steps of dump workers over links in memory, with what is sent, held and spent by hand.
-ghost use Rattle.std.specs.Prelude.{◌≡◌, ◌≢◌, ◌+◌, ◌<◌, ◌≤◌, length, All, AllPairs, IsTrue, None, vec_len};
+ghost use Rattle.std.specs.Prelude.{◌≢◌, ◌+◌, ◌<◌, ◌≤◌, length, All, AllPairs, vec_len};
 ghost use Rattle.mm_base.specs.declared.limits.TheConstants.{MAX_STORES};
 
 use crate::tests::links::new_links;
 use crate::tests::samples::{NAMES, is_named, stores_with};
 use mm_desk::Held;
-use mm_dump::{Dumped, Link, MemoryLink, Order, OrderBroken, TakenPacket, dump, may_fail};
+use mm_dump::{Dumped, Link, MemoryLink, Order, OrderBroken, TakenPacket};
 use mm_store::PacketStore;
 use std::alloc::Global;
 use std::process::Abort;
@@ -59,13 +59,6 @@ fn new_orders(rt: &impl Abort, alloc: Global, wanted: &[u32]) -> Vec<Order>
     orders
 }
 
-// Whether no retrieval is on at any store.
-fn are_idle(stores: &[Held]) -> bool
-    ensures idle { IsTrue result → All (λ h. h.state.retrieval ≡ None) stores.now }
-{
-    stores.iter().all(|store| store.state.retrieval().is_none())
-}
-
 // Dumps as many blocks as are wanted of each store.
 fn dumped<L: Link + Send, R: Threads + Wait + Sync + Abort>(
     rt: &R,
@@ -74,17 +67,13 @@ fn dumped<L: Link + Send, R: Threads + Wait + Sync + Abort>(
     stores: &mut Vec<Held>,
     links: &mut [L],
 ) -> Dumped {
-    let are_few = wanted.len() <= 4 && !links.is_empty() && links.len() <= 4;
-    assert!(rt;
-        are_few && stores.len() == wanted.len(),
-        "few links, and an amount for each of few stores"
-    );
-    assert!(rt;
-        may_fail(links) && are_idle(stores),
-        "links that may fail, and no retrieval is on"
-    );
+    assert!(rt; wanted.len() <= 4, "few stores");
+    assert!(rt; stores.len() == wanted.len(), "an amount for each");
     let orders = new_orders(rt, alloc, wanted);
-    dump(rt, alloc, &orders, stores, links).expect(rt, "memory")
+    match growths::dumps::dumped(rt, alloc, &orders, stores, links) {
+        Some(done) => done.expect(rt, "memory"),
+        None => panic!(rt; "stores and links that are ready"),
+    }
 }
 
 // A store stands under its name and channel, has lost nothing, and no retrieval is on.
@@ -114,6 +103,7 @@ fn have(rt: &impl Abort, stores: &[Held], counts: &[(u32, u64)]) {
 // deleted, and what each link took and how often it failed.
 #[derive(Clone, Copy)]
 struct Case {
+    name: &'static str,
     held: &'static [u16],
     until: &'static [Option<u64>],
     wanted: &'static [u32],
@@ -135,16 +125,18 @@ fn all_took(rt: &impl Abort, links: &[MemoryLink], case: &Case) {
 
 // Carries out the step of a case, and compares.
 fn tried<R: Threads + Wait + Sync + Abort>(rt: &R, alloc: Global, case: &Case) {
+    let name = case.name;
     let mut stores = stores_with(rt, alloc, case.held);
     let mut links = new_links(rt, alloc, case.until);
     let Dumped { broken, spent } = dumped(rt, alloc, case.wanted, &mut stores, &mut links);
-    assert!(rt; broken == case.broken, "the worst cause");
-    assert!(rt; spent == case.spent, "how much was spent");
+    assert!(rt; broken == case.broken, "{name}: the worst cause");
+    assert!(rt; spent == case.spent, "{name}: how much was spent");
     have(rt, &stores, case.counts);
     all_took(rt, &links, case);
 }
 
 const OLDEST: Case = Case {
+    name: "the oldest of each store go over one link",
     held: &[3, 2, 0, 1],
     until: &[None],
     wanted: &[2, 0, 4, 3],
@@ -155,17 +147,8 @@ const OLDEST: Case = Case {
     failures: 0,
 };
 
-const NO_ORDERS: Case = Case {
-    held: &[1],
-    until: &[None, None],
-    wanted: &[0],
-    spent: 0,
-    counts: &[(1, 0)],
-    sent: &[],
-    ..OLDEST
-};
-
 const ALL_HELD: Case = Case {
+    name: "all that is held goes",
     held: &[3],
     wanted: &[3],
     counts: &[(0, 3)],
@@ -173,13 +156,8 @@ const ALL_HELD: Case = Case {
     ..OLDEST
 };
 
-const MORE_THAN_HELD: Case = Case {
-    wanted: &[5],
-    ..ALL_HELD
-};
-
 const FIRST_SEND_FAILS: Case = Case {
-    held: &[3],
+    name: "a failed first send is spent",
     until: &[Some(0)],
     wanted: &[2],
     broken: Some(OrderBroken::LinkFailed),
@@ -187,9 +165,11 @@ const FIRST_SEND_FAILS: Case = Case {
     counts: &[(3, 0)],
     sent: &[],
     failures: 1,
+    ..ALL_HELD
 };
 
 const SECOND_SEND_FAILS: Case = Case {
+    name: "an order that breaks deletes nothing",
     until: &[Some(1)],
     wanted: &[3],
     spent: 2,
@@ -197,46 +177,40 @@ const SECOND_SEND_FAILS: Case = Case {
     ..FIRST_SEND_FAILS
 };
 
-const SECOND_ORDER_BREAKS: Case = Case {
-    held: &[1, 1, 1],
-    wanted: &[1, 1, 1],
-    counts: &[(0, 1), (1, 0), (1, 0)],
-    ..SECOND_SEND_FAILS
-};
+static CASES: [Case; 7] = [
+    OLDEST,
+    Case {
+        name: "a step without orders leaves all",
+        held: &[1],
+        until: &[None, None],
+        wanted: &[0],
+        spent: 0,
+        counts: &[(1, 0)],
+        sent: &[],
+        ..OLDEST
+    },
+    ALL_HELD,
+    Case {
+        name: "an order for more than is held takes all",
+        wanted: &[5],
+        ..ALL_HELD
+    },
+    FIRST_SEND_FAILS,
+    SECOND_SEND_FAILS,
+    Case {
+        name: "a worker that broke off takes no further order",
+        held: &[1, 1, 1],
+        wanted: &[1, 1, 1],
+        counts: &[(0, 1), (1, 0), (1, 0)],
+        ..SECOND_SEND_FAILS
+    },
+];
 
 #[test]
-fn the_oldest_of_each_store_go_over_one_link(rt: HostRuntime) {
-    tried(&rt, rt.alloc(), &OLDEST);
-}
-
-#[test]
-fn a_step_without_orders_leaves_all(rt: HostRuntime) {
-    tried(&rt, rt.alloc(), &NO_ORDERS);
-}
-
-#[test]
-fn an_order_that_breaks_deletes_nothing(rt: HostRuntime) {
-    tried(&rt, rt.alloc(), &SECOND_SEND_FAILS);
-}
-
-#[test]
-fn a_worker_that_broke_off_takes_no_further_order(rt: HostRuntime) {
-    tried(&rt, rt.alloc(), &SECOND_ORDER_BREAKS);
-}
-
-#[test]
-fn all_that_is_held_goes(rt: HostRuntime) {
-    tried(&rt, rt.alloc(), &ALL_HELD);
-}
-
-#[test]
-fn an_order_for_more_than_is_held_takes_all(rt: HostRuntime) {
-    tried(&rt, rt.alloc(), &MORE_THAN_HELD);
-}
-
-#[test]
-fn a_failed_first_send_is_spent(rt: HostRuntime) {
-    tried(&rt, rt.alloc(), &FIRST_SEND_FAILS);
+fn steps_of_dump_workers(rt: HostRuntime) {
+    for case in &CASES {
+        tried(&rt, rt.alloc(), case);
+    }
 }
 
 // What an order broke off stays in the store: the next dump sends it again.

@@ -1,5 +1,7 @@
 //! Steps of recorders, with counts by hand.
-use crate::tests::samples::{counts, id, memory_in_room, memory_of, next_after, packet};
+use crate::tests::samples::{
+    counts, id, memory_in_room, memory_of, next_after, one_of_two, packet,
+};
 use crate::tests::sources::{
     Script, all_have_left, has_left, new_script, script_of, scripts, scripts_in_room,
 };
@@ -280,16 +282,11 @@ fn recorded_all<R: Threads + Wait + Sync + Abort>(rt: &R, alloc: Global) -> Opti
     Some(is_whole_or_nothing(rt, &memory, answer))
 }
 
-// `rt try --test --fail-alloc N` refuses the N-th allocation of each test. One at the most is refused, so one of two steps at the least
-// records all.
 #[test]
 fn a_step_records_all_or_changes_nothing(rt: HostRuntime) {
     let first = recorded_all(&rt, rt.alloc());
     let second = recorded_all(&rt, rt.alloc());
-    assert!(rt;
-        first == Some(true) || second == Some(true),
-        "one step of two"
-    );
+    one_of_two(&rt, first, second);
 }
 
 fn shows(rt: &impl Abort, alloc: Global, cause: Cause, text: &str) {

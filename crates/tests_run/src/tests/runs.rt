@@ -7,4 +7,4 @@ mod halts;
 mod refusals;
 mod rows;
 mod standing;
-mod trials;
+pub(crate) mod trials;

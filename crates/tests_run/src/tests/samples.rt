@@ -106,3 +106,9 @@ pub fn is_told<T: Refused + Display + Copy>(
     let shown = refusal.to_string(alloc).expect(rt, "memory");
     assert!(rt; shown.as_str() == text, "{text}");
 }
+
+/// Of two tries of which one at the most lacks memory, as under `rt try --test --fail-alloc N`, one at the least came to its end.
+pub fn one_of_two(rt: &impl Abort, first: Option<bool>, second: Option<bool>) {
+    let whole = Some(true);
+    assert!(rt; first == whole || second == whole, "one of two");
+}

@@ -2,9 +2,11 @@
 ghost use Rattle.std.specs.Prelude.{◌≡◌};
 ghost use Rattle.mm_shared.specs.Views.{new_ports};
 
-use crate::tests::calls::{Ask, Call, Told, told_of, told_of_delete, told_of_given, told_of_offer};
+use crate::tests::calls::Call;
 use crate::tests::gates::comes_to;
-use crate::tests::samples::{has, is_named, new_state, packet, store_with, stores_with};
+use crate::tests::samples::{has, is_named, new_state, store_with, stores_with};
+use growths::calls::{Ask, Told};
+use growths::shared::answer;
 use mm_base::Kind;
 use mm_desk::{Fault, Held, StoreState};
 use mm_shared::{Port, Ports, SharedStore, close_all, open_all};
@@ -22,37 +24,6 @@ fn opened(rt: &impl Abort, alloc: Global, state: StoreState, seats: u32) -> (Sha
     match SharedStore::open(alloc, state, seats) {
         Ok(opened) => opened,
         Err(_) => panic!(rt; "memory"),
-    }
-}
-
-// What a store answers through a port.
-fn answer<R: Wait + Abort>(
-    rt: &R,
-    alloc: Global,
-    store: &SharedStore,
-    port: &mut Port,
-    ask: Ask,
-) -> Told
-    requires of { port.old.of ≡ store.now.id }
-    ensures same { (port.new.of ≡ port.old.of) × (port.new.number ≡ port.old.number) }
-{
-    match ask {
-        Ask::Offer(now, count) => {
-            told_of_offer(&store.offer(rt, port, now, packet(rt, alloc, count)))
-        }
-        Ask::Begin(from, to) => told_of(store.begin(rt, port, from, to)),
-        Ask::Next => told_of_given(&store.next(rt, alloc, port)),
-        Ask::Abort => told_of(store.abort(rt, port)),
-        Ask::Delete(limit) => told_of_delete(store.delete(rt, port, limit)),
-        Ask::Enable => {
-            store.enable(rt, port);
-            Told::Done
-        }
-        Ask::Disable => {
-            store.disable(rt, port);
-            Told::Done
-        }
-        _ => panic!(rt; "a call of the owner"),
     }
 }
 

@@ -1,7 +1,8 @@
 //! The state of a store: what is asked of it in turn, over both kinds, and what it answers.
 
-use crate::tests::calls::{Ask, Call, Told, told_of, told_of_delete, told_of_offer};
+use crate::tests::calls::Call;
 use crate::tests::samples::{has, is_told, new_state, packet};
+use growths::calls::{Ask, Told, told_of, told_of_delete, told_of_offer};
 use mm_base::{Kind, Refused};
 use mm_desk::{Fault, StoreState};
 use mm_store::PacketStore;

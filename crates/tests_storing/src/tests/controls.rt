@@ -95,27 +95,23 @@ fn lists(rt: &impl Abort, table: &ControlTable, rows: &[(u16, u8, &str)]) {
     }
 }
 
-// Rows as they come, by APID, subtype and store.
-static ADDED: [(u16, u8, &str); 6] = [
-    (101, 0, "A"),
-    (100, 25, "B"),
-    (100, 25, "AB"),
-    (99, 255, "B"),
-    (100, 25, "A"),
-    (100, 25, "B"),
-];
+// Rows by APID, subtype and store.
+macro_rules! rows {
+    ($($apid:literal $subtype:literal $store:literal),*) => { [$(($apid, $subtype, $store)),*] };
+}
+
+// Rows as they come.
+static ADDED: [(u16, u8, &str); 6] = rows! {
+    101 0 "A", 100 25 "B", 100 25 "AB", 99 255 "B", 100 25 "A", 100 25 "B"
+};
 
 // The same as they stand.
-static ORDERED: [(u16, u8, &str); 5] = [
-    (99, 255, "B"),
-    (100, 25, "A"),
-    (100, 25, "AB"),
-    (100, 25, "B"),
-    (101, 0, "A"),
-];
+static ORDERED: [(u16, u8, &str); 5] = rows! {
+    99 255 "B", 100 25 "A", 100 25 "AB", 100 25 "B", 101 0 "A"
+};
 
 // Without the rows of the store A.
-static WITHOUT_A: [(u16, u8, &str); 3] = [(99, 255, "B"), (100, 25, "AB"), (100, 25, "B")];
+static WITHOUT_A: [(u16, u8, &str); 3] = rows! { 99 255 "B", 100 25 "AB", 100 25 "B" };
 
 // A table with the rows as they come.
 fn filled(rt: &impl Abort, alloc: Global) -> ControlTable {

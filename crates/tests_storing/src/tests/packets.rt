@@ -116,23 +116,39 @@ fn telemetry_is_read_and_written(rt: HostRuntime) {
     );
 }
 
-// The octets are read as one packet, which is written into a longer buffer and leaves its end, and not into a shorter one.
-fn written_into_buffers(rt: &impl Abort, alloc: Global, octets: &[u8]) {
-    let packet = packet_of(rt, alloc, octets);
+// The packet is written into a buffer of 32 octets that was full of the octet 9, which is this then.
+fn is_written_into(rt: &impl Abort, packet: &Packet, len: usize, wanted: &[u8; 32]) {
     let mut long = [9; 32];
-    assert!(rt; packet.write_to(&mut long) == Ok(octets.len()));
-    assert!(rt; long.starts_with(octets));
-    assert!(rt; long[octets.len()..].iter().all(|octet| *octet == 9));
+    assert!(rt; packet.write_to(&mut long) == Ok(len));
+    assert!(rt; long == *wanted);
+}
+
+// The packet is not written into a buffer of 19 octets, which stays as it is.
+fn is_not_written(rt: &impl Abort, packet: &Packet, len: usize) {
     let mut short = [9; 19];
-    let small = TooSmall { len: octets.len() };
-    assert!(rt; packet.write_to(&mut short) == Err(small));
+    assert!(rt; packet.write_to(&mut short) == Err(TooSmall { len }));
     assert!(rt; short == [9; 19]);
 }
 
+// The octets of packets, and a buffer of 32 octets with each, whose end is as it was.
+static WRITTEN: [(&[u8], [u8; 32]); 2] = [
+    (
+        &ENABLE,
+        *b"\x18\x64\xC0\0\0\x0D\x20\x0F\x01\0\0\x01SCI     \x09\x09\x09\x09\x09\x09\x09\x09\x09\x09\x09\x09",
+    ),
+    (
+        &REPORT,
+        *b"\x0C\xD2\xD6\x2E\0\x11\x2A\x03\x19\x12\x34\x56\x78\x01\x02\x03\x04\x05\x06\x07\x08\xAA\xBB\xCC\x09\x09\x09\x09\x09\x09\x09\x09",
+    ),
+];
+
 #[test]
 fn packets_are_written_into_buffers_with_room(rt: HostRuntime) {
-    written_into_buffers(&rt, rt.alloc(), &ENABLE);
-    written_into_buffers(&rt, rt.alloc(), &REPORT);
+    for (octets, buffer) in &WRITTEN {
+        let packet = packet_of(&rt, rt.alloc(), octets);
+        is_written_into(&rt, &packet, octets.len(), buffer);
+        is_not_written(&rt, &packet, octets.len());
+    }
 }
 
 // A copy of these octets, as data.
@@ -332,18 +348,18 @@ const NINE: [u8; 9] = [1, 2, 3, 4, 5, 6, 7, 8, 9];
 
 #[test]
 fn octets_and_numbers_of_two_are_read_from_the_front(rt: HostRuntime) {
-    assert!(rt; octet_at(&NINE).map(|x| x.0) == Some(1));
-    assert!(rt; u16_at(&NINE).map(|x| x.0) == Some(0x0102));
+    assert!(rt; octet_at(&NINE) == Some((1, &NINE[1..])));
+    assert!(rt; u16_at(&NINE) == Some((0x0102, &NINE[2..])));
 }
 
 #[test]
 fn numbers_of_four_and_eight_are_read_from_the_front(rt: HostRuntime) {
-    assert!(rt; u32_at(&NINE).map(|x| x.0) == Some(0x0102_0304));
-    assert!(rt; u64_at(&NINE).map(|x| x.0) == Some(0x0102_0304_0506_0708));
+    assert!(rt; u32_at(&NINE) == Some((0x0102_0304, &NINE[4..])));
+    assert!(rt; u64_at(&NINE) == Some((0x0102_0304_0506_0708, &NINE[8..])));
 }
 
 #[test]
 fn what_follows_a_number_is_the_rest(rt: HostRuntime) {
-    assert!(rt; u64_at(&NINE).map(|x| x.1.len()) == Some(1));
+    assert!(rt; u64_at(&NINE[..8]) == Some((0x0102_0304_0506_0708, &NINE[..0])));
     assert!(rt; u64_at(&NINE[..7]).is_none());
 }

@@ -36,24 +36,15 @@ fn is_written(rt: &impl Abort, alloc: Global, report: &Report, octets: &[u8])
 
 // The report that these octets spell, which is written as them again under APID 100.
 fn report_again(rt: &impl Abort, alloc: Global, octets: &[u8]) -> Report {
-    let packet = packet_of(rt, alloc, octets);
-    let report = Report::read(alloc, &packet).expect(rt, "a report");
-    assert!(rt; report.subtype() == packet.subtype());
+    let report = read_again!(rt, alloc, octets, Report);
     assert!(rt; report.moment() == 1);
-    is_written(rt, alloc, &report, octets);
     report
 }
 
-static REPORTS: [(u8, &[u8]); 8] = [
-    (6, &CONTROL),
-    (6, &CONTROL_OF_NO_ROW),
-    (13, &SUMMARIES),
-    (13, &NO_SUMMARY),
-    (19, &STATUSES),
-    (19, &NO_STATUS),
-    (23, &CONFIGURATIONS),
-    (23, &NO_CONFIGURATION),
-];
+static REPORTS: [(u8, &[u8]); 8] = spelled! {
+    6 CONTROL, 6 CONTROL_OF_NO_ROW, 13 SUMMARIES, 13 NO_SUMMARY, 19 STATUSES, 19 NO_STATUS,
+    23 CONFIGURATIONS, 23 NO_CONFIGURATION
+};
 
 #[test]
 fn every_report_is_read_and_written(rt: HostRuntime) {
@@ -146,42 +137,21 @@ fn configuration_report(rt: HostRuntime) {
 
 // The octets are refused as a report with this fault.
 fn report_refused(rt: &impl Abort, alloc: Global, octets: &[u8], fault: Fault) {
-    let packet = packet_of(rt, alloc, octets);
-    let refusal = Report::read(alloc, &packet).expect_err(rt, "no report");
-    assert!(rt; refusal == fault, "{refusal} of {octets:?}");
+    refuses!(rt, alloc, octets, Report, fault)
 }
 
-static REFUSED_REPORTS: [(&[u8], Fault); 8] = [
-    (b"\x18\x64\xC0\0\0\x05\x20\x0F\x13\0\0\0", Fault::NotSt15),
-    (
-        b"\x08\x64\xC0\0\0\x0F\x20\x03\x13\0\0\0\0\0\0\0\0\0\0\0\x01\0",
-        Fault::NotSt15,
-    ),
-    (
-        b"\x08\x64\xC0\0\0\x0F\x20\x0F\x01\0\0\0\0\0\0\0\0\0\0\0\x01\0",
-        Fault::UnknownSubtype,
-    ),
-    (
+static REFUSED_REPORTS: [(&[u8], Fault); 8] = refused! {
+    NotSt15:
+        b"\x18\x64\xC0\0\0\x05\x20\x0F\x13\0\0\0",
+        b"\x08\x64\xC0\0\0\x0F\x20\x03\x13\0\0\0\0\0\0\0\0\0\0\0\x01\0";
+    UnknownSubtype: b"\x08\x64\xC0\0\0\x0F\x20\x0F\x01\0\0\0\0\0\0\0\0\0\0\0\x01\0";
+    CountMismatch:
         b"\x08\x64\xC0\0\0\x0E\x20\x0F\x13\0\0\0\0\0\0\0\0\0\0\0\x01",
-        Fault::CountMismatch,
-    ),
-    (
         b"\x08\x64\xC0\0\0\x19\x20\x0F\x13\0\0\0\0\0\0\0\0\0\0\0\x01\x02SCI     \x01\0",
-        Fault::CountMismatch,
-    ),
-    (
         b"\x08\x64\xC0\0\0\x19\x20\x0F\x13\0\0\0\0\0\0\0\0\0\0\0\x01\0SCI     \x01\0",
-        Fault::CountMismatch,
-    ),
-    (
         b"\x08\x64\xC0\0\0\x18\x20\x0F\x06\0\0\0\0\0\0\0\0\0\0\0\x01SCI     \0\x01",
-        Fault::CountMismatch,
-    ),
-    (
-        b"\x08\x64\xC0\0\0\x17\x20\x0F\x06\0\0\0\0\0\0\0\0\0\0\0\x01SCI     \0",
-        Fault::CountMismatch,
-    ),
-];
+        b"\x08\x64\xC0\0\0\x17\x20\x0F\x06\0\0\0\0\0\0\0\0\0\0\0\x01SCI     \0";
+};
 
 #[test]
 fn reports_refused(rt: HostRuntime) {

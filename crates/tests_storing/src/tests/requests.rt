@@ -56,32 +56,15 @@ fn is_written(rt: &impl Abort, alloc: Global, request: &Request, octets: &[u8])
 
 // The request that these octets spell, which is written as them again under APID 100.
 fn request_again(rt: &impl Abort, alloc: Global, octets: &[u8]) -> Request {
-    let packet = packet_of(rt, alloc, octets);
-    let request = Request::read(alloc, &packet).expect(rt, "a request");
-    assert!(rt; request.subtype() == packet.subtype());
-    is_written(rt, alloc, &request, octets);
-    request
+    read_again!(rt, alloc, octets, Request)
 }
 
-static REQUESTS: [(u8, &[u8]); 17] = [
-    (1, &ENABLE),
-    (2, &DISABLE_STORAGE),
-    (3, &ADD_REPORT_TYPES),
-    (4, &DELETE_REPORT_TYPES),
-    (5, &REPORT_CONTROL),
-    (9, &START_RETRIEVAL),
-    (11, &DELETE_CONTENT),
-    (12, &SUMMARISE_CONTENT),
-    (17, &ABORT_RETRIEVAL),
-    (18, &REPORT_STATUS),
-    (20, &CREATE_STORES),
-    (21, &DELETE_STORES),
-    (22, &REPORT_CONFIGURATION),
-    (25, &RESIZE_STORES),
-    (26, &CHANGE_TO_CIRCULAR),
-    (27, &CHANGE_TO_BOUNDED),
-    (28, &CHANGE_CHANNEL),
-];
+static REQUESTS: [(u8, &[u8]); 17] = spelled! {
+    1 ENABLE, 2 DISABLE_STORAGE, 3 ADD_REPORT_TYPES, 4 DELETE_REPORT_TYPES, 5 REPORT_CONTROL,
+    9 START_RETRIEVAL, 11 DELETE_CONTENT, 12 SUMMARISE_CONTENT, 17 ABORT_RETRIEVAL,
+    18 REPORT_STATUS, 20 CREATE_STORES, 21 DELETE_STORES, 22 REPORT_CONFIGURATION, 25 RESIZE_STORES,
+    26 CHANGE_TO_CIRCULAR, 27 CHANGE_TO_BOUNDED, 28 CHANGE_CHANNEL
+};
 
 #[test]
 fn every_request_is_read_and_written(rt: HostRuntime) {
@@ -101,75 +84,43 @@ enum Instructions {
     ChangeChannel(&'static [Channel]),
 }
 
+// Whether a request is of this kind, with these instructions.
+macro_rules! is_request {
+    ($request:expr, $kind:ident, $wanted:expr) => {
+        match $request {
+            Request::$kind(list) => list.as_slice() == $wanted,
+            _ => false,
+        }
+    };
+}
+
 // The request is this one.
 fn asks(request: &Request, wanted: &Instructions) -> bool {
-    match (request, wanted) {
-        (Request::DisableStorage(list), Instructions::DisableStorage(wanted)) => {
-            list.as_slice() == *wanted
-        }
-        (Request::DeleteReportTypes(list), Instructions::DeleteReportTypes(wanted)) => {
-            list.as_slice() == *wanted
-        }
-        (Request::StartRetrieval(list), Instructions::StartRetrieval(wanted)) => {
-            list.as_slice() == *wanted
-        }
-        (Request::DeleteContent(list), Instructions::DeleteContent(wanted)) => {
-            list.as_slice() == *wanted
-        }
-        (Request::ResizeStores(list), Instructions::ResizeStores(wanted)) => {
-            list.as_slice() == *wanted
-        }
-        (Request::ChangeChannel(list), Instructions::ChangeChannel(wanted)) => {
-            list.as_slice() == *wanted
-        }
-        _ => false,
+    match wanted {
+        Instructions::DisableStorage(list) => is_request!(request, DisableStorage, *list),
+        Instructions::DeleteReportTypes(list) => is_request!(request, DeleteReportTypes, *list),
+        Instructions::StartRetrieval(list) => is_request!(request, StartRetrieval, *list),
+        Instructions::DeleteContent(list) => is_request!(request, DeleteContent, *list),
+        Instructions::ResizeStores(list) => is_request!(request, ResizeStores, *list),
+        Instructions::ChangeChannel(list) => is_request!(request, ChangeChannel, *list),
     }
 }
 
-static INSTRUCTIONS: [(&[u8], Instructions); 6] = [
-    (
-        &DISABLE_STORAGE,
-        Instructions::DisableStorage(&[Target { id: SCI }, Target { id: HK }]),
-    ),
-    (
-        &DELETE_REPORT_TYPES,
-        Instructions::DeleteReportTypes(&[ReportType {
-            id: HK,
-            apid: 2046,
-            service: 255,
-            subtype: 0,
-        }]),
-    ),
-    (
-        &START_RETRIEVAL,
-        Instructions::StartRetrieval(&[TimeRange {
-            id: SCI,
-            from: 1,
-            to: 255,
-        }]),
-    ),
-    (
-        &DELETE_CONTENT,
-        Instructions::DeleteContent(&[TimeLimit {
-            id: SCI,
-            limit: 255,
-        }]),
-    ),
-    (
-        &RESIZE_STORES,
-        Instructions::ResizeStores(&[Size {
-            id: SCI,
-            size: 1_000_000,
-        }]),
-    ),
-    (
-        &CHANGE_CHANNEL,
-        Instructions::ChangeChannel(&[Channel {
-            id: SCI,
-            channel: 5,
-        }]),
-    ),
-];
+// The octets of requests, each with its instructions.
+macro_rules! instructions {
+    ($($octets:ident => $kind:ident: $($instruction:expr),+;)+) => {
+        [$((&$octets, Instructions::$kind(&[$($instruction),+]))),+]
+    };
+}
+
+static INSTRUCTIONS: [(&[u8], Instructions); 6] = instructions! {
+    DISABLE_STORAGE => DisableStorage: Target { id: SCI }, Target { id: HK };
+    DELETE_REPORT_TYPES => DeleteReportTypes: ReportType { id: HK, apid: 2046, service: 255, subtype: 0 };
+    START_RETRIEVAL => StartRetrieval: TimeRange { id: SCI, from: 1, to: 255 };
+    DELETE_CONTENT => DeleteContent: TimeLimit { id: SCI, limit: 255 };
+    RESIZE_STORES => ResizeStores: Size { id: SCI, size: 1_000_000 };
+    CHANGE_CHANNEL => ChangeChannel: Channel { id: SCI, channel: 5 };
+};
 
 #[test]
 fn instructions_have_their_fields(rt: HostRuntime) {
@@ -238,47 +189,20 @@ fn the_most_instructions_are_written_and_read(rt: HostRuntime) {
 
 // The octets are refused as a request with this fault.
 fn request_refused(rt: &impl Abort, alloc: Global, octets: &[u8], fault: Fault) {
-    let packet = packet_of(rt, alloc, octets);
-    let refusal = Request::read(alloc, &packet).expect_err(rt, "no request");
-    assert!(rt; refusal == fault, "{refusal} of {octets:?}");
+    refuses!(rt, alloc, octets, Request, fault)
 }
 
-static REFUSED_REQUESTS: [(&[u8], Fault); 10] = [
-    (b"\x18\x64\xC0\0\0\x04\x20\x11\x01\0\0", Fault::NotSt15),
-    (
-        b"\x18\x64\xC0\0\0\x04\x20\x0F\x0E\0\0",
-        Fault::UnknownSubtype,
-    ),
-    (
-        b"\x18\x64\xC0\0\0\x04\x20\x0F\x01\0\0",
-        Fault::CountMismatch,
-    ),
-    (
-        b"\x18\x64\xC0\0\0\x05\x20\x0F\x12\0\0\0",
-        Fault::CountMismatch,
-    ),
-    (
-        b"\x18\x64\xC0\0\0\x05\x20\x0F\x01\0\0\0",
-        Fault::CountMismatch,
-    ),
-    (
-        b"\x18\x64\xC0\0\0\x0D\x20\x0F\x01\0\0\x02SCI     ",
-        Fault::CountMismatch,
-    ),
-    (
-        b"\x18\x64\xC0\0\0\x15\x20\x0F\x01\0\0\x01SCI     HK      ",
-        Fault::CountMismatch,
-    ),
-    (
-        b"\x18\x64\xC0\0\0\x0E\x20\x0F\x01\0\0\x01SCI     \x20",
-        Fault::CountMismatch,
-    ),
-    (
-        b"\x18\x64\xC0\0\0\x0C\x20\x0F\x01\0\0\x01SCI    ",
-        Fault::CountMismatch,
-    ),
-    (&CONFIGURATIONS, Fault::NotSt15),
-];
+static REFUSED_REQUESTS: [(&[u8], Fault); 10] = refused! {
+    NotSt15:
+        b"\x18\x64\xC0\0\0\x04\x20\x11\x01\0\0",
+        &CONFIGURATIONS;
+    UnknownSubtype: b"\x18\x64\xC0\0\0\x04\x20\x0F\x0E\0\0";
+    CountMismatch:
+        b"\x18\x64\xC0\0\0\x04\x20\x0F\x01\0\0", b"\x18\x64\xC0\0\0\x05\x20\x0F\x12\0\0\0",
+        b"\x18\x64\xC0\0\0\x05\x20\x0F\x01\0\0\0", b"\x18\x64\xC0\0\0\x0C\x20\x0F\x01\0\0\x01SCI    ",
+        b"\x18\x64\xC0\0\0\x0D\x20\x0F\x01\0\0\x02SCI     ", b"\x18\x64\xC0\0\0\x0E\x20\x0F\x01\0\0\x01SCI     \x20",
+        b"\x18\x64\xC0\0\0\x15\x20\x0F\x01\0\0\x01SCI     HK      ";
+};
 
 #[test]
 fn request_lines_refused(rt: HostRuntime) {

@@ -6,8 +6,11 @@ use crate::tests::samples::is_shown;
 use mm_base::Kind;
 use mm_packet::{BlockPacket, Header, Octets, Packet};
 use mm_store::{AnyStore, BlockStore, Fault, PacketStore, Put, RingStore, Stored};
+use plain::drawn;
 use std::alloc::Global;
 use std::process::Abort;
+
+mod plain;
 
 // The last storage time there is.
 const LAST: u64 = u64::MAX;
@@ -228,96 +231,6 @@ fn a_store_of_one_block_and_the_end_of_the_clock(rt: HostRuntime) {
     );
 }
 
-// A store as a plain list, by the rules alone.
-#[derive(Drop)]
-struct PlainStore {
-    kind: Kind,
-    size: usize,
-    last: u64,
-    held: Vec<(u64, u16)>,
-}
-
-impl PlainStore {
-    fn put(&mut self, rt: &impl Abort, now: u64, count: u16) -> Told {
-        let time = now.max(self.last.saturating_add(1));
-        let full = self.held.len() >= self.size;
-        if full && self.kind == Kind::Bounded {
-            return Lost(count);
-        }
-        self.last = time;
-        let mut answer = Kept(time);
-        if full && !self.held.is_empty() {
-            answer = KeptOver(time, self.held.remove(0).1);
-        }
-        self.held.push((time, count)).expect(rt, "memory");
-        answer
-    }
-
-    fn delete_up_to(&mut self, limit: u64) -> Told {
-        let before = self.held.len();
-        self.held.retain(|held| held.0 > limit);
-        Deleted(before.saturating_sub(self.held.len()))
-    }
-
-    fn first_in(&self, from: u64, to: u64, after: u64) -> Told {
-        for held in &self.held {
-            if from <= held.0 && held.0 <= to && after < held.0 {
-                return First(held.0, held.1);
-            }
-        }
-        Nothing
-    }
-
-    // Adds the look-ups by which all that is held is read.
-    fn list(&self, rt: &impl Abort, steps: &mut Vec<Step>) {
-        let mut after = 0;
-        for held in &self.held {
-            let step = (FirstIn(0, LAST, after), First(held.0, held.1));
-            steps.push(step).expect(rt, "memory");
-            after = held.0;
-        }
-        steps
-            .push((FirstIn(0, LAST, after), Nothing))
-            .expect(rt, "memory");
-    }
-}
-
-// Adds the call that this number draws, and look-ups after it.
-fn draw(rt: &impl Abort, plain: &mut PlainStore, steps: &mut Vec<Step>, drawn: u64, count: u16) {
-    let shift = (drawn >> 40) % 9;
-    let now = plain.last.saturating_add(shift);
-    let limit = now.saturating_sub(12);
-    let step = if drawn >> 61 == 0 {
-        (DeleteUpTo(limit), plain.delete_up_to(limit))
-    } else {
-        (PutAt(now, count), plain.put(rt, now, count))
-    };
-    steps.push(step).expect(rt, "memory");
-    let (from, after) = (now.saturating_sub(15), now.saturating_sub(3 * shift));
-    let step = (FirstIn(from, now, after), plain.first_in(from, now, after));
-    steps.push(step).expect(rt, "memory");
-    plain.list(rt, steps);
-}
-
-// A thousand puts and deletions, by numbers that a linear congruence draws, and look-ups after each.
-fn drawn(rt: &impl Abort, alloc: Global, kind: Kind) -> Vec<Step> {
-    let mut plain = PlainStore {
-        kind,
-        size: 7,
-        last: 0,
-        held: Vec::new(alloc),
-    };
-    let mut steps = Vec::new(alloc);
-    let mut drawn: u64 = 12345;
-    for count in 0..1000u16 {
-        drawn = drawn
-            .wrapping_mul(6364136223846793005)
-            .wrapping_add(1442695040888963407);
-        draw(rt, &mut plain, &mut steps, drawn, count);
-    }
-    steps
-}
-
 #[test]
 fn a_thousand_puts_and_deletes_are_those_of_a_plain_list(rt: HostRuntime) {
     let alloc = rt.alloc();
@@ -399,20 +312,24 @@ static OLDEST_GIVEN_UP: [Step; 2] = [
 
 static NEWEST_LOST: [Step; 2] = [(AskState, State(1, 1, 1, 1, 1)), (PutAt(2, 2), Lost(2))];
 
+// A store of two blocks with one packet, which becomes one of one block: what it answers then.
+macro_rules! resized {
+    ($rt:expr, $store:ident, $steps:expr) => {{
+        let mut store = $store::new($rt.alloc(), 2).expect($rt, "memory");
+        run($rt, $rt.alloc(), &mut store, &ONE_PUT);
+        store.resize(1).expect($rt, "memory");
+        run($rt, $rt.alloc(), &mut store, $steps);
+    }};
+}
+
 #[test]
 fn a_ring_is_resized(rt: HostRuntime) {
-    let mut ring = RingStore::new(rt.alloc(), 2).expect(&rt, "memory");
-    run(&rt, rt.alloc(), &mut ring, &ONE_PUT);
-    ring.resize(1).expect(&rt, "memory");
-    run(&rt, rt.alloc(), &mut ring, &OLDEST_GIVEN_UP);
+    resized!(&rt, RingStore, &OLDEST_GIVEN_UP)
 }
 
 #[test]
 fn a_table_of_blocks_is_resized(rt: HostRuntime) {
-    let mut blocks = BlockStore::new(rt.alloc(), 2).expect(&rt, "memory");
-    run(&rt, rt.alloc(), &mut blocks, &ONE_PUT);
-    blocks.resize(1).expect(&rt, "memory");
-    run(&rt, rt.alloc(), &mut blocks, &NEWEST_LOST);
+    resized!(&rt, BlockStore, &NEWEST_LOST)
 }
 
 // A packet with this sequence count, as a store holds it.

@@ -3,63 +3,68 @@ use mm_base::Refusal;
 use mm_told::{Finding, Words};
 use std::process::Abort;
 
+// Refusals, and the text of each.
+macro_rules! refusals {
+    ($($refusal:ident => $text:literal;)*) => { [$((Refusal::$refusal, $text)),*] };
+}
+
 // Each refusal with its number and its name, by the tables of docs/FORMATS.md.
-static ALL: [(Refusal, &str); 54] = [
-    (Refusal::NoMemory, "0 NoMemory"),
-    (Refusal::Short, "1 Short"),
-    (Refusal::Version, "2 Version"),
-    (Refusal::NoSecondaryHeader, "3 NoSecondaryHeader"),
-    (Refusal::PusVersion, "4 PusVersion"),
-    (Refusal::Segmented, "5 Segmented"),
-    (Refusal::IdlePacket, "6 Idle"),
-    (Refusal::HeaderCut, "7 HeaderCut"),
-    (Refusal::TooLong, "8 TooLong"),
-    (Refusal::HoldsMore, "9 HoldsMore"),
-    (Refusal::NoSuchRoute, "10 NoSuchRoute"),
-    (Refusal::TableFull, "11 TableFull"),
-    (Refusal::NotSt15, "12 NotSt15"),
-    (Refusal::UnknownSubtype, "13 UnknownSubtype"),
-    (Refusal::CountMismatch, "14 CountMismatch"),
-    (Refusal::BadId, "15 BadId"),
-    (Refusal::BadEnum, "16 BadEnum"),
-    (Refusal::Disabled, "17 Disabled"),
-    (Refusal::Busy, "18 Busy"),
-    (Refusal::NoRetrieval, "19 Idle"),
-    (Refusal::BadRange, "20 BadRange"),
-    (Refusal::ClockEnd, "21 ClockEnd"),
-    (Refusal::WindowFull, "22 WindowFull"),
-    (Refusal::NoSuchStore, "23 NoSuchStore"),
-    (Refusal::Exists, "24 Exists"),
-    (Refusal::TooManyStores, "25 TooManyStores"),
-    (Refusal::StorageOn, "26 StorageOn"),
-    (Refusal::SetupText, "27 SetupText"),
-    (Refusal::SetupField, "28 SetupField"),
-    (Refusal::ForecastText, "29 ForecastText"),
-    (Refusal::Header, "30 Header"),
-    (Refusal::Cell, "31 Cell"),
-    (Refusal::StepNumber, "32 StepNumber"),
-    (Refusal::Limit, "33 Limit"),
-    (Refusal::PlanText, "34 PlanText"),
-    (Refusal::Shape, "35 Shape"),
-    (Refusal::Unbounded, "36 Unbounded"),
-    (Refusal::SameEnds, "37 SameEnds"),
-    (Refusal::PlanShape, "38 PlanShape"),
-    (Refusal::NotReady, "39 NotReady"),
-    (Refusal::SizeDiffers, "40 SizeDiffers"),
-    (Refusal::OpeningDiffers, "41 OpeningDiffers"),
-    (Refusal::ClockTooLate, "42 ClockTooLate"),
-    (Refusal::PlanDoesNotFit, "43 PlanDoesNotFit"),
-    (Refusal::Counts, "44 Counts"),
-    (Refusal::NoMemoryInStep, "45 NoMemory"),
-    (Refusal::LinkFailed, "46 LinkFailed"),
-    (Refusal::LogMismatch, "47 LogMismatch"),
-    (Refusal::BadSize, "48 BadSize"),
-    (Refusal::HexLine, "49 HexLine"),
-    (Refusal::NotRead, "50 NotRead"),
-    (Refusal::SourcesText, "51 SourcesText"),
-    (Refusal::LinksText, "52 LinksText"),
-    (Refusal::ChannelDiffers, "53 ChannelDiffers"),
-];
+static ALL: [(Refusal, &str); 54] = refusals! {
+    NoMemory => "0 NoMemory";
+    Short => "1 Short";
+    Version => "2 Version";
+    NoSecondaryHeader => "3 NoSecondaryHeader";
+    PusVersion => "4 PusVersion";
+    Segmented => "5 Segmented";
+    IdlePacket => "6 Idle";
+    HeaderCut => "7 HeaderCut";
+    TooLong => "8 TooLong";
+    HoldsMore => "9 HoldsMore";
+    NoSuchRoute => "10 NoSuchRoute";
+    TableFull => "11 TableFull";
+    NotSt15 => "12 NotSt15";
+    UnknownSubtype => "13 UnknownSubtype";
+    CountMismatch => "14 CountMismatch";
+    BadId => "15 BadId";
+    BadEnum => "16 BadEnum";
+    Disabled => "17 Disabled";
+    Busy => "18 Busy";
+    NoRetrieval => "19 Idle";
+    BadRange => "20 BadRange";
+    ClockEnd => "21 ClockEnd";
+    WindowFull => "22 WindowFull";
+    NoSuchStore => "23 NoSuchStore";
+    Exists => "24 Exists";
+    TooManyStores => "25 TooManyStores";
+    StorageOn => "26 StorageOn";
+    SetupText => "27 SetupText";
+    SetupField => "28 SetupField";
+    ForecastText => "29 ForecastText";
+    Header => "30 Header";
+    Cell => "31 Cell";
+    StepNumber => "32 StepNumber";
+    Limit => "33 Limit";
+    PlanText => "34 PlanText";
+    Shape => "35 Shape";
+    Unbounded => "36 Unbounded";
+    SameEnds => "37 SameEnds";
+    PlanShape => "38 PlanShape";
+    NotReady => "39 NotReady";
+    SizeDiffers => "40 SizeDiffers";
+    OpeningDiffers => "41 OpeningDiffers";
+    ClockTooLate => "42 ClockTooLate";
+    PlanDoesNotFit => "43 PlanDoesNotFit";
+    Counts => "44 Counts";
+    NoMemoryInStep => "45 NoMemory";
+    LinkFailed => "46 LinkFailed";
+    LogMismatch => "47 LogMismatch";
+    BadSize => "48 BadSize";
+    HexLine => "49 HexLine";
+    NotRead => "50 NotRead";
+    SourcesText => "51 SourcesText";
+    LinksText => "52 LinksText";
+    ChannelDiffers => "53 ChannelDiffers";
+};
 
 // A refusal is printed so, with its place in the table for its number.
 fn is_printed(rt: &impl Abort, number: usize, refusal: Refusal, shown: &str, text: &str) {
@@ -132,20 +137,13 @@ fn findings_have_words_of_their_own(rt: HostRuntime) {
     }
 }
 
-static SHOWN: [(Refusal, &str); 3] = [
-    (
-        Refusal::Cell,
-        "expected a whole number of at most 1,000,000, without sign or leading zeros; write plain digits, without spaces",
-    ),
-    (
-        Refusal::NoRetrieval,
-        "expected a store with a retrieval on; begin a retrieval with subtype 9",
-    ),
-    (
-        Refusal::Shape,
-        "expected a plan for the stores and the steps of this setup and this forecast; take the plan that was made from them",
-    ),
-];
+static SHOWN: [(Refusal, &str); 3] = refusals! {
+    Cell =>
+        "expected a whole number of at most 1,000,000, without sign or leading zeros; write plain digits, without spaces";
+    NoRetrieval => "expected a store with a retrieval on; begin a retrieval with subtype 9";
+    Shape =>
+        "expected a plan for the stores and the steps of this setup and this forecast; take the plan that was made from them";
+};
 
 #[test]
 fn words_are_shown_in_one_line(rt: HostRuntime) {

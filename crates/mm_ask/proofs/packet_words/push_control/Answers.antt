@@ -5,5 +5,4 @@ pub returns : goal.returns
 returns c =
     let opened = c.in_ok-extend_from_slice.ensures.items in
     let named = c.in_ok-push_id.ensures in
-    let ended = c.in_ok-push.ensures.items in
-    rw (ended, named, opened) (simp append_assoc)
+    simp append_assoc at (rw (named, opened) at c.end_line.ensures)

@@ -1,4 +1,4 @@
-use Rattle.std.proofs.Common.{◌≡◌, ◌+◌, ◌<◌, sym, ◌∙◌, arith}
+use Rattle.std.proofs.Common.{◌≡◌, ◌+◌, ◌<◌, ◌∙◌, arith}
 use Rattle.mm_base.specs.declared.limits.TheConstants.{CHANNELS}
 use Rattle.mm_problem.specs.Dumping.{channel}
 use Rattle.mm_plan.specs.Table.{amount}

@@ -1,6 +1,6 @@
 use Rattle.std.proofs.Common.{◌≡◌, ◌+◌, ◌≤◌, [], List, length}
 use Rattle.mm_run.specs.declared.links.Failing.{Failing}
-use Rattle.mm_run.specs.Words.{file_lines}
+use Rattle.mm_base.specs.Lines.{file_lines}
 use Rattle.mm_run.specs.Links.{AreLinked, with_failing}
 use Rattle.mm_run.proofs.links.fail_all.Given as goal
 

@@ -1,12 +1,11 @@
-use Rattle.std.proofs.Common.{rules, ◌≡◌, ◌<◌, length, sym, subst, arith}
-use Rattle.mm_shared.specs.Steps.{Seated, IsAtRest}
+use Rattle.std.proofs.Common.{rules, ℕ, ◌<◌, arith}
+use Rattle.atomic_table.proofs.Lists.{exchanged}
 use Rattle.mm_shared.proofs.Keeping.{tries}
 use Rattle.mm_shared.proofs.lock.take.Goals as goal
 
-pub swap-requires : goal.swap-requires
-swap-requires g c =
-    let same : c.loop.seat.me ≡ c.args.seat.now.me = search rules in (
-      search rules,
-      search rules,
-      tries _ _ _ _ _ (λ k. 2) 2 0 (λ k. omega arith) (subst (λ (m : Seated). IsAtRest m) (sym same) c.requires.rest) (subst (λ (m : Seated). 0 < length m.0.lists) (sym same) c.requires.seated),
-    )
+pub compare_exchange-requires : goal.compare_exchange-requires
+compare_exchange-requires g c = (
+  search rules,
+  search rules,
+  tries _ _ _ _ _ _ 0 1 (λ k. exchanged k 0 1 (λ (n : ℕ). 0 < n) (λ free. omega arith) (λ busy. omega arith)) c.requires.may.rest c.requires.may.seated,
+)

@@ -10,5 +10,5 @@ compare_exchange-requires c =
       search rules,
       search rules,
       tries _ _ _ _ _ _ 0 1 (λ k. exchanged k 0 1 (λ (n : ℕ). 0 < n) (λ free. omega arith) (λ busy. omega arith))
-          (subst (λ (m : Seated). IsAtRest m) (sym same) c.requires.rest) (subst (λ (m : Seated). 0 < length m.0.lists) (sym same) c.requires.seated),
+          (subst (λ (m : Seated). IsAtRest m) (sym same) c.requires.may.rest) (subst (λ (m : Seated). 0 < length m.0.lists) (sym same) c.requires.may.seated),
     )

@@ -27,22 +27,30 @@ fn reported(
     answers.reports.pop().expect(rt, "a report")
 }
 
-// The contents of a store: the times of its oldest and its newest packet, and how many it holds.
-fn summary(id: [u8; 8], oldest: u64, newest: u64, held: u32) -> Summary {
-    Summary {
-        id,
-        oldest,
-        newest,
-        held,
-    }
+// Whether a report is of this kind and moment, with these entries.
+macro_rules! is_report {
+    ($report:expr, $kind:ident, $moment:expr, $want:expr) => {
+        match $report {
+            Report::$kind { moment, entries } => *moment == $moment && entries.as_slice() == $want,
+            _ => false,
+        }
+    };
 }
+
+// The contents of stores: of each the times of its oldest and its newest packet, and how many it holds.
+macro_rules! summaries {
+    ($($id:literal $oldest:literal $newest:literal $held:literal),*) => {
+        [$(Summary { id: *$id, oldest: $oldest, newest: $newest, held: $held }),*]
+    };
+}
+
+static EMPTY: [Summary; 1] = summaries!(b"SCI     " 0 0 0);
+
+static TWO_EACH: [Summary; 2] = summaries!(b"HK      " 7 8 2, b"SCI     " 7 8 2);
 
 // The report is on the contents of these stores.
 fn summarises(rt: &impl Abort, report: &Report, want: &[Summary]) {
-    let is_told = match report {
-        Report::Summaries { moment, entries } => *moment == 9 && entries.as_slice() == want,
-        _ => false,
-    };
+    let is_told = is_report!(report, Summaries, 9, want);
     assert!(rt; is_told, "a summary");
 }
 
@@ -69,7 +77,7 @@ fn reports_on_the_stores_that_are_there(rt: HostRuntime) {
     let alloc = rt.alloc();
     let mut memory = memory_of(&rt, alloc, TWO_STORES);
     let one = reported(&rt, alloc, &mut memory, (9, 12, THREE), &THREE_ANSWERS);
-    summarises(&rt, &one, &[summary(*b"SCI     ", 0, 0, 0)]);
+    summarises(&rt, &one, &EMPTY);
     let request = (9, 12, b"\x01NONE    ".as_slice());
     let none = reported(&rt, alloc, &mut memory, request, &[NO_SUCH_STORE]);
     summarises(&rt, &none, &[]);
@@ -82,11 +90,7 @@ fn summaries_of_stores_with_packets(rt: HostRuntime) {
     let mut memory = played(&rt, rt.alloc(), &TWO_PACKETS_EACH);
     let request = (9, 12, b"\x02HK      SCI     ".as_slice());
     let report = reported(&rt, rt.alloc(), &mut memory, request, &[DONE, DONE]);
-    let (hk, sci) = (
-        summary(*b"HK      ", 7, 8, 2),
-        summary(*b"SCI     ", 7, 8, 2),
-    );
-    summarises(&rt, &report, &[hk, sci]);
+    summarises(&rt, &report, &TWO_EACH);
 }
 
 // A store for each pair of statuses.
@@ -99,20 +103,18 @@ static STATUSES: [Play; 1] = plays! {
     }
 };
 
-fn status(id: [u8; 8], storage: u8, retrieval: u8) -> Status {
-    Status {
-        id,
-        storage,
-        retrieval,
-    }
+// Stores with whether their storage and their retrieval are on.
+macro_rules! statuses {
+    ($($id:literal $storage:literal $retrieval:literal),*) => {
+        [$(Status { id: *$id, storage: $storage, retrieval: $retrieval }),*]
+    };
 }
+
+static PAIRS: [Status; 3] = statuses!(b"SCI     " 1 1, b"HK      " 0 0, b"READ    " 0 1);
 
 // The report has these statuses.
 fn reports_statuses(rt: &impl Abort, report: &Report, want: &[Status]) {
-    let is_told = match report {
-        Report::Statuses { moment, entries } => *moment == 9 && entries.as_slice() == want,
-        _ => false,
-    };
+    let is_told = is_report!(report, Statuses, 9, want);
     assert!(rt; is_told, "a status report");
 }
 
@@ -122,12 +124,7 @@ fn status_report(rt: HostRuntime) {
         let mut memory = played(&rt, rt.alloc(), play);
         let request = (9, 18, b"".as_slice());
         let report = reported(&rt, rt.alloc(), &mut memory, request, &[]);
-        let want = [
-            status(*b"SCI     ", 1, 1),
-            status(*b"HK      ", 0, 0),
-            status(*b"READ    ", 0, 1),
-        ];
-        reports_statuses(&rt, &report, &want);
+        reports_statuses(&rt, &report, &PAIRS);
     }
 }
 
@@ -139,12 +136,7 @@ fn configures(rt: &impl Abort, report: &Report, now: u64, channel: u8) {
         kind: 1,
         channel,
     };
-    let is_told = match report {
-        Report::Configurations { moment, entries } => {
-            *moment == now && entries.as_slice() == [want].as_slice()
-        }
-        _ => false,
-    };
+    let is_told = is_report!(report, Configurations, now, [want].as_slice());
     assert!(rt; is_told, "the channel {channel}");
 }
 

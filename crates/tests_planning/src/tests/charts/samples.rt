@@ -1,6 +1,6 @@
 //! The setup of one store, charts of texts, and texts with numbers in them.
 use itoa::Buffer;
-use mm_chart::chart_bytes;
+use mm_chart::{Fault, chart_bytes};
 use std::alloc::{AllocError, Global};
 use std::process::Abort;
 
@@ -13,11 +13,26 @@ pub fn chart_of(rt: &impl Abort, alloc: Global, setup: &str, forecast: &str, pla
     String::from_utf8(chart.expect(rt, plan)).expect(rt, "UTF-8")
 }
 
+/// Nothing is written but this fault, as it is printed.
+pub fn is_fault(rt: &impl Abort, alloc: Global, written: Result<Vec<u8>, Fault>, wanted: &str) {
+    let fault = written.expect_err(rt, "a fault");
+    let text = fault.to_string(alloc).expect(rt, "memory");
+    assert!(rt; text.as_str() == wanted, "{text} and not {wanted}");
+}
+
+fn has_line(chart: &str, wanted: &str) -> bool {
+    for line in chart.lines() {
+        if line == wanted {
+            return true;
+        }
+    }
+    false
+}
+
 /// The chart has these lines.
 pub fn has_lines(rt: &impl Abort, chart: &str, wanted: &[&str]) {
     for wanted in wanted {
-        let found = chart.lines().any(|line| line == *wanted);
-        assert!(rt; found, "no {wanted}");
+        assert!(rt; has_line(chart, wanted), "no {wanted}");
     }
 }
 

@@ -1,5 +1,6 @@
 //! Tables of plans whose records are worked out by hand, and the refusals.
 use crate::tests::charts::FAULTY;
+use crate::tests::charts::samples::is_fault;
 use crate::tests::charts::sizes::{most_lost, most_steps, most_stores};
 use crate::tests::samples::{FIRST_RUN, SCI, THREE_STEPS};
 use mm_chart::table_bytes;
@@ -14,49 +15,53 @@ fn table_of(rt: &impl Abort, alloc: Global, setup: &str, forecast: &str, plan: &
     String::from_utf8(table.expect(rt, plan)).expect(rt, "UTF-8")
 }
 
-// 3 stand in the store of 4, and 2 leave; 1 + 3 stand there, and 2 leave; of 2 + 4 the store has room for 4.
-const ONE_STORE: &str =
-    "step,window,store,arrived,lost,dumped,held\n1,2,SCI,3,0,2,1\n2,2,SCI,3,0,2,2\n3,0,SCI,4,2,0,4\n";
-
-// More is to leave in step 1 than the window lets through: 3 leave, 0 + 3 stay, and of 3 + 4 there is room for 4.
-const OVER_THE_WINDOW: &str =
-    "mmplan 1\nstores SCI\ndump 1 3\ndump 2 0\ndump 3 0\nloss 3\nbound 0\nend\n";
-
-const ALL_LEAVE: &str =
-    "step,window,store,arrived,lost,dumped,held\n1,2,SCI,3,0,3,0\n2,2,SCI,3,0,0,3\n3,0,SCI,4,3,0,4\n";
-
 const TWO_STORES: &str =
     "[[store]]\nid = \"CAM\"\nsize = 5\ntype = \"circular\"\nchannel = 0\nstart = 4\n[[store]]\nid = \"HK\"\nsize = 3\ntype = \"bounded\"\nchannel = 1\n";
-
-const NO_SECOND_WINDOW: &str = "step,window,CAM,HK\n1,4,3,2\n2,0,0,5\n3,6,6,0\n";
-
-const MORE_THAN_HELD: &str =
-    "mmplan 1\nstores CAM HK\ndump 1 3 1\ndump 2 0 0\ndump 3 2 4\nloss 8\nbound 0\nend\n";
-
-// Step 1: of 4 + 3 the circular store has room for 5, and 3 leave; of 2 in the other 1 leaves. Step 2: 2 stay; of 1 + 5
-// there is room for 3. Step 3: of 2 + 6 there is room for 5, and 2 leave; 4 are to leave of 3, and 3 do.
-const SIX_RECORDS: &str =
-    "step,window,store,arrived,lost,dumped,held\n1,4,CAM,3,2,3,2\n1,4,HK,2,0,1,1\n2,0,CAM,0,0,0,2\n2,0,HK,5,3,0,3\n3,6,CAM,6,3,2,3\n3,6,HK,0,0,3,0\n";
 
 const FULL: &str =
     "[[store]]\nid = \"-_9LONG_\"\nsize = 1000000\ntype = \"circular\"\nchannel = 7\nstart = 1000000\n";
 
-const MOST_BLOCKS: &str = "step,window,-_9LONG_\n1,1000000,1000000\n";
+// Tables: the texts of a setup, of a forecast and of a plan, and the lines that are written.
+macro_rules! tables {
+    ($($setup:expr, $forecast:expr, $plan:expr => $($line:literal)+;)+) => {
+        [$(($setup, $forecast, $plan, concat!($($line, "\n"),+))),+]
+    };
+}
 
-const ALL_DUMPED: &str =
-    "mmplan 1\nstores -_9LONG_\ndump 1 1000000\nloss 1000000\nbound 1000000\nend\n";
+static TABLES: [(&str, &str, &str, &str); 4] = tables! {
+    // 3 stand in the store of 4, and 2 leave; 1 + 3 stand there, and 2 leave; of 2 + 4 the store has room for 4.
+    SCI, THREE_STEPS, FIRST_RUN =>
+        "step,window,store,arrived,lost,dumped,held"
+        "1,2,SCI,3,0,2,1"
+        "2,2,SCI,3,0,2,2"
+        "3,0,SCI,4,2,0,4";
 
-// A million come to a full store of a million: as many are lost, and the rest leaves.
-const GREATEST: &str =
-    "step,window,store,arrived,lost,dumped,held\n1,1000000,-_9LONG_,1000000,1000000,1000000,0\n";
+    // More is to leave in step 1 than the window lets through: 3 leave, 0 + 3 stay, and of 3 + 4 there is room for 4.
+    SCI, THREE_STEPS,
+    "mmplan 1\nstores SCI\ndump 1 3\ndump 2 0\ndump 3 0\nloss 3\nbound 0\nend\n" =>
+        "step,window,store,arrived,lost,dumped,held"
+        "1,2,SCI,3,0,3,0"
+        "2,2,SCI,3,0,0,3"
+        "3,0,SCI,4,3,0,4";
 
-// Texts of a setup, a forecast and a plan, and their table.
-static TABLES: [(&str, &str, &str, &str); 4] = [
-    (SCI, THREE_STEPS, FIRST_RUN, ONE_STORE),
-    (SCI, THREE_STEPS, OVER_THE_WINDOW, ALL_LEAVE),
-    (TWO_STORES, NO_SECOND_WINDOW, MORE_THAN_HELD, SIX_RECORDS),
-    (FULL, MOST_BLOCKS, ALL_DUMPED, GREATEST),
-];
+    // Step 1: of 4 + 3 the circular store has room for 5, and 3 leave; of 2 in the other 1 leaves. Step 2: 2 stay; of 1 + 5
+    // there is room for 3. Step 3: of 2 + 6 there is room for 5, and 2 leave; 4 are to leave of 3, and 3 do.
+    TWO_STORES, "step,window,CAM,HK\n1,4,3,2\n2,0,0,5\n3,6,6,0\n",
+    "mmplan 1\nstores CAM HK\ndump 1 3 1\ndump 2 0 0\ndump 3 2 4\nloss 8\nbound 0\nend\n" =>
+        "step,window,store,arrived,lost,dumped,held"
+        "1,4,CAM,3,2,3,2"
+        "1,4,HK,2,0,1,1"
+        "2,0,CAM,0,0,0,2"
+        "2,0,HK,5,3,0,3"
+        "3,6,CAM,6,3,2,3"
+        "3,6,HK,0,0,3,0";
+
+    // A million come to a full store of a million: as many are lost, and the rest leaves.
+    FULL, "step,window,-_9LONG_\n1,1000000,1000000\n",
+    "mmplan 1\nstores -_9LONG_\ndump 1 1000000\nloss 1000000\nbound 1000000\nend\n" =>
+        "step,window,store,arrived,lost,dumped,held"
+        "1,1000000,-_9LONG_,1000000,1000000,1000000,0";
+};
 
 #[test]
 fn tables_have_these_records(rt: HostRuntime) {
@@ -89,18 +94,7 @@ fn sixteen_stores_and_256_steps_have_4096_records(rt: HostRuntime) -> Result<(),
     Ok(())
 }
 
-// The fault of these texts, as it is printed.
-fn told(rt: &impl Abort, alloc: Global, setup: &str, forecast: &str, plan: &str) -> String {
-    let (setup, forecast) = (setup.as_bytes(), forecast.as_bytes());
-    let table = table_bytes(alloc, setup, forecast, plan.as_bytes());
-    let fault = table.expect_err(rt, "a fault");
-    fault.to_string(alloc).expect(rt, "memory")
-}
-
 #[test]
 fn a_table_has_the_first_fault_of_a_chart(rt: HostRuntime) {
-    for (setup, forecast, plan, wanted) in &FAULTY {
-        let text = told(&rt, rt.alloc(), setup, forecast, plan);
-        assert!(rt; text.as_str() == *wanted, "{text} and not {wanted}");
-    }
+    writes_nothing!(&rt, table_bytes)
 }

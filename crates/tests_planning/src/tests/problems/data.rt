@@ -128,19 +128,26 @@ fn counts_of_data_refused(rt: HostRuntime) {
     refused(&rt, rt.alloc(), stepless, "33 Limit name steps");
 }
 
+// Limits, each as a channel and its blocks, by the fault with which they are refused.
+macro_rules! limits {
+    ($($fault:literal: $($channel:literal $blocks:literal),+;)+) => {
+        [$(([$(LimitRow { channel: $channel, blocks: $blocks }),+], $fault)),+]
+    };
+}
+
+static LIMITS_REFUSED: [([LimitRow; 2], &str); 3] = limits! {
+    "33 Limit name channel": 0 1, 8 1;
+    "33 Limit name blocks": 0 1, 1 1_000_001;
+    "28 SetupField row 2 name repeated": 3 1, 3 2;
+};
+
 #[test]
 fn limits_as_data_refused(rt: HostRuntime) {
     let rows = [store(&rt, "SCI", 4, 4, 7)];
-    let cases = [
-        ([(0, 1), (8, 1)], "33 Limit name channel"),
-        ([(0, 1), (1, 1_000_001)], "33 Limit name blocks"),
-        ([(3, 1), (3, 2)], "28 SetupField row 2 name repeated"),
-    ];
-    for (limits, fault) in cases.iter() {
-        let limits = limits.map(|(channel, blocks)| LimitRow { channel, blocks });
+    for (limits, fault) in &LIMITS_REFUSED {
         let data = Data {
             rows: &rows,
-            limits: &limits,
+            limits,
             windows: &[1],
             arrivals: &[1],
         };

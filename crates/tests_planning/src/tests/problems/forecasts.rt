@@ -47,25 +47,18 @@ static CELLS_REFUSED: [(&str, &str); 7] = [
 
 #[test]
 fn forecast_cells(rt: HostRuntime) {
-    answered(&rt, rt.alloc(), b"step,window,HK\n1,2,3", "30 Header");
     refused_each(&rt, rt.alloc(), &CELLS_REFUSED)
 }
 
-static HEADERS_REFUSED: [&str; 8] = [
-    "",
-    "\n\r\n",
-    "1,2,3\n",
-    "step,window\n",
-    "step,window,SCI,HK\n",
-    "step, window,SCI\n",
-    "Step,window,SCI\n",
-    "step,window,sci\n",
-];
+static HEADERS_REFUSED: [(&str, &str); 9] = refused! {
+    "30 Header": "", "\n\r\n", "1,2,3\n", "step,window\n", "step,window,SCI,HK\n", "step, window,SCI\n",
+        "Step,window,SCI\n", "step,window,sci\n", "step,window,HK\n1,2,3";
+};
 
 #[test]
 fn headers_refused(rt: HostRuntime) {
-    for text in &HEADERS_REFUSED {
-        answered(&rt, rt.alloc(), text.as_bytes(), "30 Header");
+    for (text, fault) in &HEADERS_REFUSED {
+        answered(&rt, rt.alloc(), text.as_bytes(), fault);
     }
 }
 

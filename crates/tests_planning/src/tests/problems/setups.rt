@@ -29,24 +29,14 @@ fn refused_after(rt: &impl Abort, alloc: Global, head: &str, cases: &[(&str, &st
     }
 }
 
-static SETUP_TEXTS_REFUSED: [([&str; 3], &str); 6] = [
-    (["[[store", "", ""], "27 SetupText"),
-    (["", "", ""], "28 SetupField row 0 name store"),
-    (["store = []", "", ""], "33 Limit name stores"),
-    (
-        [SCI, "colour = 1\n", ROUTE],
-        "28 SetupField row 1 name unknown",
-    ),
-    (
-        [
-            SCI,
-            "[[route]]\napid = 100\nservice = 3\nsubtype = 25\nstore = \"HK\"\n",
-            "",
-        ],
-        "28 SetupField row 1 name store",
-    ),
-    ([SCI, SCI, ROUTE], "28 SetupField row 2 name repeated"),
-];
+static SETUP_TEXTS_REFUSED: [([&str; 3], &str); 6] = refused! {
+    "27 SetupText": ["[[store", "", ""];
+    "28 SetupField row 0 name store": ["", "", ""];
+    "33 Limit name stores": ["store = []", "", ""];
+    "28 SetupField row 1 name unknown": [SCI, "colour = 1\n", ROUTE];
+    "28 SetupField row 1 name store": [SCI, "[[route]]\napid = 100\nservice = 3\nsubtype = 25\nstore = \"HK\"\n", ""];
+    "28 SetupField row 2 name repeated": [SCI, SCI, ROUTE];
+};
 
 #[test]
 fn setup_texts_refused(rt: HostRuntime) {
@@ -61,36 +51,20 @@ fn nested(rt: &impl Abort, alloc: Global, depth: usize, fault: &str) {
     refused(rt, alloc, text.as_bytes(), fault);
 }
 
-static DOCUMENTS_REFUSED: [(&str, &str); 15] = [
-    ("store", "27 SetupText"),
-    ("store = [1", "27 SetupText"),
+static DOCUMENTS_REFUSED: [(&str, &str); 15] = refused! {
+    "27 SetupText": "store", "store = [1";
     // A float that overflows, and one that does not.
-    ("title = 1e999", "27 SetupText"),
-    ("title = 1e99", "28 SetupField row 0 name unknown"),
-    ("title = 1", "28 SetupField row 0 name unknown"),
-    ("store = 3\ntitle = 1", "28 SetupField row 0 name unknown"),
-    ("store = 3", "28 SetupField row 0 name store"),
-    ("[store]\nid = \"SCI\"", "28 SetupField row 0 name store"),
-    ("route = 3", "28 SetupField row 0 name store"),
-    (
-        "store = []\nroute = 3\nlimit = 3",
-        "28 SetupField row 0 name route",
-    ),
-    ("store = []\nlimit = {}", "28 SetupField row 0 name limit"),
-    (
+    "27 SetupText": "title = 1e999";
+    "28 SetupField row 0 name unknown": "title = 1e99", "title = 1", "store = 3\ntitle = 1";
+    "28 SetupField row 0 name store": "store = 3", "[store]\nid = \"SCI\"", "route = 3";
+    "28 SetupField row 0 name route": "store = []\nroute = 3\nlimit = 3";
+    "28 SetupField row 0 name limit": "store = []\nlimit = {}";
+    "33 Limit name stores":
         "store = [1, 2, 3, 4, 5, 6, 7, 8, 9, 10, 11, 12, 13, 14, 15, 16, 17]",
-        "33 Limit name stores",
-    ),
-    (
-        "store = []\nlimit = [1, 2, 3, 4, 5, 6, 7, 8, 9]",
-        "33 Limit name stores",
-    ),
-    (
-        "store = [1]\nlimit = [1, 2, 3, 4, 5, 6, 7, 8, 9]",
-        "33 Limit name limits",
-    ),
-    ("store = [1]\nroute = [1]", "28 SetupField row 1 name store"),
-];
+        "store = []\nlimit = [1, 2, 3, 4, 5, 6, 7, 8, 9]";
+    "33 Limit name limits": "store = [1]\nlimit = [1, 2, 3, 4, 5, 6, 7, 8, 9]";
+    "28 SetupField row 1 name store": "store = [1]\nroute = [1]";
+};
 
 #[test]
 fn documents_refused(rt: HostRuntime) {
@@ -107,182 +81,77 @@ fn documents_refused(rt: HostRuntime) {
     refused(&rt, alloc, routes.as_bytes(), "33 Limit name routes");
 }
 
-static STORES_REFUSED: [(&str, &str); 31] = [
-    (
+static STORES_REFUSED: [(&str, &str); 31] = refused! {
+    "28 SetupField row 1 name id":
         "size = 4\ntype = \"bounded\"\nchannel = 0\nid = 7",
-        "28 SetupField row 1 name id",
-    ),
-    (
         "size = 4\ntype = \"bounded\"\nchannel = 0",
-        "28 SetupField row 1 name id",
-    ),
-    (
         "id = \"sci\"\nsize = 4\ntype = \"bounded\"\nchannel = 0",
-        "28 SetupField row 1 name id",
-    ),
-    (
         "id = \"\"\nsize = 4\ntype = \"bounded\"\nchannel = 0",
-        "28 SetupField row 1 name id",
-    ),
-    (
-        "id = \"ABCDEFGHI\"\nsize = 4\ntype = \"bounded\"\nchannel = 0",
-        "28 SetupField row 1 name id",
-    ),
-    (
+        "id = \"ABCDEFGHI\"\nsize = 4\ntype = \"bounded\"\nchannel = 0";
+    "28 SetupField row 1 name size":
         "id = \"SCI\"\ntype = \"bounded\"\nchannel = 0",
-        "28 SetupField row 1 name size",
-    ),
-    (
         "id = \"SCI\"\nsize = \"4\"\ntype = \"bounded\"\nchannel = 0",
-        "28 SetupField row 1 name size",
-    ),
-    (
         "id = \"SCI\"\nsize = 4.0\ntype = \"bounded\"\nchannel = 0",
-        "28 SetupField row 1 name size",
-    ),
-    (
         "id = \"SCI\"\nsize = true\ntype = \"bounded\"\nchannel = 0",
-        "28 SetupField row 1 name size",
-    ),
-    (
-        "id = \"SCI\"\nsize = 1979-05-27\ntype = \"bounded\"\nchannel = 0",
-        "28 SetupField row 1 name size",
-    ),
-    (
+        "id = \"SCI\"\nsize = 1979-05-27\ntype = \"bounded\"\nchannel = 0";
+    "33 Limit name size":
         "id = \"SCI\"\nsize = 0\ntype = \"bounded\"\nchannel = 0",
-        "33 Limit name size",
-    ),
-    (
         "id = \"SCI\"\nsize = -4\ntype = \"bounded\"\nchannel = 0",
-        "33 Limit name size",
-    ),
-    (
         "id = \"SCI\"\nsize = 1000001\ntype = \"bounded\"\nchannel = 0",
-        "33 Limit name size",
-    ),
-    (
-        "id = \"SCI\"\nsize = 9223372036854775807\ntype = 1\nchannel = 0",
-        "33 Limit name size",
-    ),
-    (
+        "id = \"SCI\"\nsize = 9223372036854775807\ntype = 1\nchannel = 0";
+    "27 SetupText":
         "id = \"SCI\"\nsize = 9223372036854775808\ntype = \"bounded\"\nchannel = 0",
-        "27 SetupText",
-    ),
-    (
-        "id = \"SCI\"\nsize = 4\nsize = 4\ntype = \"bounded\"\nchannel = 0",
-        "27 SetupText",
-    ),
-    (
+        "id = \"SCI\"\nsize = 4\nsize = 4\ntype = \"bounded\"\nchannel = 0";
+    "28 SetupField row 1 name type":
         "id = \"SCI\"\nsize = 4\nchannel = 0",
-        "28 SetupField row 1 name type",
-    ),
-    (
         "id = \"SCI\"\nsize = 4\ntype = 1\nchannel = 0",
-        "28 SetupField row 1 name type",
-    ),
-    (
-        "id = \"SCI\"\nsize = 4\ntype = \"Bounded\"\nchannel = 0",
-        "28 SetupField row 1 name type",
-    ),
-    (
+        "id = \"SCI\"\nsize = 4\ntype = \"Bounded\"\nchannel = 0";
+    "28 SetupField row 1 name channel":
         "id = \"SCI\"\nsize = 4\ntype = \"bounded\"",
-        "28 SetupField row 1 name channel",
-    ),
-    (
-        "id = \"SCI\"\nsize = 4\ntype = \"bounded\"\nchannel = \"0\"",
-        "28 SetupField row 1 name channel",
-    ),
-    (
+        "id = \"SCI\"\nsize = 4\ntype = \"bounded\"\nchannel = \"0\"";
+    "33 Limit name channel":
         "id = \"SCI\"\nsize = 4\ntype = \"bounded\"\nchannel = 8",
-        "33 Limit name channel",
-    ),
-    (
-        "id = \"SCI\"\nsize = 4\ntype = \"bounded\"\nchannel = -1",
-        "33 Limit name channel",
-    ),
-    (
-        "id = \"SCI\"\nsize = 4\ntype = \"bounded\"\nchannel = 0\nstart = \"1\"",
-        "28 SetupField row 1 name start",
-    ),
-    (
+        "id = \"SCI\"\nsize = 4\ntype = \"bounded\"\nchannel = -1";
+    "28 SetupField row 1 name start":
+        "id = \"SCI\"\nsize = 4\ntype = \"bounded\"\nchannel = 0\nstart = \"1\"";
+    "33 Limit name start":
         "id = \"SCI\"\nsize = 4\ntype = \"bounded\"\nchannel = 0\nstart = 5",
-        "33 Limit name start",
-    ),
-    (
-        "id = \"SCI\"\nsize = 4\ntype = \"bounded\"\nchannel = 0\nstart = -1",
-        "33 Limit name start",
-    ),
+        "id = \"SCI\"\nsize = 4\ntype = \"bounded\"\nchannel = 0\nstart = -1";
     // several faults: a strange key first, then the keys in their order
-    (
-        "id = \"sci\"\nsize = 0\ntype = \"ring\"\nchannel = 8\nstart = 5\ncolour = 1",
-        "28 SetupField row 1 name unknown",
-    ),
-    (
-        "start = 5\nchannel = 8\ntype = \"ring\"\nsize = 0\nid = \"sci\"",
-        "28 SetupField row 1 name id",
-    ),
-    (
-        "start = 5\nchannel = 8\ntype = \"ring\"\nsize = 0\nid = \"SCI\"",
-        "33 Limit name size",
-    ),
-    (
-        "start = 5\nchannel = 8\ntype = \"ring\"\nsize = 4\nid = \"SCI\"",
-        "28 SetupField row 1 name type",
-    ),
-    (
-        "start = 5\nchannel = 8\ntype = \"bounded\"\nsize = 4\nid = \"SCI\"",
-        "33 Limit name channel",
-    ),
-];
+    "28 SetupField row 1 name unknown":
+        "id = \"sci\"\nsize = 0\ntype = \"ring\"\nchannel = 8\nstart = 5\ncolour = 1";
+    "28 SetupField row 1 name id":
+        "start = 5\nchannel = 8\ntype = \"ring\"\nsize = 0\nid = \"sci\"";
+    "33 Limit name size": "start = 5\nchannel = 8\ntype = \"ring\"\nsize = 0\nid = \"SCI\"";
+    "28 SetupField row 1 name type":
+        "start = 5\nchannel = 8\ntype = \"ring\"\nsize = 4\nid = \"SCI\"";
+    "33 Limit name channel": "start = 5\nchannel = 8\ntype = \"bounded\"\nsize = 4\nid = \"SCI\"";
+};
 
 #[test]
 fn stores_refused(rt: HostRuntime) {
     refused_after(&rt, rt.alloc(), "[[store]]\n", &STORES_REFUSED);
 }
 
-static ROUTES_REFUSED: [(&str, &str); 9] = [
-    (
-        "[[route]]\nservice = 3\nsubtype = 25\nstore = \"SCI\"",
-        "28 SetupField row 1 name apid",
-    ),
-    (
-        "[[route]]\napid = 2047\nservice = 3\nsubtype = 25\nstore = \"SCI\"",
-        "33 Limit name apid",
-    ),
-    (
-        "[[route]]\napid = 100\nsubtype = 25\nstore = \"SCI\"",
-        "28 SetupField row 1 name service",
-    ),
-    (
-        "[[route]]\napid = 100\nservice = 256\nsubtype = 25\nstore = \"SCI\"",
-        "33 Limit name service",
-    ),
-    (
-        "[[route]]\napid = 100\nservice = 3\nsubtype = []\nstore = \"SCI\"",
-        "28 SetupField row 1 name subtype",
-    ),
-    (
-        "[[route]]\napid = 100\nservice = 3\nsubtype = -1\nstore = \"SCI\"",
-        "33 Limit name subtype",
-    ),
-    (
+static ROUTES_REFUSED: [(&str, &str); 9] = refused! {
+    "28 SetupField row 1 name apid": "[[route]]\nservice = 3\nsubtype = 25\nstore = \"SCI\"";
+    "33 Limit name apid": "[[route]]\napid = 2047\nservice = 3\nsubtype = 25\nstore = \"SCI\"";
+    "28 SetupField row 1 name service": "[[route]]\napid = 100\nsubtype = 25\nstore = \"SCI\"";
+    "33 Limit name service": "[[route]]\napid = 100\nservice = 256\nsubtype = 25\nstore = \"SCI\"";
+    "28 SetupField row 1 name subtype":
+        "[[route]]\napid = 100\nservice = 3\nsubtype = []\nstore = \"SCI\"";
+    "33 Limit name subtype": "[[route]]\napid = 100\nservice = 3\nsubtype = -1\nstore = \"SCI\"";
+    "28 SetupField row 1 name store":
         "[[route]]\napid = 100\nservice = 3\nsubtype = 25",
-        "28 SetupField row 1 name store",
-    ),
-    (
-        "[[route]]\napid = 100\nservice = 3\nsubtype = 25\nstore = 1",
-        "28 SetupField row 1 name store",
-    ),
-    (
-        "[[route]]\napid = 100\nservice = 3\nsubtype = 25\nstore = \"SCI\"\nsize = 1",
-        "28 SetupField row 1 name unknown",
-    ),
-];
+        "[[route]]\napid = 100\nservice = 3\nsubtype = 25\nstore = 1";
+    "28 SetupField row 1 name unknown":
+        "[[route]]\napid = 100\nservice = 3\nsubtype = 25\nstore = \"SCI\"\nsize = 1";
+};
 
-static ROUTE_TEXTS_REFUSED: [([&str; 3], &str); 2] = [
-    ([SCI, ROUTE, ROUTE], "28 SetupField row 2 name repeated"),
-    (["route = [1]\n", SCI, ""], "28 SetupField row 1 name route"),
-];
+static ROUTE_TEXTS_REFUSED: [([&str; 3], &str); 2] = refused! {
+    "28 SetupField row 2 name repeated": [SCI, ROUTE, ROUTE];
+    "28 SetupField row 1 name route": ["route = [1]\n", SCI, ""];
+};
 
 #[test]
 fn routes_refused(rt: HostRuntime) {
@@ -290,43 +159,26 @@ fn routes_refused(rt: HostRuntime) {
     refused_parts(&rt, rt.alloc(), &ROUTE_TEXTS_REFUSED)
 }
 
-static LIMITS_REFUSED: [(&str, &str); 8] = [
-    ("[[limit]]\nblocks = 1", "28 SetupField row 1 name channel"),
-    (
-        "[[limit]]\nchannel = 8\nblocks = 1",
-        "33 Limit name channel",
-    ),
-    ("[[limit]]\nchannel = 0", "28 SetupField row 1 name blocks"),
-    (
-        "[[limit]]\nchannel = 0\nblocks = 1.5",
-        "28 SetupField row 1 name blocks",
-    ),
-    (
-        "[[limit]]\nchannel = 0\nblocks = 1000001",
-        "33 Limit name blocks",
-    ),
-    (
-        "[[limit]]\nchannel = 0\nblocks = 1\nsize = 1",
-        "28 SetupField row 1 name unknown",
-    ),
-    (
-        "[[limit]]\nchannel = 0\nblocks = 1\n[[limit]]\nchannel = 0\nblocks = 2",
-        "28 SetupField row 2 name repeated",
-    ),
-    (
-        "[limit]\nchannel = 0\nblocks = 1",
-        "28 SetupField row 0 name limit",
-    ),
-];
+static LIMITS_REFUSED: [(&str, &str); 8] = refused! {
+    "28 SetupField row 1 name channel": "[[limit]]\nblocks = 1";
+    "33 Limit name channel": "[[limit]]\nchannel = 8\nblocks = 1";
+    "28 SetupField row 1 name blocks":
+        "[[limit]]\nchannel = 0", "[[limit]]\nchannel = 0\nblocks = 1.5";
+    "33 Limit name blocks": "[[limit]]\nchannel = 0\nblocks = 1000001";
+    "28 SetupField row 1 name unknown": "[[limit]]\nchannel = 0\nblocks = 1\nsize = 1";
+    "28 SetupField row 2 name repeated":
+        "[[limit]]\nchannel = 0\nblocks = 1\n[[limit]]\nchannel = 0\nblocks = 2";
+    "28 SetupField row 0 name limit": "[limit]\nchannel = 0\nblocks = 1";
+};
+
+static LIMIT_TEXTS_REFUSED: [([&str; 3], &str); 1] = refused! {
+    "28 SetupField row 1 name limit": ["limit = [1]\n", SCI, ""];
+};
 
 #[test]
 fn limits_refused(rt: HostRuntime) {
     refused_after(&rt, rt.alloc(), SCI, &LIMITS_REFUSED);
-    refused_parts(
-        &rt,
-        rt.alloc(),
-        &[(["limit = [1]\n", SCI, ""], "28 SetupField row 1 name limit")],
-    )
+    refused_parts(&rt, rt.alloc(), &LIMIT_TEXTS_REFUSED)
 }
 
 const SECOND: &str =

@@ -2,55 +2,25 @@
 //! and beside the slow twin on random tiny ones. Losses that are written are counted by hand.
 use super::{least_loss, loses, planned_loss};
 use crate::tests::samples::{
-    Pair, WHERE_GREED_FAILS, joined, limit, next_below, pair_setup, problem_of, record,
+    Pair, WHERE_GREED_FAILS, joined, limit, next_below, pair_setup, pairs, problem_of, record,
     sixteen_arrivals, sixteen_stores, store,
 };
 use mm_planner::plan_bytes;
 use std::alloc::Global;
 use std::process::Abort;
 
-static AT_THE_ENDS: [Pair; 5] = [
-    Pair {
-        name: "one_step",
-        sizes: [4, 1],
-        starts: [0, 0],
-        limits: [9, 9],
-        steps: "1,2,9,1\n",
-        loss: 5,
-    },
-    Pair {
-        name: "windows_all_0",
-        sizes: [3, 1],
-        starts: [0, 0],
-        limits: [9, 9],
-        steps: "1,0,1,1\n2,0,1,1\n3,0,1,1\n",
-        loss: 2,
-    },
-    Pair {
-        name: "limits_all_0",
-        sizes: [3, 1],
-        starts: [0, 0],
-        limits: [0, 0],
-        steps: "1,2,1,1\n2,2,1,1\n3,2,1,1\n",
-        loss: 2,
-    },
-    Pair {
-        name: "full_at_the_start",
-        sizes: [3, 1],
-        starts: [3, 1],
-        limits: [9, 9],
-        steps: "1,1,1,1\n2,1,1,1\n3,1,1,1\n",
-        loss: 4,
-    },
-    Pair {
-        name: "nothing_arrives",
-        sizes: [3, 1],
-        starts: [2, 1],
-        limits: [1, 1],
-        steps: "1,1,0,0\n2,2,0,0\n",
-        loss: 0,
-    },
-];
+static AT_THE_ENDS: [Pair; 5] = pairs! {
+    name: "one_step",
+    sizes [4, 1], starts [0, 0], limits [9, 9], "1,2,9,1\n" => 5;
+    name: "windows_all_0",
+    sizes [3, 1], starts [0, 0], limits [9, 9], "1,0,1,1\n2,0,1,1\n3,0,1,1\n" => 2;
+    name: "limits_all_0",
+    sizes [3, 1], starts [0, 0], limits [0, 0], "1,2,1,1\n2,2,1,1\n3,2,1,1\n" => 2;
+    name: "full_at_the_start",
+    sizes [3, 1], starts [3, 1], limits [9, 9], "1,1,1,1\n2,1,1,1\n3,1,1,1\n" => 4;
+    name: "nothing_arrives",
+    sizes [3, 1], starts [2, 1], limits [1, 1], "1,1,0,0\n2,2,0,0\n" => 0;
+};
 
 // The least loss of two stores is this, and the same input planned twice gives the same bytes.
 fn pair_loses(rt: &impl Abort, alloc: Global, pair: &Pair) {

@@ -2,6 +2,7 @@
 
 use crate::tests::links::new_links_in_room;
 use crate::tests::runs::trials::{Left, Task, Trial, each_took, left, setup, task};
+use crate::tests::samples::one_of_two;
 use crate::tests::sources::{Script, all_have_left, scripts_in_room};
 use mm_dump::MemoryLink;
 use mm_exec::{Cause, Flight, Halted};
@@ -114,13 +115,9 @@ fn came_to_its_end<R: Threads + Wait + Sync + Abort>(rt: &R, alloc: Global) -> O
     }
 }
 
-// One allocation at the most is refused, so one of two runs at the least comes to its end.
 #[test]
 fn a_run_is_carried_out_or_all_is_as_before(rt: HostRuntime) {
     let first = came_to_its_end(&rt, rt.alloc());
     let second = came_to_its_end(&rt, rt.alloc());
-    assert!(rt;
-        first == Some(true) || second == Some(true),
-        "{NAME}: one run of two"
-    );
+    one_of_two(&rt, first, second);
 }

@@ -73,12 +73,8 @@ static SECOND_FAILS: Broken = Broken {
         plan: "mmplan 1\nstores SCI\ndump 1 3\nloss 0\nbound 0\nend\n",
     },
     many: [3, 0, 0],
-    until: &[Some(1)],
-    step: 1,
-    spent: 2,
     rest: [0, 0, 0],
-    report: NO_STEP,
-    stores: &[left!("SCI", [3, 0, 0], [(1, 1), (2, 2), (3, 3)], [1])],
+    ..SECOND_SEND_FAILS
 };
 
 static DELETION: [Change; 1] = [Change::Delete(3, 3)];
@@ -197,34 +193,38 @@ struct GoesOn {
     then: Run,
 }
 
-static GO_ON: [GoesOn; 2] = [
-    GoesOn {
-        broken: SECOND_SEND_FAILS,
-        then: run! {
-            "after a halt in step 1", Task {
-                setup: setup! { store "SCI", apid 100, size 4, type "bounded", channel 0, start 3; },
-                forecast: "step,window,SCI\n1,2,0\n2,2,3\n3,0,5\n",
-                plan: "mmplan 1\nstores SCI\ndump 1 2\ndump 2 2\ndump 3 0\nloss 3\nbound 0\nend\n",
-            }, [0, 3, 5] =>
-            "step 1 SCI arrived 0 lost 0 dumped 2 held 1\nstep 2 SCI arrived 3 lost 0 dumped 2 held 2\n\
-                step 3 SCI arrived 5 lost 3 dumped 0 held 4\ntotal arrived 8 lost 3 dumped 4 held 4\n";
-            left!("SCI", [11, 3, 4], [(13, 5), (14, 6), (15, 7), (16, 8)], [1, 1, 2, 3, 4])
-        },
-    },
-    GoesOn {
-        broken: FOURTH_SEND_FAILS,
-        then: run! {
-            "after a halt in step 2", Task {
-                setup: setup! { store "SCI", apid 100, size 4, type "bounded", channel 0, start 4; },
-                forecast: "step,window,SCI\n1,2,0\n2,2,0\n3,0,5\n",
-                plan: "mmplan 1\nstores SCI\ndump 1 2\ndump 2 2\ndump 3 0\nloss 1\nbound 0\nend\n",
-            }, [0, 0, 5] =>
-            "step 1 SCI arrived 0 lost 0 dumped 2 held 2\nstep 2 SCI arrived 0 lost 0 dumped 2 held 0\n\
-                step 3 SCI arrived 5 lost 1 dumped 0 held 4\ntotal arrived 5 lost 1 dumped 4 held 4\n";
-            left!("SCI", [11, 1, 6], [(13, 7), (14, 8), (15, 9), (16, 10)], [1, 2, 3, 3, 4, 5, 6])
-        },
-    },
-];
+// Such runs of the first run's store: what breaks the one; of the other its name, the start volume, the forecast and the plan of what is
+// left, what the source gives in each step, the report, and what is left.
+macro_rules! go_on {
+    ($(
+        $broken:expr => $name:literal, start $start:literal, $forecast:literal, $plan:literal, $many:expr =>
+        $report:literal; $left:expr;
+    )+) => {
+        [$(GoesOn {
+            broken: $broken,
+            then: run! {
+                $name, Task {
+                    setup: setup! { store "SCI", apid 100, size 4, type "bounded", channel 0, start $start; },
+                    forecast: concat!("step,window,SCI\n", $forecast),
+                    plan: concat!("mmplan 1\nstores SCI\n", $plan, "bound 0\nend\n"),
+                }, $many => $report; $left
+            },
+        }),+]
+    };
+}
+
+static GO_ON: [GoesOn; 2] = go_on! {
+    SECOND_SEND_FAILS => "after a halt in step 1", start 3, "1,2,0\n2,2,3\n3,0,5\n",
+    "dump 1 2\ndump 2 2\ndump 3 0\nloss 3\n", [0, 3, 5] =>
+        "step 1 SCI arrived 0 lost 0 dumped 2 held 1\nstep 2 SCI arrived 3 lost 0 dumped 2 held 2\n\
+            step 3 SCI arrived 5 lost 3 dumped 0 held 4\ntotal arrived 8 lost 3 dumped 4 held 4\n";
+        left!("SCI", [11, 3, 4], [(13, 5), (14, 6), (15, 7), (16, 8)], [1, 1, 2, 3, 4]);
+    FOURTH_SEND_FAILS => "after a halt in step 2", start 4, "1,2,0\n2,2,0\n3,0,5\n",
+    "dump 1 2\ndump 2 2\ndump 3 0\nloss 1\n", [0, 0, 5] =>
+        "step 1 SCI arrived 0 lost 0 dumped 2 held 2\nstep 2 SCI arrived 0 lost 0 dumped 2 held 0\n\
+            step 3 SCI arrived 5 lost 1 dumped 0 held 4\ntotal arrived 5 lost 1 dumped 4 held 4\n";
+        left!("SCI", [11, 1, 6], [(13, 7), (14, 8), (15, 9), (16, 10)], [1, 2, 3, 3, 4, 5, 6]);
+};
 
 // Halts the first run, and carries out the second over what it left.
 fn goes_on<R: Threads + Wait + Sync + Abort>(rt: &R, alloc: Global, both: &GoesOn) {

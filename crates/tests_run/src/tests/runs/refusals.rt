@@ -210,131 +210,63 @@ const A_PACKET: &[Change] = &[Change::Offer(0, 900)];
 
 const A_LATE_TIME: &[Change] = &[Change::Offer(TOO_LATE, 900), Change::Delete(u64::MAX, 1)];
 
-const TASK_OF_TWO: Task = Task {
-    setup: TWO_STORES,
-    forecast: "step,window,HK,SCI\n1,12,3,3\n",
-    plan: "mmplan 1\nstores HK SCI\ndump 1 1 1\nloss 0\nbound 0\nend\n",
-};
+const ONE_EACH: &str = "mmplan 1\nstores HK SCI\ndump 1 1 1\nloss 0\nbound 0\nend\n";
 
-const OF_TWO: Refused = Refused {
-    name: "both stores are off",
-    task: TASK_OF_TWO,
-    memory: TWO_STORES,
-    others: &[Change::Off],
-    changes: &[Change::Off],
-    sources: 1,
-    links: &[None],
-    base: 0,
-    why: Why::NotReady("HK"),
-};
+const STEP_2_TOO: &str = "mmplan 1\nstores HK SCI\ndump 1 1 1\ndump 2 0 0\nloss 0\nbound 0\nend\n";
+
+const ABOVE_WINDOW: &str = "mmplan 1\nstores HK SCI\ndump 1 9 4\nloss 0\nbound 0\nend\n";
+
+const ABOVE_LIMIT: &str = "mmplan 1\nstores HK SCI\ndump 1 10 2\nloss 0\nbound 0\nend\n";
+
+const OFF: &[Change] = &[Change::Off];
+
+// Rows over two stores: the plan, the memory, what was done to HK and to SCI, and the links.
+macro_rules! refused_of_two {
+    ($(name: $name:literal, $plan:expr, $memory:expr, $others:expr, $changes:expr, $links:expr => $why:expr;)*) => {
+        [$(Refused {
+            name: $name,
+            task: Task { setup: TWO_STORES, forecast: "step,window,HK,SCI\n1,12,3,3\n", plan: $plan },
+            memory: $memory,
+            others: $others,
+            changes: $changes,
+            sources: 1,
+            links: &$links,
+            base: 0,
+            why: $why,
+        }),*]
+    };
+}
 
 // Each cause is looked for in all stores, in their order, before the next one: where the first store has a later cause than the second,
 // the second is told, and where both have one, the first.
-static OF_SEVERAL_STORES: [Refused; 13] = [
-    Refused {
-        name: "the plan is of two steps, both stores are off",
-        task: Task {
-            plan: "mmplan 1\nstores HK SCI\ndump 1 1 1\ndump 2 0 0\nloss 0\nbound 0\nend\n",
-            ..TASK_OF_TWO
-        },
-        why: Why::PlanShape,
-        ..OF_TWO
-    },
-    OF_TWO,
-    Refused {
-        name: "the first is larger, the second is off",
-        memory: BOTH_LARGER,
-        others: &[],
-        why: Why::NotReady("SCI"),
-        ..OF_TWO
-    },
-    Refused {
-        name: "both are larger",
-        memory: BOTH_LARGER,
-        others: &[],
-        changes: &[],
-        why: Why::SizeDiffers("HK"),
-        ..OF_TWO
-    },
-    Refused {
-        name: "the first holds a packet, the second is larger",
-        memory: SCI_LARGER,
-        others: A_PACKET,
-        changes: &[],
-        why: Why::SizeDiffers("SCI"),
-        ..OF_TWO
-    },
-    Refused {
-        name: "both hold a packet",
-        others: A_PACKET,
-        changes: A_PACKET,
-        why: Why::OpeningDiffers("HK"),
-        ..OF_TWO
-    },
-    Refused {
-        name: "both are on other channels, the second holds a packet",
-        memory: BOTH_MOVED,
-        others: &[],
-        changes: A_PACKET,
-        why: Why::OpeningDiffers("SCI"),
-        ..OF_TWO
-    },
-    Refused {
-        name: "both are on other channels",
-        memory: BOTH_MOVED,
-        others: &[],
-        changes: &[],
-        why: Why::ChannelDiffers("HK"),
-        ..OF_TWO
-    },
-    Refused {
-        name: "the first has a late storage time, the second is on another channel",
-        memory: SCI_MOVED,
-        others: A_LATE_TIME,
-        changes: &[],
-        why: Why::ChannelDiffers("SCI"),
-        ..OF_TWO
-    },
-    Refused {
-        name: "the second has a late storage time",
-        others: &[],
-        changes: A_LATE_TIME,
-        why: Why::ClockTooLate,
-        ..OF_TWO
-    },
-    Refused {
-        name: "the amounts of both are above the window, no link",
-        task: Task {
-            plan: "mmplan 1\nstores HK SCI\ndump 1 9 4\nloss 0\nbound 0\nend\n",
-            ..TASK_OF_TWO
-        },
-        others: &[],
-        changes: &[],
-        links: &[],
-        why: Why::PlanDoesNotFit(1),
-        ..OF_TWO
-    },
-    Refused {
-        name: "the first is above the limit of its channel, no link",
-        task: Task {
-            plan: "mmplan 1\nstores HK SCI\ndump 1 10 2\nloss 0\nbound 0\nend\n",
-            ..TASK_OF_TWO
-        },
-        others: &[],
-        changes: &[],
-        links: &[],
-        why: Why::PlanDoesNotFit(1),
-        ..OF_TWO
-    },
-    Refused {
-        name: "no link",
-        others: &[],
-        changes: &[],
-        links: &[],
-        why: Why::Counts,
-        ..OF_TWO
-    },
-];
+static OF_SEVERAL_STORES: [Refused; 13] = refused_of_two! {
+    name: "the plan is of two steps, both stores are off",
+        STEP_2_TOO, TWO_STORES, OFF, OFF, [None] => Why::PlanShape;
+    name: "both stores are off",
+        ONE_EACH, TWO_STORES, OFF, OFF, [None] => Why::NotReady("HK");
+    name: "the first is larger, the second is off",
+        ONE_EACH, BOTH_LARGER, &[], OFF, [None] => Why::NotReady("SCI");
+    name: "both are larger",
+        ONE_EACH, BOTH_LARGER, &[], &[], [None] => Why::SizeDiffers("HK");
+    name: "the first holds a packet, the second is larger",
+        ONE_EACH, SCI_LARGER, A_PACKET, &[], [None] => Why::SizeDiffers("SCI");
+    name: "both hold a packet",
+        ONE_EACH, TWO_STORES, A_PACKET, A_PACKET, [None] => Why::OpeningDiffers("HK");
+    name: "both are on other channels, the second holds a packet",
+        ONE_EACH, BOTH_MOVED, &[], A_PACKET, [None] => Why::OpeningDiffers("SCI");
+    name: "both are on other channels",
+        ONE_EACH, BOTH_MOVED, &[], &[], [None] => Why::ChannelDiffers("HK");
+    name: "the first has a late storage time, the second is on another channel",
+        ONE_EACH, SCI_MOVED, A_LATE_TIME, &[], [None] => Why::ChannelDiffers("SCI");
+    name: "the second has a late storage time",
+        ONE_EACH, TWO_STORES, &[], A_LATE_TIME, [None] => Why::ClockTooLate;
+    name: "the amounts of both are above the window, no link",
+        ABOVE_WINDOW, TWO_STORES, &[], &[], [] => Why::PlanDoesNotFit(1);
+    name: "the first is above the limit of its channel, no link",
+        ABOVE_LIMIT, TWO_STORES, &[], &[], [] => Why::PlanDoesNotFit(1);
+    name: "no link",
+        ONE_EACH, TWO_STORES, &[], &[], [] => Why::Counts;
+};
 
 #[test]
 fn each_cause_is_looked_for_in_all_stores(rt: HostRuntime) {

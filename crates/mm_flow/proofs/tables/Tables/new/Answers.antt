@@ -30,13 +30,17 @@ level_is : (c : After-index) → c.index.result.now.level ≡ (mark c.run.new.se
 level_is c =
     ap (λ (m : Mark). m.level) (get_or_read c.run.new.self.marks.items c.args.sink c.index.result.now (omega (arith, c.run.ensures.searched.marking.size, c.requires.sink)) c.index.ensures no_mark)
 
-pub returns-then-index-gt0-clause-unbounded : goal.returns-then-index-gt0-clause-unbounded
-returns-then-index-gt0-clause-unbounded c =
+pub returns-then-index-gt0-clause-refused : goal.returns-then-index-gt0-clause-refused
+returns-then-index-gt0-clause-refused c =
     let g = c.args.network.now.graph in
-    let run = (goal.at.returns-then-index-gt0-clause-unbounded c).After-run in
+    let run = (goal.at.returns-then-index-gt0-clause-refused c).After-run in
     let marks = c.run.new.self.marks.items in
-    let has : HasMark marks c.args.sink = omega (arith, level_is (goal.at.returns-then-index-gt0-clause-unbounded c).After-index, c.if-index-gt0.true) in
-    λ same. (c.if-source-sink.false, subst (λ (s : ℕ). HasUnlimitedPath g s c.args.sink) (source_is run) (unlimited_path g c.run.new.self.source c.args.sink (slice_index c.deref.result.now) marks c.arc_count.ensures.network (nothing_there run) (searched_there run) has))
+    let has : HasMark marks c.args.sink = omega (arith, level_is (goal.at.returns-then-index-gt0-clause-refused c).After-index, c.if-index-gt0.true) in
+    record {
+      same_ends = search rules;
+      unbounded = λ same. (c.if-source-sink.false, subst (λ (s : ℕ). HasUnlimitedPath g s c.args.sink) (source_is run) (unlimited_path g c.run.new.self.source c.args.sink (slice_index c.deref.result.now) marks c.arc_count.ensures.network (nothing_there run) (searched_there run) has));
+      bounded = search rules;
+    }
 
 pub invariant_of-result : goal.invariant_of-result
 invariant_of-result c =
@@ -65,10 +69,14 @@ invariant_of-result c =
 pub returns-clause-task : goal.returns-clause-task
 returns-clause-task c = record { graph = refl; source = source_is (goal.at.returns-clause-task c).After-run; sink = refl }
 
-pub returns-clause-bounded : goal.returns-clause-bounded
-returns-clause-bounded c =
+pub returns-clause-refused : goal.returns-clause-refused
+returns-clause-refused c =
     let g = c.args.network.now.graph in
-    let run = (goal.at.returns-clause-bounded c).After-run in
-    let level = level_is (goal.at.returns-clause-bounded c).After-index in
+    let run = (goal.at.returns-clause-refused c).After-run in
+    let level = level_is (goal.at.returns-clause-refused c).After-index in
     let none = no_unlimited_path g c.run.new.self.source c.args.sink (slice_index c.deref.result.now) c.run.new.self.marks.items (searched_there run) (λ has. omega (arith, level, has, c.if-index-gt0.false)) in
-    subst (λ (s : ℕ). ¬ HasUnlimitedPath g s c.args.sink) (source_is run) none
+    record {
+      same_ends = search rules;
+      unbounded = search rules;
+      bounded = subst (λ (s : ℕ). ¬ HasUnlimitedPath g s c.args.sink) (source_is run) none;
+    }

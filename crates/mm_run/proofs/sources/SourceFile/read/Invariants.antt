@@ -1,6 +1,6 @@
 use Rattle.std.proofs.Common.{◌≡◌, ◌+◌, ◌≤◌, List, length}
 use Rattle.mm_run.specs.declared.source_line.SourceLine.{SourceLine}
-use Rattle.mm_run.specs.Words.{file_lines}
+use Rattle.mm_base.specs.Lines.{file_lines}
 use Rattle.mm_run.specs.Sources.{with_lines, source_lines_of}
 use Rattle.mm_run.specs.Drafts.{IsRead}
 use Rattle.mm_run.proofs.sources.SourceFile.read.Given as goal

@@ -1,5 +1,0 @@
-use Rattle.mm_run.proofs.LineLemmas.{line_before}
-use Rattle.mm_run.proofs.words.first_line.Goals as goal
-
-pub returns-in-Some-clause-lines : goal.returns-in-Some-clause-lines
-returns-in-Some-clause-lines c = line_before c.in-Some.line.now c.args.text.now c.in-Some.rest.now c.in-Some.ensures.lines

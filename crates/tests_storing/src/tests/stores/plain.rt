@@ -1,0 +1,97 @@
+//! A store as a plain list, and calls with its answers to them.
+use super::Call::{DeleteUpTo, FirstIn, PutAt};
+use super::Told::{Deleted, First, Kept, KeptOver, Lost, Nothing};
+use super::{LAST, Step, Told};
+use mm_base::Kind;
+use std::alloc::Global;
+use std::process::Abort;
+
+// A store as a plain list, by the rules alone.
+#[derive(Drop)]
+struct PlainStore {
+    kind: Kind,
+    size: usize,
+    last: u64,
+    held: Vec<(u64, u16)>,
+}
+
+impl PlainStore {
+    fn put(&mut self, rt: &impl Abort, now: u64, count: u16) -> Told {
+        let time = now.max(self.last.saturating_add(1));
+        let full = self.held.len() >= self.size;
+        if full && self.kind == Kind::Bounded {
+            return Lost(count);
+        }
+        self.last = time;
+        let mut answer = Kept(time);
+        if full && !self.held.is_empty() {
+            answer = KeptOver(time, self.held.remove(0).1);
+        }
+        self.held.push((time, count)).expect(rt, "memory");
+        answer
+    }
+
+    fn delete_up_to(&mut self, limit: u64) -> Told {
+        let before = self.held.len();
+        self.held.retain(|held| held.0 > limit);
+        Deleted(before.saturating_sub(self.held.len()))
+    }
+
+    fn first_in(&self, from: u64, to: u64, after: u64) -> Told {
+        for held in &self.held {
+            if from <= held.0 && held.0 <= to && after < held.0 {
+                return First(held.0, held.1);
+            }
+        }
+        Nothing
+    }
+
+    // Adds the look-ups by which all that is held is read.
+    fn list(&self, rt: &impl Abort, steps: &mut Vec<Step>) {
+        let mut after = 0;
+        for held in &self.held {
+            let step = (FirstIn(0, LAST, after), First(held.0, held.1));
+            steps.push(step).expect(rt, "memory");
+            after = held.0;
+        }
+        steps
+            .push((FirstIn(0, LAST, after), Nothing))
+            .expect(rt, "memory");
+    }
+}
+
+// Adds the call that this number draws, and look-ups after it.
+fn draw(rt: &impl Abort, plain: &mut PlainStore, steps: &mut Vec<Step>, drawn: u64, count: u16) {
+    let shift = (drawn >> 40) % 9;
+    let now = plain.last.saturating_add(shift);
+    let limit = now.saturating_sub(12);
+    let step = if drawn >> 61 == 0 {
+        (DeleteUpTo(limit), plain.delete_up_to(limit))
+    } else {
+        (PutAt(now, count), plain.put(rt, now, count))
+    };
+    steps.push(step).expect(rt, "memory");
+    let (from, after) = (now.saturating_sub(15), now.saturating_sub(3 * shift));
+    let step = (FirstIn(from, now, after), plain.first_in(from, now, after));
+    steps.push(step).expect(rt, "memory");
+    plain.list(rt, steps);
+}
+
+// A thousand puts and deletions, by numbers that a linear congruence draws, and look-ups after each.
+pub(super) fn drawn(rt: &impl Abort, alloc: Global, kind: Kind) -> Vec<Step> {
+    let mut plain = PlainStore {
+        kind,
+        size: 7,
+        last: 0,
+        held: Vec::new(alloc),
+    };
+    let mut steps = Vec::new(alloc);
+    let mut drawn: u64 = 12345;
+    for count in 0..1000u16 {
+        drawn = drawn
+            .wrapping_mul(6364136223846793005)
+            .wrapping_add(1442695040888963407);
+        draw(rt, &mut plain, &mut steps, drawn, count);
+    }
+    steps
+}
