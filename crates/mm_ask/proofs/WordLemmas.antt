@@ -2,7 +2,7 @@
 use Rattle.std.proofs.Common.{◌≡◌, ℕ, List, refl, sym}
 use Rattle.hex.specs.Hex.{encode_upper}
 use Rattle.mm_base.specs.Id.{IsIdField, id_text}
-use Rattle.mm_memory.proofs.IdLemmas.{is_id-field, is_id-other}
+use Rattle.mm_base.proofs.IdFields.{is_id-field, is_id-other}
 use Rattle.mm_ask.specs.EntryWords.{id_words}
 
 pub words_of_id : (octets : List ℕ) → IsIdField octets → id_words octets ≡ id_text octets

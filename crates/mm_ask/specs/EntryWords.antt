@@ -1,8 +1,7 @@
 -- The instructions of requests and the entries of reports, in words and numbers.
 use Rattle.std.specs.Prelude.{ℕ, ◌==◌, List, ◌++◌, codes, decimal, if◌then◌else◌}
 use Rattle.hex.specs.Hex.{encode_upper}
-use Rattle.mm_base.specs.Id.{id_text}
-use Rattle.mm_memory.specs.Instruction.{is_id}
+use Rattle.mm_base.specs.Id.{is_id, id_text}
 use Rattle.mm_st15.specs.declared.instruction.Target.{Target}
 use Rattle.mm_st15.specs.declared.instruction.ReportType.{ReportType}
 use Rattle.mm_st15.specs.declared.instruction.TimeRange.{TimeRange}

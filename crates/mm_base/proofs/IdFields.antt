@@ -6,10 +6,11 @@ use Rattle.std.specs.List.{position_or_len, list_all}
 use Rattle.std.proofs.Math.ListN.{replicate, get_or-append}
 use Rattle.std.proofs.lemmas.Bool.{false≢true}
 use Rattle.std.proofs.lemmas.Bool.Decides.{eqb_tells, nat_tests, Decides-and, Decides-by_and, Decides-like}
+use Rattle.std.proofs.lemmas.Slice.Eq.{bytes_eq-Decides}
 use Rattle.std.proofs.lemmas.List.{length-replicate, drop-replicate, get_or-replicate, get_or-append_right}
 use Rattle.std.proofs.lemmas.List.Sums.{position_or_len_is}
 use Rattle.std.proofs.Math.Seq.{take-append_seam}
-use Rattle.mm_base.specs.Id.{is_id_char, is_id_text, IsIdText, IsIdField, field_of, id_text}
+use Rattle.mm_base.specs.Id.{is_id_char, is_id_text, is_id, IsIdText, IsIdField, field_of, id_text}
 
 -- what is left of eight spaces
 pub padding : (n : ℕ) → drop {A = ℕ} n (32 ∷ 32 ∷ 32 ∷ 32 ∷ 32 ∷ 32 ∷ 32 ∷ 32 ∷ []) ≡ replicate (8 - n) 32
@@ -56,3 +57,23 @@ is_id_text_decides text =
     (λ h. ((h.has_some, h.at_most_eight), h.each))
     (Decides-and _ _ (Decides-and _ _ (Decides-nat_le 1 (length text)) (Decides-nat_le (length text) 8))
     (Decides-by_and is_id_char (λ c. IsTrue (is_id_char c)) (list_all is_id_char) (λ c. (λ h. h, λ h. h)) refl (λ _ _. refl) text))
+
+-- the test of an identifier's field
+is_field : (octets : List ℕ) → Decides (is_id octets) (IsIdField octets)
+is_field octets =
+    Decides-like (is_id octets)
+    (λ h. record { text = h.0; padded = h.1 })
+    (λ h. (h.text, h.padded))
+    (Decides-and _ _ (is_id_text_decides (id_text octets)) (bytes_eq-Decides octets (field_of (id_text octets))))
+
+-- it holds of an identifier's field
+pub is_id-field : (octets : List ℕ) → IsIdField octets → true ≡ is_id octets
+is_id-field octets h = sym ((is_field octets).1 h)
+
+-- and of nothing else
+pub is_id-other : (octets : List ℕ) → (IsIdField octets → ⊥) → false ≡ is_id octets
+is_id-other octets other =
+    elim (is_id octets) as (λ t. is_id octets ≡ t → false ≡ t) [
+      | true ↦ λ h. absurd (other ((is_field octets).0 h))
+      | false ↦ λ h. refl
+    ] refl

@@ -1,4 +1,6 @@
 pub mod IdFields
+pub mod NumberFields
+pub mod ReadingSteps
 pub mod NumberLaws
 pub mod NumberTexts
 mod LineLemmas

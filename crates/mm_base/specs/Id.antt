@@ -1,5 +1,5 @@
 -- The identifiers of packet stores.
-use Rattle.std.specs.Prelude.{◌≡◌, ℕ, ◌-◌, ◌≤◌, Bool, ◌==◌, nat_le, ◌&&◌, ◌||◌, List, ◌++◌, length, IsTrue, All}
+use Rattle.std.specs.Prelude.{◌≡◌, ℕ, ◌-◌, ◌≤◌, Bool, ◌==◌, nat_le, ◌&&◌, ◌||◌, List, ◌++◌, length, bytes_eq, IsTrue, All}
 use Rattle.std.specs.List.{before_first, list_all}
 use Rattle.std.proofs.Math.ListN.{replicate}
 use Rattle.mm_base.specs.Characters.{space}
@@ -25,6 +25,10 @@ field_of text = text ++ replicate (8 - length text) space
 -- what stands before the padding
 abbrev pub id_text : List ℕ → List ℕ
 id_text field = before_first (λ c. c == space) field
+
+-- whether octets are a padded identifier
+abbrev pub is_id : List ℕ → Bool
+is_id octets = is_id_text (id_text octets) && bytes_eq octets (field_of (id_text octets))
 
 -- the padded text of an identifier
 pub record IsIdField (field : List ℕ) : Type 0 where

@@ -6,6 +6,7 @@ pub mod Options
 pub mod Id
 pub mod Kind
 pub mod Numbers
+pub mod NumberFields
 pub mod Lines
 pub mod Grid
 pub mod SameRoutes

@@ -1,9 +1,9 @@
 -- The instructions of a request, one by one, and the tests of their fields.
-use Rattle.std.specs.Prelude.{ℕ, Bool, nat_lt, ◌==◌, ◌&&◌, ◌||◌, if◌then◌else◌, List, [], map, bytes_eq, Result, Ok, Err}
+use Rattle.std.specs.Prelude.{ℕ, Bool, nat_lt, ◌==◌, ◌&&◌, ◌||◌, if◌then◌else◌, List, [], map, Result, Ok, Err}
 use Rattle.mm_base.specs.declared.kind.Kind.{Kind}
 use Rattle.mm_base.specs.declared.kind.Kind.TheVariants.{Circular, Bounded}
 use Rattle.mm_base.specs.declared.limits.TheConstants.{MAX_APID, MAX_BLOCKS, MAX_CHANNEL}
-use Rattle.mm_base.specs.Id.{is_id_text, id_text, field_of}
+use Rattle.mm_base.specs.Id.{is_id}
 use Rattle.mm_base.specs.Reading.{◌>>=◌}
 use Rattle.mm_st15.specs.declared.instruction.Target.{Target}
 use Rattle.mm_st15.specs.declared.instruction.ReportType.{ReportType}
@@ -22,10 +22,6 @@ use Rattle.mm_memory.specs.declared.instruction.Action.TheVariants.{Create, Dele
 use Rattle.mm_memory.specs.declared.instruction.StoreChange.TheVariants.{Enable, Disable, Begin, Abort, DeleteContent, Resize, SetKind, SetChannel}
 use Rattle.mm_memory.specs.declared.instruction.RouteChange.{RouteChange}
 use Rattle.mm_memory.specs.declared.instruction.RouteChange.TheVariants as route
-
--- whether octets are a padded identifier
-abbrev pub is_id : List ℕ → Bool
-is_id octets = is_id_text (id_text octets) && bytes_eq octets (field_of (id_text octets))
 
 -- the identifier that octets are
 abbrev pub id_tested : List ℕ → Result (List ℕ) Fault

@@ -15,7 +15,7 @@ use Rattle.mm_st15.specs.declared.request.Request.{Request}
 use Rattle.mm_st15.specs.declared.request.Request.TheVariants as request
 use Rattle.mm_desk.specs.declared.held.Held.{Held}
 use Rattle.mm_memory.specs.Holdings.{Holdings, store_of}
-use Rattle.mm_memory.specs.Instruction.{is_id}
+use Rattle.mm_base.specs.Id.{is_id}
 
 -- a switch as a status: 0 off, 1 on
 abbrev pub status_of : Bool → ℕ

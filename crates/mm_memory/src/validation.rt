@@ -1,6 +1,7 @@
 //! The tests of an instruction's fields.
 ghost use Rattle.std.specs.Prelude.{◌≡◌, is_ok, IfOk, IfErr};
-ghost use Rattle.mm_memory.specs.Instruction.{is_id, kind_tested, code_tested, type_asked, store_asked, size_asked, channel_asked, parsed};
+ghost use Rattle.mm_base.specs.Id.{is_id};
+ghost use Rattle.mm_memory.specs.Instruction.{kind_tested, code_tested, type_asked, store_asked, size_asked, channel_asked, parsed};
 ghost use Rattle.mm_memory.specs.declared.fault.Fault.TheVariants.{BadId};
 
 use crate::fault::Fault;

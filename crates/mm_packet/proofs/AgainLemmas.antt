@@ -16,7 +16,7 @@ use Rattle.mm_packet.specs.Spelling.{type_bit, identification, sequence_control,
 use Rattle.mm_packet.specs.Headers.{FitsPrimary, primary_octets, version_of, flag_of, sequence_flags_of, secondary_octets, primary_at, type_at, secondary_at, fault_of, is_telecommand, apid_of, count_of}
 use Rattle.mm_base.specs.Reading.{Gives}
 use Rattle.mm_packet.specs.Reading.{tested, data_field_at, packet_of, packet_at}
-use Rattle.mm_packet.proofs.NumberLemmas.{number16_again, number64_again}
+use Rattle.mm_base.proofs.NumberFields.{number16_again, number64_again}
 
 -- the numbers of a packet's primary header
 primary_of : SpacePacket → Primary

@@ -11,7 +11,7 @@ use Rattle.mm_packet.specs.declared.reading.Primary.{Primary}
 use Rattle.mm_packet.specs.declared.reading.Secondary.{Secondary}
 use Rattle.mm_packet.specs.Packet.{FitsType}
 use Rattle.mm_packet.specs.Spelling.{type_fields}
-use Rattle.mm_packet.specs.Number.{front_octet, number_at}
+use Rattle.mm_base.specs.NumberFields.{front_octet, number_at}
 
 -- the three numbers of a primary header
 unfoldable pub primary_at : List ℕ → Option (Primary × List ℕ)

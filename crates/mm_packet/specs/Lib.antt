@@ -1,5 +1,5 @@
 pub mod Fault
-pub mod Number
+pub use Rattle.mm_base.specs.NumberFields
 pub mod Packet
 pub mod Spelling
 pub mod Headers

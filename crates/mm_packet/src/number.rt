@@ -2,7 +2,7 @@
 ghost use Rattle.std.specs.Prelude.{◌≡◌, ◌∷◌, ◌++◌, IfSome};
 ghost use Rattle.std.specs.Option.{option_map};
 ghost use Rattle.std.specs.Int.{w16, w32, w64, to_be_bytes};
-ghost use Rattle.mm_packet.specs.Number.{front_octet, number_at};
+ghost use Rattle.mm_base.specs.NumberFields.{front_octet, number_at};
 
 /// The first octet, and those after it.
 #[must_use]

@@ -22,7 +22,7 @@ use Rattle.mm_problem.specs.Forecast.{another_step, some_step}
 use Rattle.mm_problem.specs.Keys.{within}
 use Rattle.mm_problem.specs.Setup.{IsStoreRow, HaveOtherIds, AreStores, IsLimitRow, HaveOtherChannels}
 use Rattle.mm_problem.specs.Tables.{new_store, new_limit}
-use Rattle.mm_problem.proofs.ReadingSteps.{bind_ok, test_ok, cond_ok}
+use Rattle.mm_base.proofs.ReadingSteps.{bind_ok, test_ok, cond_ok}
 use Rattle.mm_problem.proofs.TableLaws.{new_store_said, new_limit_said}
 
 -- ---- one after the other

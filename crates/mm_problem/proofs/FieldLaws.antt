@@ -14,7 +14,7 @@ use Rattle.mm_problem.specs.Name.{text_of}
 use Rattle.mm_problem.specs.ReadableSetup.{HasOnly, SaysText, SaysNumber, SaysId}
 use Rattle.mm_problem.specs.Tables.{id_at}
 use Rattle.mm_base.proofs.IdFields.{is_id_text_decides}
-use Rattle.mm_problem.proofs.ReadingSteps.{bind_ok, test_ok, ok_or_ok, cond_ok}
+use Rattle.mm_base.proofs.ReadingSteps.{bind_ok, test_ok, ok_or_ok, cond_ok}
 
 -- ---- the kinds of values
 

@@ -23,7 +23,7 @@ use Rattle.mm_base.specs.Reading.{◌>>=◌, test}
 use Rattle.mm_problem.specs.Records.{Fields}
 use Rattle.mm_problem.specs.Setup.{IsLimitRow}
 use Rattle.mm_base.proofs.NumberTexts.{IsNumeral, numeral_said}
-use Rattle.mm_problem.proofs.ReadingSteps.{bind_ok, test_ok}
+use Rattle.mm_base.proofs.ReadingSteps.{bind_ok, test_ok}
 
 -- ---- numbers
 

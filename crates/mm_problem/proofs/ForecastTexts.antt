@@ -22,7 +22,7 @@ use Rattle.mm_base.specs.declared.rows.StoreRow.{StoreRow}
 use Rattle.mm_problem.proofs.ForecastLaws.{IsNextStep, next_step_said, amounts_fit, forecast_parts, forecast_fits, channels_fit}
 use Rattle.mm_base.proofs.IdFields.{Decides-nat_le}
 use Rattle.mm_base.proofs.NumberTexts.{IsNumeral, numeral_printed, printed_numeral}
-use Rattle.mm_problem.proofs.ReadingSteps.{bind_ok}
+use Rattle.mm_base.proofs.ReadingSteps.{bind_ok}
 
 -- the records of steps from a number on
 abbrev pub step_rows : ℕ → ℕ → List ℕ → List ℕ → List Fields

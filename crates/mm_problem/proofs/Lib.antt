@@ -1,4 +1,3 @@
-pub mod ReadingSteps
 pub mod TomlViews
 pub mod RowsIn
 pub mod FieldLaws

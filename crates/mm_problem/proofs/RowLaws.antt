@@ -10,7 +10,7 @@ use Rattle.std.proofs.lemmas.List.Quantifiers.{all_pairs_push}
 use Rattle.toml.specs.Data.{Data}
 use Rattle.mm_problem.specs.declared.fault.Fault.{Fault}
 use Rattle.mm_problem.specs.Tables.{rows_in}
-use Rattle.mm_problem.proofs.ReadingSteps.{bind_ok}
+use Rattle.mm_base.proofs.ReadingSteps.{bind_ok}
 
 module _ {R : Type 0} (Says : Data → R → Type 0) (P : R → Type 0) (D : R → R → Type 0) where
   -- what a row is, which a table says, after earlier rows

@@ -21,7 +21,7 @@ use Rattle.mm_problem.specs.Setup.{SetupRows, IsStoreRow, HaveOtherIds, IsRouteR
 use Rattle.mm_problem.specs.Tables.{row_after, store_at, new_store, route_at, new_route, limit_at, new_limit}
 use Rattle.mm_problem.proofs.FieldLaws.{array_said as array_is, has_only_decides}
 use Rattle.mm_base.proofs.IdFields.{Decides-nat_le}
-use Rattle.mm_problem.proofs.ReadingSteps.{bind_ok, test_ok, ok_or_ok, cond_ok}
+use Rattle.mm_base.proofs.ReadingSteps.{bind_ok, test_ok, ok_or_ok, cond_ok}
 use Rattle.mm_problem.proofs.RowLaws.{AreRows, rows_said, rows_read}
 use Rattle.mm_problem.proofs.TableLaws.{next_store_said, next_store_read, next_route_said, next_route_read, next_limit_said, next_limit_read}
 

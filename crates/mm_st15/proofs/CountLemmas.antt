@@ -3,7 +3,7 @@ use Rattle.std.proofs.Common.{◌≡◌, ℕ, ◌*◌, ◌≤◌, true, false, L
 use Rattle.std.specs.Prelude.{◌==◌, nat_lt}
 use Rattle.std.specs.Int.{w16}
 use Rattle.std.proofs.lemmas.Bool.Decides.{nat_tests}
-use Rattle.mm_packet.specs.Number.{number_at}
+use Rattle.mm_base.specs.NumberFields.{number_at}
 use Rattle.mm_st15.specs.declared.report_kind.ReportKind.TheVariants as kind
 use Rattle.mm_st15.specs.Counted.{counted_at}
 use Rattle.mm_st15.specs.Report.{is_counted}

@@ -8,7 +8,7 @@ use Rattle.mm_packet.specs.Packet.{SpacePacket, time_of}
 use Rattle.mm_packet.specs.Spelling.{type_bit}
 use Rattle.mm_packet.specs.declared.header.PacketType.{PacketType}
 use Rattle.mm_packet.specs.declared.header.PacketType.TheVariants.{Telecommand, Telemetry}
-use Rattle.mm_packet.proofs.NumberLemmas.{number16_again}
+use Rattle.mm_base.proofs.NumberFields.{number16_again}
 use Rattle.mm_st15.specs.declared.instruction.Configuration.{Configuration}
 use Rattle.mm_st15.specs.declared.report_entry.Row.{Row}
 use Rattle.mm_st15.specs.declared.report_entry.Summary.{Summary}

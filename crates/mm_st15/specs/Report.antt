@@ -2,7 +2,7 @@
 use Rattle.std.specs.Prelude.{◌≡◌, ℕ, ◌*◌, ◌<◌, ◌≤◌, ◌^◌, Bool, false, ◌==◌, ◌||◌, nat_lt, not, List, ◌∷◌, ◌++◌, length, drop, Option, Some, None, is_some, if◌then◌else◌}
 use Rattle.std.specs.List.{flat_map, AllByRecursion}
 use Rattle.std.specs.Int.{w16, to_be_bytes}
-use Rattle.mm_packet.specs.Number.{number_at}
+use Rattle.mm_base.specs.NumberFields.{number_at}
 use Rattle.mm_packet.specs.Packet.{SpacePacket, time_of}
 use Rattle.mm_packet.specs.Spelling.{type_bit}
 use Rattle.mm_st15.specs.declared.fault.Fault.{Fault}

@@ -4,7 +4,7 @@ use Rattle.mm_problem.specs.Dumping.{Dumping}
 use Rattle.mm_problem.specs.Rest.{starts_fit, rest_of, rest_from}
 use Rattle.mm_problem.specs.declared.fault.Fault.TheVariants.{Limit}
 use Rattle.mm_problem.specs.declared.fault.Name.TheVariants as name
-use Rattle.mm_problem.proofs.ReadingSteps.{bind_ok}
+use Rattle.mm_base.proofs.ReadingSteps.{bind_ok}
 use Rattle.callers.proofs.rest.fly_the_rest.Goals as goal
 
 -- a rest that was given is the rest

@@ -4,7 +4,7 @@ use Rattle.csv.specs.Records.{fields_of}
 use Rattle.mm_problem.specs.Records.{records_of}
 use Rattle.mm_problem.specs.StepLists.{steps_of}
 use Rattle.mm_problem.proofs.ForecastRows.{test_err, no_header, bad_header, header_found, no_row, row_fault, row_found}
-use Rattle.mm_problem.proofs.ReadingSteps.{test_ok}
+use Rattle.mm_base.proofs.ReadingSteps.{test_ok}
 use Rattle.mm_problem.proofs.steps.forecast_of.Goals as goal
 
 pub returns-then-not-branch : goal.returns-then-not-branch

@@ -1,6 +1,6 @@
 use Rattle.std.proofs.Common.{◌≡◌, ◌+◌, ◌-◌, ◌*◌, length, true, ap, sym, ◌∙◌, arith}
 use Rattle.std.proofs.lemmas.List.{take_rest}
-use Rattle.mm_problem.proofs.ReadingSteps.{test_ok}
+use Rattle.mm_base.proofs.ReadingSteps.{test_ok}
 use Rattle.mm_problem.specs.Rest.{starts_fit}
 use Rattle.mm_problem.proofs.RestLaws.{are_stores, are_steps}
 use Rattle.mm_problem.proofs.problem.Problem.rest.Goals as goal

@@ -4,7 +4,7 @@ use Rattle.std.specs.Int.{Width, w16, w64, byte_len, from_be_bytes, to_be_bytes}
 use Rattle.std.proofs.lemmas.Bool.{le-ltb}
 use Rattle.std.proofs.lemmas.List.{take_at, drop_at}
 use Rattle.std.proofs.lemmas.Nat.{from_be_bytes-to_be_bytes_2, from_be_bytes-to_be_bytes_8}
-use Rattle.mm_packet.specs.Number.{number_at}
+use Rattle.mm_base.specs.NumberFields.{number_at}
 
 -- octets of a field's length are read as the number that they spell, whatever follows
 spelled_first : (w : Width) (field rest : List ℕ) (n : ℕ) → length field ≡ byte_len w → from_be_bytes w field ≡ n → number_at w (field ++ rest) ≡ Some (n, rest)
