@@ -1,8 +1,9 @@
 //! Records and cells of a forecast, for hints: a record is a line that is not empty.
 ghost use Rattle.std.specs.Prelude.{◌<◌, length, IfSome};
 
-use crate::hints::lines::{after_mark, first_line};
+use crate::hints::lines::after_mark;
 use mm_base::MAX_BLOCKS;
+use mm_base::lines::first_line;
 use mm_base::numbers::Numeral;
 
 /// A record of a forecast: its row, from 1, where the header is row 0; the number of its line, from 1; and its text.

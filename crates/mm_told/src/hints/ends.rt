@@ -2,10 +2,11 @@
 
 use crate::hints::excerpt::Excerpt;
 use crate::hints::form::{form_hint, quoted};
-use crate::hints::lines::{cut_word, first_line, line_at};
+use crate::hints::lines::line_at;
 use crate::hints::packets::{number_in, packet_hint};
 use crate::hints::sentence::{Sentence, Shown};
 use crate::hints::{Hint, Texts};
+use mm_base::lines::{cut_word, first_line};
 use mm_base::numbers::Numeral;
 use mm_base::{RouteRow, StoreId, StoreRow};
 use mm_problem::Setup;

@@ -4,11 +4,12 @@ use crate::hints::Texts;
 use crate::hints::cells::{Wanted, record_in, rows_in};
 use crate::hints::excerpt::Excerpt;
 use crate::hints::form::{swapped, utf16_hint};
-use crate::hints::lines::{after_mark, first_line, lines_with};
+use crate::hints::lines::{after_mark, lines_with};
 use crate::hints::sentence::{Sentence, Shown};
 use crate::reason::Reason;
 use crate::spot::Spot;
 use mm_base::Refusal;
+use mm_base::lines::first_line;
 use mm_problem::{Name, Setup};
 use std::alloc::Global;
 

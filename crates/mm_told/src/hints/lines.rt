@@ -1,18 +1,5 @@
 //! Lines of the files that a hint speaks of, as an editor counts them.
-ghost use Rattle.std.specs.Prelude.{◌<◌, length, IfSome};
-
-use mm_base::lines::split_line;
-
-/// The first line of a text and what follows it, or nothing where the text is empty.
-pub(crate) fn first_line(text: &[u8]) -> Option<(&[u8], &[u8])>
-    ensures shorter { IfSome result (λ parts. length parts.1.now < length text.now) }
-{
-    match split_line(text) {
-        Some((line, rest)) => Some((line, rest)),
-        None if text.is_empty() => None,
-        None => Some((text, &text[text.len()..])),
-    }
-}
+use mm_base::lines::first_line;
 
 /// The line of this number, from 1, without its line feed.
 pub(crate) fn line_at(text: &[u8], number: u64) -> Option<&[u8]> {
@@ -34,16 +21,6 @@ pub(crate) fn line_of(text: &[u8], place: usize) -> u64 {
         }
     }
     line
-}
-
-/// The text up to the first space, and what follows the space.
-pub(crate) fn cut_word(text: &[u8]) -> Option<(&[u8], &[u8])> {
-    for (space, byte) in text.iter().enumerate() {
-        if *byte == b' ' {
-            return Some((&text[..space], &text[space + 1..]));
-        }
-    }
-    None
 }
 
 /// Whether the text is as UTF-16 is: it begins with its mark, or with an ASCII character in two bytes.

@@ -3,7 +3,7 @@
 use crate::hints::Texts;
 use crate::hints::ends::{ReportType, digits_of, is_reached};
 use crate::hints::excerpt::Excerpt;
-use crate::hints::lines::first_line;
+use mm_base::lines::first_line;
 use mm_base::{NoMemory, StoreId};
 use mm_problem::Setup;
 use std::alloc::Global;
