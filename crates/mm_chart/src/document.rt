@@ -15,9 +15,6 @@ use mm_cut::{Fault, read_sheet};
 use mm_problem::read_problem;
 use std::alloc::Global;
 
-/// What is made of three texts, or the first fault of them.
-pub type Result<T, E = Fault> = std::result::Result<T, E>;
-
 /// The beginning of the document, up to its height.
 pub const OPENING: &[u8] =
     b"<svg xmlns='http://www.w3.org/2000/svg' version='1.1' viewBox='0 0 1100 ";
@@ -60,7 +57,12 @@ fn push_chart(alloc: Global, text: &mut Vec<u8>, picture: &Picture) -> Result<()
 
 /// The chart of the plan that the plan text says, for the problem that the setup and the forecast say. The faults come
 /// in this order: of the setup, of the forecast, of the plan text, of its shape.
-pub fn chart_bytes(alloc: Global, setup: &[u8], forecast: &[u8], plan: &[u8]) -> Result<Vec<u8>>
+pub fn chart_bytes(
+    alloc: Global,
+    setup: &[u8],
+    forecast: &[u8],
+    plan: &[u8],
+) -> Result<Vec<u8>, Fault>
     ensures chart { IfOk result (λ text. Charts setup.now forecast.now plan.now text.items) }
     ensures refused { IfRefused NoMemory result (IsFaultOf setup.now forecast.now plan.now) }
 {

@@ -7,10 +7,9 @@ ghost use Rattle.mm_problem.specs.Dumping.{steps};
 ghost use Rattle.mm_plan.specs.Table.{amount, HasShape};
 ghost use Rattle.mm_chart.specs.Table.{dumped, next_cell, place_cells, volume_cells, record_of, step_records, table, IsTableOf, IsSimulation};
 
-use crate::document::Result;
 use crate::pen::Pushed;
 use mm_base::numbers::push_number;
-use mm_cut::read_sheet;
+use mm_cut::{Fault, read_sheet};
 use mm_plan::{Plan, Simulated, simulate};
 use mm_problem::{Problem, read_problem};
 use std::alloc::Global;
@@ -142,7 +141,12 @@ fn table_of(alloc: Global, problem: &Problem, plan: &Plan) -> Result<Vec<u8>, mm
 
 /// The table of the plan that the plan text says, for the problem that the setup and the forecast say: comma separated
 /// values, a header and a record for each step and store. The faults come in the order of `chart_bytes`.
-pub fn table_bytes(alloc: Global, setup: &[u8], forecast: &[u8], plan: &[u8]) -> Result<Vec<u8>>
+pub fn table_bytes(
+    alloc: Global,
+    setup: &[u8],
+    forecast: &[u8],
+    plan: &[u8],
+) -> Result<Vec<u8>, Fault>
     ensures table { IfOk result (λ text. IsTableOf setup.now forecast.now plan.now text.items) }
     ensures refused { IfRefused NoMemory result (IsFaultOf setup.now forecast.now plan.now) }
 {

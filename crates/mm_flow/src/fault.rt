@@ -5,9 +5,6 @@ use mm_base::{Refusal, Refused, refusals};
 use std::alloc::AllocError;
 use thiserror::Error;
 
-/// What a solver answers, or why a network is not solved.
-pub(crate) type Answer<T> = Result<T, Fault>;
-
 /// Why a network is not solved. It is shown as its number and its name.
 #[derive(Clone, Copy, Debug, PartialEq, Eq, Error)]
 #[error("{}", self.refusal())]

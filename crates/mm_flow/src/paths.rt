@@ -3,7 +3,7 @@ ghost use Rattle.std.specs.Prelude.{◌<◌, IfOk};
 ghost use Rattle.mm_flow.specs.Refusing.{RefusesFaults};
 ghost use Rattle.mm_flow.specs.Solution.{IsSolved};
 
-use crate::fault::Answer;
+use crate::fault::Fault;
 use crate::network::Network;
 use crate::solved::Solved;
 use crate::tables::Tables;
@@ -13,7 +13,12 @@ use std::alloc::Global;
 ///
 /// `SameEnds` is tested first. Where a path of unlimited arcs leads from the source to the sink the answer is
 /// `Unbounded`. Want of memory aside, these are the only refusals.
-pub fn solve_paths(alloc: Global, network: &Network, source: u32, sink: u32) -> Answer<Solved>
+pub fn solve_paths(
+    alloc: Global,
+    network: &Network,
+    source: u32,
+    sink: u32,
+) -> Result<Solved, Fault>
     requires source { source < network.now.graph.nodes }
     requires sink { sink < network.now.graph.nodes }
     ensures solved { IfOk result (IsSolved network.now.graph source sink) }

@@ -4,7 +4,7 @@ ghost use Rattle.mm_flow.specs.Refusing.{RefusesFaults};
 ghost use Rattle.mm_flow.specs.Solution.{IsSolved};
 ghost use Rattle.mm_flow.specs.Tables.{IsAtWork};
 
-use crate::fault::{Answer, Fault};
+use crate::fault::Fault;
 use crate::limits::UNLIMITED;
 use crate::links::Links;
 use crate::network::Network;
@@ -30,7 +30,12 @@ impl<'a> Tables<'a> {
     ghost use Rattle.mm_flow.specs.Task.{IsTask, SameTask, IsOpen, Reaches, IsOver};
 
     // Tables with a flow of nothing, unless a path of unlimited arcs leads from the source to the sink.
-    pub(crate) fn new(alloc: Global, network: &'a Network, source: u32, sink: u32) -> Answer<Self>
+    pub(crate) fn new(
+        alloc: Global,
+        network: &'a Network,
+        source: u32,
+        sink: u32,
+    ) -> Result<Self, Fault>
         requires source { source < network.now.graph.nodes }
         requires sink { sink < network.now.graph.nodes }
         ensures task { IfOk result (IsTask network.now.graph source sink) }
