@@ -9,9 +9,10 @@ use mm_base::MAX_STEPS;
 use mm_plan::Stretch;
 use mm_problem::Problem;
 
-// Whether a step is inner in some stretch.
-pub(crate) fn is_inner(stretches: &[Stretch], step: u32) -> bool
-    ensures { result ≡ is_inner stretches.now step }
+/// Whether a step is inner in some stretch: the stretch goes past it.
+#[must_use]
+pub fn is_inner(stretches: &[Stretch], step: u32) -> bool
+    ensures inner { result ≡ is_inner stretches.now step }
 {
     stretches.iter().any(|stretch| goes_past(step, stretch))
 }

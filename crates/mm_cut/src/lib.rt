@@ -12,7 +12,7 @@ mod verdict;
 
 pub use bounds::{Parts, bound, counts_limits, counts_window, parts_of};
 pub use check::{check_bytes, read_sheet};
-pub use counts::first_bad_count;
+pub use counts::{first_bad_count, is_inner};
 pub use fault::Fault;
 pub use laws::{
     cuts_are_few, cuts_bound_losses, cuts_count_alike, only_counted_helps, verdicts_exclude,

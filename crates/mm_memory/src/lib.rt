@@ -19,4 +19,4 @@ pub use fault::Fault;
 pub use memory::Memory;
 pub use mm_base::NoMemory;
 pub use mm_desk::Held;
-pub use places::place_of;
+pub use places::{place_of, store_of};

@@ -3,7 +3,7 @@ ghost use Rattle.std.specs.Prelude.{◌≡◌, [], Some, IfOk, slice_get};
 ghost use Rattle.std.specs.Option.{option_copied, option_copied_mut, option_map};
 ghost use Rattle.mm_memory.specs.Holdings.{AreHeld, memory_of, store_of, state_of};
 
-use crate::places::place_of;
+use crate::places::{place_of, store_of};
 use crate::setup::{control_of, stores_of};
 use mm_base::{NoMemory, StoreId};
 use mm_control::ControlTable;
@@ -44,19 +44,12 @@ impl Memory {
         Ok(Memory { stores, control })
     }
 
-    // The store with this identifier.
-    pub(crate) fn held(&self, id: &StoreId) -> Option<&Held>
-        ensures { option_copied result ≡ store_of id.now self.now.stores }
-    {
-        self.stores.iter().find(|held| held.id == *id)
-    }
-
     /// The state of the store with this identifier.
     #[must_use]
     pub fn state(&self, id: &StoreId) -> Option<&StoreState>
         ensures state { option_copied result ≡ state_of id.now self.now }
     {
-        let held = self.held(id)?;
+        let held = store_of(&self.stores, id)?;
         Some(&held.state)
     }
 

@@ -1,6 +1,7 @@
 //! Where a store stands.
 ghost use Rattle.std.specs.Prelude.{◌≡◌, None, MatchOption, IfSome};
 ghost use Rattle.std.specs.List.{position_or_len};
+ghost use Rattle.std.specs.Option.{option_copied};
 ghost use Rattle.mm_memory.specs.Holdings.{StandsAt, has_id, store_of};
 
 use mm_base::StoreId;
@@ -13,4 +14,12 @@ pub fn place_of(stores: &[Held], id: &StoreId) -> Option<usize>
     ensures first { IfSome result (λ place. place ≡ position_or_len (has_id id.now) stores.now) }
 {
     stores.iter().position(|held| held.id == *id)
+}
+
+/// The store with this identifier.
+#[must_use]
+pub fn store_of<'a>(stores: &'a [Held], id: &StoreId) -> Option<&'a Held>
+    ensures store { option_copied result ≡ store_of id.now stores.now }
+{
+    stores.iter().find(|held| held.id == *id)
 }

@@ -7,6 +7,7 @@ ghost use Rattle.mm_st15.specs.declared.report.TheConstants.{MOST_ROWS};
 ghost use Rattle.mm_memory.specs.Reports.{status_of, types_to, summary_of, asked_about, summary_at, control_at, reports_on};
 
 use crate::memory::Memory;
+use crate::places::store_of;
 use crate::validation::id_of;
 use mm_base::{NoMemory, StoreId};
 use mm_desk::Held;
@@ -90,7 +91,7 @@ impl Memory {
         ensures { option_copied result ≡ asked_about octets self.now }
     {
         match id_of(octets) {
-            Ok(id) => self.held(&id),
+            Ok(id) => store_of(&self.stores, &id),
             Err(_) => None,
         }
     }

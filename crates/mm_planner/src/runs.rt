@@ -1,13 +1,13 @@
 //! The cut that a side of the network says: the greatest runs of each store's nodes on the side.
 ghost use Rattle.std.specs.Prelude.{◌≡◌, ◌+◌, ◌<◌, ◌≤◌, ◌^◌, ◌++◌, ◌∷◌, [], if◌then◌else◌, length, IfOk, OnOk};
 ghost use Rattle.mm_base.specs.declared.limits.TheConstants.{MAX_STORES, MAX_STEPS};
-ghost use Rattle.mm_cut.specs.Stretches.{goes_past, is_inner};
 ghost use Rattle.mm_flow.specs.Solution.{side_of};
 ghost use Rattle.mm_planner.specs.Nodes.{number_of};
 ghost use Rattle.mm_planner.specs.Runs.{is_on, goes_on, is_end, is_by_channels, stretches_of, stretches, counts_of};
 
 use crate::nodes::Node;
 use mm_base::NoMemory;
+use mm_cut::is_inner;
 use mm_plan::Stretch;
 use mm_problem::Problem;
 use std::alloc::Global;
@@ -111,15 +111,6 @@ pub(crate) fn stretches(
         add_runs(&mut runs, problem, store, side)?;
     }
     Ok(runs)
-}
-
-// Whether the step is inner in some stretch.
-fn is_inner(stretches: &[Stretch], step: u32) -> bool
-    ensures { result ≡ is_inner stretches.now step }
-{
-    stretches
-        .iter()
-        .any(|stretch| stretch.first <= step && step < stretch.last)
 }
 
 // Whether the step is inner and its pass is off the side.
