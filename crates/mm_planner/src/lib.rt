@@ -18,5 +18,5 @@ pub use mm_base::NoMemory;
 pub use mm_cut::{Fault, check_bytes};
 pub use nodes::{SINK, SOURCE};
 pub use planner::{Planned, plan, plan_by_flow};
-pub use sheets::sheet;
+pub use sheets::{sheet, store_ids};
 pub use texts::{PrintedPlan, plan_bytes, print_plan};

@@ -12,8 +12,8 @@ use mm_plan::Sheet;
 use mm_problem::{Problem, StoreId};
 use std::alloc::Global;
 
-// The identifiers of the stores, in the problem's order.
-fn store_ids(alloc: Global, problem: &Problem) -> Result<Vec<StoreId>, NoMemory>
+/// The identifiers of the problem's stores, in its order.
+pub fn store_ids(alloc: Global, problem: &Problem) -> Result<Vec<StoreId>, NoMemory>
     ensures ids { IfOk result (λ ids. ids.items ≡ map (λ row. row.id) problem.now.rows) }
     ensures each { IfOk result (λ ids. All IsIdField ids.items) }
     ensures problem { IsDumping problem.now }
