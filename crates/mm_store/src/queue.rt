@@ -1,5 +1,5 @@
 //! Queues of packets, and the reading and deleting of packets that every queue serves alike.
-ghost use Rattle.std.specs.Prelude.{◌≡◌, ◌+◌, ◌<◌, ◌≤◌, ◌↔◌, [], ◌∷◌, ◌++◌, length, take, drop, slice_get, All, IsTrue, IfOk, OnOk, OnErr};
+ghost use Rattle.std.specs.Prelude.{◌≡◌, ◌+◌, ◌-◌, ◌<◌, ◌≤◌, ◌↔◌, max, [], ◌∷◌, ◌++◌, length, take, drop, slice_get, All, IsTrue, IfOk, OnOk, OnErr};
 ghost use Rattle.circular_buffer.specs.Buffer.{Buffer, buffer};
 ghost use Rattle.mm_base.specs.declared.kind.Kind.{Kind};
 ghost use Rattle.mm_store.specs.declared.stored.Stored.{Stored};
@@ -108,12 +108,8 @@ fn is_place_after<Q: PacketQueue>(queue: &Q, passed: u64, place: usize) -> bool
         && are_late_from(queue, passed, place)
 }
 
-// The place of the oldest packet with a time later than `passed`, where each tick from the oldest packet on has one.
-fn place_by_ticks<Q: PacketQueue>(queue: &Q, passed: u64) -> usize {
-    passed.saturating_add(1).saturating_sub(oldest(queue)) as usize
-}
-
 // The place of the oldest packet with a time later than `passed`, or the number of packets: a search by halves.
+#[inline(never)]
 fn search_place<Q: PacketQueue>(queue: &Q, passed: u64) -> usize
     requires { IsRising (Q.held queue.now).items }
     ensures { IsPlaceAfter passed result (Q.held queue.now).items }
@@ -131,20 +127,57 @@ fn search_place<Q: PacketQueue>(queue: &Q, passed: u64) -> usize
     low
 }
 
-// The place of the oldest packet with a time later than `passed`, or the number of packets. Where packets follow one another tick by
-// tick it is found at once.
-fn first_place<Q: PacketQueue>(queue: &Q, passed: u64) -> usize
+// The place of the oldest packet with a time later than `passed`, or the number of packets. `guess` is tried first.
+fn first_place<Q: PacketQueue>(queue: &Q, passed: u64, guess: usize) -> usize
     requires { IsRising (Q.held queue.now).items }
     ensures { IsPlaceAfter passed result (Q.held queue.now).items }
 {
-    let guess = place_by_ticks(queue, passed);
     if is_place_after(queue, passed, guess) {
         return guess;
     }
     search_place(queue, passed)
 }
 
-// The oldest packet from `from` to `to` that is newer than `after`, with its time.
+// The last time that is too early for a look-up from `from` on and after `after`.
+fn last_passed(from: u64, after: u64) -> u64
+    ensures { result ≡ max (from - 1) after }
+{
+    from.saturating_sub(1).max(after)
+}
+
+// The oldest packet from `from` to `to` that is newer than `after`, with its time. Where it stands at `place` it is found at once.
+// `place` is then the place after it.
+#[inline]
+pub(crate) fn first_near<'a, Q: PacketQueue>(
+    queue: &'a Q,
+    from: u64,
+    to: u64,
+    after: u64,
+    place: &mut usize,
+) -> Option<(u64, &'a BlockPacket)>
+    requires { IsRising (Q.held queue.now).items }
+    ensures { shown result ≡ first_in from to after (Q.held queue.now).items }
+{
+    let passed = last_passed(from, after);
+    let found = first_place(queue, passed, *place);
+    if found == queue.len() {
+        return None;
+    }
+    let stored = queue.at(found);
+    if stored.time > to {
+        return None;
+    }
+    *place = found + 1;
+    Some((stored.time, &stored.packet))
+}
+
+// The place of the oldest packet with a time later than `passed`, where each tick from the oldest packet on has one.
+fn place_by_ticks<Q: PacketQueue>(queue: &Q, passed: u64) -> usize {
+    passed.saturating_add(1).saturating_sub(oldest(queue)) as usize
+}
+
+// The oldest packet from `from` to `to` that is newer than `after`, with its time. Where packets follow one another tick by tick it is
+// found at once.
 pub(crate) fn first_in<Q: PacketQueue>(
     queue: &Q,
     from: u64,
@@ -154,16 +187,8 @@ pub(crate) fn first_in<Q: PacketQueue>(
     requires { IsRising (Q.held queue.now).items }
     ensures { shown result ≡ first_in from to after (Q.held queue.now).items }
 {
-    let passed = from.saturating_sub(1).max(after);
-    let place = first_place(queue, passed);
-    if place == queue.len() {
-        return None;
-    }
-    let stored = queue.at(place);
-    if stored.time > to {
-        return None;
-    }
-    Some((stored.time, &stored.packet))
+    let mut place = place_by_ticks(queue, last_passed(from, after));
+    first_near(queue, from, to, after, &mut place)
 }
 
 // The oldest time held, 0 where there is none.
