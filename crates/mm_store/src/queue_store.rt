@@ -59,7 +59,7 @@ impl<Q: PacketQueue> QueueStore<Q> {
 
     /// The packet that `first_in` finds. Where it stands at `place`, counted from the oldest packet, it is found at once, and `place`
     /// is then the place after it. Another `place` costs a search, and changes no answer.
-    #[inline]
+    #[inline(always)]
     pub fn first_near(
         &self,
         from: u64,

@@ -1,15 +1,13 @@
-use Rattle.std.proofs.Common.{sym, arith}
-use Rattle.mm_store.proofs.ContentLemmas.{first_in-past, first_in-found, first_in-late}
+use Rattle.std.proofs.Common.{refl, sym}
+use Rattle.mm_store.proofs.ContentLemmas.{first_in-found, first_in-late}
 use Rattle.mm_store.proofs.queue.first_near.Goals as goal
-
-pub returns-then-found-len : goal.returns-then-found-len
-returns-then-found-len g c =
-    sym (first_in-past c.args.from c.args.to c.args.after _ c.last_passed-passed.ensures _ c.first_place-found.result c.first_place-found.ensures.before (omega arith))
 
 pub returns-then-stored-to : goal.returns-then-stored-to
 returns-then-stored-to g c =
-    sym (first_in-late c.args.from c.args.to c.args.after _ c.last_passed-passed.ensures _ c.first_place-found.result c.first_place-found.ensures.before c.at-stored.result.now c.at-stored.ensures.at c.requires c.if-stored-to.true)
+    let is = c.if-not-is_next_at.ensures refl in
+    sym (first_in-late c.args.from c.args.to c.args.after _ c.last_passed-passed.ensures _ c.args.place.now is.before c.at-stored.result.now c.at-stored.ensures.at c.requires c.if-stored-to.true)
 
 pub returns : goal.returns
 returns g c =
-    sym (first_in-found c.args.from c.args.to c.args.after _ c.last_passed-passed.ensures _ c.first_place-found.result c.first_place-found.ensures.before c.at-stored.result.now c.at-stored.ensures.at c.first_place-found.ensures.from c.if-stored-to.false)
+    let is = c.if-not-is_next_at.ensures refl in
+    sym (first_in-found c.args.from c.args.to c.args.after _ c.last_passed-passed.ensures _ c.args.place.now is.before c.at-stored.result.now c.at-stored.ensures.at is.from c.if-stored-to.false)
