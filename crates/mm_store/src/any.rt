@@ -111,7 +111,7 @@ impl AnyStore {
 impl PacketStore for AnyStore {
     ghost store = { λ s. s };
 
-    #[inline]
+    #[inline(always)]
     fn put(&mut self, now: u64, packet: BlockPacket) -> Put {
         of_store!(&mut self.form; store => store.put(now, packet))
     }

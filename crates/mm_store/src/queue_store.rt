@@ -91,7 +91,7 @@ impl<Q: PacketQueue> QueueStore<Q> {
 impl<Q: PacketQueue> PacketStore for QueueStore<Q> {
     ghost store = { λ s. s };
 
-    #[inline]
+    #[inline(always)]
     fn put(&mut self, now: u64, packet: BlockPacket) -> Put {
         if self.last == u64::MAX {
             return Put::ClockEnd(packet);
