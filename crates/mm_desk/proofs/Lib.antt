@@ -1,10 +1,8 @@
 pub mod BalanceLemmas
-pub mod Runs
+pub mod Logs
 pub mod Shuffles
 pub mod Leaving
-pub mod Counting
 pub mod Lone
 pub mod Keeping
-pub mod Ordering
 pub mod Answering
 pub mod Foreseeing

@@ -28,6 +28,8 @@ pub struct StoreState {
     pub(crate) store: AnyStore,
     pub(crate) storage: bool,
     pub(crate) retrieval: Option<Retrieval>,
+    // Where the next packet of the retrieval may stand in the store: a guess, which no contract sees.
+    pub(crate) place: usize,
     pub(crate) offered: u64,
     pub(crate) lost: u64,
     pub(crate) deleted: u64,
@@ -54,6 +56,7 @@ impl StoreState {
             store,
             storage: false,
             retrieval: None,
+            place: 0,
             offered,
             lost: 0,
             deleted: 0,
@@ -62,6 +65,7 @@ impl StoreState {
 
     /// Offers a packet at a moment, in ticks. It is handed back with 17 `Disabled` where storage is off, and then with
     /// 21 `ClockEnd` at the last storage time or at 2^64 - 1 offers.
+    #[inline]
     pub fn offer(&mut self, now: u64, packet: BlockPacket) -> Result<Offered, Returned>
         ensures machine { step self.old (Event.Offer now packet) ≡ (Reply.Offered result, self.new) }
     {
@@ -92,6 +96,7 @@ impl StoreState {
             return Err(Fault::BadRange);
         }
         self.retrieval = Some(Retrieval { from, to, after: 0 });
+        self.place = 0;
         Ok(())
     }
 
@@ -103,10 +108,12 @@ impl StoreState {
         let Some(retrieval) = &mut self.retrieval else {
             return Err(Fault::Idle);
         };
-        match self
-            .store
-            .first_in(retrieval.from, retrieval.to, retrieval.after)
-        {
+        match self.store.first_near(
+            retrieval.from,
+            retrieval.to,
+            retrieval.after,
+            &mut self.place,
+        ) {
             Some((time, packet)) => {
                 retrieval.after = time;
                 Ok(Some((time, packet)))

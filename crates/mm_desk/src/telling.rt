@@ -151,10 +151,12 @@ impl StoreState {
         let Some(retrieval) = &mut self.retrieval else {
             return Ok(copies!(Given, Err(Fault::Idle)));
         };
-        match self
-            .store
-            .first_in(retrieval.from, retrieval.to, retrieval.after)
-        {
+        match self.store.first_near(
+            retrieval.from,
+            retrieval.to,
+            retrieval.after,
+            &mut self.place,
+        ) {
             Some((time, packet)) => {
                 let Ok(copies) = ReplyCopies::given(alloc, time, packet) else {
                     return Err(Event::Next);

@@ -8,7 +8,7 @@ use Rattle.std.proofs.lemmas.List.Sums.{sum_by-cons, sum_by-append}
 use Rattle.mm_desk.specs.Machine.{State, IsState}
 use Rattle.mm_desk.specs.Runs.{opening_at, IsLegal}
 use Rattle.mm_dump.specs.Broken.{aborted}
-use Rattle.mm_desk.proofs.Ordering.{given_oldest}
+use Rattle.mm_desk.proofs.Logs.{given_oldest}
 use Rattle.mm_dump.specs.declared.order.Order.{Order}
 use Rattle.mm_dump.specs.declared.order.OrderBroken.{OrderBroken}
 use Rattle.mm_dump.specs.declared.order.OrderBroken.TheVariants as broken

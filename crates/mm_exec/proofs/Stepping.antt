@@ -17,7 +17,7 @@ use Rattle.mm_desk.specs.Machine.{State, IsState}
 use Rattle.mm_desk.specs.Offers.{Leaves, count_of}
 use Rattle.mm_desk.specs.Orders.{begun, given, ended, last_time, removed, IsOrderOf, Dumps}
 use Rattle.mm_desk.specs.Runs.{IsRun, entry, replay}
-use Rattle.mm_desk.proofs.Counting.{count_of_shuffle}
+use Rattle.mm_desk.proofs.Logs.{count_of_shuffle}
 use Rattle.mm_exec.specs.StepRuns.{IsDumpOf, IsStepRun, AreTimed, IsBy}
 use Rattle.mm_exec.proofs.Offers.{by_offer}
 use Rattle.mm_exec.specs.AsPlanned.{AtEach, AsPlanned}

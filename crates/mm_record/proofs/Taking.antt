@@ -22,7 +22,7 @@ use Rattle.mm_desk.specs.Machine.{State, answer_of, after_put, offer, step}
 use Rattle.mm_desk.specs.Offers.{AreTaken, IsTaken, IsShuffleOfEvents, count_of}
 use Rattle.mm_desk.specs.Runs.{IsLegal, IsRun, replay}
 use Rattle.mm_desk.specs.Shuffles.{AreBelow, IsShuffle, part}
-use Rattle.mm_desk.proofs.Counting.{count_of_shuffle}
+use Rattle.mm_desk.proofs.Logs.{count_of_shuffle}
 
 -- an event is an offer at a moment
 abbrev pub IsOfferAt : ℕ → Event → Type 0

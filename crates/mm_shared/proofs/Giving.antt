@@ -12,7 +12,7 @@ use Rattle.mm_desk.specs.Machine.{State}
 use Rattle.mm_desk.specs.Machine as Machine
 use Rattle.mm_desk.specs.Runs.{entry}
 use Rattle.mm_desk.specs.Shuffles.{part}
-use Rattle.mm_desk.proofs.Runs.{run_more}
+use Rattle.mm_desk.proofs.Logs.{run_more}
 use Rattle.mm_shared.specs.declared.rule.Knows.{Knows}
 use Rattle.mm_shared.specs.Rule.{knows, Fits, Keeps}
 use Rattle.mm_shared.specs.Steps.{Seated, HasCalled, IsAsTaken, lists_with, called, at_rest}

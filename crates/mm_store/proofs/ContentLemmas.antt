@@ -114,6 +114,13 @@ module _ (xs : List Stored) (place passed : ℕ) (x : Stored) (rising : IsRising
           let zero_more : place + k ≡ place = omega arith in
           rw (zero_more, here d) late
 
+  -- before a packet of the next tick all are early
+  pub early_before : x.time ≤ passed + 1 → All (λ p. p.time ≤ passed) (take place xs)
+  early_before next = λ k d inside.
+      let below : k < place = omega (arith, length-take place xs) in
+      let less = rw (here d) at (rising k place d below (slice_get_within xs place x at)) in
+      rw (get_or-take place xs k d below) (omega (arith, less, next))
+
   -- a packet is early exactly where all up to it are
   pub early_where : (leb x.time passed ≡ true → All (λ p. p.time ≤ passed) (take (place + 1) xs)) × (All (λ p. p.time ≤ passed) (take (place + 1) xs) → leb x.time passed ≡ true)
   early_where = (λ early. early_up_to (leb-true x.time passed early), λ early. le-leb x.time passed (last_early early))

@@ -1,6 +1,6 @@
 //! Packet stores of either kind.
 ghost use Rattle.std.specs.Prelude.{◌≡◌, ◌<◌, ◌≤◌, ◌↔◌, length, Err, IfOk, IsOk, OnOk, OnErr};
-ghost use Rattle.mm_store.specs.Content.{empty_store};
+ghost use Rattle.mm_store.specs.Content.{empty_store, first_in, shown};
 ghost use Rattle.mm_store.specs.declared.fault.Fault.TheVariants.{HoldsMore};
 
 use crate::fault::Fault;
@@ -91,11 +91,27 @@ impl AnyStore {
         }
         Ok(())
     }
+
+    /// The packet that `first_in` finds. Where it stands at `place`, counted from the oldest packet, it is found at once, and `place`
+    /// is then the place after it. Another `place` costs a search, and changes no answer.
+    #[inline(always)]
+    pub fn first_near(
+        &self,
+        from: u64,
+        to: u64,
+        after: u64,
+        place: &mut usize,
+    ) -> Option<(u64, &BlockPacket)>
+        ensures found { shown result ≡ first_in from to after self.now.content }
+    {
+        of_store!(&self.form; store => store.first_near(from, to, after, place))
+    }
 }
 
 impl PacketStore for AnyStore {
     ghost store = { λ s. s };
 
+    #[inline(always)]
     fn put(&mut self, now: u64, packet: BlockPacket) -> Put {
         of_store!(&mut self.form; store => store.put(now, packet))
     }

@@ -1,5 +1,5 @@
 //! Queues of packets, and the reading and deleting of packets that every queue serves alike.
-ghost use Rattle.std.specs.Prelude.{◌≡◌, ◌+◌, ◌<◌, ◌≤◌, ◌↔◌, [], ◌∷◌, ◌++◌, length, take, drop, slice_get, All, IsTrue, IfOk, OnOk, OnErr};
+ghost use Rattle.std.specs.Prelude.{◌≡◌, ◌+◌, ◌-◌, ◌<◌, ◌≤◌, ◌↔◌, max, [], ◌∷◌, ◌++◌, length, take, drop, slice_get, All, IsTrue, IfOk, OnOk, OnErr};
 ghost use Rattle.circular_buffer.specs.Buffer.{Buffer, buffer};
 ghost use Rattle.mm_base.specs.declared.kind.Kind.{Kind};
 ghost use Rattle.mm_store.specs.declared.stored.Stored.{Stored};
@@ -108,6 +108,21 @@ fn is_place_after<Q: PacketQueue>(queue: &Q, passed: u64, place: usize) -> bool
         && are_late_from(queue, passed, place)
 }
 
+// Whether the oldest packet with a time later than `passed` stands at this place. Where its time is the next tick, no packet before it
+// is looked at.
+#[inline(always)]
+fn is_next_at<Q: PacketQueue>(queue: &Q, passed: u64, place: usize) -> bool
+    requires rising { IsRising (Q.held queue.now).items }
+    requires within { place < length (Q.held queue.now).items }
+    ensures { IsTrue result → IsPlaceAfter passed place (Q.held queue.now).items }
+{
+    let time = queue.at(place).time;
+    if time <= passed {
+        return false;
+    }
+    time - passed == 1 || are_early_before(queue, passed, place)
+}
+
 // The place of the oldest packet with a time later than `passed`, where each tick from the oldest packet on has one.
 fn place_by_ticks<Q: PacketQueue>(queue: &Q, passed: u64) -> usize {
     passed.saturating_add(1).saturating_sub(oldest(queue)) as usize
@@ -144,6 +159,39 @@ fn first_place<Q: PacketQueue>(queue: &Q, passed: u64) -> usize
     search_place(queue, passed)
 }
 
+// The last time that is too early for a look-up from `from` on and after `after`.
+#[inline(always)]
+fn last_passed(from: u64, after: u64) -> u64
+    ensures { result ≡ max (from - 1) after }
+{
+    from.saturating_sub(1).max(after)
+}
+
+// The oldest packet from `from` to `to` that is newer than `after`, with its time. `next` becomes the place after it.
+#[inline(never)]
+fn search_in<'a, Q: PacketQueue>(
+    queue: &'a Q,
+    from: u64,
+    to: u64,
+    after: u64,
+    next: &mut usize,
+) -> Option<(u64, &'a BlockPacket)>
+    requires { IsRising (Q.held queue.now).items }
+    ensures { shown result ≡ first_in from to after (Q.held queue.now).items }
+{
+    let passed = last_passed(from, after);
+    let place = first_place(queue, passed);
+    if place == queue.len() {
+        return None;
+    }
+    let stored = queue.at(place);
+    if stored.time > to {
+        return None;
+    }
+    *next = place + 1;
+    Some((stored.time, &stored.packet))
+}
+
 // The oldest packet from `from` to `to` that is newer than `after`, with its time.
 pub(crate) fn first_in<Q: PacketQueue>(
     queue: &Q,
@@ -154,15 +202,33 @@ pub(crate) fn first_in<Q: PacketQueue>(
     requires { IsRising (Q.held queue.now).items }
     ensures { shown result ≡ first_in from to after (Q.held queue.now).items }
 {
-    let passed = from.saturating_sub(1).max(after);
-    let place = first_place(queue, passed);
-    if place == queue.len() {
-        return None;
+    let mut next = 0;
+    search_in(queue, from, to, after, &mut next)
+}
+
+// The oldest packet from `from` to `to` that is newer than `after`, with its time. Where it stands at `place` it is found at once.
+// `place` becomes the place after it.
+#[inline(always)]
+pub(crate) fn first_near<'a, Q: PacketQueue>(
+    queue: &'a Q,
+    from: u64,
+    to: u64,
+    after: u64,
+    place: &mut usize,
+) -> Option<(u64, &'a BlockPacket)>
+    requires { IsRising (Q.held queue.now).items }
+    ensures { shown result ≡ first_in from to after (Q.held queue.now).items }
+{
+    let passed = last_passed(from, after);
+    let near = *place;
+    if near >= queue.len() || !is_next_at(queue, passed, near) {
+        return search_in(queue, from, to, after, place);
     }
-    let stored = queue.at(place);
+    let stored = queue.at(near);
     if stored.time > to {
         return None;
     }
+    *place = near + 1;
     Some((stored.time, &stored.packet))
 }
 

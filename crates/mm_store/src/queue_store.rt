@@ -1,6 +1,6 @@
 //! Packet stores over a queue of packets.
 ghost use Rattle.std.specs.Prelude.{◌≡◌, ◌<◌, ◌≤◌, ◌↔◌, length, Err, IfOk, OnOk, OnErr};
-ghost use Rattle.mm_store.specs.Content.{empty_store};
+ghost use Rattle.mm_store.specs.Content.{empty_store, first_in, shown};
 ghost use Rattle.mm_store.specs.declared.fault.Fault.TheVariants.{HoldsMore};
 
 use crate::fault::Fault;
@@ -57,6 +57,21 @@ impl<Q: PacketQueue> QueueStore<Q> {
         Ok(())
     }
 
+    /// The packet that `first_in` finds. Where it stands at `place`, counted from the oldest packet, it is found at once, and `place`
+    /// is then the place after it. Another `place` costs a search, and changes no answer.
+    #[inline(always)]
+    pub fn first_near(
+        &self,
+        from: u64,
+        to: u64,
+        after: u64,
+        place: &mut usize,
+    ) -> Option<(u64, &BlockPacket)>
+        ensures found { shown result ≡ first_in from to after self.now.content }
+    {
+        queue::first_near(&self.queue, from, to, after, place)
+    }
+
     // A store of the other kind with all that this one holds, which is empty then.
     pub(crate) fn taking<F: PacketQueue>(
         store: &mut QueueStore<F>,
@@ -76,6 +91,7 @@ impl<Q: PacketQueue> QueueStore<Q> {
 impl<Q: PacketQueue> PacketStore for QueueStore<Q> {
     ghost store = { λ s. s };
 
+    #[inline(always)]
     fn put(&mut self, now: u64, packet: BlockPacket) -> Put {
         if self.last == u64::MAX {
             return Put::ClockEnd(packet);

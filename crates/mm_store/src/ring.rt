@@ -36,10 +36,12 @@ impl PacketQueue for HeapCircularBuffer<Stored> {
         self.capacity()
     }
 
+    #[inline(always)]
     fn at(&self, place: usize) -> &Stored {
         self.get(place).unwrap()
     }
 
+    #[inline(always)]
     fn append(&mut self, newest: Stored) {
         let _overwritten = self.push_back(newest);
     }

@@ -4,7 +4,7 @@ use Rattle.mm_desk.specs.declared.event.Event.{Event}
 use Rattle.mm_desk.specs.Machine.{State}
 use Rattle.mm_desk.specs.Offers.{AreTaken, IsShuffleOfEvents, Leaves, count_of}
 use Rattle.mm_desk.specs.Runs.{IsRun}
-use Rattle.mm_desk.proofs.Counting.{count_of_shuffle}
+use Rattle.mm_desk.proofs.Logs.{count_of_shuffle}
 use Rattle.mm_desk.proofs.Leaving.{HasRoom, log_leaves}
 use Rattle.mm_desk.proofs.laws.any_order_loses_alike.Goals as goal
 

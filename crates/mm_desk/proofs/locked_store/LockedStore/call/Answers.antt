@@ -4,7 +4,7 @@ use Rattle.mm_desk.specs.declared.reply.Reply.{Reply}
 use Rattle.mm_desk.specs.Machine.{State, step}
 use Rattle.mm_desk.specs.Runs.{entry}
 use Rattle.mm_desk.proofs.Answering.{step_answers}
-use Rattle.mm_desk.proofs.Runs.{run_more}
+use Rattle.mm_desk.proofs.Logs.{run_more}
 use Rattle.mm_desk.proofs.locked_store.LockedStore.call.Goals as goal
 
 pub invariant_of-self-2 : goal.invariant_of-self-2

@@ -1,25 +1,97 @@
--- What a whole dump order does.
-use Rattle.std.proofs.Common.{◌≡◌, ℕ, ◌+◌, ◌<◌, ◌≤◌, min, true, false, ltb, List, [], ◌∷◌, ◌++◌, length, All, refl, sym, ap, subst, ◌∙◌, arith, append_assoc, length-append}
-use Rattle.std.specs.Prelude.{Option, Some, None, Result, Ok, is_some}
-use Rattle.std.proofs.lemmas.Bool.{lt-ltb, le-ltb, le-leb, ltb-true, ltb-false, and_right, and_from, cond_both}
-use Rattle.std.proofs.lemmas.List.{append-nil}
+-- What legal logs are: a run with one entry more, how many entries a shuffle has, and what a whole dump order gave and left.
+use Rattle.std.proofs.Common.{◌≡◌, ◌⊎◌, inl, inr, ℕ, zero, suc, ◌+◌, ◌<◌, ◌≤◌, min, true, false, ltb, List, [], ◌∷◌, ◌++◌, length, take, All, refl, sym, ap, subst, ◌∙◌, add-one, arith, append_assoc, length-append}
+use Rattle.std.specs.Prelude.{filter, Option, Some, None, Result, Ok, is_some}
+use Rattle.std.proofs.lemmas.Bool.{lt-ltb, le-ltb, le-leb, ltb-true, ltb-false, eq-eqb, ne_eqb, cases_lt, and_right, and_from, cond_both}
+use Rattle.std.proofs.lemmas.List.{append-nil, length-map, take_all}
 use Rattle.std.proofs.lemmas.List.Elements.{All-nil, All-cons, All-head, All-tail, All-push, All-weaker}
+use Rattle.std.proofs.lemmas.List.Sums.{sum_by_more}
 use Rattle.mm_store.specs.declared.stored.Stored.{Stored}
 use Rattle.mm_store.specs.Content.{IsRising, clock_end, is_in, first_in, kept_after, count_up_to}
 use Rattle.mm_store.proofs.ContentLemmas.{IsRising-rest, later_than_oldest, kept_after-later, count_up_to-kept}
 use Rattle.mm_desk.specs.declared.entry.Entry.{Entry}
+use Rattle.mm_desk.specs.declared.event.Event.{Event}
 use Rattle.mm_desk.specs.declared.event.Event.TheVariants.{Begin, Next}
 use Rattle.mm_desk.specs.declared.fault.Fault.{Fault}
 use Rattle.mm_desk.specs.declared.reply.Reply.{Reply}
 use Rattle.mm_desk.specs.declared.reply.Reply.TheVariants as reply
 use Rattle.mm_desk.specs.declared.state.Retrieval.{Retrieval}
 use Rattle.mm_desk.specs.Machine.{State, IsState, step}
+use Rattle.mm_desk.specs.Offers.{IsShuffleOfEvents, count_of}
 use Rattle.mm_desk.specs.Orders.{begun, given, ended, last_time, removed, IsOrderOf, Dumps}
 use Rattle.mm_desk.specs.Runs.{entry, replay, IsLegal, IsRun}
+use Rattle.mm_desk.specs.Shuffles.{AreBelow, part}
+
+-- a replay with one entry more is one step more
+replay-more : (s : State) (es : List Entry) (e : Entry) → replay s (es ++ e ∷ []) ≡ (step (replay s es) e.event).1
+replay-more s [] e = refl
+replay-more s (d ∷ es) e = replay-more (step s d.event).1 es e
+
+-- a legal log is legal with the machine's reply after it
+IsLegal-more : (s : State) (es : List Entry) (e : Entry) → IsLegal s es → e.reply ≡ (step (replay s es) e.event).0 → IsLegal s (es ++ e ∷ [])
+IsLegal-more s [] e legal answers = (answers, tt)
+IsLegal-more s (d ∷ es) e legal answers = (legal.0, IsLegal-more (step s d.event).1 es e legal.1 answers)
+
+-- a run goes on by one step of the machine
+pub run_more : (s : State) (es : List Entry) (t : State) (seat : ℕ) (event : Event) (answer : Reply) (u : State)
+    → IsRun s es t → step t event ≡ (answer, u) → IsRun s (es ++ entry seat event answer ∷ []) u
+run_more s es t seat event answer u run stepped =
+    let here : step (replay s es) event ≡ (answer, u) = rw (← run.leaves) stepped in
+    record {
+      legal = IsLegal-more s es (entry seat event answer) run.legal (sym (ap (λ (p : Reply × State). p.0) here));
+      leaves = sym (replay-more s es (entry seat event answer) ∙ ap (λ (p : Reply × State). p.1) here);
+    }
+
+-- the entries of seats below a number
+abbrev below : ℕ → List Entry → List Entry
+below n log = filter (λ e. ltb e.seat n) log
+
+-- the entries of no seat
+below-zero : (log : List Entry) → length (below 0 log) ≡ 0
+below-zero [] = refl
+below-zero (e ∷ es) = rw (le-ltb e.seat 0 (omega arith)) (below-zero es)
+
+-- with one seat more come the entries of that seat
+below-suc : (n : ℕ) (log : List Entry) → length (below (suc n) log) ≡ length (below n log) + length (part n log)
+below-suc n [] = refl
+below-suc n (e ∷ es) = by_order (below-suc n es) (cases_lt e.seat n) (cases_lt n e.seat)
+  where
+    by_order : length (below (suc n) es) ≡ length (below n es) + length (part n es) → (e.seat < n) ⊎ (n ≤ e.seat) → (n < e.seat) ⊎ (e.seat ≤ n)
+        → length (below (suc n) (e ∷ es)) ≡ length (below n (e ∷ es)) + length (part n (e ∷ es))
+    by_order rest (inl before) other =
+        rw (lt-ltb e.seat (suc n) (omega arith), lt-ltb e.seat n before, ne_eqb e.seat n (λ same. omega arith)) (omega arith)
+    by_order rest (inr from) (inl after) =
+        rw (le-ltb e.seat (suc n) (omega arith), le-ltb e.seat n from, ne_eqb e.seat n (λ same. omega arith)) (omega arith)
+    by_order rest (inr from) (inr up) =
+        rw (lt-ltb e.seat (suc n) (omega arith), le-ltb e.seat n from, eq-eqb e.seat n (omega arith)) (omega arith)
+
+-- all entries of a log of seats below a number
+below-all : (n : ℕ) (log : List Entry) → AreBelow n log → length (below n log) ≡ length log
+below-all n [] all = refl
+below-all n (e ∷ es) all =
+    rw (lt-ltb e.seat n (All-head (λ (e : Entry). e.seat < n) e es all))
+    (ap suc (below-all n es (All-tail (λ (e : Entry). e.seat < n) e es all)))
+
+-- the first lists of a shuffle have as many events as the log has entries of their seats
+first_lists : (lists : List (List Event)) (log : List Entry) (n : ℕ) → IsShuffleOfEvents lists log → n ≤ length lists
+    → count_of (take n lists) ≡ length (below n log)
+first_lists lists log zero shuffle within = sym (below-zero log)
+first_lists lists log (suc n) shuffle within =
+    let firsts = first_lists lists log n shuffle (omega arith) in
+    let more = rw add-one at (sum_by_more (λ (events : List Event). length events) lists n [] (omega arith)) in
+    let here = ap length (shuffle.parts n (omega arith)) in
+    let mapped = length-map (part n log) (λ (e : Entry). e.event) in
+    omega (arith, firsts, more, here, mapped, below-suc n log)
+
+-- a shuffle of lists has as many entries as they have events
+pub count_of_shuffle : (lists : List (List Event)) (log : List Entry) → IsShuffleOfEvents lists log → count_of lists ≡ length log
+count_of_shuffle lists log shuffle =
+    let all = first_lists lists log (length lists) shuffle (omega arith) in
+    let whole = ap count_of (take_all (length lists) lists (omega arith)) in
+    sym whole ∙ all ∙ below-all (length lists) log shuffle.below
 
 -- a state with the retrieval of all packets on, after this time
-abbrev at : State → ℕ → State
-at s after = record s { retrieval = Some (record { from = 1; to = clock_end; after = after }) }
+abbrev retrieving : State → ℕ → State
+retrieving s after = record s { retrieval = Some (record { from = 1; to = clock_end; after = after }) }
 
 -- a state with no retrieval
 abbrev idle : State → State
@@ -64,26 +136,26 @@ first_next after x xs rises =
 
 module _ (s : State) where
   -- the next packet is given
-  step_some : (after : ℕ) (x : Stored) → first_in 1 clock_end after s.store.content ≡ Some x → step (at s after) Next ≡ (reply.Given (Ok (Some x)), at s x.time)
+  step_some : (after : ℕ) (x : Stored) → first_in 1 clock_end after s.store.content ≡ Some x → step (retrieving s after) Next ≡ (reply.Given (Ok (Some x)), retrieving s x.time)
   step_some after x found = rw found refl
 
   -- the end of the retrieval is told
-  step_none : (after : ℕ) → first_in 1 clock_end after s.store.content ≡ None → step (at s after) Next ≡ (reply.Given (Ok None), idle s)
+  step_none : (after : ℕ) → first_in 1 clock_end after s.store.content ≡ None → step (retrieving s after) Next ≡ (reply.Given (Ok None), idle s)
   step_none after found = rw found refl
 
 -- what stands after packets were given: the rest of the content, and the calls left
 record Gave (s : State) (done rest : List Stored) (after seat : ℕ) (gs : List Stored) (es : List Entry) : Type 0 where
   left : List Stored
   split : rest ≡ gs ++ left
-  legal : IsLegal (at s (last_time after gs)) es
+  legal : IsLegal (retrieving s (last_time after gs)) es
   rises : Rises (last_time after gs) left
   early : All (λ (p : Stored). p.time ≤ last_time after gs) (done ++ gs)
-  replays : replay (at s after) (given seat gs ++ es) ≡ replay (at s (last_time after gs)) es
+  replays : replay (retrieving s after) (given seat gs ++ es) ≡ replay (retrieving s (last_time after gs)) es
 
 -- the packets that a retrieval gives are the next ones held
 gave : (s : State) (done rest : List Stored) (after seat : ℕ) (gs : List Stored) (es : List Entry)
     → s.store.content ≡ done ++ rest → All (λ (p : Stored). p.time ≤ after) done → Rises after rest
-    → IsLegal (at s after) (given seat gs ++ es) → Gave s done rest after seat gs es
+    → IsLegal (retrieving s after) (given seat gs ++ es) → Gave s done rest after seat gs es
 gave s done rest after seat [] es held early rises legal = record {
   left = rest;
   split = refl;
@@ -121,14 +193,14 @@ gave s done (x ∷ xs) after seat (g ∷ gs) es held early rises legal =
 record Ends (s : State) (after wanted : ℕ) (gs : List Stored) (e : Entry) (es : List Entry) : Type 0 where
   many : length gs ≡ min wanted (length s.store.content)
   legal : IsLegal (idle s) es
-  replays : replay (at s after) (e ∷ es) ≡ replay (idle s) es
+  replays : replay (retrieving s after) (e ∷ es) ≡ replay (idle s) es
 
 -- a retrieval ends where all is given, or is aborted
 ends : (s : State) (after seat wanted : ℕ) (gs left : List Stored) (es : List Entry) → s.store.content ≡ gs ++ left
     → All (λ (p : Stored). p.time ≤ after) gs → Rises after left → length gs ≤ wanted
-    → IsLegal (at s after) (ended seat wanted gs ∷ es) → Ends s after wanted gs (ended seat wanted gs) es
+    → IsLegal (retrieving s after) (ended seat wanted gs ∷ es) → Ends s after wanted gs (ended seat wanted gs) es
 ends s after seat wanted gs left es held early rises most =
-    cond_both (ltb (length gs) wanted) _ _ (λ (e : Entry). IsLegal (at s after) (e ∷ es) → Ends s after wanted gs e es)
+    cond_both (ltb (length gs) wanted) _ _ (λ (e : Entry). IsLegal (retrieving s after) (e ∷ es) → Ends s after wanted gs e es)
     (λ fewer legal. by_end left held rises (ltb-true (length gs) wanted fewer) legal)
     (λ enough legal. record {
       many = omega (arith, ltb-false (length gs) wanted enough, most, ap length held, length-append gs left);
@@ -137,7 +209,7 @@ ends s after seat wanted gs left es held early rises most =
     })
   where
     by_end : (left : List Stored) → s.store.content ≡ gs ++ left → Rises after left → length gs < wanted
-        → IsLegal (at s after) (entry seat Next (reply.Given (Ok None)) ∷ es) → Ends s after wanted gs (entry seat Next (reply.Given (Ok None))) es
+        → IsLegal (retrieving s after) (entry seat Next (reply.Given (Ok None)) ∷ es) → Ends s after wanted gs (entry seat Next (reply.Given (Ok None))) es
     by_end [] held rises fewer legal =
         let found : first_in 1 clock_end after s.store.content ≡ None = rw held (first_past after gs [] early) in
         let state = ap (λ (p : Reply × State). p.1) (step_none s after found) in
@@ -184,7 +256,7 @@ none_of (Some r) none = cc
 -- where a retrieval is begun none was on, and the retrieval of all packets is on
 record Begins (s : State) : Type 0 where
   none : s.retrieval ≡ None
-  stepped : step s (Begin 1 clock_end) ≡ (reply.Done (Ok tt), at s 0)
+  stepped : step s (Begin 1 clock_end) ≡ (reply.Done (Ok tt), retrieving s 0)
 
 begins : (s : State) → reply.Done (Ok tt) ≡ (step s (Begin 1 clock_end)).0 → Begins s
 begins s answers =
@@ -194,7 +266,7 @@ begins s answers =
     record {
       none = none;
       stepped =
-          cond_both (is_some s.retrieval) _ _ (λ (r : Result (Unit {0}) Fault × State). ◌≡◌ {A = Reply × State} (reply.Done r.0, r.1) (reply.Done (Ok tt), at s 0))
+          cond_both (is_some s.retrieval) _ _ (λ (r : Result (Unit {0}) Fault × State). ◌≡◌ {A = Reply × State} (reply.Done r.0, r.1) (reply.Done (Ok tt), retrieving s 0))
           (λ busy. absurd (cc (busy, ap is_some none))) (λ free. refl);
     }
 
