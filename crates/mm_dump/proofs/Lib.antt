@@ -16,6 +16,6 @@ mod Settling
 mod Settled
 mod Halves
 mod Ready
-pub mod Idle
+mod Idle
 mod Ending
 mod Leaves

@@ -1,7 +1,12 @@
-//! Laws of orders that broke, over the definitions alone.
-ghost use Rattle.mm_dump.specs.Laws.{BrokenOrdersChangeNothing};
+//! Laws of orders, over the definitions alone.
+ghost use Rattle.mm_dump.specs.Laws.{BrokenOrdersChangeNothing, IdleStoresSuitOrders};
 
 /// An order that broke leaves its store as it was: what it holds, its counters and its storage switch. No retrieval is on.
 pub fn broken_orders_change_nothing()
     ensures law { BrokenOrdersChangeNothing }
+{}
+
+/// Where no retrieval is on at any store, none is on at a store that an order names.
+pub fn idle_stores_suit_orders()
+    ensures law { IdleStoresSuitOrders }
 {}

@@ -162,7 +162,7 @@ port_at stores lines index s l at within =
     ap (λ (e : ℕ × TableId × ℕ). e.1) (sym (get_or-map end_of lines index l (end_of l) (omega (arith, length-map lines end_of, at.count)))) ∙ at.of index s (end_of l) within
 
 -- the store at this index is the one that a row leads to
-found_at : (now : ℕ) (p : SpacePacket) (own : List ℕ) (row : RouteRow) (k index : ℕ) → bytes_eq own row.store ≡ (k == index)
+pub found_at : (now : ℕ) (p : SpacePacket) (own : List ℕ) (row : RouteRow) (k index : ℕ) → bytes_eq own row.store ≡ (k == index)
     → offer_at now p index k ≡ offers_by now p own (row ∷ [])
 found_at now p own row k index is = rw is (by_test (k == index))
   where
@@ -197,10 +197,10 @@ pub adds_partly_none : (count : ℕ) (more : ℕ → List Event) (lines : List L
 adds_partly_none count more lines = record { ends = refl; lists = λ k within. partly_nowhere (more k) (list_at lines k) }
 
 -- the same offers in other words
-pub adds_same : (goes : List Event → List Entry → List Entry → Type 0) (count : ℕ) (f g : ℕ → List Event) (a b : List Line) → ((k : ℕ) → f k ≡ g k) → AddsBy goes count f a b → AddsBy goes count g a b
+pub adds_same : (goes : List Event → List Entry → List Entry → Type 0) (count : ℕ) (f g : ℕ → List Event) (a b : List Line) → ((k : ℕ) → k < count → f k ≡ g k) → AddsBy goes count f a b → AddsBy goes count g a b
 adds_same goes count f g a b same one = record {
   ends = one.ends;
-  lists = λ k within. rw (same k) at (one.lists k within);
+  lists = λ k within. rw (same k within) at (one.lists k within);
 }
 
 -- one after another

@@ -1,5 +1,6 @@
 pub mod Offers
 pub mod Going
+pub mod RoutingLemmas
 pub mod SoFar
 pub mod Whys
 pub mod Runs

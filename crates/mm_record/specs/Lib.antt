@@ -3,7 +3,9 @@ pub mod Causes
 pub mod Counters
 pub mod Recorded
 pub mod Offering
+pub mod Routings
 pub mod Steps
 pub mod Recorders
 pub mod MemorySteps
 pub mod Later
+pub mod Laws

@@ -5,10 +5,12 @@ mod cause;
 mod context;
 mod counters;
 mod later;
+pub mod laws;
 mod memory_step;
 mod offering;
 mod readiness;
 mod recorder;
+mod routing;
 mod source;
 mod step;
 

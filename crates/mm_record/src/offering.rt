@@ -2,8 +2,10 @@
 ghost use Rattle.std.specs.Prelude.{◌≡◌, ◌<◌, [], ◌∷◌, length, OnOk, OnErr, IfErr};
 ghost use Rattle.mm_shared.specs.Stores.{ids_of, id_at, ends_of, AreNamed};
 ghost use Rattle.mm_record.specs.Offering.{offer_at, offers_by, offers_of, AreAt, Adds, AddsPartly, IsReason};
+ghost use Rattle.mm_record.specs.Routings.{AreRoutings};
 
 use crate::context::StepContext;
+use crate::routing::{ReportType, Routings};
 use mm_base::RouteRow;
 use mm_desk::Fault;
 use mm_packet::BlockPacket;
@@ -121,11 +123,14 @@ fn offer_routed<R: Wait>(
 // Offers a packet to each store that its report type is routed to; a telecommand goes to no store.
 pub(crate) fn offer_packet<R: Wait>(
     context: &StepContext<'_, R>,
+    routings: &mut Routings,
     lines: &mut [Line],
     packet: BlockPacket,
 ) -> Result<(), Fault>
     requires named { AreNamed (ids_of context.now.stores.now) }
     requires at { AreAt context.now.stores.now (ends_of lines.old) }
+    requires routings { AreRoutings context.now.control.now context.now.stores.now routings.old }
+    ensures routings { AreRoutings context.now.control.now context.now.stores.now routings.new }
     ensures ok { OnOk result (Adds (length context.now.stores.now)
         (λ k. offers_of context.now.moment context.now.control.now (id_at (ids_of context.now.stores.now) k) packet) lines.old lines.new) }
     ensures err { OnErr result (AddsPartly (length context.now.stores.now)
@@ -136,7 +141,15 @@ pub(crate) fn offer_packet<R: Wait>(
     if content.is_telecommand() {
         return Ok(());
     }
-    let (apid, service) = (content.apid(), content.service());
-    let rows = context.control.rows_for(apid, service, content.subtype());
+    let (apid, service, subtype) = (content.apid(), content.service(), content.subtype());
+    let report = ReportType {
+        apid,
+        service,
+        subtype,
+    };
+    if let Some(index) = routings.lone_store(context.stores, context.control, report) {
+        return offer_at(context, lines, packet, index);
+    }
+    let rows = context.control.rows_for(apid, service, subtype);
     offer_routed(context, lines, packet, rows)
 }

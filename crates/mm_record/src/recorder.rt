@@ -9,6 +9,7 @@ ghost use Rattle.mm_record.specs.Recorders.{HasRun, MayRecord, HaveRun, is_worse
 
 use crate::context::StepContext;
 use crate::offering::offer_packet;
+use crate::routing::Routings;
 use crate::source::Source;
 use mm_desk::Fault;
 use mm_shared::{Line, Lines};
@@ -27,8 +28,9 @@ fn record_source<S: Source, R: Wait>(
     ensures run { HasRun (open_recording context.now.step context.now.moment context.now.control.now context.now.stores.now) (S.gives source.old) (S.gives source.new) (result_err result) lines.new }
     ensures ends { ends_of lines.new ≡ ends_of lines.old }
 {
+    let mut routings = Routings::new();
     while let Some(packet) = source.next(context.step) {
-        offer_packet(context, lines, packet)?;
+        offer_packet(context, &mut routings, lines, packet)?;
     }
     Ok(())
 }

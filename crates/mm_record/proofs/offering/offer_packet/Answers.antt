@@ -1,4 +1,4 @@
-use Rattle.std.proofs.Common.{rules, ◌≡◌, ℕ, List}
+use Rattle.std.proofs.Common.{rules, ◌≡◌, ◌<◌, ℕ, List, length}
 use Rattle.std.proofs.lemmas.Result.{on_ok_weaker, on_err_weaker}
 use Rattle.mm_shared.specs.Stores.{ids_of, id_at}
 use Rattle.mm_record.specs.Offering.{offers_by, offers_of}
@@ -13,8 +13,9 @@ returns g c =
     let rows = c.rows_for-rows.result.now in
     let same : (id : List ℕ) → offers_by context.moment c.args.packet id rows ≡ offers_of context.moment context.control.now id c.args.packet =
     λ id. let once = c.rows_for-rows.ensures.once id in by_rows context.moment c.args.packet id rows (is_routed context.control.now id c.args.packet) (search rules) in
-    let at = λ (k : ℕ). same (id_at (ids_of context.stores.now) k) in
+    let at = λ (k : ℕ) (within : k < length context.stores.now). same (id_at (ids_of context.stores.now) k) in
     record {
+      routings = c.lone_store.ensures.routings;
       ok = on_ok_weaker c.offer_routed.result (adds_same _ _ _ _ _ _ at) c.offer_routed.ensures.ok;
       err = on_err_weaker c.offer_routed.result (adds_same _ _ _ _ _ _ at) c.offer_routed.ensures.err;
       why = c.offer_routed.ensures.why;

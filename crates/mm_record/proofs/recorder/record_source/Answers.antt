@@ -3,18 +3,27 @@ use Rattle.std.proofs.lemmas.List.{length-map}
 use Rattle.std.specs.Result.{result_err}
 use Rattle.mm_shared.specs.declared.stores.NamedStore.{NamedStore}
 use Rattle.mm_record.specs.Recorded.{open_recording}
-use Rattle.mm_record.proofs.SoFar.{so_far_more, ran_whole, ran_partly}
+use Rattle.mm_record.proofs.SoFar.{so_far_start, so_far_more, ran_whole, ran_partly}
 use Rattle.mm_record.proofs.recorder.record_source.Goals as goal
 
 -- there are as many identifiers as stores
 many : (stores : List NamedStore) → length stores ≡ length (map (λ (s : NamedStore). s.id) stores)
 many stores = sym (length-map stores (λ (s : NamedStore). s.id))
 
+pub loop-packet-init : goal.loop-packet-init
+loop-packet-init g c = record {
+  routings = c.new-routings.ensures.routings c.args.context.now.control.now c.args.context.now.stores.now;
+  so_far = so_far_start _ _ c.args.lines.now c.requires.fresh;
+}
+
 pub loop-packet-preserved : goal.loop-packet-preserved
 loop-packet-preserved g c =
     let context = c.args.context.now in
-    so_far_more (open_recording context.step context.moment context.control.now context.stores.now) _ (g.S.Source.gives c.loop-packet.source) _ _ _ _ (length context.stores.now) c.in-Some.packet
-    (many context.stores.now) c.loop-packet.invariant c.in-Some.ensures.gives c.in-Some.ensures.others c.in_ok-offer_packet.ensures.ok
+    record {
+      routings = c.offer_packet.ensures.routings;
+      so_far = so_far_more (open_recording context.step context.moment context.control.now context.stores.now) _ (g.S.Source.gives c.loop-packet.source) _ _ _ _ (length context.stores.now) c.in-Some.packet
+          (many context.stores.now) c.loop-packet.invariant.so_far c.in-Some.ensures.gives c.in-Some.ensures.others c.in_ok-offer_packet.ensures.ok;
+    }
 
 pub returns-in_err-offer_packet-clause-run : goal.returns-in_err-offer_packet-clause-run
 returns-in_err-offer_packet-clause-run g c =
@@ -22,7 +31,7 @@ returns-in_err-offer_packet-clause-run g c =
     let fault = c.in_err-offer_packet.field-0.0 in
     let partly = ran_partly (open_recording context.step context.moment context.control.now context.stores.now) (g.S.Source.gives c.args.source.now) (g.S.Source.gives c.loop-packet.source)
     (g.S.Source.gives c.next.new.self) c.args.lines.now c.loop-packet.lines c.offer_packet.new.lines (length context.stores.now) c.in-Some.packet fault
-    (many context.stores.now) c.loop-packet.invariant c.in-Some.ensures.gives c.in-Some.ensures.others c.in_err-offer_packet.ensures.err c.in_err-offer_packet.ensures.why in
+    (many context.stores.now) c.loop-packet.invariant.so_far c.in-Some.ensures.gives c.in-Some.ensures.others c.in_err-offer_packet.ensures.err c.in_err-offer_packet.ensures.why in
     let failed : result_err c.from_residual.result ≡ Some fault = search rules in
     rw failed partly
 
@@ -31,4 +40,4 @@ returns-clause-run g c =
     let context = c.args.context.now in
     let none : g.S.Source.gives c.loop-packet.source context.step ≡ [] = search rules in
     ran_whole (open_recording context.step context.moment context.control.now context.stores.now) _ (g.S.Source.gives c.loop-packet.source) (g.S.Source.gives c.next.new.self) c.args.lines.now _
-    c.loop-packet.invariant none (search rules) c.in_default.ensures.others
+    c.loop-packet.invariant.so_far none (search rules) c.in_default.ensures.others

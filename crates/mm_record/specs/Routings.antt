@@ -1,0 +1,29 @@
+-- The routings that a recorder remembers. No public clause cites this module.
+use Rattle.std.specs.Prelude.{◌≡◌, ℕ, ◌<◌, List, length, All, IfSome}
+use Rattle.mm_base.specs.declared.rows.RouteRow.{RouteRow}
+use Rattle.mm_packet.specs.Packet.{SpacePacket, IsTelemetry}
+use Rattle.mm_shared.specs.declared.stores.NamedStore.{NamedStore}
+use Rattle.mm_shared.specs.Stores.{ids_of, id_at}
+use Rattle.mm_record.specs.declared.routing.ReportType.{ReportType}
+use Rattle.mm_record.specs.declared.routing.Routing.{Routing}
+use Rattle.mm_record.specs.declared.routing.Routings.{Routings}
+use Rattle.mm_record.specs.declared.routing.TheConstants.{REMEMBERED}
+use Rattle.mm_record.specs.Offering.{offer_at, offers_of}
+
+-- a packet is telemetry of a report type
+pub record IsOf (report : ReportType) (p : SpacePacket) : Type 0 where
+  pub telemetry : IsTelemetry p.kind
+  pub apid : p.header.apid ≡ report.apid
+  pub service : p.header.service ≡ report.service
+  pub subtype : p.header.subtype ≡ report.subtype
+
+-- packets of a report type go to the store at an index, and to no other
+pub record LeadsTo (routes : List RouteRow) (stores : List NamedStore) (report : ReportType) (index : ℕ) : Type 0 where
+  pub within : index < length stores
+  pub offers : (now : ℕ) (p : SpacePacket) (k : ℕ) → IsOf report p → k < length stores
+      → offer_at now p index k ≡ offers_of now routes (id_at (ids_of stores) k) p
+
+-- each slot has a report type with the store that its packets go to, where there is one
+pub record AreRoutings (routes : List RouteRow) (stores : List NamedStore) (routings : Routings) : Type 0 where
+  pub count : length routings.slots ≡ REMEMBERED
+  pub lead : All (λ (r : Routing). IfSome r.store (LeadsTo routes stores r.report)) routings.slots
