@@ -3,7 +3,7 @@ ghost use Rattle.std.specs.Prelude.{◌≡◌, ◌+◌, ◌%◌};
 ghost use Rattle.mm_ask.specs.Counting.{next_counter};
 ghost use Rattle.mm_ask.specs.Laws.{NumbersCountReports, ConversationsCount, ReportsCount};
 ghost use Rattle.mm_ask.specs.Reads.{PacketsReadOneWay};
-ghost use Rattle.mm_ask.specs.declared.counters.TheConstants.{SEQUENCE_COUNTS};
+ghost use Rattle.mm_packet.specs.declared.header.TheConstants.{SEQUENCE_COUNTS};
 
 use mm_st15::laws::{one_packet_one_report, one_packet_one_request};
 
