@@ -10,9 +10,10 @@ use Rattle.mm_st15.specs.Report.{report_fault}
 use Rattle.mm_st15.specs.Request.{request_fault}
 use Rattle.mm_ask.specs.declared.fault.LineFault.{LineFault}
 use Rattle.mm_ask.specs.Label.{is_answer, labelled}
+use Rattle.mm_ask.specs.Line.{packet_of}
 use Rattle.mm_ask.specs.Lines.{Passes}
 use Rattle.mm_ask.specs.PacketWords.{header_line, request_lines, report_lines}
-use Rattle.mm_ask.specs.Reads.{SoFar, nothing, with_lines, packet_of, ShowsRequest, ShowsReport, ShowsOr, ShowsData, ShowsResult, ShowsLine, Shows, ShowsEach, PacketsReadOneWay}
+use Rattle.mm_ask.specs.Reads.{SoFar, nothing, with_lines, without_spaces, ShowsRequest, ShowsReport, ShowsOr, ShowsData, ShowsResult, ShowsLine, Shows, ShowsEach, PacketsReadOneWay}
 
 module _ (requests : OnePacketOneRequest) (reports : OnePacketOneReport) where
   request_once : (n : ℕ) (p : SpacePacket) (s t u : SoFar) → ShowsRequest n p s t → ShowsRequest n p s u → t ≡ u
@@ -39,7 +40,7 @@ module _ (requests : OnePacketOneRequest) (reports : OnePacketOneReport) where
 
   line_once : (answer : Bool) (line : ℕ) (octets : List ℕ) (s t u : SoFar) → ShowsLine answer line octets s t → ShowsLine answer line octets s u → t ≡ u
   line_once true line octets s t u a b = a ∙ sym b
-  line_once false line octets s t u a b = result_once (labelled line octets).0 (packet_of (labelled line octets).1) s t u a b
+  line_once false line octets s t u a b = result_once (labelled line octets).0 (packet_of (without_spaces (labelled line octets).1)) s t u a b
 
   shows_once : (line : ℕ) (octets : List ℕ) (s t u : SoFar) → Passes Shows line octets s t → Passes Shows line octets s u → t ≡ u
   shows_once line [] s t u a b = a ∙ sym b
