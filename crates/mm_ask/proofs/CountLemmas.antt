@@ -6,7 +6,7 @@ use Rattle.std.proofs.lemmas.List.Sums.{sum_by-cons}
 use Rattle.mm_st15.specs.declared.report_kind.ReportKind.{ReportKind}
 use Rattle.mm_st15.specs.declared.report_kind.ReportKind.TheVariants.{Control, Summaries, Statuses, Configurations}
 use Rattle.mm_st15.specs.ReportKind.{code_of}
-use Rattle.mm_ask.specs.declared.counters.TheConstants.{SEQUENCE_COUNTS}
+use Rattle.mm_packet.specs.declared.header.TheConstants.{SEQUENCE_COUNTS}
 use Rattle.mm_ask.specs.Counting.{Counts, counted, counter_of, next_sequence, next_counter, how_many}
 
 -- each report has the next sequence count

@@ -4,7 +4,7 @@ use Rattle.std.specs.Prelude.{ℕ, ◌+◌, ◌%◌, ◌^◌, ◌==◌, List, co
 use Rattle.mm_st15.specs.declared.report_kind.ReportKind.{ReportKind}
 use Rattle.mm_st15.specs.declared.report_kind.ReportKind.TheVariants.{Control, Summaries, Statuses, Configurations}
 use Rattle.mm_st15.specs.ReportKind.{code_of}
-use Rattle.mm_ask.specs.declared.counters.TheConstants.{SEQUENCE_COUNTS}
+use Rattle.mm_packet.specs.declared.header.TheConstants.{SEQUENCE_COUNTS}
 use Rattle.mm_ask.specs.declared.counters.Numbers.{Numbers}
 
 -- how many reports there were, in all and of each subtype, as packets count them

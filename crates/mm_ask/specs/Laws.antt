@@ -12,7 +12,7 @@ use Rattle.mm_ask.specs.Asking.{Converses}
 use Rattle.mm_ask.specs.Line.{request_of}
 use Rattle.mm_ask.specs.Lines.{Passes}
 use Rattle.mm_st15.specs.declared.report_kind.ReportKind.{ReportKind}
-use Rattle.mm_ask.specs.declared.counters.TheConstants.{SEQUENCE_COUNTS}
+use Rattle.mm_packet.specs.declared.header.TheConstants.{SEQUENCE_COUNTS}
 use Rattle.mm_ask.specs.Counting.{counts_after, counter_of, how_many}
 
 -- the sequence count of a report is the number of those before it, and its message type counter the

@@ -36,6 +36,13 @@ alone (Ok (packet, octet ∷ octets)) = Err HexLine
 abbrev pub packet_alone : List ℕ → Result SpacePacket LineFault
 packet_alone octets = alone (packet_at octets)
 
+-- the packet that hexadecimal digits spell, with nothing after it, or the first test that fails: the
+-- digits, the packet, octets after it
+unfoldable pub packet_of : List ℕ → Result SpacePacket LineFault
+packet_of digits = do
+  octets ← octets_in digits
+  packet_alone octets
+
 -- a packet that passes the tests of a request
 abbrev pub request_tested : SpacePacket → Option RequestFault → Result SpacePacket LineFault
 request_tested packet None = Ok packet

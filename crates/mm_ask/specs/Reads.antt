@@ -2,7 +2,6 @@
 use Rattle.std.specs.Prelude.{◌≡◌, ℕ, ◌==◌, Bool, true, false, not, List, [], ◌∷◌, ◌++◌, filter, Option, Some, None, Result, Ok, Err}
 use Rattle.mm_base.specs.Characters.{line_feed, space}
 use Rattle.mm_base.specs.Lines.{text_lines}
-use Rattle.mm_base.specs.Reading.{◌>>=◌}
 use Rattle.mm_packet.specs.declared.header.PacketType.{PacketType}
 use Rattle.mm_packet.specs.declared.header.PacketType.TheVariants.{Telecommand, Telemetry}
 use Rattle.mm_packet.specs.Packet.{SpacePacket}
@@ -16,7 +15,7 @@ use Rattle.mm_ask.specs.declared.answering.Outcome.TheVariants.{AllDone, SomeRef
 use Rattle.mm_ask.specs.declared.fault.LineFault.{LineFault}
 use Rattle.mm_ask.specs.Fault.{of_request}
 use Rattle.mm_ask.specs.Label.{is_answer, labelled}
-use Rattle.mm_ask.specs.Line.{octets_in, packet_alone}
+use Rattle.mm_ask.specs.Line.{packet_of}
 use Rattle.mm_ask.specs.Lines.{PassesEach}
 use Rattle.mm_ask.specs.PacketWords.{header_line, request_lines, report_lines}
 use Rattle.mm_ask.specs.Text.{refused_line}
@@ -70,12 +69,6 @@ ShowsPacket number packet s t = ShowsData packet.kind number packet (with_lines 
 abbrev pub without_spaces : List ℕ → List ℕ
 without_spaces digits = filter (λ c. not (c == space)) digits
 
--- the packet that digits are, or the first test that fails: the digits, the packet, octets after it
-unfoldable pub packet_of : List ℕ → Result SpacePacket LineFault
-packet_of digits = do
-  octets ← octets_in (without_spaces digits)
-  packet_alone octets
-
 -- what digits leave
 abbrev pub ShowsResult : ℕ → Result SpacePacket LineFault → SoFar → SoFar → Type 0
 ShowsResult number (Err fault) s t = t ≡ with_refused number fault s
@@ -83,7 +76,7 @@ ShowsResult number (Ok packet) s t = ShowsPacket number packet s t
 
 -- what the digits of a number's packet leave
 abbrev pub ShowsDigits : ℕ × List ℕ → SoFar → SoFar → Type 0
-ShowsDigits found s t = ShowsResult found.0 (packet_of found.1) s t
+ShowsDigits found s t = ShowsResult found.0 (packet_of (without_spaces found.1)) s t
 
 -- an answer of `ask` is printed as it stands; any other line is read as a packet
 abbrev pub ShowsLine : Bool → ℕ → List ℕ → SoFar → SoFar → Type 0

@@ -2,11 +2,9 @@
 ghost use Rattle.std.specs.Prelude.{◌≡◌, ◌+◌, ◌%◌, ◌^◌, ◌<◌};
 ghost use Rattle.mm_ask.specs.Counting.{no_counts, counted, numbers_of};
 
+use mm_packet::SEQUENCE_COUNTS;
 use mm_st15::ReportKind;
 use std::marker::Model;
-
-/// How many sequence counts there are (CCSDS 133.0-B, 4.1.3.4): 16,384.
-pub const SEQUENCE_COUNTS: u16 = 16_384;
 
 /// The numbers of a report's packet: the packet sequence count and the message type counter.
 #[derive(Clone, Copy, Debug, PartialEq, Eq)]
@@ -28,7 +26,7 @@ pub struct Counters {
 
 impl Model for Counters {
     ghost use Rattle.std.specs.Prelude.{◌<◌};
-    ghost use Rattle.mm_ask.specs.declared.counters.TheConstants.{SEQUENCE_COUNTS};
+    ghost use Rattle.mm_packet.specs.declared.header.TheConstants.{SEQUENCE_COUNTS};
     ghost use Rattle.mm_ask.specs.Counting.{Counts};
 
     ghost Value = { Counts };

@@ -18,9 +18,10 @@ mod text;
 
 pub use answering::Outcome;
 pub use ask::ask_bytes;
-pub use counters::{Counters, Numbers, SEQUENCE_COUNTS};
+pub use counters::{Counters, Numbers};
 pub use fault::LineFault;
-pub use line::{Asked, packet_alone, request_alone, request_of};
+pub use line::{Asked, packet_alone, packet_of, request_alone, request_of};
 pub use mm_base::NoMemory;
+pub use mm_packet::SEQUENCE_COUNTS;
 pub use mm_problem::Fault;
 pub use read::read_bytes;

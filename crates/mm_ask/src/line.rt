@@ -5,7 +5,7 @@ ghost use Rattle.std.specs.List.{list_all};
 ghost use Rattle.mm_base.specs.Reading.{Gives};
 ghost use Rattle.mm_st15.specs.Request.{IsRequest, SpellsRequest};
 ghost use Rattle.mm_ask.specs.declared.fault.LineFault.TheVariants.{NoMemory};
-ghost use Rattle.mm_ask.specs.Line.{has_digits, octets_in, packet_alone, request_alone, request_of};
+ghost use Rattle.mm_ask.specs.Line.{has_digits, octets_in, packet_alone, packet_of, request_alone, request_of};
 
 use crate::fault::LineFault;
 use mm_base::passed_on;
@@ -34,8 +34,8 @@ fn has_digits(line: &[u8]) -> bool
     line.len() % 2 == 0 && are_digits(line)
 }
 
-/// The octets that the digits spell.
-pub(crate) fn octets_in(alloc: Global, line: &[u8]) -> Result<Vec<u8>, LineFault>
+// The octets that the digits spell.
+fn octets_in(alloc: Global, line: &[u8]) -> Result<Vec<u8>, LineFault>
     ensures octets { Gives NoMemory (λ octets. octets.items) result (octets_in line.now) }
     ensures memory { IfErr result (λ fault. fault ≡ NoMemory → IsTrue (has_digits line.now)) }
     ensures digits { IfOk result (λ _. IsTrue (has_digits line.now)) }
@@ -69,6 +69,18 @@ pub fn packet_alone(alloc: Global, octets: &[u8]) -> Result<Packet, LineFault>
     } else {
         Err(LineFault::HexLine)
     }
+}
+
+/// The packet that hexadecimal digits spell, with nothing after it. The tests come in this order: the digits, the
+/// packet, octets after it.
+#[tactic(auto, unfolding(crate::specs::Line::packet_of))]
+pub fn packet_of(alloc: Global, digits: &[u8]) -> Result<Packet, LineFault>
+    ensures packet { Gives NoMemory (λ packet. packet) result (packet_of digits.now) }
+    // A growth is refused only where the digits are good.
+    ensures memory { IfErr result (λ fault. fault ≡ NoMemory → IsTrue (has_digits digits.now)) }
+{
+    let octets = octets_in(alloc, digits)?;
+    packet_alone(alloc, &octets)
 }
 
 impl From<mm_st15::Fault> for LineFault {

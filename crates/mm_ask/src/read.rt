@@ -5,12 +5,13 @@ ghost use Rattle.mm_base.specs.Reading.{Gives};
 ghost use Rattle.mm_st15.specs.Report.{report_fault};
 ghost use Rattle.mm_st15.specs.Request.{HasCount, count_of, kind_of, request_fault};
 ghost use Rattle.mm_ask.specs.PacketWords.{request_lines};
-ghost use Rattle.mm_ask.specs.Reads.{Reads, packet_of, without_spaces};
+ghost use Rattle.mm_ask.specs.Line.{packet_of};
+ghost use Rattle.mm_ask.specs.Reads.{Reads, without_spaces};
 
 use crate::answering::Outcome;
 use crate::fault::LineFault;
 use crate::label::{is_answer, labelled};
-use crate::line::{octets_in, packet_alone};
+use crate::line::packet_of;
 use crate::lines::{TakeLine, take_lines};
 use crate::packet_words::{push_header_line, push_report, push_request};
 use crate::text::push_refused_line;
@@ -46,16 +47,14 @@ fn without_spaces(alloc: Global, digits: &[u8]) -> Result<Vec<u8>, AllocError>
         .collect(alloc)
 }
 
-// The packet that the digits are.
-#[tactic(auto, unfolding(crate::specs::Reads::packet_of))]
-fn packet_of(alloc: Global, digits: &[u8]) -> Result<Packet, LineFault>
-    ensures { Gives LineFault.NoMemory (λ packet. packet) result (packet_of digits.now) }
+// The packet that the digits spell, with spaces between them.
+fn spaced_packet(alloc: Global, digits: &[u8]) -> Result<Packet, LineFault>
+    ensures { Gives LineFault.NoMemory (λ packet. packet) result (packet_of (without_spaces digits.now)) }
 {
     let Ok(digits) = without_spaces(alloc, digits) else {
         return Err(LineFault::NoMemory);
     };
-    let octets = octets_in(alloc, &digits)?;
-    packet_alone(alloc, &octets)
+    packet_of(alloc, &digits)
 }
 
 impl Reading {
@@ -144,9 +143,10 @@ impl Reading {
 
     // Reads a packet from its digits.
     fn digits(&mut self, alloc: Global, number: u64, digits: &[u8]) -> Result<(), NoMemory>
-        ensures { OnOk result (ShowsResult number (packet_of digits.now) self.old self.new) }
+        ensures { OnOk result (ShowsResult number (packet_of (without_spaces digits.now))
+            self.old self.new) }
     {
-        match packet_of(alloc, digits) {
+        match spaced_packet(alloc, digits) {
             Ok(packet) => self.packet(alloc, number, &packet),
             Err(LineFault::NoMemory) => Err(NoMemory),
             Err(fault) => self.refuse(number, fault),

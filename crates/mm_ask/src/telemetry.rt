@@ -3,7 +3,7 @@ ghost use Rattle.std.specs.Prelude.{◌≡◌, ◌<◌, IfOk};
 ghost use Rattle.mm_packet.specs.Packet.{IsTelecommand};
 ghost use Rattle.mm_packet.specs.Spelling.{spelling};
 ghost use Rattle.mm_st15.specs.Report.{HasCount};
-ghost use Rattle.mm_ask.specs.declared.counters.TheConstants.{SEQUENCE_COUNTS};
+ghost use Rattle.mm_packet.specs.declared.header.TheConstants.{SEQUENCE_COUNTS};
 ghost use Rattle.mm_ask.specs.Telemetry.{telemetry_of};
 
 use crate::counters::Numbers;

@@ -1,13 +1,12 @@
 -- What a line of a text of sources says.
-use Rattle.std.specs.Prelude.{ℕ, ◌≤◌, ◌==◌, nat_le, List, length, Result, Ok, Err}
+use Rattle.std.specs.Prelude.{ℕ, ◌≤◌, nat_le, List, length, Result, Ok, Err}
 use Rattle.std.specs.Option.{ok_or}
-use Rattle.hex.specs.Hex.{decode_of}
 use Rattle.mm_base.specs.declared.limits.TheConstants.{MAX_STEPS}
 use Rattle.mm_base.specs.Reading.{◌>>=◌, test}
 use Rattle.mm_packet.specs.Packet.{SpacePacket}
-use Rattle.mm_packet.specs.Reading.{packet_at}
 use Rattle.mm_packet.specs.Spelling.{spelling}
 use Rattle.mm_packet.specs.declared.block.TheConstants.{BLOCK}
+use Rattle.mm_ask.specs.Line.{packet_of}
 use Rattle.mm_run.specs.declared.source_line.SourceLine.{SourceLine}
 use Rattle.mm_run.specs.declared.source_line.TheConstants.{MAX_SOURCES}
 use Rattle.mm_run.specs.declared.script_fault.ScriptFault.{ScriptFault}
@@ -19,22 +18,12 @@ abbrev pub or_fault : {A E : Type 0} → ScriptFault → Result A E → Result A
 or_fault bad (Ok x) = Ok x
 or_fault bad (Err e) = Err bad
 
--- the octets that hexadecimal digits spell
-abbrev pub octets_in : ScriptFault → List ℕ → Result (List ℕ) ScriptFault
-octets_in bad digits = or_fault bad (decode_of digits)
-
--- the packet at the front of octets, and what follows it
-abbrev pub packet_at_front : ScriptFault → List ℕ → Result (SpacePacket × List ℕ) ScriptFault
-packet_at_front bad octets = or_fault bad (packet_at octets)
-
 -- the packet that hexadecimal digits spell, with nothing after it and no longer than a block
 unfoldable pub packet_in : ScriptFault → List ℕ → Result SpacePacket ScriptFault
 packet_in bad digits = do
-  octets ← octets_in bad digits
-  parts ← packet_at_front bad octets
-  alone ← test (length parts.1 == 0) bad
-  short ← test (nat_le (length (spelling parts.0)) BLOCK) bad
-  Ok parts.0
+  packet ← or_fault bad (packet_of digits)
+  short ← test (nat_le (length (spelling packet)) BLOCK) bad
+  Ok packet
 
 -- what a line `source step HEX` says
 unfoldable pub source_line_at : ScriptFault → List ℕ → Result SourceLine ScriptFault

@@ -1,7 +1,6 @@
 //! Reports that wait to be given.
 ghost use Rattle.std.specs.Prelude.{◌≡◌, ◌<◌, ◌≤◌, IfOk};
-ghost use Rattle.mm_packet.specs.declared.header.TheConstants.{IDLE_APID};
-ghost use Rattle.mm_ask.specs.declared.counters.TheConstants.{SEQUENCE_COUNTS};
+ghost use Rattle.mm_packet.specs.declared.header.TheConstants.{IDLE_APID, SEQUENCE_COUNTS};
 ghost use Rattle.mm_st15.specs.Report.{HasCount};
 ghost use Rattle.mm_service.specs.Waiting.{report_packet};
 
@@ -24,8 +23,7 @@ pub(crate) struct Waiting {
 impl Model for Waiting {
     ghost use Rattle.std.specs.Prelude.{◌<◌, ◌≤◌};
     ghost use Rattle.mm_packet.specs.Packet.{SpacePacket};
-    ghost use Rattle.mm_packet.specs.declared.header.TheConstants.{IDLE_APID};
-    ghost use Rattle.mm_ask.specs.declared.counters.TheConstants.{SEQUENCE_COUNTS};
+    ghost use Rattle.mm_packet.specs.declared.header.TheConstants.{IDLE_APID, SEQUENCE_COUNTS};
     ghost use Rattle.mm_service.specs.Waiting.{report_packet, entries_of, most_of};
 
     ghost Value = { SpacePacket };

@@ -1,7 +1,7 @@
 use Rattle.std.proofs.Common.{◌%◌, ◌^◌, ◌∙◌, length, refl, ap, zero-add}
 use Rattle.mm_st15.specs.declared.report_kind.ReportKind.{ReportKind}
 use Rattle.mm_st15.specs.declared.report_kind.ReportKind.TheVariants.{Control, Summaries, Statuses, Configurations}
-use Rattle.mm_ask.specs.declared.counters.TheConstants.{SEQUENCE_COUNTS}
+use Rattle.mm_packet.specs.declared.header.TheConstants.{SEQUENCE_COUNTS}
 use Rattle.mm_ask.specs.Counting.{no_counts, counter_of, how_many}
 use Rattle.mm_ask.proofs.CountLemmas.{sequence_from, counter_from}
 use Rattle.mm_ask.proofs.laws.numbers_count_reports.Goals as goal
