@@ -15,7 +15,7 @@ use Rattle.mm_dump.specs.Sending.{Sent, all_sent}
 use Rattle.mm_report.specs.declared.cause.Cause.{Cause}
 use Rattle.mm_report.specs.declared.cause.Cause.TheVariants.{LinkFailed}
 use Rattle.mm_exec.specs.Readiness.{RunStart}
-use Rattle.mm_exec.specs.declared.flight.Halted.{Halted}
+use Rattle.mm_exec.specs.declared.run_end.Halted.{Halted}
 use Rattle.mm_exec.specs.RunInput.{RunInput}
 use Rattle.mm_exec.specs.Step.{IsCauseIn}
 use Rattle.mm_exec.specs.Course.{IsRefusal}

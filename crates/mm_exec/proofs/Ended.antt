@@ -20,8 +20,8 @@ use Rattle.mm_report.specs.Report.{Reported, totals_of}
 use Rattle.mm_exec.specs.Readiness.{RunStart, run_start, MayBegin, Stops}
 use Rattle.mm_exec.specs.declared.course.RunStopped.{RunStopped}
 use Rattle.mm_exec.specs.declared.step.StepBroken.{StepBroken}
-use Rattle.mm_exec.specs.declared.flight.Flight.{Flight}
-use Rattle.mm_exec.specs.declared.flight.Halted.{Halted}
+use Rattle.mm_exec.specs.declared.run_end.RunEnd.{RunEnd}
+use Rattle.mm_exec.specs.declared.run_end.Halted.{Halted}
 use Rattle.mm_exec.specs.RunInput.{RunInput, as_came, step_orders}
 use Rattle.mm_exec.specs.Numbers.{report_of, rows_of, tally_of}
 use Rattle.mm_memory.specs.Laws.{ids_of}
@@ -162,20 +162,20 @@ module _ {S L : Type 0} (gives : S → ℕ → List SpacePacket) (sent : L → L
 
 -- what a run that was carried out leaves, once its stores are back in the memory
 pub carried_of : {S L : Type 0} (gives : S → ℕ → List SpacePacket) (sent : L → List Sent) (failed : L → ℕ) (m : RunInput) (plan : Table) (before after : RunState S L)
-    (memory : Holdings) (flight : Flight S L) → memory ≡ record m.memory { stores = after.stores } → flight.sources.items ≡ after.sources → flight.links.items ≡ after.links
-    → RunDone gives sent failed m before after flight.report → MayBegin (run_start_of m plan before)
-    → IsCarriedOut gives sent failed m plan before.sources before.links memory flight
-carried_of {S} {L} gives sent failed m plan before after memory flight back sources links run began =
+    (memory : Holdings) (ended : RunEnd S L) → memory ≡ record m.memory { stores = after.stores } → ended.sources.items ≡ after.sources → ended.links.items ≡ after.links
+    → RunDone gives sent failed m before after ended.report → MayBegin (run_start_of m plan before)
+    → IsCarriedOut gives sent failed m plan before.sources before.links memory ended
+carried_of {S} {L} gives sent failed m plan before after memory ended back sources links run began =
     let stores : memory.stores ≡ after.stores = ap (λ (h : Holdings). h.stores) back in
-    let left : after ≡ record { stores = memory.stores; sources = flight.sources.items; links = flight.links.items } =
+    let left : after ≡ record { stores = memory.stores; sources = ended.sources.items; links = ended.links.items } =
     λ i. record { stores = sym stores i; sources = sym sources i; links = sym links i } in
-    let done = subst (λ (x : RunState S L). StepsDone gives sent failed m before.sources before.links (length m.problem.windows) x flight.report) left run.done in
+    let done = subst (λ (x : RunState S L). StepsDone gives sent failed m before.sources before.links (length m.problem.windows) x ended.report) left run.done in
     record {
       began = began;
       routes = ap (λ (h : Holdings). h.routes) back;
       done = done;
       ready = subst AreReady (sym stores) run.ready;
-      total_lost = total_is m flight.report done.report_is;
+      total_lost = total_is m ended.report done.report_is;
     }
 
 -- in either case the stores have their identifiers, in order

@@ -12,7 +12,7 @@ use Rattle.mm_record.specs.declared.counters.Counters.{Counters}
 use Rattle.mm_record.specs.Counters.{counters_of}
 use Rattle.mm_report.specs.declared.tally.Tally.{Tally}
 use Rattle.mm_report.specs.Report.{Reported, totals_of}
-use Rattle.mm_exec.specs.RunInput.{RunInput, state_in}
+use Rattle.mm_exec.specs.RunInput.{RunInput, store_state}
 
 -- what a step brings to a store: what was forecast, what came, and what the plan loses, dumps and leaves of what came
 abbrev pub tally_of : Dumping → Dumping → Amounts → ℕ → ℕ → Tally
@@ -65,7 +65,7 @@ orders_of x places t n =
 
 -- what the stores of the problem have counted, in all
 abbrev pub counted : RunInput → (State → ℕ) → List Held → ℕ
-counted m counter held = sum_by (λ s. counter (state_in m held s)) (stores m.problem)
+counted m counter held = sum_by (λ s. counter (store_state m held s)) (stores m.problem)
 
 -- the totals of a report are what the stores' counters rose by since the run began
 pub record AreByCounters (m : RunInput) (held : List Held) (steps : List (List Tally)) : Type 0 where

@@ -1,6 +1,6 @@
 use Rattle.std.proofs.Common.{◌≡◌, ℕ}
 use Rattle.std.proofs.lemmas.Result.{IfErr-weaker}
-use Rattle.mm_exec.specs.declared.flight.Halted.{Halted}
+use Rattle.mm_exec.specs.declared.run_end.Halted.{Halted}
 use Rattle.mm_report.specs.declared.cause.Cause.TheVariants.{LinkFailed}
 use Rattle.callers.specs.Again.{GoesOutAgain}
 use Rattle.callers.specs.declared.ends.Burst.{Burst}

@@ -233,8 +233,8 @@ fn goes_on<R: Threads + Wait + Sync + Abort>(rt: &R, alloc: Global, both: &GoesO
     let Halted { sources, links, .. } = breaks(rt, &mut trial, broken);
     let mut next = Trial::new(rt, alloc, &then.task);
     next.memory = trial.memory;
-    let flight = next.flown(rt, sources, links, 10);
-    has_ended(rt, &next, &flight, then, 1);
+    let ended = next.flown(rt, sources, links, 10);
+    has_ended(rt, &next, &ended, then, 1);
 }
 
 #[test]
