@@ -15,7 +15,7 @@ use Rattle.mm_dump.specs.Laws.{BrokenOrdersChangeNothing}
 use Rattle.mm_dump.specs.Sending.{Sent}
 use Rattle.mm_report.specs.declared.cause.Cause.{Cause}
 use Rattle.mm_report.specs.declared.cause.Cause.TheVariants.{PlanShape, NotReady, SizeDiffers, OpeningDiffers, ChannelDiffers, ClockTooLate, PlanDoesNotFit, Counts, NoMemory, LinkFailed, LogMismatch}
-use Rattle.mm_report.specs.declared.tally.Tally.{Tally}
+use Rattle.mm_report.specs.declared.counts.StepCounts.{StepCounts}
 use Rattle.mm_report.specs.Report.{Reported, totals_of}
 use Rattle.mm_exec.specs.Readiness.{RunStart, run_start, MayBegin, Stops}
 use Rattle.mm_exec.specs.declared.course.RunStopped.{RunStopped}
@@ -23,7 +23,7 @@ use Rattle.mm_exec.specs.declared.step.StepBroken.{StepBroken}
 use Rattle.mm_exec.specs.declared.run_end.RunEnd.{RunEnd}
 use Rattle.mm_exec.specs.declared.run_end.Halted.{Halted}
 use Rattle.mm_exec.specs.RunInput.{RunInput, as_came, step_orders}
-use Rattle.mm_exec.specs.Numbers.{report_of, rows_of, tally_of}
+use Rattle.mm_exec.specs.Numbers.{report_of, rows_of, planned_counts}
 use Rattle.mm_memory.specs.Laws.{ids_of}
 use Rattle.mm_exec.specs.Step.{RunState, AreReady, StepBroke, StepStopped, NeverRefused}
 use Rattle.mm_exec.specs.Steps.{StepsDone}
@@ -85,10 +85,10 @@ refusals_are_none o (LinkFailed step) stops = λ t is. cc
 -- the lost packets of the rows are as many as the plan loses
 rows_lost : (q : Dumping) (came : Dumping) (x : Amounts) → (totals_of (rows_of q came x (length q.windows))).lost ≡ sum_by (λ s. sum_by (lost came x s) (steps q)) (stores q)
 rows_lost q came x =
-    let row = λ (t : ℕ). map (λ s. tally_of q came x s t) (stores q) in
-    sum_by-map (sum_by (λ (y : Tally). y.lost)) row (steps q)
-    ∙ sum_by-same (λ (t : ℕ). sum_by (λ (y : Tally). y.lost) (row t)) (λ t. sum_by (λ s. lost came x s t) (stores q)) (steps q)
-    (λ k d within. sum_by-map (λ (y : Tally). y.lost) (λ s. tally_of q came x s (get_or (steps q) k d)) (stores q))
+    let row = λ (t : ℕ). map (λ s. planned_counts q came x s t) (stores q) in
+    sum_by-map (sum_by (λ (y : StepCounts). y.lost)) row (steps q)
+    ∙ sum_by-same (λ (t : ℕ). sum_by (λ (y : StepCounts). y.lost) (row t)) (λ t. sum_by (λ s. lost came x s t) (stores q)) (steps q)
+    (λ k d within. sum_by-map (λ (y : StepCounts). y.lost) (λ s. planned_counts q came x s (get_or (steps q) k d)) (stores q))
     ∙ sum_by-swap (λ (t s : ℕ). lost came x s t) (steps q) (stores q)
 
 -- the total of the lost packets is the loss of the plan, with what came in place of the forecast

@@ -25,7 +25,7 @@ use Rattle.mm_record.specs.Steps.{given_in}
 use Rattle.mm_dump.specs.declared.order.Order.{Order}
 use Rattle.mm_dump.specs.Sending.{Sent, all_sent}
 use Rattle.mm_dump.specs.Dumped.{times, places_of, AllTook}
-use Rattle.mm_report.specs.declared.tally.Tally.{Tally}
+use Rattle.mm_report.specs.declared.counts.StepCounts.{StepCounts}
 use Rattle.mm_report.specs.Report.{Reported}
 use Rattle.mm_exec.proofs.Replays.{All-unmapped}
 use Rattle.mm_exec.specs.StepRuns.{IsStepRun}
@@ -34,7 +34,7 @@ use Rattle.mm_exec.specs.Laws.{IsRunOf, RunsLoseAsPlanned}
 use Rattle.mm_exec.specs.Places.{ArePlaces, AreApart}
 use Rattle.mm_exec.specs.RunInput.{RunInput, step_of, offered, as_came, place_in_memory, store_state, step_orders}
 use Rattle.mm_record.specs.Counters.{counters_of}
-use Rattle.mm_exec.specs.Numbers.{tally_from, tally_of, rows_of, row_from, orders_of, counted, AreByCounters}
+use Rattle.mm_exec.specs.Numbers.{counts_from, planned_counts, rows_of, row_from, orders_of, counted, AreByCounters}
 use Rattle.mm_exec.specs.Step.{RunState, StepDone}
 use Rattle.mm_exec.specs.Steps.{AreStepRuns, SourcesGave, LinksSent, StepsDone, sent_in}
 use Rattle.mm_exec.proofs.Coming.{came_at, timed_offers, map_range_same}
@@ -321,11 +321,11 @@ module _ {S L : Type 0} (gives : S → ℕ → List SpacePacket) (sent : L → L
         came = λ s t store first last. came_at m s t store first (omega arith);
       }
 
-      -- a store's tally is that of the plan
-      tally_is : (s : ℕ) → s < n
-          → tally_from m.problem s (suc k) (counters_of (opening_at (states_of before.stores) (slice_index places s))) (opening_at (states_of after.stores) (slice_index places s))
-          ≡ tally_of m.problem (as_came m) m.amounts s (suc k)
-      tally_is s store =
+      -- what the step brings to a store is what the plan says
+      counts_are : (s : ℕ) → s < n
+          → counts_from m.problem s (suc k) (counters_of (opening_at (states_of before.stores) (slice_index places s))) (opening_at (states_of after.stores) (slice_index places s))
+          ≡ planned_counts m.problem (as_came m) m.amounts s (suc k)
+      counts_are s store =
           let raw = law (as_came m) m.amounts (suc k) (offered m) (λ s t. gave_after (place_in_memory m s) t) (λ s t. store_state m (stores_after t) s) run_of s (suc k) store (omega arith) (omega arith) in
           let first = subst (λ (u : State). AsPlanned (as_came m) m.amounts s (suc k) u (store_state m (stores_after (suc k)) s)) (sym (state_before s store)) raw in
           let planned = subst (λ (u : State). AsPlanned (as_came m) m.amounts s (suc k) (opening_at (states_of before.stores) (slice_index places s)) u) (sym (state_after s store)) first in
@@ -336,17 +336,17 @@ module _ {S L : Type 0} (gives : S → ℕ → List SpacePacket) (sent : L → L
           λ i. record { forecast = arrivals m.problem s (suc k); arrived = arrived i; lost = lost_is i; dumped = dumped i; held = held i }
 
       -- the row of the step is that of the plan
-      row_is : row_from m.problem (suc k) places before.stores after.stores n ≡ map (λ s. tally_of m.problem (as_came m) m.amounts s (suc k)) (stores m.problem)
-      row_is = map_range_same _ _ 0 n (λ s from to. tally_is s (omega arith))
+      row_is : row_from m.problem (suc k) places before.stores after.stores n ≡ map (λ s. planned_counts m.problem (as_came m) m.amounts s (suc k)) (stores m.problem)
+      row_is = map_range_same _ _ 0 n (λ s from to. counts_are s (omega arith))
 
       -- the rows of one step more
       rows_more : rows_of m.problem (as_came m) m.amounts k ++ row_from m.problem (suc k) places before.stores after.stores n ∷ []
           ≡ rows_of m.problem (as_came m) m.amounts (suc k)
       rows_more =
-          let row = λ (t : ℕ). map (λ s. tally_of m.problem (as_came m) m.amounts s t) (stores m.problem) in
+          let row = λ (t : ℕ). map (λ s. planned_counts m.problem (as_came m) m.amounts s t) (stores m.problem) in
           let more : rows_of m.problem (as_came m) m.amounts (suc k) ≡ rows_of m.problem (as_came m) m.amounts k ++ row (suc k) ∷ [] =
           ap (map row) (range_with_len_more 1 k (suc k) (omega arith)) ∙ map-append row (range_with_len 1 k) (suc k ∷ []) in
-          ap (λ (r : List Tally). rows_of m.problem (as_came m) m.amounts k ++ r ∷ []) row_is ∙ sym more
+          ap (λ (r : List StepCounts). rows_of m.problem (as_came m) m.amounts k ++ r ∷ []) row_is ∙ sym more
 
       -- the counters of each store rise
       planned_at : (s : ℕ) → s < n → AsPlanned (as_came m) m.amounts s (suc k) (store_state m before.stores s) (store_state m after.stores s)
@@ -385,6 +385,6 @@ module _ {S L : Type 0} (gives : S → ℕ → List SpacePacket) (sent : L → L
         links_are = sent_on;
         report_is =
             is ∙ ap (λ (r : Reported). record r { steps = r.steps ++ row_from m.problem (suc k) places before.stores after.stores n ∷ [] }) done.report_is
-            ∙ ap (λ (rows : List (List Tally)). record { ids = map (λ r. r.id) m.problem.rows; most = length m.problem.windows; steps = rows }) rows_more;
+            ∙ ap (λ (rows : List (List StepCounts)). record { ids = map (λ r. r.id) m.problem.rows; most = length m.problem.windows; steps = rows }) rows_more;
         counted = subst (λ (r : Reported). AreByCounters m after.stores r.steps) (sym is) counted_on;
       }

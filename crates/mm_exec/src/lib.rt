@@ -13,7 +13,7 @@ mod room;
 mod run;
 mod run_end;
 mod step;
-mod tallies;
+mod step_counts;
 
 pub use flying::fly;
 pub use laws::{

@@ -12,7 +12,7 @@ use crate::readiness::ready;
 use crate::room::reserve_run;
 use crate::run_end::{Halted, RunEnd};
 use crate::step::StepBroken;
-use crate::tallies::read_states;
+use crate::step_counts::read_states;
 use mm_desk::Held;
 use mm_dump::Link;
 use mm_dump::laws::broken_orders_change_nothing;

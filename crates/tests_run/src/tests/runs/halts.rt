@@ -9,7 +9,7 @@ use crate::tests::runs::trials::{
 use crate::tests::sources::{Script, all_have_left, scripts};
 use mm_dump::MemoryLink;
 use mm_exec::{Cause, Halted};
-use mm_report::{Report, Tally};
+use mm_report::{Report, StepCounts};
 use std::alloc::Global;
 use std::process::Abort;
 use std::sync::Wait;
@@ -164,7 +164,7 @@ const FOURTH_SEND_FAILS: Broken = Broken {
 
 static IN_STEP_2: [Broken; 2] = [THIRD_SEND_FAILS, FOURTH_SEND_FAILS];
 
-static ROW_OF_STEP_1: Tally = Tally {
+static ROW_OF_STEP_1: StepCounts = StepCounts {
     forecast: 3,
     arrived: 3,
     lost: 0,

@@ -8,7 +8,7 @@ use crate::tests::samples::id;
 use crate::tests::sources::{Script, all_have_left, scripts};
 use mm_dump::MemoryLink;
 use mm_exec::{Cause, RunEnd};
-use mm_report::{Report, Tally};
+use mm_report::{Report, StepCounts};
 use std::alloc::Global;
 use std::process::Abort;
 use std::sync::Wait;
@@ -119,7 +119,7 @@ pub(crate) static MORE_IN_STEP_3: Run = run! {
     left!("SCI", [11, 3, 4], [(5, 5), (6, 6), (7, 7), (8, 8)], [1, 2, 3, 4])
 };
 
-static LAST_OF_MORE: Tally = Tally {
+static LAST_OF_MORE: StepCounts = StepCounts {
     forecast: 4,
     arrived: 5,
     lost: 3,
@@ -128,7 +128,7 @@ static LAST_OF_MORE: Tally = Tally {
 };
 
 // The report is of the store SCI and of this many steps, of which the last has this row.
-pub(crate) fn has_last_row(rt: &impl Abort, report: &Report, steps: u32, last: &Tally) {
+pub(crate) fn has_last_row(rt: &impl Abort, report: &Report, steps: u32, last: &StepCounts) {
     assert!(rt; report.ids() == [id(rt, "SCI")].as_slice(), "the store");
     assert!(rt; steps > 0 && report.steps() == steps, "{steps} steps");
     assert!(rt; report.row(steps) == [*last].as_slice(), "the last row");
