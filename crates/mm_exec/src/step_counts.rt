@@ -41,8 +41,8 @@ pub(crate) fn all_counters(places: &[usize], stores: &[Held]) -> [Counters; MAX_
         lost: 0,
         deleted: 0,
     }; MAX_STORES];
-    for store in 0..places.len() {
-        counters[store] = Counters::of(state_at(stores, places[store]));
+    for (store, place) in places.iter().enumerate() {
+        counters[store] = Counters::of(state_at(stores, *place));
     }
     counters
 }
@@ -87,8 +87,8 @@ pub(crate) fn step_counts(
         dumped: 0,
         held: 0,
     }; MAX_STORES];
-    for store in 0..places.len() {
-        let state = state_at(stores, places[store]);
+    for (store, place) in places.iter().enumerate() {
+        let state = state_at(stores, *place);
         counts[store] = counts_of(problem, store, step, before[store], state);
     }
     counts
