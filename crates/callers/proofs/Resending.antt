@@ -1,5 +1,5 @@
 -- What a link took last in a step that a failed link halted.
-use Rattle.std.proofs.Common.{◌≡◌, ◌⊎◌, inl, inr, ℕ, zero, suc, ◌+◌, ◌<◌, List, [], ◌∷◌, ◌++◌, length, map, refl, sym, ap, subst, ◌∙◌, arith, append_assoc}
+use Rattle.std.proofs.Common.{◌≡◌, inl, inr, ℕ, ◌+◌, List, [], ◌∷◌, ◌++◌, length, map, sym, ap, subst, ◌∙◌, arith, append_assoc}
 use Rattle.std.specs.Prelude.{flat_map, slice_index_or}
 use Rattle.std.proofs.lemmas.List.{map-append, append-nil, length-map}
 use Rattle.std.proofs.lemmas.Simd.{map-map}
@@ -12,7 +12,6 @@ use Rattle.mm_memory.specs.Holdings.{Holdings}
 use Rattle.mm_memory.specs.Laws.{ids_of}
 use Rattle.mm_dump.specs.Courses.{Course, sent_by}
 use Rattle.mm_dump.specs.Sending.{Sent, all_sent}
-use Rattle.mm_report.specs.declared.cause.Cause.{Cause}
 use Rattle.mm_report.specs.declared.cause.Cause.TheVariants.{LinkFailed}
 use Rattle.mm_exec.specs.Readiness.{RunStart}
 use Rattle.mm_exec.specs.declared.run_end.Halted.{Halted}
