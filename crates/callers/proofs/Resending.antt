@@ -1,24 +1,24 @@
 -- What a link took last in a step that a failed link halted.
-use Rattle.std.proofs.Common.{◌≡◌, ◌⊎◌, inl, inr, ℕ, zero, suc, ◌+◌, ◌<◌, List, [], ◌∷◌, ◌++◌, length, map, refl, sym, ap, subst, ◌∙◌, arith, append_assoc}
+use Rattle.std.proofs.Common.{◌≡◌, inl, inr, ℕ, ◌+◌, List, [], ◌∷◌, ◌++◌, length, map, sym, ap, subst, ◌∙◌, arith, append_assoc}
 use Rattle.std.specs.Prelude.{flat_map, slice_index_or}
 use Rattle.std.proofs.lemmas.List.{map-append, append-nil, length-map}
+use Rattle.std.proofs.lemmas.Simd.{map-map}
 use Rattle.std.proofs.lemmas.Grind.{flat_map-append}
 use Rattle.mm_packet.specs.Packet.{SpacePacket}
 use Rattle.mm_plan.specs.Table.{Table}
+use Rattle.mm_desk.specs.declared.held.Held.{Held}
 use Rattle.mm_shared.specs.Stores.{id_at}
 use Rattle.mm_memory.specs.Holdings.{Holdings}
 use Rattle.mm_memory.specs.Laws.{ids_of}
 use Rattle.mm_dump.specs.Courses.{Course, sent_by}
 use Rattle.mm_dump.specs.Sending.{Sent, all_sent}
-use Rattle.mm_report.specs.declared.cause.Cause.{Cause}
 use Rattle.mm_report.specs.declared.cause.Cause.TheVariants.{LinkFailed}
 use Rattle.mm_exec.specs.Readiness.{RunStart}
-use Rattle.mm_exec.specs.declared.flight.Halted.{Halted}
+use Rattle.mm_exec.specs.declared.run_end.Halted.{Halted}
 use Rattle.mm_exec.specs.RunInput.{RunInput}
 use Rattle.mm_exec.specs.Step.{IsCauseIn}
 use Rattle.mm_exec.specs.Course.{IsRefusal}
 use Rattle.mm_exec.specs.Ending.{IsHalted, IsHaltedIn}
-use Rattle.mm_exec.proofs.Parts.{same_ids}
 use Rattle.callers.specs.Again.{GoesOutAgain, sent_over}
 use Rattle.callers.specs.declared.ends.Burst.{Burst}
 use Rattle.callers.specs.declared.ends.Downlink.{Downlink}
@@ -46,7 +46,9 @@ module _ (gives : Burst → ℕ → List SpacePacket) (m : RunInput) (plan : Tab
       let carried = failed.links.links l failed.links.some.1 in
       let course = failed.links.settled.course in
       let old = slice_index_or (map sent_over was.before.links) l [] in
-      let ids : ids_of was.before.stores ≡ ids_of memory.stores = sym (same_ids memory.stores was.before.stores was.stopped.labels) in
+      let ids_in = map-map (λ (label : List ℕ × ℕ). label.0) (λ (h : Held). (h.id, h.channel)) in
+      let ids : ids_of was.before.stores ≡ ids_of memory.stores =
+      sym (ids_in was.before.stores) ∙ ap (map (λ (label : List ℕ × ℕ). label.0)) (sym was.stopped.labels) ∙ ids_in memory.stores in
       let many : length was.before.links ≡ length links =
       sym (length-map was.before.links failed_of) ∙ ap length was.done.links_are.no_failure ∙ length-map links failed_of in
       record {

@@ -6,13 +6,13 @@ ghost use Rattle.mm_report.specs.declared.cause.Cause.TheVariants.{NoMemory};
 ghost use Rattle.mm_exec.specs.Flying.{AsForecast, Flies, FliesNot};
 ghost use Rattle.mm_planner.specs.PlanTexts.{PlansFor};
 ghost use Rattle.mm_exec.specs.RunInput.{run_input};
-ghost use Rattle.mm_exec.specs.declared.flight.NotFlown.{NotFlown};
+ghost use Rattle.mm_exec.specs.declared.run_end.FlyHalted.{FlyHalted};
 ghost use Rattle.callers.specs.declared.ends.Burst.{Burst};
 ghost use Rattle.callers.specs.declared.ends.Downlink.{Downlink};
 
 use crate::ends::{Burst, Downlink};
 use mm_dump::Link;
-use mm_exec::{Cause, Flown, NotFlown, fly};
+use mm_exec::{Cause, Flown, FlyHalted, fly};
 use mm_memory::Memory;
 use mm_problem::{Problem, Setup};
 use mm_record::Source;
@@ -44,7 +44,7 @@ pub fn plan_and_fly<R: Threads + Wait + Sync>(
     ensures flown { IfOk result (λ told. (left : Holdings)
         × Flies ⟦<Burst as Source>⟧.gives ⟦<Downlink as Link>⟧.sent ⟦<Downlink as Link>⟧.failed
         problem.now 0 (memory_of setup.now) sources.items links.items left told.flown) }
-    ensures halted { IfErr result (λ cause. (cause ≡ NoMemory 0) ⊎ ((left : Holdings) × (ended : NotFlown Burst Downlink)
+    ensures halted { IfErr result (λ cause. (cause ≡ NoMemory 0) ⊎ ((left : Holdings) × (ended : FlyHalted Burst Downlink)
         × FliesNot ⟦<Burst as Source>⟧.gives ⟦<Downlink as Link>⟧.sent ⟦<Downlink as Link>⟧.failed
         problem.now 0 (memory_of setup.now) sources.items links.items left ended
         × (cause ≡ ended.halted.cause))) }
@@ -57,6 +57,6 @@ pub fn plan_and_fly<R: Threads + Wait + Sync>(
             lost: flown.report.totals().lost,
             flown,
         }),
-        Err(NotFlown { halted, .. }) => Err(halted.cause),
+        Err(FlyHalted { halted, .. }) => Err(halted.cause),
     }
 }

@@ -5,7 +5,7 @@ ghost use Rattle.callers.specs.Again.{GoesOutAgain};
 
 use crate::ends::{Burst, Downlink};
 use mm_dump::may_fail;
-use mm_exec::{Flight, Halted, carry_out};
+use mm_exec::{Halted, RunEnd, carry_out};
 use mm_memory::Memory;
 use mm_plan::Plan;
 use mm_problem::Problem;
@@ -22,7 +22,7 @@ pub fn carry_out_or_tell<R: Threads + Wait + Sync>(
     plan: &Plan,
     sources: Vec<Burst>,
     links: Vec<Downlink>,
-) -> Result<Flight<Burst, Downlink>, Halted<Burst, Downlink>>
+) -> Result<RunEnd<Burst, Downlink>, Halted<Burst, Downlink>>
     requires links { All (λ l. l.failed < 2 ^ 64 - 1) links.items }
     // The packets that some link took last went out, and go out again.
     ensures again { IfErr result (λ halted. (step : ℕ) → halted.cause ≡ LinkFailed step → GoesOutAgain links.items halted.links.items memory.new) }
@@ -39,7 +39,7 @@ pub fn carry_out_over_used<R: Threads + Wait + Sync>(
     plan: &Plan,
     sources: Vec<Burst>,
     links: Vec<Downlink>,
-) -> Option<Result<Flight<Burst, Downlink>, Halted<Burst, Downlink>>>
+) -> Option<Result<RunEnd<Burst, Downlink>, Halted<Burst, Downlink>>>
     ensures tested { IsSome result ↔ All (λ l. l.failed < 2 ^ 64 - 1) links.items }
     ensures nothing { IfNone result (memory.new ≡ memory.old) }
     ensures again { IfSome result (λ ended. IfErr ended (λ halted. (step : ℕ) → halted.cause ≡ LinkFailed step

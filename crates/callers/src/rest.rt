@@ -9,7 +9,7 @@ ghost use Rattle.callers.specs.Remaining.{held_by, held_in, rest_in, SaysLeast};
 
 use mm_base::StoreId;
 use mm_dump::Link;
-use mm_exec::{Flown, NotFlown, fly};
+use mm_exec::{Flown, FlyHalted, fly};
 use mm_memory::Memory;
 use mm_problem::{Fault, Problem};
 use mm_record::{Later, Source, later_sources};
@@ -56,7 +56,7 @@ pub fn rest_in(
 
 /// Why the rest was not flown.
 #[derive(Drop)]
-pub enum RestNotFlown<S: Drop, L: Drop> {
+pub enum RestError<S: Drop, L: Drop> {
     /// There was no memory, or the stores hold more than the problem's have room for. Nothing was done.
     Refused {
         fault: Fault,
@@ -64,7 +64,7 @@ pub enum RestNotFlown<S: Drop, L: Drop> {
         links: Vec<L>,
     },
     /// Its run did not begin, or was halted in its turn.
-    Halted(NotFlown<Later<S>, L>),
+    Halted(FlyHalted<Later<S>, L>),
 }
 
 /// Plans the steps after this one anew, from what the stores hold, and flies that plan. `now` is the moment of this step.
@@ -77,7 +77,7 @@ pub fn fly_the_rest<S: Source + Send + Drop, L: Link + Send + Drop, R: Threads +
     sources: Vec<S>,
     links: Vec<L>,
     now: u64,
-) -> Result<Flown<Later<S>, L>, RestNotFlown<S, L>>
+) -> Result<Flown<Later<S>, L>, RestError<S, L>>
     requires before_last { step < length problem.now.windows }
     requires links { All (λ l. L.failed l < 2 ^ 64 - 1) links.items }
     // No plan that fits the steps that are left loses fewer blocks of what the stores hold and of what is to come.
@@ -88,7 +88,7 @@ pub fn fly_the_rest<S: Source + Send + Drop, L: Link + Send + Drop, R: Threads +
     let rest = match rest_in(alloc, problem, step, memory) {
         Ok(rest) => rest,
         Err(fault) => {
-            return Err(RestNotFlown::Refused {
+            return Err(RestError::Refused {
                 fault,
                 sources,
                 links,
@@ -98,7 +98,7 @@ pub fn fly_the_rest<S: Source + Send + Drop, L: Link + Send + Drop, R: Threads +
     let later = match later_sources(alloc, sources, step) {
         Ok(later) => later,
         Err((sources, _)) => {
-            return Err(RestNotFlown::Refused {
+            return Err(RestError::Refused {
                 fault: Fault::NoMemory,
                 sources,
                 links,
@@ -107,6 +107,6 @@ pub fn fly_the_rest<S: Source + Send + Drop, L: Link + Send + Drop, R: Threads +
     };
     match fly(rt, alloc, memory, &rest, later, links, now) {
         Ok(flown) => Ok(flown),
-        Err(ended) => Err(RestNotFlown::Halted(ended)),
+        Err(ended) => Err(RestError::Halted(ended)),
     }
 }

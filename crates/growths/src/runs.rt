@@ -5,7 +5,7 @@ use crate::met::Met;
 use crate::traces::{Traces, traces_of};
 use mm_base::StoreId;
 use mm_dump::may_fail;
-use mm_exec::{Cause, Flown, Halted, NotFlown, carry_out, fly};
+use mm_exec::{Cause, Flown, FlyHalted, Halted, carry_out, fly};
 use mm_memory::Memory;
 use mm_plan::Sheet;
 use mm_problem::{Problem, Setup};
@@ -216,14 +216,14 @@ fn carried<R: Threads + Wait + Sync>(rt: &R, alloc: Global, stage: Stage, sheet:
     }
     let plan = sheet.plan();
     match carry_out(rt, alloc, &mut memory, &problem, plan, sources, links, 0) {
-        Ok(mut flight) => {
+        Ok(mut ended) => {
             let want = (11, ELEVEN_CAME);
             whole(
                 alloc,
                 &memory,
-                &flight.report,
-                &mut flight.sources,
-                &flight.links,
+                &ended.report,
+                &mut ended.sources,
+                &ended.links,
                 want,
             )
         }
@@ -284,8 +284,8 @@ fn flown(alloc: Global, memory: &Memory, mut done: Flown<ScriptedSource, TestLin
 }
 
 // What came of a run that was halted, or not planned.
-fn not_flown(alloc: Global, memory: &Memory, end: NotFlown<ScriptedSource, TestLink>) -> Met {
-    let NotFlown { sheet, halted } = end;
+fn not_flown(alloc: Global, memory: &Memory, end: FlyHalted<ScriptedSource, TestLink>) -> Met {
+    let FlyHalted { sheet, halted } = end;
     if sheet.is_empty() {
         return unplanned(memory, halted);
     }

@@ -15,15 +15,15 @@ use Rattle.mm_dump.specs.Laws.{BrokenOrdersChangeNothing}
 use Rattle.mm_dump.specs.Sending.{Sent}
 use Rattle.mm_report.specs.declared.cause.Cause.{Cause}
 use Rattle.mm_report.specs.declared.cause.Cause.TheVariants.{PlanShape, NotReady, SizeDiffers, OpeningDiffers, ChannelDiffers, ClockTooLate, PlanDoesNotFit, Counts, NoMemory, LinkFailed, LogMismatch}
-use Rattle.mm_report.specs.declared.tally.Tally.{Tally}
+use Rattle.mm_report.specs.declared.counts.StepCounts.{StepCounts}
 use Rattle.mm_report.specs.Report.{Reported, totals_of}
 use Rattle.mm_exec.specs.Readiness.{RunStart, run_start, MayBegin, Stops}
 use Rattle.mm_exec.specs.declared.course.RunStopped.{RunStopped}
 use Rattle.mm_exec.specs.declared.step.StepBroken.{StepBroken}
-use Rattle.mm_exec.specs.declared.flight.Flight.{Flight}
-use Rattle.mm_exec.specs.declared.flight.Halted.{Halted}
+use Rattle.mm_exec.specs.declared.run_end.RunEnd.{RunEnd}
+use Rattle.mm_exec.specs.declared.run_end.Halted.{Halted}
 use Rattle.mm_exec.specs.RunInput.{RunInput, as_came, step_orders}
-use Rattle.mm_exec.specs.Numbers.{report_of, rows_of, tally_of}
+use Rattle.mm_exec.specs.Numbers.{report_of, rows_of, planned_counts}
 use Rattle.mm_memory.specs.Laws.{ids_of}
 use Rattle.mm_exec.specs.Step.{RunState, AreReady, StepBroke, StepStopped, NeverRefused}
 use Rattle.mm_exec.specs.Steps.{StepsDone}
@@ -85,10 +85,10 @@ refusals_are_none o (LinkFailed step) stops = λ t is. cc
 -- the lost packets of the rows are as many as the plan loses
 rows_lost : (q : Dumping) (came : Dumping) (x : Amounts) → (totals_of (rows_of q came x (length q.windows))).lost ≡ sum_by (λ s. sum_by (lost came x s) (steps q)) (stores q)
 rows_lost q came x =
-    let row = λ (t : ℕ). map (λ s. tally_of q came x s t) (stores q) in
-    sum_by-map (sum_by (λ (y : Tally). y.lost)) row (steps q)
-    ∙ sum_by-same (λ (t : ℕ). sum_by (λ (y : Tally). y.lost) (row t)) (λ t. sum_by (λ s. lost came x s t) (stores q)) (steps q)
-    (λ k d within. sum_by-map (λ (y : Tally). y.lost) (λ s. tally_of q came x s (get_or (steps q) k d)) (stores q))
+    let row = λ (t : ℕ). map (λ s. planned_counts q came x s t) (stores q) in
+    sum_by-map (sum_by (λ (y : StepCounts). y.lost)) row (steps q)
+    ∙ sum_by-same (λ (t : ℕ). sum_by (λ (y : StepCounts). y.lost) (row t)) (λ t. sum_by (λ s. lost came x s t) (stores q)) (steps q)
+    (λ k d within. sum_by-map (λ (y : StepCounts). y.lost) (λ s. planned_counts q came x s (get_or (steps q) k d)) (stores q))
     ∙ sum_by-swap (λ (t s : ℕ). lost came x s t) (steps q) (stores q)
 
 -- the total of the lost packets is the loss of the plan, with what came in place of the forecast
@@ -162,20 +162,20 @@ module _ {S L : Type 0} (gives : S → ℕ → List SpacePacket) (sent : L → L
 
 -- what a run that was carried out leaves, once its stores are back in the memory
 pub carried_of : {S L : Type 0} (gives : S → ℕ → List SpacePacket) (sent : L → List Sent) (failed : L → ℕ) (m : RunInput) (plan : Table) (before after : RunState S L)
-    (memory : Holdings) (flight : Flight S L) → memory ≡ record m.memory { stores = after.stores } → flight.sources.items ≡ after.sources → flight.links.items ≡ after.links
-    → RunDone gives sent failed m before after flight.report → MayBegin (run_start_of m plan before)
-    → IsCarriedOut gives sent failed m plan before.sources before.links memory flight
-carried_of {S} {L} gives sent failed m plan before after memory flight back sources links run began =
+    (memory : Holdings) (ended : RunEnd S L) → memory ≡ record m.memory { stores = after.stores } → ended.sources.items ≡ after.sources → ended.links.items ≡ after.links
+    → RunDone gives sent failed m before after ended.report → MayBegin (run_start_of m plan before)
+    → IsCarriedOut gives sent failed m plan before.sources before.links memory ended
+carried_of {S} {L} gives sent failed m plan before after memory ended back sources links run began =
     let stores : memory.stores ≡ after.stores = ap (λ (h : Holdings). h.stores) back in
-    let left : after ≡ record { stores = memory.stores; sources = flight.sources.items; links = flight.links.items } =
+    let left : after ≡ record { stores = memory.stores; sources = ended.sources.items; links = ended.links.items } =
     λ i. record { stores = sym stores i; sources = sym sources i; links = sym links i } in
-    let done = subst (λ (x : RunState S L). StepsDone gives sent failed m before.sources before.links (length m.problem.windows) x flight.report) left run.done in
+    let done = subst (λ (x : RunState S L). StepsDone gives sent failed m before.sources before.links (length m.problem.windows) x ended.report) left run.done in
     record {
       began = began;
       routes = ap (λ (h : Holdings). h.routes) back;
       done = done;
       ready = subst AreReady (sym stores) run.ready;
-      total_lost = total_is m flight.report done.report_is;
+      total_lost = total_is m ended.report done.report_is;
     }
 
 -- in either case the stores have their identifiers, in order

@@ -1,6 +1,5 @@
 -- What was printed is what is lost.
-use Rattle.std.proofs.Common.{◌≡◌, ℕ, zero, suc, ◌+◌, ◌-◌, ◌<◌, ◌≤◌, min, List, length, sym, ap, subst, ◌∙◌, arith}
-use Rattle.std.specs.Prelude.{pos}
+use Rattle.std.proofs.Common.{◌≡◌, ℕ, zero, suc, ◌+◌, ◌-◌, ◌<◌, ◌≤◌, min, List, length, sym, ap, ◌∙◌, arith}
 use Rattle.mm_base.proofs.RangeSums.{sum_by_range_same}
 use Rattle.mm_problem.specs.Dumping.{Dumping, size, arrivals}
 use Rattle.mm_plan.specs.Table.{amount}

@@ -4,7 +4,6 @@ pub mod Times
 pub mod Stepping
 pub mod Adding
 pub mod Drawing
-pub mod Found
 pub mod Placing
 pub mod Parts
 pub mod Firsts

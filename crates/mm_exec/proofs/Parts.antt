@@ -5,6 +5,7 @@ use Rattle.std.specs.List.{AllZip}
 use Rattle.std.proofs.lemmas.List.{length-map, append-nil}
 use Rattle.std.proofs.lemmas.Option.{same_Some}
 use Rattle.std.proofs.lemmas.List.Elements.{All-head, All-tail}
+use Rattle.std.proofs.lemmas.Simd.{map-map}
 use Rattle.mm_packet.specs.Packet.{SpacePacket}
 use Rattle.mm_desk.specs.declared.fault.Fault.{Fault}
 use Rattle.mm_desk.specs.declared.fault.Fault.TheVariants as fault
@@ -28,16 +29,6 @@ pub on_ok : {A E : Type 0} (P : Type 0) (r : Result A E) → P → OnOk r P
 on_ok P (Ok x) p = p
 on_ok P (Err e) p = tt
 
--- what follows from what holds where a call answers Ok
-pub ok_follows : {A E : Type 0} (P Q : Type 0) (r : Result A E) → OnOk r P → (P → Q) → OnOk r Q
-ok_follows P Q (Ok x) p follows = follows p
-ok_follows P Q (Err e) p follows = tt
-
--- what follows for its refusal
-pub err_follows : {A E : Type 0} (P Q : E → Type 0) (r : Result A E) → IfErr r P → ((e : E) → P e → Q e) → IfErr r Q
-err_follows P Q (Ok x) p follows = tt
-err_follows P Q (Err e) p follows = follows e p
-
 -- what follows in either case
 pub both_follow : {A E : Type 0} (P Q : Type 0) (R : E → Type 0) (r : Result A E) → OnOk r P → IfErr r R → (P → Q) → ((e : E) → R e → Q) → Q
 both_follow P Q R (Ok x) p e first second = first p
@@ -45,11 +36,9 @@ both_follow P Q R (Err e) p r first second = second e r
 
 -- stores with the same labels have the same identifiers
 pub same_ids : (xs ys : List Held) → labels_of xs ≡ labels_of ys → map (λ (h : Held). h.id) xs ≡ map (λ (h : Held). h.id) ys
-same_ids xs ys same = sym (ids_in xs) ∙ ap (map (λ (l : List ℕ × ℕ). l.0)) same ∙ ids_in ys
-  where
-    ids_in : (xs : List Held) → map (λ (l : List ℕ × ℕ). l.0) (labels_of xs) ≡ map (λ (h : Held). h.id) xs
-    ids_in [] = refl
-    ids_in (x ∷ xs) = ap (λ (ids : List (List ℕ)). x.id ∷ ids) (ids_in xs)
+same_ids xs ys same =
+    let ids_in = map-map (λ (l : List ℕ × ℕ). l.0) (λ (h : Held). (h.id, h.channel)) in
+    sym (ids_in xs) ∙ ap (map (λ (l : List ℕ × ℕ). l.0)) same ∙ ids_in ys
 
 -- stores with the same labels are as many
 pub as_many : (xs ys : List Held) → labels_of xs ≡ labels_of ys → length xs ≡ length ys

@@ -25,16 +25,16 @@ use Rattle.mm_record.specs.Steps.{given_in}
 use Rattle.mm_dump.specs.declared.order.Order.{Order}
 use Rattle.mm_dump.specs.Sending.{Sent, all_sent}
 use Rattle.mm_dump.specs.Dumped.{times, places_of, AllTook}
-use Rattle.mm_report.specs.declared.tally.Tally.{Tally}
+use Rattle.mm_report.specs.declared.counts.StepCounts.{StepCounts}
 use Rattle.mm_report.specs.Report.{Reported}
 use Rattle.mm_exec.proofs.Replays.{All-unmapped}
 use Rattle.mm_exec.specs.StepRuns.{IsStepRun}
 use Rattle.mm_exec.specs.AsPlanned.{IsReady, AsPlanned}
 use Rattle.mm_exec.specs.Laws.{IsRunOf, RunsLoseAsPlanned}
 use Rattle.mm_exec.specs.Places.{ArePlaces, AreApart}
-use Rattle.mm_exec.specs.RunInput.{RunInput, step_of, offered, as_came, place_in_memory, state_in, step_orders}
+use Rattle.mm_exec.specs.RunInput.{RunInput, step_of, offered, as_came, place_in_memory, store_state, step_orders}
 use Rattle.mm_record.specs.Counters.{counters_of}
-use Rattle.mm_exec.specs.Numbers.{tally_from, tally_of, rows_of, row_from, orders_of, counted, AreByCounters}
+use Rattle.mm_exec.specs.Numbers.{counts_from, planned_counts, rows_of, row_from, orders_of, counted, AreByCounters}
 use Rattle.mm_exec.specs.Step.{RunState, StepDone}
 use Rattle.mm_exec.specs.Steps.{AreStepRuns, SourcesGave, LinksSent, StepsDone, sent_in}
 use Rattle.mm_exec.proofs.Coming.{came_at, timed_offers, map_range_same}
@@ -108,7 +108,7 @@ pub record Footing {S : Type 0} (gives : S → ℕ → List SpacePacket) (m : Ru
   pub gives_are : m.gives ≡ map gives sources
   pub stand_at : ArePlaces m.problem m.memory.stores (length m.problem.rows) places
   pub apart : AreApart places (length m.problem.rows)
-  pub ready : (s : ℕ) → s < length m.problem.rows → IsReady m.problem s (state_in m m.memory.stores s)
+  pub ready : (s : ℕ) → s < length m.problem.rows → IsReady m.problem s (store_state m m.memory.stores s)
   pub early : m.base + length m.problem.windows < 2 ^ 64
 
 module _ {S L : Type 0} (gives : S → ℕ → List SpacePacket) (sent : L → List Sent) (failed : L → ℕ) (m : RunInput) (sources : List S) (links : List L) (places : List ℕ)
@@ -149,12 +149,12 @@ module _ {S L : Type 0} (gives : S → ℕ → List SpacePacket) (sent : L → L
     at_old t within = extend-other (suc k) after.stores done.stores t (λ same. omega (arith, same))
 
     -- the state of a store before the step and after it
-    state_before : (s : ℕ) → s < n → opening_at (states_of before.stores) (slice_index places s) ≡ state_in m (stores_after (suc k - 1)) s
+    state_before : (s : ℕ) → s < n → opening_at (states_of before.stores) (slice_index places s) ≡ store_state m (stores_after (suc k - 1)) s
     state_before s store =
         ap (λ (j : ℕ). opening_at (states_of before.stores) j) (footing.stand_at s store).is
         ∙ ap (λ (held : List Held). opening_at (states_of held) (place_in_memory m s)) (sym at_last)
 
-    state_after : (s : ℕ) → s < n → opening_at (states_of after.stores) (slice_index places s) ≡ state_in m (stores_after (suc k)) s
+    state_after : (s : ℕ) → s < n → opening_at (states_of after.stores) (slice_index places s) ≡ store_state m (stores_after (suc k)) s
     state_after s store =
         ap (λ (j : ℕ). opening_at (states_of after.stores) j) (footing.stand_at s store).is
         ∙ ap (λ (held : List Held). opening_at (states_of held) (place_in_memory m s)) (sym at_new)
@@ -178,7 +178,7 @@ module _ {S L : Type 0} (gives : S → ℕ → List SpacePacket) (sent : L → L
 
     -- the step run of a store
     step_run : (s : ℕ) → s < n
-        → IsStepRun (offered m s (suc k)) (m.amounts s (suc k)) (gave_after (place_in_memory m s) (suc k)) (state_in m (stores_after (suc k - 1)) s) (state_in m (stores_after (suc k)) s)
+        → IsStepRun (offered m s (suc k)) (m.amounts s (suc k)) (gave_after (place_in_memory m s) (suc k)) (store_state m (stores_after (suc k - 1)) s) (store_state m (stores_after (suc k)) s)
     step_run s store =
         let p = slice_index places s in
         let many : length after.stores ≡ length m.memory.stores = as_many after.stores m.memory.stores (stepped.labels ∙ labels_before) in
@@ -195,19 +195,19 @@ module _ {S L : Type 0} (gives : S → ℕ → List SpacePacket) (sent : L → L
 
     -- each step, this one or an earlier one
     each_run : (s t : ℕ) → s < n → 1 ≤ t → t ≤ suc k
-        → IsStepRun (offered m s t) (m.amounts s t) (gave_after (place_in_memory m s) t) (state_in m (stores_after (t - 1)) s) (state_in m (stores_after t) s)
+        → IsStepRun (offered m s t) (m.amounts s t) (gave_after (place_in_memory m s) t) (store_state m (stores_after (t - 1)) s) (store_state m (stores_after t) s)
     each_run s t store first last = by_step (cases_lt t (suc k))
       where
         by_step : (t < suc k) ⊎ (suc k ≤ t)
-            → IsStepRun (offered m s t) (m.amounts s t) (gave_after (place_in_memory m s) t) (state_in m (stores_after (t - 1)) s) (state_in m (stores_after t) s)
+            → IsStepRun (offered m s t) (m.amounts s t) (gave_after (place_in_memory m s) t) (store_state m (stores_after (t - 1)) s) (store_state m (stores_after t) s)
         by_step (inl earlier) =
             run_as _ _ _ _ _ _ _ _ _ _ refl refl (sym (gave_old (place_in_memory m s) t (λ same. omega (arith, same))))
-            (ap (λ (held : List Held). state_in m held s) (sym (at_old (t - 1) (omega arith))))
-            (ap (λ (held : List Held). state_in m held s) (sym (at_old t (omega arith))))
+            (ap (λ (held : List Held). store_state m held s) (sym (at_old (t - 1) (omega arith))))
+            (ap (λ (held : List Held). store_state m held s) (sym (at_old t (omega arith))))
             (done.runs.runs s t store first (omega arith))
         by_step (inr now) =
             let same : suc k ≡ t = omega arith in
-            subst (λ (u : ℕ). IsStepRun (offered m s u) (m.amounts s u) (gave_after (place_in_memory m s) u) (state_in m (stores_after (u - 1)) s) (state_in m (stores_after u) s)) same
+            subst (λ (u : ℕ). IsStepRun (offered m s u) (m.amounts s u) (gave_after (place_in_memory m s) u) (store_state m (stores_after (u - 1)) s) (store_state m (stores_after u) s)) same
             (step_run s store)
 
     -- the stores went by one step more
@@ -309,25 +309,25 @@ module _ {S L : Type 0} (gives : S → ℕ → List SpacePacket) (sent : L → L
 
     module _ (law : RunsLoseAsPlanned) (within : suc k ≤ length m.problem.windows) where
       -- the steps so far are a run of the plan, with what came in place of the forecast
-      run_of : IsRunOf (as_came m) m.amounts (suc k) (offered m) (λ s t. gave_after (place_in_memory m s) t) (λ s t. state_in m (stores_after t) s)
+      run_of : IsRunOf (as_came m) m.amounts (suc k) (offered m) (λ s t. gave_after (place_in_memory m s) t) (λ s t. store_state m (stores_after t) s)
       run_of = record {
         ready = λ s store.
             let first : stores_after 0 ≡ m.memory.stores = ran_on.first in
-            let as_first : IsReady m.problem s (state_in m (stores_after 0) s) =
-            subst (λ (held : List Held). IsReady m.problem s (state_in m held s)) (sym first) (footing.ready s store) in
+            let as_first : IsReady m.problem s (store_state m (stores_after 0) s) =
+            subst (λ (held : List Held). IsReady m.problem s (store_state m held s)) (sym first) (footing.ready s store) in
             record { sound = as_first.sound; sized = as_first.sized; holds = as_first.holds };
         timed = λ s t store first last. timed_offers m s t (omega (arith, footing.early));
         runs = each_run;
         came = λ s t store first last. came_at m s t store first (omega arith);
       }
 
-      -- a store's tally is that of the plan
-      tally_is : (s : ℕ) → s < n
-          → tally_from m.problem s (suc k) (counters_of (opening_at (states_of before.stores) (slice_index places s))) (opening_at (states_of after.stores) (slice_index places s))
-          ≡ tally_of m.problem (as_came m) m.amounts s (suc k)
-      tally_is s store =
-          let raw = law (as_came m) m.amounts (suc k) (offered m) (λ s t. gave_after (place_in_memory m s) t) (λ s t. state_in m (stores_after t) s) run_of s (suc k) store (omega arith) (omega arith) in
-          let first = subst (λ (u : State). AsPlanned (as_came m) m.amounts s (suc k) u (state_in m (stores_after (suc k)) s)) (sym (state_before s store)) raw in
+      -- what the step brings to a store is what the plan says
+      counts_are : (s : ℕ) → s < n
+          → counts_from m.problem s (suc k) (counters_of (opening_at (states_of before.stores) (slice_index places s))) (opening_at (states_of after.stores) (slice_index places s))
+          ≡ planned_counts m.problem (as_came m) m.amounts s (suc k)
+      counts_are s store =
+          let raw = law (as_came m) m.amounts (suc k) (offered m) (λ s t. gave_after (place_in_memory m s) t) (λ s t. store_state m (stores_after t) s) run_of s (suc k) store (omega arith) (omega arith) in
+          let first = subst (λ (u : State). AsPlanned (as_came m) m.amounts s (suc k) u (store_state m (stores_after (suc k)) s)) (sym (state_before s store)) raw in
           let planned = subst (λ (u : State). AsPlanned (as_came m) m.amounts s (suc k) (opening_at (states_of before.stores) (slice_index places s)) u) (sym (state_after s store)) first in
           let arrived = less_of _ _ _ planned.takes in
           let lost_is = less_of _ _ _ planned.loses in
@@ -336,24 +336,24 @@ module _ {S L : Type 0} (gives : S → ℕ → List SpacePacket) (sent : L → L
           λ i. record { forecast = arrivals m.problem s (suc k); arrived = arrived i; lost = lost_is i; dumped = dumped i; held = held i }
 
       -- the row of the step is that of the plan
-      row_is : row_from m.problem (suc k) places before.stores after.stores n ≡ map (λ s. tally_of m.problem (as_came m) m.amounts s (suc k)) (stores m.problem)
-      row_is = map_range_same _ _ 0 n (λ s from to. tally_is s (omega arith))
+      row_is : row_from m.problem (suc k) places before.stores after.stores n ≡ map (λ s. planned_counts m.problem (as_came m) m.amounts s (suc k)) (stores m.problem)
+      row_is = map_range_same _ _ 0 n (λ s from to. counts_are s (omega arith))
 
       -- the rows of one step more
       rows_more : rows_of m.problem (as_came m) m.amounts k ++ row_from m.problem (suc k) places before.stores after.stores n ∷ []
           ≡ rows_of m.problem (as_came m) m.amounts (suc k)
       rows_more =
-          let row = λ (t : ℕ). map (λ s. tally_of m.problem (as_came m) m.amounts s t) (stores m.problem) in
+          let row = λ (t : ℕ). map (λ s. planned_counts m.problem (as_came m) m.amounts s t) (stores m.problem) in
           let more : rows_of m.problem (as_came m) m.amounts (suc k) ≡ rows_of m.problem (as_came m) m.amounts k ++ row (suc k) ∷ [] =
           ap (map row) (range_with_len_more 1 k (suc k) (omega arith)) ∙ map-append row (range_with_len 1 k) (suc k ∷ []) in
-          ap (λ (r : List Tally). rows_of m.problem (as_came m) m.amounts k ++ r ∷ []) row_is ∙ sym more
+          ap (λ (r : List StepCounts). rows_of m.problem (as_came m) m.amounts k ++ r ∷ []) row_is ∙ sym more
 
       -- the counters of each store rise
-      planned_at : (s : ℕ) → s < n → AsPlanned (as_came m) m.amounts s (suc k) (state_in m before.stores s) (state_in m after.stores s)
+      planned_at : (s : ℕ) → s < n → AsPlanned (as_came m) m.amounts s (suc k) (store_state m before.stores s) (store_state m after.stores s)
       planned_at s store =
-          let raw = law (as_came m) m.amounts (suc k) (offered m) (λ s t. gave_after (place_in_memory m s) t) (λ s t. state_in m (stores_after t) s) run_of s (suc k) store (omega arith) (omega arith) in
-          let first = subst (λ (held : List Held). AsPlanned (as_came m) m.amounts s (suc k) (state_in m held s) (state_in m (stores_after (suc k)) s)) at_last raw in
-          subst (λ (held : List Held). AsPlanned (as_came m) m.amounts s (suc k) (state_in m before.stores s) (state_in m held s)) at_new first
+          let raw = law (as_came m) m.amounts (suc k) (offered m) (λ s t. gave_after (place_in_memory m s) t) (λ s t. store_state m (stores_after t) s) run_of s (suc k) store (omega arith) (omega arith) in
+          let first = subst (λ (held : List Held). AsPlanned (as_came m) m.amounts s (suc k) (store_state m held s) (store_state m (stores_after (suc k)) s)) at_last raw in
+          subst (λ (held : List Held). AsPlanned (as_came m) m.amounts s (suc k) (store_state m before.stores s) (store_state m held s)) at_new first
 
       counted_on : AreByCounters m after.stores (report.steps ++ row_from m.problem (suc k) places before.stores after.stores n ∷ [])
       counted_on =
@@ -385,6 +385,6 @@ module _ {S L : Type 0} (gives : S → ℕ → List SpacePacket) (sent : L → L
         links_are = sent_on;
         report_is =
             is ∙ ap (λ (r : Reported). record r { steps = r.steps ++ row_from m.problem (suc k) places before.stores after.stores n ∷ [] }) done.report_is
-            ∙ ap (λ (rows : List (List Tally)). record { ids = map (λ r. r.id) m.problem.rows; most = length m.problem.windows; steps = rows }) rows_more;
+            ∙ ap (λ (rows : List (List StepCounts)). record { ids = map (λ r. r.id) m.problem.rows; most = length m.problem.windows; steps = rows }) rows_more;
         counted = subst (λ (r : Reported). AreByCounters m after.stores r.steps) (sym is) counted_on;
       }

@@ -11,8 +11,8 @@ use Rattle.mm_dump.specs.Sending.{Sent}
 use Rattle.mm_report.specs.declared.cause.Cause.TheVariants.{LinkFailed}
 use Rattle.mm_report.specs.Report.{totals_of}
 use Rattle.mm_exec.specs.Readiness.{run_start, MayBegin}
-use Rattle.mm_exec.specs.declared.flight.Flight.{Flight}
-use Rattle.mm_exec.specs.declared.flight.Halted.{Halted}
+use Rattle.mm_exec.specs.declared.run_end.RunEnd.{RunEnd}
+use Rattle.mm_exec.specs.declared.run_end.Halted.{Halted}
 use Rattle.mm_exec.specs.RunInput.{RunInput, as_came, step_orders}
 use Rattle.mm_exec.specs.Step.{RunState, AreReady, StepStopped, StepBroke}
 use Rattle.mm_exec.specs.Steps.{StepsDone}
@@ -22,13 +22,13 @@ use Rattle.mm_exec.specs.Failure.{FailedLink}
 -- the tests before a run passed, and the plan was carried out, and left this memory, whose stores are sound and ready for more. The lost
 -- packets of the report are as many as the plan loses of what came
 pub record IsCarriedOut {S L : Type 0} (gives : S → ℕ → List SpacePacket) (sent : L → List Sent) (failed : L → ℕ) (m : RunInput) (plan : Table) (sources : List S)
-    (links : List L) (memory : Holdings) (flight : Flight S L) : Type 0 where
+    (links : List L) (memory : Holdings) (ended : RunEnd S L) : Type 0 where
   pub began : MayBegin (run_start m.problem plan m.memory.stores m.base (length sources) (length links))
   pub routes : memory.routes ≡ m.memory.routes
   pub done : StepsDone gives sent failed m sources links (length m.problem.windows)
-      (record { stores = memory.stores; sources = flight.sources.items; links = flight.links.items }) flight.report
+      (record { stores = memory.stores; sources = ended.sources.items; links = ended.links.items }) ended.report
   pub ready : AreReady memory.stores
-  pub total_lost : (totals_of flight.report.steps).lost ≡ loss (as_came m) m.amounts
+  pub total_lost : (totals_of ended.report.steps).lost ≡ loss (as_came m) m.amounts
 
 -- nothing was done
 pub record IsUntouched {S L : Type 0} (m : RunInput) (sources : List S) (links : List L) (memory : Holdings) (halted : Halted S L) : Type 0 where

@@ -13,8 +13,8 @@ use Rattle.mm_dump.specs.Sending.{Sent}
 use Rattle.mm_report.specs.declared.cause.Cause.TheVariants.{NoMemory}
 use Rattle.mm_report.specs.Report.{Reported, totals_of}
 use Rattle.mm_exec.specs.AsPlanned.{AtEach}
-use Rattle.mm_exec.specs.declared.flight.Flown.{Flown}
-use Rattle.mm_exec.specs.declared.flight.NotFlown.{NotFlown}
+use Rattle.mm_exec.specs.declared.run_end.Flown.{Flown}
+use Rattle.mm_exec.specs.declared.run_end.FlyHalted.{FlyHalted}
 use Rattle.mm_exec.specs.RunInput.{RunInput, run_input, came}
 use Rattle.mm_exec.specs.Ending.{IsCarriedOut, IsHalted}
 
@@ -43,13 +43,13 @@ pub record Flies {S L : Type 0} (gives : S → ℕ → List SpacePacket) (sent :
 
 -- a plan was made and printed, and its run was halted
 pub record FliesNot {S L : Type 0} (gives : S → ℕ → List SpacePacket) (sent : L → List Sent) (failed : L → ℕ) (q : Dumping) (base : ℕ) (before : Holdings)
-    (sources : List S) (links : List L) (after : Holdings) (ended : NotFlown S L) : Type 0 where
+    (sources : List S) (links : List L) (after : Holdings) (ended : FlyHalted S L) : Type 0 where
   pub sheet : SheetRows
   pub plans : PlansFor q ended.sheet.items sheet
   pub halted : IsHalted gives sent failed (run_input gives q sheet.plan base before sources) sheet.plan sources links after ended.halted
 
 -- there was no memory to plan: nothing is printed, and nothing was done
-pub record HasNoPlan {S L : Type 0} (before : Holdings) (sources : List S) (links : List L) (after : Holdings) (ended : NotFlown S L) : Type 0 where
+pub record HasNoPlan {S L : Type 0} (before : Holdings) (sources : List S) (links : List L) (after : Holdings) (ended : FlyHalted S L) : Type 0 where
   pub sheet_is : ended.sheet.items ≡ []
   pub cause_is : ended.halted.cause ≡ NoMemory 0
   pub memory_is : after ≡ before

@@ -45,8 +45,8 @@ abbrev pub place_in_memory : RunInput → ℕ → ℕ
 place_in_memory m s = position_or_len (has_id (row m.problem s).id) m.memory.stores
 
 -- the state of a store of the problem, in a memory with the same stores in the same order
-abbrev pub state_in : RunInput → List Held → ℕ → State
-state_in m held s = opening_at (states_of held) (place_in_memory m s)
+abbrev pub store_state : RunInput → List Held → ℕ → State
+store_state m held s = opening_at (states_of held) (place_in_memory m s)
 
 -- a plan, carried out over a memory with these sources
 abbrev pub run_input : {S : Type 0} → (S → ℕ → List SpacePacket) → Dumping → Table → ℕ → Holdings → List S → RunInput

@@ -11,7 +11,7 @@ use Rattle.mm_dump.specs.Dumped.{times, places_of}
 use Rattle.mm_report.specs.Report.{Reported}
 use Rattle.mm_exec.specs.StepRuns.{IsStepRun}
 use Rattle.mm_exec.specs.AsPlanned.{AtEach}
-use Rattle.mm_exec.specs.RunInput.{RunInput, offered, as_came, place_in_memory, state_in, step_orders}
+use Rattle.mm_exec.specs.RunInput.{RunInput, offered, as_came, place_in_memory, store_state, step_orders}
 use Rattle.mm_exec.specs.Numbers.{report_of, AreByCounters}
 use Rattle.mm_exec.specs.Step.{RunState}
 
@@ -21,7 +21,7 @@ pub record AreStepRuns (m : RunInput) (steps : ℕ) (stores : ℕ → List Held)
   pub first : stores 0 ≡ m.memory.stores
   pub labels : (t : ℕ) → t ≤ steps → labels_of (stores t) ≡ labels_of m.memory.stores
   pub runs : AtEach (length m.problem.rows) steps
-      (λ s t. IsStepRun (offered m s t) (m.amounts s t) (gave (place_in_memory m s) t) (state_in m (stores (t - 1)) s) (state_in m (stores t) s))
+      (λ s t. IsStepRun (offered m s t) (m.amounts s t) (gave (place_in_memory m s) t) (store_state m (stores (t - 1)) s) (store_state m (stores t) s))
 
 -- of the first steps the sources have nothing left, and what they give in other steps is untouched
 pub record SourcesGave {S : Type 0} (gives : S → ℕ → List SpacePacket) (steps : ℕ) (before after : List S) : Type 0 where

@@ -14,7 +14,7 @@ use crate::orders::list_orders;
 use crate::places::places_of;
 use crate::room::RunBuffers;
 use crate::step::{StepBroken, carry_step};
-use crate::tallies::{all_counters, tallies_of};
+use crate::step_counts::{all_counters, step_counts};
 use mm_control::ControlTable;
 use mm_desk::Held;
 use mm_dump::Link;
@@ -83,8 +83,8 @@ fn report_step<S: Source + Send, L: Link + Send, R: Threads + Wait + Sync>(
         now: run.base + u64::from(at.step),
     };
     carry_step(rt, alloc, &step, &buffers.orders, stores, sources, links)?;
-    let tallies = tallies_of(run.problem, at.step, at.places, &counters, stores);
-    buffers.report.add(&tallies[..at.places.len()]);
+    let counts = step_counts(run.problem, at.step, at.places, &counters, stores);
+    buffers.report.add(&counts[..at.places.len()]);
     Ok(())
 }
 

@@ -4,8 +4,8 @@ ghost use Rattle.mm_exec.specs.Flying.{Flies, FliesNot, HasNoPlan};
 ghost use Rattle.mm_exec.specs.Step.{NeverRefused};
 ghost use Rattle.mm_exec.specs.Course.{AreWithinLimits};
 
-use crate::flight::{FlyResult, Halted, NotFlown};
 use crate::run::carry_out;
+use crate::run_end::{FlyHalted, FlyResult, Halted};
 use mm_dump::Link;
 use mm_memory::Memory;
 use mm_planner::{PrintedPlan, print_plan};
@@ -38,7 +38,7 @@ pub fn fly<S: Source + Send + Drop, L: Link + Send + Drop, R: Threads + Wait + S
     ensures far { AreWithinLimits S.gives memory.old.stores sources.items → IfErr result (λ ended. NeverRefused ended.halted.cause) }
 {
     let Ok(PrintedPlan { sheet, text }) = print_plan(alloc, problem) else {
-        return Err(NotFlown {
+        return Err(FlyHalted {
             sheet: Vec::new(alloc),
             halted: Halted {
                 cause: Cause::NoMemory { step: 0 },
@@ -59,8 +59,8 @@ pub fn fly<S: Source + Send + Drop, L: Link + Send + Drop, R: Threads + Wait + S
         links,
         base,
     ) {
-        Ok(flight) => Ok(flight.with_sheet(text)),
-        Err(halted) => Err(NotFlown {
+        Ok(ended) => Ok(ended.with_sheet(text)),
+        Err(halted) => Err(FlyHalted {
             sheet: text,
             halted,
         }),

@@ -3,7 +3,6 @@
 #![tactic(auto)]
 
 mod course;
-mod flight;
 mod flying;
 pub mod laws;
 mod orders;
@@ -12,10 +11,10 @@ mod readiness;
 mod requirement;
 mod room;
 mod run;
+mod run_end;
 mod step;
-mod tallies;
+mod step_counts;
 
-pub use flight::{Flight, Flown, FlyResult, Halted, NotFlown};
 pub use flying::fly;
 pub use laws::{
     broken_steps_are_logs, draws_meet_no_refusal, halves_make_step_runs, runs_lose_as_planned,
@@ -27,3 +26,4 @@ pub use mm_report::{Cause, LATEST_START, MAX_SOURCES, Report};
 pub use readiness::{MAX_LINKS, ready};
 pub use requirement::Requirement;
 pub use run::carry_out;
+pub use run_end::{Flown, FlyHalted, FlyResult, Halted, RunEnd};

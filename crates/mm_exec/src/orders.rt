@@ -18,10 +18,10 @@ pub(crate) fn list_orders(orders: &mut Vec<Order>, plan: &Plan, places: &[usize]
     ensures capacity { vec_capacity orders.new ≡ vec_capacity orders.old }
 {
     orders.clear();
-    for store in 0..places.len() {
+    for (store, place) in places.iter().enumerate() {
         let amount = plan.amount(store, step);
         if amount > 0 {
-            let place = places[store] as u32;
+            let place = *place as u32;
             orders.push_reserved(Order { place, amount });
         }
     }

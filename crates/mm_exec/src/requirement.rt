@@ -1,12 +1,12 @@
 //! What a store of the problem needs to be like before a run.
 ghost use Rattle.std.specs.Prelude.{◌≡◌, ◌<◌, length, IfSome, IfNone};
-ghost use Rattle.std.specs.Option.{option_copied};
 ghost use Rattle.mm_problem.specs.Dumping.{row};
 ghost use Rattle.mm_memory.specs.Holdings.{store_of};
 ghost use Rattle.mm_exec.specs.Readiness.{meets, AllMeet, IsFirstMismatch, is_unknown, NoneUnknown, IsFirstUnknown};
 
 use mm_base::StoreId;
 use mm_desk::Held;
+use mm_memory::store_of;
 use mm_problem::Problem;
 use mm_store::PacketStore;
 
@@ -21,13 +21,6 @@ pub enum Requirement {
     Opening,
     /// It is on the virtual channel that the problem says.
     Channel,
-}
-
-// The store with this identifier.
-fn store_of<'a>(stores: &'a [Held], id: &StoreId) -> Option<&'a Held>
-    ensures { option_copied result ≡ store_of id.now stores.now }
-{
-    stores.iter().find(|held| held.id == *id)
 }
 
 // Whether a store is as this one of the problem needs to be.

@@ -1,10 +1,10 @@
 //! What a run takes before its first step.
 ghost use Rattle.std.specs.Prelude.{◌≡◌, ◌≤◌, [], length, map, IfOk, vec_capacity};
 ghost use Rattle.mm_base.specs.declared.limits.TheConstants.{MAX_STORES};
-ghost use Rattle.mm_problem.specs.Dumping.{IsDumping};
 
-use mm_base::{MAX_STORES, NoMemory, StoreId};
+use mm_base::{MAX_STORES, NoMemory};
 use mm_dump::Order;
+use mm_planner::store_ids;
 use mm_problem::Problem;
 use mm_report::Report;
 use std::alloc::Global;
@@ -14,18 +14,6 @@ use std::alloc::Global;
 pub(crate) struct RunBuffers {
     pub(crate) report: Report,
     pub(crate) orders: Vec<Order>,
-}
-
-// The identifiers of the problem's stores.
-fn store_ids(alloc: Global, problem: &Problem) -> Result<Vec<StoreId>, NoMemory>
-    ensures ids { IfOk result (λ ids. ids.items ≡ map (λ r. r.id) problem.now.rows) }
-    ensures problem { IsDumping problem.now }
-{
-    let mut ids = Vec::new(alloc);
-    for store in 0..problem.stores() {
-        ids.push(problem.id(store))?;
-    }
-    Ok(ids)
 }
 
 // What a run of a problem takes.

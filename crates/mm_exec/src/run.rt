@@ -8,11 +8,11 @@ ghost use Rattle.mm_exec.specs.Ending.{IsCarriedOut, IsHalted};
 ghost use Rattle.mm_exec.specs.Readiness.{MayBegin};
 
 use crate::course::{RunContext, RunStopped, carry_steps};
-use crate::flight::{Flight, Halted};
 use crate::readiness::ready;
 use crate::room::reserve_run;
+use crate::run_end::{Halted, RunEnd};
 use crate::step::StepBroken;
-use crate::tallies::read_states;
+use crate::step_counts::read_states;
 use mm_desk::Held;
 use mm_dump::Link;
 use mm_dump::laws::broken_orders_change_nothing;
@@ -90,7 +90,7 @@ pub fn carry_out<S: Source + Send + Drop, L: Link + Send + Drop, R: Threads + Wa
     sources: Vec<S>,
     links: Vec<L>,
     base: u64,
-) -> Result<Flight<S, L>, Halted<S, L>>
+) -> Result<RunEnd<S, L>, Halted<S, L>>
     requires links { All (λ l. L.failed l < 2 ^ 64 - 1) links.items }
     ensures carried_out { IfOk result (IsCarriedOut S.gives L.sent L.failed
         (run_input S.gives problem.now plan.now base memory.old sources.items) plan.now sources.items links.items memory.new) }
@@ -113,7 +113,7 @@ pub fn carry_out<S: Source + Send + Drop, L: Link + Send + Drop, R: Threads + Wa
     let ended = carry_plan(rt, alloc, &run, &mut stores, &mut sources, &mut links);
     memory.restore(stores);
     match ended {
-        Ok(report) => Ok(Flight {
+        Ok(report) => Ok(RunEnd {
             report,
             sources,
             links,

@@ -1,4 +1,4 @@
-pub mod Tally
+pub mod Totals
 pub mod Report
 pub mod Text
 pub mod Cause

@@ -1,20 +1,20 @@
--- The report of a run: a row of tallies for each whole step.
+-- The report of a run: a row of counts for each whole step.
 use Rattle.std.specs.Prelude.{◌≡◌, ℕ, zero, suc, ◌-◌, ◌*◌, ◌≤◌, List, [], ◌∷◌, length, take, drop, sum_by, slice_index_or}
-use Rattle.mm_report.specs.declared.tally.Tally.{Tally}
-use Rattle.mm_report.specs.declared.tally.Totals.{Totals}
+use Rattle.mm_report.specs.declared.counts.StepCounts.{StepCounts}
+use Rattle.mm_report.specs.declared.counts.Totals.{Totals}
 
--- the identifiers of the stores, the steps that there is room for, and for each whole step a tally for each store in order
+-- the identifiers of the stores, the steps that there is room for, and for each whole step the counts of each store in order
 pub record Reported : Type 0 where
   pub ids : List (List ℕ)
   pub most : ℕ
-  pub steps : List (List Tally)
+  pub steps : List (List StepCounts)
 
 -- what the last step brought
-abbrev pub last_of : List (List Tally) → List Tally
+abbrev pub last_of : List (List StepCounts) → List StepCounts
 last_of steps = slice_index_or steps (length steps - 1) []
 
 -- what all steps brought to all stores; what is held is held as the last step ends
-abbrev pub totals_of : List (List Tally) → Totals
+abbrev pub totals_of : List (List StepCounts) → Totals
 totals_of steps = record {
   arrived = sum_by (sum_by (λ x. x.arrived)) steps;
   lost = sum_by (sum_by (λ x. x.lost)) steps;
@@ -22,10 +22,10 @@ totals_of steps = record {
   held = sum_by (λ x. x.held) (last_of steps);
 }
 
--- k rows of n tallies, which stand one after the other
-abbrev pub in_rows : ℕ → ℕ → List Tally → List (List Tally)
-in_rows n zero tallies = []
-in_rows n (suc k) tallies = take n tallies ∷ in_rows n k (drop n tallies)
+-- k rows of n counts, which stand one after the other
+abbrev pub in_rows : ℕ → ℕ → List StepCounts → List (List StepCounts)
+in_rows n zero counts = []
+in_rows n (suc k) counts = take n counts ∷ in_rows n k (drop n counts)
 
 -- there are whole rows, no more than there is room for
 pub record IsRoomy (n most steps len capacity : ℕ) : Type 0 where

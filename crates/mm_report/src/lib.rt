@@ -2,12 +2,12 @@
 #![tactic(auto)]
 
 mod cause;
+mod counts;
 pub mod laws;
 mod report;
-mod tally;
 mod text;
 
 pub use cause::{Cause, LATEST_START, MAX_SOURCES};
+pub use counts::{StepCounts, Totals};
 pub use mm_base::NoMemory;
 pub use report::Report;
-pub use tally::{Tally, Totals};

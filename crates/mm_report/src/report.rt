@@ -4,21 +4,21 @@ ghost use Rattle.mm_base.specs.declared.limits.TheConstants.{MAX_STORES};
 ghost use Rattle.mm_report.specs.Report.{totals_of};
 ghost use Rattle.mm_report.specs.Text.{report_text};
 
-use crate::tally::{Tally, Totals, totals_in};
+use crate::counts::{StepCounts, Totals, totals_in};
 use crate::text::{Listing, push_steps, push_total};
 use mm_base::{NoMemory, StoreId};
 use std::alloc::Global;
 use std::marker::Model;
 
 /// What each whole step of a run brought to each store. Contracts see the identifiers of the stores, and a row of
-/// tallies for each step, in it one for each store in order; and for how many steps there is room.
+/// counts for each step, in it those of each store in order; and for how many steps there is room.
 #[derive(Debug, Drop)]
 pub struct Report {
     ids: Vec<StoreId>,
     most: u32,
     steps: u32,
     // step by step, in each the stores in order
-    tallies: Vec<Tally>,
+    counts: Vec<StepCounts>,
 }
 
 impl Model for Report {
@@ -30,31 +30,31 @@ impl Model for Report {
     ghost view = { λ r. record {
       ids = r.ids.items;
       most = r.most;
-      steps = in_rows (length r.ids.items) r.steps r.tallies.items;
+      steps = in_rows (length r.ids.items) r.steps r.counts.items;
     } };
 
-    ghost invariant = { λ r. IsRoomy (length r.ids.items) r.most r.steps (length r.tallies.items) (vec_capacity r.tallies) };
+    ghost invariant = { λ r. IsRoomy (length r.ids.items) r.most r.steps (length r.counts.items) (vec_capacity r.counts) };
 }
 
-// Appends tallies that there is room for.
-fn push_all(tallies: &mut Vec<Tally>, row: &[Tally])
-    requires { vec_len tallies.old + length row.now ≤ vec_capacity tallies.old }
-    ensures items { tallies.new.items ≡ tallies.old.items ++ row.now }
-    ensures capacity { vec_capacity tallies.new ≡ vec_capacity tallies.old }
+// Appends counts that there is room for.
+fn push_all(counts: &mut Vec<StepCounts>, row: &[StepCounts])
+    requires { vec_len counts.old + length row.now ≤ vec_capacity counts.old }
+    ensures items { counts.new.items ≡ counts.old.items ++ row.now }
+    ensures capacity { vec_capacity counts.new ≡ vec_capacity counts.old }
 {
     let mut rest = row;
-    while let [tally, more @ ..] = rest {
-        tallies.push_reserved(*tally);
+    while let [first, more @ ..] = rest {
+        counts.push_reserved(*first);
         rest = more;
     }
 }
 
-// The row at this place, counted from 0, where rows of this many tallies stand one after the other.
-fn row_at(tallies: &[Tally], stores: usize, place: usize) -> &[Tally]
-    requires { place * stores + stores ≤ length tallies.now }
-    ensures { result.now ≡ take stores (drop (place * stores) tallies.now) }
+// The row at this place, counted from 0, where rows of this many stores stand one after the other.
+fn row_at(counts: &[StepCounts], stores: usize, place: usize) -> &[StepCounts]
+    requires { place * stores + stores ≤ length counts.now }
+    ensures { result.now ≡ take stores (drop (place * stores) counts.now) }
 {
-    let (_, rest) = tallies.split_at(place * stores);
+    let (_, rest) = counts.split_at(place * stores);
     let (row, _) = rest.split_at(stores);
     row
 }
@@ -65,12 +65,12 @@ impl Report {
         requires { length ids.items ≤ MAX_STORES }
         ensures new { IfOk result (λ r. r ≡ record { ids = ids.items; most = most; steps = [] }) }
     {
-        let tallies = Vec::with_capacity(alloc, most as usize * ids.len())?;
+        let counts = Vec::with_capacity(alloc, most as usize * ids.len())?;
         Ok(Report {
             ids,
             most,
             steps: 0,
-            tallies,
+            counts,
         })
     }
 
@@ -82,18 +82,18 @@ impl Report {
             ids: Vec::new(alloc),
             most: 0,
             steps: 0,
-            tallies: Vec::new(alloc),
+            counts: Vec::new(alloc),
         }
     }
 
-    /// Adds the row of the next step, a tally for each store in order. It takes no memory.
-    pub fn add(&mut self, row: &[Tally])
+    /// Adds the row of the next step, the counts of each store in order. It takes no memory.
+    pub fn add(&mut self, row: &[StepCounts])
         requires stores { length row.now ≡ length self.old.ids }
         // There is room, as `is_full` tells.
         requires room { length self.old.steps < self.old.most }
         ensures added { self.new ≡ record self.old { steps = self.old.steps ++ row.now ∷ [] } }
     {
-        push_all(&mut self.tallies, row);
+        push_all(&mut self.counts, row);
         self.steps += 1;
     }
 
@@ -120,13 +120,13 @@ impl Report {
     }
 
     /// What a step, counted from 1, brought to each store in order.
-    pub fn row(&self, step: u32) -> &[Tally]
+    pub fn row(&self, step: u32) -> &[StepCounts]
         requires first { 1 ≤ step }
         requires last { step ≤ length self.now.steps }
         ensures row { result.now ≡ slice_index_or self.now.steps (step - 1) [] }
     {
         let stores = self.ids.as_slice().len();
-        row_at(self.tallies.as_slice(), stores, step as usize - 1)
+        row_at(self.counts.as_slice(), stores, step as usize - 1)
     }
 
     /// What all steps brought to all stores; what is held is what they hold as the last step ends, and 0 before the
@@ -134,7 +134,7 @@ impl Report {
     pub fn totals(&self) -> Totals
         ensures totals { result ≡ totals_of self.now.steps }
     {
-        let totals = totals_in(self.tallies.as_slice());
+        let totals = totals_in(self.counts.as_slice());
         let held = if self.steps == 0 {
             0
         } else {

@@ -4,8 +4,8 @@ ghost use Rattle.mm_base.specs.Characters.{line_feed, space};
 ghost use Rattle.mm_base.specs.Id.{id_text};
 ghost use Rattle.mm_report.specs.Text.{named_text, number_text, numbers_text, sums_of, step_line, differs_line, total_line, line_of, row_text, steps_text};
 
+use crate::counts::{StepCounts, Totals};
 use crate::report::Report;
-use crate::tally::{Tally, Totals};
 use itoa::Buffer;
 use mm_base::StoreId;
 use std::alloc::AllocError;
@@ -62,45 +62,45 @@ fn push_numbers(text: &mut Vec<u8>, totals: Totals) -> Result<(), AllocError>
     Ok(())
 }
 
-// The sums of one tally.
-fn sums_of(tally: Tally) -> Totals
-    ensures { result ≡ sums_of tally }
+// The numbers of a step and a store.
+fn sums_of(counts: StepCounts) -> Totals
+    ensures { result ≡ sums_of counts }
 {
     Totals {
-        arrived: u128::from(tally.arrived),
-        lost: u128::from(tally.lost),
-        dumped: u128::from(tally.dumped),
-        held: u128::from(tally.held),
+        arrived: u128::from(counts.arrived),
+        lost: u128::from(counts.lost),
+        dumped: u128::from(counts.dumped),
+        held: u128::from(counts.held),
     }
 }
 
 #[tactic(auto, using(std::proofs::Common::append_assoc))]
-fn push_step_line(text: &mut Vec<u8>, cell: Cell, tally: Tally) -> Result<(), AllocError>
-    ensures { OnOk result (text.new.items ≡ text.old.items ++ step_line cell.step cell.id tally) }
+fn push_step_line(text: &mut Vec<u8>, cell: Cell, counts: StepCounts) -> Result<(), AllocError>
+    ensures { OnOk result (text.new.items ≡ text.old.items ++ step_line cell.step cell.id counts) }
 {
     push_named(text, b"step", cell)?;
-    push_numbers(text, sums_of(tally))
+    push_numbers(text, sums_of(counts))
 }
 
 #[tactic(auto, using(std::proofs::Common::append_assoc))]
-fn push_differs_line(text: &mut Vec<u8>, cell: Cell, tally: Tally) -> Result<(), AllocError>
-    ensures { OnOk result (text.new.items ≡ text.old.items ++ differs_line cell.step cell.id tally) }
+fn push_differs_line(text: &mut Vec<u8>, cell: Cell, counts: StepCounts) -> Result<(), AllocError>
+    ensures { OnOk result (text.new.items ≡ text.old.items ++ differs_line cell.step cell.id counts) }
 {
     push_named(text, b"differs step", cell)?;
-    push_number(text, b"forecast", u128::from(tally.forecast))?;
-    push_number(text, b"came", u128::from(tally.arrived))?;
+    push_number(text, b"forecast", u128::from(counts.forecast))?;
+    push_number(text, b"came", u128::from(counts.arrived))?;
     text.push(b'\n')?;
     Ok(())
 }
 
 // The line of a step and a store in this listing, if there is one.
-fn push_line(text: &mut Vec<u8>, listing: Listing, at: Cell, tally: Tally) -> Result<(), AllocError>
-    ensures { OnOk result (text.new.items ≡ text.old.items ++ line_of listing at.step at.id tally) }
+fn push_line(text: &mut Vec<u8>, listing: Listing, at: Cell, counts: StepCounts) -> Result<(), AllocError>
+    ensures { OnOk result (text.new.items ≡ text.old.items ++ line_of listing at.step at.id counts) }
 {
     match listing {
-        Listing::Numbers => push_step_line(text, at, tally),
-        Listing::Differences if tally.forecast == tally.arrived => Ok(()),
-        Listing::Differences => push_differs_line(text, at, tally),
+        Listing::Numbers => push_step_line(text, at, counts),
+        Listing::Differences if counts.forecast == counts.arrived => Ok(()),
+        Listing::Differences => push_differs_line(text, at, counts),
     }
 }
 
@@ -109,17 +109,17 @@ fn push_row(
     listing: Listing,
     step: u32,
     ids: &[StoreId],
-    row: &[Tally],
+    row: &[StepCounts],
 ) -> Result<(), AllocError>
     ensures { OnOk result (text.new.items ≡ text.old.items ++ row_text listing step ids.now row.now) }
 {
     let mut rest_ids = ids;
     let mut rest = row;
     while let [id, more_ids @ ..] = rest_ids {
-        let [tally, more @ ..] = rest else {
+        let [counts, more @ ..] = rest else {
             return Ok(());
         };
-        push_line(text, listing, Cell { step, id: *id }, *tally)?;
+        push_line(text, listing, Cell { step, id: *id }, *counts)?;
         rest_ids = more_ids;
         rest = more;
     }

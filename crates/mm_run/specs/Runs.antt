@@ -8,9 +8,9 @@ use Rattle.mm_memory.specs.Holdings.{Holdings}
 use Rattle.mm_dump.specs.Sending.{Sent}
 use Rattle.mm_run.specs.declared.link.ScriptedLink.{ScriptedLink}
 use Rattle.mm_run.specs.declared.source.ScriptedSource.{ScriptedSource}
-use Rattle.mm_exec.specs.declared.flight.Flight.{Flight}
-use Rattle.mm_exec.specs.declared.flight.Flown.{Flown}
-use Rattle.mm_exec.specs.declared.flight.NotFlown.{NotFlown}
+use Rattle.mm_exec.specs.declared.run_end.RunEnd.{RunEnd}
+use Rattle.mm_exec.specs.declared.run_end.Flown.{Flown}
+use Rattle.mm_exec.specs.declared.run_end.FlyHalted.{FlyHalted}
 use Rattle.mm_exec.specs.RunInput.{RunInput, run_input}
 use Rattle.mm_exec.specs.Step.{NeverRefused}
 use Rattle.mm_exec.specs.Ending.{IsCarriedOut, IsHalted}
@@ -35,18 +35,18 @@ abbrev pub scripted : Dumping → Table → Holdings → List ScriptedSource →
 scripted problem plan memory sources = run_input gives problem plan 0 memory sources
 
 -- what a run leaves beside the text of its plan
-abbrev pub flight_of : Flown ScriptedSource ScriptedLink → Flight ScriptedSource ScriptedLink
-flight_of flown = record { report = flown.report; sources = flown.sources; links = flown.links }
+abbrev pub run_end_of : Flown ScriptedSource ScriptedLink → RunEnd ScriptedSource ScriptedLink
+run_end_of flown = record { report = flown.report; sources = flown.sources; links = flown.links }
 
 -- the plan of the sheet was carried out, and no text of it is printed; or without a sheet, a plan was made, printed and carried out
 unfoldable pub IsFlown : Option SheetRows → Dumping → Holdings → List ScriptedSource → List ScriptedLink → Holdings → Flown ScriptedSource ScriptedLink → Type 0
 IsFlown (Some sheet) problem memory sources links left flown = (flown.sheet.items ≡ [])
-    × IsCarriedOut gives sent failed (scripted problem sheet.plan memory sources) sheet.plan sources links left (flight_of flown)
+    × IsCarriedOut gives sent failed (scripted problem sheet.plan memory sources) sheet.plan sources links left (run_end_of flown)
 IsFlown None problem memory sources links left flown = Flies gives sent failed problem 0 memory sources links left flown
 
 -- the run of the sheet's plan did not begin, or was halted, and no text of the plan is printed; or without a sheet, this is so of a plan
 -- that was made and printed, or there was no memory to plan
-unfoldable pub IsNotFlown : Option SheetRows → Dumping → Holdings → List ScriptedSource → List ScriptedLink → Holdings → NotFlown ScriptedSource ScriptedLink → Type 0
+unfoldable pub IsNotFlown : Option SheetRows → Dumping → Holdings → List ScriptedSource → List ScriptedLink → Holdings → FlyHalted ScriptedSource ScriptedLink → Type 0
 IsNotFlown (Some sheet) problem memory sources links left ended = (ended.sheet.items ≡ [])
     × IsHalted gives sent failed (scripted problem sheet.plan memory sources) sheet.plan sources links left ended.halted
 IsNotFlown None problem memory sources links left ended =
@@ -62,7 +62,7 @@ pub record EndsWhole (sheet : Option SheetRows) (problem : Dumping) (memory : Ho
 -- the run did not begin, or was halted, though never since a store refused a packet, and this is printed
 pub record EndsEarly (sheet : Option SheetRows) (problem : Dumping) (memory : Holdings) (sources : List ScriptedSource) (links : List ScriptedLink) (p : Printed) : Type 0 where
   pub left : Holdings
-  pub ended : NotFlown ScriptedSource ScriptedLink
+  pub ended : FlyHalted ScriptedSource ScriptedLink
   pub not_flown : IsNotFlown sheet problem memory sources links left ended
   pub never_refused : NeverRefused ended.halted.cause
   pub tells : TellsEnd ended.sheet.items ended.halted.cause ended.halted.report p

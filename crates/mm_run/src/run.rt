@@ -20,7 +20,7 @@ use crate::texts::{
     read_sources_and_links,
 };
 use mm_base::NoMemory;
-use mm_exec::{Flown, FlyResult, Halted, NotFlown, carry_out, fly};
+use mm_exec::{Flown, FlyHalted, FlyResult, Halted, carry_out, fly};
 use mm_memory::Memory;
 use mm_plan::Sheet;
 use mm_problem::Problem;
@@ -45,8 +45,8 @@ fn fly_sheet<R: Threads + Wait + Sync>(
 {
     let text = Vec::new(alloc);
     match carry_out(rt, alloc, memory, problem, sheet.plan(), sources, links, 0) {
-        Ok(flight) => Ok(flight.with_sheet(text)),
-        Err(halted) => Err(NotFlown {
+        Ok(ended) => Ok(ended.with_sheet(text)),
+        Err(halted) => Err(FlyHalted {
             sheet: text,
             halted,
         }),
@@ -101,7 +101,7 @@ fn carry<R: Threads + Wait + Sync>(
     let reserved = ReservedLines::new(alloc)?;
     match fly_plan(rt, alloc, &mut memory, &problem, sheet, sources, links) {
         Ok(Flown { sheet, report, .. }) => Printed::whole(alloc, sheet, reserved, &report),
-        Err(NotFlown { sheet, halted }) => {
+        Err(FlyHalted { sheet, halted }) => {
             let Halted { cause, report, .. } = halted;
             Printed::stopped(alloc, sheet, reserved, &cause, &report)
         }

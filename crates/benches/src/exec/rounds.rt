@@ -166,11 +166,11 @@ impl Trial {
         let spent = start.elapsed(rt)?;
         match run {
             Err(halted) => Err(halted.cause.into()),
-            Ok(flight) => {
+            Ok(ended) => {
                 self.tally.dump = self.tally.dump.saturating_add(spent);
-                let totals = flight.report.totals();
+                let totals = ended.report.totals();
                 self.tally.dumped = self.tally.dumped.saturating_add(totals.dumped);
-                for link in &flight.links {
+                for link in &ended.links {
                     self.tally.octets = self.tally.octets.saturating_add(link.modem.octets());
                 }
                 Ok(())

@@ -2,14 +2,14 @@
 
 use crate::tests::samples::id;
 use mm_base::StoreId;
-use mm_report::{Report, Tally};
+use mm_report::{Report, StepCounts};
 use std::alloc::Global;
 use std::process::Abort;
 
 // Forecast, arrived, lost, dumped, held.
-fn tally(numbers: [u64; 5]) -> Tally {
+fn counts_of(numbers: [u64; 5]) -> StepCounts {
     let [forecast, arrived, lost, dumped, held] = numbers;
-    Tally {
+    StepCounts {
         forecast,
         arrived,
         lost,
@@ -19,10 +19,10 @@ fn tally(numbers: [u64; 5]) -> Tally {
 }
 
 // A row of these numbers for each store.
-fn row_of(rt: &impl Abort, alloc: Global, step: &[[u64; 5]]) -> Vec<Tally> {
+fn row_of(rt: &impl Abort, alloc: Global, step: &[[u64; 5]]) -> Vec<StepCounts> {
     let mut row = Vec::new(alloc);
     for numbers in step {
-        row.push(tally(*numbers)).expect(rt, "memory");
+        row.push(counts_of(*numbers)).expect(rt, "memory");
     }
     row
 }
@@ -35,7 +35,7 @@ fn ids_of(rt: &impl Abort, alloc: Global, texts: &[&str]) -> Vec<StoreId> {
     ids
 }
 
-fn add(rt: &impl Abort, report: &mut Report, row: &[Tally]) {
+fn add(rt: &impl Abort, report: &mut Report, row: &[StepCounts]) {
     assert!(rt; row.len() == report.ids().len(), "a row that fits");
     assert!(rt; !report.is_full(), "a step more");
     report.add(row);

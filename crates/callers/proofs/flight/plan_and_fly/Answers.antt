@@ -1,7 +1,7 @@
 -- What `fly` ensures, over the memory of the setup.
 use Rattle.std.proofs.Common.{◌≡◌, ◌∙◌, ap, inl, inr, refl}
 use Rattle.mm_memory.specs.Holdings.{memory_of}
-use Rattle.mm_report.specs.declared.tally.Totals.{Totals}
+use Rattle.mm_report.specs.declared.counts.Totals.{Totals}
 use Rattle.callers.proofs.flight.plan_and_fly.Goals as goal
 
 pub returns-in-Ok-fly-clause-lost : goal.returns-in-Ok-fly-clause-lost

@@ -1,4 +1,4 @@
-use Rattle.std.proofs.Common.{ℕ, length}
+use Rattle.std.proofs.Common.{length}
 use Rattle.std.proofs.lemmas.List.FromFn.{length-map-range_with_len}
 use Rattle.mm_problem.specs.Dumping.{row}
 use Rattle.callers.specs.Remaining.{held_by}

@@ -11,13 +11,13 @@ returns-in-Ok-carry_out-clause-flown g c =
     let plan = c.plan.ensures ∙ p.plan_is in
     let carried = subst (λ (x : Table). IsCarriedOut g.S.Source.gives g.L.Link.sent g.L.Link.failed
     (run_input g.S.Source.gives c.args.problem.now x c.args.base c.args.memory.now c.args.sources.items) x c.args.sources.items c.args.links.items
-    c.carry_out.new.memory c.in-Ok-carry_out.flight) plan c.in-Ok-carry_out.ensures.carried_out in
+    c.carry_out.new.memory c.in-Ok-carry_out.ended) plan c.in-Ok-carry_out.ensures.carried_out in
     rw c.with_sheet.ensures (record {
       sheet = p.sheet;
       plans = p.plans;
       carried_out = carried;
       headline =
-          headline_of (run_input g.S.Source.gives c.args.problem.now p.sheet.plan c.args.base c.args.memory.now c.args.sources.items) _ p.sheet c.in-Ok-carry_out.flight.report
+          headline_of (run_input g.S.Source.gives c.args.problem.now p.sheet.plan c.args.base c.args.memory.now c.args.sources.items) _ p.sheet c.in-Ok-carry_out.ended.report
           refl p.plans carried.total_lost;
     })
 

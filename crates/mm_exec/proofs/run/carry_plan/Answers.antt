@@ -1,4 +1,5 @@
 use Rattle.std.proofs.Common.{refl, inl, All, subst}
+use Rattle.std.proofs.lemmas.Result.{IfErr-weaker}
 use Rattle.mm_desk.specs.declared.held.Held.{Held}
 use Rattle.mm_desk.specs.Machine.{IsState}
 use Rattle.mm_memory.specs.Holdings.{Holdings}
@@ -8,7 +9,7 @@ use Rattle.mm_exec.specs.RunInput.{run_input}
 use Rattle.mm_exec.specs.Step.{run_state}
 use Rattle.mm_exec.specs.Course.{RunHalted, IsEnded}
 use Rattle.mm_exec.proofs.Ended.{start_by, never_began, refused}
-use Rattle.mm_exec.proofs.Parts.{on_ok, err_follows}
+use Rattle.mm_exec.proofs.Parts.{on_ok}
 use Rattle.mm_exec.proofs.run.carry_plan.Goals as goal
 
 pub returns-in-Err-clause-ended : goal.returns-in-Err-clause-ended
@@ -50,6 +51,6 @@ returns-clause-ended g c =
     let before = run_state c.args.stores.now c.args.sources.now c.args.links.now in
     let after = run_state c.carry_steps.new.stores c.carry_steps.new.sources c.carry_steps.new.links in
     let begun = start_by MayBegin run.problem.now run.plan.now run.base c.deref.ensures.value refl refl c.in_default.ensures.ok in
-    err_follows (RunHalted g.S.Source.gives g.L.Link.sent g.L.Link.failed m before after)
-    (IsEnded g.S.Source.gives g.L.Link.sent g.L.Link.failed m run.plan.now before after) c.carry_steps.result c.carry_steps.ensures.halted
-    (λ (stopped : RunStopped) halted. inl (halted, begun))
+    IfErr-weaker c.carry_steps.result (RunHalted g.S.Source.gives g.L.Link.sent g.L.Link.failed m before after)
+    (IsEnded g.S.Source.gives g.L.Link.sent g.L.Link.failed m run.plan.now before after) (λ (stopped : RunStopped) halted. inl (halted, begun))
+    c.carry_steps.ensures.halted

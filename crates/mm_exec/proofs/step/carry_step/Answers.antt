@@ -1,8 +1,9 @@
 use Rattle.std.proofs.Common.{◌⊎◌, inl, inr, refl}
+use Rattle.std.proofs.lemmas.Result.{IfErr-weaker, on_ok_weaker}
 use Rattle.mm_record.specs.Recorded.{RecordingContext, recording}
 use Rattle.mm_exec.specs.declared.step.StepBroken.{StepBroken}
 use Rattle.mm_exec.specs.Step.{RunState, run_state, AreReady, StepDumped, StepDone, StepBroke, OutOfMemory, OrdersBroke}
-use Rattle.mm_exec.proofs.Parts.{as_many, both_parts, ok_follows, err_follows, both_follow}
+use Rattle.mm_exec.proofs.Parts.{as_many, both_parts, both_follow}
 use Rattle.mm_exec.proofs.StoresReady.{may_dump, ready_after, ready_left, ready_recorded}
 use Rattle.mm_exec.proofs.step.carry_step.Given as given
 use Rattle.mm_exec.proofs.step.carry_step.Goals as goal
@@ -61,12 +62,12 @@ dump_part-requires-clause-may g c κs within =
 pub returns-clause-ok : goal.returns-clause-ok
 returns-clause-ok g c =
     let at = (goal.at.returns-clause-ok g c).After-dump_part in
-    ok_follows (Dumped g at) (Done g at) c.dump_part.result c.dump_part.ensures.ok (done g at)
+    on_ok_weaker c.dump_part.result (done g at) c.dump_part.ensures.ok
 
 pub returns-clause-how : goal.returns-clause-how
 returns-clause-how g c =
     let at = (goal.at.returns-clause-how g c).After-dump_part in
-    err_follows (DumpBroke g at) (Broke g at) c.dump_part.result c.dump_part.ensures.how (broke g at)
+    IfErr-weaker c.dump_part.result (DumpBroke g at) (Broke g at) (broke g at) c.dump_part.ensures.how
 
 pub returns-clause-ready : goal.returns-clause-ready
 returns-clause-ready g c =

@@ -155,8 +155,8 @@ fn is_carried_out<R: Threads + Wait + Sync + Abort>(rt: &R, alloc: Global, faile
     }
     let plan = trial.sheet.plan();
     match carry_out_over_used(rt, alloc, memory, problem, plan, sources, links) {
-        Some(Ok(flight)) => {
-            for link in &flight.links {
+        Some(Ok(ended)) => {
+            for link in &ended.links {
                 has_taken(rt, link, 4, failed);
             }
             true

@@ -5,7 +5,7 @@ use crate::tests::runs::trials::{Left, Task, Trial, each_took, left, setup, task
 use crate::tests::samples::one_of_two;
 use crate::tests::sources::{Script, all_have_left, scripts_in_room};
 use mm_dump::MemoryLink;
-use mm_exec::{Cause, Flight, Halted};
+use mm_exec::{Cause, Halted, RunEnd};
 use mm_record::Source;
 use std::alloc::Global;
 use std::process::Abort;
@@ -81,9 +81,9 @@ fn is_halted(rt: &impl Abort, trial: &Trial, halted: &Halted<Script, MemoryLink>
     assert!(rt; report.steps() == 0, "{NAME}: no whole step");
 }
 
-fn is_carried_out(rt: &impl Abort, trial: &Trial, flight: &Flight<Script, MemoryLink>) {
-    has(rt, trial, &flight.sources, &flight.links, (0, &DUMPED, 0));
-    let totals = flight.report.totals();
+fn is_carried_out(rt: &impl Abort, trial: &Trial, ended: &RunEnd<Script, MemoryLink>) {
+    has(rt, trial, &ended.sources, &ended.links, (0, &DUMPED, 0));
+    let totals = ended.report.totals();
     assert!(rt;
         totals.arrived == 9 && totals.dumped == 3,
         "{NAME}: the report"
@@ -104,8 +104,8 @@ fn begun_in_room(alloc: Global) -> Option<(Trial, Vec<Script>, Vec<MemoryLink>)>
 fn came_to_its_end<R: Threads + Wait + Sync + Abort>(rt: &R, alloc: Global) -> Option<bool> {
     let (mut trial, sources, links) = begun_in_room(alloc)?;
     match trial.run(rt, sources, links, 0) {
-        Ok(flight) => {
-            is_carried_out(rt, &trial, &flight);
+        Ok(ended) => {
+            is_carried_out(rt, &trial, &ended);
             Some(true)
         }
         Err(halted) => {

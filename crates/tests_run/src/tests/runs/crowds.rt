@@ -7,7 +7,7 @@ use crate::tests::samples::id;
 use crate::tests::sources::{Script, new_script, scripts};
 use mm_base::StoreId;
 use mm_dump::{Link, MemoryLink, SendFailed};
-use mm_exec::{Cause, Flight, Halted};
+use mm_exec::{Cause, Halted, RunEnd};
 use mm_packet::BlockPacket;
 use mm_record::Source;
 use std::alloc::Global;
@@ -133,11 +133,11 @@ fn flown<S: Source + Send + Drop, R: Threads + Wait + Sync + Abort>(
     trial: &mut Trial,
     sources: Vec<S>,
     links: Vec<GatedLink>,
-) -> Flight<S, GatedLink> {
-    let Ok(flight) = trial.run(rt, sources, links, 0) else {
+) -> RunEnd<S, GatedLink> {
+    let Ok(ended) = trial.run(rt, sources, links, 0) else {
         panic!(rt; "the plan is carried out");
     };
-    flight
+    ended
 }
 
 // All sources meet, all links meet, and nothing is lost.
@@ -151,14 +151,14 @@ fn all_meet<R: Threads + Wait + Sync + Abort>(rt: &R, alloc: Global, meeting: &M
     let mut trial = Trial::new(rt, alloc, task);
     let sources = gated_sources(rt, alloc, apids, *each);
     let links = gated_links(rt, alloc, until, Awaits::Begun(until.len() as u64));
-    let flight = flown(rt, &mut trial, sources, links);
+    let ended = flown(rt, &mut trial, sources, links);
     all_met(
         rt,
-        &flight.sources,
+        &ended.sources,
         apids.len().saturating_mul(*each as usize),
     );
-    all_sent(rt, &flight.links, until.len(), *each as usize);
-    assert!(rt; flight.report.totals().lost == 0, "nothing is lost");
+    all_sent(rt, &ended.links, until.len(), *each as usize);
+    assert!(rt; ended.report.totals().lost == 0, "nothing is lost");
 }
 
 #[test]
@@ -204,13 +204,13 @@ fn orders_from_one_queue(rt: HostRuntime) {
     let mut trial = Trial::new(&rt, alloc, &FOUR_ORDERS);
     let sources = sources_by_apid(&rt, alloc, &[1, 2, 3, 4], 1);
     let links = gated_links(&rt, alloc, &[None, None], Awaits::Ended(3));
-    let flight = flown(&rt, &mut trial, sources, links);
-    let is_whole = flight.links.len() == 2 && flight.sources.len() == 4;
+    let ended = flown(&rt, &mut trial, sources, links);
+    let is_whole = ended.links.len() == 2 && ended.sources.len() == 4;
     assert!(rt;
-        is_whole && flight.report.totals().dumped == 4,
+        is_whole && ended.report.totals().dumped == 4,
         "all come back, and all are dumped"
     );
-    let most = most_sent(&rt, &flight.links);
+    let most = most_sent(&rt, &ended.links);
     assert!(rt; most == 3, "three orders of one link");
 }
 
@@ -295,8 +295,8 @@ fn eight_are_reported<R: Threads + Wait + Sync + Abort>(rt: &R, alloc: Global) {
     let mut trial = Trial::new(rt, alloc, &EIGHT_EACH);
     let sources = scripts(rt, alloc, 8, [1, 0, 1]);
     let links = new_links(rt, alloc, &[None, None, None, None]);
-    let flight = trial.flown(rt, sources, links, 0);
-    has_text(rt, alloc, "eight sources", &flight.report, EIGHT_SOURCES);
+    let ended = trial.flown(rt, sources, links, 0);
+    has_text(rt, alloc, "eight sources", &ended.report, EIGHT_SOURCES);
 }
 
 // The report is the same whatever the threads did.

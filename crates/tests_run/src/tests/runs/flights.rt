@@ -6,7 +6,7 @@ use crate::tests::runs::rows::{Run, has_ended, run};
 use crate::tests::runs::trials::{FIRST_RUN, Left, TWO_PASSES, Trial, has_cause, left};
 use crate::tests::sources::{Script, all_have_left, scripts};
 use mm_dump::{MemoryLink, may_fail};
-use mm_exec::{Cause, Flight, Flown, Halted, NotFlown, fly};
+use mm_exec::{Cause, Flown, FlyHalted, Halted, RunEnd, fly};
 use std::process::Abort;
 use std::sync::Wait;
 use std::thread::Threads;
@@ -16,7 +16,7 @@ fn fly_first<R: Threads + Wait + Sync + Abort>(
     rt: &R,
     trial: &mut Trial,
     until: &[Option<u64>],
-) -> Result<Flown<Script, MemoryLink>, NotFlown<Script, MemoryLink>> {
+) -> Result<Flown<Script, MemoryLink>, FlyHalted<Script, MemoryLink>> {
     let alloc = trial.alloc;
     let sources = scripts(rt, alloc, 1, [3, 3, 4]);
     let links = new_links(rt, alloc, until);
@@ -43,7 +43,7 @@ fn not_flown<R: Threads + Wait + Sync + Abort>(
     trial: &mut Trial,
     until: &[Option<u64>],
 ) -> Halted<Script, MemoryLink> {
-    let Err(NotFlown { sheet, halted }) = fly_first(rt, trial, until) else {
+    let Err(FlyHalted { sheet, halted }) = fly_first(rt, trial, until) else {
         panic!(rt; "the run is not carried out");
     };
     has_sheet(rt, &sheet);
@@ -71,12 +71,12 @@ fn fly_first_run(rt: HostRuntime) {
         links,
     } = flown;
     has_sheet(&rt, &sheet);
-    let flight = Flight {
+    let ended = RunEnd {
         report,
         sources,
         links,
     };
-    has_ended(&rt, &trial, &flight, &AS_FORECAST, 0);
+    has_ended(&rt, &trial, &ended, &AS_FORECAST, 0);
 }
 
 static HALTED: Broken = Broken {

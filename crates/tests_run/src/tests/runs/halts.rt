@@ -9,7 +9,7 @@ use crate::tests::runs::trials::{
 use crate::tests::sources::{Script, all_have_left, scripts};
 use mm_dump::MemoryLink;
 use mm_exec::{Cause, Halted};
-use mm_report::{Report, Tally};
+use mm_report::{Report, StepCounts};
 use std::alloc::Global;
 use std::process::Abort;
 use std::sync::Wait;
@@ -164,7 +164,7 @@ const FOURTH_SEND_FAILS: Broken = Broken {
 
 static IN_STEP_2: [Broken; 2] = [THIRD_SEND_FAILS, FOURTH_SEND_FAILS];
 
-static ROW_OF_STEP_1: Tally = Tally {
+static ROW_OF_STEP_1: StepCounts = StepCounts {
     forecast: 3,
     arrived: 3,
     lost: 0,
@@ -233,8 +233,8 @@ fn goes_on<R: Threads + Wait + Sync + Abort>(rt: &R, alloc: Global, both: &GoesO
     let Halted { sources, links, .. } = breaks(rt, &mut trial, broken);
     let mut next = Trial::new(rt, alloc, &then.task);
     next.memory = trial.memory;
-    let flight = next.flown(rt, sources, links, 10);
-    has_ended(rt, &next, &flight, then, 1);
+    let ended = next.flown(rt, sources, links, 10);
+    has_ended(rt, &next, &ended, then, 1);
 }
 
 #[test]

@@ -7,8 +7,8 @@ use crate::tests::runs::trials::{
 use crate::tests::samples::id;
 use crate::tests::sources::{Script, all_have_left, scripts};
 use mm_dump::MemoryLink;
-use mm_exec::{Cause, Flight};
-use mm_report::{Report, Tally};
+use mm_exec::{Cause, RunEnd};
+use mm_report::{Report, StepCounts};
 use std::alloc::Global;
 use std::process::Abort;
 use std::sync::Wait;
@@ -36,15 +36,15 @@ pub(crate) use run;
 pub(crate) fn has_ended(
     rt: &impl Abort,
     trial: &Trial,
-    flight: &Flight<Script, MemoryLink>,
+    ended: &RunEnd<Script, MemoryLink>,
     run: &Run,
     failures: u64,
 ) {
     let name = run.name;
-    has_text(rt, trial.alloc, name, &flight.report, run.report);
+    has_text(rt, trial.alloc, name, &ended.report, run.report);
     trial.leaves(rt, name, run.stores);
-    all_have_left(rt, &flight.sources, 1, [0, 0, 0]);
-    each_took(rt, name, &flight.links, 1, run.stores, failures);
+    all_have_left(rt, &ended.sources, 1, [0, 0, 0]);
+    each_took(rt, name, &ended.links, 1, run.stores, failures);
 }
 
 // Carries out a run, over a link that fails after that many sends, if at all; returns the report.
@@ -56,9 +56,9 @@ pub(crate) fn carries_out<R: Threads + Wait + Sync + Abort>(
 ) -> Report {
     let alloc = trial.alloc;
     let sources = scripts(rt, alloc, 1, run.many);
-    let flight = trial.flown(rt, sources, new_links(rt, alloc, &[until]), 0);
-    has_ended(rt, trial, &flight, run, 0);
-    flight.report
+    let ended = trial.flown(rt, sources, new_links(rt, alloc, &[until]), 0);
+    has_ended(rt, trial, &ended, run, 0);
+    ended.report
 }
 
 // Carries out a run over an empty memory, and returns its report.
@@ -119,7 +119,7 @@ pub(crate) static MORE_IN_STEP_3: Run = run! {
     left!("SCI", [11, 3, 4], [(5, 5), (6, 6), (7, 7), (8, 8)], [1, 2, 3, 4])
 };
 
-static LAST_OF_MORE: Tally = Tally {
+static LAST_OF_MORE: StepCounts = StepCounts {
     forecast: 4,
     arrived: 5,
     lost: 3,
@@ -128,7 +128,7 @@ static LAST_OF_MORE: Tally = Tally {
 };
 
 // The report is of the store SCI and of this many steps, of which the last has this row.
-pub(crate) fn has_last_row(rt: &impl Abort, report: &Report, steps: u32, last: &Tally) {
+pub(crate) fn has_last_row(rt: &impl Abort, report: &Report, steps: u32, last: &StepCounts) {
     assert!(rt; report.ids() == [id(rt, "SCI")].as_slice(), "the store");
     assert!(rt; steps > 0 && report.steps() == steps, "{steps} steps");
     assert!(rt; report.row(steps) == [*last].as_slice(), "the last row");
@@ -165,8 +165,8 @@ fn opening_contents_run(rt: HostRuntime) {
     let want = ("not yet offered", Cause::OpeningDiffers { store });
     let halted = trial.halted(&rt, sources, links, 0, want);
     trial.change(&rt, &TWO_OFFERED);
-    let flight = trial.flown(&rt, halted.sources, halted.links, 0);
-    has_ended(&rt, &trial, &flight, &FROM_TWO_HELD, 0);
+    let ended = trial.flown(&rt, halted.sources, halted.links, 0);
+    has_ended(&rt, &trial, &ended, &FROM_TWO_HELD, 0);
 }
 
 // Eight sources of three packets each in step 1, after the latest storage time, at the latest start.
@@ -185,10 +185,10 @@ fn no_packet_is_refused_at_the_latest_times(rt: HostRuntime) {
     trial.change(&rt, &LATEST_TIME);
     let sources = scripts(&rt, alloc, 8, [3, 0, 0]);
     let links = new_links(&rt, alloc, &[None]);
-    let flight = trial.flown(&rt, sources, links, 1 << 63);
+    let ended = trial.flown(&rt, sources, links, 1 << 63);
     let name = "the latest times";
-    has_text(&rt, alloc, name, &flight.report, AT_THE_LATEST_TIMES);
-    all_have_sent(&rt, name, &flight.links, 1, 4);
+    has_text(&rt, alloc, name, &ended.report, AT_THE_LATEST_TIMES);
+    all_have_sent(&rt, name, &ended.links, 1, 4);
 }
 
 // The one link took one packet, which was stored at this time.
@@ -207,6 +207,6 @@ fn a_run_at_the_latest_start(rt: HostRuntime) {
     let alloc = rt.alloc();
     let mut trial = Trial::new(&rt, alloc, &FIRST_RUN);
     let sources = scripts(&rt, alloc, 1, [1, 0, 0]);
-    let flight = trial.flown(&rt, sources, new_links(&rt, alloc, &[None]), 1 << 63);
-    took_one_at(&rt, &flight.links, (1 << 63) + 1);
+    let ended = trial.flown(&rt, sources, new_links(&rt, alloc, &[None]), 1 << 63);
+    took_one_at(&rt, &ended.links, (1 << 63) + 1);
 }

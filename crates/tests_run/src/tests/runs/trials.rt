@@ -6,7 +6,7 @@ use crate::tests::sources::Script;
 use mm_base::MAX_BLOCKS;
 use mm_desk::StoreState;
 use mm_dump::{Link, MemoryLink, may_fail};
-use mm_exec::{Cause, Flight, Halted, carry_out};
+use mm_exec::{Cause, Halted, RunEnd, carry_out};
 use mm_memory::Memory;
 use mm_plan::Sheet;
 use mm_problem::{Problem, Setup};
@@ -202,7 +202,7 @@ impl Trial {
         sources: Vec<S>,
         links: Vec<L>,
         base: u64,
-    ) -> Result<Flight<S, L>, Halted<S, L>> {
+    ) -> Result<RunEnd<S, L>, Halted<S, L>> {
         assert!(rt; may_fail(&links), "links that may fail");
         let plan = self.sheet.plan();
         carry_out(
@@ -224,11 +224,11 @@ impl Trial {
         sources: Vec<Script>,
         links: Vec<MemoryLink>,
         base: u64,
-    ) -> Flight<Script, MemoryLink> {
-        let Ok(flight) = self.run(rt, sources, links, base) else {
+    ) -> RunEnd<Script, MemoryLink> {
+        let Ok(ended) = self.run(rt, sources, links, base) else {
             panic!(rt; "the plan is carried out");
         };
-        flight
+        ended
     }
 
     // Begins to carry out the plan, in the run of this name, which is halted for this cause.

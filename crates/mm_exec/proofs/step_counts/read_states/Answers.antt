@@ -2,7 +2,7 @@ use Rattle.std.proofs.Common.{rules, ℕ, ◌<◌, length, get_or, subst, ◌∙
 use Rattle.std.proofs.lemmas.List.{get_or_default}
 use Rattle.mm_desk.specs.declared.held.Held.{Held}
 use Rattle.mm_desk.specs.Machine.{IsState}
-use Rattle.mm_exec.proofs.tallies.read_states.Goals as goal
+use Rattle.mm_exec.proofs.step_counts.read_states.Goals as goal
 
 pub loop-held-preserved : goal.loop-held-preserved
 loop-held-preserved c =

@@ -1,10 +1,10 @@
 //! What a step brought to a store, and what steps brought in all.
 ghost use Rattle.std.specs.Prelude.{◌≡◌};
-ghost use Rattle.mm_report.specs.Tally.{totals_in, with_tally, HasRoom, IsOneMore};
+ghost use Rattle.mm_report.specs.Totals.{totals_in, with_counts, HasRoom, IsOneMore};
 
 /// What a step of a run brought to a store, in blocks.
 #[derive(Clone, Copy, Debug, PartialEq, Eq)]
-pub struct Tally {
+pub struct StepCounts {
     /// What the forecast says of the step.
     pub forecast: u64,
     /// The packets that came for the store.
@@ -17,7 +17,7 @@ pub struct Tally {
     pub held: u64,
 }
 
-/// What steps brought to all stores, in blocks. It has room for every sum of tallies.
+/// What steps brought to all stores, in blocks. It has room for every sum of counts.
 #[derive(Clone, Copy, Debug, PartialEq, Eq)]
 pub struct Totals {
     pub arrived: u128,
@@ -28,25 +28,25 @@ pub struct Totals {
 }
 
 impl Totals {
-    // These sums, with one tally more.
-    fn with(self, tally: Tally) -> Totals
+    // These sums, with the counts of one more store and step.
+    fn with(self, counts: StepCounts) -> Totals
         requires room { HasRoom self }
-        ensures added { result ≡ with_tally self tally }
+        ensures added { result ≡ with_counts self counts }
         ensures grown { IsOneMore self result }
     {
         Totals {
-            arrived: self.arrived + u128::from(tally.arrived),
-            lost: self.lost + u128::from(tally.lost),
-            dumped: self.dumped + u128::from(tally.dumped),
-            held: self.held + u128::from(tally.held),
+            arrived: self.arrived + u128::from(counts.arrived),
+            lost: self.lost + u128::from(counts.lost),
+            dumped: self.dumped + u128::from(counts.dumped),
+            held: self.held + u128::from(counts.held),
         }
     }
 }
 
-// The sums of these tallies.
+// The sums of these counts.
 #[tactic(auto, using(crate::proofs::Sums::totals_more))]
-pub(crate) fn totals_in(tallies: &[Tally]) -> Totals
-    ensures { result ≡ totals_in tallies.now }
+pub(crate) fn totals_in(all: &[StepCounts]) -> Totals
+    ensures { result ≡ totals_in all.now }
 {
     let mut totals = Totals {
         arrived: 0,
@@ -54,8 +54,8 @@ pub(crate) fn totals_in(tallies: &[Tally]) -> Totals
         dumped: 0,
         held: 0,
     };
-    for tally in tallies {
-        totals = totals.with(*tally);
+    for counts in all {
+        totals = totals.with(*counts);
     }
     totals
 }

@@ -4,13 +4,13 @@ ghost use Rattle.mm_base.specs.declared.limits.TheConstants.{MAX_STORES};
 ghost use Rattle.mm_desk.specs.Machine.{IsState};
 ghost use Rattle.mm_desk.specs.Runs.{opening_at};
 ghost use Rattle.mm_shared.specs.Stores.{states_of};
-ghost use Rattle.mm_exec.specs.Numbers.{tally_from, AreCounters, AreTallies};
+ghost use Rattle.mm_exec.specs.Numbers.{counts_from, AreCounters, AreStepCounts};
 
 use mm_base::MAX_STORES;
 use mm_desk::{Held, StoreState};
 use mm_problem::Problem;
 use mm_record::Counters;
-use mm_report::Tally;
+use mm_report::StepCounts;
 use mm_store::PacketStore;
 
 // Reads each store, which shows that it is sound.
@@ -41,21 +41,21 @@ pub(crate) fn all_counters(places: &[usize], stores: &[Held]) -> [Counters; MAX_
         lost: 0,
         deleted: 0,
     }; MAX_STORES];
-    for store in 0..places.len() {
-        counters[store] = Counters::of(state_at(stores, places[store]));
+    for (store, place) in places.iter().enumerate() {
+        counters[store] = Counters::of(state_at(stores, *place));
     }
     counters
 }
 
 // What a step brought to a store of the problem.
-fn tally(problem: &Problem, store: usize, step: u32, before: Counters, state: &StoreState) -> Tally
+fn counts_of(problem: &Problem, store: usize, step: u32, before: Counters, state: &StoreState) -> StepCounts
     requires store { store < length problem.now.rows }
     requires first { 1 ≤ step }
     requires last { step ≤ length problem.now.windows }
-    ensures { result ≡ tally_from problem.now store step before state.now }
+    ensures { result ≡ counts_from problem.now store step before state.now }
 {
     let rise = Counters::of(state).since(before);
-    Tally {
+    StepCounts {
         forecast: u64::from(problem.arrivals(store, step)),
         arrived: rise.offered,
         lost: rise.lost,
@@ -65,31 +65,31 @@ fn tally(problem: &Problem, store: usize, step: u32, before: Counters, state: &S
 }
 
 // What a step brought to each store of the problem, at these places.
-pub(crate) fn tallies_of(
+pub(crate) fn step_counts(
     problem: &Problem,
     step: u32,
     places: &[usize],
     before: &[Counters; MAX_STORES],
     stores: &[Held],
-) -> [Tally; MAX_STORES]
+) -> [StepCounts; MAX_STORES]
     requires all { length places.now ≡ length problem.now.rows }
     requires few { length places.now ≤ MAX_STORES }
     requires within { All (λ place. place < length stores.now) places.now }
     requires first { 1 ≤ step }
     requires last { step ≤ length problem.now.windows }
     ensures len { length result ≡ MAX_STORES }
-    ensures tallies { AreTallies problem.now step stores.now places.now before.now (length places.now) result }
+    ensures counts { AreStepCounts problem.now step stores.now places.now before.now (length places.now) result }
 {
-    let mut tallies = [Tally {
+    let mut counts = [StepCounts {
         forecast: 0,
         arrived: 0,
         lost: 0,
         dumped: 0,
         held: 0,
     }; MAX_STORES];
-    for store in 0..places.len() {
-        let state = state_at(stores, places[store]);
-        tallies[store] = tally(problem, store, step, before[store], state);
+    for (store, place) in places.iter().enumerate() {
+        let state = state_at(stores, *place);
+        counts[store] = counts_of(problem, store, step, before[store], state);
     }
-    tallies
+    counts
 }

@@ -1,27 +1,27 @@
 -- What steps brought to stores, in all.
 use Rattle.std.specs.Prelude.{◌+◌, ◌<◌, ◌^◌, List, sum_by}
-use Rattle.mm_report.specs.declared.tally.Tally.{Tally}
-use Rattle.mm_report.specs.declared.tally.Totals.{Totals}
+use Rattle.mm_report.specs.declared.counts.StepCounts.{StepCounts}
+use Rattle.mm_report.specs.declared.counts.Totals.{Totals}
 
--- the sums of these tallies
-abbrev pub totals_in : List Tally → Totals
-totals_in tallies = record {
-  arrived = sum_by (λ x. x.arrived) tallies;
-  lost = sum_by (λ x. x.lost) tallies;
-  dumped = sum_by (λ x. x.dumped) tallies;
-  held = sum_by (λ x. x.held) tallies;
+-- the sums of these counts
+abbrev pub totals_in : List StepCounts → Totals
+totals_in all = record {
+  arrived = sum_by (λ x. x.arrived) all;
+  lost = sum_by (λ x. x.lost) all;
+  dumped = sum_by (λ x. x.dumped) all;
+  held = sum_by (λ x. x.held) all;
 }
 
--- these sums, with one tally more
-abbrev pub with_tally : Totals → Tally → Totals
-with_tally t x = record {
+-- these sums, with the counts of one more store and step
+abbrev pub with_counts : Totals → StepCounts → Totals
+with_counts t x = record {
   arrived = t.arrived + x.arrived;
   lost = t.lost + x.lost;
   dumped = t.dumped + x.dumped;
   held = t.held + x.held;
 }
 
--- each sum has room for one tally more
+-- each sum has room for one number more
 pub record HasRoom (t : Totals) : Type 0 where
   pub arrived : t.arrived < 2 ^ 127
   pub lost : t.lost < 2 ^ 127

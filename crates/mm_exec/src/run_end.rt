@@ -5,7 +5,7 @@ use mm_report::{Cause, Report};
 
 /// What a run that was carried out leaves: its report, its sources and its links.
 #[derive(Drop)]
-pub struct Flight<S: Drop, L: Drop> {
+pub struct RunEnd<S: Drop, L: Drop> {
     pub report: Report,
     pub sources: Vec<S>,
     pub links: Vec<L>,
@@ -33,20 +33,20 @@ pub struct Flown<S: Drop, L: Drop> {
 
 /// What a run leaves that was planned and then halted: the text of the plan, empty where none was made, and the rest.
 #[derive(Drop)]
-pub struct NotFlown<S: Drop, L: Drop> {
+pub struct FlyHalted<S: Drop, L: Drop> {
     pub sheet: Vec<u8>,
     pub halted: Halted<S, L>,
 }
 
 /// What a run that is planned, printed and carried out gives.
-pub type FlyResult<S, L> = Result<Flown<S, L>, NotFlown<S, L>>;
+pub type FlyResult<S, L> = Result<Flown<S, L>, FlyHalted<S, L>>;
 
-impl<S: Drop, L: Drop> Flight<S, L> {
+impl<S: Drop, L: Drop> RunEnd<S, L> {
     /// The same with the text of its plan.
     pub fn with_sheet(self, sheet: Vec<u8>) -> Flown<S, L>
         ensures { result ≡ record { sheet = sheet; report = self.report; sources = self.sources; links = self.links } }
     {
-        let Flight {
+        let RunEnd {
             report,
             sources,
             links,
