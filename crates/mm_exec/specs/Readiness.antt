@@ -1,11 +1,12 @@
 -- What is tested before a run, in which order.
-use Rattle.std.specs.Prelude.{◌≡◌, ℕ, ◌<◌, ◌≤◌, Bool, true, false, not, ◌&&◌, ◌==◌, ◌⊎◌, List, length, slice_index_or, take, All, Option, Some, None, is_some}
+use Rattle.std.specs.Prelude.{◌≡◌, ℕ, ◌<◌, ◌≤◌, Bool, true, false, ◌==◌, ◌⊎◌, List, length, slice_index_or, take, All, Option, Some, None, is_some}
 use Rattle.mm_base.specs.declared.rows.StoreRow.{StoreRow}
 use Rattle.mm_problem.specs.Dumping.{Dumping, row, place, limit}
 use Rattle.mm_plan.specs.Table.{Table, amount, HasShape}
 use Rattle.mm_plan.specs.Fit.{Fits, IsFirstMisfit}
 use Rattle.mm_desk.specs.declared.held.Held.{Held}
 use Rattle.mm_memory.specs.Holdings.{store_of}
+use Rattle.mm_record.specs.Causes.{is_ready}
 use Rattle.mm_report.specs.declared.cause.Cause.{Cause}
 use Rattle.mm_report.specs.declared.cause.Cause.TheVariants.{PlanShape, NotReady, SizeDiffers, OpeningDiffers, ChannelDiffers, ClockTooLate, PlanDoesNotFit, Counts, NoMemory, LinkFailed, LogMismatch}
 use Rattle.mm_exec.specs.declared.requirement.Requirement.{Requirement}
@@ -13,11 +14,11 @@ use Rattle.mm_exec.specs.declared.requirement.Requirement.TheVariants.{Ready, Si
 use Rattle.mm_report.specs.declared.cause.TheConstants.{LATEST_START, MAX_SOURCES}
 use Rattle.mm_exec.specs.declared.readiness.TheConstants.{MAX_LINKS}
 
--- whether a store is as its row of the setup needs it: there, with its storage on and no retrieval on; of the row's size; holding the
--- start volume; on the row's virtual channel
+-- whether a store is as its row of the setup needs it: there and ready for a step; of the row's size; holding the start volume; on the
+-- row's virtual channel
 abbrev pub meets : Requirement → StoreRow → Option Held → Bool
 meets requirement r None = false
-meets Ready r (Some h) = h.state.storage && not (is_some h.state.retrieval)
+meets Ready r (Some h) = is_ready h
 meets Size r (Some h) = h.state.store.size == r.size
 meets Opening r (Some h) = length h.state.store.content == r.start
 meets Channel r (Some h) = h.channel == r.channel

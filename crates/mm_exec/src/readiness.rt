@@ -8,6 +8,7 @@ use mm_base::StoreId;
 use mm_desk::Held;
 use mm_plan::{Plan, fits};
 use mm_problem::Problem;
+use mm_record::is_count;
 use mm_report::{Cause, LATEST_START, MAX_SOURCES};
 use mm_store::PacketStore;
 
@@ -64,7 +65,7 @@ fn is_early(stores: &[Held], base: u64) -> bool
 fn are_counts(sources: usize, links: usize) -> bool
     ensures { IsTrue result ↔ AreCounts sources links }
 {
-    1 <= sources && sources <= MAX_SOURCES && 1 <= links && links <= MAX_LINKS
+    is_count(sources, MAX_SOURCES) && is_count(links, MAX_LINKS)
 }
 
 /// Whether a run may begin: over these stores, from the moment before its first step, with this many sources and links. Otherwise

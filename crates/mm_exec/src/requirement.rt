@@ -8,6 +8,7 @@ use mm_base::StoreId;
 use mm_desk::Held;
 use mm_memory::store_of;
 use mm_problem::Problem;
+use mm_record::is_ready;
 use mm_store::PacketStore;
 
 /// What a store of the problem needs to be like before a run.
@@ -29,7 +30,7 @@ fn is_as(problem: &Problem, store: usize, requirement: Requirement, held: &Held)
     ensures { result ≡ meets requirement (row problem.now store) (Some held.now) }
 {
     match requirement {
-        Requirement::Ready => held.state.storage() && !held.state.retrieval().is_some(),
+        Requirement::Ready => is_ready(held),
         Requirement::Size => held.state.store().size() == problem.size(store),
         Requirement::Opening => held.state.store().len() == problem.start(store),
         Requirement::Channel => held.channel == problem.channel(store),

@@ -7,7 +7,7 @@ use Rattle.std.proofs.lemmas.List.{length-set, get_or-set_same, get_or-set_other
 use Rattle.std.proofs.lemmas.List.Sums.{fold-append}
 use Rattle.mm_base.specs.declared.limits.TheConstants.{MAX_STEPS}
 use Rattle.mm_packet.specs.Packet.{SpacePacket}
-use Rattle.mm_run.specs.declared.source_line.TheConstants.{MAX_SOURCES}
+use Rattle.mm_report.specs.declared.cause.TheConstants.{MAX_SOURCES}
 use Rattle.mm_run.specs.declared.source_line.SourceLine.{SourceLine}
 use Rattle.mm_run.specs.declared.source.ScriptedSource.{ScriptedSource}
 use Rattle.mm_run.specs.declared.source.TheConstants.{MAX_PACKETS}

@@ -1,7 +1,7 @@
 -- What has been read of a text of sources so far.
 use Rattle.std.specs.Prelude.{◌≡◌, ◌≢◌, ℕ, ◌-◌, ◌≤◌, List, length, slice_index, Result, Ok, Err}
 use Rattle.mm_run.specs.declared.source_line.SourceLine.{SourceLine}
-use Rattle.mm_run.specs.declared.source_line.TheConstants.{MAX_SOURCES}
+use Rattle.mm_report.specs.declared.cause.TheConstants.{MAX_SOURCES}
 use Rattle.mm_run.specs.declared.script_fault.ScriptFault.{ScriptFault}
 use Rattle.mm_run.specs.declared.script_fault.ScriptFault.TheVariants.{NoMemory}
 use Rattle.mm_run.specs.declared.sources.Draft.{Draft}

@@ -8,7 +8,7 @@ use Rattle.mm_packet.specs.Spelling.{spelling}
 use Rattle.mm_packet.specs.declared.block.TheConstants.{BLOCK}
 use Rattle.mm_ask.specs.Line.{packet_of}
 use Rattle.mm_run.specs.declared.source_line.SourceLine.{SourceLine}
-use Rattle.mm_run.specs.declared.source_line.TheConstants.{MAX_SOURCES}
+use Rattle.mm_report.specs.declared.cause.TheConstants.{MAX_SOURCES}
 use Rattle.mm_run.specs.declared.script_fault.ScriptFault.{ScriptFault}
 use Rattle.mm_base.specs.Lines.{cut_word}
 use Rattle.mm_run.specs.Words.{number_in}

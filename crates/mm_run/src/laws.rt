@@ -1,6 +1,6 @@
 //! The numbers of this crate's constants.
 ghost use Rattle.std.specs.Prelude.{◌≡◌};
-ghost use Rattle.mm_run.specs.declared.source_line.TheConstants.{MAX_SOURCES};
+ghost use Rattle.mm_report.specs.declared.cause.TheConstants.{MAX_SOURCES};
 ghost use Rattle.mm_run.specs.declared.source.TheConstants.{MAX_PACKETS};
 ghost use Rattle.mm_run.specs.declared.links.TheConstants.{MAX_WRITTEN, MAX_SEND};
 

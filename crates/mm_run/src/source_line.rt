@@ -10,10 +10,8 @@ use crate::words::number_in;
 use mm_base::MAX_STEPS;
 use mm_base::lines::cut_word;
 use mm_packet::BlockPacket;
+use mm_report::MAX_SOURCES;
 use std::alloc::Global;
-
-/// The greatest number of a source.
-pub const MAX_SOURCES: u8 = 8;
 
 /// A packet that a source gives in a step: what a line says. Step 0 is before the run.
 #[derive(Debug, Drop)]
@@ -35,7 +33,7 @@ pub(crate) fn source_line_at(
     ensures in_range { IfOk result IsSourceLine }
 {
     let (source, rest) = cut_word(line).ok_or(bad)?;
-    let source = number_in(bad, 1, u64::from(MAX_SOURCES), source)?;
+    let source = number_in(bad, 1, MAX_SOURCES as u64, source)?;
     let (step, digits) = cut_word(rest).ok_or(bad)?;
     let step = number_in(bad, 0, u64::from(MAX_STEPS), step)?;
     let packet = packet_in(alloc, bad, digits)?;

@@ -8,10 +8,11 @@ ghost use Rattle.mm_run.specs.Sources.{given, Says, AreFew, source_lines_of};
 
 use crate::script_fault::ScriptFault;
 use crate::source::{MAX_PACKETS, ScriptedSource};
-use crate::source_line::{MAX_SOURCES, SourceLine, source_line_at};
+use crate::source_line::{SourceLine, source_line_at};
 use mm_base::NoMemory;
 use mm_base::lines::first_line;
 use mm_packet::BlockPacket;
+use mm_report::MAX_SOURCES;
 use std::alloc::Global;
 
 /// What a text of sources says.
@@ -27,7 +28,7 @@ pub struct SourceFile {
 #[derive(Drop)]
 struct Draft {
     opening: Vec<BlockPacket>,
-    opened: [u32; MAX_SOURCES as usize],
+    opened: [u32; MAX_SOURCES],
     sources: Vec<ScriptedSource>,
 }
 
@@ -94,7 +95,7 @@ impl Draft {
     {
         Draft {
             opening: Vec::new(alloc),
-            opened: [0; MAX_SOURCES as usize],
+            opened: [0; MAX_SOURCES],
             sources: Vec::new(alloc),
         }
     }
