@@ -326,11 +326,20 @@ refusals() {
 words() {
   awk '
     /^fn / { table = $2; sub(/\(.*/, "", table); name = "" }
-    /^ *(Refusal|Finding)::[A-Za-z0-9]+ =>/ { name = $1; sub(/.*::/, "", name) }
+    /^ *Refusal::[A-Za-z0-9]+ =>/ { name = $1; sub(/.*::/, "", name) }
     name != "" && match($0, /".*"/) {
       printf "%s\t%s\t%s\n", table, name, substr($0, RSTART + 1, RLENGTH - 2)
       name = ""
-    }' "$top/crates/mm_told/src/words.rt" "$top/crates/mm_told/src/findings.rt"
+    }' "$top/crates/mm_told/src/words.rt"
+}
+
+# The words of mm_told for each verdict but the least: the verdict, what was expected and what to do, separated by tabs.
+findings() {
+  awk '
+    match($0, /Verdict::[A-Za-z]+/) { verdict = substr($0, RSTART + 9, RLENGTH - 9) }
+    match($0, /expected: ".*"/) { expected = substr($0, RSTART + 11, RLENGTH - 12) }
+    match($0, /advice: ".*"/) { printf "%s\t%s\t%s\n", verdict, expected, substr($0, RSTART + 9, RLENGTH - 10) }
+  ' "$top/crates/mm_told/src/findings.rt"
 }
 
 # The words that a table of mm_told has for a refusal.
@@ -353,11 +362,12 @@ check_refusals() {
 
 # The table of what `check` finds in docs/FORMATS.md: a row with the words of each finding.
 check_findings() {
-  local case
-  while read -r case; do
-    grep -qF -- "| $(words_of found_expected "$case") | $(words_of found_advice "$case") |" "$top/docs/FORMATS.md" ||
-      fail "docs/FORMATS.md: no row has the words of mm_told for $case"
-  done < <(awk -F '\t' '$1 == "found_expected" { print $2 }' "$work/words")
+  local verdict expected advice
+  findings >"$work/findings"
+  [ "$(wc -l <"$work/findings")" = 6 ] || fail "crates/mm_told/src/findings.rt: not one row of words for each verdict but the least"
+  while IFS=$'\t' read -r verdict expected advice; do
+    grep -qF -- "| $expected | $advice |" "$top/docs/FORMATS.md" || fail "docs/FORMATS.md: no row has the words of mm_told for $verdict"
+  done <"$work/findings"
 }
 
 # The tests that docs/FORMATS.md names for refusals, as lines of crate, test and number. There the tests of a crate are one point of a list, each

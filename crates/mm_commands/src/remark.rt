@@ -9,8 +9,8 @@ use mm_command_line::{Role, Task};
 use mm_cut::Verdict;
 use mm_run::Outcome;
 use mm_told::{
-    Finding, Hint, Reason, Spot, Texts, Words, fit_hint, hint_for, notes_on, opening_hint,
-    refusal_numbered, request_hint,
+    Hint, Reason, Spot, Texts, Words, fit_hint, hint_for, notes_on, opening_hint, refusal_numbered,
+    request_hint,
 };
 use std::alloc::Global;
 use std::fmt;
@@ -21,7 +21,7 @@ use std::io::{self, Write};
 pub(crate) struct Remark<'a> {
     plan: &'a str,
     verdict: Verdict,
-    finding: Finding,
+    words: Words,
 }
 
 impl<'a> Remark<'a> {
@@ -30,7 +30,7 @@ impl<'a> Remark<'a> {
         Some(Remark {
             plan: task.file(Role::Plan)?,
             verdict,
-            finding: finding_of(verdict)?,
+            words: Words::of_verdict(verdict)?,
         })
     }
 }
@@ -44,19 +44,7 @@ impl fmt::Display for Remark<'_> {
             Verdict::BadCount(place) => write!(f, ", count {place}")?,
             _ => {}
         }
-        write!(f, ": {}", self.finding.words())
-    }
-}
-
-fn finding_of(verdict: Verdict) -> Option<Finding> {
-    match verdict {
-        Verdict::DoesNotFit(_) => Some(Finding::DoesNotFit),
-        Verdict::LossIs(_) => Some(Finding::LossIs),
-        Verdict::BadStretch(_) => Some(Finding::BadStretch),
-        Verdict::BadCount(_) => Some(Finding::BadCount),
-        Verdict::BoundIs(_) => Some(Finding::BoundIs),
-        Verdict::NotShown { .. } => Some(Finding::NotShown),
-        Verdict::Least(_) => None,
+        write!(f, ": {}", self.words)
     }
 }
 

@@ -1,52 +1,43 @@
 //! The words of what `check` finds of a plan that it does not show to lose least.
-ghost use Rattle.std.specs.Prelude.{IsTrue};
+ghost use Rattle.std.specs.Prelude.{IfSome, IsTrue};
 ghost use Rattle.mm_told.specs.Phrase.{is_phrase};
 
 use crate::words::Words;
+use mm_cut::Verdict;
 
-/// What `check` finds of a plan that it does not show to lose least.
-#[derive(Clone, Copy)]
-pub enum Finding {
-    DoesNotFit,
-    LossIs,
-    BadStretch,
-    BadCount,
-    BoundIs,
-    NotShown,
-}
-
-impl Finding {
-    /// The words of this finding.
+impl Words {
+    /// The words of a verdict, but of `Least`, which wants nothing.
     #[must_use]
-    pub fn words(self) -> Words
-        ensures expected { IsTrue (is_phrase result.expected.now) }
-        ensures advice { IsTrue (is_phrase result.advice.now) }
+    pub fn of_verdict(verdict: Verdict) -> Option<Words>
+        ensures expected { IfSome result (λ words. IsTrue (is_phrase words.expected.now)) }
+        ensures advice { IfSome result (λ words. IsTrue (is_phrase words.advice.now)) }
     {
-        match self {
-            Finding::DoesNotFit => Words {
+        match verdict {
+            Verdict::DoesNotFit(_) => Some(Words {
                 expected: "amounts within the window and the channels' limits",
                 advice: "dump less in that step, or plan again",
-            },
-            Finding::LossIs => Words {
+            }),
+            Verdict::LossIs(_) => Some(Words {
                 expected: "the loss that the plan has, which is the number printed",
                 advice: "write that number after loss, or plan again",
-            },
-            Finding::BadStretch => Words {
+            }),
+            Verdict::BadStretch(_) => Some(Words {
                 expected: "stretches of stores of the setup, with steps in order and in range, that share no step",
                 advice: "correct that stretch, counted from 1, or plan again",
-            },
-            Finding::BadCount => Words {
+            }),
+            Verdict::BadCount(_) => Some(Words {
                 expected: "counts of inner steps, each once, at which each inner store has a channel with a limit",
                 advice: "take that count out, counted from 1, or plan again",
-            },
-            Finding::BoundIs => Words {
+            }),
+            Verdict::BoundIs(_) => Some(Words {
                 expected: "the bound that the cut has, which is the number printed",
                 advice: "write that number after bound, or plan again",
-            },
-            Finding::NotShown => Words {
+            }),
+            Verdict::NotShown { .. } => Some(Words {
                 expected: "a cut whose bound is the loss of the plan",
                 advice: "plan again; this plan fits, and loses at most the difference more than the best",
-            },
+            }),
+            Verdict::Least(_) => None,
         }
     }
 }

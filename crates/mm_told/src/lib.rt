@@ -15,7 +15,6 @@ mod words;
 
 pub use answer::{Answer, Status, tell_text};
 pub use codes::{NAMES, PLACES, Place, REFUSALS, refusal_numbered};
-pub use findings::Finding;
 pub use hints::{
     EndsHint, Hint, Note, Texts, fit_hint, hint_for, notes_on, opening_hint, request_hint,
 };

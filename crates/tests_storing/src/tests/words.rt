@@ -1,6 +1,7 @@
 //! Each refusal as it is printed, and its words.
 use mm_base::Refusal;
-use mm_told::{Finding, Words};
+use mm_cut::Verdict;
+use mm_told::Words;
 use std::process::Abort;
 
 // Refusals, and the text of each.
@@ -117,24 +118,34 @@ fn refusals_are_found_by_their_numbers(rt: HostRuntime) {
     assert!(rt; Words::of_number(54).is_none(), "a number of no refusal");
 }
 
-static FINDINGS: [Finding; 6] = [
-    Finding::DoesNotFit,
-    Finding::LossIs,
-    Finding::BadStretch,
-    Finding::BadCount,
-    Finding::BoundIs,
-    Finding::NotShown,
+static FINDINGS: [Verdict; 6] = [
+    Verdict::DoesNotFit(1),
+    Verdict::LossIs(2),
+    Verdict::BadStretch(3),
+    Verdict::BadCount(4),
+    Verdict::BoundIs(-5),
+    Verdict::NotShown { loss: 6, bound: 5 },
 ];
 
 #[test]
 fn findings_have_words_of_their_own(rt: HostRuntime) {
-    for (i, one) in FINDINGS.iter().enumerate() {
-        has_no_full_stop(&rt, one.words().expected);
-        has_no_full_stop(&rt, one.words().advice);
+    for (i, verdict) in FINDINGS.iter().enumerate() {
+        let one = Words::of_verdict(*verdict).expect(&rt, "words");
+        has_no_full_stop(&rt, one.expected);
+        has_no_full_stop(&rt, one.advice);
         for other in &FINDINGS[..i] {
-            differ(&rt, one.words(), other.words(), "two findings");
+            differ(
+                &rt,
+                one,
+                Words::of_verdict(*other).expect(&rt, "words"),
+                "two findings",
+            );
         }
     }
+    assert!(rt;
+        Words::of_verdict(Verdict::Least(1)).is_none(),
+        "a least plan"
+    );
 }
 
 static SHOWN: [(Refusal, &str); 3] = refusals! {
