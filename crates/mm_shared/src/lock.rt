@@ -32,6 +32,7 @@ fn try_take(table: &StoreTable, seat: &mut StoreSeat) -> bool
 }
 
 // Takes the state once it comes free.
+#[inline(never)]
 fn wait<R: Wait>(rt: &R, table: &StoreTable, seat: &mut StoreSeat)
     requires may { MayTake table.now.table_id seat.old }
     ensures took { HasTaken seat.old seat.new }
@@ -49,6 +50,7 @@ fn wait<R: Wait>(rt: &R, table: &StoreTable, seat: &mut StoreSeat)
 }
 
 // Takes the state. Where it is free this is one step.
+#[inline(always)]
 pub(crate) fn take<R: Wait>(rt: &R, table: &StoreTable, seat: &mut StoreSeat)
     requires may { MayTake table.now.table_id seat.old }
     ensures took { HasTaken seat.old seat.new }
