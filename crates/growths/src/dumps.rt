@@ -8,6 +8,7 @@ use crate::met::Met;
 use crate::traces::sent_over;
 use mm_base::{NoMemory, StoreId};
 use mm_desk::{Held, StoreState};
+use mm_dump::laws::idle_stores_suit_orders;
 use mm_dump::{Dumped, Link, Order, dump, may_fail};
 use mm_store::PacketStore;
 use std::alloc::Global;
@@ -92,6 +93,7 @@ pub fn dumped<L: Link + Send, R: Threads + Wait + Sync>(
     if !are_few || !may_fail(links) || !are_idle(stores) {
         return None;
     }
+    idle_stores_suit_orders();
     Some(dump(rt, alloc, orders, stores, links))
 }
 

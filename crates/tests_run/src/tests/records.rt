@@ -9,6 +9,7 @@ use mm_base::StoreId;
 use mm_desk::{Fault, Held};
 use mm_memory::Memory;
 use mm_packet::{BlockPacket, Header, Octets, Packet};
+use mm_record::laws::held_stores_are_named;
 use mm_record::{
     Cause, RecordHalted, Recorded, RecordedStep, RecordingStep, cause_in, record, record_step,
 };
@@ -214,6 +215,7 @@ fn lend_and_record<R: Threads + Wait + Sync + Abort>(
     sources: &mut [Script],
 ) -> Option<Fault> {
     let mut stores = memory.lift();
+    held_stores_are_named();
     assert!(rt; sources.len() <= 16, "few sources");
     let step = RecordingStep {
         control: memory.control(),

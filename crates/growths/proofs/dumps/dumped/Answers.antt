@@ -1,5 +1,4 @@
 use Rattle.std.proofs.Common.{rules}
-use Rattle.mm_dump.proofs.Idle.{all_idle}
 use Rattle.growths.proofs.dumps.dumped.Goals as goal
 
 pub dump-requires-clause-may : goal.dump-requires-clause-may
@@ -11,6 +10,6 @@ dump-requires-clause-may g c κs within = record {
   places = search rules;
   amounts = search rules;
   distinct = search rules;
-  idle = all_idle _ _ (search rules);
+  idle = c.idle_stores_suit_orders.ensures.law _ _ (search rules);
   room = search rules;
 }
