@@ -48,7 +48,13 @@ pub(crate) fn all_counters(places: &[usize], stores: &[Held]) -> [Counters; MAX_
 }
 
 // What a step brought to a store of the problem.
-fn counts_of(problem: &Problem, store: usize, step: u32, before: Counters, state: &StoreState) -> StepCounts
+fn counts_of(
+    problem: &Problem,
+    store: usize,
+    step: u32,
+    before: Counters,
+    state: &StoreState,
+) -> StepCounts
     requires store { store < length problem.now.rows }
     requires first { 1 ≤ step }
     requires last { step ≤ length problem.now.windows }
