@@ -94,7 +94,12 @@ fn push_differs_line(text: &mut Vec<u8>, cell: Cell, counts: StepCounts) -> Resu
 }
 
 // The line of a step and a store in this listing, if there is one.
-fn push_line(text: &mut Vec<u8>, listing: Listing, at: Cell, counts: StepCounts) -> Result<(), AllocError>
+fn push_line(
+    text: &mut Vec<u8>,
+    listing: Listing,
+    at: Cell,
+    counts: StepCounts,
+) -> Result<(), AllocError>
     ensures { OnOk result (text.new.items ≡ text.old.items ++ line_of listing at.step at.id counts) }
 {
     match listing {
