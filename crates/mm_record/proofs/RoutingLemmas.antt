@@ -43,7 +43,8 @@ only (r ∷ s ∷ rows) row one at = absurd (omega (arith, one))
 
 -- the store of the only row is the one
 pub leads_to : (routes : List RouteRow) (stores : List NamedStore) (report : ReportType) (rows : List RouteRow) (row : RouteRow) (index : ℕ)
-    → ((id : List ℕ) → filter (bytes_eq id) (map (λ (r : RouteRow). r.store) rows) ≡ (if has_row (row_of report id) routes then id ∷ [] else []))
+    → ((id : List ℕ) → filter (bytes_eq id) (map (λ (r : RouteRow). r.store) rows)
+    ≡ (if has_row (row_of report id) routes then id ∷ [] else []))
     → length rows ≡ 1 → get_or rows 0 row ≡ row → index < length stores
     → ((j : ℕ) → j < length stores → bytes_eq (id_at (ids_of stores) j) row.store ≡ (j == index))
     → LeadsTo routes stores report index
@@ -51,7 +52,8 @@ leads_to routes stores report rows row index once one at within is = record {
   within = within;
   offers = λ now p k of inside.
       let id = id_at (ids_of stores) k in
+      let routed = sym (routed_as routes id report p of) in
       found_at now p id row k index (is k inside)
       ∙ ap (offers_by now p id) (sym (only rows row one at))
-      ∙ by_rows now p id rows (is_routed routes id p) (once id ∙ ap (λ b. if b then id ∷ [] else []) (sym (routed_as routes id report p of)));
+      ∙ by_rows now p id rows (is_routed routes id p) (once id ∙ ap (λ b. if b then id ∷ [] else []) routed);
 }

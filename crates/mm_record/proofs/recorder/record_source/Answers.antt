@@ -19,9 +19,10 @@ loop-packet-init g c = record {
 pub loop-packet-preserved : goal.loop-packet-preserved
 loop-packet-preserved g c =
     let context = c.args.context.now in
+    let e = open_recording context.step context.moment context.control.now context.stores.now in
     record {
       routings = c.offer_packet.ensures.routings;
-      so_far = so_far_more (open_recording context.step context.moment context.control.now context.stores.now) _ (g.S.Source.gives c.loop-packet.source) _ _ _ _ (length context.stores.now) c.in-Some.packet
+      so_far = so_far_more e _ (g.S.Source.gives c.loop-packet.source) _ _ _ _ (length context.stores.now) c.in-Some.packet
           (many context.stores.now) c.loop-packet.invariant.so_far c.in-Some.ensures.gives c.in-Some.ensures.others c.in_ok-offer_packet.ensures.ok;
     }
 
