@@ -15,82 +15,12 @@ use Rattle.mm_told.specs.declared.spot.Spot.TheVariants.{Whole, Line, Row, Cell,
 -- a name by its code
 name-at : (n : Name) → slice_get NAMES (code_of_name n) ≡ Some n
 name-at name.Store = refl
-name-at name.Route = refl
-name-at name.Limit = refl
-name-at name.Stores = refl
-name-at name.Routes = refl
-name-at name.Limits = refl
-name-at name.Unknown = refl
-name-at name.Repeated = refl
-name-at name.Id = refl
-name-at name.Size = refl
-name-at name.Type = refl
-name-at name.Channel = refl
-name-at name.Start = refl
-name-at name.Apid = refl
-name-at name.Service = refl
-name-at name.Subtype = refl
-name-at name.Blocks = refl
-name-at name.Steps = refl
-name-at name.Window = refl
-name-at name.Arrivals = refl
+name-at other = search refl
 
 -- a refusal by its number
 refusal-at : (r : Refusal) → slice_get REFUSALS (number_of r) ≡ Some r
 refusal-at refusal.NoMemory = refl
-refusal-at refusal.Short = refl
-refusal-at refusal.Version = refl
-refusal-at refusal.NoSecondaryHeader = refl
-refusal-at refusal.PusVersion = refl
-refusal-at refusal.Segmented = refl
-refusal-at refusal.IdlePacket = refl
-refusal-at refusal.HeaderCut = refl
-refusal-at refusal.TooLong = refl
-refusal-at refusal.HoldsMore = refl
-refusal-at refusal.NoSuchRoute = refl
-refusal-at refusal.TableFull = refl
-refusal-at refusal.NotSt15 = refl
-refusal-at refusal.UnknownSubtype = refl
-refusal-at refusal.CountMismatch = refl
-refusal-at refusal.BadId = refl
-refusal-at refusal.BadEnum = refl
-refusal-at refusal.Disabled = refl
-refusal-at refusal.Busy = refl
-refusal-at refusal.NoRetrieval = refl
-refusal-at refusal.BadRange = refl
-refusal-at refusal.ClockEnd = refl
-refusal-at refusal.WindowFull = refl
-refusal-at refusal.NoSuchStore = refl
-refusal-at refusal.Exists = refl
-refusal-at refusal.TooManyStores = refl
-refusal-at refusal.StorageOn = refl
-refusal-at refusal.SetupText = refl
-refusal-at refusal.SetupField = refl
-refusal-at refusal.ForecastText = refl
-refusal-at refusal.Header = refl
-refusal-at refusal.Cell = refl
-refusal-at refusal.StepNumber = refl
-refusal-at refusal.Limit = refl
-refusal-at refusal.PlanText = refl
-refusal-at refusal.Shape = refl
-refusal-at refusal.Unbounded = refl
-refusal-at refusal.SameEnds = refl
-refusal-at refusal.PlanShape = refl
-refusal-at refusal.NotReady = refl
-refusal-at refusal.SizeDiffers = refl
-refusal-at refusal.OpeningDiffers = refl
-refusal-at refusal.ClockTooLate = refl
-refusal-at refusal.PlanDoesNotFit = refl
-refusal-at refusal.Counts = refl
-refusal-at refusal.NoMemoryInStep = refl
-refusal-at refusal.LinkFailed = refl
-refusal-at refusal.LogMismatch = refl
-refusal-at refusal.BadSize = refl
-refusal-at refusal.HexLine = refl
-refusal-at refusal.NotRead = refl
-refusal-at refusal.SourcesText = refl
-refusal-at refusal.LinksText = refl
-refusal-at refusal.ChannelDiffers = refl
+refusal-at other = search refl
 
 -- a spot by its codes
 spot-at : (number : ℕ) (spot : Spot) → spot_told (told_at number spot) ≡ Some spot

@@ -34,16 +34,21 @@ fn a_chart_is_one_document(rt: HostRuntime) {
     }
 }
 
-static REFUSED: [(&str, &str); 2] = [
+static REFUSED: [(&str, &str); 4] = [
     (
         "chart S F P\n=== S\n[[store\n=== F\n=== P\n",
         "refused 27 SetupText\n",
     ),
     ("chart S F P\n=== S\n", "refused 50 NotRead name F\n"),
+    (
+        "table S F P\n=== S\n[[store\n=== F\n=== P\n",
+        "refused 27 SetupText\n",
+    ),
+    ("table S F P\n=== S\n", "refused 50 NotRead name F\n"),
 ];
 
 #[test]
-fn a_refused_chart_is_one_line(rt: HostRuntime) {
+fn a_refused_chart_or_table_is_one_line(rt: HostRuntime) {
     refuses(&rt, &REFUSED);
     let script = format!(in rt.alloc();
         "chart S F P\n=== S\n{SCI}=== F\n{THREE_STEPS}=== P\nmmplan 1\nstores HK\ndump 1 2\nloss 1\nbound 1\nend\n"

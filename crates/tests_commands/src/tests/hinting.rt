@@ -256,22 +256,10 @@ fn hints<R: Abort + AllocGlobal + Threads + Wait + Sync>(rt: &R, cases: &[(&str,
 }
 
 #[test]
-fn faults_of_a_setup_are_shown(rt: HostRuntime) {
+fn faults_of_files_are_shown(rt: HostRuntime) {
     hints(&rt, &SETUP_HINTS);
-}
-
-#[test]
-fn faults_of_a_forecast_are_shown(rt: HostRuntime) {
     hints(&rt, &FORECAST_HINTS);
-}
-
-#[test]
-fn faults_of_a_plan_text_are_shown(rt: HostRuntime) {
     hints(&rt, &PLAN_HINTS);
-}
-
-#[test]
-fn faults_of_packets_and_links_are_shown(rt: HostRuntime) {
     hints(&rt, &ENDS_HINTS);
 }
 

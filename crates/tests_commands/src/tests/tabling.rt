@@ -1,6 +1,6 @@
 //! What `table` prints of given plans.
 
-use crate::tests::samples::{FIRST_PLAN, SCI, THREE_STEPS, prints, refuses};
+use crate::tests::samples::{FIRST_PLAN, SCI, THREE_STEPS, prints};
 
 // The store takes 4 blocks. In step 3 it holds 2, and 4 arrive, so 2 are lost.
 const FIRST_TABLE: &str = "\
@@ -29,17 +29,4 @@ fn a_table_has_a_record_for_each_step_and_store(rt: HostRuntime) {
         ).expect(&rt, "memory");
         prints(&rt, script.as_str(), table, 0);
     }
-}
-
-static REFUSED: [(&str, &str); 2] = [
-    (
-        "table S F P\n=== S\n[[store\n=== F\n=== P\n",
-        "refused 27 SetupText\n",
-    ),
-    ("table S F P\n=== S\n", "refused 50 NotRead name F\n"),
-];
-
-#[test]
-fn a_refused_table_is_one_line(rt: HostRuntime) {
-    refuses(&rt, &REFUSED);
 }
