@@ -313,47 +313,38 @@ fn links_fail_at_the_sends_of_their_lines(rt: HostRuntime) {
     has_sent(&rt, &links, &[5, 8], &packet);
 }
 
-// Texts, and how many links each says.
-static LINKS: [(&str, usize); 4] = [
-    ("links 0", 0),
-    ("links 5\n", 5),
-    ("links 99\nfail 99 1\n", 99),
-    ("links 1\nfail 1 4294967295\nfail 1 4294967295", 1),
-];
-
-#[test]
-fn links_of_texts(rt: HostRuntime) {
-    for (text, many) in &LINKS {
-        links_of(&rt, rt.alloc(), *text, *many);
-    }
-}
-
-// Texts, and the first line of each that is refused.
-static BAD_LINKS: [(&str, u64); 15] = [
-    ("", 1),
-    ("\n", 1),
-    ("links", 1),
-    ("links ", 1),
-    ("links 100", 1),
-    ("links 01", 1),
-    ("links 1 ", 1),
-    ("link 1", 1),
-    ("fail 1 1", 1),
-    ("links 1\n\n", 2),
-    ("links 1\nfail 1 0", 2),
-    ("links 1\nfail 2 1", 2),
-    ("links 0\nfail 1 1", 2),
-    ("links 1\nfail 1 1\nfail 1 4294967296\n", 3),
-    ("links 1\nfail 1 1\nlinks 1\n", 3),
+// Texts, and how many links each says, or the first line of it that is refused.
+static LINKS: [(&str, Result<usize, u64>); 19] = [
+    ("links 0", Ok(0)),
+    ("links 5\n", Ok(5)),
+    ("links 99\nfail 99 1\n", Ok(99)),
+    ("links 1\nfail 1 4294967295\nfail 1 4294967295", Ok(1)),
+    ("", Err(1)),
+    ("\n", Err(1)),
+    ("links", Err(1)),
+    ("links ", Err(1)),
+    ("links 100", Err(1)),
+    ("links 01", Err(1)),
+    ("links 1 ", Err(1)),
+    ("link 1", Err(1)),
+    ("fail 1 1", Err(1)),
+    ("links 1\n\n", Err(2)),
+    ("links 1\nfail 1 0", Err(2)),
+    ("links 1\nfail 2 1", Err(2)),
+    ("links 0\nfail 1 1", Err(2)),
+    ("links 1\nfail 1 1\nfail 1 4294967296\n", Err(3)),
+    ("links 1\nfail 1 1\nlinks 1\n", Err(3)),
 ];
 
 #[test]
 fn the_first_bad_line_of_links_is_told(rt: HostRuntime) {
-    for (text, line) in &BAD_LINKS {
-        match read_links(rt.alloc(), text.as_bytes()) {
-            Ok(_) => panic!(rt; "read: {text}"),
-            Err(fault) => assert!(rt; fault == ScriptFault::LinksText { line: *line }, "{text}"),
-        }
+    for (text, want) in &LINKS {
+        let said = match read_links(rt.alloc(), text.as_bytes()) {
+            Ok(links) => Ok(links.len()),
+            Err(ScriptFault::LinksText { line }) => Err(line),
+            Err(fault) => panic!(rt; "{fault}: {text}"),
+        };
+        assert!(rt; said == *want, "{text}");
     }
 }
 
