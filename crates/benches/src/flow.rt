@@ -36,9 +36,6 @@ fn read<R: Input + AllocGlobal>(rt: &R) -> Result<Network>
     Ok(text::read(rt.alloc(), text.as_str())?)
 }
 
-// A network whose flow is 12: all that leaves node 0 arrives.
-const TWELVE: &str = "4 5\n0 2 7\n0 3 5\n2 3 4\n2 1 -\n3 1 6\n";
-
 // Texts that are no networks.
 static REFUSED: [&str; 12] = [
     "",
@@ -54,6 +51,9 @@ static REFUSED: [&str; 12] = [
     "2 1\n0 1 -5\n",
     "2 0\n0 1 5\n",
 ];
+
+// A network whose flow is 12: all that leaves node 0 arrives.
+const TWELVE: &str = "4 5\n0 2 7\n0 3 5\n2 3 4\n2 1 -\n3 1 6\n";
 
 // Adds a line that says why a text is no network.
 fn push_refusal(alloc: Global, lines: &mut String, text: &str) -> Result<()> {
