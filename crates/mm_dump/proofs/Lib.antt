@@ -1,7 +1,7 @@
 mod Leaving
 mod Moves
 mod Refusing
-mod Going
+mod Extending
 mod SoFar
 mod Whole
 mod OneOrder

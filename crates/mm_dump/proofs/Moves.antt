@@ -10,7 +10,7 @@ use Rattle.crossbeam_queue.proofs.Lists.{at_set, at_snoc}
 use Rattle.mm_base.proofs.Ranges.{range_with_len_more}
 use Rattle.mm_base.proofs.RangeSums.{sum_by_range_more}
 use Rattle.mm_dump.specs.declared.queue.QueueView.{QueueView}
-use Rattle.mm_dump.specs.Queue.{queue_view, Knows, AreTakenOnce, Takes, HasRoom, Tells}
+use Rattle.mm_dump.specs.Queue.{queue_view, Knows, AreTakenOnce, TakesNext, HasRoom, Tells}
 
 -- a sum over passes after a change of one
 total_set : (f : QueueView → ℕ) (views : List QueueView) (pass : ℕ) (v w : QueueView) → get_elem? views pass ≡ some v → sum_by f (set views pass w) + f v ≡ sum_by f views + f w
@@ -147,7 +147,7 @@ pushes room pass v x all number items views within rule at =
         ∙ ap (range_with_len rule.next) (sym more)
 
 -- a pop that takes
-pub takes : (pass : ℕ) (v : QueueView) → 0 < v.parts → Pops AreTakenOnce pass v (Takes v)
+pub takes : (pass : ℕ) (v : QueueView) → 0 < v.parts → Pops AreTakenOnce pass v (TakesNext v)
 takes pass v some_part x items views rule at =
     let w = queue_view v.parts v.pushed (v.taken ++ x ∷ []) in
     let known = rule.known pass v at in

@@ -15,7 +15,7 @@ use Rattle.mm_dump.specs.declared.order.OrderBroken.{OrderBroken}
 use Rattle.mm_dump.specs.declared.stop.Stop.{Stop}
 use Rattle.mm_dump.specs.declared.stop.Stop.TheVariants.{Broken, Refused}
 use Rattle.mm_dump.specs.Courses.{Course, calls_at}
-use Rattle.mm_dump.specs.Parts.{HasSent, HasEnded}
+use Rattle.mm_dump.specs.OrderSteps.{HasSent, HasEnded}
 use Rattle.mm_dump.specs.Sending.{Sent, LinkState, all_sent}
 use Rattle.mm_dump.specs.Workers.{HasLines, IsTried, Shows, OrderCarriedOut}
 

@@ -13,7 +13,7 @@ use Rattle.mm_desk.specs.Machine.{State, give, next_of, step}
 use Rattle.mm_desk.specs.Orders.{begun, given}
 use Rattle.mm_desk.specs.Runs.{entry}
 use Rattle.mm_dump.specs.Broken.{aborted}
-use Rattle.mm_dump.specs.Parts.{IsRefused}
+use Rattle.mm_dump.specs.OrderSteps.{IsRefused}
 
 -- a retrieval is on after it was begun
 begins_on : (s : State) → reply.Done (Ok tt) ≡ (step s (Begin 1 clock_end)).0 → is_some (step s (Begin 1 clock_end)).1.retrieval ≡ true

@@ -21,7 +21,7 @@ use Rattle.mm_dump.specs.declared.stop.Stop.{Stop}
 use Rattle.mm_dump.specs.declared.stop.Stop.TheVariants.{Broken, Refused}
 use Rattle.mm_dump.specs.Courses.{Course, IsCourse, EndedAs, worst_of, spent_by}
 use Rattle.mm_dump.specs.Dumped.{times, places_of, AreCourses, AllDumped, AllSettled, amount_of}
-use Rattle.mm_dump.specs.Parts.{IsRefused}
+use Rattle.mm_dump.specs.OrderSteps.{IsRefused}
 use Rattle.mm_dump.specs.Sending.{Sent}
 use Rattle.mm_dump.specs.Workers.{order_at, AreTried, Sided, why_of}
 use Rattle.mm_dump.proofs.Causes.{worse-none}

@@ -15,9 +15,9 @@ use Rattle.mm_dump.specs.declared.order.OrderBroken.TheVariants.{NoMemory, LinkF
 use Rattle.mm_dump.specs.declared.stop.Stop.{Stop}
 use Rattle.mm_dump.specs.declared.stop.Stop.TheVariants.{Broken, Refused}
 use Rattle.mm_dump.specs.Broken.{aborted, unsent_at}
-use Rattle.mm_dump.specs.Parts.{HasSent, SentNext, AbortsAs, StopsAs, OrderStopped, SentAll, last_of, end_where, with_calls}
+use Rattle.mm_dump.specs.OrderSteps.{HasSent, SentNext, AbortsAs, StopsAs, OrderStopped, SentAll, last_of, end_where, with_calls}
 use Rattle.mm_dump.specs.Sending.{LinkState}
-use Rattle.mm_dump.proofs.Going.{went_on, called, number_stays, given_more, with_more}
+use Rattle.mm_dump.proofs.Extending.{went_on, called, number_stays, given_more, with_more}
 use Rattle.mm_dump.proofs.Refusing.{next_refused, after_given}
 
 -- this many packets were given and sent

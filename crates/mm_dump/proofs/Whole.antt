@@ -8,9 +8,9 @@ use Rattle.mm_desk.specs.Orders.{begun, given, ended, removed}
 use Rattle.mm_shared.specs.Views.{PortView}
 use Rattle.mm_dump.specs.declared.stop.Stop.{Stop}
 use Rattle.mm_dump.specs.declared.stop.Stop.TheVariants.{Broken, Refused}
-use Rattle.mm_dump.specs.Parts.{IsRefused, HasSent, WasRefused, StopsAs, OrderStopped, SentAll, EndsAs, HasEnded, with_calls, last_of, end_where, abort_where, deletion}
+use Rattle.mm_dump.specs.OrderSteps.{IsRefused, HasSent, WasRefused, StopsAs, OrderStopped, SentAll, EndsAs, HasEnded, with_calls, last_of, end_where, abort_where, deletion}
 use Rattle.mm_dump.specs.Sending.{LinkState}
-use Rattle.mm_dump.proofs.Going.{went_on, called, number_stays}
+use Rattle.mm_dump.proofs.Extending.{went_on, called, number_stays}
 use Rattle.mm_dump.proofs.Refusing.{after_begun, after_given, after_end, after_abort}
 
 -- how a retrieval ended

@@ -3,7 +3,7 @@ pub mod Sending
 pub mod Broken
 pub mod Laws
 pub mod Queue
-pub mod Parts
+pub mod OrderSteps
 pub mod Courses
 pub mod Dumped
 pub mod Workers

@@ -26,7 +26,7 @@ pub record AreTakenOnce (items : List ℕ) (views : List QueueView) : Type 0 whe
   pub known : (pass : ℕ) (v : QueueView) → get_elem? views pass ≡ some v → Knows pushed v
 
 -- a number is taken that was pushed, and no pass takes more numbers than were pushed
-pub record Takes (v : QueueView) (number : ℕ) (w : QueueView) : Type 0 where
+pub record TakesNext (v : QueueView) (number : ℕ) (w : QueueView) : Type 0 where
   pub within : number < v.pushed
   pub taken : w ≡ queue_view v.parts v.pushed (v.taken ++ number ∷ [])
   pub few : length w.taken ≤ v.pushed

@@ -15,7 +15,7 @@ use Rattle.mm_dump.specs.declared.queue.QueueView.{QueueView}
 use Rattle.mm_dump.specs.declared.stop.Stop.{Stop}
 use Rattle.mm_dump.specs.declared.stop.Stop.TheVariants.{Broken, Refused}
 use Rattle.mm_dump.specs.Courses.{Course, IsWhole, IsBroken, calls_at, sent_by, failed_by, spent_by}
-use Rattle.mm_dump.specs.Parts.{IsRefused}
+use Rattle.mm_dump.specs.OrderSteps.{IsRefused}
 use Rattle.mm_dump.specs.Queue.{queue_view}
 use Rattle.mm_dump.specs.Sending.{Sent, LinkState, link_state}
 

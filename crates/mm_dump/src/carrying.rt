@@ -2,7 +2,7 @@
 ghost use Rattle.std.specs.Prelude.{◌≡◌, ℕ, ◌+◌, ◌-◌, ◌<◌, ◌^◌, [], ◌∷◌, not, false, Some, None, Ok, IfOk, IfErr, OnOk, OnErr};
 ghost use Rattle.mm_desk.specs.Orders.{begun};
 ghost use Rattle.mm_shared.specs.Views.{with_call};
-ghost use Rattle.mm_dump.specs.Parts.{with_calls, SentNext, AbortsAs, OrderStopped, SentAll, WasRefused, HasEnded, abort_where, deletion};
+ghost use Rattle.mm_dump.specs.OrderSteps.{with_calls, SentNext, AbortsAs, OrderStopped, SentAll, WasRefused, HasEnded, abort_where, deletion};
 ghost use Rattle.mm_dump.specs.Sending.{link_state};
 
 use crate::link::Link;

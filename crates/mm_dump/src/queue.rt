@@ -72,9 +72,9 @@ impl Lesson<u32, QueueView> for PushNext {
 pub(crate) struct TakeNext;
 
 impl Outcome<u32, QueueView> for TakeNext {
-    ghost use Rattle.mm_dump.specs.Queue.{Takes};
+    ghost use Rattle.mm_dump.specs.Queue.{TakesNext};
 
-    ghost then = { Takes };
+    ghost then = { TakesNext };
 }
 
 impl Lesson<u32, QueueView> for TakeNext {

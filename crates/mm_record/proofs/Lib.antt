@@ -1,5 +1,5 @@
 pub mod Offers
-pub mod Going
+pub mod Adding
 pub mod RoutingLemmas
 pub mod SoFar
 pub mod Whys

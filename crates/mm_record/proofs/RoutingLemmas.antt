@@ -13,7 +13,7 @@ use Rattle.mm_record.specs.declared.routing.ReportType.{ReportType}
 use Rattle.mm_record.specs.Offering.{offers_by}
 use Rattle.mm_record.specs.Recorded.{is_routed}
 use Rattle.mm_record.specs.Routings.{IsOf, LeadsTo}
-use Rattle.mm_record.proofs.Going.{found_at}
+use Rattle.mm_record.proofs.Adding.{found_at}
 use Rattle.mm_record.proofs.Offers.{by_rows}
 
 -- the row by which a report type is routed to a store

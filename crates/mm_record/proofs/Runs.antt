@@ -13,7 +13,7 @@ use Rattle.mm_record.specs.Offering.{AreAt}
 use Rattle.mm_record.specs.Recorded.{RecordingContext}
 use Rattle.mm_record.specs.Recorders.{HasRun, HaveRun, IsRunAt, AreRunsAt, MayRecord, is_worse}
 use Rattle.mm_record.specs.Steps.{RecorderRun, IsWhy}
-use Rattle.mm_record.proofs.Going.{end_of}
+use Rattle.mm_record.proofs.Adding.{end_of}
 use Rattle.mm_record.proofs.Whys.{why_none, why_one, why_both}
 
 -- what holds of all of two lists holds of all of each

@@ -68,8 +68,8 @@ pub record EndsEarly (sheet : Option SheetRows) (problem : Dumping) (memory : Ho
   pub tells : TellsEnd ended.sheet.items ended.halted.cause ended.halted.report p
 
 -- how the run ended, and what is printed of it
-abbrev pub Ends : Option SheetRows → Dumping → Holdings → List ScriptedSource → List ScriptedLink → Printed → Type 0
-Ends sheet problem memory sources links p = EndsWhole sheet problem memory sources links p ⊎ EndsEarly sheet problem memory sources links p
+abbrev pub RunEnds : Option SheetRows → Dumping → Holdings → List ScriptedSource → List ScriptedLink → Printed → Type 0
+RunEnds sheet problem memory sources links p = EndsWhole sheet problem memory sources links p ⊎ EndsEarly sheet problem memory sources links p
 
 -- what is printed of the run that the texts say: of the plan of a text, or of one that is made
 pub record PrintsRun (plan : Option (List ℕ)) (setup forecast sources_text links_text : List ℕ) (p : Printed) : Type 0 where
@@ -81,7 +81,7 @@ pub record PrintsRun (plan : Option (List ℕ)) (setup forecast sources_text lin
   pub sources : List ScriptedSource
   pub links : List ScriptedLink
   pub sides_say : SaysSourcesAndLinks sources_text links_text opening sources links
-  pub ended : Ends sheet problem (opened_with memory opening) sources links p
+  pub ended : RunEnds sheet problem (opened_with memory opening) sources links p
 
 -- what is printed of the run that the five texts say
 abbrev pub Runs : List ℕ → List ℕ → List ℕ → List ℕ → List ℕ → Printed → Type 0

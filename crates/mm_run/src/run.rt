@@ -7,7 +7,7 @@ ghost use Rattle.mm_exec.specs.Step.{NeverRefused};
 ghost use Rattle.mm_run.specs.Judging.{IsFirstFault, IsRunFault, IsFlyFault};
 ghost use Rattle.mm_run.specs.Sources.{AreFew};
 ghost use Rattle.mm_run.specs.Opening.{opened_with, AreOffered};
-ghost use Rattle.mm_run.specs.Runs.{gives, IsFlown, IsNotFlown, Ends, PrintsRun, Runs, FliesBy};
+ghost use Rattle.mm_run.specs.Runs.{gives, IsFlown, IsNotFlown, RunEnds, PrintsRun, Runs, FliesBy};
 
 use crate::fault::Fault;
 use crate::laws::constants_are;
@@ -85,7 +85,7 @@ fn carry<R: Threads + Wait + Sync>(
     requires opened { AreOffered 0 start.memory.stores }
     requires few { AreFew sides.sources.items }
     requires unfailed { All (λ l. l.failed < 2 ^ 64 - 1) sides.links.items }
-    ensures { IfOk result (Ends sheet start.problem (opened_with start.memory sides.opening.items) sides.sources.items sides.links.items) }
+    ensures { IfOk result (RunEnds sheet start.problem (opened_with start.memory sides.opening.items) sides.sources.items sides.links.items) }
 {
     let ProblemAndMemory {
         problem,

@@ -1,6 +1,6 @@
 use Rattle.std.proofs.Common.{[], get_or}
 use Rattle.mm_record.specs.Offering.{ExtendsBy, ExtendsInPart}
-use Rattle.mm_record.proofs.Going.{adds_at, goes_nowhere, partly_nowhere, offer_taken, offer_refused, port_at, reason_at, same_end}
+use Rattle.mm_record.proofs.Adding.{adds_at, goes_nowhere, partly_nowhere, offer_taken, offer_refused, port_at, reason_at, same_end}
 use Rattle.mm_record.proofs.offering.offer_at.Goals as goal
 
 pub offer-requires : goal.offer-requires

@@ -1,6 +1,6 @@
 use Rattle.std.proofs.Common.{rules, length}
 use Rattle.mm_shared.specs.Stores.{ids_of}
-use Rattle.mm_record.proofs.Going.{adds_row_partly}
+use Rattle.mm_record.proofs.Adding.{adds_row_partly}
 use Rattle.mm_record.proofs.offering.offer_copies.Goals as goal
 
 pub returns-in_err-offer_copy-clause-err : goal.returns-in_err-offer_copy-clause-err

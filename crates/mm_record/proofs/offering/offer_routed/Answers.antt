@@ -1,6 +1,6 @@
 use Rattle.std.proofs.Common.{sym, length}
 use Rattle.mm_shared.specs.Stores.{ids_of}
-use Rattle.mm_record.proofs.Going.{adds_last, adds_partly_last}
+use Rattle.mm_record.proofs.Adding.{adds_last, adds_partly_last}
 use Rattle.mm_record.proofs.offering.offer_routed.Goals as goal
 
 pub returns-clause-ok : goal.returns-clause-ok

@@ -9,7 +9,7 @@ use Rattle.mm_desk.specs.declared.reply.Reply.TheVariants as reply
 use Rattle.mm_desk.specs.Orders.{given}
 use Rattle.mm_desk.specs.Runs.{entry}
 use Rattle.mm_shared.specs.Views.{PortView}
-use Rattle.mm_dump.specs.Parts.{HasSent, with_calls}
+use Rattle.mm_dump.specs.OrderSteps.{HasSent, with_calls}
 use Rattle.mm_dump.specs.Sending.{Sent, LinkState, all_sent}
 
 -- a port with calls more, and then others
