@@ -80,9 +80,9 @@ fn are_left(stores: &[Held], links: &[TestLink], wanted: &[(u32, u64); 2], sent:
 pub fn dumped<L: Link + Send, R: Threads + Wait + Sync>(
     rt: &R,
     alloc: Global,
-    orders: &[Order],
     stores: &mut Vec<Held>,
     links: &mut [L],
+    orders: &[Order],
 ) -> Option<Result<Dumped, NoMemory>>
     requires few { length orders.now ≤ MAX_STORES }
     requires places { All (λ o. o.place < length stores.old.items) orders.now }
@@ -117,7 +117,7 @@ fn both_dumped<R: Threads + Wait + Sync>(
             amount: 4,
         },
     );
-    dumped(rt, alloc, &[first, second], stores, links)
+    dumped(rt, alloc, stores, links, &[first, second])
 }
 
 // What a dump left that answered so. Where there was no memory all is as before.

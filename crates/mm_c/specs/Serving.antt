@@ -8,7 +8,7 @@ use Rattle.mm_service.specs.declared.fault.Fault.{Fault}
 use Rattle.mm_service.specs.declared.fault.Fault.TheVariants.{NoMemory}
 use Rattle.mm_service.specs.declared.offering.Fate.{Fate}
 use Rattle.mm_service.specs.declared.offering.Fate.TheVariants.{Kept, KeptOver, Lost}
-use Rattle.mm_service.specs.declared.tally.Tally.{Tally}
+use Rattle.mm_memory.specs.declared.tally.Tally.{Tally}
 use Rattle.mm_service.specs.declared.giving.Given.{Given}
 use Rattle.mm_service.specs.declared.reporting.Reported.{Reported}
 use Rattle.mm_service.specs.declared.reporting.Reported.TheVariants as reported

@@ -1,5 +1,6 @@
 //! Named packet stores.
 
+use crate::named::Named;
 use crate::state::StoreState;
 use mm_base::StoreId;
 
@@ -9,4 +10,12 @@ pub struct Held {
     pub id: StoreId,
     pub channel: u8,
     pub state: StoreState,
+}
+
+impl Named for Held {
+    ghost name = { λ h. h.id };
+
+    fn id(&self) -> &StoreId {
+        &self.id
+    }
 }

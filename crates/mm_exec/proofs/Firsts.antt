@@ -9,7 +9,8 @@ use Rattle.mm_desk.specs.declared.event.Event.{Event}
 use Rattle.mm_desk.specs.declared.event.Event.TheVariants.{Offer}
 use Rattle.mm_desk.specs.declared.fault.Fault.{Fault}
 use Rattle.mm_shared.specs.Stores.{id_at}
-use Rattle.mm_record.specs.Recorded.{RecordingContext, offers, is_routed}
+use Rattle.mm_memory.specs.Recording.{is_routed}
+use Rattle.mm_record.specs.Recorded.{RecordingContext, offers}
 use Rattle.mm_record.specs.Steps.{given_in, RecorderRun, StoppedEarly, IsRecorderRun, AreRecorderRuns}
 use Rattle.mm_exec.specs.Halts.{AreFirstOffers}
 

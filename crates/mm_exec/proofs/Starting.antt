@@ -1,13 +1,13 @@
 -- How a run begins, and what is known of it on the way.
 use Rattle.std.proofs.Common.{◌≡◌, ◌≢◌, ◌⊎◌, inl, inr, ℕ, suc, ◌+◌, ◌-◌, ◌*◌, ◌<◌, ◌≤◌, ◌^◌, Bool, true, false, List, [], ◌∷◌, ◌++◌, length, map, take, get_or, All, refl, sym, subst, ap, ◌∙◌, arith}
 use Rattle.std.specs.Prelude.{slice_index, slice_index_or, bytes_eq, slice_get, Option, Some, None, is_some, not, ◌&&◌, IsTrue, vec_capacity}
-use Rattle.std.specs.List.{position_or_len}
-use Rattle.std.proofs.lemmas.Bool.{eqb-true, cases_order, eq-eqb}
+use Rattle.std.specs.List.{list_any, position_or_len}
+use Rattle.std.proofs.lemmas.Bool.{eqb-true, cases_order, eq-eqb, ltb-false, or_parts}
 use Rattle.std.proofs.lemmas.List.{length-map, get_or-map, get_or_default, append-nil, length-take-le}
 use Rattle.std.proofs.lemmas.List.FromFn.{length-map-range_with_len}
 use Rattle.std.proofs.lemmas.List.Folds.{find_at}
 use Rattle.std.proofs.lemmas.List.Sums.{fails_before_first, passes_at_first, prefix_len-le-length}
-use Rattle.std.proofs.lemmas.List.Elements.{All-map, All-from_get_or}
+use Rattle.std.proofs.lemmas.List.Elements.{All-cons, All-from_get_or, All-map, All-nil}
 use Rattle.std.proofs.lemmas.Option.{slice_get-get_or}
 use Rattle.std.proofs.lemmas.Slice.Eq.{bytes_eq-Decides}
 use Rattle.mm_base.specs.declared.limits.TheConstants.{MAX_STEPS, MAX_STORES}
@@ -22,6 +22,7 @@ use Rattle.mm_desk.specs.Machine.{State, IsState}
 use Rattle.mm_desk.specs.Runs.{opening_at, blank}
 use Rattle.mm_shared.specs.Stores.{labels_of, states_of, AreNamed}
 use Rattle.mm_memory.specs.Holdings.{Holdings, AreHeld, has_id, store_of}
+use Rattle.mm_record.specs.Causes.{is_clock_late, is_late}
 use Rattle.mm_record.specs.Recorded.{recording}
 use Rattle.mm_record.specs.Steps.{given_in, latest}
 use Rattle.mm_dump.specs.Sending.{Sent}
@@ -29,7 +30,7 @@ use Rattle.mm_report.specs.declared.cause.TheConstants.{LATEST_START}
 use Rattle.mm_report.specs.Report.{Reported}
 use Rattle.mm_exec.specs.declared.requirement.Requirement.{Requirement}
 use Rattle.mm_exec.specs.declared.requirement.Requirement.TheVariants.{Ready, Size, Opening}
-use Rattle.mm_exec.specs.Readiness.{RunStart, run_start, MayBegin, AllMeet, NoneUnknown, is_unknown, meets, meets_at, IsEarly, AreCounts}
+use Rattle.mm_exec.specs.Readiness.{RunStart, run_start, MayBegin, AllMeet, NoneUnknown, is_unknown, meets, meets_at, AreCounts}
 use Rattle.mm_exec.proofs.Replays.{All-unmapped}
 use Rattle.mm_exec.specs.Laws.{RunsLoseAsPlanned}
 use Rattle.mm_exec.specs.AsPlanned.{IsReady}
@@ -47,6 +48,23 @@ use Rattle.mm_exec.proofs.StepMore.{Footing, done_on}
 use Rattle.mm_exec.proofs.Parts.{as_many, same_ids, as_many_sources}
 use Rattle.mm_exec.proofs.Placing.{no_held, places_differ, places_cut}
 use Rattle.mm_exec.proofs.StoresReady.{AllFar, state_holds}
+
+-- the moment before the first step is early, and so is the last storage time of each store
+pub record IsEarly (stores : List Held) (base : ℕ) : Type 0 where
+  pub first : base ≤ LATEST_START
+  pub last_times : All (λ h. h.state.store.last ≤ LATEST_START) stores
+
+none_late : (stores : List Held) → list_any (λ h. is_late h.state.store.last) stores ≡ false → All (λ h. h.state.store.last ≤ LATEST_START) stores
+none_late [] none = All-nil (λ (h : Held). h.state.store.last ≤ LATEST_START)
+none_late (h ∷ hs) none =
+    let both = or_parts (is_late h.state.store.last) (list_any (λ h. is_late h.state.store.last) hs) none in
+    All-cons (λ (h : Held). h.state.store.last ≤ LATEST_START) h hs (ltb-false LATEST_START h.state.store.last both.0) (none_late hs both.1)
+
+-- it is so where the clock is not too late
+early_by : (stores : List Held) (base : ℕ) → is_clock_late stores base ≡ false → IsEarly stores base
+early_by stores base in_time =
+    let both = or_parts (is_late base) (list_any (λ h. is_late h.state.store.last) stores) in_time in
+    record { first = ltb-false LATEST_START base both.0; last_times = none_late stores both.1 }
 
 -- what the tests before a run have shown
 pub record Begun (o : RunStart) : Type 0 where
@@ -66,7 +84,7 @@ begun_of o begins = record {
   none_unknown = begins.0.0.0.0.0.0.2;
   sizes = begins.0.0.0.0.0.1;
   openings = begins.0.0.0.0.1;
-  early = begins.0.0.1;
+  early = early_by o.stores o.base begins.0.0.1;
   fits = begins.0.1;
   counts = begins.1;
 }

@@ -19,7 +19,8 @@ use Rattle.mm_desk.specs.Machine.{State}
 use Rattle.mm_desk.specs.Runs.{opening_at}
 use Rattle.mm_shared.specs.Stores.{labels_of, states_of}
 use Rattle.mm_shared.specs.Stores.{id_at}
-use Rattle.mm_record.specs.Recorded.{RecordingContext, offers, is_routed}
+use Rattle.mm_memory.specs.Recording.{is_routed}
+use Rattle.mm_record.specs.Recorded.{RecordingContext, offers}
 use Rattle.mm_record.specs.Recorded.{recording}
 use Rattle.mm_record.specs.Steps.{given_in}
 use Rattle.mm_dump.specs.declared.order.Order.{Order}

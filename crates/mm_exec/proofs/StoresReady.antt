@@ -21,7 +21,8 @@ use Rattle.mm_desk.specs.Offers.{IsShuffleOfEvents, count_of}
 use Rattle.mm_desk.specs.Runs.{blank, opening_at, replay, IsRun}
 use Rattle.mm_shared.specs.Stores.{states_of, id_at}
 use Rattle.mm_memory.specs.Laws.{ids_of}
-use Rattle.mm_record.specs.Recorded.{RecordingContext, offers, is_routed}
+use Rattle.mm_memory.specs.Recording.{is_routed}
+use Rattle.mm_record.specs.Recorded.{RecordingContext, offers}
 use Rattle.mm_record.specs.Steps.{given_in, Records, latest, AreFew, TakesAll}
 use Rattle.mm_dump.specs.declared.order.Order.{Order}
 use Rattle.mm_dump.specs.declared.order.OrderBroken.{OrderBroken}

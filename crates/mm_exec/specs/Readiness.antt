@@ -6,12 +6,12 @@ use Rattle.mm_plan.specs.Table.{Table, amount, HasShape}
 use Rattle.mm_plan.specs.Fit.{Fits, IsFirstMisfit}
 use Rattle.mm_desk.specs.declared.held.Held.{Held}
 use Rattle.mm_memory.specs.Holdings.{store_of}
-use Rattle.mm_record.specs.Causes.{is_ready}
+use Rattle.mm_record.specs.Causes.{is_ready, is_clock_late}
 use Rattle.mm_report.specs.declared.cause.Cause.{Cause}
 use Rattle.mm_report.specs.declared.cause.Cause.TheVariants.{PlanShape, NotReady, SizeDiffers, OpeningDiffers, ChannelDiffers, ClockTooLate, PlanDoesNotFit, Counts, NoMemory, LinkFailed, LogMismatch}
 use Rattle.mm_exec.specs.declared.requirement.Requirement.{Requirement}
 use Rattle.mm_exec.specs.declared.requirement.Requirement.TheVariants.{Ready, Size, Opening, Channel}
-use Rattle.mm_report.specs.declared.cause.TheConstants.{LATEST_START, MAX_SOURCES}
+use Rattle.mm_report.specs.declared.cause.TheConstants.{MAX_SOURCES}
 use Rattle.mm_exec.specs.declared.readiness.TheConstants.{MAX_LINKS}
 
 -- whether a store is as its row of the setup needs it: there and ready for a step; of the row's size; holding the start volume; on the
@@ -61,11 +61,6 @@ pub record IsFirstUnknown (q : Dumping) (stores : List Held) (id : List ℕ) : T
 abbrev pub HasLimit : Dumping → Type 0
 HasLimit q = (c : ℕ) × (c < length q.limits) × (is_some (limit q c) ≡ true)
 
--- the clock has room for a run
-pub record IsEarly (stores : List Held) (base : ℕ) : Type 0 where
-  pub first : base ≤ LATEST_START
-  pub last_times : All (λ h. h.state.store.last ≤ LATEST_START) stores
-
 -- there are sources and links, and not too many
 pub record AreCounts (sources links : ℕ) : Type 0 where
   pub some_source : 1 ≤ sources
@@ -104,7 +99,7 @@ abbrev pub AllOnChannels : RunStart → Type 0
 AllOnChannels o = AllOpen o × (HasLimit o.problem → AllMeet Channel o.problem o.stores)
 
 abbrev pub InTime : RunStart → Type 0
-InTime o = AllOnChannels o × IsEarly o.stores o.base
+InTime o = AllOnChannels o × (is_clock_late o.stores o.base ≡ false)
 
 abbrev pub Fitting : RunStart → Type 0
 Fitting o = InTime o × Fits o.problem (amount o.plan)
@@ -120,7 +115,7 @@ Stops o (NotReady id) = Shaped o × (IsFirstMismatch Ready o.problem o.stores id
 Stops o (SizeDiffers id) = AllReady o × IsFirstMismatch Size o.problem o.stores id
 Stops o (OpeningDiffers id) = AllSized o × IsFirstMismatch Opening o.problem o.stores id
 Stops o (ChannelDiffers id) = AllOpen o × HasLimit o.problem × IsFirstMismatch Channel o.problem o.stores id
-Stops o ClockTooLate = AllOnChannels o × (¬ IsEarly o.stores o.base)
+Stops o ClockTooLate = AllOnChannels o × (is_clock_late o.stores o.base ≡ true)
 Stops o (PlanDoesNotFit step) = InTime o × IsFirstMisfit o.problem (amount o.plan) step
 Stops o Counts = Fitting o × (¬ AreCounts o.sources o.links)
 Stops o (NoMemory step) = ⊥

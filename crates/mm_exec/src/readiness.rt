@@ -1,16 +1,15 @@
 //! What is tested before a run.
 ghost use Rattle.std.specs.Prelude.{◌↔◌, ◌⊎◌, IsTrue, OnOk, IfErr, IfSome, IfNone};
 ghost use Rattle.mm_exec.specs.declared.requirement.Requirement.TheVariants.{Ready, Channel};
-ghost use Rattle.mm_exec.specs.Readiness.{AllMeet, IsFirstMismatch, NoneUnknown, IsFirstUnknown, HasLimit, IsEarly, AreCounts, run_start, MayBegin, Stops};
+ghost use Rattle.mm_exec.specs.Readiness.{AllMeet, IsFirstMismatch, NoneUnknown, IsFirstUnknown, HasLimit, AreCounts, run_start, MayBegin, Stops};
 
 use crate::requirement::{Requirement, first_mismatch, first_unknown};
 use mm_base::StoreId;
 use mm_desk::Held;
 use mm_plan::{Plan, fits};
 use mm_problem::Problem;
-use mm_record::is_count;
-use mm_report::{Cause, LATEST_START, MAX_SOURCES};
-use mm_store::PacketStore;
+use mm_record::{is_clock_late, is_count};
+use mm_report::{Cause, MAX_SOURCES};
 
 /// The most links of a run.
 pub const MAX_LINKS: usize = 4;
@@ -51,16 +50,6 @@ fn first_not_ready(problem: &Problem, stores: &[Held]) -> Option<StoreId>
     }
 }
 
-// Whether the clock has room for a run.
-fn is_early(stores: &[Held], base: u64) -> bool
-    ensures { IsTrue result ↔ IsEarly stores.now base }
-{
-    base <= LATEST_START
-        && stores
-            .iter()
-            .all(|held| held.state.store().last_time() <= LATEST_START)
-}
-
 // Whether there are sources and links, and not too many.
 fn are_counts(sources: usize, links: usize) -> bool
     ensures { IsTrue result ↔ AreCounts sources links }
@@ -97,7 +86,7 @@ pub fn ready(
     if let Some(store) = first_on_other_channel(problem, stores) {
         return Err(Cause::ChannelDiffers { store });
     }
-    if !is_early(stores, base) {
+    if is_clock_late(stores, base) {
         return Err(Cause::ClockTooLate);
     }
     if let Err(step) = fits(problem, plan) {

@@ -4,3 +4,4 @@ pub mod ApplyLemmas
 pub mod ReportLemmas
 pub mod LawLemmas
 pub mod LendingLemmas
+pub mod RecordLemmas

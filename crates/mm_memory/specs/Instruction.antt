@@ -1,5 +1,5 @@
 -- The instructions of a request, one by one, and the tests of their fields.
-use Rattle.std.specs.Prelude.{ℕ, Bool, nat_lt, ◌==◌, ◌&&◌, ◌||◌, if◌then◌else◌, List, [], map, Result, Ok, Err}
+use Rattle.std.specs.Prelude.{ℕ, nat_lt, ◌==◌, ◌||◌, if◌then◌else◌, List, [], map, Result, Ok, Err}
 use Rattle.mm_base.specs.declared.kind.Kind.{Kind}
 use Rattle.mm_base.specs.declared.kind.Kind.TheVariants.{Circular, Bounded}
 use Rattle.mm_base.specs.declared.limits.TheConstants.{MAX_APID, MAX_BLOCKS, MAX_CHANNEL}

@@ -8,3 +8,5 @@ pub mod Acting
 pub mod Applying
 pub mod Reports
 pub mod Laws
+pub mod Tallies
+pub mod Recording

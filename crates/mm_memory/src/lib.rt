@@ -9,9 +9,11 @@ mod instruction;
 pub mod laws;
 mod memory;
 mod places;
+mod recording;
 mod reports;
 mod request;
 mod setup;
+mod tally;
 mod validation;
 
 pub use answer::{Answer, Answers};
@@ -20,3 +22,4 @@ pub use memory::Memory;
 pub use mm_base::NoMemory;
 pub use mm_desk::Held;
 pub use places::{place_of, store_of};
+pub use tally::Tally;

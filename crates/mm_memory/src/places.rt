@@ -13,7 +13,7 @@ pub fn place_of(stores: &[Held], id: &StoreId) -> Option<usize>
     ensures stands { MatchOption result (store_of id.now stores.now ≡ None) (λ place. StandsAt id.now stores.now place) }
     ensures first { IfSome result (λ place. place ≡ position_or_len (has_id id.now) stores.now) }
 {
-    stores.iter().position(|held| held.id == *id)
+    mm_desk::place_of(stores, id)
 }
 
 /// The store with this identifier.

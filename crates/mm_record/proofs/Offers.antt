@@ -9,7 +9,8 @@ use Rattle.mm_desk.specs.declared.event.Event.{Event}
 use Rattle.mm_desk.specs.declared.event.Event.TheVariants.{Offer}
 use Rattle.mm_shared.specs.Stores.{id_at}
 use Rattle.mm_record.specs.Offering.{offers_by, offers_of}
-use Rattle.mm_record.specs.Recorded.{RecordingContext, offers, is_routed}
+use Rattle.mm_memory.specs.Recording.{is_routed}
+use Rattle.mm_record.specs.Recorded.{RecordingContext, offers}
 
 -- the offers of a packet of a step to the store at an index
 abbrev pub offers_at : RecordingContext → SpacePacket → ℕ → List Event

@@ -11,7 +11,7 @@ use Rattle.mm_shared.specs.declared.stores.NamedStore.{NamedStore}
 use Rattle.mm_shared.specs.Stores.{ids_of, id_at}
 use Rattle.mm_record.specs.declared.routing.ReportType.{ReportType}
 use Rattle.mm_record.specs.Offering.{offers_by}
-use Rattle.mm_record.specs.Recorded.{is_routed}
+use Rattle.mm_memory.specs.Recording.{is_routed}
 use Rattle.mm_record.specs.Routings.{IsOf, LeadsTo}
 use Rattle.mm_record.proofs.Adding.{found_at}
 use Rattle.mm_record.proofs.Offers.{by_rows}

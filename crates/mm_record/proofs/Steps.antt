@@ -21,7 +21,8 @@ use Rattle.mm_shared.specs.declared.lines.Lines.{Lines}
 use Rattle.mm_shared.specs.declared.stores.NamedStore.{NamedStore}
 use Rattle.mm_shared.specs.Stores.{list_at, lists_at, states_of, labels_of, names_of, openings_of, ids_of, id_at, HaveLegalLogs}
 use Rattle.mm_record.specs.Offering.{asked, IsReason}
-use Rattle.mm_record.specs.Recorded.{RecordingContext, recording, open_recording, offers, is_routed}
+use Rattle.mm_memory.specs.Recording.{is_routed}
+use Rattle.mm_record.specs.Recorded.{RecordingContext, recording, open_recording, offers}
 use Rattle.mm_record.specs.Recorders.{AreRunsAt, HaveRun, IsRunAt}
 use Rattle.mm_record.specs.Steps.{given_in, latest, AllRecorded, HasRecorded, AllHaveLegalOffers, AreFew, AreRecorderRuns, IsOpen, IsRecorderRun, IsWhy, RecorderRun, Records, StoppedEarly}
 use Rattle.mm_record.proofs.Offers.{offers_more}

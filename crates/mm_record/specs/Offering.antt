@@ -13,7 +13,7 @@ use Rattle.mm_desk.specs.Offers.{asked as asked_in}
 use Rattle.mm_shared.specs.declared.lines.Line.{Line}
 use Rattle.mm_shared.specs.declared.stores.NamedStore.{NamedStore}
 use Rattle.mm_shared.specs.Stores.{list_at, ends_of}
-use Rattle.mm_record.specs.Recorded.{is_routed}
+use Rattle.mm_memory.specs.Recording.{is_routed}
 
 -- what was asked through the line at an index
 abbrev pub asked : List Line → ℕ → List Event

@@ -1,13 +1,11 @@
 -- What recorders offer: each packet that a source gives goes to each store that its report type is routed to.
-use Rattle.std.specs.Prelude.{ℕ, Bool, false, List, map, filter}
+use Rattle.std.specs.Prelude.{ℕ, List, map, filter}
 use Rattle.mm_base.specs.declared.rows.RouteRow.{RouteRow}
-use Rattle.mm_packet.specs.declared.header.PacketType.{PacketType}
-use Rattle.mm_packet.specs.declared.header.PacketType.TheVariants.{Telecommand, Telemetry}
 use Rattle.mm_packet.specs.Packet.{SpacePacket}
-use Rattle.mm_control.specs.Routes.{has_row}
 use Rattle.mm_desk.specs.declared.event.Event.{Event}
 use Rattle.mm_desk.specs.declared.event.Event.TheVariants.{Offer}
 use Rattle.mm_desk.specs.declared.held.Held.{Held}
+use Rattle.mm_memory.specs.Recording.{is_routed}
 use Rattle.mm_shared.specs.declared.stores.NamedStore.{NamedStore}
 use Rattle.mm_shared.specs.Stores.{ids_of, id_at}
 
@@ -25,14 +23,6 @@ recording step now routes stores = record { step = step; now = now; routes = rou
 -- the step over these stores, which are open
 abbrev pub open_recording : ℕ → ℕ → List RouteRow → List NamedStore → RecordingContext
 open_recording step now routes stores = record { step = step; now = now; routes = routes; ids = ids_of stores }
-
--- whether a packet goes into the store with an identifier: telemetry where the table has that row, and a telecommand never
-abbrev pub is_routed : List RouteRow → List ℕ → SpacePacket → Bool
-is_routed routes id p = by_kind p.kind where
-  by_kind : PacketType → Bool
-  by_kind (Telecommand source) = false
-  by_kind (Telemetry counter destination time) =
-      has_row (record { apid = p.header.apid; service = p.header.service; subtype = p.header.subtype; store = id }) routes
 
 -- the offers of packets to the store at an index, in the order of the packets
 abbrev pub offers : RecordingContext → ℕ → List SpacePacket → List Event

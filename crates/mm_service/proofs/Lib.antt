@@ -3,4 +3,3 @@ pub mod StoreLemmas
 pub mod GiveLemmas
 pub mod AnswerLemmas
 pub mod ReportLemmas
-pub mod RecordLemmas

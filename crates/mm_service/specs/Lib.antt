@@ -2,7 +2,6 @@ pub mod Fault
 pub mod Reading
 pub mod Serving
 pub mod Offering
-pub mod Tallies
 pub mod Recording
 pub mod Giving
 pub mod Waiting

@@ -11,13 +11,12 @@ mod reading;
 mod recording;
 mod reporting;
 mod service;
-mod tally;
 mod waiting;
 
 pub use answers::{DONE, INSTRUCTIONS};
 pub use fault::Fault;
 pub use giving::Given;
+pub use mm_memory::Tally;
 pub use offering::Fate;
 pub use reporting::Reported;
 pub use service::Service;
-pub use tally::Tally;

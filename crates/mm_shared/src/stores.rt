@@ -8,7 +8,7 @@ ghost use Rattle.mm_shared.specs.FreePorts.{AreFresh, HaveAll, AllReturned};
 use crate::lines::{FreePorts, Line, Lines, give_all, new_workers, take_all};
 use crate::store::SharedStore;
 use mm_base::{NoMemory, StoreId};
-use mm_desk::Held;
+use mm_desk::{Held, Named};
 use std::alloc::Global;
 use std::mem::replace;
 
@@ -18,6 +18,14 @@ pub struct NamedStore {
     pub id: StoreId,
     pub channel: u8,
     pub store: SharedStore,
+}
+
+impl Named for NamedStore {
+    ghost name = { λ s. s.id };
+
+    fn id(&self) -> &StoreId {
+        &self.id
+    }
 }
 
 /// Stores that are open, and the lines of each worker at them. What else is needed to give the stores back is kept beside them.
@@ -36,7 +44,7 @@ pub fn place_of(stores: &[NamedStore], id: &StoreId) -> Option<usize>
     ensures is { IfSome result (λ k. (j : ℕ) → j < length stores.now → bytes_eq (id_at (ids_of stores.now) j) id.now ≡ (j == k)) }
     ensures none { IfNone result ((j : ℕ) → j < length stores.now → bytes_eq (id_at (ids_of stores.now) j) id.now ≡ false) }
 {
-    stores.iter().position(|store| store.id == *id)
+    mm_desk::place_of(stores, id)
 }
 
 // Closes stores of which all ports are there, and gives them back.

@@ -2,7 +2,7 @@ use Rattle.std.proofs.Common.{rules, ◌≡◌, ◌<◌, ℕ, List, length}
 use Rattle.std.proofs.lemmas.Result.{on_ok_weaker, on_err_weaker}
 use Rattle.mm_shared.specs.Stores.{ids_of, id_at}
 use Rattle.mm_record.specs.Offering.{offers_by, offers_of}
-use Rattle.mm_record.specs.Recorded.{is_routed}
+use Rattle.mm_memory.specs.Recording.{is_routed}
 use Rattle.mm_record.proofs.Adding.{adds_same}
 use Rattle.mm_record.proofs.Offers.{by_rows}
 use Rattle.mm_record.proofs.offering.offer_packet.Goals as goal

@@ -3,7 +3,7 @@ use Rattle.std.specs.Prelude.{ℕ, ◌+◌, Result, Ok, Err}
 use Rattle.mm_desk.specs.declared.reply.Offered.{Offered}
 use Rattle.mm_desk.specs.declared.reply.Offered.TheVariants.{Kept, KeptOver, Lost}
 use Rattle.mm_desk.specs.declared.reply.Returned.{Returned}
-use Rattle.mm_service.specs.declared.tally.Tally.{Tally}
+use Rattle.mm_memory.specs.declared.tally.Tally.{Tally}
 
 -- so many stores keep the packet, so many packets are lost, so many stores refuse it
 abbrev pub counted : ℕ → ℕ → ℕ → Tally

@@ -1,6 +1,6 @@
 //! What became of a packet in several stores.
 ghost use Rattle.std.specs.Prelude.{◌≡◌, ◌≤◌};
-ghost use Rattle.mm_service.specs.Tallies.{nothing, tally_of};
+ghost use Rattle.mm_memory.specs.Tallies.{nothing, tally_of};
 
 use mm_desk::{Offered, Returned};
 
