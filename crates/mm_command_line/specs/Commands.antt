@@ -1,7 +1,7 @@
 -- The commands of the program, each with the files that it takes, as clap reads them.
 use Rattle.std.specs.Prelude.{◌≡◌, List, [], ◌∷◌, ◌++◌, Bool, true, false, codes, map, Option, Some}
 use Rattle.std.specs.Prelude.{find, option_and_then, option_map, bytes_eq}
-use Rattle.clap.specs.Words.{App, Row, Rule, Text, app_of, first_of, new_app, new_rule}
+use Rattle.clap.specs.Words.{App, Row, Rule, Text, app_of, first_of, new_app, new_rule, with_subcommand}
 use Rattle.clap.specs.Simple.{on_top}
 use Rattle.clap.specs.declared.builder.command.Command.{Command}
 use Rattle.clap.specs.declared.builder.command.Command.TheViews.{out-Command as fields_of}
@@ -74,6 +74,11 @@ bare = record {
   };
   subs = [];
 }
+
+-- a program with these commands more, after those that it has
+abbrev pub with_commands : App → List Form → App
+with_commands app [] = app
+with_commands app (form ∷ forms) = with_commands (with_subcommand app (app_by form).top) forms
 
 -- the program with its commands
 abbrev pub tool : App

@@ -1,7 +1,7 @@
 //! The commands of the program, with their files and their help.
 ghost use Rattle.std.specs.Prelude.{◌≡◌, IfOk, [], ◌∷◌, codes, false};
-ghost use Rattle.clap.specs.Words.{app_of, rule_of};
-ghost use Rattle.mm_command_line.specs.Commands.{AddsFiles, IsCommand, ask, file_rule, tool, bare};
+ghost use Rattle.clap.specs.Words.{app_of, rule_of, with_subcommand};
+ghost use Rattle.mm_command_line.specs.Commands.{AddsFiles, Form, IsCommand, app_by, ask, bare, chart, check, file_rule, plan, table, tool, with_commands};
 
 use crate::flight::{fly_command, run_command};
 use crate::read::read_command;
@@ -198,17 +198,40 @@ fn bare_command<'a>(alloc: Global) -> Result<Command<'a>, AllocError>
     Ok(command)
 }
 
+// The program with one command more, after those that it has; an error where that command was not made.
+fn with_command<'a>(
+    tool: Command<'a>,
+    command: Result<Command<'a>, AllocError>,
+) -> Result<Command<'a>, AllocError>
+    ensures adds { (form : Form) → IfOk command.entry (IsCommand form)
+        → IfOk result (λ c. app_of c ≡ with_subcommand (app_of tool.entry) (app_by form).top) }
+{
+    let command = command?;
+    tool.subcommand(command)
+}
+
+// The program with the commands that make, judge and show plans.
+fn with_planning<'a>(alloc: Global) -> Result<Command<'a>, AllocError>
+    ensures commands { IfOk result (λ c. app_of c ≡ with_commands bare (plan ∷ check ∷ chart ∷ table ∷ [])) }
+{
+    let tool = bare_command(alloc)?;
+    let plan = problem_command(alloc, "plan", PLAN_ABOUT, PLAN_HELP);
+    let tool = with_command(tool, plan)?;
+    let check = judging_command(alloc, "check", CHECK_ABOUT, CHECK_HELP);
+    let tool = with_command(tool, check)?;
+    let chart = judging_command(alloc, "chart", chart::ABOUT, chart::HELP);
+    let tool = with_command(tool, chart)?;
+    let table = judging_command(alloc, "table", table::ABOUT, table::HELP);
+    with_command(tool, table)
+}
+
 /// The program with its commands.
 pub(crate) fn tool_command<'a>(alloc: Global) -> Result<Command<'a>, AllocError>
     ensures commands { IfOk result (λ c. app_of c ≡ tool) }
 {
-    bare_command(alloc)?
-        .subcommand(problem_command(alloc, "plan", PLAN_ABOUT, PLAN_HELP)?)?
-        .subcommand(judging_command(alloc, "check", CHECK_ABOUT, CHECK_HELP)?)?
-        .subcommand(judging_command(alloc, "chart", chart::ABOUT, chart::HELP)?)?
-        .subcommand(judging_command(alloc, "table", table::ABOUT, table::HELP)?)?
-        .subcommand(run_command(alloc)?)?
-        .subcommand(fly_command(alloc)?)?
-        .subcommand(ask_command(alloc)?)?
-        .subcommand(read_command(alloc)?)
+    let tool = with_planning(alloc)?;
+    let tool = with_command(tool, run_command(alloc))?;
+    let tool = with_command(tool, fly_command(alloc))?;
+    let tool = with_command(tool, ask_command(alloc))?;
+    with_command(tool, read_command(alloc))
 }

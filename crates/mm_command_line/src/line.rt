@@ -1,5 +1,5 @@
 //! The words of a command line, read as a task.
-ghost use Rattle.std.specs.Prelude.{◌≡◌, ◌↔◌, ℕ, List, [], ◌∷◌, IfErr, IfOk, IfNone, IfSome, IsTrue, false, map, option_map};
+ghost use Rattle.std.specs.Prelude.{◌≡◌, ◌↔◌, ◌⊎◌, ℕ, List, [], ◌∷◌, IfErr, IfOk, IfNone, IfSome, IsTrue, false, map, option_map};
 ghost use Rattle.std.specs.List.{filter, list_any};
 ghost use Rattle.clap.specs.Words.{found_of, kind_of, rows_of, subcommand_rows_of};
 ghost use Rattle.clap.specs.declared.error.kind.ErrorKind.TheVariants.{OutOfMemory};
@@ -9,7 +9,7 @@ ghost use Rattle.mm_command_line.specs.Lines.{EndsWithOutput, IsCommandLine, IsF
 use crate::command::tool_command;
 use crate::task::{FlightFiles, PlanFiles, Task};
 use clap::error::ErrorKind;
-use clap::{ArgMatches, Error};
+use clap::{ArgMatches, Command, Error};
 use std::alloc::Global;
 use std::convert::AsStr;
 
@@ -134,6 +134,16 @@ fn task_in<'a>(matches: &ArgMatches<'a>) -> Option<Task<'a>>
     }
 }
 
+// The error of words that are no task of the command; it has the text for the user.
+fn refusal(command: &mut Command<'_>, kind: ErrorKind, message: &str) -> Error
+    ensures kind { (kind_of result ≡ kind) ⊎ (kind_of result ≡ OutOfMemory) }
+{
+    match command.error(kind, message) {
+        Ok(error) => error,
+        Err(refused) => Error::from(refused),
+    }
+}
+
 // What words without an output ask for; the error has the text for the user.
 fn parse_command<'a, S: AsStr>(alloc: Global, words: &'a [S]) -> Result<Task<'a>, Error>
     // Words that spell a command give its task and nothing else.
@@ -151,7 +161,11 @@ fn parse_command<'a, S: AsStr>(alloc: Global, words: &'a [S]) -> Result<Task<'a>
     let matches = command.try_get_matches_from_mut(words)?;
     match task_in(&matches) {
         Some(task) => Ok(task),
-        None => Err(command.error(ErrorKind::InvalidSubcommand, "no such command")?),
+        None => Err(refusal(
+            &mut command,
+            ErrorKind::InvalidSubcommand,
+            "no such command",
+        )),
     }
 }
 
@@ -214,9 +228,10 @@ pub fn parse<'a, S: AsStr>(alloc: Global, words: &'a [S]) -> Result<Task<'a>, Er
     let task = parse_command(alloc, words)?;
     match task.with_output(output) {
         Some(task) => Ok(task),
-        None => Err(tool_command(alloc)?.error(
+        None => Err(refusal(
+            &mut tool_command(alloc)?,
             ErrorKind::UnknownArgument,
             "--output goes with plan, chart and table alone",
-        )?),
+        )),
     }
 }

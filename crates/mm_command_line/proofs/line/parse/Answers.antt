@@ -30,8 +30,8 @@ returns-in-Some-clause-unflagged g c =
     let words = map g.S.AsStr.text c.args.words.now in
     flags_before words _ c.split_output.result.1 c.in-Some.task c.in-Some.ensures.named c.split_output.ensures.split c.in_ok-task.ensures.unflagged
 
-pub returns-in_ok-error-in-None-clause-memory : goal.returns-in_ok-error-in-None-clause-memory
-returns-in_ok-error-in-None-clause-memory g c line =
+pub returns-in_ok-tool_command-in-None-clause-memory : goal.returns-in_ok-tool_command-in-None-clause-memory
+returns-in_ok-tool_command-in-None-clause-memory g c line =
     let words = map g.S.AsStr.text c.args.words.now in
     let has = line_parts words _ c.split_output.result.1 line c.split_output.ensures.split in
     let read = c.in_ok-task.ensures.taken (line_command words _ c.split_output.result.1 line c.split_output.ensures.split) in
