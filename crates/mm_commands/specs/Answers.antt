@@ -17,7 +17,7 @@ use Rattle.mm_run.specs.declared.printed.Outcome.{Outcome as Ended}
 use Rattle.mm_run.specs.declared.printed.Outcome.TheVariants as ended
 use Rattle.mm_run.specs.declared.printed.Printed.{Printed}
 use Rattle.mm_run.specs.Printed.{text_of}
-use Rattle.mm_run.specs.Runs.{Runs, FliesBy}
+use Rattle.mm_run.specs.Runs.{PrintsRun}
 use Rattle.mm_commands.specs.Contents.{Contents, IsStored, MayBe}
 use Rattle.mm_commands.specs.declared.status.Status.{Status}
 use Rattle.mm_commands.specs.declared.status.Status.TheVariants.{Done, Refused}
@@ -112,8 +112,7 @@ HoldsPlan contents name octets = ⊥
 
 -- what is printed of the run of the plan that is given, and of one that is made where none is
 abbrev pub FliesBytes : Option (List ℕ) → Printed → List ℕ → List ℕ → List ℕ → List ℕ → Type 0
-FliesBytes (Some plan) printed setup forecast sources links = Runs setup forecast plan sources links printed
-FliesBytes None printed setup forecast sources links = FliesBy setup forecast sources links printed
+FliesBytes plan printed setup forecast sources links = PrintsRun plan setup forecast sources links printed
 
 -- the files of a run have bytes of which P holds; those of the plan first, where one is named
 abbrev pub OfFlight : Contents → FlightFiles → (Option (List ℕ) → List ℕ → List ℕ → List ℕ → List ℕ → Type 0) → Type 0

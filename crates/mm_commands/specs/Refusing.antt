@@ -9,7 +9,7 @@ use Rattle.mm_cut.specs.declared.fault.Fault.TheVariants as check
 use Rattle.mm_planner.specs.PlanTexts.{IsPlanningFault}
 use Rattle.mm_ask.specs.Asking.{IsSetupFault}
 use Rattle.mm_run.specs.Ending.{refusal_text}
-use Rattle.mm_run.specs.Judging.{IsRunFault, IsFlyFault}
+use Rattle.mm_run.specs.Judging.{IsFirstFault}
 use Rattle.mm_run.specs.declared.fault.Fault.{Fault as FlightFault}
 use Rattle.mm_run.specs.declared.fault.Fault.TheVariants as flight
 use Rattle.mm_commands.specs.Contents.{Contents, MayBeUnread}
@@ -42,8 +42,7 @@ files_of task = listed (names_in task)
 
 -- the first fault of the texts of a run whose plan is given, or made
 abbrev pub IsFlightFault : Option (List ℕ) → FlightFault → List ℕ → List ℕ → List ℕ → List ℕ → Type 0
-IsFlightFault (Some plan) e setup forecast sources links = IsRunFault setup forecast plan sources links e
-IsFlightFault None e setup forecast sources links = IsFlyFault setup forecast sources links e
+IsFlightFault plan e setup forecast sources links = IsFirstFault plan setup forecast sources links e
 
 -- the file of this name was the first of these that was not read: those before it were, and its bytes are not known
 abbrev pub IsFirstUnread : Contents → List (List ℕ) → List ℕ → Type 0

@@ -1,5 +1,6 @@
 //! What answers a task, by the texts of its files.
 ghost use Rattle.std.specs.Prelude.{◌≡◌, IfOk, IfErr};
+ghost use Rattle.std.specs.Option.{option_copied};
 ghost use Rattle.mm_base.specs.Reading.{IfRefused};
 ghost use Rattle.mm_command_line.specs.Lines.{output_of};
 ghost use Rattle.mm_command_line.specs.Names.{names_in};
@@ -16,7 +17,7 @@ use mm_chart::{chart_bytes, table_bytes};
 use mm_command_line::{FlightFiles, Task};
 use mm_cut::{Verdict, check_bytes};
 use mm_planner::plan_bytes;
-use mm_run::{Printed, RunTexts, fly_bytes, run_bytes};
+use mm_run::{Printed, RunTexts, run_texts};
 use std::alloc::Global;
 use std::sync::Wait;
 use std::thread::Threads;
@@ -80,6 +81,16 @@ impl Answer<'_> {
     }
 }
 
+// The text of the plan of a run, where it is given.
+fn given_plan<'t>(name: Option<&str>, texts: &'t TaskTexts) -> Option<&'t [u8]>
+    ensures given { option_copied result ≡ given_plan name.entry texts.now }
+{
+    match name {
+        Some(_) => Some(texts.plan.as_slice()),
+        None => None,
+    }
+}
+
 // What the run of the plan prints, which is made where none is given.
 fn carry_out<R: Threads + Wait + Sync>(
     rt: &R,
@@ -92,20 +103,17 @@ fn carry_out<R: Threads + Wait + Sync>(
     ensures refused { IfRefused flight_fault.NoMemory result (λ e. IsFlightFault (given_plan files.entry.plan texts.now) e
         texts.now.setup.items texts.now.forecast.items texts.now.sources.items texts.now.links.items) }
 {
-    let ends = RunTexts {
+    let run = RunTexts {
         setup: &texts.setup,
         forecast: &texts.forecast,
         sources: &texts.sources,
         links: &texts.links,
     };
-    match files.plan {
-        Some(_) => run_bytes(rt, alloc, ends, &texts.plan),
-        None => fly_bytes(rt, alloc, ends),
-    }
+    run_texts(rt, alloc, run, given_plan(files.plan, texts))
 }
 
 /// What answers the task, whose files have these texts.
-#[tactic(auto, using(crate::proofs::Answering::flown))]
+#[tactic(auto, using(crate::proofs::Answering::flown, crate::proofs::Answering::refused_flight))]
 pub(crate) fn answer_to<'a, R: Threads + Wait + Sync>(
     rt: &R,
     alloc: Global,
