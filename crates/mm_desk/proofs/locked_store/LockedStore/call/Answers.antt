@@ -14,8 +14,8 @@ pub invariant_of-self-2 : goal.invariant_of-self-2
 invariant_of-self-2 g c =
     let stepped : step c.self.inside.state c.args.logged ≡ (c.in_ok-copies.copies.answer, c.apply.new.self) = rw c.requires.logged c.in_ok-copies.ensures.answer in
     let items : c.push_reserved.new.self.items ≡ c.self.inside.log.items ++ entry c.args.seat c.args.logged c.in_ok-copies.copies.answer ∷ [] =
-    c.push_reserved.ensures.items
-    ∙ (ap (λ (log : List Entry). log ++ entry c.args.seat c.args.logged c.in_ok-copies.copies.logged ∷ []) c.reserve.ensures.items
+    ◌∙◌ {A = List Entry} c.push_reserved.ensures.items
+    (ap (λ (log : List Entry). log ++ entry c.args.seat c.args.logged c.in_ok-copies.copies.logged ∷ []) c.reserve.ensures.items
     ∙ ap (λ (reply : Reply). c.self.inside.log.items ++ entry c.args.seat c.args.logged reply ∷ []) c.in_ok-copies.ensures.copies.0) in
     rw items (run_more _ _ _ _ _ _ _ c.self.invariant stepped)
 
