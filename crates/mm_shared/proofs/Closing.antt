@@ -66,6 +66,11 @@ last_of stores before store free others one stores_are free_are all =
       all = ap (λ (x : FreePorts). length x.ports.lists) (sym there) ∙ (all.all k store one (omega arith) ∙ ap (λ (x : NamedStore). x.store.seats) here);
     }
 
+-- as many stores were opened as there were
+pub as_many_fresh : (before : List Held) (seats : ℕ) (stores : List NamedStore) (free : List FreePorts) → AreFresh before seats stores free → length stores ≡ length before
+as_many_fresh before seats stores free fresh =
+    sym (length-map stores (λ (s : NamedStore). (s.id, s.channel))) ∙ (ap length fresh.labels ∙ length-map before (λ (h : Held). (h.id, h.channel)))
+
 -- as many stores came back as there were
 pub as_many_back : (stores : List NamedStore) (free : List FreePorts) (back : List Held) → AllReturned stores free back → length back ≡ length stores
 as_many_back stores free back went =
@@ -145,10 +150,10 @@ same_back before seats stores free back fresh went =
     same_lists back before (backs ∙ sym befores) (λ k h within. same k h within)
   where
     backs : length back ≡ length stores
-    backs = sym (length-map back (λ (h : Held). (h.id, h.channel))) ∙ (ap length went.labels ∙ length-map stores (λ (s : NamedStore). (s.id, s.channel)))
+    backs = as_many_back stores free back went
 
     befores : length before ≡ length stores
-    befores = sym (length-map before (λ (h : Held). (h.id, h.channel))) ∙ (sym (ap length fresh.labels) ∙ length-map stores (λ (s : NamedStore). (s.id, s.channel)))
+    befores = sym (as_many_fresh before seats stores free fresh)
 
     same : (k : ℕ) (h : Held) → k < length back → get_or back k h ≡ get_or before k h
     same k h within =
