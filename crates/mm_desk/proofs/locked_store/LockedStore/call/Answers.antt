@@ -24,8 +24,8 @@ returns-clause-log g c =
     let before = c.reserve.ensures.items ∙ ap (λ (s : LockedStoreView). s.log) c.self.view_is in
     let logged : entry c.args.seat c.args.logged c.in_ok-copies.copies.logged ≡ entry c.args.seat c.args.event c.in_ok-copies.copies.answer =
     ap (λ (e : Event). entry c.args.seat e c.in_ok-copies.copies.logged) c.requires.logged ∙ ap (λ (r : Reply). entry c.args.seat c.args.event r) c.in_ok-copies.ensures.copies.0 in
-    c.push_reserved.ensures.items
-    ∙ (ap (λ (log : List Entry). log ++ entry c.args.seat c.args.logged c.in_ok-copies.copies.logged ∷ []) before ∙ ap (λ (e : Entry). c.args.self.now.log ++ e ∷ []) logged)
+    ◌∙◌ {A = List Entry} c.push_reserved.ensures.items
+    (ap (λ (log : List Entry). log ++ entry c.args.seat c.args.logged c.in_ok-copies.copies.logged ∷ []) before ∙ ap (λ (e : Entry). c.args.self.now.log ++ e ∷ []) logged)
 
 pub returns-clause-entry : goal.returns-clause-entry
 returns-clause-entry g c =
