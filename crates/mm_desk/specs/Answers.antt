@@ -6,14 +6,25 @@ use Rattle.mm_desk.specs.declared.fault.Fault.TheVariants.{NoMemory}
 use Rattle.mm_desk.specs.declared.reply.Reply.{Reply}
 use Rattle.mm_desk.specs.declared.reply.Reply.TheVariants as reply
 
+-- whether something is done was answered, and not that there is no memory
+abbrev pub IsDone : Reply → Type 0
+IsDone (reply.Done done) = done ≢ Err NoMemory
+IsDone other = ⊥
+
+-- how many packets are deleted was answered, and not that there is no memory
+abbrev pub IsDeleted : Reply → Type 0
+IsDeleted (reply.Deleted deleted) = deleted ≢ Err NoMemory
+IsDeleted other = ⊥
+
 -- the reply is of the event's sort, and not that there is no memory; a packet that is handed back is the one offered
 abbrev pub Answers : Event → Reply → Type 0
 Answers (Offer now packet) (reply.Offered (Ok offered)) = Unit {0}
 Answers (Offer now packet) (reply.Offered (Err back)) = (back.fault ≢ NoMemory) × (back.packet ≡ packet)
-Answers (Begin from to) (reply.Done done) = done ≢ Err NoMemory
+Answers (Offer now packet) other = ⊥
+Answers (Begin from to) reply = IsDone reply
 Answers Next (reply.Given given) = given ≢ Err NoMemory
-Answers Abort (reply.Done done) = done ≢ Err NoMemory
-Answers (Delete limit) (reply.Deleted deleted) = deleted ≢ Err NoMemory
-Answers Enable (reply.Done done) = done ≢ Err NoMemory
-Answers Disable (reply.Done done) = done ≢ Err NoMemory
-Answers event other = ⊥
+Answers Next other = ⊥
+Answers Abort reply = IsDone reply
+Answers (Delete limit) reply = IsDeleted reply
+Answers Enable reply = IsDone reply
+Answers Disable reply = IsDone reply

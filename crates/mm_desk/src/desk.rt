@@ -60,13 +60,12 @@ pub struct Closed<N: Opening> {
     pub agree: bool,
 }
 
-// The answer of a call whose reply is of this case; the event comes back where there was no memory.
+// What a call was answered, by this reading of its reply; the event comes back where there was no memory.
 macro_rules! answered {
-    ($called:expr; $case:ident) => {
-        match &$called {
-            Ok(Reply::$case(answer)) => *answer,
+    ($called:expr; $reading:ident) => {
+        match $called {
+            Ok(reply) => reply.$reading(),
             Err(_) => Err(Fault::NoMemory),
-            _ => unreachable!(),
         }
     };
 }
@@ -211,7 +210,7 @@ impl<N: Opening> Desk<N> {
     ) -> Result<(), Fault>
         ensures tells { Tells seat.old (Event.Begin from to) (Reply.Done result) seat.new }
     {
-        answered!(self.call(rt, alloc, Event::Begin(from, to), seat); Done)
+        answered!(self.call(rt, alloc, Event::Begin(from, to), seat); done)
     }
 
     /// Gives a copy of the next packet of the retrieval with its storage time; nothing at its end, where it is over.
@@ -234,7 +233,7 @@ impl<N: Opening> Desk<N> {
     pub fn abort<R: Wait>(&self, rt: &R, alloc: Global, seat: &mut Seat<N>) -> Result<(), Fault>
         ensures tells { Tells seat.old Event.Abort (Reply.Done result) seat.new }
     {
-        answered!(self.call(rt, alloc, Event::Abort, seat); Done)
+        answered!(self.call(rt, alloc, Event::Abort, seat); done)
     }
 
     /// Deletes the packets up to a time, that time included, and returns their number.
@@ -247,20 +246,20 @@ impl<N: Opening> Desk<N> {
     ) -> Result<u32, Fault>
         ensures tells { Tells seat.old (Event.Delete limit) (Reply.Deleted result) seat.new }
     {
-        answered!(self.call(rt, alloc, Event::Delete(limit), seat); Deleted)
+        answered!(self.call(rt, alloc, Event::Delete(limit), seat); deleted)
     }
 
     /// Switches storage on.
     pub fn enable<R: Wait>(&self, rt: &R, alloc: Global, seat: &mut Seat<N>) -> Result<(), Fault>
         ensures tells { Tells seat.old Event.Enable (Reply.Done result) seat.new }
     {
-        answered!(self.call(rt, alloc, Event::Enable, seat); Done)
+        answered!(self.call(rt, alloc, Event::Enable, seat); done)
     }
 
     /// Switches storage off. A retrieval goes on.
     pub fn disable<R: Wait>(&self, rt: &R, alloc: Global, seat: &mut Seat<N>) -> Result<(), Fault>
         ensures tells { Tells seat.old Event.Disable (Reply.Done result) seat.new }
     {
-        answered!(self.call(rt, alloc, Event::Disable, seat); Done)
+        answered!(self.call(rt, alloc, Event::Disable, seat); done)
     }
 }

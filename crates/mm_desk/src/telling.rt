@@ -30,12 +30,11 @@ macro_rules! copies {
     };
 }
 
-// A copy of a packet that was found, with its time, as a reply.
-fn given(alloc: Global, time: u64, packet: &BlockPacket) -> Result<Reply, NoMemory>
-    ensures given { IfOk result (λ reply. reply ≡ Reply.Given (Ok (Some (record { time = time; packet = packet.now })))) }
+// A packet that was found, with its time, as a reply.
+fn given(time: u64, packet: BlockPacket) -> Reply
+    ensures given { result ≡ Reply.Given (Ok (Some (record { time = time; packet = packet }))) }
 {
-    let packet = packet.copy(alloc)?;
-    Ok(Reply::Given(Ok(Some(Stored { time, packet }))))
+    Reply::Given(Ok(Some(Stored { time, packet })))
 }
 
 impl ReplyCopies {
@@ -53,15 +52,18 @@ impl ReplyCopies {
         copies!(Deleted, answer)
     }
 
-    // A packet that was found, with its time.
+    // Copies of a packet that was found, with its time.
     fn given(alloc: Global, time: u64, packet: &BlockPacket) -> Result<ReplyCopies, NoMemory>
         ensures answer { IfOk result (λ c. c.answer ≡ Reply.Given (Ok (Some (record { time = time; packet = packet.now })))) }
         ensures copies { IfOk result (λ c. (c.logged ≡ c.answer) × (c.listed ≡ c.answer)) }
     {
+        let answer = packet.copy(alloc)?;
+        let logged = packet.copy(alloc)?;
+        let listed = packet.copy(alloc)?;
         Ok(ReplyCopies {
-            answer: given(alloc, time, packet)?,
-            logged: given(alloc, time, packet)?,
-            listed: given(alloc, time, packet)?,
+            answer: given(time, answer),
+            logged: given(time, logged),
+            listed: given(time, listed),
         })
     }
 }

@@ -66,6 +66,16 @@ last_of stores before store free others one stores_are free_are all =
       all = ap (λ (x : FreePorts). length x.ports.lists) (sym there) ∙ (all.all k store one (omega arith) ∙ ap (λ (x : NamedStore). x.store.seats) here);
     }
 
+-- as many stores were opened as there were
+pub as_many_fresh : (before : List Held) (seats : ℕ) (stores : List NamedStore) (free : List FreePorts) → AreFresh before seats stores free → length stores ≡ length before
+as_many_fresh before seats stores free fresh =
+    sym (length-map stores (λ (s : NamedStore). (s.id, s.channel))) ∙ (ap length fresh.labels ∙ length-map before (λ (h : Held). (h.id, h.channel)))
+
+-- as many stores came back as there were
+pub as_many_back : (stores : List NamedStore) (free : List FreePorts) (back : List Held) → AllReturned stores free back → length back ≡ length stores
+as_many_back stores free back went =
+    sym (length-map back (λ (h : Held). (h.id, h.channel))) ∙ (ap length went.labels ∙ length-map stores (λ (s : NamedStore). (s.id, s.channel)))
+
 -- one store more came back
 pub back_more : (stores before : List NamedStore) (store : NamedStore) (free others : List FreePorts) (one : FreePorts) (back : List Held) (held : Held)
     → stores ≡ before ++ store ∷ [] → free ≡ others ++ one ∷ [] → length others ≡ length before → AllReturned before others back
@@ -83,7 +93,7 @@ back_more stores before store free others one back held stores_are free_are coun
     same_label = ap (λ (i : List ℕ). (i, held.channel)) label.0 ∙ ap (λ (c : ℕ). (store.id, c)) label.1
 
     backs : length back ≡ length before
-    backs = sym (length-map back (λ (h : Held). (h.id, h.channel))) ∙ (ap length went.labels ∙ length-map before (λ (s : NamedStore). (s.id, s.channel)))
+    backs = as_many_back before others back went
 
     by_order : (k : ℕ) (s : NamedStore) (p : FreePorts) (h : Held) → k < length stores → (k ≡ length before) ⊎ ((k < length before) ⊎ (length before < k))
         → IsReturned (get_or stores k s) (get_or free k p) (get_or (back ++ held ∷ []) k h)
@@ -116,7 +126,7 @@ all_back stores workers free taken seats = record {
 pub legal_logs : (stores : List NamedStore) (workers : List Lines) (free : List FreePorts) (back : List Held) → AllTaken stores workers free → AllReturned stores free back
     → HaveLegalLogs workers (openings_of stores) (states_of back)
 legal_logs stores workers free back taken went k within =
-    let backs : length back ≡ length stores = sym (length-map back (λ (h : Held). (h.id, h.channel))) ∙ (ap length went.labels ∙ length-map stores (λ (s : NamedStore). (s.id, s.channel))) in
+    let backs = as_many_back stores free back went in
     let inside : k < length back = omega (arith, length-map back (λ (h : Held). h.state)) in
     let in_stores : k < length stores = omega arith in
     let h : Held = record { id = []; channel = 0; state = blank } in
@@ -131,7 +141,7 @@ legal_logs stores workers free back taken went k within =
 -- the stores that came back are sound
 pub sound_back : (stores : List NamedStore) (free : List FreePorts) (back : List Held) → AllReturned stores free back → All (λ h. IsState h.state) back
 sound_back stores free back went k h within =
-    let backs : length back ≡ length stores = sym (length-map back (λ (h : Held). (h.id, h.channel))) ∙ (ap length went.labels ∙ length-map stores (λ (s : NamedStore). (s.id, s.channel))) in
+    let backs = as_many_back stores free back went in
     (went.each k no_store no_free_ports h (omega arith)).sound
 
 -- stores that were opened and not called come back as they were
@@ -140,10 +150,10 @@ same_back before seats stores free back fresh went =
     same_lists back before (backs ∙ sym befores) (λ k h within. same k h within)
   where
     backs : length back ≡ length stores
-    backs = sym (length-map back (λ (h : Held). (h.id, h.channel))) ∙ (ap length went.labels ∙ length-map stores (λ (s : NamedStore). (s.id, s.channel)))
+    backs = as_many_back stores free back went
 
     befores : length before ≡ length stores
-    befores = sym (length-map before (λ (h : Held). (h.id, h.channel))) ∙ (sym (ap length fresh.labels) ∙ length-map stores (λ (s : NamedStore). (s.id, s.channel)))
+    befores = sym (as_many_fresh before seats stores free fresh)
 
     same : (k : ℕ) (h : Held) → k < length back → get_or back k h ≡ get_or before k h
     same k h within =

@@ -1,8 +1,8 @@
-use Rattle.std.proofs.Common.{◌≡◌, List, [], ◌∷◌, ◌++◌, refl, sym, ap, ◌∙◌}
+use Rattle.std.proofs.Common.{◌≡◌, List, [], ◌∷◌, ◌++◌, refl, sym, ap, ◌∙◌, arith}
 use Rattle.mm_desk.specs.declared.held.Held.{Held}
 use Rattle.mm_desk.specs.Machine.{State}
 use Rattle.mm_shared.specs.declared.stores.NamedStore.{NamedStore}
-use Rattle.mm_shared.proofs.Closing.{fresh_all, fresh_more, same_back}
+use Rattle.mm_shared.proofs.Closing.{as_many_back, as_many_fresh, fresh_all, fresh_more, one_more, same_back}
 use Rattle.mm_shared.proofs.stores.+open_each.Goals as goal
 
 pub close_each-requires-clause-all : goal.close_each-requires-clause-all
@@ -27,3 +27,34 @@ returns-in-Err-open-clause-err t c =
     c.push_reserved-in-Err-open.ensures.items
     ∙ (ap (λ (xs : List Held). xs ++ last c.in-Err-open.state ∷ []) same
     ∙ (ap (λ (s : State). before ++ last s ∷ []) c.in-Err-open.ensures.back ∙ sym c.in-Some.ensures.items))
+
+pub push_reserved-requires-in-Ok : goal.push_reserved-requires-in-Ok
+push_reserved-requires-in-Ok t c =
+    let fresh = as_many_fresh _ _ _ _ c.in_default-open_each.ensures.ok in
+    let more = one_more _ _ _ c.in-Some.ensures.items in
+    omega (arith, fresh, more, c.in_default-open_each.ensures.opened, c.requires.room.0)
+
+pub push_reserved-requires-in-Ok-2 : goal.push_reserved-requires-in-Ok-2
+push_reserved-requires-in-Ok-2 t c =
+    let fresh = as_many_fresh _ _ _ _ c.in_default-open_each.ensures.ok in
+    let more = one_more _ _ _ c.in-Some.ensures.items in
+    omega (arith, fresh, more, c.in_default-open_each.ensures.ok.ports.count, c.in_default-open_each.ensures.free, c.requires.room.1)
+
+pub overflow_cast-index : goal.overflow_cast-index
+overflow_cast-index t c =
+    let fresh = as_many_fresh _ _ _ _ c.in_default-open_each.ensures.ok in
+    let more = one_more _ _ _ c.in-Some.ensures.items in
+    omega (arith, fresh, more, c.requires.few, c.len-index.ensures)
+
+pub close_each-requires-clause-room : goal.close_each-requires-clause-room
+close_each-requires-clause-room t c =
+    let fresh = as_many_fresh _ _ _ _ c.in_default-open_each.ensures.ok in
+    let more = one_more _ _ _ c.in-Some.ensures.items in
+    omega (arith, fresh, more, c.open_each.ensures.stores, c.pop.ensures.capacity, c.args.stores.now.ok)
+
+pub push_reserved-requires-in-Err-open : goal.push_reserved-requires-in-Err-open
+push_reserved-requires-in-Err-open t c =
+    let fresh = as_many_fresh _ _ _ _ c.in_default-open_each.ensures.ok in
+    let back = as_many_back _ _ _ c.close_each.ensures.back in
+    let more = one_more _ _ _ c.in-Some.ensures.items in
+    omega (arith, fresh, back, more, c.close_each.ensures.capacity, c.open_each.ensures.stores, c.pop.ensures.capacity, c.args.stores.now.ok)
