@@ -3,11 +3,11 @@ ghost use Rattle.std.specs.Prelude.{◌≡◌};
 
 use mm_base::{Refusal, Refused, refusals};
 use std::alloc::AllocError;
-use thiserror::Error;
+use std::error::Error;
+use std::fmt;
 
 /// Why a network is not solved. It is shown as its number and its name.
-#[derive(Clone, Copy, Debug, PartialEq, Eq, Error)]
-#[error("{}", self.refusal())]
+#[derive(Clone, Copy, Debug, PartialEq, Eq)]
 pub enum Fault {
     /// A growth of memory was refused.
     NoMemory,
@@ -16,6 +16,14 @@ pub enum Fault {
     /// The source and the sink are one node.
     SameEnds,
 }
+
+impl fmt::Display for Fault {
+    fn fmt<W: fmt::Write>(&self, f: &mut fmt::Formatter<W>) -> fmt::Result {
+        write!(f, "{}", self.refusal())
+    }
+}
+
+impl Error for Fault {}
 
 impl Refused for Fault {
     fn refusal(self) -> Refusal {

@@ -22,7 +22,7 @@ pub(crate) struct Phase<'a> {
 impl<'a> Phase<'a> {
     ghost use Rattle.mm_flow.specs.Residual.{entries, tail, twin};
     ghost use Rattle.mm_flow.specs.Marks.{level};
-    ghost use Rattle.mm_flow.specs.Task.{SameTask, IsOpen, Reaches};
+    ghost use Rattle.mm_flow.specs.Task.{SameTask, IsOpen, Reaches, IsOver};
     ghost use Rattle.mm_flow.specs.Phase.{LeadsFrom, LeadsUp, cursors_of};
 
     // A solver before its first phase.
@@ -35,6 +35,16 @@ impl<'a> Phase<'a> {
             next: vec![in alloc; 0; nodes]?,
             ahead: vec![in alloc; 0; nodes]?,
         })
+    }
+
+    // Moves flow until a search no longer reaches the sink.
+    pub(crate) fn run(&mut self)
+        ensures task { SameTask self.old.tables self.new.tables }
+        ensures over { IsOver self.new.tables }
+    {
+        while self.tables.search_anew() {
+            self.block();
+        }
     }
 
     // Moves flow along the path by which the search reached the sink, and then along further paths of its levels until

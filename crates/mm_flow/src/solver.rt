@@ -25,8 +25,6 @@ pub fn solve(alloc: Global, network: &Network, source: u32, sink: u32) -> Result
     ensures bounded { OnOk result (¬ HasUnlimitedPath network.now.graph source sink) }
 {
     let mut phase = Phase::new(alloc, Tables::new(alloc, network, source, sink)?)?;
-    while phase.tables.search_anew() {
-        phase.block();
-    }
+    phase.run();
     Ok(phase.tables.solved(alloc)?)
 }

@@ -1,4 +1,5 @@
 pub mod BufferLemmas
 pub mod ListLemmas
+pub mod NumberLemmas
 pub mod FoundLemmas
 pub mod AgainLemmas

@@ -22,8 +22,8 @@ pub fn u16_at(octets: &[u8]) -> Option<(u16, &[u8])>
     ensures value { option_map (λ x. (x.0, x.1.now)) result ≡ number_at w16 octets.now }
     ensures spelled { IfSome result (λ x. octets.now ≡ to_be_bytes w16 x.0 ++ x.1.now) }
 {
-    let (front, rest) = octets.split_at_checked(2)?;
-    Some((u16::from_be_bytes([front[0], front[1]]), rest))
+    let (front, rest) = octets.split_first_chunk()?;
+    Some((u16::from_be_bytes(*front), rest))
 }
 
 /// The number of four octets at the front, and the octets after it.
@@ -32,9 +32,8 @@ pub fn u32_at(octets: &[u8]) -> Option<(u32, &[u8])>
     ensures value { option_map (λ x. (x.0, x.1.now)) result ≡ number_at w32 octets.now }
     ensures spelled { IfSome result (λ x. octets.now ≡ to_be_bytes w32 x.0 ++ x.1.now) }
 {
-    let (front, rest) = octets.split_at_checked(4)?;
-    let number = u32::from_be_bytes([front[0], front[1], front[2], front[3]]);
-    Some((number, rest))
+    let (front, rest) = octets.split_first_chunk()?;
+    Some((u32::from_be_bytes(*front), rest))
 }
 
 /// The number of eight octets at the front, and the octets after it.
@@ -43,9 +42,6 @@ pub fn u64_at(octets: &[u8]) -> Option<(u64, &[u8])>
     ensures value { option_map (λ x. (x.0, x.1.now)) result ≡ number_at w64 octets.now }
     ensures spelled { IfSome result (λ x. octets.now ≡ to_be_bytes w64 x.0 ++ x.1.now) }
 {
-    let (front, rest) = octets.split_at_checked(8)?;
-    let number = u64::from_be_bytes([
-        front[0], front[1], front[2], front[3], front[4], front[5], front[6], front[7],
-    ]);
-    Some((number, rest))
+    let (front, rest) = octets.split_first_chunk()?;
+    Some((u64::from_be_bytes(*front), rest))
 }

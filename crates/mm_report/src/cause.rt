@@ -2,7 +2,8 @@
 ghost use Rattle.std.specs.Prelude.{◌≡◌};
 
 use mm_base::{Refusal, Refused, StoreId};
-use thiserror::Error;
+use std::error::Error;
+use std::fmt;
 
 /// The latest moment before the first step, and the latest last storage time of a store, with which a run may begin, in ticks.
 pub const LATEST_START: u64 = 0x8000_0000_0000_0000;
@@ -11,8 +12,7 @@ pub const LATEST_START: u64 = 0x8000_0000_0000_0000;
 pub const MAX_SOURCES: usize = 8;
 
 /// Why a run did not begin, or was halted. It is shown as its number and its name.
-#[derive(Clone, Copy, Debug, PartialEq, Eq, Error)]
-#[error("{}", self.refusal())]
+#[derive(Clone, Copy, Debug, PartialEq, Eq)]
 pub enum Cause {
     /// The plan is for another number of stores or of steps than the problem has.
     PlanShape,
@@ -37,6 +37,14 @@ pub enum Cause {
     /// In this step a store refused a packet. Within the limits of a run no store does (`far` of `carry_out` and `fly` in `mm_exec`).
     LogMismatch { step: u32 },
 }
+
+impl fmt::Display for Cause {
+    fn fmt<W: fmt::Write>(&self, f: &mut fmt::Formatter<W>) -> fmt::Result {
+        write!(f, "{}", self.refusal())
+    }
+}
+
+impl Error for Cause {}
 
 impl Refused for Cause {
     fn refusal(self) -> Refusal {

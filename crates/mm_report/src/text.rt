@@ -24,6 +24,16 @@ struct Cell {
     id: StoreId,
 }
 
+// ` N`
+#[tactic(auto, using(std::proofs::Common::append_assoc))]
+fn push_decimal(text: &mut Vec<u8>, number: u128) -> Result<(), AllocError>
+    ensures { OnOk result (text.new.items ≡ text.old.items ++ space ∷ decimal number) }
+{
+    text.push(b' ')?;
+    let mut buffer = Buffer::new();
+    text.extend_from_slice(buffer.format(number).as_bytes())
+}
+
 // ` WORD N`
 #[tactic(auto, using(std::proofs::Common::append_assoc))]
 fn push_number(text: &mut Vec<u8>, word: &[u8], number: u128) -> Result<(), AllocError>
@@ -31,9 +41,7 @@ fn push_number(text: &mut Vec<u8>, word: &[u8], number: u128) -> Result<(), Allo
 {
     text.push(b' ')?;
     text.extend_from_slice(word)?;
-    text.push(b' ')?;
-    let mut buffer = Buffer::new();
-    text.extend_from_slice(buffer.format(number).as_bytes())
+    push_decimal(text, number)
 }
 
 // `WORD T ID`
@@ -42,9 +50,7 @@ fn push_named(text: &mut Vec<u8>, word: &[u8], cell: Cell) -> Result<(), AllocEr
     ensures { OnOk result (text.new.items ≡ text.old.items ++ named_text word.now cell.step cell.id) }
 {
     text.extend_from_slice(word)?;
-    text.push(b' ')?;
-    let mut buffer = Buffer::new();
-    text.extend_from_slice(buffer.format(cell.step).as_bytes())?;
+    push_decimal(text, u128::from(cell.step))?;
     text.push(b' ')?;
     text.extend_from_slice(cell.id.text())
 }

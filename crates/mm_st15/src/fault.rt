@@ -3,11 +3,11 @@ ghost use Rattle.std.specs.Prelude.{◌≡◌};
 
 use mm_base::{Refusal, Refused, refusals};
 use std::alloc::AllocError;
-use thiserror::Error;
+use std::error::Error;
+use std::fmt;
 
 /// A refusal of this crate. It is shown as its number, a space and its name.
-#[derive(Clone, Copy, Debug, PartialEq, Eq, Error)]
-#[error("{}", self.refusal())]
+#[derive(Clone, Copy, Debug, PartialEq, Eq)]
 pub enum Fault {
     /// A growth was refused.
     NoMemory,
@@ -18,6 +18,14 @@ pub enum Fault {
     /// The data are not as long as their count says, or the count is not allowed.
     CountMismatch,
 }
+
+impl fmt::Display for Fault {
+    fn fmt<W: fmt::Write>(&self, f: &mut fmt::Formatter<W>) -> fmt::Result {
+        write!(f, "{}", self.refusal())
+    }
+}
+
+impl Error for Fault {}
 
 impl Refused for Fault {
     fn refusal(self) -> Refusal {

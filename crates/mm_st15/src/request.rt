@@ -61,7 +61,7 @@ macro_rules! with_data {
      listed { $($number:literal $name:ident $entry:ident,)* }
      bare { $($other:literal $bare:ident,)* }) => {
         match $kind {
-            $(RequestKind::$name => Ok(Request::$name(counted_entries($alloc, 1, $octets)?)),)*
+            $(RequestKind::$name => counted_entries($alloc, 1, $octets).map(Request::$name),)*
             $(RequestKind::$bare if $octets.is_empty() => Ok(Request::$bare),)*
             $(RequestKind::$bare => Err(Fault::CountMismatch),)*
         }

@@ -29,6 +29,10 @@ module _ (s : Store) (new : Stored) (sound : IsStore s) (later : s.last < new.ti
     last_fits = fits;
   }
 
+  -- a store with room that took the newest packet
+  pub IsStore-appended : length s.content < s.size → IsStore (with_newest s s.content new)
+  IsStore-appended room = IsStore-newest s.content sound.rising sound.from_one sound.up_to_last (omega arith)
+
   -- a full store gives up its oldest packet, or stays as it is
   IsStore-put_full : (kind : Kind) (content : List Stored) → s.content ≡ content → IsStore (put_full kind content s new).1
   IsStore-put_full Bounded content held = sound

@@ -78,17 +78,13 @@ impl AnyStore {
         ensures same_kind { kind ≡ self.old.kind → IsOk result }
         ensures err { OnErr result (self.new ≡ self.old) }
     {
-        match (&mut self.form, kind) {
-            (Form::Ring(ring), Kind::Bounded) => {
-                let blocks = BlockStore::taking(ring)?;
-                self.form = Form::Blocks(blocks);
-            }
-            (Form::Blocks(blocks), Kind::Circular) => {
-                let ring = RingStore::taking(blocks)?;
-                self.form = Form::Ring(ring);
-            }
-            _ => {}
+        if kind == self.kind() {
+            return Ok(());
         }
+        self.form = match &mut self.form {
+            Form::Ring(ring) => Form::Blocks(BlockStore::taking(ring)?),
+            Form::Blocks(blocks) => Form::Ring(RingStore::taking(blocks)?),
+        };
         Ok(())
     }
 

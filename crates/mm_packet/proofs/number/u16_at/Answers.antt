@@ -1,0 +1,12 @@
+use Rattle.std.proofs.Common.{arith}
+use Rattle.std.specs.Int.{w16, to_be_bytes}
+use Rattle.std.proofs.lemmas.Nat.{be_bytes_2}
+use Rattle.mm_packet.proofs.NumberLemmas.{spelled_front}
+use Rattle.mm_packet.proofs.number.u16_at.Goals as goal
+
+pub returns-clause-spelled : goal.returns-clause-spelled
+returns-clause-spelled c =
+    let number = c.from_be_bytes.result in
+    let front = c.in_ok-front.front.now in
+    spelled_front 2 c.args.octets.now front c.in_ok-front.rest.now (to_be_bytes w16 number) c.in_ok-front.ensures.cases (λ i. omega (arith, c.type_inv.octets i))
+    (λ long small. be_bytes_2 front number long small c.from_be_bytes.ensures)
