@@ -16,7 +16,9 @@ use toml::{Table, Value};
 
 // The keys of the table of a store, of a route and of a limit.
 static STORE_KEYS: [Name; 5] = [Name::Id, Name::Size, Name::Type, Name::Channel, Name::Start];
+
 static ROUTE_KEYS: [Name; 4] = [Name::Apid, Name::Service, Name::Subtype, Name::Store];
+
 static LIMIT_KEYS: [Name; 2] = [Name::Channel, Name::Blocks];
 
 // The members of an element that is a table.
