@@ -44,7 +44,6 @@ fn table_of<'a>(
 }
 
 // The identifier at a key.
-#[tactic(auto, unfolding(crate::specs::Tables::id_at), using(mm_base::proofs::IdFields::is_id_text_decides))]
 fn id_at(row: u32, name: Name, table: &Table) -> Result<StoreId, Fault>
     ensures { Gives NoMemory (λ id. id) result (id_at row name (table_view table.now)) }
 {
