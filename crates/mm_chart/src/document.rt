@@ -11,8 +11,7 @@ use crate::pen::{Pushed, push_said, push_value};
 use crate::picture::Picture;
 use crate::rows::push_rows;
 use crate::words::{push_words, word_lines};
-use mm_cut::{Fault, read_sheet};
-use mm_problem::read_problem;
+use mm_cut::{Fault, read_texts};
 use std::alloc::Global;
 
 /// The beginning of the document, up to its height.
@@ -66,8 +65,7 @@ pub fn chart_bytes(
     ensures chart { IfOk result (λ text. Charts setup.now forecast.now plan.now text.items) }
     ensures refused { IfRefused NoMemory result (IsFaultOf setup.now forecast.now plan.now) }
 {
-    let problem = read_problem(alloc, setup, forecast)?;
-    let sheet = read_sheet(alloc, &problem, plan)?;
+    let (problem, sheet) = read_texts(alloc, setup, forecast, plan)?;
     let picture = Picture::new(alloc, problem, sheet)?;
     let text = draw(alloc, &picture)?;
     Ok(text)

@@ -7,7 +7,6 @@ ghost use Rattle.mm_plan.specs.Sheet.{IsSheet};
 ghost use Rattle.mm_plan.specs.Table.{amount, HasShape};
 ghost use Rattle.mm_plan.specs.Volumes.{written, left, lost};
 ghost use Rattle.mm_plan.specs.Simulated.{written_in, left_in, lost_in, CoversProblem, AgreeEach};
-ghost use Rattle.mm_cut.specs.Verdicts.{IsVerdict};
 ghost use Rattle.mm_cut.specs.Stretches.{IsStretch, AreStretches};
 ghost use Rattle.mm_cut.specs.Cuts.{IsCut, coming_sum, held_sum, counts_window, counts_limits, windows_sum, limits_sum};
 ghost use Rattle.mm_chart.specs.Picture.{has_cut, cut, counts, IsDrawn};
@@ -17,7 +16,7 @@ ghost use Rattle.mm_chart.specs.Series.{one_if, sent, counts_channel, is_inner_o
 use crate::series::Series;
 use crate::shades::{Shade, is_inner_of, is_inner_on, is_last_of, shades_of};
 use mm_base::NoMemory;
-use mm_cut::{Parts, Verdict, counts_limits, counts_window, parts_of, verify};
+use mm_cut::{Parts, Verdict, counts_limits, counts_window, parts_of, verdict_of};
 use mm_plan::{Sheet, Simulated, Stretch, simulate};
 use mm_problem::Problem;
 use std::alloc::Global;
@@ -69,23 +68,6 @@ fn cut_of(sheet: &Sheet, verdict: Verdict) -> &[Stretch]
     ensures { result.now ≡ (if has_cut verdict then sheet.now.cut else []) }
 {
     if has_cut(verdict) { sheet.cut() } else { &[] }
-}
-
-// The verdict on a sheet.
-fn verdict_of(problem: &Problem, sheet: &Sheet) -> Verdict
-    requires shape { HasShape problem.now sheet.now.plan }
-    requires is_sheet { IsSheet sheet.now }
-    ensures { IsVerdict problem.now (amount sheet.now.plan) sheet.now.cut sheet.now.by_channels
-        sheet.now.loss sheet.now.bound result }
-{
-    verify(
-        problem,
-        sheet.plan(),
-        sheet.cut(),
-        sheet.by_channels(),
-        sheet.loss(),
-        sheet.bound(),
-    )
 }
 
 // What its plan does to the stores.

@@ -9,9 +9,9 @@ ghost use Rattle.mm_chart.specs.Table.{dumped, next_cell, place_cells, volume_ce
 
 use crate::pen::Pushed;
 use mm_base::numbers::push_number;
-use mm_cut::{Fault, read_sheet};
+use mm_cut::{Fault, read_texts};
 use mm_plan::{Plan, Simulated, simulate};
-use mm_problem::{Problem, read_problem};
+use mm_problem::Problem;
 use std::alloc::Global;
 
 /// A plan for a problem, and what it does to the stores.
@@ -150,8 +150,7 @@ pub fn table_bytes(
     ensures table { IfOk result (λ text. IsTableOf setup.now forecast.now plan.now text.items) }
     ensures refused { IfRefused NoMemory result (IsFaultOf setup.now forecast.now plan.now) }
 {
-    let problem = read_problem(alloc, setup, forecast)?;
-    let sheet = read_sheet(alloc, &problem, plan)?;
+    let (problem, sheet) = read_texts(alloc, setup, forecast, plan)?;
     let text = table_of(alloc, &problem, sheet.plan())?;
     Ok(text)
 }

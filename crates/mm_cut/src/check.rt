@@ -1,12 +1,15 @@
 //! The checker: from the bytes of three texts to a verdict and its line.
 ghost use Rattle.std.specs.Prelude.{◌≡◌, ℕ, IfOk};
 ghost use Rattle.mm_base.specs.Reading.{IfRefused};
-ghost use Rattle.mm_plan.specs.Table.{HasShape};
+ghost use Rattle.mm_problem.specs.Texts.{SaysProblem};
+ghost use Rattle.mm_plan.specs.Sheet.{IsSheet};
+ghost use Rattle.mm_plan.specs.Table.{amount, HasShape};
 ghost use Rattle.mm_plan.specs.declared.fault.Fault.TheVariants as plan_fault;
 ghost use Rattle.mm_cut.specs.declared.fault.Fault.TheVariants.{NoMemory};
 ghost use Rattle.mm_cut.specs.declared.verdict.Verdict.TheVariants.{Least};
 ghost use Rattle.mm_cut.specs.Checking.{Checks, SaysSheet, LosesLeast, IsFaultOf, IsPlanFault};
 ghost use Rattle.mm_cut.specs.Lines.{line_of};
+ghost use Rattle.mm_cut.specs.Verdicts.{IsVerdict};
 
 use crate::fault::Fault;
 use crate::lines::verdict_line;
@@ -26,6 +29,42 @@ pub fn read_sheet(alloc: Global, problem: &Problem, plan: &[u8]) -> Result<Sheet
     Ok(sheet)
 }
 
+/// The problem that a setup and a forecast say, and the sheet for it that a plan text says. The faults come in this
+/// order: of the setup, of the forecast, of the plan text, of its shape.
+pub fn read_texts(
+    alloc: Global,
+    setup: &[u8],
+    forecast: &[u8],
+    plan: &[u8],
+) -> Result<(Problem, Sheet), Fault>
+    ensures problem { IfOk result (λ t. SaysProblem setup.now forecast.now t.0) }
+    ensures sheet { IfOk result (λ t. SaysSheet t.0 plan.now t.1) }
+    ensures shape { IfOk result (λ t. HasShape t.0 t.1.plan) }
+    ensures refused { IfRefused NoMemory result (IsFaultOf setup.now forecast.now plan.now) }
+{
+    let problem = read_problem(alloc, setup, forecast)?;
+    let sheet = read_sheet(alloc, &problem, plan)?;
+    Ok((problem, sheet))
+}
+
+/// The verdict on a sheet that is one for the problem.
+#[must_use]
+pub fn verdict_of(problem: &Problem, sheet: &Sheet) -> Verdict
+    requires shape { HasShape problem.now sheet.now.plan }
+    requires is_sheet { IsSheet sheet.now }
+    ensures { IsVerdict problem.now (amount sheet.now.plan) sheet.now.cut sheet.now.by_channels
+        sheet.now.loss sheet.now.bound result }
+{
+    verify(
+        problem,
+        sheet.plan(),
+        sheet.cut(),
+        sheet.by_channels(),
+        sheet.loss(),
+        sheet.bound(),
+    )
+}
+
 /// The verdict on the plan that the plan text says, for the problem that the setup and the forecast say, with the
 /// verdict's line. The faults come in this order: of the setup, of the forecast, of the plan text, of its shape.
 pub fn check_bytes(
@@ -39,16 +78,8 @@ pub fn check_bytes(
     ensures least { IfOk result (λ c. (n : ℕ) → c.0 ≡ Least n → LosesLeast setup.now forecast.now plan.now n) }
     ensures refused { IfRefused NoMemory result (IsFaultOf setup.now forecast.now plan.now) }
 {
-    let problem = read_problem(alloc, setup, forecast)?;
-    let sheet = read_sheet(alloc, &problem, plan)?;
-    let verdict = verify(
-        &problem,
-        sheet.plan(),
-        sheet.cut(),
-        sheet.by_channels(),
-        sheet.loss(),
-        sheet.bound(),
-    );
+    let (problem, sheet) = read_texts(alloc, setup, forecast, plan)?;
+    let verdict = verdict_of(&problem, &sheet);
     let line = verdict_line(alloc, verdict)?;
     Ok((verdict, line))
 }

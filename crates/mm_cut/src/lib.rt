@@ -11,7 +11,7 @@ mod stretches;
 mod verdict;
 
 pub use bounds::{Parts, bound, counts_limits, counts_window, parts_of};
-pub use check::{check_bytes, read_sheet};
+pub use check::{check_bytes, read_sheet, read_texts, verdict_of};
 pub use counts::{first_bad_count, is_inner};
 pub use fault::Fault;
 pub use laws::{

@@ -1,25 +1,32 @@
 //! The lines that verdicts are printed as.
-ghost use Rattle.std.specs.Prelude.{◌≡◌, IfOk};
+ghost use Rattle.std.specs.Prelude.{◌≡◌, ◌++◌, ◌∷◌, [], decimal, IfOk};
+ghost use Rattle.mm_base.specs.Characters.{space, line_feed};
 ghost use Rattle.mm_cut.specs.Lines.{line_of};
 
 use crate::verdict::Verdict;
 use mm_base::NoMemory;
 use std::alloc::Global;
 
+// The line that says this of a number.
+fn numbered(alloc: Global, said: &str, number: u64) -> Result<Vec<u8>, NoMemory>
+    ensures { IfOk result (λ line. line.items ≡ said.now ++ space ∷ decimal number ++ line_feed ∷ []) }
+{
+    Ok(format!(in alloc; "{said} {number}\n")?.into_bytes())
+}
+
 /// The line of a verdict, with its line end.
 pub fn verdict_line(alloc: Global, verdict: Verdict) -> Result<Vec<u8>, NoMemory>
     ensures line { IfOk result (λ line. line.items ≡ line_of verdict) }
 {
-    let line = match verdict {
-        Verdict::DoesNotFit(step) => format!(in alloc; "does not fit, step {step}\n"),
-        Verdict::LossIs(loss) => format!(in alloc; "loss is {loss}\n"),
-        Verdict::BadStretch(place) => format!(in alloc; "bad stretch {place}\n"),
-        Verdict::BadCount(place) => format!(in alloc; "bad count {place}\n"),
-        Verdict::BoundIs(bound) => format!(in alloc; "bound is {bound}\n"),
+    match verdict {
+        Verdict::DoesNotFit(step) => numbered(alloc, "does not fit, step", u64::from(step)),
+        Verdict::LossIs(loss) => numbered(alloc, "loss is", loss),
+        Verdict::BadStretch(place) => numbered(alloc, "bad stretch", u64::from(place)),
+        Verdict::BadCount(place) => numbered(alloc, "bad count", u64::from(place)),
+        Verdict::BoundIs(bound) => Ok(format!(in alloc; "bound is {bound}\n")?.into_bytes()),
         Verdict::NotShown { loss, bound } => {
-            format!(in alloc; "not shown, loss {loss} bound {bound}\n")
+            Ok(format!(in alloc; "not shown, loss {loss} bound {bound}\n")?.into_bytes())
         }
-        Verdict::Least(loss) => format!(in alloc; "least {loss}\n"),
-    };
-    Ok(line?.into_bytes())
+        Verdict::Least(loss) => numbered(alloc, "least", loss),
+    }
 }

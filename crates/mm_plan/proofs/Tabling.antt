@@ -31,3 +31,7 @@ left_before q x blocks s n t v later count store places tabled is =
 pub agree_each : (q : Dumping) (f : ℕ → ℕ → ℕ) (blocks : List ℕ) → length blocks ≡ length q.windows * length q.rows → IsTabled (length q.rows) f blocks → AgreeEach q (cell (length q.rows) blocks) f
 agree_each q f blocks places tabled = λ s t store first last.
     tabled s t store first (omega (arith, places, grid_place-lt (length q.rows) (length q.windows) t s store first last))
+
+-- as many places as the steps before this one have
+pub last_place : (n t m : ℕ) → t ≡ m + 1 → grid_place n t 0 ≡ m * n
+last_place n t m next = let same : m + 1 - 1 ≡ m = omega arith in rw (next, same) (omega arith)

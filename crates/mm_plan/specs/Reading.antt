@@ -127,6 +127,16 @@ unfoldable pub read_end : List (List ℕ) → Option Line
 read_end [] = Some end_line
 read_end (w ∷ ws) = None
 
+-- the line of the certificate with this keyword and these words after it
+abbrev pub read_certificate : List ℕ → List (List ℕ) → Option Line
+read_certificate w ws =
+    if bytes_eq w (codes "loss") then read_loss ws
+    else if bytes_eq w (codes "stretch") then read_stretch ws
+    else if bytes_eq w (codes "count") then read_count ws
+    else if bytes_eq w (codes "bound") then read_bound_line ws
+    else if bytes_eq w (codes "end") then read_end ws
+    else None
+
 -- the line of these words, by its keyword
 unfoldable pub read_words : List (List ℕ) → Option Line
 read_words [] = None
@@ -134,12 +144,7 @@ read_words (w ∷ ws) =
     if bytes_eq w (codes "mmplan") then read_title ws
     else if bytes_eq w (codes "stores") then read_stores ws
     else if bytes_eq w (codes "dump") then read_dump ws
-    else if bytes_eq w (codes "loss") then read_loss ws
-    else if bytes_eq w (codes "stretch") then read_stretch ws
-    else if bytes_eq w (codes "count") then read_count ws
-    else if bytes_eq w (codes "bound") then read_bound_line ws
-    else if bytes_eq w (codes "end") then read_end ws
-    else None
+    else read_certificate w ws
 
 -- the line of this text
 unfoldable pub read_line : List ℕ → Option Line

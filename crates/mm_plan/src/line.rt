@@ -2,7 +2,7 @@
 ghost use Rattle.std.specs.Prelude.{◌≡◌, ◌≤◌, map, drop, IfOk, length};
 ghost use Rattle.std.specs.Option.{option_map};
 ghost use Rattle.mm_base.specs.declared.limits.TheConstants.{MAX_STORES, MAX_BLOCKS};
-ghost use Rattle.mm_plan.specs.Reading.{number_to, read_id, read_row, read_title, read_stores, read_dump, read_loss, read_stretch, read_count, read_bound_line, read_end, read_words, read_line};
+ghost use Rattle.mm_plan.specs.Reading.{number_to, read_id, read_row, read_title, read_stores, read_dump, read_loss, read_stretch, read_count, read_bound_line, read_end, read_certificate, read_words, read_line};
 ghost use Rattle.mm_plan.specs.Seen.{seen};
 
 use crate::stretch::Stretch;
@@ -155,6 +155,25 @@ fn read_end(words: &[&[u8]]) -> Option<Line>
     }
 }
 
+// The line of the certificate with this keyword and these words after it.
+fn read_certificate(keyword: &[u8], rest: &[&[u8]]) -> Option<Line>
+    ensures { option_map seen result ≡ read_certificate keyword.now (map (λ w. w.now) rest.now) }
+{
+    if keyword == b"loss".as_slice() {
+        read_loss(rest)
+    } else if keyword == b"stretch".as_slice() {
+        read_stretch(rest)
+    } else if keyword == b"count".as_slice() {
+        read_count(rest)
+    } else if keyword == b"bound".as_slice() {
+        read_bound_line(rest)
+    } else if keyword == b"end".as_slice() {
+        read_end(rest)
+    } else {
+        None
+    }
+}
+
 #[tactic(auto, unfolding(crate::specs::Reading::read_words))]
 fn read_words(alloc: Global, words: &[&[u8]]) -> Result<Option<Line>, AllocError>
     ensures { IfOk result (λ line. option_map seen line ≡ read_words (map (λ w. w.now) words.now)) }
@@ -169,18 +188,8 @@ fn read_words(alloc: Global, words: &[&[u8]]) -> Result<Option<Line>, AllocError
         read_stores(alloc, rest)
     } else if keyword == b"dump".as_slice() {
         read_dump(alloc, rest)
-    } else if keyword == b"loss".as_slice() {
-        Ok(read_loss(rest))
-    } else if keyword == b"stretch".as_slice() {
-        Ok(read_stretch(rest))
-    } else if keyword == b"count".as_slice() {
-        Ok(read_count(rest))
-    } else if keyword == b"bound".as_slice() {
-        Ok(read_bound_line(rest))
-    } else if keyword == b"end".as_slice() {
-        Ok(read_end(rest))
     } else {
-        Ok(None)
+        Ok(read_certificate(keyword, rest))
     }
 }
 

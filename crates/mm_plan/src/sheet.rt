@@ -1,7 +1,7 @@
 //! A plan with its certificate: what a plan text says.
 ghost use Rattle.std.specs.Prelude.{◌≡◌, ◌<◌, ◌↔◌, ◌∷◌, [], IfOk, IfErr, IfSome, IsOk, IsTrue, OnOk, MatchOption, MatchResult, length, map};
 ghost use Rattle.mm_plan.specs.Sheet.{SheetRows, IsSheet, IsShapedFor, sheet_text};
-ghost use Rattle.mm_plan.specs.Printing.{IsPrinted};
+ghost use Rattle.mm_plan.specs.Printing.{AreOrdered, AreRising, IsPrinted};
 ghost use Rattle.mm_plan.specs.Table.{HasShape};
 ghost use Rattle.mm_base.specs.Reading.{IfRefused};
 ghost use Rattle.mm_plan.specs.Fault.{IsTextFault};
@@ -167,16 +167,24 @@ impl Sheet {
     {
         let cut = ordered(alloc, self.stores.as_slice(), self.cut.as_slice())?;
         let by_channels = rising(alloc, self.by_channels.as_slice())?;
+        self.print_in_order(alloc, cut.as_slice(), by_channels.as_slice())
+    }
+
+    // The plan text of the sheet, with its stretches and its counted steps in this order.
+    fn print_in_order(
+        &self,
+        alloc: Global,
+        cut: &[Stretch],
+        by_channels: &[u32],
+    ) -> Result<Vec<u8>, NoMemory>
+        requires cut { AreOrdered self.now.stores self.now.cut cut.now }
+        requires by_channels { AreRising self.now.by_channels by_channels.now }
+        ensures { IfOk result (λ text. IsPrinted self.now text.items) }
+    {
         let second = !by_channels.is_empty();
         let mut text = Vec::new(alloc);
         push_front(&mut text, second, self.stores.as_slice(), &self.plan)?;
-        push_certificate(
-            &mut text,
-            self.loss,
-            cut.as_slice(),
-            by_channels.as_slice(),
-            self.bound,
-        )?;
+        push_certificate(&mut text, self.loss, cut, by_channels, self.bound)?;
         Ok(text)
     }
 

@@ -8,7 +8,8 @@ use Rattle.std.proofs.lemmas.Bool.Decides.{Decides-eqb, not_from_Decides}
 use Rattle.std.proofs.lemmas.List.Elements.{All-nil, All-cons, All-weaker}
 use Rattle.std.proofs.lemmas.List.Folds.{list_any_none}
 use Rattle.std.proofs.lemmas.Slice.Eq.{bytes_eq-Decides}
-use Rattle.toml.specs.Data.{Data, string, Members}
+use Rattle.toml.specs.Data.{Data, string, Members, as_table}
+use Rattle.mm_problem.specs.declared.fault.Name.{Name}
 use Rattle.mm_problem.specs.declared.fault.Name.TheVariants as name
 use Rattle.mm_base.specs.declared.kind.Kind.{Kind}
 use Rattle.mm_base.specs.declared.kind.Kind.TheVariants.{Circular, Bounded}
@@ -16,16 +17,27 @@ use Rattle.mm_base.specs.declared.limits.TheConstants.{MAX_BLOCKS, MAX_CHANNEL, 
 use Rattle.mm_base.specs.declared.rows.StoreRow.{StoreRow}
 use Rattle.mm_base.specs.declared.rows.RouteRow.{RouteRow}
 use Rattle.mm_base.specs.declared.rows.LimitRow.{LimitRow}
-use Rattle.mm_problem.specs.Keys.{value_at}
+use Rattle.mm_problem.specs.Keys.{has_only, value_at}
 use Rattle.mm_base.specs.Kind.{word_of}
 use Rattle.mm_problem.specs.ReadableSetup.{SaysText, SaysNumberIfAny, SaysStore, SaysRoute, SaysLimit, IsTableOf}
 use Rattle.mm_problem.specs.Setup.{IsStoreRow, HaveOtherIds, IsRouteRow, IsLimitRow, HaveOtherChannels}
 use Rattle.mm_base.specs.SameRoutes.{same_route}
 use Rattle.mm_problem.specs.declared.fault.Fault.{Fault}
-use Rattle.mm_problem.specs.Tables.{store_keys, route_keys, limit_keys, kind_of, kind_at, start_from, row_after, store_at, new_store, route_at, new_route, limit_at, new_limit}
+use Rattle.mm_problem.specs.Tables.{store_keys, route_keys, limit_keys, table_at, table_of, kind_of, kind_at, start_from, row_after, store_at, new_store, route_at, new_route, limit_at, new_limit}
 use Rattle.mm_problem.proofs.FieldLaws.{table_said, has_only_decides, found_decides, text_said, id_said, id_read, number_said, number_read}
 use Rattle.mm_base.proofs.ReadingSteps.{bind_ok, test_ok, ok_or_ok, ok_same}
 use Rattle.mm_problem.proofs.RowLaws.{IsNext}
+
+-- ---- the keys of a table
+
+-- a table that is read has no other keys than these
+table_of_said : (row : ℕ) (element : Name) (keys : List Name) (d : Data) (ms : Members) → table_of row element keys d ≡ Ok ms → (as_table d ≡ Some ms) × (has_only keys ms ≡ true)
+unfolding table_of
+table_of_said row element keys d ms h =
+    let (found, is, h1) = bind_ok _ _ _ h in
+    let (u, known, last) = bind_ok _ _ _ h1 in
+    let same : found ≡ ms = ok_same _ _ last in
+    (ok_or_ok _ _ _ is ∙ ap Some same, ap (has_only keys) (sym same) ∙ test_ok _ _ _ known)
 
 -- ---- rows that differ from a row
 
@@ -135,8 +147,8 @@ start_from_read row size ms n (Some d) is says below = number_read row name.Star
 store_said : (row : ℕ) (d : Data) (r : StoreRow) → store_at row d ≡ Ok r → IsTableOf SaysStore d r × IsStoreRow r
 unfolding store_at
 store_said row d r h =
-    let (ms, is, h1) = bind_ok _ _ _ h in
-    let (u, known, h2) = bind_ok _ _ _ h1 in
+    let (ms, found, h2) = bind_ok _ _ _ h in
+    let (is, known) = table_of_said row name.Store store_keys d ms found in
     let (id, id_is, h3) = bind_ok _ _ _ h2 in
     let (size, size_is, h4) = bind_ok _ _ _ h3 in
     let (kind, kind_is, h5) = bind_ok _ _ _ h4 in
@@ -150,9 +162,9 @@ store_said row d r h =
     subst (λ r. IsTableOf SaysStore d r × IsStoreRow r) same (
       record {
         members = ms;
-        is_table = table_said d ms (ok_or_ok _ _ _ is);
+        is_table = table_said d ms is;
         says = record {
-          only = (has_only_decides store_keys ms).0 (test_ok _ _ _ known);
+          only = (has_only_decides store_keys ms).0 known;
           id = id_said row name.Id ms id id_is;
           size = size_says.0;
           kind = kind_said row ms kind kind_is;
@@ -165,7 +177,7 @@ store_said row d r h =
 
 -- the store that a table says is read
 store_read : (row : ℕ) (d : Data) (r : StoreRow) → IsTableOf SaysStore d r → IsStoreRow r → store_at row d ≡ Ok r
-unfolding store_at
+unfolding store_at table_of
 store_read row d r h fits =
     let says = h.says in
     rw (
@@ -200,8 +212,8 @@ next_store_read earlier d r h = row_after_read store_at new_store earlier d r
 route_said : (row : ℕ) (d : Data) (r : RouteRow) → route_at row d ≡ Ok r → IsTableOf SaysRoute d r × (r.apid ≤ MAX_APID)
 unfolding route_at
 route_said row d r h =
-    let (ms, is, h1) = bind_ok _ _ _ h in
-    let (u, known, h2) = bind_ok _ _ _ h1 in
+    let (ms, found, h2) = bind_ok _ _ _ h in
+    let (is, known) = table_of_said row name.Route route_keys d ms found in
     let (apid, apid_is, h3) = bind_ok _ _ _ h2 in
     let (service, service_is, h4) = bind_ok _ _ _ h3 in
     let (subtype, subtype_is, h5) = bind_ok _ _ _ h4 in
@@ -214,9 +226,9 @@ route_said row d r h =
     subst (λ r. IsTableOf SaysRoute d r × (r.apid ≤ MAX_APID)) same (
       record {
         members = ms;
-        is_table = table_said d ms (ok_or_ok _ _ _ is);
+        is_table = table_said d ms is;
         says = record {
-          only = (has_only_decides route_keys ms).0 (test_ok _ _ _ known);
+          only = (has_only_decides route_keys ms).0 known;
           apid = apid_says.0;
           service = record { says = service_says.0; octet = service_says.2 };
           subtype = record { says = subtype_says.0; octet = subtype_says.2 };
@@ -228,7 +240,7 @@ route_said row d r h =
 
 -- the route that a table says is read
 route_read : (row : ℕ) (d : Data) (r : RouteRow) → IsTableOf SaysRoute d r → r.apid ≤ MAX_APID → route_at row d ≡ Ok r
-unfolding route_at
+unfolding route_at table_of
 route_read row d r h apid = rw (
   h.is_table,
   (has_only_decides route_keys h.members).1 h.says.only,
@@ -266,8 +278,8 @@ next_route_read stores earlier d r h = row_after_read route_at (new_route stores
 limit_said : (row : ℕ) (d : Data) (r : LimitRow) → limit_at row d ≡ Ok r → IsTableOf SaysLimit d r × IsLimitRow r
 unfolding limit_at
 limit_said row d r h =
-    let (ms, is, h1) = bind_ok _ _ _ h in
-    let (u, known, h2) = bind_ok _ _ _ h1 in
+    let (ms, found, h2) = bind_ok _ _ _ h in
+    let (is, known) = table_of_said row name.Limit limit_keys d ms found in
     let (channel, channel_is, h3) = bind_ok _ _ _ h2 in
     let (blocks, blocks_is, last) = bind_ok _ _ _ h3 in
     let channel_says = number_said row name.Channel ms 0 MAX_CHANNEL channel channel_is in
@@ -277,15 +289,15 @@ limit_said row d r h =
     subst (λ r. IsTableOf SaysLimit d r × IsLimitRow r) same (
       record {
         members = ms;
-        is_table = table_said d ms (ok_or_ok _ _ _ is);
-        says = record { only = (has_only_decides limit_keys ms).0 (test_ok _ _ _ known); channel = channel_says.0; blocks = blocks_says.0 };
+        is_table = table_said d ms is;
+        says = record { only = (has_only_decides limit_keys ms).0 known; channel = channel_says.0; blocks = blocks_says.0 };
       },
       record { channel = channel_says.2; blocks = blocks_says.2 },
     )
 
 -- the limit that a table says is read
 limit_read : (row : ℕ) (d : Data) (r : LimitRow) → IsTableOf SaysLimit d r → IsLimitRow r → limit_at row d ≡ Ok r
-unfolding limit_at
+unfolding limit_at table_of
 limit_read row d r h fits = rw (
   h.is_table,
   (has_only_decides limit_keys h.members).1 h.says.only,

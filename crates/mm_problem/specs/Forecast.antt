@@ -75,6 +75,15 @@ some_steps steps = do
   some ← some_step (length steps.windows)
   Ok steps
 
+-- the steps that the records after the header say
+abbrev pub later_steps : ℕ → List Fields → Result Steps Fault
+later_steps stores rows = steps_in stores no_steps rows >>= some_steps
+
+-- the test that the first record is the header
+abbrev pub header_in : List StoreRow → List Fields → Result (Unit {0}) Fault
+header_in stores [] = Err Header
+header_in stores (header ∷ rows) = test (same_fields header (header_of stores)) Header
+
 -- the steps that records say, of which the first is the header
 unfoldable pub forecast_in : List StoreRow → List Fields → Result Steps Fault
 forecast_in stores [] = Err Header

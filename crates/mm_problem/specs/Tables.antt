@@ -33,6 +33,13 @@ limit_keys = name.Channel ∷ name.Blocks ∷ []
 abbrev pub table_at : ℕ → Name → Data → Result Members Fault
 table_at row name d = ok_or (as_table d) (SetupField row name)
 
+-- the members of an element that is a table with no other keys than these
+unfoldable pub table_of : ℕ → Name → List Name → Data → Result Members Fault
+table_of row element keys d = do
+  ms ← table_at row element d
+  known ← test (has_only keys ms) (SetupField row name.Unknown)
+  Ok ms
+
 -- the identifier at a key, as its field
 unfoldable pub id_at : ℕ → Name → Members → Result (List ℕ) Fault
 id_at row name ms = do
@@ -79,8 +86,7 @@ rows_in next earlier (d ∷ ds) = do
 -- the store in a row
 unfoldable pub store_at : ℕ → Data → Result StoreRow Fault
 store_at row d = do
-  ms ← table_at row name.Store d
-  known ← test (has_only store_keys ms) (SetupField row name.Unknown)
+  ms ← table_of row name.Store store_keys d
   id ← id_at row name.Id ms
   size ← number_at row name.Size 1 MAX_BLOCKS ms
   kind ← kind_at row ms
@@ -103,8 +109,7 @@ stores_in = rows_in (row_after store_at new_store) []
 -- the route in a row
 unfoldable pub route_at : ℕ → Data → Result RouteRow Fault
 route_at row d = do
-  ms ← table_at row name.Route d
-  known ← test (has_only route_keys ms) (SetupField row name.Unknown)
+  ms ← table_of row name.Route route_keys d
   apid ← number_at row name.Apid 0 MAX_APID ms
   service ← number_at row name.Service 0 255 ms
   subtype ← number_at row name.Subtype 0 255 ms
@@ -124,8 +129,7 @@ routes_in stores = rows_in (row_after route_at (new_route stores)) []
 -- the limit in a row
 unfoldable pub limit_at : ℕ → Data → Result LimitRow Fault
 limit_at row d = do
-  ms ← table_at row name.Limit d
-  known ← test (has_only limit_keys ms) (SetupField row name.Unknown)
+  ms ← table_of row name.Limit limit_keys d
   channel ← number_at row name.Channel 0 MAX_CHANNEL ms
   blocks ← number_at row name.Blocks 0 MAX_BLOCKS ms
   Ok (record { channel = channel; blocks = blocks })

@@ -73,22 +73,27 @@ impl fmt::Display for Name {
 /// Why a setup or a forecast is refused. It is shown as its number, its name and its fields.
 #[derive(Clone, Copy, Debug, PartialEq, Eq, Error)]
 pub enum Fault {
-    #[error("{}", self.refusal())]
     NoMemory,
-    #[error("{}", self.refusal())]
     SetupText,
-    #[error("{} row {row} name {name}", self.refusal())]
     SetupField { row: u32, name: Name },
-    #[error("{}", self.refusal())]
     ForecastText,
-    #[error("{}", self.refusal())]
     Header,
-    #[error("{} row {row} column {column}", self.refusal())]
     Cell { row: u32, column: u32 },
-    #[error("{} row {row}", self.refusal())]
     StepNumber { row: u32 },
-    #[error("{} name {name}", self.refusal())]
     Limit { name: Name },
+}
+
+impl fmt::Display for Fault {
+    fn fmt<W: fmt::Write>(&self, f: &mut fmt::Formatter<W>) -> fmt::Result {
+        write!(f, "{}", self.refusal())?;
+        match self {
+            Fault::SetupField { row, name } => write!(f, " row {row} name {name}"),
+            Fault::Cell { row, column } => write!(f, " row {row} column {column}"),
+            Fault::StepNumber { row } => write!(f, " row {row}"),
+            Fault::Limit { name } => write!(f, " name {name}"),
+            _ => Ok(()),
+        }
+    }
 }
 
 impl<T: Drop> From<AllocFailed<T>> for Fault {

@@ -1,19 +1,19 @@
 //! The steps of a forecast, read from its records.
-ghost use Rattle.std.specs.Prelude.{◌≡◌, ◌+◌, ◌≤◌, length, drop, map, vec_len, IfOk};
+ghost use Rattle.std.specs.Prelude.{◌≡◌, ◌+◌, ◌≤◌, List, length, drop, map, vec_len, IfOk, OnOk};
 ghost use Rattle.csv.specs.Records.{fields_of};
 ghost use Rattle.mm_base.specs.declared.limits.TheConstants.{MAX_STORES, MAX_STEPS};
-ghost use Rattle.mm_problem.specs.Forecast.{cell_of, same_fields, header_of, arrivals_in, another_step, some_step, next_step, some_steps, forecast_in};
+ghost use Rattle.mm_problem.specs.Forecast.{cell_of, same_fields, header_of, arrivals_in, another_step, some_step, next_step, some_steps, later_steps, header_in, forecast_in};
 ghost use Rattle.mm_base.specs.Id.{id_text};
 ghost use Rattle.mm_problem.specs.declared.fault.Fault.TheVariants.{NoMemory};
 ghost use Rattle.mm_base.specs.Reading.{Gives};
-ghost use Rattle.mm_problem.specs.Records.{records_of};
+ghost use Rattle.mm_problem.specs.Records.{Fields, records_of, HasRecords, IsReading};
 ghost use Rattle.mm_problem.specs.StepLists.{steps_of};
 
 use crate::cells::{amount_of, test_step};
 use crate::fault::{Fault, Name};
 use crate::reading::test;
 use crate::records::{next_record, reader_of};
-use csv::ByteRecord;
+use csv::{ByteRecord, Reader};
 use mm_base::{MAX_STEPS, StoreRow};
 use std::alloc::Global;
 
@@ -122,6 +122,45 @@ fn some_steps(steps: StepTable) -> Result<StepTable, Fault>
     Ok(steps)
 }
 
+// Reads the header of a forecast of these stores.
+fn read_header(
+    stores: &[StoreRow],
+    reader: &mut Reader<&[u8]>,
+    row: &mut ByteRecord,
+) -> Result<(), Fault>
+    requires stores { length stores.now ≤ MAX_STORES }
+    requires reading { IsReading reader.old }
+    ensures header { (rows : List Fields) → HasRecords reader.old rows → Gives NoMemory (λ x. x) result (header_in stores.now rows) }
+    ensures later { OnOk result ((rows : List Fields) → HasRecords reader.old rows → HasRecords reader.new (drop 1 rows)) }
+{
+    if !next_record(reader, row)? {
+        return Err(Fault::Header);
+    }
+    test(is_header(stores, row), Fault::Header)
+}
+
+// Reads the steps of a forecast after its header.
+fn read_steps(
+    alloc: Global,
+    stores: usize,
+    reader: &mut Reader<&[u8]>,
+    row: &mut ByteRecord,
+) -> Result<StepTable, Fault>
+    requires stores { stores ≤ MAX_STORES }
+    requires reading { IsReading reader.old }
+    ensures { (rows : List Fields) → HasRecords reader.old rows
+        → Gives NoMemory steps_of result (later_steps stores rows) }
+{
+    let mut steps = StepTable {
+        windows: Vec::new(alloc),
+        arrived: Vec::new(alloc),
+    };
+    'rows: while next_record(reader, row)? {
+        steps = next_step(stores, steps, row)?;
+    }
+    some_steps(steps)
+}
+
 // The steps that a forecast says.
 pub(crate) fn forecast_of(
     alloc: Global,
@@ -133,16 +172,6 @@ pub(crate) fn forecast_of(
 {
     let mut reader = reader_of(alloc, text);
     let mut row = ByteRecord::new(alloc);
-    if !next_record(&mut reader, &mut row)? {
-        return Err(Fault::Header);
-    }
-    test(is_header(stores, &row), Fault::Header)?;
-    let mut steps = StepTable {
-        windows: Vec::new(alloc),
-        arrived: Vec::new(alloc),
-    };
-    'rows: while next_record(&mut reader, &mut row)? {
-        steps = next_step(stores.len(), steps, &row)?;
-    }
-    some_steps(steps)
+    read_header(stores, &mut reader, &mut row)?;
+    read_steps(alloc, stores.len(), &mut reader, &mut row)
 }

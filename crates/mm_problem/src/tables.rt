@@ -5,7 +5,7 @@ ghost use Rattle.toml.specs.View.{view, table_view};
 ghost use Rattle.mm_problem.specs.declared.fault.Fault.TheVariants.{NoMemory};
 ghost use Rattle.mm_base.specs.Reading.{Gives};
 ghost use Rattle.mm_base.specs.SameRoutes.{same_route};
-ghost use Rattle.mm_problem.specs.Tables.{table_at, id_at, kind_of, kind_at, start_at, store_at, has_store, new_store, route_at, new_route, limit_at, new_limit};
+ghost use Rattle.mm_problem.specs.Tables.{table_at, table_of, id_at, kind_of, kind_at, start_at, store_at, has_store, new_store, route_at, new_route, limit_at, new_limit};
 
 use crate::fault::{Fault, Name};
 use crate::keys::{has_only, number_at, text_at, value_at};
@@ -14,6 +14,13 @@ use crate::rows::Row;
 use mm_base::{Kind, LimitRow, MAX_APID, MAX_BLOCKS, MAX_CHANNEL, RouteRow, StoreId, StoreRow};
 use toml::{Table, Value};
 
+// The keys of the table of a store, of a route and of a limit.
+static STORE_KEYS: [Name; 5] = [Name::Id, Name::Size, Name::Type, Name::Channel, Name::Start];
+
+static ROUTE_KEYS: [Name; 4] = [Name::Apid, Name::Service, Name::Subtype, Name::Store];
+
+static LIMIT_KEYS: [Name; 2] = [Name::Channel, Name::Blocks];
+
 // The members of an element that is a table.
 fn table_at(row: u32, name: Name, value: &Value) -> Result<&Table, Fault>
     ensures { Gives NoMemory (λ t. table_view t.now) result (table_at row name (view value.now)) }
@@ -21,8 +28,22 @@ fn table_at(row: u32, name: Name, value: &Value) -> Result<&Table, Fault>
     value.as_table().ok_or(Fault::SetupField { row, name })
 }
 
+// The members of an element that is a table with no other keys than these.
+#[tactic(auto, unfolding(crate::specs::Tables::table_of))]
+fn table_of<'a>(
+    row: u32,
+    element: Name,
+    keys: &[Name],
+    value: &'a Value,
+) -> Result<&'a Table, Fault>
+    ensures { Gives NoMemory (λ t. table_view t.now) result (table_of row element keys.now (view value.now)) }
+{
+    let table = table_at(row, element, value)?;
+    test_field(has_only(keys, table), row, Name::Unknown)?;
+    Ok(table)
+}
+
 // The identifier at a key.
-#[tactic(auto, unfolding(crate::specs::Tables::id_at), using(mm_base::proofs::IdFields::is_id_text_decides))]
 fn id_at(row: u32, name: Name, table: &Table) -> Result<StoreId, Fault>
     ensures { Gives NoMemory (λ id. id) result (id_at row name (table_view table.now)) }
 {
@@ -69,9 +90,7 @@ fn start_at(row: u32, size: u32, table: &Table) -> Result<u32, Fault>
 fn store_at(row: u32, value: &Value) -> Result<StoreRow, Fault>
     ensures { Gives NoMemory (λ r. r) result (store_at row (view value.now)) }
 {
-    let table = table_at(row, Name::Store, value)?;
-    let names = [Name::Id, Name::Size, Name::Type, Name::Channel, Name::Start];
-    test_field(has_only(&names, table), row, Name::Unknown)?;
+    let table = table_of(row, Name::Store, &STORE_KEYS, value)?;
     let id = id_at(row, Name::Id, table)?;
     let size = number_at(row, Name::Size, 1, MAX_BLOCKS, table)?;
     let kind = kind_at(row, table)?;
@@ -119,9 +138,7 @@ impl Row for StoreRow {
 fn route_at(row: u32, value: &Value) -> Result<RouteRow, Fault>
     ensures { Gives NoMemory (λ r. r) result (route_at row (view value.now)) }
 {
-    let table = table_at(row, Name::Route, value)?;
-    let names = [Name::Apid, Name::Service, Name::Subtype, Name::Store];
-    test_field(has_only(&names, table), row, Name::Unknown)?;
+    let table = table_of(row, Name::Route, &ROUTE_KEYS, value)?;
     let apid = number_at(row, Name::Apid, 0, u32::from(MAX_APID), table)? as u16;
     let service = number_at(row, Name::Service, 0, 255, table)? as u8;
     let subtype = number_at(row, Name::Subtype, 0, 255, table)? as u8;
@@ -175,9 +192,7 @@ impl Row for RouteRow {
 fn limit_at(row: u32, value: &Value) -> Result<LimitRow, Fault>
     ensures { Gives NoMemory (λ r. r) result (limit_at row (view value.now)) }
 {
-    let table = table_at(row, Name::Limit, value)?;
-    let names = [Name::Channel, Name::Blocks];
-    test_field(has_only(&names, table), row, Name::Unknown)?;
+    let table = table_of(row, Name::Limit, &LIMIT_KEYS, value)?;
     let channel = number_at(row, Name::Channel, 0, u32::from(MAX_CHANNEL), table)? as u8;
     let blocks = number_at(row, Name::Blocks, 0, MAX_BLOCKS, table)?;
     Ok(LimitRow { channel, blocks })
