@@ -224,14 +224,21 @@ fn opening(setup: &Setup, row: &StoreRow, sources: &[u8]) -> EndsHint {
     }
 }
 
-/// Why the store of this name holds another number of packets before a run than its start says.
-#[must_use]
-pub fn opening_hint(alloc: Global, texts: Texts<'_>, store: &str) -> Option<Hint> {
-    let setup = Setup::read(alloc, texts.setup).ok()?;
+// Why the store of this name in a setup holds another number of packets than its start says.
+fn opening_of_store(setup: &Setup, sources: &[u8], store: &str) -> Option<Hint> {
     for row in setup.stores() {
         if row.id.text() == store.as_bytes() {
-            return Some(Hint::Ends(opening(&setup, row, texts.sources)));
+            return Some(Hint::Ends(opening(setup, row, sources)));
         }
     }
     None
+}
+
+/// Why the store of this name holds another number of packets before a run than its start says.
+#[must_use]
+pub fn opening_hint(alloc: Global, texts: Texts<'_>, store: &str) -> Option<Hint> {
+    match Setup::read(alloc, texts.setup) {
+        Ok(setup) => opening_of_store(&setup, texts.sources, store),
+        Err(_) => None,
+    }
 }

@@ -99,18 +99,28 @@ fn first_untaken(setup: &Setup, sources: &[u8]) -> Option<Note> {
     None
 }
 
+// Pushes the notes on a setup, and in a run those on its sources.
+fn push_notes(
+    notes: &mut Vec<Note>,
+    setup: &Setup,
+    is_run: bool,
+    sources: &[u8],
+) -> Result<(), NoMemory> {
+    push_limits(notes, setup)?;
+    if is_run {
+        push_stores(notes, setup)?;
+        if let Some(note) = first_untaken(setup, sources) {
+            notes.push(note)?;
+        }
+    }
+    Ok(())
+}
+
 /// What in the files of a task that is done has no effect: limits, and in a run also routes and packets.
 pub fn notes_on(alloc: Global, is_run: bool, texts: Texts<'_>) -> Result<Vec<Note>, NoMemory> {
     let mut notes = Vec::new(alloc);
-    let Ok(setup) = Setup::read(alloc, texts.setup) else {
-        return Ok(notes);
-    };
-    push_limits(&mut notes, &setup)?;
-    if is_run {
-        push_stores(&mut notes, &setup)?;
-        if let Some(note) = first_untaken(&setup, texts.sources) {
-            notes.push(note)?;
-        }
+    if let Ok(setup) = Setup::read(alloc, texts.setup) {
+        push_notes(&mut notes, &setup, is_run, texts.sources)?;
     }
     Ok(notes)
 }
