@@ -5,7 +5,7 @@ use Rattle.mm_shared.specs.Stores.{ids_of}
 use Rattle.mm_dump.specs.declared.queue.QueueView.{QueueView}
 use Rattle.mm_dump.specs.Queue.{queue_view}
 use Rattle.mm_dump.specs.Sending.{link_state}
-use Rattle.mm_dump.proofs.Working.{may_spend, seen_more, still_lines, worked_start, worked_more, worked_well, worked_stopped}
+use Rattle.mm_dump.proofs.Working.{may_spend, seen_more, still_lines, worked_start, worked_all, worked_more, worked_well, worked_stopped}
 use Rattle.mm_dump.proofs.dumper.work.Goals as goal
 
 pub loop-init : goal.loop-init
@@ -32,6 +32,22 @@ carry_at-stop-requires-clause-blocks g c =
     let bound = may_spend _ _ _ _ _ c.loop.invariant.seen c.take_next-number.ensures.taken c.take_next-number.ensures.few c.requires.ready.few c.loop.invariant.spent in
     let less : c.loop.worker.spent < 281474976710656 = omega (arith, bound) in
     less
+
+pub returns-then-number-context-clause-worked : goal.returns-then-number-context-clause-worked
+returns-then-number-context-clause-worked g c =
+    worked_all (ids_of c.args.context.now.stores.now) c.args.context.now.orders.now (view c.loop.worker.pass).taken (view c.take_next-number.new.pass).taken c.take_next-number.result
+    c.args.lines.now.items c.loop.lines.items
+    (link_state (g.L.Link.sent c.args.link.now) (g.L.Link.failed c.args.link.now) c.args.worker.now.spent)
+    (link_state (g.L.Link.sent c.loop.link) (g.L.Link.failed c.loop.link) c.loop.worker.spent)
+    c.if-number-context.true (ap (λ (v : QueueView). v.taken) c.take_next-number.ensures.taken) c.loop.invariant.worked
+
+pub returns-then-number-context-clause-parts : goal.returns-then-number-context-clause-parts
+returns-then-number-context-clause-parts g c =
+    ap (λ (v : QueueView). v.parts) c.take_next-number.ensures.taken ∙ ap (λ (v : QueueView). v.parts) c.loop.invariant.seen
+
+pub returns-then-is_some-clause-parts : goal.returns-then-is_some-clause-parts
+returns-then-is_some-clause-parts g c =
+    ap (λ (v : QueueView). v.parts) c.take_next-number.ensures.taken ∙ ap (λ (v : QueueView). v.parts) c.loop.invariant.seen
 
 pub returns-then-is_some-clause-bound : goal.returns-then-is_some-clause-bound
 returns-then-is_some-clause-bound g c =

@@ -1,4 +1,4 @@
-use Rattle.std.proofs.Common.{rules, ◌≡◌, ◌+◌, ◌≤◌, List, length, vec_len, drop, All, sym, ap, subst, ◌∙◌, arith}
+use Rattle.std.proofs.Common.{◌≡◌, ◌+◌, ◌≤◌, List, length, vec_len, drop, All, sym, ap, subst, ◌∙◌, arith}
 use Rattle.std.specs.List.{sum_by}
 use Rattle.crossbeam_queue.specs.Passes.{view}
 use Rattle.mm_shared.specs.declared.lines.Lines.{Lines}
@@ -38,7 +38,7 @@ as_many_lines g c = ap length c.deref_mut.ensures.value ∙ c.in_ok-opened.ensur
 
 as_many_workers : (g : given.Over) (c : goal.After-deref_mut-2 g) → length c.deref_mut-2.result.now ≡ length c.args.links.now
 as_many_workers g c =
-    let count : vec_len c.in_ok-buffers.buffers.workers ≡ length c.in_ok-buffers.buffers.workers.items = search rules in
+    let count : vec_len c.in_ok-buffers.buffers.workers ≡ length c.in_ok-buffers.buffers.workers.items = omega (arith, c.in_ok-buffers.buffers.workers.ok.0) in
     omega (arith, count, ap length c.deref_mut-2.ensures.value, c.in_ok-buffers.ensures.buffers.count)
 
 pub dump_all-requires-clause-ready : goal.dump_all-requires-clause-ready
@@ -52,7 +52,7 @@ close_all-requires g c =
     let b = (goal.at.close_all-requires g c).After-deref_mut-2 in
     let lines : length c.dump_all.new.lines ≡ length c.dump_all.new.links = omega (arith, c.dump_all.auto.lines, c.dump_all.auto.links, as_many_lines g b) in
     let workers : length c.dump_all.new.workers ≡ length c.dump_all.new.links = omega (arith, c.dump_all.auto.workers, c.dump_all.auto.links, as_many_workers g b) in
-    let held : vec_len c.in_ok-opened.opened.workers ≡ length c.in_ok-opened.opened.workers.items = search rules in
+    let held : vec_len c.in_ok-opened.opened.workers ≡ length c.in_ok-opened.opened.workers.items = omega (arith, c.in_ok-opened.opened.workers.ok.0) in
     let whole : length c.dump_all.new.lines ≡ c.in_ok-opened.opened.workers.len = omega (arith, held, c.dump_all.auto.lines, ap length c.deref_mut.ensures.value) in
     let ends : all_ends c.dump_all.new.lines ≡ all_ends c.in_ok-opened.opened.workers.items =
     sym (sided_ends c.dump_all.new.links c.dump_all.new.lines c.dump_all.new.workers lines workers)
@@ -66,7 +66,7 @@ spent_by-spent-requires-clause-bound g c =
     let b = (goal.at.spent_by-spent-requires-clause-bound g c).After-deref_mut-2 in
     let lines : length c.dump_all.new.lines ≡ length c.dump_all.new.links = omega (arith, c.dump_all.auto.lines, c.dump_all.auto.links, as_many_lines g b) in
     let workers : length c.dump_all.new.workers ≡ length c.dump_all.new.links = omega (arith, c.dump_all.auto.workers, c.dump_all.auto.links, as_many_workers g b) in
-    let held : vec_len c.in_ok-buffers.buffers.workers ≡ length c.in_ok-buffers.buffers.workers.items = search rules in
+    let held : vec_len c.in_ok-buffers.buffers.workers ≡ length c.in_ok-buffers.buffers.workers.items = omega (arith, c.in_ok-buffers.buffers.workers.ok.0) in
     let whole : length c.dump_all.new.workers ≡ c.in_ok-buffers.buffers.workers.len = omega (arith, held, c.dump_all.auto.workers, ap length c.deref_mut-2.ensures.value) in
     let bound = sided_each (λ (w : DumpWorker). w.spent ≤ 281474976710656) c.dump_all.new.links c.dump_all.new.lines c.dump_all.new.workers lines workers
     (spent_bound g.L.Link.sent g.L.Link.failed c.in_ok-buffers.buffers.queue c.deref.result.now _ _ _ _ c.dump_all.ensures.worked) in
@@ -77,7 +77,7 @@ join_passes-requires-clause-passes g c =
     let b = (goal.at.join_passes-requires-clause-passes g c).After-deref_mut-2 in
     let lines : length c.dump_all.new.lines ≡ length c.dump_all.new.links = omega (arith, c.dump_all.auto.lines, c.dump_all.auto.links, as_many_lines g b) in
     let workers : length c.dump_all.new.workers ≡ length c.dump_all.new.links = omega (arith, c.dump_all.auto.workers, c.dump_all.auto.links, as_many_workers g b) in
-    let held : vec_len c.in_ok-buffers.buffers.workers ≡ length c.in_ok-buffers.buffers.workers.items = search rules in
+    let held : vec_len c.in_ok-buffers.buffers.workers ≡ length c.in_ok-buffers.buffers.workers.items = omega (arith, c.in_ok-buffers.buffers.workers.ok.0) in
     let whole : length c.dump_all.new.workers ≡ c.in_ok-buffers.buffers.workers.len = omega (arith, held, c.dump_all.auto.workers, ap length c.deref_mut-2.ensures.value) in
     let passes = sided_each (HasPart c.in_ok-buffers.buffers.queue) c.dump_all.new.links c.dump_all.new.lines c.dump_all.new.workers lines workers
     (passes_back g.L.Link.sent g.L.Link.failed c.in_ok-buffers.buffers.queue c.deref.result.now _ _ _ _ c.dump_all.ensures.worked) in
@@ -88,8 +88,8 @@ returns g c =
     let b = (goal.at.returns g c).After-deref_mut-2 in
     let lines : length c.dump_all.new.lines ≡ length c.dump_all.new.links = omega (arith, c.dump_all.auto.lines, c.dump_all.auto.links, as_many_lines g b) in
     let workers : length c.dump_all.new.workers ≡ length c.dump_all.new.links = omega (arith, c.dump_all.auto.workers, c.dump_all.auto.links, as_many_workers g b) in
-    let held : vec_len c.in_ok-buffers.buffers.workers ≡ length c.in_ok-buffers.buffers.workers.items = search rules in
-    let kept : vec_len c.in_ok-opened.opened.workers ≡ length c.in_ok-opened.opened.workers.items = search rules in
+    let held : vec_len c.in_ok-buffers.buffers.workers ≡ length c.in_ok-buffers.buffers.workers.items = omega (arith, c.in_ok-buffers.buffers.workers.ok.0) in
+    let kept : vec_len c.in_ok-opened.opened.workers ≡ length c.in_ok-opened.opened.workers.items = omega (arith, c.in_ok-opened.opened.workers.ok.0) in
     let whole_workers : length c.dump_all.new.workers ≡ c.in_ok-buffers.buffers.workers.len = omega (arith, held, c.dump_all.auto.workers, ap length c.deref_mut-2.ensures.value) in
     let whole_lines : length c.dump_all.new.lines ≡ c.in_ok-opened.opened.workers.len = omega (arith, kept, c.dump_all.auto.lines, ap length c.deref_mut.ensures.value) in
     let same_workers = lent c.in_ok-buffers.buffers.workers.len c.dump_all.new.workers (drop (length c.dump_all.new.workers) c.in_ok-buffers.buffers.workers.items) whole_workers in

@@ -1,7 +1,11 @@
-use Rattle.std.proofs.Common.{[], get_or}
+use Rattle.std.proofs.Common.{[], get_or, arith}
+use Rattle.std.proofs.lemmas.List.{length-map}
 use Rattle.mm_record.specs.Offering.{ExtendsBy, ExtendsInPart}
-use Rattle.mm_record.proofs.Adding.{adds_at, goes_nowhere, partly_nowhere, offer_taken, offer_refused, port_at, reason_at, same_end}
+use Rattle.mm_record.proofs.Adding.{adds_at, end_of, goes_nowhere, partly_nowhere, offer_taken, offer_refused, port_at, reason_at, same_end}
 use Rattle.mm_record.proofs.offering.offer_at.Goals as goal
+
+pub bounds-lines-index : goal.bounds-lines-index
+bounds-lines-index g c = omega (arith, c.requires.within, c.requires.at.count, length-map c.args.lines.now end_of)
 
 pub offer-requires : goal.offer-requires
 offer-requires g c = record { of = port_at c.args.context.now.stores.now c.args.lines.now c.args.index _ _ c.requires.at c.requires.within }
