@@ -23,7 +23,7 @@ use Rattle.mm_problem.specs.ReadableSetup.{SaysText, SaysNumberIfAny, SaysStore,
 use Rattle.mm_problem.specs.Setup.{IsStoreRow, HaveOtherIds, IsRouteRow, IsLimitRow, HaveOtherChannels}
 use Rattle.mm_base.specs.SameRoutes.{same_route}
 use Rattle.mm_problem.specs.declared.fault.Fault.{Fault}
-use Rattle.mm_problem.specs.Tables.{store_keys, route_keys, limit_keys, table_at, table_of, kind_of, kind_at, start_from, row_after, store_at, new_store, route_at, new_route, limit_at, new_limit}
+use Rattle.mm_problem.specs.Tables.{store_keys, route_keys, limit_keys, table_of, kind_of, kind_at, start_from, row_after, store_at, new_store, route_at, new_route, limit_at, new_limit}
 use Rattle.mm_problem.proofs.FieldLaws.{table_said, has_only_decides, found_decides, text_said, id_said, id_read, number_said, number_read}
 use Rattle.mm_base.proofs.ReadingSteps.{bind_ok, test_ok, ok_or_ok, ok_same}
 use Rattle.mm_problem.proofs.RowLaws.{IsNext}

@@ -1,4 +1,4 @@
-use Rattle.std.proofs.Common.{◌≡◌, ◌+◌, ◌*◌, length, refl, sym, ◌∙◌, subst, arith}
+use Rattle.std.proofs.Common.{◌+◌, ◌*◌, length, refl, sym, subst, arith}
 use Rattle.mm_plan.specs.Table.{amount}
 use Rattle.mm_plan.specs.Tabled.{AreTabled}
 use Rattle.mm_plan.specs.Volumes.{written, left, lost}
