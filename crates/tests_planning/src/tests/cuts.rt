@@ -1,11 +1,12 @@
 //! The worked examples: what each plan loses, whether it fits, and what its cut shows.
 use crate::tests::samples::{
     A_AND_B, A_LIMITED, APART, CHANNEL_LIMIT_CUT, FIRST_RUN, SCI, SCI_OF_SIZE_2, SCI_STARTS_WITH_2,
-    THREE_STEPS, TWO_STEPS_OF_A, problem_of,
+    THREE_STEPS, TWO_STEPS_OF_A, problem_of, sheet_of,
 };
 use mm_cut::{Verdict, bound, first_bad, first_bad_count, verify};
 use mm_plan::{Fault, Sheet, fits, loss_of};
 use mm_problem::Problem;
+use std::alloc::Global;
 use std::process::Abort;
 
 // A plan with its cut, and what is found of them by hand.
@@ -106,6 +107,12 @@ fn is_planned(rt: &impl Abort, problem: &Problem, sheet: &Sheet, row: &Row) {
     assert!(rt; found == (row.misfit, row.loss), "{}", row.name);
 }
 
+// The sheet has the problem's shape, and its cut has this bound.
+fn is_bounded(rt: &impl Abort, problem: &Problem, sheet: &Sheet, row: &Row) {
+    let found = (sheet.shape(problem).err(), bound_of(problem, sheet));
+    assert!(rt; found == (None, row.bound), "{}", row.name);
+}
+
 // The sheet's cut, its printed loss and its printed bound have the verdict.
 fn is_judged(rt: &impl Abort, problem: &Problem, sheet: &Sheet, row: &Row) {
     let (plan, cut, counts) = (sheet.plan(), sheet.cut(), sheet.by_channels());
@@ -114,22 +121,31 @@ fn is_judged(rt: &impl Abort, problem: &Problem, sheet: &Sheet, row: &Row) {
     assert!(rt; verdict == row.verdict, "{}", row.name);
 }
 
+// All that is found of a row's plan for its problem.
+fn is_found(rt: &impl Abort, alloc: Global, problem: &Problem, row: &Row) {
+    let sheet = sheet_of(rt, alloc, row.sheet);
+    is_planned(rt, problem, &sheet, row);
+    is_bounded(rt, problem, &sheet, row);
+    is_judged(rt, problem, &sheet, row);
+}
+
 #[test]
 fn plans_and_cuts_of_the_worked_examples(rt: HostRuntime) {
     for row in &ROWS {
         let problem = problem_of(&rt, rt.alloc(), row.setup, row.forecast);
-        let sheet = Sheet::parse(rt.alloc(), row.sheet.as_bytes()).expect(&rt, "a sheet");
-        assert!(rt; sheet.shape(&problem).is_ok(), "{}", row.name);
-        is_planned(&rt, &problem, &sheet, row);
-        assert!(rt; bound_of(&problem, &sheet) == row.bound, "{}", row.name);
-        is_judged(&rt, &problem, &sheet, row);
+        is_found(&rt, rt.alloc(), &problem, row);
     }
+}
+
+// The sheet is not for this problem.
+fn is_for_another(rt: &impl Abort, sheet: &Sheet, problem: &Problem) {
+    assert!(rt; sheet.shape(problem).err() == Some(Fault::Shape));
 }
 
 // A plan for one store and three steps, beside a problem of two stores.
 #[test]
 fn a_sheet_for_another_problem_has_another_shape(rt: HostRuntime) {
     let problem = problem_of(&rt, rt.alloc(), A_AND_B, "step,window,A,B\n1,2,3,3\n");
-    let sheet = Sheet::parse(rt.alloc(), FIRST_RUN.as_bytes()).expect(&rt, "a sheet");
-    assert!(rt; sheet.shape(&problem).err() == Some(Fault::Shape));
+    let sheet = sheet_of(&rt, rt.alloc(), FIRST_RUN);
+    is_for_another(&rt, &sheet, &problem);
 }

@@ -1,8 +1,10 @@
 //! Plans of small problems: what they do to the stores, and how they are filled.
+ghost use Rattle.mm_plan.specs.Simulated.{CoversProblem};
+
 use crate::tests::samples::{
-    A_AND_B, APART, FIRST_RUN, SCI, SCI_OF_SIZE_2, THREE_STEPS, problem_of,
+    A_AND_B, APART, FIRST_RUN, SCI, SCI_OF_SIZE_2, THREE_STEPS, filled, problem_of, sheet_of,
 };
-use mm_plan::{Plan, Sheet, fill, fits, loss_of, simulate};
+use mm_plan::{Plan, Sheet, Simulated, loss_of, simulate};
 use mm_problem::Problem;
 use std::alloc::Global;
 use std::process::Abort;
@@ -14,32 +16,38 @@ const SCI_LIMITED_TO_3: &str =
 
 const A_AND_B_IDLE: &str = "step,window,A,B\n1,2,0,0\n2,2,0,0\n3,2,0,0\n";
 
-// What a plan writes, leaves and loses at a problem's one store, step by step, and its loss.
-fn volumes(
-    rt: &impl Abort,
-    alloc: Global,
-    problem: &Problem,
-    plan: &Plan,
-) -> (Vec<(u32, u32, u32)>, u64) {
-    assert!(rt; plan.has_shape(problem) && problem.stores() == 1);
-    let simulated = simulate(alloc, problem, plan).expect(rt, "memory");
-    let mut volumes = Vec::new(alloc);
-    for step in 1..problem.steps() + 1 {
+// What is written to the one store, left in it and lost, step by step.
+static VOLUMES: [(u32, u32, u32); 3] = [(3, 1, 0), (4, 2, 0), (4, 4, 2)];
+
+// The simulation of a problem with one store has these volumes, and loses 2.
+fn has_volumes(rt: &impl Abort, problem: &Problem, simulated: &Simulated)
+    requires { CoversProblem problem.now simulated.now }
+{
+    assert!(rt; (problem.stores(), problem.steps()) == (1, 3));
+    for step in 1..4u32 {
         let (written, left) = (simulated.written(0, step), simulated.left(0, step));
-        volumes
-            .push((written, left, simulated.lost(0, step)))
-            .expect(rt, "memory");
+        let found = (written, left, simulated.lost(0, step));
+        assert!(rt;
+            VOLUMES.get(step as usize - 1) == Some(&found),
+            "step {step}"
+        );
     }
-    (volumes, simulated.total())
+    assert!(rt; simulated.total() == 2);
+}
+
+// The plan of this sheet is simulated.
+fn is_simulated(rt: &impl Abort, alloc: Global, problem: &Problem, sheet: &Sheet) {
+    let plan = sheet.plan();
+    assert!(rt; plan.has_shape(problem));
+    let simulated = simulate(alloc, problem, plan).expect(rt, "memory");
+    has_volumes(rt, problem, &simulated);
 }
 
 #[test]
 fn volumes_by_hand(rt: HostRuntime) {
     let problem = problem_of(&rt, rt.alloc(), SCI, THREE_STEPS);
-    let sheet = Sheet::parse(rt.alloc(), FIRST_RUN.as_bytes()).expect(&rt, "a sheet");
-    let (volumes, total) = volumes(&rt, rt.alloc(), &problem, sheet.plan());
-    assert!(rt; volumes.as_slice() == [(3, 1, 0), (4, 2, 0), (4, 4, 2)].as_slice());
-    assert!(rt; total == 2);
+    let sheet = sheet_of(&rt, rt.alloc(), FIRST_RUN);
+    is_simulated(&rt, rt.alloc(), &problem, &sheet);
 }
 
 // The plan has the problem's shape and these amounts, step by step and in each the stores in order.
@@ -61,14 +69,19 @@ fn loses(rt: &impl Abort, problem: &Problem, plan: &Plan, loss: u64) {
     assert!(rt; loss_of(problem, plan) == loss);
 }
 
+// The plan is not for a problem of two stores.
+fn is_for_one_store(rt: &impl Abort, alloc: Global, plan: &Plan) {
+    let other = problem_of(rt, alloc, A_AND_B, A_AND_B_IDLE);
+    assert!(rt; !plan.has_shape(&other));
+}
+
 #[test]
 fn nothing_leaves_by_the_plan_of_zeros(rt: HostRuntime) {
     let problem = problem_of(&rt, rt.alloc(), SCI, THREE_STEPS);
     let plan = Plan::zero(rt.alloc(), &problem).expect(&rt, "memory");
     has_amounts(&rt, &problem, &plan, &[0, 0, 0], "zeros");
     loses(&rt, &problem, &plan, 6);
-    let other = problem_of(&rt, rt.alloc(), A_AND_B, A_AND_B_IDLE);
-    assert!(rt; !plan.has_shape(&other));
+    is_for_one_store(&rt, rt.alloc(), &plan);
 }
 
 // The plan of zeros with one amount that is set: of a store, in a step.
@@ -160,8 +173,7 @@ static FILLINGS: [Filling; 5] = [
 // The plan fits, and it is filled to these amounts.
 fn is_filled(rt: &impl Abort, alloc: Global, problem: &Problem, plan: &Plan, case: &Filling) {
     assert!(rt; plan.has_shape(problem));
-    assert!(rt; fits(problem, plan).is_ok());
-    let plan = fill(alloc, problem, plan).expect(rt, "memory");
+    let plan = filled(rt, alloc, problem, plan);
     has_amounts(rt, problem, &plan, case.filled, case.name);
 }
 
@@ -169,7 +181,7 @@ fn is_filled(rt: &impl Abort, alloc: Global, problem: &Problem, plan: &Plan, cas
 fn windows_are_used_as_far_as_limits_allow(rt: HostRuntime) {
     for case in &FILLINGS {
         let problem = problem_of(&rt, rt.alloc(), case.setup, case.forecast);
-        let sheet = Sheet::parse(rt.alloc(), case.plan.as_bytes()).expect(&rt, "a sheet");
+        let sheet = sheet_of(&rt, rt.alloc(), case.plan);
         is_filled(&rt, rt.alloc(), &problem, sheet.plan(), case);
     }
 }

@@ -2,9 +2,10 @@
 ghost use Rattle.std.specs.Prelude.{◌<◌};
 ghost use Rattle.mm_plan.specs.Table.{HasShape};
 
-use mm_plan::{Plan, fill, fits};
+use itoa::Buffer;
+use mm_plan::{Plan, Sheet, fill, fits};
 use mm_problem::{Problem, Setup, StoreId};
-use std::alloc::Global;
+use std::alloc::{AllocError, Global};
 use std::process::Abort;
 
 // A store of size 4, and one of size 2.
@@ -48,7 +49,38 @@ pub(crate) fn joined(rt: &impl Abort, alloc: Global, parts: &[&str]) -> String {
     parts.join(alloc, "").expect(rt, "memory")
 }
 
-// A line for each number from 1 up to this one, with these texts before and after the number.
+// The plan that a text says.
+pub(crate) fn sheet_of(rt: &impl Abort, alloc: Global, text: &str) -> Sheet {
+    Sheet::parse(alloc, text.as_bytes()).expect(rt, "a sheet")
+}
+
+// A part that is repeated, with these texts before and after it.
+pub(crate) fn repeated(
+    rt: &impl Abort,
+    alloc: Global,
+    before: &str,
+    part: &str,
+    count: usize,
+    after: &str,
+) -> String {
+    let parts = part.repeat(alloc, count).expect(rt, "memory");
+    joined(rt, alloc, &[before, parts.as_str(), after])
+}
+
+// Writes a number with a text before it and one after it.
+fn push_number(
+    text: &mut String,
+    before: &str,
+    number: u32,
+    after: &str,
+) -> Result<(), AllocError> {
+    let mut buffer = Buffer::new();
+    text.push_str(before)?;
+    text.push_str(buffer.format(number))?;
+    text.push_str(after)
+}
+
+// Each number from 1 up to this one, with these texts before and after it.
 pub(crate) fn numbered(
     rt: &impl Abort,
     alloc: Global,
@@ -58,9 +90,7 @@ pub(crate) fn numbered(
 ) -> String {
     let mut text = String::new(alloc);
     for place in 0..most {
-        let number = place.saturating_add(1);
-        let line = format!(in alloc; "{before}{number}{after}\n").expect(rt, "memory");
-        text.push_str(line.as_str()).expect(rt, "memory");
+        push_number(&mut text, before, place + 1, after).expect(rt, "memory");
     }
     text
 }
@@ -71,93 +101,55 @@ pub(crate) fn problem_of(rt: &impl Abort, alloc: Global, setup: &str, forecast: 
     Problem::read(alloc, &setup, forecast.as_bytes()).expect(rt, "a forecast")
 }
 
-// A store in a setup.
-pub(crate) fn store(rt: &impl Abort, alloc: Global, id: &str, numbers: (u32, u32, u32)) -> String {
-    let (size, start, channel) = numbers;
-    format!(in alloc;
-        "[[store]]\nid = \"{id}\"\nsize = {size}\ntype = \"bounded\"\nchannel = {channel}\nstart = {start}\n"
-    ).expect(rt, "memory")
-}
-
-// The limit of a channel in a setup.
-pub(crate) fn limit(rt: &impl Abort, alloc: Global, channel: u32, blocks: u32) -> String {
-    format!(in alloc; "[[limit]]\nchannel = {channel}\nblocks = {blocks}\n").expect(rt, "memory")
-}
-
-// Stores A and B, each on a channel of its own.
-pub(crate) fn two_stores(
-    rt: &impl Abort,
-    alloc: Global,
-    sizes: &[u32; 2],
-    starts: &[u32; 2],
-) -> String {
-    let a = store(rt, alloc, "A", (sizes[0], starts[0], 0));
-    let b = store(rt, alloc, "B", (sizes[1], starts[1], 1));
-    joined(rt, alloc, &[a.as_str(), b.as_str()])
-}
-
-// 16 stores of size 1 on 8 channels.
-pub(crate) fn sixteen_stores(rt: &impl Abort, alloc: Global) -> String {
-    let mut setup = String::new(alloc);
-    for place in 0..16u32 {
-        let id = format!(in alloc; "S{place}").expect(rt, "memory");
-        let store = store(rt, alloc, id.as_str(), (1, 0, place % 8));
-        setup.push_str(store.as_str()).expect(rt, "memory");
-    }
-    setup
-}
-
-// In each of so many steps a window of 15, and a block for each of the 16 stores.
-pub(crate) fn sixteen_arrivals(rt: &impl Abort, alloc: Global, steps: u32) -> String {
-    let header = "step,window,S0,S1,S2,S3,S4,S5,S6,S7,S8,S9,S10,S11,S12,S13,S14,S15\n";
-    let records = numbered(rt, alloc, "", steps, ",15,1,1,1,1,1,1,1,1,1,1,1,1,1,1,1,1");
-    joined(rt, alloc, &[header, records.as_str()])
-}
-
-// The record of a step with its window and what arrives at three stores.
-pub(crate) fn record(
-    rt: &impl Abort,
-    alloc: Global,
-    step: u32,
-    numbers: (u32, u32, u32, u32),
-) -> String {
-    let (window, a, b, c) = numbers;
-    format!(in alloc; "{step},{window},{a},{b},{c}\n").expect(rt, "memory")
-}
-
-// Two stores on channels of their own with limits, the steps, and the least loss.
-pub(crate) struct Pair {
-    pub(crate) name: &'static str,
-    pub(crate) sizes: [u32; 2],
-    pub(crate) starts: [u32; 2],
-    pub(crate) limits: [u32; 2],
-    pub(crate) steps: &'static str,
-    pub(crate) loss: u64,
-}
-
-// Pairs by name: what each of the two stores has, the steps, and the least loss.
-macro_rules! pairs {
-    ($(name: $name:literal, sizes $sizes:expr, starts $starts:expr, limits $limits:expr, $steps:literal => $loss:literal;)+) => {
-        [$(Pair { name: $name, sizes: $sizes, starts: $starts, limits: $limits, steps: $steps, loss: $loss }),+]
+// The tables of stores of size 1 whose identifiers begin alike and whose tables end alike: the number of each, and its channel. Then
+// limits of as many blocks for channels.
+macro_rules! stores_of_size_1 {
+    (
+        $id:literal, $end:literal: $($number:literal $channel:literal),+
+        $(; limits of $blocks:literal: $($limited:literal)+)?
+    ) => {
+        concat!(
+            $("[[store]]\nid = \"", $id, $number, "\"\nsize = 1\nchannel = ", $channel, "\n", $end,)+
+            $($("[[limit]]\nchannel = ", $limited, "\nblocks = ", $blocks, "\n",)+)?
+        )
     };
 }
 
-pub(crate) use pairs;
+pub(crate) use stores_of_size_1;
 
-// The store that overflows first is not always to be served first, where channels have limits: one block more is lost.
-pub(crate) static WHERE_GREED_FAILS: [Pair; 2] = pairs! {
-    name: "greed_loses_6",
-    sizes [2, 1], starts [2, 1], limits [1, 1], "1,1,1,2\n2,2,0,0\n3,1,0,2\n4,2,2,2\n5,1,0,0\n" => 5;
-    name: "greed_loses_1",
-    sizes [2, 2], starts [1, 1], limits [2, 1], "1,1,0,0\n2,2,1,1\n3,0,1,2\n" => 0;
+// 16 stores of size 1 on 8 channels.
+pub(crate) const SIXTEEN_STORES: &str = stores_of_size_1! {
+    "S", "type = \"bounded\"\n":
+        0 0, 1 1, 2 2, 3 3, 4 4, 5 5, 6 6, 7 7, 8 0, 9 1, 10 2, 11 3, 12 4, 13 5, 14 6, 15 7
 };
 
-// The setup of two stores with limits.
-pub(crate) fn pair_setup(rt: &impl Abort, alloc: Global, pair: &Pair) -> String {
-    let stores = two_stores(rt, alloc, &pair.sizes, &pair.starts);
-    let a = limit(rt, alloc, 0, pair.limits[0]);
-    let b = limit(rt, alloc, 1, pair.limits[1]);
-    joined(rt, alloc, &[stores.as_str(), a.as_str(), b.as_str()])
+pub(crate) const SIXTEEN_HEADER: &str =
+    "step,window,S0,S1,S2,S3,S4,S5,S6,S7,S8,S9,S10,S11,S12,S13,S14,S15\n";
+
+// A limit for each channel, of this many blocks.
+macro_rules! each_limited {
+    ($blocks:literal) => { each_limited!($blocks: 0 1 2 3 4 5 6 7) };
+    ($blocks:literal: $($channel:literal)+) => {
+        concat!($("[[limit]]\nchannel = ", $channel, "\nblocks = ", $blocks, "\n"),+)
+    };
+}
+
+pub(crate) use each_limited;
+
+// What follows the number of a step in which a million blocks come to each of 16 stores, and none may leave.
+pub(crate) const MILLIONS: &str =
+    ",0,1000000,1000000,1000000,1000000,1000000,1000000,1000000,1000000,1000000,1000000,1000000,1000000,1000000,1000000,1000000,1000000\n";
+
+// A forecast of so many steps, each with the same after its number.
+pub(crate) fn alike_steps(
+    rt: &impl Abort,
+    alloc: Global,
+    header: &str,
+    steps: u32,
+    rest: &str,
+) -> String {
+    let records = numbered(rt, alloc, "", steps, rest);
+    joined(rt, alloc, &[header, records.as_str()])
 }
 
 // The plan, which fits, with its idle windows used.

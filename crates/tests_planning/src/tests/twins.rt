@@ -1,23 +1,50 @@
 //! The planner beside the slow twin that tries every plan, on tiny problems.
-use crate::tests::samples::{filled, joined, problem_of, store, two_stores};
+use crate::tests::samples::{filled, joined, problem_of};
 use mm_cut::{Verdict, verify};
 use mm_exhaustive::least_plan;
-use mm_plan::{fits, loss_of};
+use mm_plan::{NoMemory, fits, loss_of};
 use mm_planner::{Planned, plan, plan_by_flow};
 use mm_problem::Problem;
 use mm_propose::propose;
 use std::alloc::Global;
 use std::process::Abort;
 
+// A problem whose least loss is counted by hand.
+struct Counted {
+    name: &'static str,
+    setup: &'static str,
+    forecast: &'static str,
+    loss: u64,
+}
+
+// Problems by name: each store with its size, its start volume and its channel, each limit with its channel and its blocks, the
+// forecast, and the least loss.
+macro_rules! counted {
+    ($(
+        name: $name:literal,
+        $(store $id:literal $size:literal $start:literal $channel:literal;)+
+        $(limit $limited:literal $blocks:literal;)*
+        $forecast:literal => $loss:literal;
+    )+) => {
+        [$(Counted {
+            name: $name,
+            setup: concat!(
+                $("[[store]]\nid = \"", $id, "\"\nsize = ", $size, "\ntype = \"bounded\"\n",
+                "start = ", $start, "\nchannel = ", $channel, "\n",)+
+                $("[[limit]]\nchannel = ", $limited, "\nblocks = ", $blocks, "\n",)*
+            ),
+            forecast: $forecast,
+            loss: $loss,
+        }),+]
+    };
+}
+
 mod paths;
 mod sides;
 
-const LIMIT_0: &str = "[[limit]]\nchannel = 0\nblocks = 0\n";
-
-const LIMIT_1: &str = "[[limit]]\nchannel = 0\nblocks = 1\n";
-
 // What a planned dump loses: its plan fits, and its cut shows that no plan loses less.
-fn shown_loss(rt: &impl Abort, problem: &Problem, planned: &Planned) -> u64 {
+fn shown_loss(rt: &impl Abort, problem: &Problem, planned: Result<Planned, NoMemory>) -> u64 {
+    let planned = planned.expect(rt, "memory");
     let (plan, loss) = (&planned.plan, planned.loss);
     assert!(rt; plan.has_shape(problem) && loss < 1 << 63);
     let (cut, by_channels) = (planned.cut.as_slice(), planned.by_channels.as_slice());
@@ -39,14 +66,10 @@ fn proposed_loss(rt: &impl Abort, alloc: Global, problem: &Problem) -> u64 {
 
 // The loss of a problem by the planner, by the network alone, and by the proposal alone, which is the same.
 fn planned_loss(rt: &impl Abort, alloc: Global, problem: &Problem) -> u64 {
-    let planned = plan(alloc, problem).expect(rt, "memory");
-    let by_flow = plan_by_flow(alloc, problem).expect(rt, "memory");
-    let loss = shown_loss(rt, problem, &planned);
-    let others = (
-        shown_loss(rt, problem, &by_flow),
-        proposed_loss(rt, alloc, problem),
-    );
-    assert!(rt; others == (loss, loss));
+    let loss = shown_loss(rt, problem, plan(alloc, problem));
+    let by_flow = shown_loss(rt, problem, plan_by_flow(alloc, problem));
+    let proposed = proposed_loss(rt, alloc, problem);
+    assert!(rt; (by_flow, proposed) == (loss, loss));
     loss
 }
 
@@ -58,97 +81,100 @@ fn tried_loss(rt: &impl Abort, alloc: Global, problem: &Problem) -> u64 {
 }
 
 // The least loss by the plain planner, which each path of the planner finds too.
-fn least_loss(rt: &impl Abort, alloc: Global, setup: &str, forecast: &str) -> u64 {
-    let problem = problem_of(rt, alloc, setup, forecast);
-    let least = tried_loss(rt, alloc, &problem);
-    assert!(rt; planned_loss(rt, alloc, &problem) == least);
+fn least_loss(rt: &impl Abort, alloc: Global, problem: &Problem) -> u64 {
+    let least = tried_loss(rt, alloc, problem);
+    assert!(rt; planned_loss(rt, alloc, problem) == least);
     least
 }
 
-// Stores and a limit, with these steps after a header, lose this at the least.
-fn loses(rt: &impl Abort, alloc: Global, setup: (&str, &str), forecast: (&str, &str), loss: u64) {
-    let setup = joined(rt, alloc, &[setup.0, setup.1]);
-    let text = joined(rt, alloc, &[forecast.0, forecast.1]);
-    let least = least_loss(rt, alloc, setup.as_str(), text.as_str());
-    assert!(rt; least == loss, "{text}");
-}
-
-// Size and start of a store, a limit, the steps, and the loss.
-static ONE_STORE: [(u32, u32, &str, &str, u64); 6] = [
-    // first_run
-    (4, 0, "", "1,2,3\n2,2,3\n3,0,4\n", 2),
-    // nothing_arrives
-    (1, 0, "", "1,5,0\n2,5,0\n", 0),
-    // more_than_the_store_holds
-    (4, 0, "", "1,9,9\n", 5),
-    // two_stretches_of_one_store
-    (2, 0, "", "1,0,5\n2,9,0\n3,0,5\n", 6),
-    // opening_contents_plan
-    (4, 2, "", "1,2,3\n2,2,3\n3,0,4\n", 4),
-    // channel_limit_cut
-    (3, 0, LIMIT_1, "1,5,3\n2,0,3\n", 2),
-];
-
-#[test]
-fn one_store_loses_what_is_counted_by_hand(rt: HostRuntime) {
-    for (size, start, limit, steps, loss) in &ONE_STORE {
-        let a = store(&rt, rt.alloc(), "A", (*size, *start, 0));
-        let setup = (a.as_str(), *limit);
-        loses(&rt, rt.alloc(), setup, ("step,window,A\n", *steps), *loss);
+// The least loss of each of these problems is what is counted.
+fn lose_least(rt: &impl Abort, alloc: Global, cases: &[Counted]) {
+    for case in cases {
+        let problem = problem_of(rt, alloc, case.setup, case.forecast);
+        assert!(rt;
+            least_loss(rt, alloc, &problem) == case.loss,
+            "{}",
+            case.name
+        );
     }
 }
 
-// The limit of the first store's channel, the steps, and the loss.
-static TWO_STORES: [(&str, &str, u64); 4] = [
-    // foresight_beats_even_split
-    ("", "1,2,3,3\n2,0,2,0\n", 0),
-    // two_stretches_share_a_window
-    ("", "1,2,3,3\n2,0,2,2\n", 2),
-    // channel_limit_shares
-    (LIMIT_1, "1,2,3,3\n2,0,2,2\n", 2),
-    // foresight_behind_a_limit
-    (LIMIT_1, "1,2,3,3\n2,0,2,0\n", 1),
-];
-
-#[test]
-fn two_stores_lose_what_is_counted_by_hand(rt: HostRuntime) {
-    let stores = two_stores(&rt, rt.alloc(), &[3, 3], &[0, 0]);
-    for (limit, steps, loss) in &TWO_STORES {
-        let setup = (stores.as_str(), *limit);
-        loses(&rt, rt.alloc(), setup, ("step,window,A,B\n", *steps), *loss);
-    }
-}
-
-// The least loss of stores of sizes 1 to 3 beside one of size 2, on one channel and on two, is found by each path.
-fn each_size_loses_least(rt: &impl Abort, alloc: Global, limit: &str, forecast: &str) {
-    for size in 1..4u32 {
-        let a = store(rt, alloc, "A", (size, 1, 0));
-        for channel in 0..2u32 {
-            let b = store(rt, alloc, "B", (2, 0, channel));
-            let setup = joined(rt, alloc, &[a.as_str(), b.as_str(), limit]);
-            least_loss(rt, alloc, setup.as_str(), forecast);
-        }
-    }
-}
-
-// Forecasts for the two stores, by their steps.
-macro_rules! forecasts {
-    ($($($step:literal)+;)+) => { [$(concat!("step,window,A,B\n", $($step, "\n"),+)),+] };
-}
-
-static FORECASTS: [&str; 5] = forecasts! {
-    "1,2,3,1" "2,1,0,2" "3,2,2,2";
-    "1,0,2,2" "2,3,1,0" "3,1,3,3";
-    "1,3,0,4" "2,0,4,0" "3,2,1,1";
-    "1,1,1,1" "2,1,1,1" "3,1,1,1";
-    "1,4,5,0" "2,0,0,5";
+static ONE_STORE: [Counted; 6] = counted! {
+    name: "first_run",
+    store "A" 4 0 0; "step,window,A\n1,2,3\n2,2,3\n3,0,4\n" => 2;
+    name: "nothing_arrives",
+    store "A" 1 0 0; "step,window,A\n1,5,0\n2,5,0\n" => 0;
+    name: "more_than_the_store_holds",
+    store "A" 4 0 0; "step,window,A\n1,9,9\n" => 5;
+    name: "two_stretches_of_one_store",
+    store "A" 2 0 0; "step,window,A\n1,0,5\n2,9,0\n3,0,5\n" => 6;
+    name: "opening_contents_plan",
+    store "A" 4 2 0; "step,window,A\n1,2,3\n2,2,3\n3,0,4\n" => 4;
+    name: "channel_limit_cut",
+    store "A" 3 0 0; limit 0 1; "step,window,A\n1,5,3\n2,0,3\n" => 2;
 };
 
 #[test]
-fn the_planner_loses_no_more_than_the_best_of_all_plans(rt: HostRuntime) {
+fn one_store_loses_what_is_counted_by_hand(rt: HostRuntime) {
+    lose_least(&rt, rt.alloc(), &ONE_STORE);
+}
+
+static TWO_STORES: [Counted; 4] = counted! {
+    name: "foresight_beats_even_split",
+    store "A" 3 0 0; store "B" 3 0 1; "step,window,A,B\n1,2,3,3\n2,0,2,0\n" => 0;
+    name: "two_stretches_share_a_window",
+    store "A" 3 0 0; store "B" 3 0 1; "step,window,A,B\n1,2,3,3\n2,0,2,2\n" => 2;
+    name: "channel_limit_shares",
+    store "A" 3 0 0; store "B" 3 0 1; limit 0 1; "step,window,A,B\n1,2,3,3\n2,0,2,2\n" => 2;
+    name: "foresight_behind_a_limit",
+    store "A" 3 0 0; store "B" 3 0 1; limit 0 1; "step,window,A,B\n1,2,3,3\n2,0,2,0\n" => 1;
+};
+
+#[test]
+fn two_stores_lose_what_is_counted_by_hand(rt: HostRuntime) {
+    lose_least(&rt, rt.alloc(), &TWO_STORES);
+}
+
+// Stores A with a block at the start beside an empty store B of size 2: the size of A, and the channel of B.
+macro_rules! beside_b {
+    ($($size:literal $channel:literal,)+) => {
+        [$(concat!(
+            "[[store]]\nid = \"A\"\nsize = ", $size, "\ntype = \"bounded\"\nchannel = 0\nstart = 1\n",
+            "[[store]]\nid = \"B\"\nsize = 2\ntype = \"bounded\"\nchannel = ", $channel, "\nstart = 0\n",
+        )),+]
+    };
+}
+
+static STORES: [&str; 6] = beside_b! { 1 0, 1 1, 2 0, 2 1, 3 0, 3 1, };
+
+static LIMITS: [&str; 3] = [
+    "",
+    "[[limit]]\nchannel = 0\nblocks = 0\n",
+    "[[limit]]\nchannel = 0\nblocks = 1\n",
+];
+
+static FORECASTS: [&str; 5] = [
+    "step,window,A,B\n1,2,3,1\n2,1,0,2\n3,2,2,2\n",
+    "step,window,A,B\n1,0,2,2\n2,3,1,0\n3,1,3,3\n",
+    "step,window,A,B\n1,3,0,4\n2,0,4,0\n3,2,1,1\n",
+    "step,window,A,B\n1,1,1,1\n2,1,1,1\n3,1,1,1\n",
+    "step,window,A,B\n1,4,5,0\n2,0,0,5\n",
+];
+
+// Each path finds the least loss of these stores with this limit.
+fn is_found(rt: &impl Abort, alloc: Global, stores: &str, limit: &str) {
+    let setup = joined(rt, alloc, &[stores, limit]);
     for forecast in &FORECASTS {
-        each_size_loses_least(&rt, rt.alloc(), "", forecast);
-        each_size_loses_least(&rt, rt.alloc(), LIMIT_0, forecast);
-        each_size_loses_least(&rt, rt.alloc(), LIMIT_1, forecast);
+        let problem = problem_of(rt, alloc, setup.as_str(), forecast);
+        least_loss(rt, alloc, &problem);
+    }
+}
+
+#[test]
+fn the_planner_loses_no_more_than_the_best_of_all_plans(rt: HostRuntime) {
+    for stores in &STORES {
+        for limit in &LIMITS {
+            is_found(&rt, rt.alloc(), stores, limit);
+        }
     }
 }

@@ -1,54 +1,43 @@
 //! How numbers are written.
-use crate::tests::charts::samples::{ONE_STORE, chart_of, push_each, push_number};
-use std::alloc::{AllocError, Global};
+use crate::tests::charts::samples::{ONE_STORE, chart_of, has_texts};
+use std::alloc::Global;
 use std::process::Abort;
 
-// How many steps have a million arrivals, the arrivals of the step after them, the loss, which is one block less than all
-// of them, and what the headline says of it.
-static THOUSANDS: [(u16, u32, u32, &str); 5] = [
-    (0, 1, 0, ">0 of 1 blocks are lost"),
-    (0, 1_000, 999, ">999 of 1,000 blocks are lost"),
-    (0, 1_001, 1_000, ">1,000 of 1,001 blocks are lost"),
-    (0, 874_395, 874_394, ">874,394 of 874,395 blocks are lost"),
-    (
-        30,
-        684_560,
-        30_684_559,
-        ">30,684,559 of 30,684,560 blocks are lost",
-    ),
-];
-
-// So many steps with a million arrivals each and one with these.
-fn many_come(alloc: Global, millions: u16, rest: u32) -> Result<String, AllocError> {
-    let mut forecast = String::from_str(alloc, "step,window,A")?;
-    push_each(&mut forecast, "\n", millions, ",0,1000000")?;
-    let last = u32::from(millions).saturating_add(1);
-    push_number(&mut forecast, "\n", last, ",0,")?;
-    push_number(&mut forecast, "", rest, "\n")?;
-    Ok(forecast)
+// The chart of the one store with each of these forecasts and plans has the text that follows them.
+fn have_texts(rt: &impl Abort, alloc: Global, rows: &[(&str, &str, &str)]) {
+    for (forecast, plan, wanted) in rows {
+        let chart = chart_of(rt, alloc, ONE_STORE, forecast, plan);
+        has_texts(rt, chart.as_str(), &[wanted]);
+    }
 }
 
-// Nothing leaves in these steps, and this is lost.
-fn none_leave(alloc: Global, millions: u16, loss: u32) -> Result<String, AllocError> {
-    let mut plan = String::from_str(alloc, "mmplan 1\nstores A")?;
-    push_each(&mut plan, "\ndump ", millions.saturating_add(1), " 0")?;
-    push_number(&mut plan, "\nloss ", loss, "\nbound 0\nend\n")?;
-    Ok(plan)
+// The steps in each of which a million blocks come, the step after them with what comes in it, the loss, which is one block less
+// than all of them, and what the headline says of it: the texts of the forecast and of a plan by which nothing leaves.
+macro_rules! thousands {
+    ($($($million:literal)*, then $last:literal $rest:literal, lost $loss:literal => $wanted:literal;)+) => {
+        [$((
+            concat!("step,window,A\n", $($million, ",0,1000000\n",)* $last, ",0,", $rest, "\n"),
+            concat!(
+                "mmplan 1\nstores A\n", $("dump ", $million, " 0\n",)* "dump ", $last, " 0\nloss ", $loss,
+                "\nbound 0\nend\n",
+            ),
+            $wanted,
+        )),+]
+    };
 }
 
-// The chart of these steps.
-fn lost_chart(rt: &impl Abort, alloc: Global, millions: u16, rest: u32, loss: u32) -> String {
-    let forecast = many_come(alloc, millions, rest).expect(rt, "memory");
-    let plan = none_leave(alloc, millions, loss).expect(rt, "memory");
-    chart_of(rt, alloc, ONE_STORE, forecast.as_str(), plan.as_str())
-}
+static THOUSANDS: [(&str, &str, &str); 5] = thousands! {
+    , then 1 1, lost 0 => ">0 of 1 blocks are lost";
+    , then 1 1000, lost 999 => ">999 of 1,000 blocks are lost";
+    , then 1 1001, lost 1000 => ">1,000 of 1,001 blocks are lost";
+    , then 1 874395, lost 874394 => ">874,394 of 874,395 blocks are lost";
+    1 2 3 4 5 6 7 8 9 10 11 12 13 14 15 16 17 18 19 20 21 22 23 24 25 26 27 28 29 30,
+        then 31 684560, lost 30684559 => ">30,684,559 of 30,684,560 blocks are lost";
+};
 
 #[test]
 fn thousands_are_separated(rt: HostRuntime) {
-    for (millions, rest, loss, wanted) in &THOUSANDS {
-        let chart = lost_chart(&rt, rt.alloc(), *millions, *rest, *loss);
-        assert!(rt; chart.contains(wanted), "no {wanted}");
-    }
+    have_texts(&rt, rt.alloc(), &THOUSANDS);
 }
 
 // A forecast, a plan that dumps nothing, and what the headline says of the bound. Of the 2,346 blocks that come in step 2
@@ -68,8 +57,5 @@ static BOUNDS: [(&str, &str, &str); 2] = [
 
 #[test]
 fn a_bound_is_written_with_its_sign(rt: HostRuntime) {
-    for (forecast, plan, wanted) in &BOUNDS {
-        let chart = chart_of(&rt, rt.alloc(), ONE_STORE, forecast, plan);
-        assert!(rt; chart.contains(wanted), "no {wanted}");
-    }
+    have_texts(&rt, rt.alloc(), &BOUNDS);
 }

@@ -62,25 +62,41 @@ fn picture_of(rt: &impl Abort, alloc: Global) -> Picture {
     picture_for(rt, alloc, problem_of(rt, alloc))
 }
 
+// The picture has three steps, and these numbers.
+fn has_numbers(rt: &impl Abort, picture: &Picture) {
+    assert!(rt; picture.problem().steps() == 3);
+    for (series, wanted) in NUMBERS {
+        assert!(rt; numbers_of(picture, series) == wanted, "{series:?}");
+    }
+}
+
 #[test]
 fn a_picture_has_the_numbers_of_its_plan(rt: HostRuntime) {
     let picture = picture_of(&rt, rt.alloc());
-    assert!(rt; picture.problem().steps() == 3);
-    for (series, wanted) in NUMBERS {
-        assert!(rt; numbers_of(&picture, series) == wanted, "{series:?}");
-    }
+    has_numbers(&rt, &picture);
+}
+
+// The picture has this verdict, and the parts of the bound.
+fn has_verdict(rt: &impl Abort, picture: &Picture) {
+    assert!(rt; picture.verdict() == Verdict::Least(2));
+    assert!(rt; picture.parts() == PARTS);
 }
 
 #[test]
 fn a_picture_has_the_verdict_of_its_plan(rt: HostRuntime) {
     let picture = picture_of(&rt, rt.alloc());
-    assert!(rt; (picture.verdict(), picture.parts()) == (Verdict::Least(2), PARTS));
+    has_verdict(&rt, &picture);
+}
+
+// The picture as it is drawn.
+fn drawn(rt: &impl Abort, alloc: Global, picture: &Picture) -> String {
+    let chart = draw(alloc, picture).expect(rt, "memory");
+    String::from_utf8(chart).expect(rt, "UTF-8")
 }
 
 #[test]
 fn a_picture_is_drawn_with_these_lines(rt: HostRuntime) {
     let picture = picture_of(&rt, rt.alloc());
-    let drawn = draw(rt.alloc(), &picture).expect(&rt, "memory");
-    let chart = String::from_utf8(drawn).expect(&rt, "UTF-8");
+    let chart = drawn(&rt, rt.alloc(), &picture);
     has_lines(&rt, chart.as_str(), &SHOWN);
 }

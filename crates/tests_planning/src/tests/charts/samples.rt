@@ -1,16 +1,23 @@
-//! The setup of one store, charts of texts, and texts with numbers in them.
-use itoa::Buffer;
+//! The setup of one store, charts of texts, and what is found in them.
 use mm_chart::{Fault, chart_bytes};
-use std::alloc::{AllocError, Global};
+use std::alloc::Global;
 use std::process::Abort;
 
 pub const ONE_STORE: &str = "[[store]]\nid = \"A\"\nsize = 1\ntype = \"bounded\"\nchannel = 0\n";
 
+/// What is written of a plan.
+pub fn text_of(rt: &impl Abort, written: Result<Vec<u8>, Fault>, plan: &str) -> String {
+    String::from_utf8(written.expect(rt, plan)).expect(rt, "UTF-8")
+}
+
 /// The chart of these texts.
 pub fn chart_of(rt: &impl Abort, alloc: Global, setup: &str, forecast: &str, plan: &str) -> String {
     let (setup, forecast) = (setup.as_bytes(), forecast.as_bytes());
-    let chart = chart_bytes(alloc, setup, forecast, plan.as_bytes());
-    String::from_utf8(chart.expect(rt, plan)).expect(rt, "UTF-8")
+    text_of(
+        rt,
+        chart_bytes(alloc, setup, forecast, plan.as_bytes()),
+        plan,
+    )
 }
 
 /// Nothing is written but this fault, as it is printed.
@@ -36,28 +43,9 @@ pub fn has_lines(rt: &impl Abort, chart: &str, wanted: &[&str]) {
     }
 }
 
-/// Writes a number with a text before it and one after it.
-pub fn push_number(
-    text: &mut String,
-    before: &str,
-    number: u32,
-    after: &str,
-) -> Result<(), AllocError> {
-    let mut buffer = Buffer::new();
-    text.push_str(before)?;
-    text.push_str(buffer.format(number))?;
-    text.push_str(after)
-}
-
-/// Writes so the numbers from 1 to the last.
-pub fn push_each(
-    text: &mut String,
-    before: &str,
-    last: u16,
-    after: &str,
-) -> Result<(), AllocError> {
-    for number in 0..last {
-        push_number(text, before, u32::from(number) + 1, after)?;
+/// The chart has these texts in it.
+pub fn has_texts(rt: &impl Abort, chart: &str, wanted: &[&str]) {
+    for wanted in wanted {
+        assert!(rt; chart.contains(wanted), "no {wanted}");
     }
-    Ok(())
 }

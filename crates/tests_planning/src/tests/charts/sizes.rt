@@ -1,52 +1,42 @@
 //! Charts of the most stores and steps, and of one store and one step.
-use crate::tests::charts::samples::{ONE_STORE, chart_of, has_lines, push_each, push_number};
-use std::alloc::{AllocError, Global};
+use crate::tests::charts::samples::{ONE_STORE, chart_of, has_lines, has_texts};
+use crate::tests::samples::{MILLIONS, alike_steps, joined, numbered, stores_of_size_1};
+use std::alloc::Global;
 use std::process::Abort;
 
-// 16 stores of size 1, which are full at the start, on 8 channels.
-fn push_stores(setup: &mut String) -> Result<(), AllocError> {
-    for store in 1..17u32 {
-        push_number(setup, "[[store]]\nid = \"WIDE-_", store, "\"\nsize = 1\n")?;
-        let channel = "type = \"circular\"\nchannel = ";
-        push_number(setup, channel, store % 8, "\nstart = 1\n")?;
-    }
-    Ok(())
-}
-
-// They, and a limit for each channel.
-pub(crate) fn most_stores(alloc: Global) -> Result<String, AllocError> {
-    let mut setup = String::new(alloc);
-    push_stores(&mut setup)?;
-    for channel in 0..8u32 {
-        let limit = "\nblocks = 1000000\n";
-        push_number(&mut setup, "[[limit]]\nchannel = ", channel, limit)?;
-    }
-    Ok(setup)
-}
-
-const LARGEST: &str =
-    ",0,1000000,1000000,1000000,1000000,1000000,1000000,1000000,1000000,1000000,1000000,1000000,1000000,1000000,1000000,1000000,1000000";
+// 16 stores of size 1, which are full at the start, on 8 channels with limits.
+pub(crate) const WIDE: &str = stores_of_size_1! {
+    "WIDE-_", "type = \"circular\"\nstart = 1\n":
+        1 1, 2 2, 3 3, 4 4, 5 5, 6 6, 7 7, 8 0, 9 1, 10 2, 11 3, 12 4, 13 5, 14 6, 15 7, 16 0;
+        limits of 1000000: 0 1 2 3 4 5 6 7
+};
 
 // 256 steps without a window, in each of which a million blocks come to each store.
-pub(crate) fn most_steps(alloc: Global) -> Result<String, AllocError> {
-    let mut forecast = String::from_str(alloc, "step,window")?;
-    push_each(&mut forecast, ",WIDE-_", 16, "")?;
-    push_each(&mut forecast, "\n", 256, LARGEST)?;
-    forecast.push_str("\n")?;
-    Ok(forecast)
+pub(crate) fn most_steps(rt: &impl Abort, alloc: Global) -> String {
+    let header =
+        "step,window,WIDE-_1,WIDE-_2,WIDE-_3,WIDE-_4,WIDE-_5,WIDE-_6,WIDE-_7,WIDE-_8,WIDE-_9,WIDE-_10,WIDE-_11,WIDE-_12,WIDE-_13,WIDE-_14,WIDE-_15,WIDE-_16\n";
+    alike_steps(rt, alloc, header, 256, MILLIONS)
 }
 
-const NOTHING: &str = " 0 0 0 0 0 0 0 0 0 0 0 0 0 0 0 0";
+const NOTHING: &str = " 0 0 0 0 0 0 0 0 0 0 0 0 0 0 0 0\n";
 
 // Nothing leaves, and each step of each store is a stretch.
-pub(crate) fn most_lost(alloc: Global) -> Result<String, AllocError> {
-    let mut plan = String::from_str(alloc, "mmplan 1\nstores")?;
-    push_each(&mut plan, " WIDE-_", 16, "")?;
-    push_each(&mut plan, "\ndump ", 256, NOTHING)?;
-    plan.push_str("\nloss 4096000000\n")?;
-    push_each(&mut plan, "stretch WIDE-_", 16, " 1 256\n")?;
-    plan.push_str("bound 4096000000\nend\n")?;
-    Ok(plan)
+pub(crate) fn most_lost(rt: &impl Abort, alloc: Global) -> String {
+    let stores =
+        "mmplan 1\nstores WIDE-_1 WIDE-_2 WIDE-_3 WIDE-_4 WIDE-_5 WIDE-_6 WIDE-_7 WIDE-_8 WIDE-_9 WIDE-_10 WIDE-_11 WIDE-_12 WIDE-_13 WIDE-_14 WIDE-_15 WIDE-_16\n";
+    let dumps = numbered(rt, alloc, "dump ", 256, NOTHING);
+    let stretches = numbered(rt, alloc, "stretch WIDE-_", 16, " 1 256\n");
+    joined(
+        rt,
+        alloc,
+        &[
+            stores,
+            dumps.as_str(),
+            "loss 4096000000\n",
+            stretches.as_str(),
+            "bound 4096000000\nend\n",
+        ],
+    )
 }
 
 static LARGE: [&str; 9] = [
@@ -61,22 +51,13 @@ static LARGE: [&str; 9] = [
     "<text class='w' x='32' y='1428'> WIDE-_9 WIDE-_10 WIDE-_11 WIDE-_12 WIDE-_13 WIDE-_14 WIDE-_15 WIDE-_16</text>",
 ];
 
-// The chart of all this.
-fn largest_chart(rt: &impl Abort, alloc: Global) -> String {
-    let setup = most_stores(alloc).expect(rt, "memory");
-    let forecast = most_steps(alloc).expect(rt, "memory");
-    let plan = most_lost(alloc).expect(rt, "memory");
-    chart_of(rt, alloc, setup.as_str(), forecast.as_str(), plan.as_str())
-}
-
 // 16 stores, each of which gets 256 million blocks and keeps the one that it began with: 4,096 million of 16 more
 // are lost. A step is 768 / 256 = 3 wide.
 #[test]
 fn sixteen_stores_and_256_steps_are_drawn(rt: HostRuntime) {
-    let chart = largest_chart(&rt, rt.alloc());
-    for wanted in &LARGE {
-        assert!(rt; chart.contains(wanted), "no {wanted}");
-    }
+    let (forecast, plan) = (most_steps(&rt, rt.alloc()), most_lost(&rt, rt.alloc()));
+    let chart = chart_of(&rt, rt.alloc(), WIDE, forecast.as_str(), plan.as_str());
+    has_texts(&rt, chart.as_str(), &LARGE);
 }
 
 const ONE_STEP: &str = "step,window,A\n1,1,3\n";

@@ -1,18 +1,20 @@
 //! Tables of plans whose records are worked out by hand, and the refusals.
 use crate::tests::charts::FAULTY;
-use crate::tests::charts::samples::is_fault;
-use crate::tests::charts::sizes::{most_lost, most_steps, most_stores};
+use crate::tests::charts::samples::{is_fault, text_of};
+use crate::tests::charts::sizes::{WIDE, most_lost, most_steps};
 use crate::tests::samples::{FIRST_RUN, SCI, THREE_STEPS};
 use mm_chart::table_bytes;
 use std::alloc::Global;
 use std::process::Abort;
-use std::test::Fail;
 
 // The table of these texts.
 fn table_of(rt: &impl Abort, alloc: Global, setup: &str, forecast: &str, plan: &str) -> String {
     let (setup, forecast) = (setup.as_bytes(), forecast.as_bytes());
-    let table = table_bytes(alloc, setup, forecast, plan.as_bytes());
-    String::from_utf8(table.expect(rt, plan)).expect(rt, "UTF-8")
+    text_of(
+        rt,
+        table_bytes(alloc, setup, forecast, plan.as_bytes()),
+        plan,
+    )
 }
 
 const TWO_STORES: &str =
@@ -79,19 +81,20 @@ static LARGEST: [(usize, Option<&str>); 4] = [
     (4097, None),
 ];
 
-// 16 stores that are full from the start, and 256 steps without a window: all that comes is lost. The record of each
-// store stands where it is due.
-#[test]
-fn sixteen_stores_and_256_steps_have_4096_records(rt: HostRuntime) -> Result<(), Fail> {
-    let setup = most_stores(rt.alloc())?;
-    let forecast = most_steps(rt.alloc())?;
-    let plan = most_lost(rt.alloc())?;
-    let (setup, forecast) = (setup.as_str(), forecast.as_str());
-    let table = table_of(&rt, rt.alloc(), setup, forecast, plan.as_str());
+// The table has these lines at these places.
+fn has_places(rt: &impl Abort, table: &str) {
     for (place, line) in &LARGEST {
         assert!(rt; table.lines().nth(*place) == *line, "line {place}");
     }
-    Ok(())
+}
+
+// 16 stores that are full from the start, and 256 steps without a window: all that comes is lost. The record of each
+// store stands where it is due.
+#[test]
+fn sixteen_stores_and_256_steps_have_4096_records(rt: HostRuntime) {
+    let (forecast, plan) = (most_steps(&rt, rt.alloc()), most_lost(&rt, rt.alloc()));
+    let table = table_of(&rt, rt.alloc(), WIDE, forecast.as_str(), plan.as_str());
+    has_places(&rt, table.as_str());
 }
 
 #[test]

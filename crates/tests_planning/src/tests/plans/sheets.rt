@@ -1,5 +1,5 @@
 //! Plan texts: how they are read, printed and refused.
-use crate::tests::samples::{CHANNEL_LIMIT_CUT, FIRST_RUN, joined, numbered};
+use crate::tests::samples::{CHANNEL_LIMIT_CUT, FIRST_RUN, joined, numbered, repeated, sheet_of};
 use mm_plan::{Fault, Sheet};
 use std::alloc::Global;
 use std::process::Abort;
@@ -18,8 +18,9 @@ fn is_refused(rt: &impl Abort, alloc: Global, text: &[u8], line: u32) {
     assert!(rt; line_of(alloc, text) == line, "line {line}");
 }
 
-// The sheet has one store and one stretch.
+// The sheet has one store and one stretch, no counted step, and a loss and a bound of 2.
 fn has_one_of_each(rt: &impl Abort, sheet: &Sheet) {
+    assert!(rt; (sheet.loss(), sheet.bound(), sheet.by_channels().len()) == (2, 2, 0));
     let (stores, cut) = (sheet.stores(), sheet.cut());
     assert!(rt; stores.len() == 1 && cut.len() == 1);
     assert!(rt; stores[0].text() == b"SCI".as_slice());
@@ -28,20 +29,25 @@ fn has_one_of_each(rt: &impl Abort, sheet: &Sheet) {
 
 #[test]
 fn first_run_is_read(rt: HostRuntime) {
-    let sheet = Sheet::parse(rt.alloc(), FIRST_RUN.as_bytes()).expect(&rt, "a sheet");
+    let sheet = sheet_of(&rt, rt.alloc(), FIRST_RUN);
     has_one_of_each(&rt, &sheet);
-    assert!(rt; (sheet.loss(), sheet.bound(), sheet.by_channels().len()) == (2, 2, 0));
+}
+
+// The sheet has a loss of 2, and one counted step.
+fn has_one_count(rt: &impl Abort, sheet: &Sheet) {
+    assert!(rt; sheet.loss() == 2);
+    assert!(rt; sheet.by_channels() == [1].as_slice());
 }
 
 #[test]
 fn channel_limit_cut_is_read(rt: HostRuntime) {
-    let sheet = Sheet::parse(rt.alloc(), CHANNEL_LIMIT_CUT.as_bytes()).expect(&rt, "a sheet");
-    assert!(rt; (sheet.loss(), sheet.by_channels()) == (2, [1].as_slice()));
+    let sheet = sheet_of(&rt, rt.alloc(), CHANNEL_LIMIT_CUT);
+    has_one_count(&rt, &sheet);
 }
 
 // The text is a sheet's, and the sheet is printed as this one.
 fn read_and_printed(rt: &impl Abort, alloc: Global, text: &str, printed: &str) {
-    let sheet = Sheet::parse(alloc, text.as_bytes()).expect(rt, "a sheet");
+    let sheet = sheet_of(rt, alloc, text);
     let again = sheet.print(alloc).expect(rt, "memory");
     assert!(rt; again.as_slice() == printed.as_bytes());
 }
@@ -260,19 +266,6 @@ fn each_proper_prefix_is_refused(rt: HostRuntime) {
     prefixes_refused(&rt, rt.alloc(), CHANNEL_LIMIT_CUT.as_bytes());
 }
 
-// The text of three parts is refused with this line; 0 where it is a sheet's.
-fn three_parts_refused(
-    rt: &impl Abort,
-    alloc: Global,
-    head: &str,
-    lines: &str,
-    end: &str,
-    wanted: u32,
-) {
-    let text = joined(rt, alloc, &[head, lines, end]);
-    is_refused(rt, alloc, text.as_bytes(), wanted);
-}
-
 const FIRST_FORM: &str = "mmplan 1\nstores A\ndump 1 0\nloss 0\n";
 
 const SECOND_FORM: &str = "mmplan 2\nstores A\ndump 1 0\nloss 0\n";
@@ -290,26 +283,25 @@ static REPEATED: [(&str, &str, usize, &str, u32); 4] = [
 #[test]
 fn only_so_many_lines_are_taken(rt: HostRuntime) {
     for (head, line, count, end, wanted) in &REPEATED {
-        let lines = line.repeat(rt.alloc(), *count).expect(&rt, "memory");
-        three_parts_refused(&rt, rt.alloc(), head, lines.as_str(), end, *wanted);
+        let text = repeated(&rt, rt.alloc(), head, line, *count, end);
+        is_refused(&rt, rt.alloc(), text.as_bytes(), *wanted);
     }
 }
 
 // What follows the lines of 256 steps, and the line of the refusal.
 static AFTER_256_STEPS: [(&str, u32); 2] = [("loss 0\nbound 0\nend\n", 0), ("dump 257 0\n", 259)];
 
+// The text of these steps, with what follows them, is refused with this line; 0 where it is a sheet's.
+fn ends_so(rt: &impl Abort, alloc: Global, steps: &str, end: &str, wanted: u32) {
+    let text = joined(rt, alloc, &["mmplan 1\nstores A\n", steps, end]);
+    is_refused(rt, alloc, text.as_bytes(), wanted);
+}
+
 #[test]
 fn only_256_steps_are_taken(rt: HostRuntime) {
-    let steps = numbered(&rt, rt.alloc(), "dump ", 256, " 0");
+    let steps = numbered(&rt, rt.alloc(), "dump ", 256, " 0\n");
     for (end, wanted) in &AFTER_256_STEPS {
-        three_parts_refused(
-            &rt,
-            rt.alloc(),
-            "mmplan 1\nstores A\n",
-            steps.as_str(),
-            end,
-            *wanted,
-        );
+        ends_so(&rt, rt.alloc(), steps.as_str(), end, *wanted);
     }
 }
 

@@ -1,4 +1,5 @@
 //! Problems from data: each is what the texts of the same data say, or is refused with the fault that it must give.
+use super::is_shown;
 use crate::tests::samples::{id, problem_of};
 use mm_problem::{Fault, Kind, LimitRow, Problem, Setup, StoreRow};
 use std::alloc::Global;
@@ -19,39 +20,24 @@ fn seen(rt: &impl Abort, alloc: Global, problem: &Problem) -> String {
     format!(in alloc; "{problem:?}").expect(rt, "memory")
 }
 
+// The problem is the one that these texts say.
+fn is_said(rt: &impl Abort, alloc: Global, problem: &Problem, setup: &str, forecast: &str) {
+    let said = problem_of(rt, alloc, setup, forecast);
+    let wanted = seen(rt, alloc, &said);
+    assert!(rt; seen(rt, alloc, problem).as_str() == wanted.as_str());
+}
+
+// The problem of the stores and limits of a setup, and of the steps as data.
+fn from_data(rt: &impl Abort, alloc: Global) -> Problem {
+    let setup = Setup::read(alloc, SETUP.as_bytes()).expect(rt, "a setup");
+    let (stores, limits) = (setup.stores(), setup.limits());
+    Problem::new(alloc, stores, limits, &WINDOWS, &ARRIVALS).expect(rt, "a problem")
+}
+
 #[test]
 fn data_are_the_problem_of_their_texts(rt: HostRuntime) {
-    let alloc = rt.alloc();
-    let setup = Setup::read(alloc, SETUP.as_bytes()).expect(&rt, "a setup");
-    let problem = Problem::new(alloc, setup.stores(), setup.limits(), &WINDOWS, &ARRIVALS).expect(
-        &rt,
-        "a problem",
-    );
-    let read = problem_of(&rt, alloc, SETUP, FORECAST);
-    let wanted = seen(&rt, alloc, &read);
-    assert!(&rt; seen(&rt, alloc, &problem).as_str() == wanted.as_str());
-}
-
-// The data of a problem.
-#[derive(Clone, Copy)]
-struct Data<'a> {
-    rows: &'a [StoreRow],
-    limits: &'a [LimitRow],
-    windows: &'a [u32],
-    arrivals: &'a [u32],
-}
-
-// The data are refused with this fault.
-fn refused(rt: &impl Abort, alloc: Global, data: Data<'_>, fault: &str) {
-    let Data {
-        rows,
-        limits,
-        windows,
-        arrivals,
-    } = data;
-    let refusal = Problem::new(alloc, rows, limits, windows, arrivals).expect_err(rt, "no problem");
-    let shown = refusal.to_string(alloc).expect(rt, "memory");
-    assert!(rt; shown.as_str() == fault, "{fault}");
+    let problem = from_data(&rt, rt.alloc());
+    is_said(&rt, rt.alloc(), &problem, SETUP, FORECAST);
 }
 
 fn store(rt: &impl Abort, text: &str, size: u32, start: u32, channel: u8) -> StoreRow {
@@ -64,68 +50,48 @@ fn store(rt: &impl Abort, text: &str, size: u32, start: u32, channel: u8) -> Sto
     }
 }
 
-// A second store, beside one that is as it should be, is refused with this fault.
-fn store_refused(rt: &impl Abort, alloc: Global, second: StoreRow, fault: &str) {
-    let rows = [store(rt, "SCI", 4, 4, 7), second];
-    let data = Data {
-        rows: &rows,
-        limits: &[],
-        windows: &[1],
-        arrivals: &[1, 1_000_001],
-    };
-    refused(rt, alloc, data, fault);
-}
+// A second store, beside one that is as it should be: its identifier, size, start volume and channel, and the fault.
+static STORES_REFUSED: [(&str, u32, u32, u8, &str); 6] = [
+    ("HK", 0, 0, 0, "33 Limit name size"),
+    ("HK", 1_000_001, 0, 0, "33 Limit name size"),
+    ("HK", 4, 0, 8, "33 Limit name channel"),
+    ("HK", 4, 5, 0, "33 Limit name start"),
+    ("HK", 4, 5, 8, "33 Limit name channel"),
+    ("SCI", 4, 0, 0, "28 SetupField row 2 name repeated"),
+];
 
 #[test]
 fn stores_as_data_refused(rt: HostRuntime) {
-    let cases = [
-        (store(&rt, "HK", 0, 0, 0), "33 Limit name size"),
-        (store(&rt, "HK", 1_000_001, 0, 0), "33 Limit name size"),
-        (store(&rt, "HK", 4, 0, 8), "33 Limit name channel"),
-        (store(&rt, "HK", 4, 5, 0), "33 Limit name start"),
-        (store(&rt, "HK", 4, 5, 8), "33 Limit name channel"),
-        (
-            store(&rt, "SCI", 4, 0, 0),
-            "28 SetupField row 2 name repeated",
-        ),
-    ];
-    for (second, fault) in &cases {
-        store_refused(&rt, rt.alloc(), *second, fault);
+    for (text, size, start, channel, fault) in &STORES_REFUSED {
+        let second = store(&rt, text, *size, *start, *channel);
+        let rows = [store(&rt, "SCI", 4, 4, 7), second];
+        let problem = Problem::new(rt.alloc(), &rows, &[], &[1], &[1, 1_000_001]);
+        is_shown(&rt, rt.alloc(), problem.err(), fault);
     }
 }
 
+static NINE_LIMITS: [LimitRow; 9] = [LimitRow {
+    channel: 0,
+    blocks: 1,
+}; 9];
+
+// How many stores and how many limits there are, and the fault, where there are no steps.
+static COUNTS_REFUSED: [(usize, usize, &str); 4] = [
+    (0, 0, "33 Limit name stores"),
+    (17, 0, "33 Limit name stores"),
+    (1, 9, "33 Limit name limits"),
+    (1, 0, "33 Limit name steps"),
+];
+
 #[test]
 fn counts_of_data_refused(rt: HostRuntime) {
-    let good = store(&rt, "SCI", 4, 4, 7);
-    let many = [good; 17];
-    let limits = [LimitRow {
-        channel: 0,
-        blocks: 1,
-    }; 9];
-    let data = Data {
-        rows: &[],
-        limits: &[],
-        windows: &[],
-        arrivals: &[],
-    };
-    refused(&rt, rt.alloc(), data, "33 Limit name stores");
-    let seventeen = Data {
-        rows: &many,
-        ..data
-    };
-    refused(&rt, rt.alloc(), seventeen, "33 Limit name stores");
-    let rows = [good];
-    let nine = Data {
-        rows: &rows,
-        limits: &limits,
-        ..data
-    };
-    refused(&rt, rt.alloc(), nine, "33 Limit name limits");
-    let stepless = Data {
-        rows: &rows,
-        ..data
-    };
-    refused(&rt, rt.alloc(), stepless, "33 Limit name steps");
+    let stores = [store(&rt, "SCI", 4, 4, 7); 17];
+    for (store_count, limit_count, fault) in &COUNTS_REFUSED {
+        let rows = stores.get(..*store_count).expect(&rt, "stores");
+        let limits = NINE_LIMITS.get(..*limit_count).expect(&rt, "limits");
+        let problem = Problem::new(rt.alloc(), rows, limits, &[], &[]);
+        is_shown(&rt, rt.alloc(), problem.err(), fault);
+    }
 }
 
 // Limits, each as a channel and its blocks, by the fault with which they are refused.
@@ -145,13 +111,8 @@ static LIMITS_REFUSED: [([LimitRow; 2], &str); 3] = limits! {
 fn limits_as_data_refused(rt: HostRuntime) {
     let rows = [store(&rt, "SCI", 4, 4, 7)];
     for (limits, fault) in &LIMITS_REFUSED {
-        let data = Data {
-            rows: &rows,
-            limits,
-            windows: &[1],
-            arrivals: &[1],
-        };
-        refused(&rt, rt.alloc(), data, fault);
+        let problem = Problem::new(rt.alloc(), &rows, limits, &[1], &[1]);
+        is_shown(&rt, rt.alloc(), problem.err(), fault);
     }
 }
 
@@ -173,13 +134,8 @@ static STEPS_REFUSED: [(&[u32], &[u32], &str); 7] = [
 fn steps_as_data_refused(rt: HostRuntime) {
     let rows = [store(&rt, "SCI", 4, 4, 7), store(&rt, "HK", 4, 4, 7)];
     for (windows, arrivals, fault) in &STEPS_REFUSED {
-        let data = Data {
-            rows: &rows,
-            limits: &[],
-            windows,
-            arrivals,
-        };
-        refused(&rt, rt.alloc(), data, fault);
+        let problem = Problem::new(rt.alloc(), &rows, &[], windows, arrivals);
+        is_shown(&rt, rt.alloc(), problem.err(), fault);
     }
 }
 
@@ -197,19 +153,19 @@ fn rest_of(
     problem.rest(alloc, 1, &starts)
 }
 
+// The setup and the forecast of the later steps, where the stores begin with 4 and 0 blocks.
+const LATER_SETUP: &str =
+    "[[store]]\nid = \"SCI\"\nsize = 4\ntype = \"bounded\"\nchannel = 0\nstart = 4\n\
+    [[store]]\nid = \"HK\"\nsize = 9\ntype = \"circular\"\nchannel = 3\nstart = 0\n\
+    [[limit]]\nchannel = 3\nblocks = 5\n";
+
+const LATER: &str = "step,window,SCI,HK\n1,0,0,8\n2,1000000,5,6\n";
+
 #[test]
 fn the_rest_is_the_problem_of_the_later_steps(rt: HostRuntime) {
-    let alloc = rt.alloc();
-    let problem = problem_of(&rt, alloc, SETUP, FORECAST);
-    let rest = rest_of(&rt, alloc, &problem, [4, 0]).expect(&rt, "a problem");
-    let later = "step,window,SCI,HK\n1,0,0,8\n2,1000000,5,6\n";
-    let setup = "[[store]]\nid = \"SCI\"\nsize = 4\ntype = \"bounded\"\nchannel = 0\nstart = 4\n\
-        [[store]]\nid = \"HK\"\nsize = 9\ntype = \"circular\"\nchannel = 3\nstart = 0\n\
-        [[limit]]\nchannel = 3\nblocks = 5\n";
-    let read = problem_of(&rt, alloc, setup, later);
-    let wanted = seen(&rt, alloc, &read);
-    assert!(&rt; seen(&rt, alloc, &rest).as_str() == wanted.as_str());
-    let refusal = rest_of(&rt, alloc, &problem, [5, 0]).expect_err(&rt, "no room");
-    let shown = refusal.to_string(alloc).expect(&rt, "memory");
-    assert!(&rt; shown.as_str() == "33 Limit name start");
+    let problem = problem_of(&rt, rt.alloc(), SETUP, FORECAST);
+    let rest = rest_of(&rt, rt.alloc(), &problem, [4, 0]).expect(&rt, "a problem");
+    is_said(&rt, rt.alloc(), &rest, LATER_SETUP, LATER);
+    let fault = rest_of(&rt, rt.alloc(), &problem, [5, 0]).err();
+    is_shown(&rt, rt.alloc(), fault, "33 Limit name start");
 }

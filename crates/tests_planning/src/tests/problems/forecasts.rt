@@ -1,5 +1,6 @@
 //! Texts of forecasts, each with what it says or the fault that it must give.
-use crate::tests::samples::{SCI, id, joined, problem_of};
+use super::is_shown;
+use crate::tests::samples::{SCI, id, joined, numbered, problem_of, repeated};
 use mm_problem::{Problem, Setup};
 use std::alloc::Global;
 use std::process::Abort;
@@ -7,19 +8,11 @@ use std::process::Abort;
 const SECOND: &str =
     "[[store]]\nid = \"HK\"\nsize = 2\ntype = \"circular\"\nchannel = 3\nstart = 1\n";
 
-// The answer to a forecast for one store: its fault, or `read`.
-fn answer_to(rt: &impl Abort, alloc: Global, text: &[u8]) -> String {
-    let setup = Setup::read(alloc, SCI.as_bytes()).expect(rt, "a setup");
-    match Problem::read(alloc, &setup, text) {
-        Ok(_) => String::from_str(alloc, "read").expect(rt, "memory"),
-        Err(fault) => fault.to_string(alloc).expect(rt, "memory"),
-    }
-}
-
-// The text is answered with this fault, or `read`.
+// The text of a forecast for one store is answered with this fault, or `read`.
 fn answered(rt: &impl Abort, alloc: Global, text: &[u8], wanted: &str) {
-    let answer = answer_to(rt, alloc, text);
-    assert!(rt; answer.as_str() == wanted, "{wanted}");
+    let setup = Setup::read(alloc, SCI.as_bytes()).expect(rt, "a setup");
+    let fault = Problem::read(alloc, &setup, text).err();
+    is_shown(rt, alloc, fault, wanted);
 }
 
 // These records after a good header, in two parts, are answered with this fault, or `read`.
@@ -97,35 +90,19 @@ fn records_refused(rt: HostRuntime) {
 }
 
 // What stands before a cell, its digit, what follows it, and the fault.
-static LONG_CELLS: [[&str; 4]; 4] = [
-    ["1,2,", "9", "", "33 Limit name arrivals"],
-    ["1,2,", "0", "", "31 Cell row 1 column 3"],
-    ["1,", "1", ",3", "33 Limit name window"],
-    ["", "1", ",2,3", "32 StepNumber row 1"],
+static LONG_CELLS: [(&str, &str, &str, &str); 4] = [
+    ("1,2,", "9", "", "33 Limit name arrivals"),
+    ("1,2,", "0", "", "31 Cell row 1 column 3"),
+    ("1,", "1", ",3", "33 Limit name window"),
+    ("", "1", ",2,3", "32 StepNumber row 1"),
 ];
-
-// These texts with a digit a thousand times between them.
-fn thousand(rt: &impl Abort, alloc: Global, before: &str, digit: &str, after: &str) -> String {
-    let digits = digit.repeat(alloc, 1000).expect(rt, "memory");
-    joined(rt, alloc, &[before, digits.as_str(), after])
-}
 
 #[test]
 fn cells_of_a_thousand_digits(rt: HostRuntime) {
-    for [before, digit, after, fault] in &LONG_CELLS {
-        let row = thousand(&rt, rt.alloc(), before, digit, after);
+    for (before, digit, after, fault) in &LONG_CELLS {
+        let row = repeated(&rt, rt.alloc(), before, digit, 1000, after);
         rows_answered(&rt, rt.alloc(), row.as_str(), "", fault);
     }
-}
-
-// The records of the first steps.
-fn numbered(rt: &impl Abort, alloc: Global, steps: u32) -> String {
-    let mut text = String::new(alloc);
-    for step in 0..steps {
-        let line = format!(in alloc; "{},2,3\n", step + 1).expect(rt, "memory");
-        text.push_str(line.as_str()).expect(rt, "memory");
-    }
-    text
 }
 
 // What follows 256 good records, and the answer.
@@ -138,7 +115,7 @@ static AFTER_256_STEPS: [(&str, &str); 4] = [
 
 #[test]
 fn at_most_256_steps(rt: HostRuntime) {
-    let full = numbered(&rt, rt.alloc(), 256);
+    let full = numbered(&rt, rt.alloc(), "", 256, ",2,3\n");
     for (after, answer) in &AFTER_256_STEPS {
         rows_answered(&rt, rt.alloc(), full.as_str(), after, answer);
     }

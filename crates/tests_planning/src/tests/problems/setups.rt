@@ -1,5 +1,6 @@
 //! Texts of setups, each with what it says or the fault that it must give.
-use crate::tests::samples::{SCI, id, joined, problem_of};
+use super::is_shown;
+use crate::tests::samples::{SCI, id, joined, problem_of, repeated};
 use mm_problem::{Kind, LimitRow, RouteRow, Setup, StoreRow};
 use std::alloc::Global;
 use std::process::Abort;
@@ -8,9 +9,7 @@ const ROUTE: &str = "[[route]]\napid = 100\nservice = 3\nsubtype = 25\nstore = \
 
 // The text is refused with this fault.
 fn refused(rt: &impl Abort, alloc: Global, text: &[u8], fault: &str) {
-    let refusal = Setup::read(alloc, text).expect_err(rt, "no setup");
-    let shown = refusal.to_string(alloc).expect(rt, "memory");
-    assert!(rt; shown.as_str() == fault, "{fault}");
+    is_shown(rt, alloc, Setup::read(alloc, text).err(), fault);
 }
 
 // Texts of three parts, each joined, are refused with their faults.
@@ -45,9 +44,8 @@ fn setup_texts_refused(rt: HostRuntime) {
 
 // Arrays that stand so deep in one another are refused with this fault.
 fn nested(rt: &impl Abort, alloc: Global, depth: usize, fault: &str) {
-    let open = "[".repeat(alloc, depth).expect(rt, "memory");
-    let close = "]".repeat(alloc, depth).expect(rt, "memory");
-    let text = joined(rt, alloc, &["title = ", open.as_str(), close.as_str()]);
+    let open = repeated(rt, alloc, "title = ", "[", depth, "");
+    let text = repeated(rt, alloc, open.as_str(), "]", depth, "");
     refused(rt, alloc, text.as_bytes(), fault);
 }
 
@@ -66,18 +64,20 @@ static DOCUMENTS_REFUSED: [(&str, &str); 15] = refused! {
     "28 SetupField row 1 name store": "store = [1]\nroute = [1]";
 };
 
+// An array of 257 routes, after one of 9 limits.
+fn many_routes(rt: &impl Abort, alloc: Global) -> String {
+    let head = "store = [1]\nlimit = [1, 2, 3, 4, 5, 6, 7, 8, 9]\nroute = [";
+    repeated(rt, alloc, head, "1, ", 257, "]")
+}
+
 #[test]
 fn documents_refused(rt: HostRuntime) {
     let alloc = rt.alloc();
     refused(&rt, alloc, b"\xff", "27 SetupText");
-    for (text, fault) in &DOCUMENTS_REFUSED {
-        refused(&rt, alloc, text.as_bytes(), fault);
-    }
+    refused_after(&rt, alloc, "", &DOCUMENTS_REFUSED);
     nested(&rt, alloc, 10, "28 SetupField row 0 name unknown");
     nested(&rt, alloc, 1000, "27 SetupText");
-    let ones = "1, ".repeat(alloc, 257).expect(&rt, "memory");
-    let head = "store = [1]\nlimit = [1, 2, 3, 4, 5, 6, 7, 8, 9]\nroute = [";
-    let routes = joined(&rt, alloc, &[head, ones.as_str(), "]"]);
+    let routes = many_routes(&rt, alloc);
     refused(&rt, alloc, routes.as_bytes(), "33 Limit name routes");
 }
 

@@ -1,122 +1,144 @@
 //! Each path of the planner on problems at the ends of their sizes, on those where a plan by the next overflow alone loses more,
 //! and beside the slow twin on random tiny ones. Losses that are written are counted by hand.
-use super::{least_loss, loses, planned_loss};
+use super::{Counted, least_loss, lose_least, planned_loss};
 use crate::tests::samples::{
-    Pair, WHERE_GREED_FAILS, joined, limit, next_below, pair_setup, pairs, problem_of, record,
-    sixteen_arrivals, sixteen_stores, store,
+    SIXTEEN_HEADER, SIXTEEN_STORES, alike_steps, each_limited, id, joined, next_below, problem_of,
 };
 use mm_planner::plan_bytes;
+use mm_problem::{Kind, LimitRow, Problem, StoreRow};
 use std::alloc::Global;
 use std::process::Abort;
 
-static AT_THE_ENDS: [Pair; 5] = pairs! {
+static AT_THE_ENDS: [Counted; 7] = counted! {
     name: "one_step",
-    sizes [4, 1], starts [0, 0], limits [9, 9], "1,2,9,1\n" => 5;
+    store "A" 4 0 0; store "B" 1 0 1; limit 0 9; limit 1 9; "step,window,A,B\n1,2,9,1\n" => 5;
     name: "windows_all_0",
-    sizes [3, 1], starts [0, 0], limits [9, 9], "1,0,1,1\n2,0,1,1\n3,0,1,1\n" => 2;
+    store "A" 3 0 0; store "B" 1 0 1; limit 0 9; limit 1 9; "step,window,A,B\n1,0,1,1\n2,0,1,1\n3,0,1,1\n" => 2;
     name: "limits_all_0",
-    sizes [3, 1], starts [0, 0], limits [0, 0], "1,2,1,1\n2,2,1,1\n3,2,1,1\n" => 2;
+    store "A" 3 0 0; store "B" 1 0 1; limit 0 0; limit 1 0; "step,window,A,B\n1,2,1,1\n2,2,1,1\n3,2,1,1\n" => 2;
     name: "full_at_the_start",
-    sizes [3, 1], starts [3, 1], limits [9, 9], "1,1,1,1\n2,1,1,1\n3,1,1,1\n" => 4;
+    store "A" 3 3 0; store "B" 1 1 1; limit 0 9; limit 1 9; "step,window,A,B\n1,1,1,1\n2,1,1,1\n3,1,1,1\n" => 4;
     name: "nothing_arrives",
-    sizes [3, 1], starts [2, 1], limits [1, 1], "1,1,0,0\n2,2,0,0\n" => 0;
+    store "A" 3 2 0; store "B" 1 1 1; limit 0 1; limit 1 1; "step,window,A,B\n1,1,0,0\n2,2,0,0\n" => 0;
+    // The store that overflows first is not always to be served first, where channels have limits: one block more is lost.
+    name: "greed_loses_6",
+    store "A" 2 2 0; store "B" 1 1 1; limit 0 1; limit 1 1; "step,window,A,B\n1,1,1,2\n2,2,0,0\n3,1,0,2\n4,2,2,2\n5,1,0,0\n" => 5;
+    name: "greed_loses_1",
+    store "A" 2 1 0; store "B" 2 1 1; limit 0 2; limit 1 1; "step,window,A,B\n1,1,0,0\n2,2,1,1\n3,0,1,2\n" => 0;
 };
 
-// The least loss of two stores is this, and the same input planned twice gives the same bytes.
-fn pair_loses(rt: &impl Abort, alloc: Global, pair: &Pair) {
-    let setup = pair_setup(rt, alloc, pair);
-    let forecast = joined(rt, alloc, &["step,window,A,B\n", pair.steps]);
-    let least = least_loss(rt, alloc, setup.as_str(), forecast.as_str());
-    assert!(rt; least == pair.loss, "{}", pair.name);
-    let (setup, forecast) = (setup.as_bytes(), forecast.as_bytes());
+// The same input planned twice gives the same bytes.
+fn is_planned_alike(rt: &impl Abort, alloc: Global, case: &Counted) {
+    let (setup, forecast) = (case.setup.as_bytes(), case.forecast.as_bytes());
     let first = plan_bytes(alloc, setup, forecast).expect(rt, "memory");
     let second = plan_bytes(alloc, setup, forecast).expect(rt, "memory");
-    assert!(rt; first == second, "{}", pair.name);
+    assert!(rt; first == second, "{}", case.name);
 }
 
 #[test]
 fn both_paths_plan_at_the_ends(rt: HostRuntime) {
-    for pair in &AT_THE_ENDS {
-        pair_loses(&rt, rt.alloc(), pair);
-    }
-    for pair in &WHERE_GREED_FAILS {
-        pair_loses(&rt, rt.alloc(), pair);
+    lose_least(&rt, rt.alloc(), &AT_THE_ENDS);
+    for case in &AT_THE_ENDS {
+        is_planned_alike(&rt, rt.alloc(), case);
     }
 }
 
-// A step of a store of size 4 that holds 2 at the start, and the loss.
-static ONE_STEP: [(&str, u64); 4] = [
-    ("1,0,2\n", 0),
-    ("1,3,2\n", 0),
-    ("1,9,9\n", 7),
-    ("1,0,0\n", 0),
-];
+static ONE_STEP: [Counted; 4] = counted! {
+    name: "a step in which the store gets full",
+    store "A" 4 2 0; "step,window,A\n1,0,2\n" => 0;
+    name: "a step with a window",
+    store "A" 4 2 0; "step,window,A\n1,3,2\n" => 0;
+    name: "a step in which more comes than the store holds",
+    store "A" 4 2 0; "step,window,A\n1,9,9\n" => 7;
+    name: "a step in which nothing comes",
+    store "A" 4 2 0; "step,window,A\n1,0,0\n" => 0;
+};
 
 #[test]
 fn both_paths_plan_one_store_in_one_step(rt: HostRuntime) {
-    let setup = store(&rt, rt.alloc(), "A", (4, 2, 0));
-    for (step, loss) in &ONE_STEP {
-        let forecast = ("step,window,A\n", *step);
-        loses(&rt, rt.alloc(), (setup.as_str(), ""), forecast, *loss);
-    }
-}
-
-// 16 stores of size 1 on 8 channels with this limit.
-fn limited_stores(rt: &impl Abort, alloc: Global, blocks: u32) -> String {
-    let mut setup = sixteen_stores(rt, alloc);
-    for channel in 0..8u32 {
-        let limit = limit(rt, alloc, channel, blocks);
-        setup.push_str(limit.as_str()).expect(rt, "memory");
-    }
-    setup
+    lose_least(&rt, rt.alloc(), &ONE_STEP);
 }
 
 // The limit of each channel, how many steps, and the loss. In the first step each store gets its block. Before each later one a
 // window of 15 leaves one block of 16, and a limit of 1 eight.
-static LARGEST: [(u32, u32, u64); 4] = [
-    (9, 1, 0),
-    (9, 256, 255),
-    (1, 256, 8 * 255),
-    (0, 256, 16 * 255),
+static LARGEST: [(&str, u32, u64); 4] = [
+    (each_limited!(9), 1, 0),
+    (each_limited!(9), 256, 255),
+    (each_limited!(1), 256, 8 * 255),
+    (each_limited!(0), 256, 16 * 255),
 ];
+
+const ONE_FOR_EACH: &str = ",15,1,1,1,1,1,1,1,1,1,1,1,1,1,1,1,1\n";
+
+// 16 stores with these limits, a window of 15 in each step, and in each a block for each store.
+fn largest(rt: &impl Abort, alloc: Global, limits: &str, steps: u32) -> Problem {
+    let setup = joined(rt, alloc, &[SIXTEEN_STORES, limits]);
+    let forecast = alike_steps(rt, alloc, SIXTEEN_HEADER, steps, ONE_FOR_EACH);
+    problem_of(rt, alloc, setup.as_str(), forecast.as_str())
+}
 
 #[test]
 fn both_paths_plan_the_largest_problems(rt: HostRuntime) {
-    for (blocks, steps, loss) in &LARGEST {
-        let setup = limited_stores(&rt, rt.alloc(), *blocks);
-        let forecast = sixteen_arrivals(&rt, rt.alloc(), *steps);
-        let problem = problem_of(&rt, rt.alloc(), setup.as_str(), forecast.as_str());
+    for (limits, steps, loss) in &LARGEST {
+        let problem = largest(&rt, rt.alloc(), limits, *steps);
         assert!(rt; planned_loss(&rt, rt.alloc(), &problem) == *loss, "{loss}");
     }
 }
 
-// Three stores on two channels, of which one or both have limits.
-fn random_setup(rt: &impl Abort, alloc: Global, state: &mut u32) -> String {
-    let mut setup = String::new(alloc);
-    for id in ["A", "B", "C"] {
-        let size = next_below(state, 3).saturating_add(1);
-        let (start, channel) = (next_below(state, size), next_below(state, 2));
-        let store = store(rt, alloc, id, (size, start, channel));
-        setup.push_str(store.as_str()).expect(rt, "memory");
+// A store of size 1 to 3 that is not full at the start, on one of two channels.
+fn random_store(rt: &impl Abort, text: &str, state: &mut u32) -> StoreRow {
+    let size = next_below(state, 3) + 1;
+    let (start, channel) = (next_below(state, size), next_below(state, 2));
+    StoreRow {
+        id: id(rt, text),
+        size,
+        start,
+        kind: Kind::Bounded,
+        channel: channel as u8,
     }
-    let first = next_below(state, 2);
-    for channel in first..2u32 {
-        let limit = limit(rt, alloc, channel, next_below(state, 3));
-        setup.push_str(limit.as_str()).expect(rt, "memory");
-    }
-    setup
 }
 
-// Four steps with windows and arrivals of up to 2 blocks.
-fn random_forecast(rt: &impl Abort, alloc: Global, state: &mut u32) -> String {
-    let mut forecast = String::from_str(alloc, "step,window,A,B,C\n").expect(rt, "memory");
-    for step in 1..5u32 {
-        let (window, a) = (next_below(state, 3), next_below(state, 3));
-        let (b, c) = (next_below(state, 3), next_below(state, 3));
-        let record = record(rt, alloc, step, (window, a, b, c));
-        forecast.push_str(record.as_str()).expect(rt, "memory");
+// Limits of one or both channels.
+fn random_limits(rt: &impl Abort, alloc: Global, state: &mut u32) -> Vec<LimitRow> {
+    let mut limits = Vec::new(alloc);
+    let first = next_below(state, 2) as u8;
+    for channel in first..2u8 {
+        let blocks = next_below(state, 3);
+        limits
+            .push(LimitRow { channel, blocks })
+            .expect(rt, "memory");
     }
-    forecast
+    limits
+}
+
+// The windows of four steps, and what comes to three stores in each of them.
+#[derive(Clone, Copy)]
+struct Steps {
+    windows: [u32; 4],
+    arrivals: [u32; 12],
+}
+
+// Windows and arrivals of up to 2 blocks.
+fn random_steps(state: &mut u32) -> Steps {
+    let mut windows = [0; 4];
+    let mut arrivals = [0; 12];
+    for step in 0..4usize {
+        windows[step] = next_below(state, 3);
+        for store in 0..3usize {
+            arrivals[3 * step + store] = next_below(state, 3);
+        }
+    }
+    Steps { windows, arrivals }
+}
+
+fn random_problem(rt: &impl Abort, alloc: Global, state: &mut u32) -> Problem {
+    let a = random_store(rt, "A", state);
+    let b = random_store(rt, "B", state);
+    let rows = [a, b, random_store(rt, "C", state)];
+    let limits = random_limits(rt, alloc, state);
+    let steps = random_steps(state);
+    let problem = Problem::new(alloc, &rows, &limits, &steps.windows, &steps.arrivals);
+    problem.expect(rt, "a problem")
 }
 
 #[test]
@@ -124,9 +146,8 @@ fn both_paths_lose_what_the_slow_twin_loses(rt: HostRuntime) {
     let mut state = 3;
     let mut some = 0_u32;
     for _ in 0..100 {
-        let setup = random_setup(&rt, rt.alloc(), &mut state);
-        let forecast = random_forecast(&rt, rt.alloc(), &mut state);
-        let least = least_loss(&rt, rt.alloc(), setup.as_str(), forecast.as_str());
+        let problem = random_problem(&rt, rt.alloc(), &mut state);
+        let least = least_loss(&rt, rt.alloc(), &problem);
         some = some.saturating_add(u32::from(least > 0));
     }
     assert!(rt; some > 50);
