@@ -171,7 +171,9 @@ static FILLINGS: [Filling; 5] = [
 ];
 
 // The plan fits, and it is filled to these amounts.
-fn is_filled(rt: &impl Abort, alloc: Global, problem: &Problem, plan: &Plan, case: &Filling) {
+fn is_filled(rt: &impl Abort, alloc: Global, problem: &Problem, case: &Filling) {
+    let sheet = sheet_of(rt, alloc, case.plan);
+    let plan = sheet.plan();
     assert!(rt; plan.has_shape(problem));
     let plan = filled(rt, alloc, problem, plan);
     has_amounts(rt, problem, &plan, case.filled, case.name);
@@ -181,7 +183,6 @@ fn is_filled(rt: &impl Abort, alloc: Global, problem: &Problem, plan: &Plan, cas
 fn windows_are_used_as_far_as_limits_allow(rt: HostRuntime) {
     for case in &FILLINGS {
         let problem = problem_of(&rt, rt.alloc(), case.setup, case.forecast);
-        let sheet = sheet_of(&rt, rt.alloc(), case.plan);
-        is_filled(&rt, rt.alloc(), &problem, sheet.plan(), case);
+        is_filled(&rt, rt.alloc(), &problem, case);
     }
 }

@@ -24,7 +24,7 @@ pub fn chart_of(rt: &impl Abort, alloc: Global, setup: &str, forecast: &str, pla
 pub fn is_fault(rt: &impl Abort, alloc: Global, written: Result<Vec<u8>, Fault>, wanted: &str) {
     let fault = written.expect_err(rt, "a fault");
     let text = fault.to_string(alloc).expect(rt, "memory");
-    assert!(rt; text.as_str() == wanted, "{text} and not {wanted}");
+    assert!(rt; text.as_str() == wanted, "{text}");
 }
 
 fn has_line(chart: &str, wanted: &str) -> bool {

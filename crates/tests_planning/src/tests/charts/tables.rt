@@ -65,11 +65,16 @@ static TABLES: [(&str, &str, &str, &str); 4] = tables! {
         "1,1000000,-_9LONG_,1000000,1000000,1000000,0";
 };
 
+// The table is this text.
+fn is_table(rt: &impl Abort, table: &str, wanted: &str) {
+    assert!(rt; table == wanted, "{table}");
+}
+
 #[test]
 fn tables_have_these_records(rt: HostRuntime) {
     for (setup, forecast, plan, wanted) in &TABLES {
         let table = table_of(&rt, rt.alloc(), setup, forecast, plan);
-        assert!(rt; table.as_str() == *wanted, "{table} and not {wanted}");
+        is_table(&rt, table.as_str(), wanted);
     }
 }
 

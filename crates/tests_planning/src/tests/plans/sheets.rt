@@ -45,11 +45,16 @@ fn channel_limit_cut_is_read(rt: HostRuntime) {
     has_one_count(&rt, &sheet);
 }
 
+// The sheet is printed so.
+fn is_printed(rt: &impl Abort, alloc: Global, sheet: &Sheet, printed: &str) {
+    let text = sheet.print(alloc).expect(rt, "memory");
+    assert!(rt; text.as_slice() == printed.as_bytes());
+}
+
 // The text is a sheet's, and the sheet is printed as this one.
 fn read_and_printed(rt: &impl Abort, alloc: Global, text: &str, printed: &str) {
     let sheet = sheet_of(rt, alloc, text);
-    let again = sheet.print(alloc).expect(rt, "memory");
-    assert!(rt; again.as_slice() == printed.as_bytes());
+    is_printed(rt, alloc, &sheet, printed);
 }
 
 #[test]
@@ -233,11 +238,16 @@ static REFUSED: [(&[u8], u32); 52] = [
     (b"mmplan 1\nstores A\ndump 1 x\nloss y\nbound z\nend\n", 3),
 ];
 
+// Each text is refused with its line.
+fn are_refused(rt: &impl Abort, alloc: Global, rows: &[(&[u8], u32)]) {
+    for (text, line) in rows {
+        is_refused(rt, alloc, text, *line);
+    }
+}
+
 #[test]
 fn sheet_text_refused(rt: HostRuntime) {
-    for (text, line) in &REFUSED {
-        is_refused(&rt, rt.alloc(), text, *line);
-    }
+    are_refused(&rt, rt.alloc(), &REFUSED);
 }
 
 // How many line feeds there are.

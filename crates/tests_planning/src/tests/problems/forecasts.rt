@@ -147,14 +147,19 @@ fn is_store(rt: &impl Abort, problem: &Problem, place: usize, text: &str, number
 // Channels, and their limits; the last is no channel.
 static LIMITS: [(u8, Option<u32>); 3] = [(0, None), (3, Some(9)), (200, None)];
 
+// The channels have these limits.
+fn has_limits(rt: &impl Abort, problem: &Problem) {
+    for (channel, limit) in &LIMITS {
+        assert!(rt; problem.limit(*channel) == *limit, "channel {channel}");
+    }
+}
+
 #[test]
 fn a_forecast_is_read(rt: HostRuntime) {
     let problem = problem_of_two(&rt, rt.alloc());
     is_store(&rt, &problem, 0, "SCI", (4, 0, 0));
     is_store(&rt, &problem, 1, "HK", (2, 1, 3));
-    for (channel, limit) in &LIMITS {
-        assert!(rt; problem.limit(*channel) == *limit, "channel {channel}");
-    }
+    has_limits(&rt, &problem);
     comes(&rt, &problem, 1, 2, (10, 1_000_000));
     comes(&rt, &problem, 2, 0, (5, 6));
     has_extent(&rt, &problem);

@@ -210,24 +210,24 @@ const NO_BLOCKS: LimitRow = LimitRow {
     blocks: 0,
 };
 
-// The setup has the one route and the one limit.
-fn has_route_and_limit(rt: &impl Abort, setup: &Setup) {
+// The setup has the two stores, the one route and the one limit.
+fn has_rows(rt: &impl Abort, setup: &Setup) {
     let route = RouteRow {
         apid: 100,
         service: 3,
         subtype: 25,
         store: id(rt, "SCI"),
     };
-    let is_routed = setup.routes() == [route].as_slice();
-    assert!(rt; is_routed && setup.limits() == [NO_BLOCKS].as_slice());
+    assert!(rt; setup.stores() == two_stores(rt).as_slice());
+    assert!(rt; setup.routes() == [route].as_slice());
+    assert!(rt; setup.limits() == [NO_BLOCKS].as_slice());
 }
 
 #[test]
 fn a_setup_is_read(rt: HostRuntime) {
     let text = joined(&rt, rt.alloc(), &[SCI, SECOND, ROUTE, LIMIT]);
     let setup = Setup::read(rt.alloc(), text.as_bytes()).expect(&rt, "a setup");
-    assert!(rt; setup.stores() == two_stores(&rt).as_slice());
-    has_route_and_limit(&rt, &setup);
+    has_rows(&rt, &setup);
 }
 
 // Spreadsheets and editors may write a byte order mark at the beginning of a file.
