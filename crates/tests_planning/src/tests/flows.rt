@@ -202,14 +202,18 @@ fn is_flow_of_5(rt: &impl Abort, solved: &Solved) {
     assert!(rt; [side.first(), side.last()] == [Some(&true), Some(&false)]);
 }
 
+// The network has four nodes, and that flow.
+fn has_flow_of_5(rt: &impl Abort, alloc: Global, network: &Network) {
+    assert!(rt; network.node_count() == 4);
+    let solved = solve(alloc, network, 0, 3).expect(rt, "a solution");
+    is_flow_of_5(rt, &solved);
+}
+
 #[test]
 fn network_of_four_nodes(rt: HostRuntime) {
     let network = built(&rt, rt.alloc(), 4, &FOUR_NODES);
-    assert!(rt; network.node_count() == 4);
-    let solved = solve(rt.alloc(), &network, 0, 3).expect(&rt, "a solution");
-    is_flow_of_5(&rt, &solved);
-    let by_paths = solve_paths(rt.alloc(), &network, 0, 3);
-    assert!(rt; value_of(&rt, by_paths) == Some(5));
+    has_flow_of_5(&rt, rt.alloc(), &network);
+    assert!(rt; same_value(&rt, rt.alloc(), &network, 0, 3) == Some(5));
 }
 
 // No flow from node 0 to this one: it is refused so.

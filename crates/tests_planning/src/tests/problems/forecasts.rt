@@ -139,9 +139,10 @@ fn is_store(rt: &impl Abort, problem: &Problem, place: usize, text: &str, number
         problem.start(place),
         problem.channel(place),
     );
+    assert!(rt; found == numbers, "{text}");
     let store = id(rt, text);
-    let is_there = problem.id(place) == store && problem.place(&store) == Some(place);
-    assert!(rt; is_there && found == numbers, "{text}");
+    assert!(rt; problem.id(place) == store);
+    assert!(rt; problem.place(&store) == Some(place));
 }
 
 // Channels, and their limits; the last is no channel.
@@ -160,8 +161,8 @@ fn a_forecast_is_read(rt: HostRuntime) {
     is_store(&rt, &problem, 0, "SCI", (4, 0, 0));
     is_store(&rt, &problem, 1, "HK", (2, 1, 3));
     has_limits(&rt, &problem);
-    comes(&rt, &problem, 1, 2, (10, 1_000_000));
-    comes(&rt, &problem, 2, 0, (5, 6));
+    comes(&rt, &problem, 1, [2, 10, 1_000_000]);
+    comes(&rt, &problem, 2, [0, 5, 6]);
     has_extent(&rt, &problem);
 }
 
@@ -173,12 +174,10 @@ fn has_extent(rt: &impl Abort, problem: &Problem) {
 }
 
 // A step has this window, and so much comes to the two stores.
-fn comes(rt: &impl Abort, problem: &Problem, step: u32, window: u32, arrivals: (u32, u32)) {
+fn comes(rt: &impl Abort, problem: &Problem, step: u32, wanted: [u32; 3]) {
     let is_there = problem.stores() == 2 && 0 < step && step <= problem.steps();
     assert!(rt; is_there, "two stores");
-    let found = (problem.arrivals(0, step), problem.arrivals(1, step));
-    assert!(rt;
-        problem.window(step) == window && found == arrivals,
-        "step {step}"
-    );
+    let (first, second) = (problem.arrivals(0, step), problem.arrivals(1, step));
+    let found = [problem.window(step), first, second];
+    assert!(rt; found == wanted, "step {step}");
 }
