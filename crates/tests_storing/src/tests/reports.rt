@@ -1,7 +1,7 @@
 //! Reports of the storage service as they are read, written and refused.
 ghost use Rattle.mm_st15.specs.Report.{HasCount};
 
-use crate::tests::samples::{CONFIGURATIONS, HK, SCI, STORES, packet_of, written};
+use crate::tests::samples::{CONFIGURATIONS, HK, SCI, STORES, packet_of, writes};
 use mm_st15::{Entries, Fault, Report, ReportKind, Row, Status, Summary};
 use std::alloc::Global;
 use std::process::Abort;
@@ -31,14 +31,12 @@ fn is_written(rt: &impl Abort, alloc: Global, report: &Report, octets: &[u8])
     requires { HasCount report.now }
 {
     let packet = report.write(alloc, 100, 0, 0, 0).expect(rt, "memory");
-    assert!(rt; written(rt, alloc, &packet).as_slice() == octets);
+    writes(rt, alloc, &packet, octets);
 }
 
 // The report that these octets spell, which is written as them again under APID 100.
 fn report_again(rt: &impl Abort, alloc: Global, octets: &[u8]) -> Report {
-    let report = read_again!(rt, alloc, octets, Report);
-    assert!(rt; report.moment() == 1);
-    report
+    read_again!(rt, alloc, octets, Report)
 }
 
 static REPORTS: [(u8, &[u8]); 8] = spelled! {
@@ -46,11 +44,18 @@ static REPORTS: [(u8, &[u8]); 8] = spelled! {
     23 CONFIGURATIONS, 23 NO_CONFIGURATION
 };
 
+// The report has this subtype, and the moment 1.
+fn is_of_moment_1(rt: &impl Abort, report: &Report, subtype: u8) {
+    assert!(rt;
+        (report.subtype(), report.moment()) == (subtype, 1),
+        "{report:?}"
+    );
+}
+
 #[test]
 fn every_report_is_read_and_written(rt: HostRuntime) {
     for (subtype, octets) in &REPORTS {
-        let report = report_again(&rt, rt.alloc(), octets);
-        assert!(rt; report.subtype() == *subtype, "{report:?}");
+        is_of_moment_1(&rt, &report_again(&rt, rt.alloc(), octets), *subtype);
     }
 }
 
@@ -104,9 +109,9 @@ fn rows_of_the_control_have_their_fields(rt: HostRuntime) {
     is_control(&rt, &report_again(&rt, rt.alloc(), &CONTROL));
 }
 
-#[test]
-fn summaries_have_their_fields(rt: HostRuntime) {
-    match report_again(&rt, rt.alloc(), &SUMMARIES) {
+// The report has the two summaries.
+fn is_summaries(rt: &impl Abort, report: &Report) {
+    match report {
         Report::Summaries { entries, .. } => {
             assert!(rt; entries.as_slice() == TWO_SUMMARIES.as_slice());
         }
@@ -115,13 +120,23 @@ fn summaries_have_their_fields(rt: HostRuntime) {
 }
 
 #[test]
-fn statuses_have_their_fields(rt: HostRuntime) {
-    match report_again(&rt, rt.alloc(), &STATUSES) {
+fn summaries_have_their_fields(rt: HostRuntime) {
+    is_summaries(&rt, &report_again(&rt, rt.alloc(), &SUMMARIES));
+}
+
+// The report has the one status.
+fn is_statuses(rt: &impl Abort, report: &Report) {
+    match report {
         Report::Statuses { entries, .. } => {
             assert!(rt; entries.as_slice() == [STATUS].as_slice());
         }
         other => panic!(rt; "{other:?}"),
     }
+}
+
+#[test]
+fn statuses_have_their_fields(rt: HostRuntime) {
+    is_statuses(&rt, &report_again(&rt, rt.alloc(), &STATUSES));
 }
 
 #[test]

@@ -2,7 +2,7 @@
 ghost use Rattle.mm_st15.specs.Request.{HasCount, kind_of, count_of};
 
 use crate::tests::samples::{
-    CONFIGURATIONS, CREATE_STORES, ENABLE, HK, SCI, STORES, is_shown, packet_of, written,
+    CONFIGURATIONS, CREATE_STORES, ENABLE, HK, SCI, STORES, is_shown, packet_of, writes,
 };
 use mm_packet::Packet;
 use mm_st15::{
@@ -46,12 +46,18 @@ const CHANGE_TO_BOUNDED: [u8; 20] = *b"\x18\x64\xC0\0\0\x0D\x20\x0F\x1B\0\0\x01S
 
 const CHANGE_CHANNEL: [u8; 21] = *b"\x18\x64\xC0\0\0\x0E\x20\x0F\x1C\0\0\x01SCI     \x05";
 
+// The packet that spells the request under APID 100.
+fn packet_with(rt: &impl Abort, alloc: Global, request: &Request) -> Packet
+    requires { HasCount (kind_of request.now) (count_of request.now) }
+{
+    request.write(alloc, 100, 0, 0, 0).expect(rt, "memory")
+}
+
 // The request is written as these octets under APID 100.
 fn is_written(rt: &impl Abort, alloc: Global, request: &Request, octets: &[u8])
     requires { HasCount (kind_of request.now) (count_of request.now) }
 {
-    let packet = request.write(alloc, 100, 0, 0, 0).expect(rt, "memory");
-    assert!(rt; written(rt, alloc, &packet).as_slice() == octets);
+    writes(rt, alloc, &packet_with(rt, alloc, request), octets);
 }
 
 // The request that these octets spell, which is written as them again under APID 100.
@@ -66,67 +72,77 @@ static REQUESTS: [(u8, &[u8]); 17] = spelled! {
     26 CHANGE_TO_CIRCULAR, 27 CHANGE_TO_BOUNDED, 28 CHANGE_CHANNEL
 };
 
+fn has_subtype(rt: &impl Abort, request: &Request, subtype: u8) {
+    assert!(rt; request.subtype() == subtype, "{request:?}");
+}
+
 #[test]
 fn every_request_is_read_and_written(rt: HostRuntime) {
     for (subtype, octets) in &REQUESTS {
-        let request = request_again(&rt, rt.alloc(), octets);
-        assert!(rt; request.subtype() == *subtype, "{request:?}");
+        has_subtype(&rt, &request_again(&rt, rt.alloc(), octets), *subtype);
     }
 }
 
-// The instructions of a request, for each of these layouts.
-enum Instructions {
-    DisableStorage(&'static [Target]),
-    DeleteReportTypes(&'static [ReportType]),
-    StartRetrieval(&'static [TimeRange]),
-    DeleteContent(&'static [TimeLimit]),
-    ResizeStores(&'static [Size]),
-    ChangeChannel(&'static [Channel]),
-}
-
-// Whether a request is of this kind, with these instructions.
-macro_rules! is_request {
-    ($request:expr, $kind:ident, $wanted:expr) => {
-        match $request {
-            Request::$kind(list) => list.as_slice() == $wanted,
-            _ => false,
-        }
-    };
-}
-
-// The request is this one.
-fn asks(request: &Request, wanted: &Instructions) -> bool {
-    match wanted {
-        Instructions::DisableStorage(list) => is_request!(request, DisableStorage, *list),
-        Instructions::DeleteReportTypes(list) => is_request!(request, DeleteReportTypes, *list),
-        Instructions::StartRetrieval(list) => is_request!(request, StartRetrieval, *list),
-        Instructions::DeleteContent(list) => is_request!(request, DeleteContent, *list),
-        Instructions::ResizeStores(list) => is_request!(request, ResizeStores, *list),
-        Instructions::ChangeChannel(list) => is_request!(request, ChangeChannel, *list),
-    }
-}
-
-// The octets of requests, each with its instructions.
-macro_rules! instructions {
-    ($($octets:ident => $kind:ident: $($instruction:expr),+;)+) => {
-        [$((&$octets, Instructions::$kind(&[$($instruction),+]))),+]
-    };
-}
-
-static INSTRUCTIONS: [(&[u8], Instructions); 6] = instructions! {
-    DISABLE_STORAGE => DisableStorage: Target { id: SCI }, Target { id: HK };
-    DELETE_REPORT_TYPES => DeleteReportTypes: ReportType { id: HK, apid: 2046, service: 255, subtype: 0 };
-    START_RETRIEVAL => StartRetrieval: TimeRange { id: SCI, from: 1, to: 255 };
-    DELETE_CONTENT => DeleteContent: TimeLimit { id: SCI, limit: 255 };
-    RESIZE_STORES => ResizeStores: Size { id: SCI, size: 1_000_000 };
-    CHANGE_CHANNEL => ChangeChannel: Channel { id: SCI, channel: 5 };
+const REPORT_TYPE: ReportType = ReportType {
+    id: HK,
+    apid: 2046,
+    service: 255,
+    subtype: 0,
 };
+
+const TIMES: TimeRange = TimeRange {
+    id: SCI,
+    from: 1,
+    to: 255,
+};
+
+// The requests whose instructions are compared.
+static WITH_FIELDS: [&[u8]; 6] = [
+    &DISABLE_STORAGE,
+    &DELETE_REPORT_TYPES,
+    &START_RETRIEVAL,
+    &DELETE_CONTENT,
+    &RESIZE_STORES,
+    &CHANGE_CHANNEL,
+];
+
+// Whether a request has the instructions that are spelled for its kind.
+fn has_its_fields(request: &Request) -> bool {
+    match request {
+        Request::DisableStorage(list) => list.as_slice()
+            == [Target { id: SCI }, Target { id: HK }].as_slice(),
+        Request::DeleteReportTypes(list) => list.as_slice() == [REPORT_TYPE].as_slice(),
+        Request::StartRetrieval(list) => list.as_slice() == [TIMES].as_slice(),
+        Request::DeleteContent(list) => list.as_slice()
+            == [TimeLimit {
+                id: SCI,
+                limit: 255,
+            }]
+            .as_slice(),
+        Request::ResizeStores(list) => list.as_slice()
+            == [Size {
+                id: SCI,
+                size: 1_000_000,
+            }]
+            .as_slice(),
+        Request::ChangeChannel(list) => list.as_slice()
+            == [Channel {
+                id: SCI,
+                channel: 5,
+            }]
+            .as_slice(),
+        _ => false,
+    }
+}
+
+fn is_of_its_fields(rt: &impl Abort, request: &Request) {
+    assert!(rt; has_its_fields(request), "{request:?}");
+}
 
 #[test]
 fn instructions_have_their_fields(rt: HostRuntime) {
-    for (octets, wanted) in &INSTRUCTIONS {
-        let request = request_again(&rt, rt.alloc(), octets);
-        assert!(rt; asks(&request, wanted), "{request:?}");
+    for octets in &WITH_FIELDS {
+        is_of_its_fields(&rt, &request_again(&rt, rt.alloc(), octets));
     }
 }
 
@@ -134,8 +150,7 @@ fn instructions_have_their_fields(rt: HostRuntime) {
 fn creates_stores(rt: &impl Abort, request: Request) {
     match request {
         Request::CreateStores(list) => {
-            assert!(rt; list.as_slice() == STORES.as_slice());
-            assert!(rt; list.into_vec().len() == 2);
+            assert!(rt; list.into_vec().as_slice() == STORES.as_slice());
         }
         other => panic!(rt; "{other:?}"),
     }
@@ -150,8 +165,8 @@ fn create_two_stores(rt: HostRuntime) {
 fn a_made_request_is_written(rt: HostRuntime) {
     let list = STORES.to_vec(rt.alloc()).expect(&rt, "memory");
     let request = Request::CreateStores(Entries::new(list));
-    assert!(rt; request.kind() == RequestKind::CreateStores);
     is_written(&rt, rt.alloc(), &request, &CREATE_STORES);
+    assert!(rt; request.kind() == RequestKind::CreateStores);
 }
 
 const ALL_TIMES: TimeRange = TimeRange {
@@ -163,8 +178,13 @@ const ALL_TIMES: TimeRange = TimeRange {
 // A request of 255 instructions, written.
 fn most_instructions(rt: &impl Abort, alloc: Global) -> Packet {
     let list = vec![in alloc; ALL_TIMES; 255].expect(rt, "memory");
-    let request = Request::StartRetrieval(Entries::new(list));
-    request.write(alloc, 100, 0, 0, 0).expect(rt, "memory")
+    packet_with(rt, alloc, &Request::StartRetrieval(Entries::new(list)))
+}
+
+// The packet has the octets of a count of 255 and of that many instructions.
+fn is_long(rt: &impl Abort, packet: &Packet) {
+    assert!(rt; packet.body().len() == 6121);
+    assert!(rt; packet.body()[0] == 255);
 }
 
 // The request is that of 255 instructions.
@@ -181,8 +201,7 @@ fn is_of_most_instructions(rt: &impl Abort, request: &Request) {
 #[test]
 fn the_most_instructions_are_written_and_read(rt: HostRuntime) {
     let packet = most_instructions(&rt, rt.alloc());
-    assert!(rt; packet.body().len() == 6121);
-    assert!(rt; packet.body()[0] == 255);
+    is_long(&rt, &packet);
     let request = Request::read(rt.alloc(), &packet).expect(&rt, "a request");
     is_of_most_instructions(&rt, &request);
 }

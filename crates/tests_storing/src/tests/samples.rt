@@ -48,6 +48,11 @@ pub fn written(rt: &impl Abort, alloc: Global, packet: &Packet) -> Vec<u8> {
     packet.write(alloc).expect(rt, "memory")
 }
 
+/// The packet is written as these octets.
+pub fn writes(rt: &impl Abort, alloc: Global, packet: &Packet, octets: &[u8]) {
+    assert!(rt; written(rt, alloc, packet).as_slice() == octets);
+}
+
 /// It is printed so.
 pub fn is_shown(rt: &impl Abort, alloc: Global, refusal: &impl Display, text: &str) {
     let shown = refusal.to_string(alloc).expect(rt, "memory");
