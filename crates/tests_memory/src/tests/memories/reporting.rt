@@ -1,6 +1,8 @@
 //! The reports that answer requests.
 use super::holding::TWO_PACKETS_EACH;
-use super::{BAD_ID, DONE, NO_SUCH_STORE, Play, STORAGE_ON, Step, asked, memory_of, played};
+use super::{
+    BAD_ID, DONE, NO_SUCH_STORE, Play, STORAGE_ON, Step, are_answers, asked, memory_of, played,
+};
 use crate::tests::samples::{ONE_STORE, TWO_STORES};
 use mm_memory::{Answer, Memory};
 use mm_st15::{Configuration, Report, Row as ReportType, Status, Summary};
@@ -22,8 +24,7 @@ fn reported(
 ) -> Report {
     let (now, subtype, data) = request;
     let mut answers = asked(rt, alloc, memory, now, subtype, data);
-    let is_answered = answers.each.as_slice() == want && answers.reports.len() == 1;
-    assert!(rt; is_answered, "{subtype} {data:?}");
+    are_answers(rt, "reported", (subtype, data), &answers, want, 1);
     answers.reports.pop().expect(rt, "a report")
 }
 
@@ -54,6 +55,18 @@ fn summarises(rt: &impl Abort, report: &Report, want: &[Summary]) {
     assert!(rt; is_told, "a summary");
 }
 
+// The one report that a request has beside these answers is on the contents of these stores.
+fn summarised(
+    rt: &impl Abort,
+    alloc: Global,
+    memory: &mut Memory,
+    request: (u64, u8, &[u8]),
+    answers: &[Answer],
+    want: &[Summary],
+) {
+    summarises(rt, &reported(rt, alloc, memory, request, answers), want);
+}
+
 const ROUTE: ReportType = ReportType {
     apid: 100,
     service: 3,
@@ -76,11 +89,10 @@ fn reports_one_route(rt: &impl Abort, report: &Report) {
 fn reports_on_the_stores_that_are_there(rt: HostRuntime) {
     let alloc = rt.alloc();
     let mut memory = memory_of(&rt, alloc, TWO_STORES);
-    let one = reported(&rt, alloc, &mut memory, (9, 12, THREE), &THREE_ANSWERS);
-    summarises(&rt, &one, &EMPTY);
+    let request = (9, 12, THREE);
+    summarised(&rt, alloc, &mut memory, request, &THREE_ANSWERS, &EMPTY);
     let request = (9, 12, b"\x01NONE    ".as_slice());
-    let none = reported(&rt, alloc, &mut memory, request, &[NO_SUCH_STORE]);
-    summarises(&rt, &none, &[]);
+    summarised(&rt, alloc, &mut memory, request, &[NO_SUCH_STORE], &[]);
     let control = reported(&rt, alloc, &mut memory, (9, 5, THREE), &THREE_ANSWERS);
     reports_one_route(&rt, &control);
 }
@@ -89,8 +101,14 @@ fn reports_on_the_stores_that_are_there(rt: HostRuntime) {
 fn summaries_of_stores_with_packets(rt: HostRuntime) {
     let mut memory = played(&rt, rt.alloc(), &TWO_PACKETS_EACH);
     let request = (9, 12, b"\x02HK      SCI     ".as_slice());
-    let report = reported(&rt, rt.alloc(), &mut memory, request, &[DONE, DONE]);
-    summarises(&rt, &report, &TWO_EACH);
+    summarised(
+        &rt,
+        rt.alloc(),
+        &mut memory,
+        request,
+        &[DONE, DONE],
+        &TWO_EACH,
+    );
 }
 
 // A store for each pair of statuses.
@@ -140,6 +158,13 @@ fn configures(rt: &impl Abort, report: &Report, now: u64, channel: u8) {
     assert!(rt; is_told, "the channel {channel}");
 }
 
+// After this play the report is on that store and that virtual channel.
+fn configured(rt: &impl Abort, alloc: Global, play: &Play, now: u64, channel: u8) {
+    let mut memory = played(rt, alloc, play);
+    let report = reported(rt, alloc, &mut memory, (now, 22, &[]), &[]);
+    configures(rt, &report, now, channel);
+}
+
 static CHANGES: [Play; 2] = plays! {
     "the channel of the setup", ONE_STORE { }
     "another channel", ONE_STORE {
@@ -154,9 +179,6 @@ static CHANNELS: [(u64, u8); 2] = [(1, 0), (4, 5)];
 #[test]
 fn channel_of_a_store_changed(rt: HostRuntime) {
     for (play, (moment, channel)) in CHANGES.iter().zip(&CHANNELS) {
-        let mut memory = played(&rt, rt.alloc(), play);
-        let request = (*moment, 22, b"".as_slice());
-        let report = reported(&rt, rt.alloc(), &mut memory, request, &[]);
-        configures(&rt, &report, *moment, *channel);
+        configured(&rt, rt.alloc(), play, *moment, *channel);
     }
 }
