@@ -38,12 +38,18 @@ fn deletes_store(rt: &impl Abort, table: &mut ControlTable, store: &StoreId, cou
 // A report type by APID, service and subtype.
 type ReportType = (u16, u8, u8);
 
+// The row of this APID leads to this store.
+fn leads(rt: &impl Abort, row: &RouteRow, apid: u16, store: StoreId) {
+    assert!(rt; row.apid == apid);
+    assert!(rt; row.store == store);
+}
+
 // The rows of this report type lead to these stores.
 fn rows_lead(rt: &impl Abort, table: &ControlTable, of: ReportType, want: &[StoreId]) {
     let rows = table.rows_for(of.0, of.1, of.2);
     assert!(rt; rows.len() == want.len(), "rows of {of:?}");
-    for (row, id) in rows.iter().zip(want.iter()) {
-        assert!(rt; row.store == *id && row.apid == of.0, "rows of {of:?}");
+    for (row, id) in rows.iter().zip(want) {
+        leads(rt, row, of.0, *id);
     }
 }
 

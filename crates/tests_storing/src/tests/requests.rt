@@ -2,7 +2,7 @@
 ghost use Rattle.mm_st15.specs.Request.{HasCount, kind_of, count_of};
 
 use crate::tests::samples::{
-    CONFIGURATIONS, CREATE_STORES, ENABLE, HK, SCI, STORES, is_shown, packet_of, writes,
+    CONFIGURATIONS, CREATE_STORES, ENABLE, HK, SCI, STORES, is_fault, is_shown, packet_of, writes,
 };
 use mm_packet::Packet;
 use mm_st15::{
@@ -46,23 +46,12 @@ const CHANGE_TO_BOUNDED: [u8; 20] = *b"\x18\x64\xC0\0\0\x0D\x20\x0F\x1B\0\0\x01S
 
 const CHANGE_CHANNEL: [u8; 21] = *b"\x18\x64\xC0\0\0\x0E\x20\x0F\x1C\0\0\x01SCI     \x05";
 
-// The packet that spells the request under APID 100.
-fn packet_with(rt: &impl Abort, alloc: Global, request: &Request) -> Packet
-    requires { HasCount (kind_of request.now) (count_of request.now) }
-{
-    request.write(alloc, 100, 0, 0, 0).expect(rt, "memory")
-}
-
 // The request is written as these octets under APID 100.
 fn is_written(rt: &impl Abort, alloc: Global, request: &Request, octets: &[u8])
     requires { HasCount (kind_of request.now) (count_of request.now) }
 {
-    writes(rt, alloc, &packet_with(rt, alloc, request), octets);
-}
-
-// The request that these octets spell, which is written as them again under APID 100.
-fn request_again(rt: &impl Abort, alloc: Global, octets: &[u8]) -> Request {
-    read_again!(rt, alloc, octets, Request)
+    let packet = request.write(alloc, 100, 0, 0, 0).expect(rt, "memory");
+    writes(rt, alloc, &packet, octets);
 }
 
 static REQUESTS: [(u8, &[u8]); 17] = spelled! {
@@ -72,17 +61,6 @@ static REQUESTS: [(u8, &[u8]); 17] = spelled! {
     26 CHANGE_TO_CIRCULAR, 27 CHANGE_TO_BOUNDED, 28 CHANGE_CHANNEL
 };
 
-fn has_subtype(rt: &impl Abort, request: &Request, subtype: u8) {
-    assert!(rt; request.subtype() == subtype, "{request:?}");
-}
-
-#[test]
-fn every_request_is_read_and_written(rt: HostRuntime) {
-    for (subtype, octets) in &REQUESTS {
-        has_subtype(&rt, &request_again(&rt, rt.alloc(), octets), *subtype);
-    }
-}
-
 const REPORT_TYPE: ReportType = ReportType {
     id: HK,
     apid: 2046,
@@ -90,83 +68,88 @@ const REPORT_TYPE: ReportType = ReportType {
     subtype: 0,
 };
 
+const TARGETS: [Target; 2] = [Target { id: SCI }, Target { id: HK }];
+
 const TIMES: TimeRange = TimeRange {
     id: SCI,
     from: 1,
     to: 255,
 };
 
-// The requests whose instructions are compared.
-static WITH_FIELDS: [&[u8]; 6] = [
-    &DISABLE_STORAGE,
-    &DELETE_REPORT_TYPES,
-    &START_RETRIEVAL,
-    &DELETE_CONTENT,
-    &RESIZE_STORES,
-    &CHANGE_CHANNEL,
-];
+const LIMIT: TimeLimit = TimeLimit {
+    id: SCI,
+    limit: 255,
+};
 
-// Whether a request has the instructions that are spelled for its kind.
+const SIZE: Size = Size {
+    id: SCI,
+    size: 1_000_000,
+};
+
+const CHANNEL: Channel = Channel {
+    id: SCI,
+    channel: 5,
+};
+
+// Whether the request of a kind has the instructions above. Those of other kinds are seen where they are written.
 fn has_its_fields(request: &Request) -> bool {
     match request {
-        Request::DisableStorage(list) => list.as_slice()
-            == [Target { id: SCI }, Target { id: HK }].as_slice(),
+        Request::DisableStorage(list) => list.as_slice() == TARGETS.as_slice(),
         Request::DeleteReportTypes(list) => list.as_slice() == [REPORT_TYPE].as_slice(),
         Request::StartRetrieval(list) => list.as_slice() == [TIMES].as_slice(),
-        Request::DeleteContent(list) => list.as_slice()
-            == [TimeLimit {
-                id: SCI,
-                limit: 255,
-            }]
-            .as_slice(),
-        Request::ResizeStores(list) => list.as_slice()
-            == [Size {
-                id: SCI,
-                size: 1_000_000,
-            }]
-            .as_slice(),
-        Request::ChangeChannel(list) => list.as_slice()
-            == [Channel {
-                id: SCI,
-                channel: 5,
-            }]
-            .as_slice(),
-        _ => false,
+        Request::DeleteContent(list) => list.as_slice() == [LIMIT].as_slice(),
+        Request::CreateStores(list) => list.as_slice() == STORES.as_slice(),
+        Request::ResizeStores(list) => list.as_slice() == [SIZE].as_slice(),
+        Request::ChangeChannel(list) => list.as_slice() == [CHANNEL].as_slice(),
+        _ => true,
     }
 }
 
-fn is_of_its_fields(rt: &impl Abort, request: &Request) {
+// The packet and the request that it spells have this subtype, and the request has its instructions.
+fn is_spelled(rt: &impl Abort, packet: &Packet, request: &Request, subtype: u8) {
+    assert!(rt;
+        [packet.subtype(), request.subtype()] == [subtype, subtype],
+        "{request:?}"
+    );
     assert!(rt; has_its_fields(request), "{request:?}");
 }
 
-#[test]
-fn instructions_have_their_fields(rt: HostRuntime) {
-    for octets in &WITH_FIELDS {
-        is_of_its_fields(&rt, &request_again(&rt, rt.alloc(), octets));
-    }
+// The octets spell a request of this subtype, which is written as them again.
+fn is_read_and_written(rt: &impl Abort, alloc: Global, octets: &[u8], subtype: u8) {
+    let packet = packet_of(rt, alloc, octets);
+    let request = Request::read(alloc, &packet).expect(rt, "a request");
+    is_spelled(rt, &packet, &request, subtype);
+    is_written(rt, alloc, &request, octets);
 }
 
-// The request creates the two stores.
-fn creates_stores(rt: &impl Abort, request: Request) {
-    match request {
-        Request::CreateStores(list) => {
-            assert!(rt; list.into_vec().as_slice() == STORES.as_slice());
-        }
-        other => panic!(rt; "{other:?}"),
+#[test]
+fn every_request_is_read_and_written(rt: HostRuntime) {
+    for (subtype, octets) in &REQUESTS {
+        is_read_and_written(&rt, rt.alloc(), octets, *subtype);
     }
 }
 
 #[test]
-fn create_two_stores(rt: HostRuntime) {
-    creates_stores(&rt, request_again(&rt, rt.alloc(), &CREATE_STORES));
+fn entries_give_their_list_back(rt: HostRuntime) {
+    let list = STORES.to_vec(rt.alloc()).expect(&rt, "memory");
+    let list = Entries::new(list).into_vec();
+    assert!(rt; list.as_slice() == STORES.as_slice());
+}
+
+// The packet that spells a request of this kind under APID 100.
+fn packet_with(rt: &impl Abort, alloc: Global, request: Request, kind: RequestKind) -> Packet
+    requires { HasCount (kind_of request) (count_of request) }
+{
+    assert!(rt; request.kind() == kind);
+    request.write(alloc, 100, 0, 0, 0).expect(rt, "memory")
 }
 
 #[test]
 fn a_made_request_is_written(rt: HostRuntime) {
     let list = STORES.to_vec(rt.alloc()).expect(&rt, "memory");
     let request = Request::CreateStores(Entries::new(list));
-    is_written(&rt, rt.alloc(), &request, &CREATE_STORES);
-    assert!(rt; request.kind() == RequestKind::CreateStores);
+    let packet = packet_with(&rt, rt.alloc(), request, RequestKind::CreateStores);
+    writes(&rt, rt.alloc(), &packet, &CREATE_STORES);
 }
 
 const ALL_TIMES: TimeRange = TimeRange {
@@ -178,7 +161,8 @@ const ALL_TIMES: TimeRange = TimeRange {
 // A request of 255 instructions, written.
 fn most_instructions(rt: &impl Abort, alloc: Global) -> Packet {
     let list = vec![in alloc; ALL_TIMES; 255].expect(rt, "memory");
-    packet_with(rt, alloc, &Request::StartRetrieval(Entries::new(list)))
+    let request = Request::StartRetrieval(Entries::new(list));
+    packet_with(rt, alloc, request, RequestKind::StartRetrieval)
 }
 
 // The packet has the octets of a count of 255 and of that many instructions.
@@ -198,12 +182,17 @@ fn is_of_most_instructions(rt: &impl Abort, request: &Request) {
     }
 }
 
+// The packet spells that request.
+fn has_most_instructions(rt: &impl Abort, alloc: Global, packet: &Packet) {
+    let request = Request::read(alloc, packet).expect(rt, "a request");
+    is_of_most_instructions(rt, &request);
+}
+
 #[test]
 fn the_most_instructions_are_written_and_read(rt: HostRuntime) {
     let packet = most_instructions(&rt, rt.alloc());
     is_long(&rt, &packet);
-    let request = Request::read(rt.alloc(), &packet).expect(&rt, "a request");
-    is_of_most_instructions(&rt, &request);
+    has_most_instructions(&rt, rt.alloc(), &packet);
 }
 
 // The octets are refused as a request with this fault.

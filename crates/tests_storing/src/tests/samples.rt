@@ -1,6 +1,6 @@
 //! Packets spelled by hand, and how packets and refusals are compared.
 use mm_packet::Packet;
-use mm_st15::Configuration;
+use mm_st15::{Configuration, Fault};
 use std::alloc::Global;
 use std::fmt::Display;
 use std::process::Abort;
@@ -51,6 +51,11 @@ pub fn written(rt: &impl Abort, alloc: Global, packet: &Packet) -> Vec<u8> {
 /// The packet is written as these octets.
 pub fn writes(rt: &impl Abort, alloc: Global, packet: &Packet, octets: &[u8]) {
     assert!(rt; written(rt, alloc, packet).as_slice() == octets);
+}
+
+/// The refusal is this one.
+pub fn is_fault(rt: &impl Abort, refusal: Fault, want: Fault) {
+    assert!(rt; refusal == want, "{refusal} and not {want}");
 }
 
 /// It is printed so.
