@@ -128,10 +128,10 @@ fn packet(rt: &impl Abort, alloc: Global) -> BlockPacket {
 // What a store answers, in a word, and the time of a packet that is kept or given.
 type Told = (&'static str, u64);
 
-fn told_of(answer: Result<Offered, Returned>) -> Told {
+fn told_of(answer: &Result<Offered, Returned>) -> Told {
     match answer {
-        Ok(Offered::Kept(time)) => ("kept", time),
-        Ok(Offered::KeptOver(time, _)) => ("kept over", time),
+        Ok(Offered::Kept(time)) => ("kept", *time),
+        Ok(Offered::KeptOver(time, _)) => ("kept over", *time),
         Ok(Offered::Lost(_)) => ("lost", 0),
         Err(back) => (back.fault.name(), 0),
     }
@@ -141,7 +141,7 @@ fn told_of(answer: Result<Offered, Returned>) -> Told {
 fn offered(rt: &impl Abort, alloc: Global, memory: &mut Memory, id: &StoreId, now: u64) -> Told {
     let packet = packet(rt, alloc);
     match memory.state_mut(id) {
-        Some(state) => told_of(state.offer(now, packet)),
+        Some(state) => told_of(&state.offer(now, packet)),
         None => ("no store", 0),
     }
 }

@@ -28,6 +28,12 @@ fn reported(
     answers.reports.pop().expect(rt, "a report")
 }
 
+// The report that a request without instructions has after a play: the moment and the subtype.
+fn reported_after(rt: &impl Abort, alloc: Global, play: &Play, now: u64, subtype: u8) -> Report {
+    let mut memory = played(rt, alloc, play);
+    reported(rt, alloc, &mut memory, (now, subtype, &[]), &[])
+}
+
 // Whether a report is of this kind and moment, with these entries.
 macro_rules! is_report {
     ($report:expr, $kind:ident, $moment:expr, $want:expr) => {
@@ -139,9 +145,7 @@ fn reports_statuses(rt: &impl Abort, report: &Report, want: &[Status]) {
 #[test]
 fn status_report(rt: HostRuntime) {
     for play in &STATUSES {
-        let mut memory = played(&rt, rt.alloc(), play);
-        let request = (9, 18, b"".as_slice());
-        let report = reported(&rt, rt.alloc(), &mut memory, request, &[]);
+        let report = reported_after(&rt, rt.alloc(), play, 9, 18);
         reports_statuses(&rt, &report, &PAIRS);
     }
 }
@@ -158,13 +162,6 @@ fn configures(rt: &impl Abort, report: &Report, now: u64, channel: u8) {
     assert!(rt; is_told, "the channel {channel}");
 }
 
-// After this play the report is on that store and that virtual channel.
-fn configured(rt: &impl Abort, alloc: Global, play: &Play, now: u64, channel: u8) {
-    let mut memory = played(rt, alloc, play);
-    let report = reported(rt, alloc, &mut memory, (now, 22, &[]), &[]);
-    configures(rt, &report, now, channel);
-}
-
 static CHANGES: [Play; 2] = plays! {
     "the channel of the setup", ONE_STORE { }
     "another channel", ONE_STORE {
@@ -179,6 +176,7 @@ static CHANNELS: [(u64, u8); 2] = [(1, 0), (4, 5)];
 #[test]
 fn channel_of_a_store_changed(rt: HostRuntime) {
     for (play, (moment, channel)) in CHANGES.iter().zip(&CHANNELS) {
-        configured(&rt, rt.alloc(), play, *moment, *channel);
+        let report = reported_after(&rt, rt.alloc(), play, *moment, 22);
+        configures(&rt, &report, *moment, *channel);
     }
 }
