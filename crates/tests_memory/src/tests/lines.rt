@@ -1,5 +1,5 @@
 //! Requests as lines of text, and the lines that answer them.
-use crate::tests::samples::ONE_STORE;
+use crate::tests::samples::{ONE_STORE, is_told};
 use mm_ask::{Outcome, ask_bytes};
 use std::alloc::AllocGlobal;
 use std::process::Abort;
@@ -34,11 +34,8 @@ fn answers<R: Abort + AllocGlobal>(
     outcome: Outcome,
     want: &str,
 ) {
-    let answer = ask_bytes(rt.alloc(), ONE_STORE.as_bytes(), requests.as_bytes());
-    let (came, text) = answer.expect(rt, name);
-    let text = String::from_utf8(text).expect(rt, name);
-    let is_told = came == outcome && text.as_str() == want;
-    assert!(rt; is_told, "{name}: {text}");
+    let told = ask_bytes(rt.alloc(), ONE_STORE.as_bytes(), requests.as_bytes());
+    is_told(rt, name, &told.expect(rt, name), outcome, want);
 }
 
 // Each conversation by itself is answered so.

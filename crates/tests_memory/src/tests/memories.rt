@@ -1,8 +1,8 @@
 //! Memories, and the requests that are applied to them.
-use crate::tests::samples::TWO_STORES;
+use crate::tests::samples::{TWO_STORES, is_shown};
 use mm_base::{Kind, Refused, RouteRow, StoreId};
 use mm_desk::{Offered, Returned};
-use mm_memory::{Answer, Answers, Fault, Memory};
+use mm_memory::{Answer, Answers, Fault, Held, Memory};
 use mm_packet::{BlockPacket, Header, Octets, Packet, TELECOMMAND_BODY};
 use mm_problem::Setup;
 use mm_st15::Request;
@@ -82,6 +82,20 @@ fn asked(
     memory.apply(alloc, now, &request).expect(rt, "memory")
 }
 
+// These are the answers to a request in this play, with that many reports.
+fn are_answers(
+    rt: &impl Abort,
+    name: &str,
+    request: (u8, &[u8]),
+    answers: &Answers,
+    want: &[Answer],
+    reports: usize,
+) {
+    let (subtype, data) = request;
+    let is_answered = answers.each.as_slice() == want && answers.reports.len() == reports;
+    assert!(rt; is_answered, "{name}: {subtype} {data:?}");
+}
+
 // What is asked at the moment 1, and compared with the answers of this play.
 fn asks(
     rt: &impl Abort,
@@ -93,8 +107,7 @@ fn asks(
 ) {
     let (subtype, data) = request;
     let answers = asked(rt, alloc, memory, 1, subtype, data);
-    let is_answered = answers.each.as_slice() == want && answers.reports.is_empty();
-    assert!(rt; is_answered, "{name}: {subtype} {data:?}");
+    are_answers(rt, name, request, &answers, want, 0);
 }
 
 // The kind, the size and the number of packets of a store, and whether its storage is on.
@@ -115,10 +128,10 @@ fn packet(rt: &impl Abort, alloc: Global) -> BlockPacket {
 // What a store answers, in a word, and the time of a packet that is kept or given.
 type Told = (&'static str, u64);
 
-fn told_of(answer: Result<Offered, Returned>) -> Told {
+fn told_of(answer: &Result<Offered, Returned>) -> Told {
     match answer {
-        Ok(Offered::Kept(time)) => ("kept", time),
-        Ok(Offered::KeptOver(time, _)) => ("kept over", time),
+        Ok(Offered::Kept(time)) => ("kept", *time),
+        Ok(Offered::KeptOver(time, _)) => ("kept over", *time),
         Ok(Offered::Lost(_)) => ("lost", 0),
         Err(back) => (back.fault.name(), 0),
     }
@@ -128,7 +141,7 @@ fn told_of(answer: Result<Offered, Returned>) -> Told {
 fn offered(rt: &impl Abort, alloc: Global, memory: &mut Memory, id: &StoreId, now: u64) -> Told {
     let packet = packet(rt, alloc);
     match memory.state_mut(id) {
-        Some(state) => told_of(state.offer(now, packet)),
+        Some(state) => told_of(&state.offer(now, packet)),
         None => ("no store", 0),
     }
 }
@@ -241,11 +254,10 @@ fn leads_to(rt: &impl Abort, alloc: Global, memory: &Memory, subtype: u8, want: 
 }
 
 // Nothing stands at a place, and no store has an identifier.
-fn lacks(rt: &impl Abort, memory: &Memory, place: u32, id: &StoreId) {
-    assert!(rt;
-        memory.entry(place).is_none() && shape(memory, id).is_none(),
-        "{place}"
-    );
+fn lacks(rt: &impl Abort, memory: &mut Memory, place: u32, id: &StoreId) {
+    assert!(rt; memory.entry(place).is_none(), "{place}");
+    assert!(rt; shape(memory, id).is_none(), "{place}");
+    assert!(rt; memory.state_mut(id).is_none(), "{place}");
 }
 
 static SETUP_ORDER: [Play; 1] = plays! {
@@ -259,23 +271,26 @@ static SETUP_ORDER: [Play; 1] = plays! {
 fn stores_stand_in_setup_order(rt: HostRuntime) {
     for play in &SETUP_ORDER {
         let mut memory = played(&rt, rt.alloc(), play);
-        let other = id(&rt, b"XY");
-        lacks(&rt, &memory, 2, &other);
-        assert!(rt; memory.state_mut(&other).is_none());
+        lacks(&rt, &mut memory, 2, &id(&rt, b"XY"));
     }
+}
+
+// The one route is of APID 100, service 3, subtype 25, to this store.
+fn has_one_route(rt: &impl Abort, memory: &Memory, store: StoreId) {
+    let row = RouteRow {
+        apid: 100,
+        service: 3,
+        subtype: 25,
+        store,
+    };
+    assert!(rt; memory.control().list() == [row].as_slice());
 }
 
 #[test]
 fn routes_of_setup(rt: HostRuntime) {
     let memory = memory_of(&rt, rt.alloc(), TWO_STORES);
     let sci = id(&rt, b"SCI");
-    let row = RouteRow {
-        apid: 100,
-        service: 3,
-        subtype: 25,
-        store: sci,
-    };
-    assert!(rt; memory.control().list() == [row].as_slice());
+    has_one_route(&rt, &memory, sci);
     leads_to(&rt, rt.alloc(), &memory, 25, &[sci]);
     leads_to(&rt, rt.alloc(), &memory, 26, &[]);
 }
@@ -290,22 +305,33 @@ fn stands_whole(rt: &impl Abort, memory: &Memory, name: &str) {
     has_shape(rt, name, memory, &hk, (Kind::Circular, 2, 0, true));
 }
 
+// The memory has its route and no store, since the two are lifted.
+fn is_empty(rt: &impl Abort, memory: &Memory, lifted: &[Held]) {
+    assert!(rt; lifted.len() == 2);
+    assert!(rt; memory.entry(0).is_none());
+    has_counts(rt, "lifted", memory, 0, 1);
+}
+
 #[test]
 fn lifted_stores_are_put_back(rt: HostRuntime) {
     let mut memory = memory_of(&rt, rt.alloc(), TWO_STORES);
     stands_whole(&rt, &memory, "before");
     let stores = memory.lift();
-    assert!(rt; stores.len() == 2 && memory.entry(0).is_none());
-    has_counts(&rt, "lifted", &memory, 0, 1);
+    is_empty(&rt, &memory, &stores);
     memory.restore(stores);
     stands_whole(&rt, &memory, "restored");
+}
+
+// Sets the storage of a store off, by the state that the memory lends.
+fn disable(rt: &impl Abort, memory: &mut Memory, id: &StoreId) {
+    memory.state_mut(id).expect(rt, "a store").disable();
 }
 
 #[test]
 fn a_lent_state_is_the_store_s_state(rt: HostRuntime) {
     let mut memory = memory_of(&rt, rt.alloc(), TWO_STORES);
     let (sci, hk) = (id(&rt, b"SCI"), id(&rt, b"HK"));
-    memory.state_mut(&hk).expect(&rt, "a store").disable();
+    disable(&rt, &mut memory, &hk);
     has_shape(&rt, "lent", &memory, &hk, (Kind::Circular, 2, 0, false));
     has_shape(&rt, "not lent", &memory, &sci, (Kind::Bounded, 4, 0, true));
 }
@@ -319,7 +345,6 @@ static SHOWN: [(Fault, &str); 2] = [
 #[test]
 fn refusals_are_printed_with_number_and_name(rt: HostRuntime) {
     for (fault, text) in &SHOWN {
-        let printed = fault.to_string(rt.alloc()).expect(&rt, "memory");
-        assert!(rt; printed.as_str() == *text, "{text}");
+        is_shown(&rt, rt.alloc(), fault, text);
     }
 }

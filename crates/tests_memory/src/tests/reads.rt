@@ -1,4 +1,5 @@
 //! Packets as lines of digits, and the lines that say them in words and numbers, worked out by hand.
+use crate::tests::samples::is_told;
 use mm_ask::{Outcome, read_bytes};
 use std::alloc::AllocGlobal;
 use std::process::Abort;
@@ -15,11 +16,8 @@ mod requests;
 
 // These packets read as this text, with this outcome.
 fn reads<R: Abort + AllocGlobal>(rt: &R, packets: &str, outcome: Outcome, want: &str) {
-    let read = read_bytes(rt.alloc(), packets.as_bytes());
-    let (came, text) = read.expect(rt, packets);
-    let text = String::from_utf8(text).expect(rt, packets);
-    let is_told = came == outcome && text.as_str() == want;
-    assert!(rt; is_told, "{packets} reads as {text} and not {want}");
+    let told = read_bytes(rt.alloc(), packets.as_bytes());
+    is_told(rt, packets, &told.expect(rt, packets), outcome, want);
 }
 
 // Each of these texts reads as the lines beside it, with this outcome.

@@ -1,4 +1,9 @@
-//! Setups that the tests share.
+//! Setups that the tests share, and how outcomes and refusals are compared.
+use mm_ask::Outcome;
+use std::alloc::Global;
+use std::fmt::Display;
+use std::process::Abort;
+use std::str;
 
 // A bounded store of four blocks on channel 0, with one route.
 pub(crate) const ONE_STORE: &str =
@@ -7,3 +12,22 @@ pub(crate) const ONE_STORE: &str =
 // The same store, a circular one of two blocks on channel 3, and a route to the first.
 pub(crate) const TWO_STORES: &str =
     "[[store]]\nid = \"SCI\"\nsize = 4\ntype = \"bounded\"\nchannel = 0\n\n[[store]]\nid = \"HK\"\nsize = 2\ntype = \"circular\"\nchannel = 3\n\n[[route]]\napid = 100\nservice = 3\nsubtype = 25\nstore = \"SCI\"\n";
+
+// A call told this outcome and this text.
+pub(crate) fn is_told(
+    rt: &impl Abort,
+    name: &str,
+    told: &(Outcome, Vec<u8>),
+    outcome: Outcome,
+    want: &str,
+) {
+    let text = str::from_utf8(&told.1).expect(rt, name);
+    let is_so = told.0 == outcome && text == want;
+    assert!(rt; is_so, "{name}: {text}");
+}
+
+// A refusal is printed so.
+pub(crate) fn is_shown(rt: &impl Abort, alloc: Global, refusal: &impl Display, text: &str) {
+    let shown = refusal.to_string(alloc).expect(rt, "memory");
+    assert!(rt; shown.as_str() == text, "{shown} and not {text}");
+}

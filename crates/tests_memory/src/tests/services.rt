@@ -1,5 +1,5 @@
 //! The storage service, called with octets.
-use crate::tests::samples::TWO_STORES;
+use crate::tests::samples::{TWO_STORES, is_shown};
 use mm_desk::Fault as StateFault;
 use mm_packet::BLOCK;
 use mm_service::{DONE, Fate, Fault, Given, INSTRUCTIONS, Reported, Service, Tally};
@@ -162,8 +162,7 @@ fn refuses(
     text: &str,
 ) {
     let fault = service.offer(alloc, id, 8, packet).expect_err(rt, text);
-    let shown = fault.to_string(alloc).expect(rt, "memory");
-    assert!(rt; shown.as_str() == text, "{shown} and not {text}");
+    is_shown(rt, alloc, &fault, text);
 }
 
 #[test]

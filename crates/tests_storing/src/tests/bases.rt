@@ -1,4 +1,5 @@
 //! Identifiers, kinds, numbers and lines, and refusals of several types in one text.
+use crate::tests::samples::is_shown;
 use mm_base::numbers::{Numeral, push_number};
 use mm_base::{Fault, Kind, NoMemory, StoreId, lines};
 use std::process::Abort;
@@ -11,14 +12,9 @@ static BAD_TEXTS: [&str; 5] = ["", "sci", "A B", "ABCDEFGHI", "\u{c4}"];
 
 static BAD_FIELDS: [[u8; 8]; 4] = [*b"        ", *b" SCI    ", *b"SC I    ", *b"SCI\0\0\0\0\0"];
 
-fn text_refused(rt: &impl Abort, text: &str) {
-    let refusal = StoreId::of_text(text.as_bytes()).expect_err(rt, text);
-    assert!(rt; refusal == Fault::BadId, "{text}");
-}
-
-fn field_refused(rt: &impl Abort, field: [u8; 8]) {
-    let refusal = StoreId::of_field(field).expect_err(rt, "no identifier");
-    assert!(rt; refusal == Fault::BadId, "{field:?}");
+// What is read is this identifier, or refused so.
+fn is_read(rt: &impl Abort, read: Result<StoreId, Fault>, want: Result<StoreId, Fault>) {
+    assert!(rt; read == want, "{read:?}");
 }
 
 #[test]
@@ -26,23 +22,23 @@ fn identifiers_are_read(rt: HostRuntime) {
     let sci = id(&rt, "SCI");
     assert!(rt; sci.field() == *b"SCI     ");
     assert!(rt; sci.text() == b"SCI".as_slice());
-    assert!(rt; StoreId::of_field(*b"SCI     ").expect(&rt, "an identifier") == sci);
+    is_read(&rt, StoreId::of_field(*b"SCI     "), Ok(sci));
 }
 
 #[test]
 fn identifiers_are_refused(rt: HostRuntime) {
     for text in &BAD_TEXTS {
-        text_refused(&rt, text);
+        is_read(&rt, StoreId::of_text(text.as_bytes()), Err(Fault::BadId));
     }
     for field in &BAD_FIELDS {
-        field_refused(&rt, *field);
+        is_read(&rt, StoreId::of_field(*field), Err(Fault::BadId));
     }
 }
 
 #[test]
 fn kinds_are_read_by_their_codes(rt: HostRuntime) {
-    assert!(rt; Kind::of_code(1).expect(&rt, "a kind") == Kind::Bounded);
-    assert!(rt; Kind::of_code(2).expect_err(&rt, "no kind") == Fault::BadEnum);
+    let kinds = [Kind::of_code(1), Kind::of_code(2)];
+    assert!(rt; kinds == [Ok(Kind::Bounded), Err(Fault::BadEnum)]);
 }
 
 #[test]
@@ -54,17 +50,17 @@ fn refusals_of_several_types_stand_in_one_text(rt: HostRuntime) {
 #[test]
 fn identifiers_are_parsed_and_converted(rt: HostRuntime) {
     let sci = id(&rt, "SCI");
-    assert!(rt; "SCI".parse::<StoreId>() == Ok(sci));
-    assert!(rt; "sci".parse::<StoreId>() == Err(Fault::BadId));
-    assert!(rt; StoreId::try_from(*b"SCI     ") == Ok(sci));
+    is_read(&rt, "SCI".parse::<StoreId>(), Ok(sci));
+    is_read(&rt, "sci".parse::<StoreId>(), Err(Fault::BadId));
+    is_read(&rt, StoreId::try_from(*b"SCI     "), Ok(sci));
 }
 
 #[test]
 fn kinds_are_converted_and_shown(rt: HostRuntime) {
-    assert!(rt; Kind::try_from(0) == Ok(Kind::Circular));
-    assert!(rt; Kind::try_from(2) == Err(Fault::BadEnum));
-    let shown = format!(in rt.alloc(); "{} {}", Kind::Circular, Kind::Bounded);
-    assert!(rt; shown.expect(&rt, "memory").as_str() == "circular bounded");
+    let kinds = [Kind::try_from(0), Kind::try_from(2)];
+    assert!(rt; kinds == [Ok(Kind::Circular), Err(Fault::BadEnum)]);
+    is_shown(&rt, rt.alloc(), &Kind::Circular, "circular");
+    is_shown(&rt, rt.alloc(), &Kind::Bounded, "bounded");
 }
 
 static NUMERALS: [(&str, Numeral); 7] = [
@@ -93,10 +89,7 @@ fn numbers_are_written(rt: HostRuntime) {
 
 #[test]
 fn a_line_ends_at_its_line_feed(rt: HostRuntime) {
-    let Some((line, rest)) = lines::split_line(b"one\ntwo\n") else {
-        panic!(rt; "two lines");
-    };
-    assert!(rt; line == b"one".as_slice());
-    assert!(rt; rest == b"two\n".as_slice());
+    let two = (b"one".as_slice(), b"two\n".as_slice());
+    assert!(rt; lines::split_line(b"one\ntwo\n") == Some(two));
     assert!(rt; lines::split_line(b"one").is_none());
 }

@@ -25,26 +25,41 @@ fn adds(rt: &impl Abort, table: &mut ControlTable, row: RouteRow) {
     assert!(rt; table.add(row) == Ok(()));
 }
 
-// Report types of this APID, service and subtype go into these stores, and their rows lead there.
-fn finds(
-    rt: &impl Abort,
-    alloc: Global,
-    table: &ControlTable,
-    of: (u16, u8, u8),
-    want: &[StoreId],
-) {
-    let (apid, service, subtype) = of;
-    let stores = table.stores_for(alloc, apid, service, subtype);
-    let stores = stores.expect(rt, "memory");
-    assert!(rt; stores.as_slice() == want, "for {apid} {service} {subtype}");
-    let rows = table.rows_for(apid, service, subtype);
-    assert!(rt;
-        rows.len() == want.len(),
-        "rows of {apid} {service} {subtype}"
-    );
-    for (row, id) in rows.iter().zip(want.iter()) {
-        assert!(rt; row.store == *id && row.apid == apid);
+// What it answers where the row is to be deleted.
+fn deletes(rt: &impl Abort, table: &mut ControlTable, row: RouteRow, want: Result<(), Fault>) {
+    assert!(rt; table.delete(row) == want);
+}
+
+// The store has that many rows, which are deleted.
+fn deletes_store(rt: &impl Abort, table: &mut ControlTable, store: &StoreId, count: u32) {
+    assert!(rt; table.delete_store(store) == count);
+}
+
+// A report type by APID, service and subtype.
+type ReportType = (u16, u8, u8);
+
+// The row of this APID leads to this store.
+fn leads(rt: &impl Abort, row: &RouteRow, apid: u16, store: StoreId) {
+    assert!(rt; row.apid == apid);
+    assert!(rt; row.store == store);
+}
+
+// The rows of this report type lead to these stores.
+fn rows_lead(rt: &impl Abort, table: &ControlTable, of: ReportType, want: &[StoreId]) {
+    let rows = table.rows_for(of.0, of.1, of.2);
+    assert!(rt; rows.len() == want.len(), "rows of {of:?}");
+    for (row, id) in rows.iter().zip(want) {
+        leads(rt, row, of.0, *id);
     }
+}
+
+// Reports of this type go into these stores, and their rows lead there.
+fn finds(rt: &impl Abort, alloc: Global, table: &ControlTable, of: ReportType, want: &[StoreId]) {
+    let stores = table
+        .stores_for(alloc, of.0, of.1, of.2)
+        .expect(rt, "memory");
+    assert!(rt; stores.as_slice() == want, "for {of:?}");
+    rows_lead(rt, table, of, want);
 }
 
 fn empty(rt: &impl Abort, alloc: Global) -> ControlTable {
@@ -57,8 +72,12 @@ fn routes_of_setup(rt: HostRuntime) {
     adds(&rt, &mut table, row(&rt, 100, 25, b"SCI"));
     finds(&rt, rt.alloc(), &table, (100, 3, 25), &[store(&rt, b"SCI")]);
     finds(&rt, rt.alloc(), &table, (100, 3, 26), &[]);
-    let absent = row(&rt, 100, 26, b"SCI");
-    assert!(rt; table.delete(absent) == Err(Fault::NoSuchRoute));
+    deletes(
+        &rt,
+        &mut table,
+        row(&rt, 100, 26, b"SCI"),
+        Err(Fault::NoSuchRoute),
+    );
 }
 
 // A table with a row for each of the APIDs below 256.
@@ -70,10 +89,15 @@ fn full(rt: &impl Abort, alloc: Global) -> ControlTable {
     table
 }
 
+// The table has no room for the row.
+fn is_full(rt: &impl Abort, table: &mut ControlTable, row: RouteRow) {
+    assert!(rt; table.add(row) == Err(Fault::TableFull));
+}
+
 #[test]
 fn a_full_table_takes_the_rows_that_it_has(rt: HostRuntime) {
     let mut table = full(&rt, rt.alloc());
-    assert!(rt; table.add(row(&rt, 256, 25, b"SCI")) == Err(Fault::TableFull));
+    is_full(&rt, &mut table, row(&rt, 256, 25, b"SCI"));
     adds(&rt, &mut table, row(&rt, 255, 25, b"SCI"));
     assert!(rt; table.list().len() == 256);
 }
@@ -81,17 +105,19 @@ fn a_full_table_takes_the_rows_that_it_has(rt: HostRuntime) {
 #[test]
 fn a_full_table_has_room_after_a_deletion(rt: HostRuntime) {
     let mut table = full(&rt, rt.alloc());
-    assert!(rt; table.delete(row(&rt, 7, 25, b"SCI")) == Ok(()));
+    deletes(&rt, &mut table, row(&rt, 7, 25, b"SCI"), Ok(()));
     adds(&rt, &mut table, row(&rt, 256, 25, b"SCI"));
+}
+
+fn is_row(rt: &impl Abort, row: RouteRow, want: RouteRow) {
+    assert!(rt; row == want, "{row:?}");
 }
 
 // The table has these rows, by APID, subtype and store, in this order.
 fn lists(rt: &impl Abort, table: &ControlTable, rows: &[(u16, u8, &str)]) {
     assert!(rt; table.list().len() == rows.len());
-    for (place, (apid, subtype, text)) in rows.iter().enumerate() {
-        let listed = table.list().get(place).copied();
-        let want = row(rt, *apid, *subtype, text.as_bytes());
-        assert!(rt; listed == Some(want), "at {place}");
+    for (listed, (apid, subtype, text)) in table.list().iter().zip(rows) {
+        is_row(rt, *listed, row(rt, *apid, *subtype, text.as_bytes()));
     }
 }
 
@@ -134,9 +160,9 @@ fn rows_stand_by_report_type_and_then_by_store(rt: HostRuntime) {
 fn the_rows_of_a_store_are_deleted(rt: HostRuntime) {
     let mut table = filled(&rt, rt.alloc());
     let a = store(&rt, b"A");
-    assert!(rt; table.delete_store(&a) == 2);
+    deletes_store(&rt, &mut table, &a, 2);
     lists(&rt, &table, &WITHOUT_A);
-    assert!(rt; table.delete_store(&a) == 0);
+    deletes_store(&rt, &mut table, &a, 0);
 }
 
 // Report types of this APID go into both stores, and none of those beside it.

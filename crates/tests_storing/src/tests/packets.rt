@@ -2,7 +2,7 @@
 ghost use Rattle.std.specs.Prelude.{◌≡◌, ◌<◌, ◌≤◌, ◌^◌, length};
 ghost use Rattle.mm_packet.specs.declared.header.TheConstants.{IDLE_APID, SEQUENCE_COUNTS};
 
-use crate::tests::samples::{CREATE_STORES, ENABLE, is_shown, packet_of, written};
+use crate::tests::samples::{CREATE_STORES, ENABLE, is_shown, packet_of, writes, written};
 use mm_packet::{
     BlockPacket, Fault, Header, Octets, Packet, PacketType, TELECOMMAND_BODY, TELEMETRY_BODY,
     TooLong, TooSmall, octet_at, u16_at, u32_at, u64_at,
@@ -73,11 +73,6 @@ fn octets_of(rt: &impl Abort, alloc: Global, len: usize) -> Octets
 fn holds(rt: &impl Abort, packet: &Packet, headers: (Header, PacketType), body: &[u8]) {
     assert!(rt; headers_of(packet) == headers);
     assert!(rt; packet.body() == body);
-}
-
-// The packet is written as these octets.
-fn writes(rt: &impl Abort, alloc: Global, packet: &Packet, octets: &[u8]) {
-    assert!(rt; written(rt, alloc, packet).as_slice() == octets);
 }
 
 // The octets are read as one packet with these headers and this data, and that packet is written as the octets.
@@ -174,6 +169,12 @@ fn made_telemetry_is_written(rt: HostRuntime) {
     writes(&rt, rt.alloc(), &packet, &REPORT);
 }
 
+// The packet has this service and this data.
+fn is_of_service(rt: &impl Abort, packet: &Packet, service: u8, body: &[u8]) {
+    assert!(rt; packet.service() == service);
+    assert!(rt; packet.body() == body);
+}
+
 // The first packet of these octets has this service and this data, and this is the rest.
 fn begins_with(
     rt: &impl Abort,
@@ -184,15 +185,14 @@ fn begins_with(
     rest: &[u8],
 ) {
     let (packet, after) = Packet::parse(alloc, octets).expect(rt, "a packet");
-    assert!(rt; packet.service() == service);
-    assert!(rt; packet.body() == body);
+    is_of_service(rt, &packet, service, body);
     assert!(rt; after == rest);
 }
 
 #[test]
 fn what_follows_a_packet_is_the_rest(rt: HostRuntime) {
-    let mut octets = ENABLE.to_vec(rt.alloc()).expect(&rt, "memory");
-    octets.extend_from_slice(&REPORT).expect(&rt, "memory");
+    let octets = [ENABLE.as_slice(), REPORT.as_slice()].concat(rt.alloc());
+    let octets = octets.expect(&rt, "memory");
     begins_with(&rt, rt.alloc(), &octets, 15, &ENABLE[11..], &REPORT);
     begins_with(&rt, rt.alloc(), &REPORT, 3, &[0xAA, 0xBB, 0xCC], &[]);
 }
@@ -271,19 +271,35 @@ fn telemetry(rt: &impl Abort, alloc: Global, header: Header, counter: u16, len: 
     Packet::tm(header, counter, 2, 3, octets_of(rt, alloc, len))
 }
 
+// A block with telemetry of that many octets of data.
+fn block(rt: &impl Abort, alloc: Global, len: usize) -> BlockPacket
+    requires { len ≤ TELEMETRY_BODY }
+{
+    let packet = telemetry(rt, alloc, HIGHEST, 1, len);
+    BlockPacket::of(packet).expect(rt, "a short packet")
+}
+
+fn copy_of(rt: &impl Abort, alloc: Global, block: &BlockPacket) -> BlockPacket {
+    block.copy(alloc).expect(rt, "memory")
+}
+
+// The packet is written as that many octets, which are those.
+fn written_as(rt: &impl Abort, alloc: Global, packet: &Packet, len: usize) -> Vec<u8> {
+    let octets = written(rt, alloc, packet);
+    assert!(rt; octets.len() == len);
+    octets
+}
+
 #[test]
 fn a_packet_of_1024_octets_goes_into_a_block(rt: HostRuntime) {
-    let packet = telemetry(&rt, rt.alloc(), HIGHEST, 1, 1003);
-    let block = BlockPacket::of(packet).expect(&rt, "a short packet");
-    let octets = written(&rt, rt.alloc(), block.packet());
-    assert!(rt; octets.len() == 1024);
-    let copy = block.copy(rt.alloc()).expect(&rt, "memory");
+    let block = block(&rt, rt.alloc(), 1003);
+    let octets = written_as(&rt, rt.alloc(), block.packet(), 1024);
+    let copy = copy_of(&rt, rt.alloc(), &block);
     writes(&rt, rt.alloc(), copy.packet(), &octets);
 }
 
 // The packet is refused as too long for a block, and is this one.
 fn comes_back(rt: &impl Abort, alloc: Global, back: &TooLong, octets: &[u8]) {
-    assert!(rt; octets.len() == 1025);
     writes(rt, alloc, &back.packet, octets);
     is_shown(rt, alloc, back, "8 TooLong");
 }
@@ -291,42 +307,59 @@ fn comes_back(rt: &impl Abort, alloc: Global, back: &TooLong, octets: &[u8]) {
 #[test]
 fn a_packet_of_1025_octets_is_handed_back(rt: HostRuntime) {
     let packet = telemetry(&rt, rt.alloc(), HIGHEST, 1, 1004);
-    let octets = written(&rt, rt.alloc(), &packet);
+    let octets = written_as(&rt, rt.alloc(), &packet, 1025);
     let back = BlockPacket::of(packet).expect_err(&rt, "it is too long");
     comes_back(&rt, rt.alloc(), &back, &octets);
 }
 
-// The packet is equal to another made alike, and to none that differs in one field.
-fn is_only_itself(rt: &impl Abort, alloc: Global, packet: &Packet) {
-    assert!(rt; packet.is(&telemetry(rt, alloc, HIGHEST, 1, 4)));
-    assert!(rt; !packet.is(&telemetry(rt, alloc, LOWEST, 1, 4)));
-    assert!(rt; !packet.is(&telemetry(rt, alloc, HIGHEST, 2, 4)));
-    assert!(rt; !packet.is(&telemetry(rt, alloc, HIGHEST, 1, 5)));
+// Whether it is equal to telemetry with this header and counter, and with that many octets of data.
+fn equals(
+    rt: &impl Abort,
+    alloc: Global,
+    packet: &Packet,
+    header: Header,
+    counter: u16,
+    len: usize,
+) -> bool
+    requires apid { header.apid < IDLE_APID }
+    requires count { header.count < SEQUENCE_COUNTS }
+    requires low { header.low < 2 ^ 4 }
+    requires len { len ≤ TELEMETRY_BODY }
+{
+    packet.is(&telemetry(rt, alloc, header, counter, len))
 }
 
+// The packet is equal to another made alike, and to none that differs in one field.
 #[test]
 fn packets_are_equal_where_each_field_is(rt: HostRuntime) {
     let packet = telemetry(&rt, rt.alloc(), HIGHEST, 1, 4);
-    is_only_itself(&rt, rt.alloc(), &packet);
+    let answers = [
+        equals(&rt, rt.alloc(), &packet, HIGHEST, 1, 4),
+        equals(&rt, rt.alloc(), &packet, LOWEST, 1, 4),
+        equals(&rt, rt.alloc(), &packet, HIGHEST, 2, 4),
+        equals(&rt, rt.alloc(), &packet, HIGHEST, 1, 5),
+    ];
+    assert!(rt; answers == [true, false, false, false]);
     assert!(rt; Header::new(100, 0, 15, 1) == ENABLE_HEADER);
+}
+
+// The block is equal to a copy of it, and not to another one.
+fn is_only_its_copy(rt: &impl Abort, alloc: Global, block: &BlockPacket, other: &BlockPacket) {
+    let answers = [block.is(&copy_of(rt, alloc, block)), block.is(other)];
+    assert!(rt; answers == [true, false]);
 }
 
 #[test]
 fn blocks_are_equal_where_their_packets_are(rt: HostRuntime) {
-    let alloc = rt.alloc();
-    let packet = telemetry(&rt, alloc, HIGHEST, 1, 4);
-    let block = BlockPacket::of(packet).expect(&rt, "a short packet");
-    assert!(rt; block.is(&block.copy(alloc).expect(&rt, "memory")));
-    let longer = telemetry(&rt, alloc, HIGHEST, 1, 5);
-    let other = BlockPacket::of(longer).expect(&rt, "a short packet");
-    assert!(rt; !block.is(&other));
+    let shorter = block(&rt, rt.alloc(), 4);
+    let longer = block(&rt, rt.alloc(), 5);
+    is_only_its_copy(&rt, rt.alloc(), &shorter, &longer);
 }
 
 #[test]
 fn the_longest_telecommand_is_written_and_read(rt: HostRuntime) {
     let data = octets_of(&rt, rt.alloc(), TELECOMMAND_BODY);
-    let octets = written(&rt, rt.alloc(), &Packet::tc(LOWEST, 65535, data));
-    assert!(rt; octets.len() == 65542);
+    let octets = written_as(&rt, rt.alloc(), &Packet::tc(LOWEST, 65535, data), 65542);
     let packet = packet_of(&rt, rt.alloc(), &octets);
     assert!(rt; packet.body().len() == TELECOMMAND_BODY);
 }
@@ -334,8 +367,7 @@ fn the_longest_telecommand_is_written_and_read(rt: HostRuntime) {
 #[test]
 fn the_longest_telemetry_is_written(rt: HostRuntime) {
     let data = octets_of(&rt, rt.alloc(), TELEMETRY_BODY);
-    let octets = written(&rt, rt.alloc(), &Packet::tm(LOWEST, 0, 0, 0, data));
-    assert!(rt; octets.len() == 65542);
+    let _ = written_as(&rt, rt.alloc(), &Packet::tm(LOWEST, 0, 0, 0, data), 65542);
 }
 
 #[test]

@@ -1,7 +1,7 @@
 //! Reports of the storage service as they are read, written and refused.
 ghost use Rattle.mm_st15.specs.Report.{HasCount};
 
-use crate::tests::samples::{CONFIGURATIONS, HK, SCI, STORES, packet_of, written};
+use crate::tests::samples::{CONFIGURATIONS, HK, SCI, STORES, is_fault, packet_of, writes};
 use mm_st15::{Entries, Fault, Report, ReportKind, Row, Status, Summary};
 use std::alloc::Global;
 use std::process::Abort;
@@ -31,13 +31,23 @@ fn is_written(rt: &impl Abort, alloc: Global, report: &Report, octets: &[u8])
     requires { HasCount report.now }
 {
     let packet = report.write(alloc, 100, 0, 0, 0).expect(rt, "memory");
-    assert!(rt; written(rt, alloc, &packet).as_slice() == octets);
+    writes(rt, alloc, &packet, octets);
+}
+
+// The report has this subtype, and the moment 1.
+fn has_subtype(rt: &impl Abort, report: &Report, subtype: u8) {
+    assert!(rt;
+        (report.subtype(), report.moment()) == (subtype, 1),
+        "{report:?}"
+    );
 }
 
 // The report that these octets spell, which is written as them again under APID 100.
 fn report_again(rt: &impl Abort, alloc: Global, octets: &[u8]) -> Report {
-    let report = read_again!(rt, alloc, octets, Report);
-    assert!(rt; report.moment() == 1);
+    let packet = packet_of(rt, alloc, octets);
+    let report = Report::read(alloc, &packet).expect(rt, "a report");
+    has_subtype(rt, &report, packet.subtype());
+    is_written(rt, alloc, &report, octets);
     report
 }
 
@@ -49,8 +59,7 @@ static REPORTS: [(u8, &[u8]); 8] = spelled! {
 #[test]
 fn every_report_is_read_and_written(rt: HostRuntime) {
     for (subtype, octets) in &REPORTS {
-        let report = report_again(&rt, rt.alloc(), octets);
-        assert!(rt; report.subtype() == *subtype, "{report:?}");
+        has_subtype(&rt, &report_again(&rt, rt.alloc(), octets), *subtype);
     }
 }
 
@@ -88,40 +97,38 @@ const STATUS: Status = Status {
     retrieval: 0,
 };
 
-// The report is one of the control of this store, with the two rows.
-fn is_control(rt: &impl Abort, report: &Report) {
+// Whether the report of a kind has the fields above.
+fn has_its_fields(report: &Report) -> bool {
     match report {
-        Report::Control { id, rows, .. } => {
-            assert!(rt; *id == SCI);
-            assert!(rt; rows.as_slice() == ROWS.as_slice());
-        }
-        other => panic!(rt; "{other:?}"),
+        Report::Control { id, rows, .. } => *id == SCI && rows.as_slice() == ROWS.as_slice(),
+        Report::Summaries { entries, .. } => entries.as_slice() == TWO_SUMMARIES.as_slice(),
+        Report::Statuses { entries, .. } => entries.as_slice() == [STATUS].as_slice(),
+        Report::Configurations { entries, .. } => entries.as_slice() == &STORES[..1],
     }
+}
+
+fn is_of_its_fields(rt: &impl Abort, report: &Report) {
+    assert!(rt; has_its_fields(report), "{report:?}");
+}
+
+// The octets spell a report with its fields.
+fn has_fields(rt: &impl Abort, alloc: Global, octets: &[u8]) {
+    is_of_its_fields(rt, &report_again(rt, alloc, octets));
 }
 
 #[test]
 fn rows_of_the_control_have_their_fields(rt: HostRuntime) {
-    is_control(&rt, &report_again(&rt, rt.alloc(), &CONTROL));
+    has_fields(&rt, rt.alloc(), &CONTROL);
 }
 
 #[test]
 fn summaries_have_their_fields(rt: HostRuntime) {
-    match report_again(&rt, rt.alloc(), &SUMMARIES) {
-        Report::Summaries { entries, .. } => {
-            assert!(rt; entries.as_slice() == TWO_SUMMARIES.as_slice());
-        }
-        other => panic!(rt; "{other:?}"),
-    }
+    has_fields(&rt, rt.alloc(), &SUMMARIES);
 }
 
 #[test]
 fn statuses_have_their_fields(rt: HostRuntime) {
-    match report_again(&rt, rt.alloc(), &STATUSES) {
-        Report::Statuses { entries, .. } => {
-            assert!(rt; entries.as_slice() == [STATUS].as_slice());
-        }
-        other => panic!(rt; "{other:?}"),
-    }
+    has_fields(&rt, rt.alloc(), &STATUSES);
 }
 
 #[test]

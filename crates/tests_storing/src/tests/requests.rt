@@ -2,7 +2,7 @@
 ghost use Rattle.mm_st15.specs.Request.{HasCount, kind_of, count_of};
 
 use crate::tests::samples::{
-    CONFIGURATIONS, CREATE_STORES, ENABLE, HK, SCI, STORES, is_shown, packet_of, written,
+    CONFIGURATIONS, CREATE_STORES, ENABLE, HK, SCI, STORES, is_fault, is_shown, packet_of, writes,
 };
 use mm_packet::Packet;
 use mm_st15::{
@@ -51,12 +51,7 @@ fn is_written(rt: &impl Abort, alloc: Global, request: &Request, octets: &[u8])
     requires { HasCount (kind_of request.now) (count_of request.now) }
 {
     let packet = request.write(alloc, 100, 0, 0, 0).expect(rt, "memory");
-    assert!(rt; written(rt, alloc, &packet).as_slice() == octets);
-}
-
-// The request that these octets spell, which is written as them again under APID 100.
-fn request_again(rt: &impl Abort, alloc: Global, octets: &[u8]) -> Request {
-    read_again!(rt, alloc, octets, Request)
+    writes(rt, alloc, &packet, octets);
 }
 
 static REQUESTS: [(u8, &[u8]); 17] = spelled! {
@@ -66,92 +61,95 @@ static REQUESTS: [(u8, &[u8]); 17] = spelled! {
     26 CHANGE_TO_CIRCULAR, 27 CHANGE_TO_BOUNDED, 28 CHANGE_CHANNEL
 };
 
+const REPORT_TYPE: ReportType = ReportType {
+    id: HK,
+    apid: 2046,
+    service: 255,
+    subtype: 0,
+};
+
+const TARGETS: [Target; 2] = [Target { id: SCI }, Target { id: HK }];
+
+const TIMES: TimeRange = TimeRange {
+    id: SCI,
+    from: 1,
+    to: 255,
+};
+
+const LIMIT: TimeLimit = TimeLimit {
+    id: SCI,
+    limit: 255,
+};
+
+const SIZE: Size = Size {
+    id: SCI,
+    size: 1_000_000,
+};
+
+const CHANNEL: Channel = Channel {
+    id: SCI,
+    channel: 5,
+};
+
+// Whether the request of a kind has the instructions above. Those of other kinds are seen where they are written.
+fn has_its_fields(request: &Request) -> bool {
+    match request {
+        Request::DisableStorage(list) => list.as_slice() == TARGETS.as_slice(),
+        Request::DeleteReportTypes(list) => list.as_slice() == [REPORT_TYPE].as_slice(),
+        Request::StartRetrieval(list) => list.as_slice() == [TIMES].as_slice(),
+        Request::DeleteContent(list) => list.as_slice() == [LIMIT].as_slice(),
+        Request::CreateStores(list) => list.as_slice() == STORES.as_slice(),
+        Request::ResizeStores(list) => list.as_slice() == [SIZE].as_slice(),
+        Request::ChangeChannel(list) => list.as_slice() == [CHANNEL].as_slice(),
+        _ => true,
+    }
+}
+
+// The packet and the request that it spells have this subtype, and the request has its instructions.
+fn is_spelled(rt: &impl Abort, packet: &Packet, request: &Request, subtype: u8) {
+    assert!(rt;
+        [packet.subtype(), request.subtype()] == [subtype, subtype],
+        "{request:?}"
+    );
+    assert!(rt; has_its_fields(request), "{request:?}");
+}
+
+// The octets spell a request of this subtype, which is written as them again.
+fn is_read_and_written(rt: &impl Abort, alloc: Global, octets: &[u8], subtype: u8) {
+    let packet = packet_of(rt, alloc, octets);
+    let request = Request::read(alloc, &packet).expect(rt, "a request");
+    is_spelled(rt, &packet, &request, subtype);
+    is_written(rt, alloc, &request, octets);
+}
+
 #[test]
 fn every_request_is_read_and_written(rt: HostRuntime) {
     for (subtype, octets) in &REQUESTS {
-        let request = request_again(&rt, rt.alloc(), octets);
-        assert!(rt; request.subtype() == *subtype, "{request:?}");
-    }
-}
-
-// The instructions of a request, for each of these layouts.
-enum Instructions {
-    DisableStorage(&'static [Target]),
-    DeleteReportTypes(&'static [ReportType]),
-    StartRetrieval(&'static [TimeRange]),
-    DeleteContent(&'static [TimeLimit]),
-    ResizeStores(&'static [Size]),
-    ChangeChannel(&'static [Channel]),
-}
-
-// Whether a request is of this kind, with these instructions.
-macro_rules! is_request {
-    ($request:expr, $kind:ident, $wanted:expr) => {
-        match $request {
-            Request::$kind(list) => list.as_slice() == $wanted,
-            _ => false,
-        }
-    };
-}
-
-// The request is this one.
-fn asks(request: &Request, wanted: &Instructions) -> bool {
-    match wanted {
-        Instructions::DisableStorage(list) => is_request!(request, DisableStorage, *list),
-        Instructions::DeleteReportTypes(list) => is_request!(request, DeleteReportTypes, *list),
-        Instructions::StartRetrieval(list) => is_request!(request, StartRetrieval, *list),
-        Instructions::DeleteContent(list) => is_request!(request, DeleteContent, *list),
-        Instructions::ResizeStores(list) => is_request!(request, ResizeStores, *list),
-        Instructions::ChangeChannel(list) => is_request!(request, ChangeChannel, *list),
-    }
-}
-
-// The octets of requests, each with its instructions.
-macro_rules! instructions {
-    ($($octets:ident => $kind:ident: $($instruction:expr),+;)+) => {
-        [$((&$octets, Instructions::$kind(&[$($instruction),+]))),+]
-    };
-}
-
-static INSTRUCTIONS: [(&[u8], Instructions); 6] = instructions! {
-    DISABLE_STORAGE => DisableStorage: Target { id: SCI }, Target { id: HK };
-    DELETE_REPORT_TYPES => DeleteReportTypes: ReportType { id: HK, apid: 2046, service: 255, subtype: 0 };
-    START_RETRIEVAL => StartRetrieval: TimeRange { id: SCI, from: 1, to: 255 };
-    DELETE_CONTENT => DeleteContent: TimeLimit { id: SCI, limit: 255 };
-    RESIZE_STORES => ResizeStores: Size { id: SCI, size: 1_000_000 };
-    CHANGE_CHANNEL => ChangeChannel: Channel { id: SCI, channel: 5 };
-};
-
-#[test]
-fn instructions_have_their_fields(rt: HostRuntime) {
-    for (octets, wanted) in &INSTRUCTIONS {
-        let request = request_again(&rt, rt.alloc(), octets);
-        assert!(rt; asks(&request, wanted), "{request:?}");
-    }
-}
-
-// The request creates the two stores.
-fn creates_stores(rt: &impl Abort, request: Request) {
-    match request {
-        Request::CreateStores(list) => {
-            assert!(rt; list.as_slice() == STORES.as_slice());
-            assert!(rt; list.into_vec().len() == 2);
-        }
-        other => panic!(rt; "{other:?}"),
+        is_read_and_written(&rt, rt.alloc(), octets, *subtype);
     }
 }
 
 #[test]
-fn create_two_stores(rt: HostRuntime) {
-    creates_stores(&rt, request_again(&rt, rt.alloc(), &CREATE_STORES));
+fn entries_give_their_list_back(rt: HostRuntime) {
+    let list = STORES.to_vec(rt.alloc()).expect(&rt, "memory");
+    let list = Entries::new(list).into_vec();
+    assert!(rt; list.as_slice() == STORES.as_slice());
+}
+
+// The packet that spells a request of this kind under APID 100.
+fn packet_with(rt: &impl Abort, alloc: Global, request: Request, kind: RequestKind) -> Packet
+    requires { HasCount (kind_of request) (count_of request) }
+{
+    assert!(rt; request.kind() == kind);
+    request.write(alloc, 100, 0, 0, 0).expect(rt, "memory")
 }
 
 #[test]
 fn a_made_request_is_written(rt: HostRuntime) {
     let list = STORES.to_vec(rt.alloc()).expect(&rt, "memory");
     let request = Request::CreateStores(Entries::new(list));
-    assert!(rt; request.kind() == RequestKind::CreateStores);
-    is_written(&rt, rt.alloc(), &request, &CREATE_STORES);
+    let packet = packet_with(&rt, rt.alloc(), request, RequestKind::CreateStores);
+    writes(&rt, rt.alloc(), &packet, &CREATE_STORES);
 }
 
 const ALL_TIMES: TimeRange = TimeRange {
@@ -164,7 +162,13 @@ const ALL_TIMES: TimeRange = TimeRange {
 fn most_instructions(rt: &impl Abort, alloc: Global) -> Packet {
     let list = vec![in alloc; ALL_TIMES; 255].expect(rt, "memory");
     let request = Request::StartRetrieval(Entries::new(list));
-    request.write(alloc, 100, 0, 0, 0).expect(rt, "memory")
+    packet_with(rt, alloc, request, RequestKind::StartRetrieval)
+}
+
+// The packet has the octets of a count of 255 and of that many instructions.
+fn is_long(rt: &impl Abort, packet: &Packet) {
+    assert!(rt; packet.body().len() == 6121);
+    assert!(rt; packet.body()[0] == 255);
 }
 
 // The request is that of 255 instructions.
@@ -178,13 +182,17 @@ fn is_of_most_instructions(rt: &impl Abort, request: &Request) {
     }
 }
 
+// The packet spells that request.
+fn has_most_instructions(rt: &impl Abort, alloc: Global, packet: &Packet) {
+    let request = Request::read(alloc, packet).expect(rt, "a request");
+    is_of_most_instructions(rt, &request);
+}
+
 #[test]
 fn the_most_instructions_are_written_and_read(rt: HostRuntime) {
     let packet = most_instructions(&rt, rt.alloc());
-    assert!(rt; packet.body().len() == 6121);
-    assert!(rt; packet.body()[0] == 255);
-    let request = Request::read(rt.alloc(), &packet).expect(&rt, "a request");
-    is_of_most_instructions(&rt, &request);
+    is_long(&rt, &packet);
+    has_most_instructions(&rt, rt.alloc(), &packet);
 }
 
 // The octets are refused as a request with this fault.

@@ -1,6 +1,6 @@
 //! Packets spelled by hand, and how packets and refusals are compared.
 use mm_packet::Packet;
-use mm_st15::Configuration;
+use mm_st15::{Configuration, Fault};
 use std::alloc::Global;
 use std::fmt::Display;
 use std::process::Abort;
@@ -46,6 +46,16 @@ pub fn packet_of(rt: &impl Abort, alloc: Global, octets: &[u8]) -> Packet {
 /// The octets of a packet.
 pub fn written(rt: &impl Abort, alloc: Global, packet: &Packet) -> Vec<u8> {
     packet.write(alloc).expect(rt, "memory")
+}
+
+/// The packet is written as these octets.
+pub fn writes(rt: &impl Abort, alloc: Global, packet: &Packet, octets: &[u8]) {
+    assert!(rt; written(rt, alloc, packet).as_slice() == octets);
+}
+
+/// The refusal is this one.
+pub fn is_fault(rt: &impl Abort, refusal: Fault, want: Fault) {
+    assert!(rt; refusal == want, "{refusal} and not {want}");
 }
 
 /// It is printed so.

@@ -27,7 +27,7 @@ enum Call {
 }
 
 // What a store answers.
-#[derive(Clone, Copy, Debug, PartialEq)]
+#[derive(Clone, Copy, PartialEq)]
 enum Told {
     Kept(u64),
     KeptOver(u64, u16),
@@ -94,8 +94,12 @@ fn answer_to<S: PacketStore>(rt: &impl Abort, alloc: Global, store: &mut S, call
 fn run<S: PacketStore>(rt: &impl Abort, alloc: Global, store: &mut S, steps: &[Step]) {
     for (place, (call, wanted)) in steps.iter().enumerate() {
         let told = answer_to(rt, alloc, store, *call);
-        assert!(rt; told == *wanted, "at the call {place}: {told:?}");
+        assert!(rt; told == *wanted, "at the call {place}");
     }
+}
+
+fn is_of_kind(rt: &impl Abort, store: &AnyStore, kind: Kind) {
+    assert!(rt; store.kind() == kind);
 }
 
 // Makes these calls, and then the others.
@@ -110,13 +114,31 @@ fn run_both<S: PacketStore>(
     run(rt, alloc, store, others);
 }
 
+// Makes the calls on a new ring.
+fn on_ring(rt: &impl Abort, alloc: Global, size: u32, steps: &[Step], others: &[Step])
+    requires lowest { 1 ≤ size }
+    requires highest { size ≤ MAX_BLOCKS }
+{
+    let mut store = RingStore::new(alloc, size).expect(rt, "memory");
+    run_both(rt, alloc, &mut store, steps, others);
+}
+
+// Makes the calls on a new table of blocks.
+fn on_table(rt: &impl Abort, alloc: Global, size: u32, steps: &[Step], others: &[Step])
+    requires lowest { 1 ≤ size }
+    requires highest { size ≤ MAX_BLOCKS }
+{
+    let mut store = BlockStore::new(alloc, size).expect(rt, "memory");
+    run_both(rt, alloc, &mut store, steps, others);
+}
+
 // Makes the calls on a new store of this kind.
 fn on_any(rt: &impl Abort, alloc: Global, kind: Kind, size: u32, steps: &[Step], others: &[Step])
     requires lowest { 1 ≤ size }
     requires highest { size ≤ MAX_BLOCKS }
 {
     let mut store = AnyStore::new(alloc, kind, size).expect(rt, "memory");
-    assert!(rt; store.kind() == kind);
+    is_of_kind(rt, &store, kind);
     run_both(rt, alloc, &mut store, steps, others);
 }
 
@@ -132,10 +154,8 @@ fn on_each_type(
     requires lowest { 1 ≤ size }
     requires highest { size ≤ MAX_BLOCKS }
 {
-    let mut ring = RingStore::new(alloc, size).expect(rt, "memory");
-    run_both(rt, alloc, &mut ring, all, circular);
-    let mut blocks = BlockStore::new(alloc, size).expect(rt, "memory");
-    run_both(rt, alloc, &mut blocks, all, bounded);
+    on_ring(rt, alloc, size, all, circular);
+    on_table(rt, alloc, size, all, bounded);
     on_any(rt, alloc, Kind::Circular, size, all, circular);
     on_any(rt, alloc, Kind::Bounded, size, all, bounded);
 }
@@ -265,7 +285,7 @@ fn two_held(rt: &impl Abort, alloc: Global, kind: Kind) -> AnyStore {
 // The store becomes one of this kind, and holds the same.
 fn changes_kind(rt: &impl Abort, alloc: Global, store: &mut AnyStore, kind: Kind) {
     store.change_kind(kind).expect(rt, "memory");
-    assert!(rt; store.kind() == kind);
+    is_of_kind(rt, store, kind);
     run(rt, alloc, store, &TWO_HELD);
 }
 
@@ -275,32 +295,48 @@ fn keeps_its_size(rt: &impl Abort, alloc: Global, store: &mut AnyStore) {
     run(rt, alloc, store, &TWO_HELD);
 }
 
-// A store of two packets that changes its kind and its size: what it answers when it is full, and then when it has room.
+// The store becomes one of this kind, and larger: what it answers when it is full, and then when it has room.
 fn changes(
     rt: &impl Abort,
     alloc: Global,
-    kinds: (Kind, Kind),
+    store: &mut AnyStore,
+    kind: Kind,
     when_full: &[Step],
     with_room: &[Step],
 ) {
-    let mut store = two_held(rt, alloc, kinds.0);
-    changes_kind(rt, alloc, &mut store, kinds.1);
-    keeps_its_size(rt, alloc, &mut store);
-    run(rt, alloc, &mut store, when_full);
+    changes_kind(rt, alloc, store, kind);
+    keeps_its_size(rt, alloc, store);
+    run(rt, alloc, store, when_full);
     store.resize(3).expect(rt, "memory");
-    run(rt, alloc, &mut store, with_room);
+    run(rt, alloc, store, with_room);
 }
 
 #[test]
 fn a_circular_store_becomes_a_bounded_one_and_larger(rt: HostRuntime) {
-    let kinds = (Kind::Circular, Kind::Bounded);
-    changes(&rt, rt.alloc(), kinds, &FULL_TABLE, &ROOM_OF_A_TABLE);
+    let mut store = two_held(&rt, rt.alloc(), Kind::Circular);
+    let (when_full, with_room) = (&FULL_TABLE, &ROOM_OF_A_TABLE);
+    changes(
+        &rt,
+        rt.alloc(),
+        &mut store,
+        Kind::Bounded,
+        when_full,
+        with_room,
+    );
 }
 
 #[test]
 fn a_bounded_store_becomes_a_circular_one_and_larger(rt: HostRuntime) {
-    let kinds = (Kind::Bounded, Kind::Circular);
-    changes(&rt, rt.alloc(), kinds, &FULL_RING, &ROOM_OF_A_RING);
+    let mut store = two_held(&rt, rt.alloc(), Kind::Bounded);
+    let (when_full, with_room) = (&FULL_RING, &ROOM_OF_A_RING);
+    changes(
+        &rt,
+        rt.alloc(),
+        &mut store,
+        Kind::Circular,
+        when_full,
+        with_room,
+    );
 }
 
 static ONE_PUT: [Step; 1] = [(PutAt(1, 1), Kept(1))];
@@ -338,12 +374,20 @@ fn stored(rt: &impl Abort, alloc: Global, time: u64, count: u16) -> Stored {
     Stored { time, packet }
 }
 
+// Whether it is equal to the packet with this time and this sequence count.
+fn equals(rt: &impl Abort, alloc: Global, one: &Stored, time: u64, count: u16) -> bool {
+    one.is(&stored(rt, alloc, time, count))
+}
+
 #[test]
 fn stored_packets_are_equal_with_their_times(rt: HostRuntime) {
     let one = stored(&rt, rt.alloc(), 7, 1);
-    assert!(rt; one.is(&stored(&rt, rt.alloc(), 7, 1)));
-    assert!(rt; !one.is(&stored(&rt, rt.alloc(), 8, 1)));
-    assert!(rt; !one.is(&stored(&rt, rt.alloc(), 7, 2)));
+    let answers = [
+        equals(&rt, rt.alloc(), &one, 7, 1),
+        equals(&rt, rt.alloc(), &one, 8, 1),
+        equals(&rt, rt.alloc(), &one, 7, 2),
+    ];
+    assert!(rt; answers == [true, false, false]);
 }
 
 #[test]

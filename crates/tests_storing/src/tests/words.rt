@@ -1,4 +1,5 @@
 //! Each refusal as it is printed, and its words.
+use crate::tests::samples::is_shown;
 use mm_base::Refusal;
 use mm_cut::Verdict;
 use mm_told::Words;
@@ -67,17 +68,16 @@ static ALL: [(Refusal, &str); 54] = refusals! {
     ChannelDiffers => "53 ChannelDiffers";
 };
 
-// A refusal is printed so, with its place in the table for its number.
-fn is_printed(rt: &impl Abort, number: usize, refusal: Refusal, shown: &str, text: &str) {
-    assert!(rt; usize::from(refusal.number()) == number, "{text}");
-    assert!(rt; shown == text, "{shown} in place of {text}");
+// The refusal has its place in the table for its number.
+fn is_numbered(rt: &impl Abort, number: usize, refusal: Refusal) {
+    assert!(rt; usize::from(refusal.number()) == number, "{refusal}");
 }
 
 #[test]
 fn refusals_are_printed_with_number_and_name(rt: HostRuntime) {
     for (number, (refusal, text)) in ALL.iter().enumerate() {
-        let shown = refusal.to_string(rt.alloc()).expect(&rt, "memory");
-        is_printed(&rt, number, *refusal, shown.as_str(), text);
+        is_numbered(&rt, number, *refusal);
+        is_shown(&rt, rt.alloc(), refusal, text);
     }
 }
 
@@ -85,35 +85,48 @@ fn has_no_full_stop(rt: &impl Abort, text: &str) {
     assert!(rt; !text.as_bytes().ends_with(b"."), "{text}");
 }
 
+fn have_no_full_stop(rt: &impl Abort, words: Words) {
+    has_no_full_stop(rt, words.expected);
+    has_no_full_stop(rt, words.advice);
+}
+
 #[test]
 fn each_refusal_has_words_without_a_full_stop(rt: HostRuntime) {
     for (refusal, _text) in &ALL {
-        let words = Words::of(*refusal);
-        has_no_full_stop(&rt, words.expected);
-        has_no_full_stop(&rt, words.advice);
+        have_no_full_stop(&rt, Words::of(*refusal));
     }
 }
 
 // Two refusals have words of their own.
-fn differ(rt: &impl Abort, words: Words, others: Words, text: &str) {
-    assert!(rt; words.expected != others.expected, "{text}");
-    assert!(rt; words.advice != others.advice, "{text}");
+fn differ(rt: &impl Abort, words: Words, others: Words) {
+    assert!(rt; words.expected != others.expected, "{words}");
+    assert!(rt; words.advice != others.advice, "{words}");
 }
 
-#[test]
-fn no_two_refusals_have_the_same_words(rt: HostRuntime) {
-    for (i, (one, text)) in ALL.iter().enumerate() {
-        for (other, _text) in &ALL[..i] {
-            differ(&rt, Words::of(*one), Words::of(*other), text);
-        }
+// None of these refusals has the words.
+fn are_of_none(rt: &impl Abort, words: Words, refusals: &[(Refusal, &str)]) {
+    for (refusal, _text) in refusals {
+        differ(rt, words, Words::of(*refusal));
     }
 }
 
 #[test]
+fn no_two_refusals_have_the_same_words(rt: HostRuntime) {
+    for (i, (refusal, _text)) in ALL.iter().enumerate() {
+        are_of_none(&rt, Words::of(*refusal), &ALL[..i]);
+    }
+}
+
+// The words of this number are those of the refusal.
+fn is_found(rt: &impl Abort, number: u8, refusal: Refusal) {
+    let words = Words::of_number(number);
+    assert!(rt; words == Some(Words::of(refusal)), "{refusal}");
+}
+
+#[test]
 fn refusals_are_found_by_their_numbers(rt: HostRuntime) {
-    for (refusal, text) in &ALL {
-        let is_found = Words::of_number(refusal.number()) == Some(Words::of(*refusal));
-        assert!(rt; is_found, "{text}");
+    for (refusal, _text) in &ALL {
+        is_found(&rt, refusal.number(), *refusal);
     }
     assert!(rt; Words::of_number(54).is_none(), "a number of no refusal");
 }
@@ -127,20 +140,23 @@ static FINDINGS: [Verdict; 6] = [
     Verdict::NotShown { loss: 6, bound: 5 },
 ];
 
+fn words_of(rt: &impl Abort, verdict: Verdict) -> Words {
+    Words::of_verdict(verdict).expect(rt, "words")
+}
+
+// None of these findings has the words.
+fn are_of_no_finding(rt: &impl Abort, words: Words, findings: &[Verdict]) {
+    for verdict in findings {
+        differ(rt, words, words_of(rt, *verdict));
+    }
+}
+
 #[test]
 fn findings_have_words_of_their_own(rt: HostRuntime) {
     for (i, verdict) in FINDINGS.iter().enumerate() {
-        let one = Words::of_verdict(*verdict).expect(&rt, "words");
-        has_no_full_stop(&rt, one.expected);
-        has_no_full_stop(&rt, one.advice);
-        for other in &FINDINGS[..i] {
-            differ(
-                &rt,
-                one,
-                Words::of_verdict(*other).expect(&rt, "words"),
-                "two findings",
-            );
-        }
+        let words = words_of(&rt, *verdict);
+        have_no_full_stop(&rt, words);
+        are_of_no_finding(&rt, words, &FINDINGS[..i]);
     }
     assert!(rt;
         Words::of_verdict(Verdict::Least(1)).is_none(),
@@ -159,9 +175,6 @@ static SHOWN: [(Refusal, &str); 3] = refusals! {
 #[test]
 fn words_are_shown_in_one_line(rt: HostRuntime) {
     for (refusal, text) in &SHOWN {
-        let shown = Words::of(*refusal)
-            .to_string(rt.alloc())
-            .expect(&rt, "memory");
-        assert!(rt; shown.as_str() == *text, "{refusal}");
+        is_shown(&rt, rt.alloc(), &Words::of(*refusal), text);
     }
 }

@@ -1,6 +1,6 @@
 //! Conversations of empty lines, and a refused setup.
 use super::{ENABLE, Talk, each_answers};
-use crate::tests::samples::ONE_STORE;
+use crate::tests::samples::is_shown;
 use mm_ask::{Fault, Outcome, ask_bytes};
 use std::alloc::AllocGlobal;
 use std::process::Abort;
@@ -20,13 +20,10 @@ fn empty_lines_are_counted(rt: HostRuntime) {
 
 // A setup is refused so, whatever is asked.
 fn refuses_setup<R: Abort + AllocGlobal>(rt: &R, setup: &[u8], want: Fault, printed: &str) {
-    match ask_bytes(rt.alloc(), setup, ENABLE.as_bytes()) {
-        Ok(_) => assert!(rt; false, "the setup is taken"),
-        Err(fault) => {
-            let text = fault.to_string(rt.alloc()).expect(rt, "its text");
-            assert!(rt; fault == want && text.as_str() == printed, "{text}");
-        }
-    }
+    let told = ask_bytes(rt.alloc(), setup, ENABLE.as_bytes());
+    let fault = told.expect_err(rt, "a refusal");
+    assert!(rt; fault == want, "{fault}");
+    is_shown(rt, rt.alloc(), &fault, printed);
 }
 
 // Where the setup is refused, nothing is asked.

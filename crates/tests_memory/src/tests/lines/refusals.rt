@@ -1,5 +1,6 @@
 //! Requests that are refused whole.
 use super::{ENABLE, Talk, answers, each_answers};
+use crate::tests::samples::is_shown;
 use mm_ask::{LineFault, Outcome};
 use std::alloc::AllocGlobal;
 use std::process::Abort;
@@ -53,8 +54,5 @@ fn each_proper_prefix_of_a_packet_is_short(rt: HostRuntime) {
 
 #[test]
 fn the_refusal_of_a_line_is_shown_as_it_is_printed(rt: HostRuntime) {
-    let shown = LineFault::HexLine
-        .to_string(rt.alloc())
-        .expect(&rt, "its text");
-    assert!(rt; shown.as_str() == "49 HexLine");
+    is_shown(&rt, rt.alloc(), &LineFault::HexLine, "49 HexLine");
 }

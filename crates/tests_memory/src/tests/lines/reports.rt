@@ -1,6 +1,6 @@
 //! Reports, to the octet, and their numbers.
 use super::{CONFIGURATIONS, Talk, each_answers};
-use mm_ask::{Counters, Numbers, Outcome, request_of};
+use mm_ask::{Asked, Counters, Numbers, Outcome, request_of};
 use mm_st15::ReportKind;
 use std::process::Abort;
 
@@ -107,8 +107,14 @@ fn counters_begin_again(rt: HostRuntime) {
     numbered(&rt, &mut counters, ReportKind::Statuses, 0, 0);
 }
 
+// The line asks for this subtype, from this APID.
+fn asks_for(rt: &impl Abort, asked: &Asked, subtype: u8, apid: u16) {
+    assert!(rt; asked.request.subtype() == subtype);
+    assert!(rt; asked.packet.apid() == apid);
+}
+
 #[test]
 fn a_line_s_request(rt: HostRuntime) {
     let asked = request_of(rt.alloc(), CONFIGURATIONS.as_bytes()).expect(&rt, "a request");
-    assert!(rt; asked.request.subtype() == 22 && asked.packet.apid() == 100);
+    asks_for(&rt, &asked, 22, 100);
 }

@@ -4,6 +4,8 @@ use super::{
 };
 use crate::tests::samples::TWO_STORES;
 use mm_base::Kind;
+use std::alloc::Global;
+use std::process::Abort;
 
 // The stores SCI (bounded, of four blocks) and HK (circular, of two) hold packets at the times 7 and 8.
 pub(super) static TWO_PACKETS_EACH: Play = Play {
@@ -48,10 +50,15 @@ static PLAYS: [Play; 3] = plays! {
     }
 };
 
+// The steps of a play, on stores that hold two packets each.
+fn holds_and_takes(rt: &impl Abort, alloc: Global, play: &Play) {
+    let mut memory = played(rt, alloc, &TWO_PACKETS_EACH);
+    takes_all(rt, alloc, &mut memory, play);
+}
+
 #[test]
 fn requests_on_stores_that_hold_packets(rt: HostRuntime) {
     for play in &PLAYS {
-        let mut memory = played(&rt, rt.alloc(), &TWO_PACKETS_EACH);
-        takes_all(&rt, rt.alloc(), &mut memory, play);
+        holds_and_takes(&rt, rt.alloc(), play);
     }
 }

@@ -59,12 +59,18 @@ struct Case {
     want: Answer,
 }
 
+// The data of a request with one instruction.
+fn data_of(rt: &impl Abort, alloc: Global, case: &Case) -> Vec<u8> {
+    let mut data = [1].to_vec(alloc).expect(rt, "memory");
+    data.extend_from_slice(&case.id).expect(rt, "memory");
+    data.extend_from_slice(case.fields).expect(rt, "memory");
+    data
+}
+
 // Asks for each by itself, and compares the answers.
 fn asks_each(rt: &impl Abort, alloc: Global, memory: &mut Memory, name: &str, cases: &[Case]) {
     for case in cases {
-        let mut data = [1].to_vec(alloc).expect(rt, "memory");
-        data.extend_from_slice(&case.id).expect(rt, "memory");
-        data.extend_from_slice(case.fields).expect(rt, "memory");
+        let data = data_of(rt, alloc, case);
         asks(rt, alloc, memory, name, (case.subtype, &data), &[case.want]);
     }
 }
@@ -104,21 +110,19 @@ static SIXTEEN: [Case; 6] = cases! {
     NO_SUCH_STORE: 1 NONE b"";
 };
 
+// A store more, with this letter for its identifier.
+fn creates(rt: &impl Abort, alloc: Global, memory: &mut Memory, letter: u8) {
+    let mut data = *b"\x01        \x00\x00\x00\x04\x01\x00";
+    data[1] = letter;
+    asks(rt, alloc, memory, "a store more", (20, &data), &[DONE]);
+}
+
 #[test]
 fn the_first_refusal_where_there_are_sixteen_stores(rt: HostRuntime) {
     let alloc = rt.alloc();
     let mut memory = memory_of(&rt, alloc, ONE_STORE);
     for letter in b"ABCDEFGHIJKLMNO" {
-        let mut data = *b"\x01        \x00\x00\x00\x04\x01\x00";
-        data[1] = *letter;
-        asks(
-            &rt,
-            alloc,
-            &mut memory,
-            "a store more",
-            (20, &data),
-            &[DONE],
-        );
+        creates(&rt, alloc, &mut memory, *letter);
     }
     stands(&rt, "the last", &memory, 15, &id(&rt, b"O"), 0);
     asks_each(&rt, alloc, &mut memory, "sixteen stores", &SIXTEEN);
@@ -135,14 +139,19 @@ static FULL_TABLE: [Case; 6] = cases! {
     NO_SUCH_ROUTE: 4 SCI OTHER_TYPE;
 };
 
+// A route more, of the APID 256 and that many.
+fn routes(rt: &impl Abort, alloc: Global, memory: &mut Memory, apid: u8) {
+    let mut data = *b"\x01SCI     \x01\x00\x03\x19";
+    data[10] = apid;
+    asks(rt, alloc, memory, "a route more", (3, &data), &[DONE]);
+}
+
 #[test]
 fn the_first_refusal_of_a_full_table(rt: HostRuntime) {
     let alloc = rt.alloc();
     let mut memory = memory_of(&rt, alloc, ONE_STORE);
     for apid in 0..255u8 {
-        let mut data = *b"\x01SCI     \x01\x00\x03\x19";
-        data[10] = apid;
-        asks(&rt, alloc, &mut memory, "a route more", (3, &data), &[DONE]);
+        routes(&rt, alloc, &mut memory, apid);
     }
     has_counts(&rt, "a full table", &memory, 1, 256);
     asks_each(&rt, alloc, &mut memory, "a full table", &FULL_TABLE);

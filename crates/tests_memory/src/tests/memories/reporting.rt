@@ -1,6 +1,8 @@
 //! The reports that answer requests.
 use super::holding::TWO_PACKETS_EACH;
-use super::{BAD_ID, DONE, NO_SUCH_STORE, Play, STORAGE_ON, Step, asked, memory_of, played};
+use super::{
+    BAD_ID, DONE, NO_SUCH_STORE, Play, STORAGE_ON, Step, are_answers, asked, memory_of, played,
+};
 use crate::tests::samples::{ONE_STORE, TWO_STORES};
 use mm_memory::{Answer, Memory};
 use mm_st15::{Configuration, Report, Row as ReportType, Status, Summary};
@@ -22,9 +24,14 @@ fn reported(
 ) -> Report {
     let (now, subtype, data) = request;
     let mut answers = asked(rt, alloc, memory, now, subtype, data);
-    let is_answered = answers.each.as_slice() == want && answers.reports.len() == 1;
-    assert!(rt; is_answered, "{subtype} {data:?}");
+    are_answers(rt, "reported", (subtype, data), &answers, want, 1);
     answers.reports.pop().expect(rt, "a report")
+}
+
+// The report that a request without instructions has after a play: the moment and the subtype.
+fn reported_after(rt: &impl Abort, alloc: Global, play: &Play, now: u64, subtype: u8) -> Report {
+    let mut memory = played(rt, alloc, play);
+    reported(rt, alloc, &mut memory, (now, subtype, &[]), &[])
 }
 
 // Whether a report is of this kind and moment, with these entries.
@@ -54,6 +61,18 @@ fn summarises(rt: &impl Abort, report: &Report, want: &[Summary]) {
     assert!(rt; is_told, "a summary");
 }
 
+// The one report that a request has beside these answers is on the contents of these stores.
+fn summarised(
+    rt: &impl Abort,
+    alloc: Global,
+    memory: &mut Memory,
+    request: (u64, u8, &[u8]),
+    answers: &[Answer],
+    want: &[Summary],
+) {
+    summarises(rt, &reported(rt, alloc, memory, request, answers), want);
+}
+
 const ROUTE: ReportType = ReportType {
     apid: 100,
     service: 3,
@@ -76,11 +95,10 @@ fn reports_one_route(rt: &impl Abort, report: &Report) {
 fn reports_on_the_stores_that_are_there(rt: HostRuntime) {
     let alloc = rt.alloc();
     let mut memory = memory_of(&rt, alloc, TWO_STORES);
-    let one = reported(&rt, alloc, &mut memory, (9, 12, THREE), &THREE_ANSWERS);
-    summarises(&rt, &one, &EMPTY);
+    let request = (9, 12, THREE);
+    summarised(&rt, alloc, &mut memory, request, &THREE_ANSWERS, &EMPTY);
     let request = (9, 12, b"\x01NONE    ".as_slice());
-    let none = reported(&rt, alloc, &mut memory, request, &[NO_SUCH_STORE]);
-    summarises(&rt, &none, &[]);
+    summarised(&rt, alloc, &mut memory, request, &[NO_SUCH_STORE], &[]);
     let control = reported(&rt, alloc, &mut memory, (9, 5, THREE), &THREE_ANSWERS);
     reports_one_route(&rt, &control);
 }
@@ -89,8 +107,14 @@ fn reports_on_the_stores_that_are_there(rt: HostRuntime) {
 fn summaries_of_stores_with_packets(rt: HostRuntime) {
     let mut memory = played(&rt, rt.alloc(), &TWO_PACKETS_EACH);
     let request = (9, 12, b"\x02HK      SCI     ".as_slice());
-    let report = reported(&rt, rt.alloc(), &mut memory, request, &[DONE, DONE]);
-    summarises(&rt, &report, &TWO_EACH);
+    summarised(
+        &rt,
+        rt.alloc(),
+        &mut memory,
+        request,
+        &[DONE, DONE],
+        &TWO_EACH,
+    );
 }
 
 // A store for each pair of statuses.
@@ -121,9 +145,7 @@ fn reports_statuses(rt: &impl Abort, report: &Report, want: &[Status]) {
 #[test]
 fn status_report(rt: HostRuntime) {
     for play in &STATUSES {
-        let mut memory = played(&rt, rt.alloc(), play);
-        let request = (9, 18, b"".as_slice());
-        let report = reported(&rt, rt.alloc(), &mut memory, request, &[]);
+        let report = reported_after(&rt, rt.alloc(), play, 9, 18);
         reports_statuses(&rt, &report, &PAIRS);
     }
 }
@@ -154,9 +176,7 @@ static CHANNELS: [(u64, u8); 2] = [(1, 0), (4, 5)];
 #[test]
 fn channel_of_a_store_changed(rt: HostRuntime) {
     for (play, (moment, channel)) in CHANGES.iter().zip(&CHANNELS) {
-        let mut memory = played(&rt, rt.alloc(), play);
-        let request = (*moment, 22, b"".as_slice());
-        let report = reported(&rt, rt.alloc(), &mut memory, request, &[]);
+        let report = reported_after(&rt, rt.alloc(), play, *moment, 22);
         configures(&rt, &report, *moment, *channel);
     }
 }

@@ -1,7 +1,7 @@
 //! A store as a plain list, and calls with its answers to them.
 use super::Call::{DeleteUpTo, FirstIn, PutAt};
 use super::Told::{Deleted, First, Kept, KeptOver, Lost, Nothing};
-use super::{LAST, Step, Told};
+use super::{Call, LAST, Step, Told};
 use mm_base::Kind;
 use std::alloc::Global;
 use std::process::Abort;
@@ -50,14 +50,15 @@ impl PlainStore {
     fn list(&self, rt: &impl Abort, steps: &mut Vec<Step>) {
         let mut after = 0;
         for held in &self.held {
-            let step = (FirstIn(0, LAST, after), First(held.0, held.1));
-            steps.push(step).expect(rt, "memory");
+            add(rt, steps, FirstIn(0, LAST, after), First(held.0, held.1));
             after = held.0;
         }
-        steps
-            .push((FirstIn(0, LAST, after), Nothing))
-            .expect(rt, "memory");
+        add(rt, steps, FirstIn(0, LAST, after), Nothing);
     }
+}
+
+fn add(rt: &impl Abort, steps: &mut Vec<Step>, call: Call, answer: Told) {
+    steps.push((call, answer)).expect(rt, "memory");
 }
 
 // Adds the call that this number draws, and look-ups after it.
@@ -65,15 +66,14 @@ fn draw(rt: &impl Abort, plain: &mut PlainStore, steps: &mut Vec<Step>, drawn: u
     let shift = (drawn >> 40) % 9;
     let now = plain.last.saturating_add(shift);
     let limit = now.saturating_sub(12);
-    let step = if drawn >> 61 == 0 {
-        (DeleteUpTo(limit), plain.delete_up_to(limit))
+    if drawn >> 61 == 0 {
+        add(rt, steps, DeleteUpTo(limit), plain.delete_up_to(limit));
     } else {
-        (PutAt(now, count), plain.put(rt, now, count))
-    };
-    steps.push(step).expect(rt, "memory");
+        add(rt, steps, PutAt(now, count), plain.put(rt, now, count));
+    }
     let (from, after) = (now.saturating_sub(15), now.saturating_sub(3 * shift));
-    let step = (FirstIn(from, now, after), plain.first_in(from, now, after));
-    steps.push(step).expect(rt, "memory");
+    let found = plain.first_in(from, now, after);
+    add(rt, steps, FirstIn(from, now, after), found);
     plain.list(rt, steps);
 }
 
