@@ -31,12 +31,21 @@ const BEFORE: [Counts; 2] = [(3, 0), (2, 0)];
 
 const AFTER: [Counts; 2] = [(1, 2), (0, 2)];
 
+// Whether a store has taken a packet of this sequence count.
+fn has_taken(alloc: Global, state: &mut StoreState, count: u16) -> bool {
+    match packet(alloc, count) {
+        Ok(packet) => state.offer(7, packet).is_ok(),
+        Err(_) => false,
+    }
+}
+
 // A store that holds the packets of these sequence counts, where there is memory for them.
 fn state_with(alloc: Global, counts: &[u16]) -> Option<StoreState> {
     let mut state = new_state(alloc).ok()?;
     for count in counts {
-        let packet = packet(alloc, *count).ok()?;
-        state.offer(7, packet).ok()?;
+        if !has_taken(alloc, &mut state, *count) {
+            return None;
+        }
     }
     Some(state)
 }

@@ -6,7 +6,7 @@ use crate::requests::memory_of_text;
 use crate::traces::{Traces, traces_of};
 use mm_base::StoreId;
 use mm_dump::may_fail;
-use mm_exec::{Cause, Flown, FlyHalted, Halted, RunEnd, carry_out, fly};
+use mm_exec::{Cause, Flown, FlyHalted, FlyResult, Halted, RunEnd, carry_out, fly};
 use mm_memory::Memory;
 use mm_plan::Sheet;
 use mm_problem::{Problem, Setup};
@@ -335,6 +335,18 @@ fn not_flown(alloc: Global, memory: &Memory, end: &mut FlyHalted<ScriptedSource,
     met.provided(end.sheet.as_slice() == PLAN, "another plan")
 }
 
+// What came of a run that was planned and carried out, or halted.
+fn landed(
+    alloc: Global,
+    memory: &Memory,
+    end: &mut FlyResult<ScriptedSource, TestLink>,
+) -> Met {
+    match end {
+        Ok(end) => flown(alloc, memory, end),
+        Err(end) => not_flown(alloc, memory, end),
+    }
+}
+
 // What came of a run that begins with its plan.
 fn flown_on<R: Threads + Wait + Sync>(rt: &R, alloc: Global, stage: Stage) -> Met {
     let Stage {
@@ -345,10 +357,8 @@ fn flown_on<R: Threads + Wait + Sync>(rt: &R, alloc: Global, stage: Stage) -> Me
     if !may_fail(&links) {
         return Met::Unready;
     }
-    match &mut fly(rt, alloc, &mut memory, &problem, sources, links, 0) {
-        Ok(end) => flown(alloc, &memory, end),
-        Err(end) => not_flown(alloc, &memory, end),
-    }
+    let mut end = fly(rt, alloc, &mut memory, &problem, sources, links, 0);
+    landed(alloc, &memory, &mut end)
 }
 
 /// What came of a run that begins with its plan, where what comes is what is forecast.
