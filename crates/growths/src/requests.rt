@@ -219,13 +219,20 @@ fn carried_out(alloc: Global, memory: &mut Memory, step: &Step) -> Option<Met> {
 }
 
 // What the steps come to; nothing where there was no memory to ask.
-fn all_carried_out(alloc: Global, setup: &[u8], steps: &[Step]) -> Option<Met> {
-    let mut memory = memory_of_text(alloc, setup)?;
+fn all_carried_out(alloc: Global, memory: &mut Memory, steps: &[Step]) -> Option<Met> {
     let mut met = Met::Whole;
     for step in steps {
-        met = met.and(carried_out(alloc, &mut memory, step)?);
+        met = met.and(carried_out(alloc, memory, step)?);
     }
     Some(met)
+}
+
+// What the steps come to on the memory of a setup with this text.
+fn carried_out_on(alloc: Global, setup: &[u8], steps: &[Step]) -> Met {
+    match memory_of_text(alloc, setup) {
+        Some(mut memory) => all_carried_out(alloc, &mut memory, steps).unwrap_or(Met::Unready),
+        None => Met::Unready,
+    }
 }
 
 // A step of one instruction: its request, the store, its answer, whether that may be want of memory, what the store is before and after
@@ -300,7 +307,7 @@ static DELETED: [Step; 8] = [
 
 /// What came of the requests that delete a store with its routes.
 pub(crate) fn deleted(alloc: Global) -> Met {
-    all_carried_out(alloc, SIXTEEN_STORES.as_bytes(), &DELETED).unwrap_or(Met::Unready)
+    carried_out_on(alloc, SIXTEEN_STORES.as_bytes(), &DELETED)
 }
 
 const CIRCULAR: Shape = Shape {
@@ -357,5 +364,5 @@ static CREATED: [Step; 6] = [
 
 /// What came of the requests that resize a store, change its kind and create two stores.
 pub(crate) fn created(alloc: Global) -> Met {
-    all_carried_out(alloc, SETUP, &CREATED).unwrap_or(Met::Unready)
+    carried_out_on(alloc, SETUP, &CREATED)
 }

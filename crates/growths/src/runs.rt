@@ -1,4 +1,5 @@
 //! Runs of the first plan: one store of four blocks, three steps, and a window of two blocks in each of the first two.
+ghost use Rattle.std.specs.Prelude.{◌<◌, ◌-◌, ◌^◌, All};
 
 use crate::link::{TestLink, new_links};
 use crate::met::Met;
@@ -103,11 +104,12 @@ const TEN_CAME: &[u8] = b"step 1 SCI arrived 3 lost 0 dumped 2 held 1\n\
     step 3 SCI arrived 4 lost 2 dumped 0 held 4\n\
     total arrived 10 lost 2 dumped 4 held 4\n";
 
-// The sources and the links of a run.
+// The sources and the links of a run, which have not failed too often.
 #[derive(Drop)]
 struct Ends {
     sources: Vec<ScriptedSource>,
     links: Vec<TestLink>,
+    ghost may_fail: { All (λ l. l.failed < 2 ^ 64 - 1) links.items },
 }
 
 // What a run is made on.
@@ -139,6 +141,9 @@ fn sources_of(alloc: Global, parts: &[&[u8]]) -> Option<Vec<ScriptedSource>> {
 fn ends_in_room(alloc: Global, case: &Case) -> Option<Ends> {
     let sources = sources_of(alloc, case.sources)?;
     let links = new_links(alloc, case.links).ok()?;
+    if !may_fail(&links) {
+        return None;
+    }
     Some(Ends { sources, links })
 }
 
@@ -282,9 +287,6 @@ fn run_on<R: Threads + Wait + Sync>(rt: &R, alloc: Global, stage: Stage, sheet: 
         problem,
         ends: Ends { sources, links },
     } = stage;
-    if !may_fail(&links) {
-        return Met::Unready;
-    }
     let plan = sheet.plan();
     let mut end = carry_out(rt, alloc, &mut memory, &problem, plan, sources, links, 0);
     carried(alloc, &memory, &mut end)
@@ -354,9 +356,6 @@ fn flown_on<R: Threads + Wait + Sync>(rt: &R, alloc: Global, stage: Stage) -> Me
         problem,
         ends: Ends { sources, links },
     } = stage;
-    if !may_fail(&links) {
-        return Met::Unready;
-    }
     let mut end = fly(rt, alloc, &mut memory, &problem, sources, links, 0);
     landed(alloc, &memory, &mut end)
 }

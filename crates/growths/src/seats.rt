@@ -8,25 +8,24 @@ use crate::calls::{
 };
 use crate::met::Met;
 use mm_base::NoMemory;
-use mm_desk::{Closed, Desk, Fault, Opening, Seat, StoreState};
+use mm_desk::{Closed, Desk, Opening, Seat, StoreState};
 use mm_store::PacketStore;
 use std::alloc::Global;
 use std::marker::Brand;
 use std::sync::Wait;
 
-// Makes a call that is done or refused: a begin, a switch, or else an abort.
-fn done<N: Opening, R: Wait>(
+// What a desk answers to the offer of a packet of this sequence count.
+fn offered<N: Opening, R: Wait>(
     rt: &R,
     alloc: Global,
     desk: &Desk<N>,
     seat: &mut Seat<N>,
-    ask: Ask,
-) -> Result<(), Fault> {
-    match ask {
-        Ask::Begin(from, to) => desk.begin(rt, alloc, seat, from, to),
-        Ask::Enable => desk.enable(rt, alloc, seat),
-        Ask::Disable => desk.disable(rt, alloc, seat),
-        _ => desk.abort(rt, alloc, seat),
+    now: u64,
+    count: u16,
+) -> Told {
+    match packet(alloc, count) {
+        Ok(packet) => told_of_offer(&desk.offer(rt, alloc, seat, now, packet)),
+        Err(NoMemory) => Told::Unmade,
     }
 }
 
@@ -39,14 +38,14 @@ pub fn answer<N: Opening, R: Wait>(
     ask: Ask,
 ) -> Told {
     match ask {
-        Ask::Offer(now, count) => match packet(alloc, count) {
-            Ok(packet) => told_of_offer(&desk.offer(rt, alloc, seat, now, packet)),
-            Err(NoMemory) => Told::Unmade,
-        },
+        Ask::Offer(now, count) => offered(rt, alloc, desk, seat, now, count),
+        Ask::Begin(from, to) => told_of(desk.begin(rt, alloc, seat, from, to)),
         Ask::Next => told_of_given(&desk.next(rt, alloc, seat)),
+        Ask::Abort => told_of(desk.abort(rt, alloc, seat)),
         Ask::Delete(limit) => told_of_delete(desk.delete(rt, alloc, seat, limit)),
+        Ask::Enable => told_of(desk.enable(rt, alloc, seat)),
+        Ask::Disable => told_of(desk.disable(rt, alloc, seat)),
         Ask::Rest | Ask::Resize(_) | Ask::ChangeKind(_) => Told::Unmade,
-        _ => told_of(done(rt, alloc, desk, seat, ask)),
     }
 }
 
