@@ -338,11 +338,7 @@ fn not_flown(alloc: Global, memory: &Memory, end: &mut FlyHalted<ScriptedSource,
 }
 
 // What came of a run that was planned and carried out, or halted.
-fn landed(
-    alloc: Global,
-    memory: &Memory,
-    end: &mut FlyResult<ScriptedSource, TestLink>,
-) -> Met {
+fn landed(alloc: Global, memory: &Memory, end: &mut FlyResult<ScriptedSource, TestLink>) -> Met {
     match end {
         Ok(end) => flown(alloc, memory, end),
         Err(end) => not_flown(alloc, memory, end),
