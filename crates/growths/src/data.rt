@@ -33,11 +33,8 @@ pub(crate) fn new(alloc: Global) -> Met {
     }
 }
 
-/// What came of the rest of a problem after its first step.
-pub(crate) fn rest(alloc: Global) -> Met {
-    let Ok(problem) = new_problem(alloc) else {
-        return Met::Unready;
-    };
+// What came of the rest of this problem after its first step.
+fn rest_of(alloc: Global, problem: &Problem) -> Met {
     if (problem.stores(), problem.steps()) != (1, 2) {
         return Met::Wrong("another problem");
     }
@@ -48,6 +45,14 @@ pub(crate) fn rest(alloc: Global) -> Met {
         ),
         Err(Fault::NoMemory) => Met::Wanted,
         Err(_) => Met::Wrong("another fault"),
+    }
+}
+
+/// What came of the rest of a problem after its first step.
+pub(crate) fn rest(alloc: Global) -> Met {
+    match new_problem(alloc) {
+        Ok(problem) => rest_of(alloc, &problem),
+        Err(_) => Met::Unready,
     }
 }
 

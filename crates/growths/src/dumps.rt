@@ -20,17 +20,32 @@ const NONE: u32 = 0;
 
 const SENT: u32 = 0b110110;
 
-// How many packets the stores hold, and how many of each were deleted: before the dump, and after it.
-const BEFORE: [(u32, u64); 2] = [(3, 0), (2, 0)];
+// The identifiers of the stores, and the packets that they hold before the dump.
+static STORES: [(&[u8], &[u16]); 2] = [(b"A", &[1, 2, 3]), (b"B", &[4, 5])];
 
-const AFTER: [(u32, u64); 2] = [(1, 2), (0, 2)];
+// How many packets a store holds, and how many of it were deleted.
+type Counts = (u32, u64);
+
+// Before the dump, and after it.
+const BEFORE: [Counts; 2] = [(3, 0), (2, 0)];
+
+const AFTER: [Counts; 2] = [(1, 2), (0, 2)];
+
+// Whether a store has taken a packet of this sequence count.
+fn has_taken(alloc: Global, state: &mut StoreState, count: u16) -> bool {
+    match packet(alloc, count) {
+        Ok(packet) => state.offer(7, packet).is_ok(),
+        Err(_) => false,
+    }
+}
 
 // A store that holds the packets of these sequence counts, where there is memory for them.
 fn state_with(alloc: Global, counts: &[u16]) -> Option<StoreState> {
     let mut state = new_state(alloc).ok()?;
     for count in counts {
-        let packet = packet(alloc, *count).ok()?;
-        state.offer(7, packet).ok()?;
+        if !has_taken(alloc, &mut state, *count) {
+            return None;
+        }
     }
     Some(state)
 }
@@ -47,8 +62,9 @@ fn held_with(alloc: Global, text: &[u8], counts: &[u16]) -> Option<Held> {
 
 fn stores_in_room(alloc: Global) -> Option<Vec<Held>> {
     let mut stores = Vec::new(alloc);
-    stores.push(held_with(alloc, b"A", &[1, 2, 3])?).ok()?;
-    stores.push(held_with(alloc, b"B", &[4, 5])?).ok()?;
+    for (text, counts) in &STORES {
+        stores.push(held_with(alloc, text, counts)?).ok()?;
+    }
     Some(stores)
 }
 
@@ -59,17 +75,20 @@ fn are_idle(stores: &[Held]) -> bool
     stores.iter().all(|held| held.state.retrieval().is_none())
 }
 
+fn counts(held: &Held) -> Counts {
+    (held.state.store().len(), held.state.deleted())
+}
+
 // Whether the stores hold this many packets, and this many of each were deleted.
-fn have(stores: &[Held], wanted: &[(u32, u64); 2]) -> bool {
-    stores.len() == 2
-        && stores.iter().zip(wanted).all(|(held, want)| (
-            held.state.store().len(),
-            held.state.deleted(),
-        ) == *want)
+fn have(stores: &[Held], wanted: &[Counts; 2]) -> bool {
+    match stores {
+        [first, second] => [counts(first), counts(second)] == *wanted,
+        _ => false,
+    }
 }
 
 // Whether the stores hold this many packets, nothing of them is lost, and the links have sent these packets, each once.
-fn are_left(stores: &[Held], links: &[TestLink], wanted: &[(u32, u64); 2], sent: u32) -> Met {
+fn are_left(stores: &[Held], links: &[TestLink], wanted: &[Counts; 2], sent: u32) -> Met {
     Met::Whole
         .provided(have(stores, wanted), "another number held or deleted")
         .provided(are_idle(stores), "a retrieval is on")
@@ -97,29 +116,6 @@ pub fn dumped<L: Link + Send, R: Threads + Wait + Sync>(
     Some(dump(rt, alloc, orders, stores, links))
 }
 
-// What a dump answers of two packets of the first store and all that the second has, where it may be asked for.
-fn both_dumped<R: Threads + Wait + Sync>(
-    rt: &R,
-    alloc: Global,
-    stores: &mut Vec<Held>,
-    links: &mut Vec<TestLink>,
-) -> Option<Result<Dumped, NoMemory>> {
-    if stores.len() != 2 {
-        return None;
-    }
-    let (first, second) = (
-        Order {
-            place: 0,
-            amount: 2,
-        },
-        Order {
-            place: 1,
-            amount: 4,
-        },
-    );
-    dumped(rt, alloc, stores, links, &[first, second])
-}
-
 // What a dump left that answered so. Where there was no memory all is as before.
 fn left(answer: &Option<Result<Dumped, NoMemory>>, stores: &[Held], links: &[TestLink]) -> Met {
     match answer {
@@ -131,23 +127,55 @@ fn left(answer: &Option<Result<Dumped, NoMemory>>, stores: &[Held], links: &[Tes
     }
 }
 
-/// What came of a step's dump. Where there was no memory for it, it is carried out once more.
-pub(crate) fn dumps<R: Threads + Wait + Sync>(rt: &R, alloc: Global) -> Met {
-    let Some(mut stores) = stores_in_room(alloc) else {
-        return Met::Unready;
-    };
-    let Ok(mut links) = new_links(alloc, 2) else {
-        return Met::Unready;
-    };
-    let first = both_dumped(rt, alloc, &mut stores, &mut links);
-    let met = left(&first, &stores, &links);
-    if !matches!(first, Some(Err(NoMemory))) {
+// What came of a dump of two packets of the first store, and of all that the second has.
+fn both_dumped<R: Threads + Wait + Sync>(
+    rt: &R,
+    alloc: Global,
+    stores: &mut Vec<Held>,
+    links: &mut [TestLink],
+) -> Met {
+    if stores.len() != 2 {
+        return Met::Wrong("another number of stores");
+    }
+    let (first, second) = (
+        Order {
+            place: 0,
+            amount: 2,
+        },
+        Order {
+            place: 1,
+            amount: 4,
+        },
+    );
+    let answer = dumped(rt, alloc, stores, links, &[first, second]);
+    left(&answer, stores, links)
+}
+
+// What came of a dump. Where there was no memory for it, it is carried out once more.
+fn dumped_or_again<R: Threads + Wait + Sync>(
+    rt: &R,
+    alloc: Global,
+    stores: &mut Vec<Held>,
+    links: &mut [TestLink],
+) -> Met {
+    let met = both_dumped(rt, alloc, stores, links);
+    if !matches!(met, Met::Wanted) {
         return met;
     }
-    let second = both_dumped(rt, alloc, &mut stores, &mut links);
-    let again = left(&second, &stores, &links);
+    let again = both_dumped(rt, alloc, stores, links);
     met.and(again).provided(
         matches!(again, Met::Whole),
         "another answer after want of memory",
     )
+}
+
+/// What came of a step's dump.
+pub(crate) fn dumps<R: Threads + Wait + Sync>(rt: &R, alloc: Global) -> Met {
+    let Some(mut stores) = stores_in_room(alloc) else {
+        return Met::Unready;
+    };
+    match new_links(alloc, 2) {
+        Ok(mut links) => dumped_or_again(rt, alloc, &mut stores, &mut links),
+        Err(_) => Met::Unready,
+    }
 }

@@ -4,7 +4,7 @@ use crate::met::Met;
 use crate::requests::memory_of_text;
 use mm_desk::Held;
 use mm_memory::Memory;
-use mm_record::{Cause, RecordHalted, RecordedStep, Source, record_step};
+use mm_record::{Cause, RecordHalted, Recorded, RecordedStep, Source, record_step};
 use mm_run::{ScriptedSource, SourceFile};
 use mm_store::PacketStore;
 use std::alloc::Global;
@@ -32,33 +32,43 @@ const BEFORE: [Counts; 2] = [(0, 0, 0), (0, 0, 0)];
 
 const AFTER: [Counts; 2] = [(6, 4, 2), (6, 2, 4)];
 
+// How many packets are told to have come to each store, and how many were lost.
+const TOLD: [(u64, u64); 2] = [(6, 4), (6, 2)];
+
 fn counts(held: &Held) -> Counts {
     let state = &held.state;
     (state.offered(), state.lost(), state.store().len())
 }
 
+// Whether a store is ready for a step.
+fn is_ready(held: &Held) -> bool {
+    held.state.storage() && held.state.retrieval().is_none()
+}
+
 // Whether both stores have these counts, and are ready for a step.
 fn have(memory: &Memory, wanted: &[Counts; 2]) -> bool {
-    let stores = memory.stores();
-    stores.len() == 2
-        && stores
-            .iter()
-            .zip(wanted)
-            .all(|(held, want)| counts(held) == *want)
-        && stores.iter().all(|held| held.state.storage() && held.state.retrieval().is_none())
+    match memory.stores() {
+        [first, second] => [counts(first), counts(second)] == *wanted
+            && is_ready(first)
+            && is_ready(second),
+        _ => false,
+    }
 }
 
 // Whether both sources still give this many packets.
 fn have_left(sources: &[ScriptedSource], left: u32) -> bool {
-    sources.len() == 2 && sources.iter().all(|source| source.left(1) == left)
+    match sources {
+        [first, second] => [first.left(1), second.left(1)] == [left, left],
+        _ => false,
+    }
 }
 
 // Whether what came to each store is told, and how many were lost.
-fn is_told(step: &RecordedStep<ScriptedSource>) -> bool {
-    let rows = step.recorded.as_slice();
-    rows.len() == 2
-        && rows.iter().zip(&AFTER).all(|(row, (came, lost, _))| row.came == *came
-            && row.lost == *lost)
+fn is_told(rows: &[Recorded]) -> bool {
+    match rows {
+        [first, second] => [(first.came, first.lost), (second.came, second.lost)] == TOLD,
+        _ => false,
+    }
 }
 
 // What a step left that was recorded.
@@ -66,7 +76,7 @@ fn recorded(memory: &Memory, step: &RecordedStep<ScriptedSource>) -> Met {
     Met::Whole
         .provided(have(memory, &AFTER), "other counts")
         .provided(have_left(&step.sources, 0), "a packet left in a source")
-        .provided(is_told(step), "another number told")
+        .provided(is_told(&step.recorded), "another number told")
 }
 
 // What a step left that was not recorded: all is as before.
@@ -78,17 +88,13 @@ fn unrecorded(memory: &Memory, halted: &RecordHalted<ScriptedSource>) -> Met {
         .provided(have_left(&halted.sources, 3), "taken without memory")
 }
 
-// Records the step. Where there was no memory for it, it is recorded once more.
-fn record_or_again<R: Threads + Wait + Sync>(
+// What came of a step that found no memory: it is recorded once more.
+fn recorded_again<R: Threads + Wait + Sync>(
     rt: &R,
     alloc: Global,
     memory: &mut Memory,
-    sources: Vec<ScriptedSource>,
+    halted: RecordHalted<ScriptedSource>,
 ) -> Met {
-    let halted = match record_step(rt, alloc, memory, 1, 0, sources) {
-        Ok(step) => return recorded(memory, &step),
-        Err(halted) => halted,
-    };
     let met = unrecorded(memory, &halted);
     match record_step(rt, alloc, memory, 1, 0, halted.sources) {
         Ok(step) => met.and(recorded(memory, &step)),
@@ -96,13 +102,22 @@ fn record_or_again<R: Threads + Wait + Sync>(
     }
 }
 
+// The memory and the sources of the step, where there is room for them.
+fn stage_in_room(alloc: Global) -> Option<(Memory, Vec<ScriptedSource>)> {
+    let memory = memory_of_text(alloc, SETUP)?;
+    match SourceFile::read(alloc, PACKETS) {
+        Ok(SourceFile { sources, .. }) => Some((memory, sources)),
+        Err(_) => None,
+    }
+}
+
 /// What came of a step of recorders.
 pub(crate) fn record<R: Threads + Wait + Sync>(rt: &R, alloc: Global) -> Met {
-    let Some(mut memory) = memory_of_text(alloc, SETUP) else {
+    let Some((mut memory, sources)) = stage_in_room(alloc) else {
         return Met::Unready;
     };
-    match SourceFile::read(alloc, PACKETS) {
-        Ok(SourceFile { sources, .. }) => record_or_again(rt, alloc, &mut memory, sources),
-        Err(_) => Met::Unready,
+    match record_step(rt, alloc, &mut memory, 1, 0, sources) {
+        Ok(step) => recorded(&memory, &step),
+        Err(halted) => recorded_again(rt, alloc, &mut memory, halted),
     }
 }

@@ -137,14 +137,12 @@ fn as_answered(memory: &Memory, one: &Instruction, answer: Answer) -> Met {
         .provided(now == one.after, "another store")
 }
 
-fn all_as_answered(memory: &Memory, step: &Step, answers: &Answers) -> Met {
-    let met = Met::Whole.provided(answers.reports.is_empty(), "a report");
-    let many = answers.each.len() == step.each.len();
-    let mut met = met.provided(many, "another number of answers");
-    for (one, answer) in step.each.iter().zip(answers.each.iter()) {
-        met = met.and(as_answered(memory, one, *answer));
+// Whether this is the only answer.
+fn is_only(answers: &[Answer], answer: Answer) -> bool {
+    match answers {
+        [only] => *only == answer,
+        _ => false,
     }
-    met
 }
 
 // Whether an instruction is answered as it must be, in a request of its own.
@@ -153,19 +151,29 @@ fn is_answered_alone(alloc: Global, memory: &mut Memory, one: &Instruction) -> b
         return false;
     };
     match memory.apply(alloc, 1, &request) {
-        Ok(answers) => answers.each.as_slice() == [one.answer].as_slice(),
+        Ok(answers) => is_only(&answers.each, one.answer),
         Err(_) => false,
     }
 }
 
-// Asks once more for each instruction that found no memory, by itself.
-fn refused_ones_again(alloc: Global, memory: &mut Memory, step: &Step, answers: &Answers) -> Met {
-    let mut met = Met::Whole;
+// What came of an instruction. One that found no memory is asked for once more, by itself.
+fn done_or_again(alloc: Global, memory: &mut Memory, one: &Instruction, answer: Answer) -> Met {
+    let met = as_answered(memory, one, answer);
+    if !matches!(met, Met::Refused) {
+        return met;
+    }
+    let done = is_answered_alone(alloc, memory, one);
+    met.provided(done, "an instruction refused twice")
+}
+
+// What came of the instructions of a request.
+fn all_done(alloc: Global, memory: &mut Memory, step: &Step, answers: &Answers) -> Met {
+    let many = answers.each.len() == step.each.len();
+    let mut met = Met::Whole
+        .provided(answers.reports.is_empty(), "a report")
+        .provided(many, "another number of answers");
     for (one, answer) in step.each.iter().zip(answers.each.iter()) {
-        if *answer != one.answer {
-            let done = is_answered_alone(alloc, memory, one);
-            met = met.provided(done, "an instruction refused twice");
-        }
+        met = met.and(done_or_again(alloc, memory, one, *answer));
     }
     met
 }
@@ -173,10 +181,7 @@ fn refused_ones_again(alloc: Global, memory: &mut Memory, step: &Step, answers: 
 // What came of a request.
 fn asked(alloc: Global, memory: &mut Memory, step: &Step, request: &Request) -> Met {
     match memory.apply(alloc, 1, request) {
-        Ok(answers) => {
-            let met = all_as_answered(memory, step, &answers);
-            met.and(refused_ones_again(alloc, memory, step, &answers))
-        }
+        Ok(answers) => all_done(alloc, memory, step, &answers),
         Err(_) => Met::Wanted,
     }
 }
@@ -214,13 +219,20 @@ fn carried_out(alloc: Global, memory: &mut Memory, step: &Step) -> Option<Met> {
 }
 
 // What the steps come to; nothing where there was no memory to ask.
-fn all_carried_out(alloc: Global, setup: &[u8], steps: &[Step]) -> Option<Met> {
-    let mut memory = memory_of_text(alloc, setup)?;
+fn all_carried_out(alloc: Global, memory: &mut Memory, steps: &[Step]) -> Option<Met> {
     let mut met = Met::Whole;
     for step in steps {
-        met = met.and(carried_out(alloc, &mut memory, step)?);
+        met = met.and(carried_out(alloc, memory, step)?);
     }
     Some(met)
+}
+
+// What the steps come to on the memory of a setup with this text.
+fn carried_out_on(alloc: Global, setup: &[u8], steps: &[Step]) -> Met {
+    match memory_of_text(alloc, setup) {
+        Some(mut memory) => all_carried_out(alloc, &mut memory, steps).unwrap_or(Met::Unready),
+        None => Met::Unready,
+    }
 }
 
 // A step of one instruction: its request, the store, its answer, whether that may be want of memory, what the store is before and after
@@ -295,7 +307,7 @@ static DELETED: [Step; 8] = [
 
 /// What came of the requests that delete a store with its routes.
 pub(crate) fn deleted(alloc: Global) -> Met {
-    all_carried_out(alloc, SIXTEEN_STORES.as_bytes(), &DELETED).unwrap_or(Met::Unready)
+    carried_out_on(alloc, SIXTEEN_STORES.as_bytes(), &DELETED)
 }
 
 const CIRCULAR: Shape = Shape {
@@ -352,5 +364,5 @@ static CREATED: [Step; 6] = [
 
 /// What came of the requests that resize a store, change its kind and create two stores.
 pub(crate) fn created(alloc: Global) -> Met {
-    all_carried_out(alloc, SETUP, &CREATED).unwrap_or(Met::Unready)
+    carried_out_on(alloc, SETUP, &CREATED)
 }

@@ -1,11 +1,13 @@
 //! Runs of the first plan: one store of four blocks, three steps, and a window of two blocks in each of the first two.
+ghost use Rattle.std.specs.Prelude.{◌<◌, ◌-◌, ◌^◌, All};
 
 use crate::link::{TestLink, new_links};
 use crate::met::Met;
+use crate::requests::memory_of_text;
 use crate::traces::{Traces, traces_of};
 use mm_base::StoreId;
 use mm_dump::may_fail;
-use mm_exec::{Cause, Flown, FlyHalted, Halted, carry_out, fly};
+use mm_exec::{Cause, Flown, FlyHalted, FlyResult, Halted, RunEnd, carry_out, fly};
 use mm_memory::Memory;
 use mm_plan::Sheet;
 use mm_problem::{Problem, Setup};
@@ -54,6 +56,31 @@ const OF_TWO: &[u8] = b"1 1 0864C0010011200319000000000000000000000000010203\n\
     2 3 0864C00A0011200319000000000000000000000000010203\n\
     1 3 0864C00B0011200319000000000000000000000000010203\n";
 
+/// The texts of the sources of a run, in parts, and how many links it has.
+#[derive(Clone, Copy)]
+pub(crate) struct Case {
+    sources: &'static [&'static [u8]],
+    links: usize,
+}
+
+/// One source and one link, where eleven packets come in place of ten.
+pub(crate) static ALONE: Case = Case {
+    sources: &[OF_ONE, ONE_MORE],
+    links: 1,
+};
+
+/// The same with two sources and two links.
+pub(crate) static CROWD: Case = Case {
+    sources: &[OF_TWO],
+    links: 2,
+};
+
+// One source and one link, where what comes is what is forecast.
+static FORESEEN: Case = Case {
+    sources: &[OF_ONE],
+    links: 1,
+};
+
 // The report of the whole steps, by how many there are, of a run that is halted.
 const HALTED: [&[u8]; 3] = [
     b"total arrived 0 lost 0 dumped 0 held 0\n",
@@ -77,17 +104,26 @@ const TEN_CAME: &[u8] = b"step 1 SCI arrived 3 lost 0 dumped 2 held 1\n\
     step 3 SCI arrived 4 lost 2 dumped 0 held 4\n\
     total arrived 10 lost 2 dumped 4 held 4\n";
 
-// What a run is made on.
-type Stage = (Memory, Problem, Vec<ScriptedSource>, Vec<TestLink>);
+// The sources and the links of a run, which have not failed too often.
+#[derive(Drop)]
+struct Ends {
+    sources: Vec<ScriptedSource>,
+    links: Vec<TestLink>,
+    ghost may_fail: { All (λ l. l.failed < 2 ^ 64 - 1) links.items },
+}
 
-// The memory and the problem of the first plan.
-fn first_problem(alloc: Global) -> Option<(Memory, Problem)> {
+// What a run is made on.
+#[derive(Drop)]
+struct Stage {
+    memory: Memory,
+    problem: Problem,
+    ends: Ends,
+}
+
+// The problem of the first plan.
+fn first_problem(alloc: Global) -> Option<Problem> {
     let setup = Setup::read(alloc, SETUP).ok()?;
-    let problem = Problem::read(alloc, &setup, FORECAST).ok()?;
-    match Memory::of_setup(alloc, &setup) {
-        Ok(memory) => Some((memory, problem)),
-        Err(_) => None,
-    }
+    Problem::read(alloc, &setup, FORECAST).ok()
 }
 
 // The sources of a text in parts.
@@ -102,23 +138,40 @@ fn sources_of(alloc: Global, parts: &[&[u8]]) -> Option<Vec<ScriptedSource>> {
     }
 }
 
-fn stage_in_room(alloc: Global, sources: &[&[u8]], links: usize) -> Option<Stage> {
-    let (memory, problem) = first_problem(alloc)?;
-    let sources = sources_of(alloc, sources)?;
-    match new_links(alloc, links) {
-        Ok(links) => Some((memory, problem, sources, links)),
-        Err(_) => None,
+fn ends_in_room(alloc: Global, case: &Case) -> Option<Ends> {
+    let sources = sources_of(alloc, case.sources)?;
+    let links = new_links(alloc, case.links).ok()?;
+    if !may_fail(&links) {
+        return None;
     }
+    Some(Ends { sources, links })
+}
+
+fn stage_in_room(alloc: Global, case: &Case) -> Option<Stage> {
+    let memory = memory_of_text(alloc, SETUP)?;
+    let problem = first_problem(alloc)?;
+    let ends = ends_in_room(alloc, case)?;
+    Some(Stage {
+        memory,
+        problem,
+        ends,
+    })
+}
+
+// Whether a report has this text, where there is memory for the text.
+fn has_text(alloc: Global, report: &Report, want: &[u8]) -> Option<bool> {
+    let text = report.text(alloc).ok()?;
+    Some(text.as_slice() == want)
 }
 
 // Whether a report has this text; want of memory for the text aside.
 fn told(alloc: Global, report: &Report, want: &[u8]) -> Met {
-    match report.text(alloc) {
-        Ok(text) => Met::Whole.provided(text.as_slice() == want, "another report"),
-        Err(_) => match report.text(alloc) {
-            Ok(text) => Met::Wanted.provided(text.as_slice() == want, "another report"),
-            Err(_) => Met::Wrong("no text of a report, twice"),
-        },
+    if let Some(same) = has_text(alloc, report, want) {
+        return Met::Whole.provided(same, "another report");
+    }
+    match has_text(alloc, report, want) {
+        Some(same) => Met::Wanted.provided(same, "another report"),
+        None => Met::Wrong("no text of a report, twice"),
     }
 }
 
@@ -194,7 +247,7 @@ fn told_of_halt(alloc: Global, end: &Halted<ScriptedSource, TestLink>, step: u32
 fn halted_for_want_of_memory(
     alloc: Global,
     memory: &Memory,
-    mut end: Halted<ScriptedSource, TestLink>,
+    end: &mut Halted<ScriptedSource, TestLink>,
     packets: u32,
 ) -> Met {
     let Cause::NoMemory { step } = end.cause else {
@@ -205,60 +258,53 @@ fn halted_for_want_of_memory(
         Some(left) => given_whole(&left, step, packets, dumped),
         None => Met::Wrong("what a run may not leave after a halt"),
     };
-    met.and(told_of_halt(alloc, &end, step))
+    met.and(told_of_halt(alloc, end, step))
 }
 
-// What came of a run of the first plan, with eleven packets in place of ten.
-fn carried<R: Threads + Wait + Sync>(rt: &R, alloc: Global, stage: Stage, sheet: &Sheet) -> Met {
-    let (mut memory, problem, sources, links) = stage;
-    if !may_fail(&links) {
-        return Met::Unready;
-    }
-    let plan = sheet.plan();
-    match carry_out(rt, alloc, &mut memory, &problem, plan, sources, links, 0) {
-        Ok(mut ended) => {
-            let want = (11, ELEVEN_CAME);
-            whole(
-                alloc,
-                &memory,
-                &ended.report,
-                &mut ended.sources,
-                &ended.links,
-                want,
-            )
-        }
-        Err(end) => halted_for_want_of_memory(alloc, &memory, end, 11),
-    }
-}
-
-// What came of the first plan with these sources, and with so many links.
-fn run_with<R: Threads + Wait + Sync>(
-    rt: &R,
+// What came of a run that was carried out, or halted, with eleven packets in place of ten.
+fn carried(
     alloc: Global,
-    sources: &[&[u8]],
-    links: usize,
+    memory: &Memory,
+    end: &mut Result<RunEnd<ScriptedSource, TestLink>, Halted<ScriptedSource, TestLink>>,
 ) -> Met {
-    let Some(stage) = stage_in_room(alloc, sources, links) else {
+    match end {
+        Ok(end) => whole(
+            alloc,
+            memory,
+            &end.report,
+            &mut end.sources,
+            &end.links,
+            (11, ELEVEN_CAME),
+        ),
+        Err(end) => halted_for_want_of_memory(alloc, memory, end, 11),
+    }
+}
+
+// What came of a run of this plan.
+fn run_on<R: Threads + Wait + Sync>(rt: &R, alloc: Global, stage: Stage, sheet: &Sheet) -> Met {
+    let Stage {
+        mut memory,
+        problem,
+        ends: Ends { sources, links },
+    } = stage;
+    let plan = sheet.plan();
+    let mut end = carry_out(rt, alloc, &mut memory, &problem, plan, sources, links, 0);
+    carried(alloc, &memory, &mut end)
+}
+
+/// What came of the first plan with these sources and links.
+pub(crate) fn run<R: Threads + Wait + Sync>(rt: &R, alloc: Global, case: &Case) -> Met {
+    let Ok(sheet) = Sheet::parse(alloc, PLAN) else {
         return Met::Unready;
     };
-    match Sheet::parse(alloc, PLAN) {
-        Ok(sheet) => carried(rt, alloc, stage, &sheet),
-        Err(_) => Met::Unready,
+    match stage_in_room(alloc, case) {
+        Some(stage) => run_on(rt, alloc, stage, &sheet),
+        None => Met::Unready,
     }
-}
-
-/// What came of a run with one source and one link, in which eleven packets come in place of ten.
-pub(crate) fn run<R: Threads + Wait + Sync>(rt: &R, alloc: Global) -> Met {
-    run_with(rt, alloc, &[OF_ONE, ONE_MORE], 1)
-}
-
-/// What came of the same run with two sources and two links.
-pub(crate) fn crowd<R: Threads + Wait + Sync>(rt: &R, alloc: Global) -> Met {
-    run_with(rt, alloc, &[OF_TWO], 2)
 }
 
 // What came of a run that has no plan: nothing was done, and for want of memory alone.
-fn unplanned(memory: &Memory, mut end: Halted<ScriptedSource, TestLink>) -> Met {
+fn unplanned(memory: &Memory, end: &mut Halted<ScriptedSource, TestLink>) -> Met {
     let lacks = end.cause == Cause::NoMemory { step: 0 };
     let met = match left_by(memory, &mut end.sources, &end.links) {
         Some(left) => Met::Unplanned
@@ -270,39 +316,50 @@ fn unplanned(memory: &Memory, mut end: Halted<ScriptedSource, TestLink>) -> Met 
 }
 
 // What came of a run that was planned and went through.
-fn flown(alloc: Global, memory: &Memory, mut done: Flown<ScriptedSource, TestLink>) -> Met {
-    let want = (10, TEN_CAME);
+fn flown(alloc: Global, memory: &Memory, end: &mut Flown<ScriptedSource, TestLink>) -> Met {
     let met = whole(
         alloc,
         memory,
-        &done.report,
-        &mut done.sources,
-        &done.links,
-        want,
+        &end.report,
+        &mut end.sources,
+        &end.links,
+        (10, TEN_CAME),
     );
-    met.provided(done.sheet.as_slice() == PLAN, "another plan")
+    met.provided(end.sheet.as_slice() == PLAN, "another plan")
 }
 
 // What came of a run that was halted, or not planned.
-fn not_flown(alloc: Global, memory: &Memory, end: FlyHalted<ScriptedSource, TestLink>) -> Met {
-    let FlyHalted { sheet, halted } = end;
-    if sheet.is_empty() {
-        return unplanned(memory, halted);
+fn not_flown(alloc: Global, memory: &Memory, end: &mut FlyHalted<ScriptedSource, TestLink>) -> Met {
+    if end.sheet.is_empty() {
+        return unplanned(memory, &mut end.halted);
     }
-    let met = halted_for_want_of_memory(alloc, memory, halted, 10);
-    met.provided(sheet.as_slice() == PLAN, "another plan")
+    let met = halted_for_want_of_memory(alloc, memory, &mut end.halted, 10);
+    met.provided(end.sheet.as_slice() == PLAN, "another plan")
 }
 
-/// What came of a run that begins with its plan, with one source and one link, in which what comes is what is forecast.
-pub(crate) fn flight<R: Threads + Wait + Sync>(rt: &R, alloc: Global) -> Met {
-    let Some((mut memory, problem, sources, links)) = stage_in_room(alloc, &[OF_ONE], 1) else {
-        return Met::Unready;
-    };
-    if !may_fail(&links) {
-        return Met::Unready;
+// What came of a run that was planned and carried out, or halted.
+fn landed(alloc: Global, memory: &Memory, end: &mut FlyResult<ScriptedSource, TestLink>) -> Met {
+    match end {
+        Ok(end) => flown(alloc, memory, end),
+        Err(end) => not_flown(alloc, memory, end),
     }
-    match fly(rt, alloc, &mut memory, &problem, sources, links, 0) {
-        Ok(done) => flown(alloc, &memory, done),
-        Err(end) => not_flown(alloc, &memory, end),
+}
+
+// What came of a run that begins with its plan.
+fn flown_on<R: Threads + Wait + Sync>(rt: &R, alloc: Global, stage: Stage) -> Met {
+    let Stage {
+        mut memory,
+        problem,
+        ends: Ends { sources, links },
+    } = stage;
+    let mut end = fly(rt, alloc, &mut memory, &problem, sources, links, 0);
+    landed(alloc, &memory, &mut end)
+}
+
+/// What came of a run that begins with its plan, where what comes is what is forecast.
+pub(crate) fn flight<R: Threads + Wait + Sync>(rt: &R, alloc: Global) -> Met {
+    match stage_in_room(alloc, &FORESEEN) {
+        Some(stage) => flown_on(rt, alloc, stage),
+        None => Met::Unready,
     }
 }

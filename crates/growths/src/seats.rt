@@ -8,25 +8,24 @@ use crate::calls::{
 };
 use crate::met::Met;
 use mm_base::NoMemory;
-use mm_desk::{Closed, Desk, Fault, Opening, Seat, StoreState};
+use mm_desk::{Closed, Desk, Opening, Seat, StoreState};
 use mm_store::PacketStore;
 use std::alloc::Global;
 use std::marker::Brand;
 use std::sync::Wait;
 
-// Makes a call that is done or refused: a begin, a switch, or else an abort.
-fn done<N: Opening, R: Wait>(
+// What a desk answers to the offer of a packet of this sequence count.
+fn offered<N: Opening, R: Wait>(
     rt: &R,
     alloc: Global,
     desk: &Desk<N>,
     seat: &mut Seat<N>,
-    ask: Ask,
-) -> Result<(), Fault> {
-    match ask {
-        Ask::Begin(from, to) => desk.begin(rt, alloc, seat, from, to),
-        Ask::Enable => desk.enable(rt, alloc, seat),
-        Ask::Disable => desk.disable(rt, alloc, seat),
-        _ => desk.abort(rt, alloc, seat),
+    now: u64,
+    count: u16,
+) -> Told {
+    match packet(alloc, count) {
+        Ok(packet) => told_of_offer(&desk.offer(rt, alloc, seat, now, packet)),
+        Err(NoMemory) => Told::Unmade,
     }
 }
 
@@ -39,18 +38,32 @@ pub fn answer<N: Opening, R: Wait>(
     ask: Ask,
 ) -> Told {
     match ask {
-        Ask::Offer(now, count) => match packet(alloc, count) {
-            Ok(packet) => told_of_offer(&desk.offer(rt, alloc, seat, now, packet)),
-            Err(NoMemory) => Told::Unmade,
-        },
+        Ask::Offer(now, count) => offered(rt, alloc, desk, seat, now, count),
+        Ask::Begin(from, to) => told_of(desk.begin(rt, alloc, seat, from, to)),
         Ask::Next => told_of_given(&desk.next(rt, alloc, seat)),
+        Ask::Abort => told_of(desk.abort(rt, alloc, seat)),
         Ask::Delete(limit) => told_of_delete(desk.delete(rt, alloc, seat, limit)),
+        Ask::Enable => told_of(desk.enable(rt, alloc, seat)),
+        Ask::Disable => told_of(desk.disable(rt, alloc, seat)),
         Ask::Rest | Ask::Resize(_) | Ask::ChangeKind(_) => Told::Unmade,
-        _ => told_of(done(rt, alloc, desk, seat, ask)),
     }
 }
 
-// What came of a call through its seat. One that found no memory is not listed, and is asked once more.
+// What came of a call that was answered so. One that found no memory is not listed.
+fn judged(call: SeatCall, told: Told, listed: bool) -> Met {
+    let (_number, ask, want) = call;
+    if told == Told::Unmade {
+        return Met::Unready.provided(!listed, "listed without memory");
+    }
+    if told == told_of_lack(ask) {
+        return Met::Wanted.provided(!listed, "listed without memory");
+    }
+    Met::Whole
+        .provided(told == want, "another answer")
+        .provided(listed, "a call that is not listed")
+}
+
+// What came of a call through its seat. One that found no memory is asked once more.
 fn called<N: Opening, R: Wait>(
     rt: &R,
     alloc: Global,
@@ -64,19 +77,12 @@ fn called<N: Opening, R: Wait>(
     };
     let before = seat.list().len();
     let first = answer(rt, alloc, desk, seat, ask);
-    let listed = seat.list().len() > before;
-    let met = if first == Told::Unmade {
-        Met::Unready
-    } else if first == told_of_lack(ask) {
-        Met::Wanted
-    } else {
-        return Met::Whole
-            .provided(first == want, "another answer")
-            .provided(listed, "a call that is not listed");
-    };
+    let met = judged(call, first, seat.list().len() > before);
+    if matches!(met, Met::Whole) {
+        return met;
+    }
     let second = answer(rt, alloc, desk, seat, ask);
-    met.provided(!listed, "listed without memory")
-        .provided(second == want, "another answer after want of memory")
+    met.provided(second == want, "another answer after want of memory")
 }
 
 // What came of the calls through their seats.
@@ -106,18 +112,27 @@ fn left<N: Opening>(closed: &Closed<N>) -> Met {
         .provided(state.retrieval().is_none(), "a retrieval is on")
 }
 
+// What a desk leaves that is closed.
+fn closed<N: Opening>(desk: Desk<N>, seats: Vec<Seat<N>>) -> Met {
+    let closed = desk.close(seats);
+    left(&closed)
+}
+
+// What came of a state for which no desk was opened.
+fn handed_back(state: &StoreState) -> Met {
+    let right = state.offered() == 0 && state.storage();
+    Met::Unready.provided(right, "another state comes back")
+}
+
 fn seated<N: Opening, R: Wait>(rt: &R, alloc: Global, state: StoreState) -> Met
     requires state { state ≡ opening_at N.states 0 }
 {
     match Desk::<N>::open(alloc, state, 0, 2) {
         Ok((desk, mut seats)) => {
             let met = all_called(rt, alloc, &desk, &mut seats);
-            met.and(left(&desk.close(seats)))
+            met.and(closed(desk, seats))
         }
-        Err((state, _)) => {
-            let right = state.offered() == 0 && state.storage();
-            Met::Unready.provided(right, "another state comes back")
-        }
+        Err((state, _)) => handed_back(&state),
     }
 }
 

@@ -68,16 +68,28 @@ pub(crate) fn sent_over(links: &[TestLink]) -> Option<u32> {
     Some(packets)
 }
 
+// The sequence count of the next packet that a source gives in a step.
+fn next_count<S: Source>(source: &mut S, step: u32) -> Option<u16> {
+    let packet = source.next(step)?;
+    Some(packet.packet().count())
+}
+
+// A set with the packets that a source still gives in a step.
+fn with_left<S: Source>(packets: Packets, source: &mut S, step: u32) -> Option<Packets> {
+    let mut packets = packets;
+    for _ in 0..source.left(step) {
+        packets = with(packets, next_count(source, step)?)?;
+    }
+    Some(packets)
+}
+
 // The packets that sources still give in the three steps of a run, in order.
 fn left_in<S: Source>(sources: &mut [S]) -> Option<Packets> {
     let mut packets = 0;
     for place in 0..sources.len() {
         let source = sources.get_mut(place)?;
         for step in 1..4 {
-            for _ in 0..source.left(step) {
-                let packet = source.next(step)?;
-                packets = with(packets, packet.packet().count())?;
-            }
+            packets = with_left(packets, source, step)?;
         }
     }
     Some(packets)
