@@ -1,6 +1,9 @@
 //! What the program says of a refusal on standard error, in the words of docs/FORMATS.md.
 
-use crate::tests::samples::{A_WITH_LIMIT_1, SCI, TWO_STEPS_OF_A, told};
+use crate::tests::samples::{A_WITH_LIMIT_1, SCI, TWO_STEPS_OF_A, answers, holds, of_plan, told};
+use std::process::Abort;
+use std::sync::Wait;
+use std::thread::Threads;
 
 // A script whose task is refused, and the line on standard error, or how it begins where a long list of ranges follows.
 static ADVICE: [(&str, &str); 19] = [
@@ -82,14 +85,17 @@ static ADVICE: [(&str, &str); 19] = [
     ),
 ];
 
+// The task is refused, and standard error begins with the advice.
+fn explains<R: Abort + AllocGlobal + Threads + Wait + Sync>(rt: &R, script: &str, advice: &str) {
+    let answer = told(rt, &[script]);
+    let is_told = answer.status == 1 && answer.err.as_str().starts_with(advice);
+    holds(rt, script, &answer, is_told);
+}
+
 #[test]
 fn refusals_are_explained(rt: HostRuntime) {
     for (script, advice) in &ADVICE {
-        let (_, err, status) = told(&rt, script.as_bytes());
-        assert!(rt;
-            status == 1 && err.starts_with(advice.as_bytes()),
-            "for {script}"
-        );
+        explains(&rt, script, advice);
     }
 }
 
@@ -126,19 +132,23 @@ static FOUND: [(&str, &str); 7] = [
     ),
 ];
 
+// Standard error has this remark on a plan and nothing else.
+fn remarks<R: Abort + AllocGlobal + Threads + Wait + Sync>(rt: &R, plan: &str, remark: &str) {
+    let answer = told(rt, &of_plan("check", A_WITH_LIMIT_1, TWO_STEPS_OF_A, plan));
+    holds(rt, plan, &answer, answer.err.as_str() == remark);
+}
+
 #[test]
 fn verdicts_are_explained(rt: HostRuntime) {
     for (plan, remark) in &FOUND {
-        let script = format!(in rt.alloc();
-            "check S F P\n=== S\n{A_WITH_LIMIT_1}=== F\n{TWO_STEPS_OF_A}=== P\n{plan}"
-        ).expect(&rt, "memory");
-        let (_, err, _) = told(&rt, script.as_bytes());
-        assert!(rt; err.as_slice() == remark.as_bytes(), "for {plan}");
+        remarks(&rt, plan, remark);
     }
 }
 
 // A line that is no packet, and a request to enable a store that is not there.
 const REFUSED_REQUESTS: &str = "zz\n1864C000000D200F01000001484B202020202020\n";
+
+const REQUESTS_TOLD: &str = "1 refused 49 HexLine\n2.1 refused 23 NoSuchStore\n";
 
 const REFUSED_WORDS: &str = "\
 R, line 1: expected one packet in hexadecimal digits, two for each octet, and nothing after it; write one packet a line, and compare its packet data length with its octets
@@ -146,15 +156,12 @@ hint: line 1 has \"z\", which is no hexadecimal digit
 R, line 2, instruction 1: expected the identifier of a store that is there; list the stores with subtype 22, or create this one with subtype 20
 ";
 
+const REFUSALS_TOLD: &str = "1 refused 49 HexLine\n2.1 refused 23 NoSuchStore\n";
+
 #[test]
 fn refused_lines_are_explained(rt: HostRuntime) {
-    let script = format!(in rt.alloc(); "ask S R\n=== S\n{SCI}=== R\n{REFUSED_REQUESTS}").expect(
-        &rt, "memory",
-    );
-    let (out, err, _) = told(&rt, script.as_bytes());
-    let is_refused = out.as_slice()
-        == b"1 refused 49 HexLine\n2.1 refused 23 NoSuchStore\n".as_slice();
-    assert!(rt; is_refused && err.as_slice() == REFUSED_WORDS.as_bytes());
+    let script = ["ask S R\n=== S\n", SCI, "=== R\n", REFUSED_REQUESTS];
+    answers(&rt, &script, REQUESTS_TOLD, REFUSED_WORDS, 1);
 }
 
 // A line that is no packet, a report of line 9 of some requests that is cut short, and an answer of `ask`.
@@ -170,8 +177,6 @@ P, packet 4, instruction 1: expected an identifier that no store has yet; choose
 
 #[test]
 fn refused_packets_are_explained(rt: HostRuntime) {
-    let script = format!(in rt.alloc(); "read P\n=== P\n{REFUSED_PACKETS}").expect(&rt, "memory");
-    let (out, err, status) = told(&rt, script.as_bytes());
-    let is_told = out.as_slice() == PACKETS_TOLD.as_bytes();
-    assert!(rt; is_told && err.as_slice() == PACKETS_EXPLAINED.as_bytes() && status == 1);
+    let script = ["read P\n=== P\n", REFUSED_PACKETS];
+    answers(&rt, &script, PACKETS_TOLD, PACKETS_EXPLAINED, 1);
 }

@@ -163,11 +163,8 @@ static ASKED: [Asked; 12] = [
 #[test]
 fn answers_to_requests(rt: HostRuntime) {
     for row in &ASKED {
-        let script = format!(in rt.alloc(); "ask S R\n=== S\n{SCI}=== R\n{}", row.requests).expect(
-            &rt,
-            row.example,
-        );
-        prints(&rt, script.as_str(), row.prints, row.status);
+        let script = ["ask S R\n=== S\n", SCI, "=== R\n", row.requests];
+        prints(&rt, row.example, &script, row.prints, row.status);
     }
 }
 

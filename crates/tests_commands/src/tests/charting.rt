@@ -1,9 +1,14 @@
 //! What `chart` prints of given plans.
 
-use crate::tests::samples::{FIRST_PLAN, SCI, THREE_STEPS, prints, refuses, run};
+use crate::tests::samples::{FIRST_PLAN, SCI, THREE_STEPS, holds, of_plan, prints, refuses, told};
+use std::process::Abort;
+use std::sync::Wait;
+use std::thread::Threads;
 
 // The plan of first_run with a loss that is not its loss.
 const FORGED: &str = "mmplan 1\nstores SCI\ndump 1 2\ndump 2 2\ndump 3 0\nloss 1\nbound 1\nend\n";
+
+const PLAN_FOR_HK: &str = "mmplan 1\nstores HK\ndump 1 2\nloss 1\nbound 1\nend\n";
 
 // Plans for first_run, the headline of each chart, and whether it says that no plan loses fewer.
 static CHARTS: [(&str, &str, bool); 2] = [
@@ -15,22 +20,37 @@ static CHARTS: [(&str, &str, bool); 2] = [
     (FORGED, ">loss is 2\n</text>", false),
 ];
 
+// Whether a text is one document of this format.
+fn is_document(text: &str) -> bool {
+    text.starts_with("<svg xmlns='http://www.w3.org/2000/svg' version='1.1'")
+        && text.ends_with("</svg>\n")
+}
+
+// The chart of a plan for first_run has the headline.
+fn draws<R: Abort + AllocGlobal + Threads + Wait + Sync>(
+    rt: &R,
+    plan: &str,
+    headline: &str,
+    is_least: bool,
+) {
+    let answer = told(rt, &of_plan("chart", SCI, THREE_STEPS, plan));
+    let chart = answer.out.as_str();
+    let is_drawn = is_document(chart) && chart.contains(headline);
+    let is_quiet = answer.status == 0 && answer.err.is_empty();
+    let says_least = chart.contains("no plan loses fewer");
+    holds(
+        rt,
+        headline,
+        &answer,
+        is_drawn && is_quiet && says_least == is_least,
+    );
+}
+
 // A plan whose printed loss is wrong is drawn, under the verdict's line.
 #[test]
 fn a_chart_is_one_document(rt: HostRuntime) {
     for (plan, headline, is_least) in &CHARTS {
-        let script = format!(in rt.alloc();
-            "chart S F P\n=== S\n{SCI}=== F\n{THREE_STEPS}=== P\n{plan}"
-        ).expect(&rt, "memory");
-        let (chart, status) = run(&rt, script.as_str());
-        let is_whole = chart.starts_with("<svg xmlns='http://www.w3.org/2000/svg' version='1.1'")
-            && chart.ends_with("</svg>\n");
-        let is_told = chart.contains(*headline);
-        let says_least = chart.contains("no plan loses fewer");
-        assert!(rt;
-            status == 0 && is_whole && is_told && says_least == *is_least,
-            "{chart}"
-        );
+        draws(&rt, plan, headline, *is_least);
     }
 }
 
@@ -50,8 +70,6 @@ static REFUSED: [(&str, &str); 4] = [
 #[test]
 fn a_refused_chart_or_table_is_one_line(rt: HostRuntime) {
     refuses(&rt, &REFUSED);
-    let script = format!(in rt.alloc();
-        "chart S F P\n=== S\n{SCI}=== F\n{THREE_STEPS}=== P\nmmplan 1\nstores HK\ndump 1 2\nloss 1\nbound 1\nend\n"
-    ).expect(&rt, "memory");
-    prints(&rt, script.as_str(), "refused 35 Shape\n", 1);
+    let script = of_plan("chart", SCI, THREE_STEPS, PLAN_FOR_HK);
+    prints(&rt, "a plan for HK", &script, "refused 35 Shape\n", 1);
 }

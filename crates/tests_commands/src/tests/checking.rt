@@ -2,7 +2,7 @@
 
 use crate::tests::samples::{
     A_WITH_LIMIT_1, APART, FIRST_PLAN, SCI, SCI_OF_SIZE_2, SCI_STARTS_WITH_2, THREE_STEPS,
-    TWO_STEPS_OF_A, checks, prints,
+    TWO_STEPS_OF_A, checks, refuses, replaced,
 };
 
 const A: &str = "[[store]]\nid = \"A\"\nsize = 3\ntype = \"bounded\"\nchannel = 0\n";
@@ -173,16 +173,12 @@ static CHANGED: [(&str, &str, &str, &str); 9] = [
 
 #[test]
 fn sheet_text_refused(rt: HostRuntime) {
-    for (example, old, new, want) in &CHANGED {
-        let plan = FIRST_PLAN
-            .replace(rt.alloc(), old, new)
-            .expect(&rt, example);
-        checks(&rt, example, SCI, THREE_STEPS, plan.as_str(), want);
+    for (example, old, new, line) in &CHANGED {
+        let plan = replaced(&rt, FIRST_PLAN, old, new);
+        checks(&rt, example, SCI, THREE_STEPS, plan.as_str(), line);
     }
-    prints(
+    refuses(
         &rt,
-        "check S F P\n=== S\n",
-        "refused 50 NotRead name F\n",
-        1,
+        &[("check S F P\n=== S\n", "refused 50 NotRead name F\n")],
     );
 }

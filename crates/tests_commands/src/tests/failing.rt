@@ -1,7 +1,7 @@
 //! Files and writers that fail.
 ghost use Rattle.mm_commands.specs.Contents.{unknown};
 
-use crate::tests::samples::{FIRST_PLAN, SCI, THREE_STEPS};
+use crate::tests::samples::{FIRST_PLAN, SCI, THREE_STEPS, answer_to, holds, joined};
 use mm_commands::{Files, Obstacle, ReadFault, StoreFault, run_tool};
 use std::alloc::Global;
 use std::io::{self, ErrorKind, Write};
@@ -18,7 +18,26 @@ const THREE_PACKETS: &str = "\
     1 2 0864C000000E200319000000000000000000000000\n\
     1 3 0864C000000E200319000000000000000000000000\n";
 
-// The files of first_run, a request, and links of which the first send fails. The read after so many fails.
+// The files of first_run, a request, and links of which the first send fails. Any other file is the plan.
+static TEXTS: [(&str, &str); 6] = [
+    ("S", SCI),
+    ("F", THREE_STEPS),
+    ("R", ENABLE_SCI),
+    ("X", THREE_PACKETS),
+    ("L", "links 1\n"),
+    ("BROKEN", "links 1\nfail 1 1\n"),
+];
+
+fn text_of(name: &str) -> &'static str {
+    for (file, text) in &TEXTS {
+        if *file == name {
+            return *text;
+        }
+    }
+    FIRST_PLAN
+}
+
+// These files, of which so many are read.
 #[derive(Drop)]
 struct FailingFiles {
     left: usize,
@@ -34,16 +53,7 @@ impl Files for FailingFiles {
             });
         }
         self.left -= 1;
-        let text = match name {
-            "S" => SCI,
-            "F" => THREE_STEPS,
-            "R" => ENABLE_SCI,
-            "X" => THREE_PACKETS,
-            "L" => "links 1\n",
-            "BROKEN" => "links 1\nfail 1 1\n",
-            _ => FIRST_PLAN,
-        };
-        Vec::from_slice(alloc, text.as_bytes()).map_err(|_| ReadFault::NoMemory)
+        Vec::from_slice(alloc, text_of(name).as_bytes()).map_err(|_| ReadFault::NoMemory)
     }
 
     fn store(&mut self, _alloc: Global, _name: &str, _text: &[u8]) -> Result<(), StoreFault> {
@@ -101,16 +111,23 @@ static COMMANDS: [(&[&str], u32, u8); 11] = [
     (&["plan", "S", "-"], 1, 1),
 ];
 
-// Each file of a command in turn is not read, and its name is told.
+// The read of this file, after so many, fails, and the file's name is told.
+fn read_fails<R: Abort + AllocGlobal + Threads + Wait + Sync>(
+    rt: &R,
+    words: &[&str],
+    reads: usize,
+    name: &str,
+) {
+    let answer = answer_to(rt, words, &mut FailingFiles { left: reads });
+    let line = joined(rt, &["refused 50 NotRead name ", name, "\n"]);
+    let is_told = answer.has(line.as_str(), 1) && !answer.err.is_empty();
+    holds(rt, name, &answer, is_told);
+}
+
+// Each file of a command in turn is not read.
 fn reads_fail<R: Abort + AllocGlobal + Threads + Wait + Sync>(rt: &R, words: &[&str]) {
-    let alloc = rt.alloc();
-    for (left, name) in words.iter().skip(1).enumerate() {
-        let (mut out, mut err) = (Vec::new(alloc), Vec::new(alloc));
-        let mut files = FailingFiles { left };
-        let status = run_tool(rt, alloc, words, &mut files, &mut out, &mut err);
-        let want = format!(in alloc; "refused 50 NotRead name {name}\n").expect(rt, "memory");
-        let is_told = out.as_slice() == want.as_bytes();
-        assert!(rt; is_told && !err.is_empty() && status == 1, "for {name}");
+    for (reads, name) in words.iter().skip(1).enumerate() {
+        read_fails(rt, words, reads, name);
     }
 }
 
@@ -124,22 +141,32 @@ fn each_file_that_is_not_read(rt: HostRuntime) {
 // No command writes as often for the first run.
 const MANY_WRITES: u32 = 100;
 
-// How many writes of a command's output can be refused, each in turn; its status is 1 each time, and standard error says why. With
+// Whether a command writes more often than this. The write after so many is refused: the status is 1, and standard error says why. With
 // none refused it is this status.
+fn is_refused_after<R: Abort + AllocGlobal + Threads + Wait + Sync>(
+    rt: &R,
+    words: &[&str],
+    status: u8,
+    writes: u32,
+) -> bool {
+    let alloc = rt.alloc();
+    let mut files = FailingFiles { left: words.len() };
+    let (mut out, mut err) = (FailingWriter::after(writes), Vec::new(alloc));
+    let got = run_tool(rt, alloc, words, &mut files, &mut out, &mut err);
+    let want = if out.has_refused { 1 } else { status };
+    let is_told = err.ends_with(UNWRITTEN) == out.has_refused;
+    assert!(rt; got == want && is_told, "after {writes} writes");
+    out.has_refused
+}
+
+// How many writes of a command's output can be refused, each in turn.
 fn refused_writes<R: Abort + AllocGlobal + Threads + Wait + Sync>(
     rt: &R,
     words: &[&str],
     status: u8,
 ) -> u32 {
-    let alloc = rt.alloc();
     for writes in 0..MANY_WRITES {
-        let mut files = FailingFiles { left: words.len() };
-        let (mut out, mut err) = (FailingWriter::after(writes), Vec::new(alloc));
-        let got = run_tool(rt, alloc, words, &mut files, &mut out, &mut err);
-        let want = if out.has_refused { 1 } else { status };
-        let is_told = err.ends_with(UNWRITTEN) == out.has_refused;
-        assert!(rt; got == want && is_told, "after {writes} writes");
-        if !out.has_refused {
+        if !is_refused_after(rt, words, status, writes) {
             return writes;
         }
     }
@@ -157,24 +184,22 @@ fn each_write_that_fails(rt: HostRuntime) {
     }
 }
 
-// A write to standard error that fails is not told as one to standard output.
+// Whether more is written to standard error than so often. A write of it that fails is not told as one to standard output.
+fn is_unsaid_after<R: Abort + AllocGlobal + Threads + Wait + Sync>(rt: &R, writes: u32) -> bool {
+    let alloc = rt.alloc();
+    let words = ["ask", "S", "R"];
+    let mut files = FailingFiles { left: 0 };
+    let (mut out, mut err) = (Vec::new(alloc), FailingWriter::after(writes));
+    let status = run_tool(rt, alloc, &words, &mut files, &mut out, &mut err);
+    let is_told = out.as_slice() == b"refused 50 NotRead name S\n".as_slice();
+    assert!(rt; status == 1 && is_told, "after {writes} writes");
+    err.has_refused
+}
+
 #[test]
 fn writes_of_words_that_fail(rt: HostRuntime) {
-    let alloc = rt.alloc();
     for writes in 0..MANY_WRITES {
-        let mut files = FailingFiles { left: 0 };
-        let (mut out, mut err) = (Vec::new(alloc), FailingWriter::after(writes));
-        let status = run_tool(
-            &rt,
-            alloc,
-            &["ask", "S", "R"],
-            &mut files,
-            &mut out,
-            &mut err,
-        );
-        let is_told = out.as_slice() == b"refused 50 NotRead name S\n".as_slice();
-        assert!(rt; status == 1 && is_told, "after {writes} writes");
-        if !err.has_refused {
+        if !is_unsaid_after(&rt, writes) {
             return;
         }
     }

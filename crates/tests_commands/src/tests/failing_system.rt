@@ -1,14 +1,13 @@
 //! A file system, over that of the system, of which one call fails.
 
 use std::alloc::Allocator;
-use std::fs::{Metadata, OpenFile, OpenOptions, Permissions};
+use std::fs::{File, Metadata, OpenFile, OpenOptions, Permissions};
 use std::io::{self, ErrorKind, Read, Seek, SeekFrom, Write};
 use std::rt;
 
 // The call that fails, of those that store a text.
-#[derive(Clone, Copy, Debug, PartialEq, Eq)]
+#[derive(Clone, Copy)]
 pub(crate) enum Fails {
-    Never,
     Open,
     // The write after so many bytes.
     WriteAfter(usize),
@@ -17,28 +16,29 @@ pub(crate) enum Fails {
 }
 
 #[derive(Drop)]
-pub(crate) struct FailingSystem<'a, R> {
-    pub(crate) runtime: &'a R,
+pub(crate) struct FailingSystem<'a> {
+    pub(crate) runtime: &'a HostRuntime,
     pub(crate) fails: Fails,
 }
 
 #[derive(Drop)]
-pub(crate) struct FailingFile<F> {
-    file: F,
+pub(crate) struct FailingFile {
+    file: File,
     fails: Fails,
 }
 
+// The error of a call that fails. A call that is not needed to store a text always fails.
 fn fault() -> io::Error {
     io::Error::from(ErrorKind::StorageFull)
 }
 
-impl<F: Read> Read for FailingFile<F> {
+impl Read for FailingFile {
     fn read(&mut self, buf: &mut [u8]) -> io::Result<usize> {
         self.file.read(buf)
     }
 }
 
-impl<F: Write> Write for FailingFile<F> {
+impl Write for FailingFile {
     fn write(&mut self, buf: &[u8]) -> io::Result<usize> {
         let Fails::WriteAfter(left) = self.fails else {
             return self.file.write(buf);
@@ -52,92 +52,91 @@ impl<F: Write> Write for FailingFile<F> {
     }
 
     fn flush(&mut self) -> io::Result<()> {
-        self.file.flush()
+        Err(fault())
     }
 }
 
-impl<F: Seek> Seek for FailingFile<F> {
-    fn seek(&mut self, to: SeekFrom) -> io::Result<u64> {
-        self.file.seek(to)
+impl Seek for FailingFile {
+    fn seek(&mut self, _to: SeekFrom) -> io::Result<u64> {
+        Err(fault())
     }
 }
 
-impl<F: OpenFile> OpenFile for FailingFile<F> {
+impl OpenFile for FailingFile {
     fn metadata(&self) -> io::Result<Metadata> {
-        self.file.metadata()
+        Err(fault())
     }
 
-    fn set_len(&self, size: u64) -> io::Result<()> {
-        self.file.set_len(size)
+    fn set_len(&self, _size: u64) -> io::Result<()> {
+        Err(fault())
     }
 
     fn sync_all(&self) -> io::Result<()> {
-        if self.fails == Fails::Sync {
-            return Err(fault());
+        match self.fails {
+            Fails::Sync => Err(fault()),
+            _ => self.file.sync_all(),
         }
-        self.file.sync_all()
     }
 
     fn sync_data(&self) -> io::Result<()> {
-        self.file.sync_data()
+        Err(fault())
     }
 
-    fn set_permissions(&self, perm: Permissions) -> io::Result<()> {
-        self.file.set_permissions(perm)
+    fn set_permissions(&self, permissions: Permissions) -> io::Result<()> {
+        self.file.set_permissions(permissions)
     }
 }
 
-impl<R: rt::Files> rt::Files for FailingSystem<'_, R> {
-    type File = FailingFile<R::File>;
+impl rt::Files for FailingSystem<'_> {
+    type File = FailingFile;
 
-    type Dir = R::Dir;
+    type Dir = <HostRuntime as rt::Files>::Dir;
 
-    fn open_file(&self, how: &OpenOptions, path: &str) -> io::Result<FailingFile<R::File>> {
-        if how.asks_write() && self.fails == Fails::Open {
+    fn open_file(&self, how: &OpenOptions, path: &str) -> io::Result<FailingFile> {
+        let fails = self.fails;
+        if how.asks_write() && matches!(fails, Fails::Open) {
             return Err(fault());
         }
-        Ok(FailingFile {
-            file: self.runtime.open_file(how, path)?,
-            fails: self.fails,
-        })
+        let file = self.runtime.open_file(how, path)?;
+        Ok(FailingFile { file, fails })
     }
 
-    fn open_dir(&self, path: &str) -> io::Result<R::Dir> {
-        self.runtime.open_dir(path)
+    fn open_dir(&self, _path: &str) -> io::Result<<HostRuntime as rt::Files>::Dir> {
+        Err(fault())
     }
 
-    fn metadata(&self, path: &str) -> io::Result<Metadata> {
-        self.runtime.metadata(path)
+    fn metadata(&self, _path: &str) -> io::Result<Metadata> {
+        Err(fault())
     }
 
     fn symlink_metadata(&self, path: &str) -> io::Result<Metadata> {
         self.runtime.symlink_metadata(path)
     }
 
-    fn copy(&self, from: &str, to: &str) -> io::Result<u64> {
-        self.runtime.copy(from, to)
+    fn copy(&self, _from: &str, _to: &str) -> io::Result<u64> {
+        Err(fault())
     }
 
     fn rename(&self, from: &str, to: &str) -> io::Result<()> {
-        if self.fails == Fails::Rename {
-            return Err(fault());
+        match self.fails {
+            Fails::Rename => Err(fault()),
+            _ => self.runtime.rename(from, to),
         }
-        self.runtime.rename(from, to)
     }
 
     fn remove_file(&self, path: &str) -> io::Result<()> {
         self.runtime.remove_file(path)
     }
 
-    fn create_dir(&self, path: &str) -> io::Result<()> {
-        self.runtime.create_dir(path)
+    fn create_dir(&self, _path: &str) -> io::Result<()> {
+        Err(fault())
     }
 
-    fn remove_dir(&self, path: &str) -> io::Result<()> {
-        self.runtime.remove_dir(path)
+    fn remove_dir(&self, _path: &str) -> io::Result<()> {
+        Err(fault())
     }
 
-    fn remove_dir_all<B: Allocator>(&self, alloc: B, path: &str) -> io::Result<()> {
-        self.runtime.remove_dir_all(alloc, path)
+    fn remove_dir_all<B: Allocator>(&self, _alloc: B, _path: &str) -> io::Result<()> {
+        Err(fault())
     }
 }

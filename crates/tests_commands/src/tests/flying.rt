@@ -1,24 +1,29 @@
 //! What `run` and `fly` print of the worked examples.
 
-use crate::tests::samples::{FIRST_PLAN, SCI, THREE_STEPS, prints};
+use crate::tests::samples::{FIRST_PLAN, SCI, THREE_STEPS, joined, prints};
 use std::process::Abort;
 use std::sync::Wait;
 use std::thread::Threads;
 
 mod refusals;
 
-// Telemetry without data, of APID 100, service 3, subtype 25.
-const PACKET: &str = "0864C000000E200319000000000000000000000000";
+// One packet of source 1 before the run, and in each step: telemetry without data, of APID 100, service 3, subtype 25.
+const IN_0: &str = "1 0 0864C000000E200319000000000000000000000000\n";
 
-// A run: its files, what it prints, and its status. Of source 1 come so many packets in each step; more lines follow.
+const IN_1: &str = "1 1 0864C000000E200319000000000000000000000000\n";
+
+const IN_2: &str = "1 2 0864C000000E200319000000000000000000000000\n";
+
+const IN_3: &str = "1 3 0864C000000E200319000000000000000000000000\n";
+
+// A run: its files, what it prints, and its status.
 #[derive(Clone, Copy)]
 struct Run {
     example: &'static str,
     setup: &'static str,
     forecast: &'static str,
     plan: &'static str,
-    came: &'static [(u32, u32)],
-    more: &'static str,
+    sources: &'static [&'static str],
     links: &'static str,
     prints: &'static str,
     status: u8,
@@ -29,8 +34,7 @@ const FIRST_RUN: Run = Run {
     setup: SCI,
     forecast: THREE_STEPS,
     plan: FIRST_PLAN,
-    came: &[(1, 3), (2, 3), (3, 4)],
-    more: "",
+    sources: &[IN_1, IN_1, IN_1, IN_2, IN_2, IN_2, IN_3, IN_3, IN_3, IN_3],
     links: "links 1\n",
     prints: "",
     status: 0,
@@ -101,7 +105,9 @@ const HALTED_IN_2: &str = "\
 // The first run with five packets in step 3.
 const OTHER_ARRIVALS: Run = Run {
     example: "run_with_other_arrivals",
-    came: &[(1, 3), (2, 3), (3, 5)],
+    sources: &[
+        IN_1, IN_1, IN_1, IN_2, IN_2, IN_2, IN_3, IN_3, IN_3, IN_3, IN_3,
+    ],
     prints: FIVE_CAME,
     ..FIRST_RUN
 };
@@ -110,7 +116,7 @@ static RUNS: [Run; 9] = [
     OTHER_ARRIVALS,
     Run {
         example: "fewer_arrivals_than_forecast",
-        came: &[(1, 3), (3, 4)],
+        sources: &[IN_1, IN_1, IN_1, IN_3, IN_3, IN_3, IN_3],
         prints: "\
             step 1 SCI arrived 3 lost 0 dumped 2 held 1\n\
             step 2 SCI arrived 0 lost 0 dumped 1 held 0\n\
@@ -128,7 +134,7 @@ static RUNS: [Run; 9] = [
         example: "second_send_fails",
         forecast: "step,window,SCI\n1,3,3\n",
         plan: THREE_BLOCKS,
-        came: &[(1, 3)],
+        sources: &[IN_1, IN_1, IN_1],
         links: "links 1\nfail 1 2\n",
         prints: HALTED_IN_1,
         status: 1,
@@ -139,7 +145,7 @@ static RUNS: [Run; 9] = [
         setup: A_AND_B,
         forecast: "step,window,A,B\n1,4,2,2\n",
         plan: "mmplan 1\nstores A B\ndump 1 2 2\nloss 0\nbound 0\nend\n",
-        came: &[(1, 2)],
+        sources: &[IN_1, IN_1],
         links: "links 2\nfail 1 1\nfail 2 1\n",
         prints: HALTED_IN_1,
         status: 1,
@@ -150,7 +156,7 @@ static RUNS: [Run; 9] = [
         setup: RING_AND_BLOCKS,
         forecast: "step,window,C,B\n1,2,3,3\n",
         plan: "mmplan 1\nstores C B\ndump 1 1 1\nloss 2\nbound 0\nend\n",
-        came: &[(1, 3)],
+        sources: &[IN_1, IN_1, IN_1],
         prints: "\
             step 1 C arrived 3 lost 1 dumped 1 held 1\n\
             step 1 B arrived 3 lost 1 dumped 1 held 1\n\
@@ -161,7 +167,9 @@ static RUNS: [Run; 9] = [
         example: "opening_contents_run",
         setup: STARTS_WITH_2,
         plan: PLAN_FROM_2,
-        came: &[(0, 2), (1, 3), (2, 3), (3, 4)],
+        sources: &[
+            IN_0, IN_0, IN_1, IN_1, IN_1, IN_2, IN_2, IN_2, IN_3, IN_3, IN_3, IN_3,
+        ],
         prints: "\
             step 1 SCI arrived 3 lost 1 dumped 2 held 2\n\
             step 2 SCI arrived 3 lost 1 dumped 2 held 2\n\
@@ -175,8 +183,7 @@ static RUNS: [Run; 9] = [
         setup: TWO_ARE_FULL,
         forecast: "step,window,A,C\n1,3,1,1\n",
         plan: THREE_OF_TWO,
-        came: &[],
-        more: THREE_FOR_EACH,
+        sources: &[THREE_FOR_EACH],
         prints: "\
             step 1 A arrived 1 lost 1 dumped 2 held 0\n\
             step 1 C arrived 1 lost 1 dumped 1 held 1\n\
@@ -187,8 +194,7 @@ static RUNS: [Run; 9] = [
         example: "a_telecommand_is_not_stored",
         forecast: "step,window,SCI\n1,3,0\n",
         plan: THREE_BLOCKS,
-        came: &[],
-        more: "1 0 1864C0000004200319FFFF\n2 1 1864C0000004200319FFFF\n",
+        sources: &["1 0 1864C0000004200319FFFF\n2 1 1864C0000004200319FFFF\n"],
         links: "links 4",
         prints: "\
             step 1 SCI arrived 0 lost 0 dumped 0 held 0\n\
@@ -197,26 +203,32 @@ static RUNS: [Run; 9] = [
     },
 ];
 
-// Of source 1 so many packets in each step.
-fn sources<R: Abort + AllocGlobal + Threads + Wait + Sync>(rt: &R, came: &[(u32, u32)]) -> String {
-    let mut text = String::new(rt.alloc());
-    for (step, packets) in came {
-        for _ in 0..*packets {
-            write!(text, "1 {step} {PACKET}\n").expect(rt, "memory");
-        }
-    }
-    text
+// `run` with the files of a row and these links prints this report.
+fn runs_over<R: Abort + AllocGlobal + Threads + Wait + Sync>(
+    rt: &R,
+    row: &Run,
+    links: &'static str,
+    report: &'static str,
+    status: u8,
+) {
+    let sources = joined(rt, row.sources);
+    let script = [
+        "run S F P X L\n=== S\n",
+        row.setup,
+        "=== F\n",
+        row.forecast,
+        "=== P\n",
+        row.plan,
+        "=== X\n",
+        sources.as_str(),
+        "=== L\n",
+        links,
+    ];
+    prints(rt, row.example, &script, report, status)
 }
 
-// `run` with the files of a row prints what the row says.
 fn runs<R: Abort + AllocGlobal + Threads + Wait + Sync>(rt: &R, row: &Run) {
-    let sources = sources(rt, row.came);
-    let script = format!(in rt.alloc();
-        "run S F P X L\n=== S\n{}=== F\n{}=== P\n{}=== X\n{sources}{}=== L\n{}",
-        row.setup, row.forecast, row.plan, row.more, row.links
-    )
-    .expect(rt, row.example);
-    prints(rt, script.as_str(), row.prints, row.status)
+    runs_over(rt, row, row.links, row.prints, row.status)
 }
 
 #[test]
@@ -226,16 +238,27 @@ fn runs_of_the_examples(rt: HostRuntime) {
     }
 }
 
-// `fly` for the files of a row but its plan, which it makes: it is printed before what the row says.
-fn flies<R: Abort + AllocGlobal + Threads + Wait + Sync>(rt: &R, row: &Run) {
-    let sources = sources(rt, row.came);
-    let script = format!(in rt.alloc();
-        "fly S F X L\n=== S\n{}=== F\n{}=== X\n{sources}{}=== L\n{}",
-        row.setup, row.forecast, row.more, row.links
-    )
-    .expect(rt, row.example);
-    let want = format!(in rt.alloc(); "{}{}", row.plan, row.prints).expect(rt, row.example);
-    prints(rt, script.as_str(), want.as_str(), row.status)
+// `fly` for the files of a row but its plan, and these links, makes the plan: it is printed before the report.
+fn flies_over<R: Abort + AllocGlobal + Threads + Wait + Sync>(
+    rt: &R,
+    row: &Run,
+    links: &'static str,
+    report: &'static str,
+    status: u8,
+) {
+    let sources = joined(rt, row.sources);
+    let script = [
+        "fly S F X L\n=== S\n",
+        row.setup,
+        "=== F\n",
+        row.forecast,
+        "=== X\n",
+        sources.as_str(),
+        "=== L\n",
+        links,
+    ];
+    let out = joined(rt, &[row.plan, report]);
+    prints(rt, row.example, &script, out.as_str(), status)
 }
 
 const FIRST_FLIGHT: Run = Run {
@@ -257,7 +280,7 @@ static FLIGHTS: [Run; 3] = [
     // A run that does not begin has its plan printed, and no report.
     Run {
         example: "first_run without a source",
-        came: &[],
+        sources: &[],
         prints: "refused 44 Counts\n",
         status: 1,
         ..FIRST_RUN
@@ -267,7 +290,7 @@ static FLIGHTS: [Run; 3] = [
 #[test]
 fn fly_first_run(rt: HostRuntime) {
     for row in &FLIGHTS {
-        flies(&rt, row);
+        flies_over(&rt, row, row.links, row.prints, row.status);
     }
 }
 
@@ -281,20 +304,8 @@ static SENDS: [(&str, &str); 4] = [
 
 #[test]
 fn each_send_fails(rt: HostRuntime) {
-    for (links, prints) in &SENDS {
-        let halted = Run {
-            links: *links,
-            prints: *prints,
-            status: 1,
-            ..FIRST_RUN
-        };
-        runs(
-            &rt,
-            &Run {
-                came: OTHER_ARRIVALS.came,
-                ..halted
-            },
-        );
-        flies(&rt, &halted);
+    for (links, report) in &SENDS {
+        runs_over(&rt, &OTHER_ARRIVALS, *links, *report, 1);
+        flies_over(&rt, &FIRST_RUN, *links, *report, 1);
     }
 }

@@ -1,14 +1,18 @@
 //! Inputs that fail or are interrupted, and files of the system that are not read.
 
-use mm_commands::{Device, Files, Obstacle, ReadFault, SystemFiles, read_to_end, run_tool};
+use crate::tests::samples::{answer_to, holds};
+use mm_commands::{Device, Files, Obstacle, ReadFault, SystemFiles, read_to_end};
 use std::io::{self, ErrorKind, Read};
+use std::process::Abort;
+use std::rt;
+use std::sync::Wait;
+use std::thread::Threads;
 
 // What one read does.
 #[derive(Clone, Copy)]
 enum Turn {
     Gives(&'static [u8]),
-    IsInterrupted,
-    Fails,
+    Fails(ErrorKind),
 }
 
 // A reader that does these things in turn, and is then at its end.
@@ -29,42 +33,59 @@ impl Read for Turns {
                 buf[..count].copy_from_slice(&text[..count]);
                 Ok(count)
             }
-            Turn::IsInterrupted => Err(io::Error::from(ErrorKind::Interrupted)),
-            Turn::Fails => Err(io::Error::from(ErrorKind::PermissionDenied)),
+            Turn::Fails(kind) => Err(io::Error::from(kind)),
         }
     }
 }
 
-// What the reads of an input do, and what is read of it; none where it is told as not read.
-static INPUTS: [(&[Turn], Option<&[u8]>); 6] = [
-    (&[], Some(b"")),
-    (&[Turn::Gives(b"a"), Turn::Gives(b"bc")], Some(b"abc")),
+const INTERRUPTED: Turn = Turn::Fails(ErrorKind::Interrupted);
+
+const DENIED: Turn = Turn::Fails(ErrorKind::PermissionDenied);
+
+// What the reads of an input do, and what is read of it, or why it is not read.
+static INPUTS: [(&[Turn], Result<&[u8], Obstacle>); 9] = [
+    (&[], Ok(b"")),
+    (&[Turn::Gives(b"a"), Turn::Gives(b"bc")], Ok(b"abc")),
     (
         &[
-            Turn::IsInterrupted,
+            INTERRUPTED,
             Turn::Gives(b"a"),
-            Turn::IsInterrupted,
-            Turn::IsInterrupted,
+            INTERRUPTED,
+            INTERRUPTED,
             Turn::Gives(b"bc"),
-            Turn::IsInterrupted,
+            INTERRUPTED,
         ],
-        Some(b"abc"),
+        Ok(b"abc"),
     ),
-    (&[Turn::Fails], None),
-    (&[Turn::Gives(b"a"), Turn::Fails, Turn::Gives(b"bc")], None),
-    (&[Turn::IsInterrupted, Turn::Fails], None),
+    (&[DENIED], Err(Obstacle::Forbidden)),
+    (
+        &[Turn::Gives(b"a"), DENIED, Turn::Gives(b"bc")],
+        Err(Obstacle::Forbidden),
+    ),
+    (&[INTERRUPTED, DENIED], Err(Obstacle::Forbidden)),
+    (&[Turn::Fails(ErrorKind::NotFound)], Err(Obstacle::Missing)),
+    (
+        &[Turn::Fails(ErrorKind::IsADirectory)],
+        Err(Obstacle::Folder),
+    ),
+    (&[Turn::Fails(ErrorKind::TimedOut)], Err(Obstacle::Failed)),
 ];
+
+// Whether this is read, or not read for this reason.
+fn is_read(read: &Result<Vec<u8>, ReadFault>, wanted: Result<&[u8], Obstacle>) -> bool {
+    match read {
+        Ok(text) => wanted == Ok(text.as_slice()),
+        Err(ReadFault::NotRead { obstacle }) => wanted == Err(*obstacle),
+        Err(ReadFault::NoMemory) => false,
+    }
+}
 
 #[test]
 fn inputs_that_fail_or_are_interrupted(rt: HostRuntime) {
     for (turns, wanted) in &INPUTS {
         let input = Turns { rest: *turns };
-        let is_wanted = match (read_to_end(rt.alloc(), &mut Device::new(input)), wanted) {
-            (Ok(text), Some(wanted)) => text.as_slice() == *wanted,
-            (Err(ReadFault::NotRead { .. }), None) => true,
-            _ => false,
-        };
-        assert!(rt; is_wanted, "{wanted:?}");
+        let read = read_to_end(rt.alloc(), &mut Device::new(input));
+        assert!(rt; is_read(&read, *wanted), "{wanted:?}");
     }
 }
 
@@ -82,43 +103,24 @@ static OBSTACLES: [(&str, Obstacle, &str); 2] = [
     ),
 ];
 
+// The file of this name is told as not read.
+fn is_unread<R>(rt: &R, name: &str, obstacle: Obstacle, words: &str)
+where
+    R: Abort + AllocGlobal + rt::Files + Threads + Wait + Sync,
+{
+    let mut files = SystemFiles::new(rt);
+    let read = files.read(rt.alloc(), name);
+    let answer = answer_to(rt, &["plan", name, "nor/this/one"], &mut files);
+    let is_told = answer.out.as_str().starts_with("refused 50 NotRead name ")
+        && answer.err.as_str() == words;
+    let is_unread = answer.status == 1 && is_read(&read, Err(obstacle));
+    holds(rt, name, &answer, is_told && is_unread);
+}
+
 #[test]
 fn files_of_the_system_that_are_not_read(rt: HostRuntime) {
-    let alloc = rt.alloc();
-    for (name, wanted, words) in &OBSTACLES {
-        let mut files = SystemFiles::new(&rt);
-        let fault = files.read(alloc, name).err();
-        assert_eq!(rt; fault, Some(ReadFault::NotRead { obstacle: *wanted }));
-        let (mut out, mut err) = (Vec::new(alloc), Vec::new(alloc));
-        let line = ["plan", *name, "nor/this/one"];
-        let status = run_tool(&rt, alloc, &line, &mut files, &mut out, &mut err);
-        assert!(rt; status == 1 && out.starts_with(b"refused 50 NotRead name "));
-        assert!(rt; err.as_slice() == words.as_bytes(), "for {name}");
-    }
-}
-
-// A reader that fails in this way.
-#[derive(Drop)]
-struct FailsBy(ErrorKind);
-
-impl Read for FailsBy {
-    fn read(&mut self, _buf: &mut [u8]) -> io::Result<usize> {
-        Err(io::Error::from(self.0))
-    }
-}
-
-static KINDS: [(ErrorKind, Obstacle); 4] = [
-    (ErrorKind::NotFound, Obstacle::Missing),
-    (ErrorKind::PermissionDenied, Obstacle::Forbidden),
-    (ErrorKind::IsADirectory, Obstacle::Folder),
-    (ErrorKind::TimedOut, Obstacle::Failed),
-];
-
-#[test]
-fn why_an_input_was_not_read(rt: HostRuntime) {
-    for (kind, wanted) in &KINDS {
-        let read = read_to_end(rt.alloc(), &mut Device::new(FailsBy(*kind)));
-        assert_eq!(rt; read.err(), Some(ReadFault::NotRead { obstacle: *wanted }));
+    for (name, obstacle, words) in &OBSTACLES {
+        is_unread(&rt, name, *obstacle, words);
     }
 }
 

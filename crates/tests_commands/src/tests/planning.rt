@@ -2,7 +2,7 @@
 
 use crate::tests::samples::{
     A_WITH_LIMIT_1, APART, SCI, SCI_OF_SIZE_2, SCI_STARTS_WITH_2, THREE_STEPS, TWO_STEPS_OF_A,
-    checks, prints, refuses, run,
+    checks, holds, joined, prints, refuses, replaced, to_plan, told,
 };
 use std::process::Abort;
 use std::sync::Wait;
@@ -127,22 +127,11 @@ fn is_planned(plan: &str, row: &Planned) -> bool {
 }
 
 fn plans<R: Abort + AllocGlobal + Threads + Wait + Sync>(rt: &R, row: &Planned) {
-    let script = format!(in rt.alloc();
-        "plan S F\n=== S\n{}=== F\n{}",
-        row.setup, row.forecast
-    ).expect(rt, "memory");
-    let (plan, status) = run(rt, script.as_str());
-    let example = row.example;
-    assert_eq!(rt; status, 0, "for {example}");
-    assert!(rt; is_planned(plan.as_str(), row), "for {example}: {plan}");
-    checks(
-        rt,
-        example,
-        row.setup,
-        row.forecast,
-        plan.as_str(),
-        row.verdict,
-    )
+    let answer = told(rt, &to_plan(row.setup, row.forecast));
+    let plan = answer.out.as_str();
+    let is_done = answer.status == 0 && answer.err.is_empty();
+    holds(rt, row.example, &answer, is_done && is_planned(plan, row));
+    checks(rt, row.example, row.setup, row.forecast, plan, row.verdict)
 }
 
 #[test]
@@ -207,12 +196,10 @@ static SETUPS_REFUSED: [(&str, &str, &str); 8] = [
 
 #[test]
 fn setup_texts_refused(rt: HostRuntime) {
-    for (old, new, want) in &SETUPS_REFUSED {
-        let setup = SCI.replace(rt.alloc(), old, new).expect(&rt, "memory");
-        let script = format!(in rt.alloc(); "plan S F\n=== S\n{setup}=== F\n{THREE_STEPS}").expect(
-            &rt, "memory",
-        );
-        prints(&rt, script.as_str(), want, 1);
+    for (old, new, line) in &SETUPS_REFUSED {
+        let setup = replaced(&rt, SCI, old, new);
+        let script = to_plan(setup.as_str(), THREE_STEPS);
+        prints(&rt, new, &script, line, 1);
     }
 }
 
@@ -242,16 +229,13 @@ static FORECASTS_REFUSED: [(&str, &str); 8] = [
 
 #[test]
 fn forecast_cells(rt: HostRuntime) {
-    for (forecast, want) in &FORECASTS_REFUSED {
-        let script = format!(in rt.alloc(); "plan S F\n=== S\n{SCI}=== F\n{forecast}").expect(
-            &rt, "memory",
-        );
-        prints(&rt, script.as_str(), want, 1);
+    for (forecast, line) in &FORECASTS_REFUSED {
+        prints(&rt, forecast, &to_plan(SCI, forecast), line, 1);
     }
 }
 
 // The numbers from the first up to before the end, each between two texts.
-fn numbered<R: Abort + AllocGlobal + Threads + Wait + Sync>(
+fn numbered<R: Abort + AllocGlobal>(
     rt: &R,
     first: u32,
     end: u32,
@@ -265,37 +249,44 @@ fn numbered<R: Abort + AllocGlobal + Threads + Wait + Sync>(
     text
 }
 
-// The text of the most stores over the most steps, without any window, when as much arrives as may.
-fn fullest_forecast<R: Abort + AllocGlobal + Threads + Wait + Sync>(rt: &R) -> String {
+// The most stores, each of one block.
+fn fullest_setup<R: Abort + AllocGlobal>(rt: &R) -> String {
+    let size = "\"\nsize = 1\ntype = \"bounded\"\nchannel = 0\n";
+    numbered(rt, 0, 16, "[[store]]\nid = \"S", size)
+}
+
+// The most steps for them, without any window, when as much arrives as may.
+fn fullest_forecast<R: Abort + AllocGlobal>(rt: &R) -> String {
     let columns = numbered(rt, 0, 16, ",S", "");
     let full =
         ",0,1000000,1000000,1000000,1000000,1000000,1000000,1000000,1000000,1000000,1000000,1000000,1000000,1000000,1000000,1000000,1000000\n";
     let rows = numbered(rt, 1, 257, "", full);
-    format!(in rt.alloc(); "step,window{columns}\n{rows}").expect(rt, "memory")
+    joined(rt, &["step,window", columns.as_str(), "\n", rows.as_str()])
 }
 
-// Its plan, which dumps nothing.
-fn fullest_plan<R: Abort + AllocGlobal + Threads + Wait + Sync>(rt: &R) -> String {
+// Their plan, which dumps nothing.
+fn fullest_plan<R: Abort + AllocGlobal>(rt: &R) -> String {
     let ids = numbered(rt, 0, 16, " S", "");
     let dumps = numbered(rt, 1, 257, "dump ", " 0 0 0 0 0 0 0 0 0 0 0 0 0 0 0 0\n");
     let cut = numbered(rt, 0, 16, "stretch S", " 1 256\n");
-    format!(in rt.alloc();
-        "mmplan 1\nstores{ids}\n{dumps}loss 4095999984\n{cut}bound 4095999984\nend\n"
-    ).expect(rt, "memory")
+    let (loss, bound) = ("loss 4095999984\n", "bound 4095999984\nend\n");
+    joined(
+        rt,
+        &[
+            "mmplan 1\nstores",
+            ids.as_str(),
+            "\n",
+            dumps.as_str(),
+            loss,
+            cut.as_str(),
+            bound,
+        ],
+    )
 }
 
 #[test]
 fn largest_loss(rt: HostRuntime) {
-    let setup = numbered(
-        &rt,
-        0,
-        16,
-        "[[store]]\nid = \"S",
-        "\"\nsize = 1\ntype = \"bounded\"\nchannel = 0\n",
-    );
-    let forecast = fullest_forecast(&rt);
-    let script = format!(in rt.alloc(); "plan S F\n=== S\n{setup}=== F\n{forecast}").expect(
-        &rt, "memory",
-    );
-    prints(&rt, script.as_str(), fullest_plan(&rt).as_str(), 0);
+    let (setup, forecast) = (fullest_setup(&rt), fullest_forecast(&rt));
+    let script = to_plan(setup.as_str(), forecast.as_str());
+    prints(&rt, "largest_loss", &script, fullest_plan(&rt).as_str(), 0);
 }

@@ -14,8 +14,7 @@ const WORDS: &str = "\
 
 #[test]
 fn packets_in_words(rt: HostRuntime) {
-    let script = format!(in rt.alloc(); "read P\n=== P\n{PACKETS}").expect(&rt, "memory");
-    prints(&rt, script.as_str(), WORDS, 0);
+    prints(&rt, PACKETS, &["read P\n=== P\n", PACKETS], WORDS, 0);
 }
 
 static REFUSED: [(&str, &str); 2] = [

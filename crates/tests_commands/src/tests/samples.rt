@@ -1,6 +1,7 @@
 //! The examples that several modules share, and what runs the program on them.
 
-use mm_commands::run_script;
+use mm_commands::{Files, run_script, run_tool};
+use std::convert::AsStr;
 use std::process::Abort;
 use std::sync::Wait;
 use std::thread::Threads;
@@ -37,57 +38,117 @@ bound 2
 end
 ";
 
-// How the lines of verdicts begin that are not `least`.
-static VERDICTS: [&str; 6] = [
-    "does not fit, ",
-    "loss is ",
-    "bad stretch ",
-    "bad count ",
-    "bound is ",
-    "not shown, ",
-];
-
-// Whether a line says that something is refused, that a run did not begin or was halted, or that a plan is not shown to lose least.
-fn is_refused(printed: &str) -> bool {
-    printed.contains("refused ")
-        || printed.starts_with("halted ")
-        || printed.contains("\nhalted ")
-        || VERDICTS.iter().any(|verdict| printed.starts_with(verdict))
+// What the program answers: what it writes to standard output and to standard error, and its status.
+#[derive(Drop)]
+pub(crate) struct Answer {
+    pub(crate) out: String,
+    pub(crate) err: String,
+    pub(crate) status: u8,
 }
 
-// What the program writes to standard output and to standard error for a script, and its status.
-pub(crate) fn told<R: Abort + AllocGlobal + Threads + Wait + Sync>(
+impl Answer {
+    // The answer of a program that wrote these bytes.
+    pub(crate) fn of<R: Abort>(rt: &R, out: Vec<u8>, err: Vec<u8>, status: u8) -> Answer {
+        let out = String::from_utf8(out).expect(rt, "UTF-8");
+        let err = String::from_utf8(err).expect(rt, "UTF-8");
+        Answer { out, err, status }
+    }
+
+    // Whether this is printed, with this status.
+    pub(crate) fn has(&self, out: &str, status: u8) -> bool {
+        self.out.as_str() == out && self.status == status
+    }
+}
+
+// The answer to an example is as wanted, or a test fails and shows it.
+pub(crate) fn holds<R: Abort>(rt: &R, example: &str, answer: &Answer, is_wanted: bool) {
+    let (out, err, status) = (answer.out.as_str(), answer.err.as_str(), answer.status);
+    assert!(rt; is_wanted, "for {example}: {status}\n{out}{err}");
+}
+
+// The parts of a script that has a plan made of these files.
+pub(crate) fn to_plan<'a>(setup: &'a str, forecast: &'a str) -> [&'a str; 4] {
+    ["plan S F\n=== S\n", setup, "=== F\n", forecast]
+}
+
+// The parts of a script for a command that takes a plan with its setup and its forecast.
+pub(crate) fn of_plan<'a>(
+    command: &'a str,
+    setup: &'a str,
+    forecast: &'a str,
+    plan: &'a str,
+) -> [&'a str; 7] {
+    let files = " S F P\n=== S\n";
+    [command, files, setup, "=== F\n", forecast, "=== P\n", plan]
+}
+
+// One of these parts after another.
+pub(crate) fn joined<R: Abort + AllocGlobal>(rt: &R, parts: &[&str]) -> String {
+    parts.join(rt.alloc(), "").expect(rt, "memory")
+}
+
+// A text with one text in the place of another.
+pub(crate) fn replaced<R: Abort + AllocGlobal>(rt: &R, text: &str, old: &str, new: &str) -> String {
+    text.replace(rt.alloc(), old, new).expect(rt, "memory")
+}
+
+// What the program answers to the words of a command line, over these files.
+pub(crate) fn answer_to<R, S, F>(rt: &R, words: &[S], files: &mut F) -> Answer
+where
+    R: Abort + AllocGlobal + Threads + Wait + Sync,
+    S: AsStr,
+    F: Files,
+{
+    let alloc = rt.alloc();
+    let (mut out, mut err) = (Vec::new(alloc), Vec::new(alloc));
+    let status = run_tool(rt, alloc, words, files, &mut out, &mut err);
+    Answer::of(rt, out, err, status)
+}
+
+// What the program answers to a script.
+pub(crate) fn told_bytes<R: Abort + AllocGlobal + Threads + Wait + Sync>(
     rt: &R,
     script: &[u8],
-) -> (Vec<u8>, Vec<u8>, u8) {
+) -> Answer {
     let alloc = rt.alloc();
     let (mut out, mut err) = (Vec::new(alloc), Vec::new(alloc));
     let status = run_script(rt, alloc, script, &mut out, &mut err);
-    (out, err, status)
+    Answer::of(rt, out, err, status)
 }
 
-// What the program prints for a script, and its status; it says something on standard error where something is refused, and
-// nothing otherwise.
-pub(crate) fn run<R: Abort + AllocGlobal + Threads + Wait + Sync>(
+// What the program answers to the script of these parts.
+pub(crate) fn told<R: Abort + AllocGlobal + Threads + Wait + Sync>(
     rt: &R,
-    script: &str,
-) -> (String, u8) {
-    let (out, err, status) = told(rt, script.as_bytes());
-    let out = String::from_utf8(out).expect(rt, "UTF-8");
-    assert!(rt; err.is_empty() != is_refused(out.as_str()), "for {script}");
-    (out, status)
+    script: &[&str],
+) -> Answer {
+    told_bytes(rt, joined(rt, script).as_bytes())
 }
 
-// The program prints this for a script, and ends with this status.
+// The program prints this for a script, and ends with this status. It says something on standard error where the status is not 0, and
+// nothing otherwise.
 pub(crate) fn prints<R: Abort + AllocGlobal + Threads + Wait + Sync>(
     rt: &R,
-    script: &str,
-    want: &str,
+    example: &str,
+    script: &[&str],
+    out: &str,
     status: u8,
 ) {
-    let (out, got) = run(rt, script);
-    assert_eq!(rt; out.as_str(), want, "for {script}");
-    assert_eq!(rt; got, status, "for {script}");
+    let answer = told(rt, script);
+    let is_said = answer.err.is_empty() == (status == 0);
+    holds(rt, example, &answer, is_said && answer.has(out, status));
+}
+
+// The program prints this for a script, says this on standard error, and ends with this status.
+pub(crate) fn answers<R: Abort + AllocGlobal + Threads + Wait + Sync>(
+    rt: &R,
+    script: &[&str],
+    out: &str,
+    err: &str,
+    status: u8,
+) {
+    let answer = told(rt, script);
+    let is_said = answer.err.as_str() == err;
+    holds(rt, err, &answer, is_said && answer.has(out, status));
 }
 
 // The program prints its line for each of these scripts, and ends with status 1.
@@ -95,8 +156,8 @@ pub(crate) fn refuses<R: Abort + AllocGlobal + Threads + Wait + Sync>(
     rt: &R,
     cases: &[(&str, &str)],
 ) {
-    for (script, want) in cases {
-        prints(rt, script, want, 1);
+    for (script, line) in cases {
+        prints(rt, script, &[*script], line, 1);
     }
 }
 
@@ -107,15 +168,9 @@ pub(crate) fn checks<R: Abort + AllocGlobal + Threads + Wait + Sync>(
     setup: &str,
     forecast: &str,
     plan: &str,
-    want: &str,
+    line: &str,
 ) {
-    let script = format!(in rt.alloc();
-        "check S F P\n=== S\n{setup}=== F\n{forecast}=== P\n{plan}"
-    ).expect(rt, example);
-    prints(
-        rt,
-        script.as_str(),
-        want,
-        u8::from(!want.starts_with("least")),
-    )
+    let script = of_plan("check", setup, forecast, plan);
+    let status = u8::from(!line.starts_with("least"));
+    prints(rt, example, &script, line, status)
 }

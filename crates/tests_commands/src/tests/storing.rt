@@ -1,148 +1,175 @@
 //! Texts that go into a file, and what is there where they do not.
 
 use crate::tests::failing_system::{FailingSystem, Fails};
-use crate::tests::samples::{FIRST_PLAN, SCI, THREE_STEPS, told};
-use mm_commands::{SystemFiles, run_tool};
+use crate::tests::hinting::hints;
+use crate::tests::samples::{
+    Answer, FIRST_PLAN, SCI, THREE_STEPS, answer_to, answers, holds, joined, replaced, told,
+};
+use mm_commands::SystemFiles;
 use std::process::Abort;
 use std::sync::Wait;
 use std::thread::Threads;
 use std::{env, fs, rt};
 
-// What stands in the file before.
+// What stands in a file before.
 const OLD: &str = "yesterday's plan\n";
 
-const BAD_STEPS: &str = "step,window,SCI\n2,2,3\n";
+// The files of first_run, a forecast that is refused, a plan, an old file, and one that an earlier run left over.
+static FILES: [(&str, &str); 6] = [
+    ("S", SCI),
+    ("F", THREE_STEPS),
+    ("BAD", "step,window,SCI\n2,2,3\n"),
+    ("P", FIRST_PLAN),
+    ("OLD", OLD),
+    ("NEW.new1", OLD),
+];
 
-// A folder of a test's own, with its files.
-#[derive(Drop)]
-struct Folder {
-    path: String,
+// The whole name of a file of the folder.
+fn whole<R: Abort + AllocGlobal>(rt: &R, folder: &str, name: &str) -> String {
+    joined(rt, &[folder, "/", name])
 }
 
-impl Folder {
-    // A folder with the files of first_run, S and F, the forecast BAD that is refused, a plan, and an OLD file.
-    fn make<R: Abort + AllocGlobal + rt::Env + rt::Files>(rt: &R, name: &str) -> Folder {
-        let temporary = env::temp_dir(rt).expect(rt, "a folder");
-        let path = format!(in rt.alloc(); "{}/mm_tool-{name}", temporary.as_str()).expect(
-            rt, "memory",
-        );
-        let _left_over = fs::remove_dir_all(rt, path.as_str());
-        fs::create_dir(rt, path.as_str()).expect(rt, "a folder");
-        let folder = Folder { path };
-        for (name, text) in [
-            ("S", SCI),
-            ("F", THREE_STEPS),
-            ("BAD", BAD_STEPS),
-            ("P", FIRST_PLAN),
-            ("OLD", OLD),
-        ] {
-            fs::write(rt, folder.name(rt, name).as_str(), text).expect(rt, name);
-        }
-        folder
+// A new folder with these files.
+fn make_folder<R: Abort + AllocGlobal + rt::Env + rt::Files>(rt: &R, name: &str) -> String {
+    let temporary = env::temp_dir(rt).expect(rt, "a folder");
+    let folder = joined(rt, &[temporary.as_str(), "/mm_tool-", name]);
+    let _left_over = fs::remove_dir_all(rt, folder.as_str());
+    fs::create_dir(rt, folder.as_str()).expect(rt, "a folder");
+    for (name, text) in &FILES {
+        let name = whole(rt, folder.as_str(), name);
+        fs::write(rt, name.as_str(), *text).expect(rt, "a file");
     }
-
-    // The whole name of a file of the folder.
-    fn name<R: Abort + AllocGlobal>(&self, rt: &R, name: &str) -> String {
-        format!(in rt.alloc(); "{}/{name}", self.path).expect(rt, "memory")
-    }
-
-    fn text<R: Abort + AllocGlobal + rt::Files>(&self, rt: &R, name: &str) -> String {
-        fs::read_to_string(rt, self.name(rt, name).as_str()).expect(rt, name)
-    }
-
-    fn has<R: Abort + AllocGlobal + rt::Files>(&self, rt: &R, name: &str) -> bool {
-        fs::symlink_metadata(rt, self.name(rt, name).as_str()).is_ok()
-    }
-
-    fn remove<R: Abort + AllocGlobal + rt::Files>(self, rt: &R) {
-        fs::remove_dir_all(rt, self.path.as_str()).expect(rt, "a folder");
-    }
+    folder
 }
 
-// What the program writes for words, of which those after the first are names of files in the folder, and its status.
-fn run<R, T>(rt: &R, system: &T, folder: &Folder, words: &[&str]) -> (String, String, u8)
+fn remove<R: Abort + AllocGlobal + rt::Files>(rt: &R, folder: &str) {
+    fs::remove_dir_all(rt, folder).expect(rt, "a folder");
+}
+
+// Whether a file of the folder has this text.
+fn has<R: Abort + AllocGlobal + rt::Files>(rt: &R, folder: &str, name: &str, text: &str) -> bool {
+    let name = whole(rt, folder, name);
+    let found = fs::read_to_string(rt, name.as_str()).expect(rt, "a file");
+    found.as_str() == text
+}
+
+fn is_there<R: Abort + AllocGlobal + rt::Files>(rt: &R, folder: &str, name: &str) -> bool {
+    let name = whole(rt, folder, name);
+    fs::symlink_metadata(rt, name.as_str()).is_ok()
+}
+
+// What the program answers to a line of words, in which @ stands for the folder.
+fn run<R, T>(rt: &R, system: &T, folder: &str, line: &str) -> Answer
 where
     R: Abort + AllocGlobal + Threads + Wait + Sync,
     T: rt::Files,
 {
-    let alloc = rt.alloc();
-    let (mut out, mut err) = (Vec::new(alloc), Vec::new(alloc));
-    let mut whole: Vec<String> = Vec::new(alloc);
-    for word in words {
-        let is_name = word.starts_with(|letter: char| letter.is_ascii_uppercase());
-        let word = if is_name {
-            folder.name(rt, word)
-        } else {
-            String::from_str(alloc, word).expect(rt, "memory")
-        };
-        whole.push(word).expect(rt, "memory");
+    let mut words: Vec<String> = Vec::new(rt.alloc());
+    for word in line.split(' ') {
+        words
+            .push(replaced(rt, word, "@", folder))
+            .expect(rt, "memory");
     }
-    let mut files = SystemFiles::new(system);
-    let status = run_tool(rt, alloc, &whole, &mut files, &mut out, &mut err);
-    let out = String::from_utf8(out).expect(rt, "UTF-8");
-    let err = String::from_utf8(err).expect(rt, "UTF-8");
-    (out, err, status)
+    answer_to(rt, &words, &mut SystemFiles::new(system))
 }
 
-// The text is in the file as it is printed without one, and nothing is printed.
-fn stores<R>(rt: &R, folder: &Folder, words: &[&str], stored: &[&str])
+// Tasks whose text is stored, each with the file and with one that is not left over. A file that is not there yet is made.
+static STORED: [(&str, &str, &str); 4] = [
+    ("chart @/S @/F @/P", "OLD", "OLD.new1"),
+    ("table @/S @/F @/P", "OLD", "OLD.new1"),
+    ("plan @/S @/F", "NEW", "NEW.new2"),
+    ("plan @/S @/F", "OLD", "OLD.new1"),
+];
+
+// The text of a task goes into the file as it is printed, and nothing is printed then. What an earlier run left over is passed over.
+fn stores<R>(rt: &R, folder: &str, task: &str, file: &str, left_over: &str)
 where
     R: Abort + AllocGlobal + rt::Files + Threads + Wait + Sync,
 {
-    let (printed, _, status) = run(rt, rt, folder, words);
-    assert!(rt; status == 0 && !printed.is_empty());
-    let (out, err, status) = run(rt, rt, folder, stored);
-    assert!(rt; status == 0 && out.is_empty() && err.is_empty(), "{err}");
-    assert_eq!(rt; folder.text(rt, "OLD").as_str(), printed.as_str());
-    assert!(rt; !folder.has(rt, "OLD.new1"));
+    let printed = run(rt, rt, folder, task);
+    let is_printed = printed.status == 0 && !printed.out.is_empty();
+    let line = joined(rt, &[task, " --output @/", file]);
+    let stored = run(rt, rt, folder, line.as_str());
+    let is_quiet = stored.has("", 0) && stored.err.is_empty();
+    let is_stored = has(rt, folder, file, printed.out.as_str());
+    let is_alone = has(rt, folder, "NEW.new1", OLD) && !is_there(rt, folder, left_over);
+    holds(rt, task, &printed, is_printed);
+    holds(
+        rt,
+        line.as_str(),
+        &stored,
+        is_quiet && is_stored && is_alone,
+    );
+}
+
+fn each_is_stored<R>(rt: &R)
+where
+    R: Abort + AllocGlobal + rt::Env + rt::Files + Threads + Wait + Sync,
+{
+    let folder = make_folder(rt, "stored");
+    for (task, file, left_over) in &STORED {
+        stores(rt, folder.as_str(), task, file, left_over);
+    }
+    let answer = run(rt, rt, folder.as_str(), "check @/S @/F @/OLD");
+    holds(rt, "the stored plan", &answer, answer.has("least 2\n", 0));
+    remove(rt, folder.as_str());
 }
 
 #[test]
 fn texts_are_stored(rt: HostRuntime) {
-    let folder = Folder::make(&rt, "stored");
-    stores(
-        &rt,
-        &folder,
-        &["chart", "S", "F", "P"],
-        &["chart", "S", "F", "P", "--output", "OLD"],
-    );
-    stores(
-        &rt,
-        &folder,
-        &["table", "S", "F", "P"],
-        &["table", "S", "F", "P", "--output", "OLD"],
-    );
-    stores(
-        &rt,
-        &folder,
-        &["plan", "S", "F"],
-        &["plan", "S", "F", "--output", "OLD"],
-    );
-    let (out, _, status) = run(&rt, &rt, &folder, &["check", "S", "F", "OLD"]);
-    assert!(rt; status == 0 && out.as_str() == "least 2\n");
-    folder.remove(&rt);
+    each_is_stored(&rt);
 }
 
-// A file that is not there yet is made, and one that an earlier run left over is passed over.
-#[test]
-fn files_are_made(rt: HostRuntime) {
-    let folder = Folder::make(&rt, "made");
-    fs::write(&rt, folder.name(&rt, "NEW.new1").as_str(), OLD).expect(&rt, "a file");
-    let (_, _, status) = run(&rt, &rt, &folder, &["plan", "S", "F", "--output", "NEW"]);
-    assert!(rt; status == 0 && folder.text(&rt, "NEW").as_str().starts_with("mmplan"));
-    let is_kept = folder.text(&rt, "NEW.new1").as_str() == OLD;
-    assert!(rt; is_kept && !folder.has(&rt, "NEW.new2"));
-    folder.remove(&rt);
+// A line whose text is not stored, what is printed, and what is said.
+struct Unstored {
+    line: &'static str,
+    prints: &'static str,
+    says: &'static str,
 }
+
+// In a new folder the program answers so, and each file is as it was.
+fn leaves<R, T>(rt: &R, system: &T, name: &str, row: &Unstored)
+where
+    R: Abort + AllocGlobal + rt::Env + rt::Files + Threads + Wait + Sync,
+    T: rt::Files,
+{
+    let folder = make_folder(rt, name);
+    let answer = run(rt, system, folder.as_str(), row.line);
+    let says = replaced(rt, row.says, "@", folder.as_str());
+    let is_told = answer.has(row.prints, 1) && answer.err.as_str() == says.as_str();
+    let is_kept = has(rt, folder.as_str(), "OLD", OLD)
+        && !is_there(rt, folder.as_str(), "OLD.new1");
+    holds(rt, row.line, &answer, is_told && is_kept);
+    remove(rt, folder.as_str());
+}
+
+// A task that is refused. A folder is not replaced, and a file in a folder that is not there is not made.
+static UNSTORED: [Unstored; 3] = [
+    Unstored {
+        line: "plan @/S @/BAD --output @/OLD",
+        prints: "refused 32 StepNumber row 1\n",
+        says: "\
+@/BAD, row 1: expected the number of the next step, where the first is 1; number the records 1, 2, 3 and so on
+hint: the step is \"2\" in line 2 of the file, whose header is line 1; it is to be 1
+",
+    },
+    Unstored {
+        line: "plan @/S @/F --output @",
+        prints: "",
+        says: "mm_tool: @ could not be written, and is as it was: what has this name is no file, but a folder, a device or a link\n",
+    },
+    Unstored {
+        line: "plan @/S @/F --output @/NONE/P",
+        prints: "",
+        says: "mm_tool: @/NONE/P could not be written, and is as it was: its folder is not there\n",
+    },
+];
 
 #[test]
 fn a_refusal_leaves_the_file(rt: HostRuntime) {
-    let folder = Folder::make(&rt, "refused");
-    let (out, err, status) = run(&rt, &rt, &folder, &["plan", "S", "BAD", "--output", "OLD"]);
-    assert!(rt; status == 1 && out.as_str() == "refused 32 StepNumber row 1\n" && !err.is_empty());
-    assert_eq!(rt; folder.text(&rt, "OLD").as_str(), OLD);
-    assert!(rt; !folder.has(&rt, "OLD.new1"));
-    folder.remove(&rt);
+    for row in &UNSTORED {
+        leaves(&rt, &rt, "refused", row);
+    }
 }
 
 static FAILURES: [Fails; 6] = [
@@ -154,57 +181,30 @@ static FAILURES: [Fails; 6] = [
     Fails::Rename,
 ];
 
+static NO_ROOM: Unstored = Unstored {
+    line: "plan @/S @/F --output @/OLD",
+    prints: "",
+    says: "mm_tool: @/OLD could not be written, and is as it was: there is no room left\n",
+};
+
 #[test]
 fn a_write_that_fails_leaves_the_file(rt: HostRuntime) {
-    let folder = Folder::make(&rt, "failed");
-    let name = folder.name(&rt, "OLD");
-    let want = format!(in rt.alloc();
-        "mm_tool: {name} could not be written, and is as it was: there is no room left\n"
-    ).expect(&rt, "memory");
     for fails in &FAILURES {
         let system = FailingSystem {
             runtime: &rt,
             fails: *fails,
         };
-        let words = ["plan", "S", "F", "--output", "OLD"];
-        let (out, err, status) = run(&rt, &system, &folder, &words);
-        let is_told = out.is_empty() && err.as_str() == want.as_str();
-        assert!(rt; status == 1 && is_told, "{fails:?}");
-        let is_kept = folder.text(&rt, "OLD").as_str() == OLD;
-        assert!(rt; is_kept && !folder.has(&rt, "OLD.new1"), "{fails:?}");
+        leaves(&rt, &system, "failed", &NO_ROOM);
     }
-    folder.remove(&rt);
-}
-
-// A folder is not replaced, and a file in a folder that is not there is not made.
-#[test]
-fn what_is_no_file_is_left(rt: HostRuntime) {
-    let folder = Folder::make(&rt, "folder");
-    fs::create_dir(&rt, folder.name(&rt, "DIR").as_str()).expect(&rt, "a folder");
-    for (name, words) in [
-        (
-            "DIR",
-            "what has this name is no file, but a folder, a device or a link",
-        ),
-        ("NONE/P", "its folder is not there"),
-    ] {
-        let (out, err, status) = run(&rt, &rt, &folder, &["plan", "S", "F", "--output", name]);
-        assert!(rt; status == 1 && out.is_empty());
-        assert!(rt; err.as_str().trim_end().ends_with(words), "{err}");
-    }
-    folder.remove(&rt);
 }
 
 // The files of a script are not written, and its output is told as one that was not.
 #[test]
 fn scripts_store_nothing(rt: HostRuntime) {
-    let script = format!(in rt.alloc();
-        "plan S F --output P\n=== S\n{SCI}=== F\n{THREE_STEPS}"
-    ).expect(&rt, "memory");
-    let (out, err, status) = told(&rt, script.as_bytes());
-    let want =
-        b"mm_tool: P could not be written, and is as it was: the files of a script are only read\n";
-    assert!(rt; status == 1 && out.is_empty() && err.as_slice() == want.as_slice());
+    let script = ["plan S F --output P\n=== S\n", SCI, "=== F\n", THREE_STEPS];
+    let words =
+        "mm_tool: P could not be written, and is as it was: the files of a script are only read\n";
+    answers(&rt, &script, "", words, 1);
 }
 
 // Lines of which no task has the output.
@@ -217,14 +217,20 @@ static LINES: [&str; 6] = [
     "plan -- S F --output X\n",
 ];
 
+// A bad command line is told with the hint where an output stands.
+fn is_misplaced<R: Abort + AllocGlobal + Threads + Wait + Sync>(rt: &R, line: &str) {
+    let answer = told(rt, &[line]);
+    holds(rt, line, &answer, answer.has("", 2));
+    hints(
+        rt,
+        &answer,
+        "--output FILE stands last, after the files of plan, chart or table",
+    );
+}
+
 #[test]
 fn an_output_stands_last(rt: HostRuntime) {
     for line in &LINES {
-        let (out, err, status) = told(&rt, line.as_bytes());
-        let want = b"\nhint: --output FILE stands last, after the files of plan, chart or table\n";
-        assert!(rt;
-            status == 2 && out.is_empty() && err.ends_with(want),
-            "for {line}"
-        );
+        is_misplaced(&rt, line);
     }
 }

@@ -1,6 +1,6 @@
 //! What `table` prints of given plans.
 
-use crate::tests::samples::{FIRST_PLAN, SCI, THREE_STEPS, prints};
+use crate::tests::samples::{FIRST_PLAN, SCI, THREE_STEPS, of_plan, prints};
 
 // The store takes 4 blocks. In step 3 it holds 2, and 4 arrive, so 2 are lost.
 const FIRST_TABLE: &str = "\
@@ -24,9 +24,12 @@ step,window,store,arrived,lost,dumped,held
 #[test]
 fn a_table_has_a_record_for_each_step_and_store(rt: HostRuntime) {
     for (plan, table) in [(FIRST_PLAN, FIRST_TABLE), (GREEDY_PLAN, GREEDY_TABLE)] {
-        let script = format!(in rt.alloc();
-            "table S F P\n=== S\n{SCI}=== F\n{THREE_STEPS}=== P\n{plan}"
-        ).expect(&rt, "memory");
-        prints(&rt, script.as_str(), table, 0);
+        prints(
+            &rt,
+            table,
+            &of_plan("table", SCI, THREE_STEPS, plan),
+            table,
+            0,
+        );
     }
 }

@@ -1,7 +1,10 @@
 //! Runs that do not begin, for what their files say.
 
-use super::{FIRST_RUN, PLAN_FROM_2, Run, STARTS_WITH_2, THREE_OF_TWO, TWO_ARE_FULL, runs};
-use crate::tests::samples::prints;
+use super::{
+    FIRST_RUN, IN_0, IN_1, IN_2, IN_3, PLAN_FROM_2, Run, STARTS_WITH_2, THREE_OF_TWO, TWO_ARE_FULL,
+    runs,
+};
+use crate::tests::samples::refuses;
 
 const PLAN_FOR_HK: &str =
     "mmplan 1\nstores HK\ndump 1 2\ndump 2 2\ndump 3 0\nloss 2\nstretch HK 1 3\nbound 2\nend\n";
@@ -18,7 +21,7 @@ const ABOVE_THE_WINDOW: &str =
 
 // A run that does not begin, for what one of its texts says: with one packet, in step 1.
 const REFUSED: Run = Run {
-    came: &[(1, 1)],
+    sources: &[IN_1],
     status: 1,
     ..FIRST_RUN
 };
@@ -28,8 +31,7 @@ static RUNS_REFUSED: [Run; 14] = [
     Run {
         example: "no plan text, a packet cut short and a hundred links",
         plan: "mmplan 3\n",
-        came: &[],
-        more: "1 3 08\n",
+        sources: &["1 3 08\n"],
         links: "links 100",
         prints: "refused 34 PlanText line 1\n",
         ..REFUSED
@@ -37,16 +39,14 @@ static RUNS_REFUSED: [Run; 14] = [
     Run {
         example: "a plan for another store, a packet cut short and a hundred links",
         plan: PLAN_FOR_HK,
-        came: &[],
-        more: "1 3 08\n",
+        sources: &["1 3 08\n"],
         links: "links 100",
         prints: "refused 35 Shape\n",
         ..REFUSED
     },
     Run {
         example: "a packet cut short and a hundred links",
-        came: &[],
-        more: "1 3 08\n",
+        sources: &["1 3 08\n"],
         links: "links 100",
         prints: "refused 51 SourcesText line 1\n",
         ..REFUSED
@@ -54,7 +54,7 @@ static RUNS_REFUSED: [Run; 14] = [
     Run {
         example: "a plan above its window and no source",
         plan: ABOVE_THE_WINDOW,
-        came: &[],
+        sources: &[],
         prints: "refused 43 PlanDoesNotFit step 1\n",
         ..REFUSED
     },
@@ -62,13 +62,13 @@ static RUNS_REFUSED: [Run; 14] = [
         example: "opening_contents_run, without the opening contents",
         setup: STARTS_WITH_2,
         plan: PLAN_FROM_2,
-        came: &[(1, 3), (2, 3), (3, 4)],
+        sources: &[IN_1, IN_1, IN_1, IN_2, IN_2, IN_2, IN_3, IN_3, IN_3, IN_3],
         prints: "refused 41 OpeningDiffers store SCI\n",
         ..REFUSED
     },
     Run {
         example: "an opening packet too many and no link",
-        came: &[(0, 1)],
+        sources: &[IN_0],
         links: "links 0",
         prints: "refused 41 OpeningDiffers store SCI\n",
         ..REFUSED
@@ -78,8 +78,7 @@ static RUNS_REFUSED: [Run; 14] = [
         setup: TWO_ARE_FULL,
         forecast: "step,window,A,C\n1,3,1,1\n",
         plan: THREE_OF_TWO,
-        came: &[],
-        more: ONE_TOO_FEW,
+        sources: &[ONE_TOO_FEW],
         prints: "refused 41 OpeningDiffers store C\n",
         ..REFUSED
     },
@@ -123,7 +122,7 @@ static RUNS_REFUSED: [Run; 14] = [
     },
     Run {
         example: "no source",
-        came: &[],
+        sources: &[],
         prints: "refused 44 Counts\n",
         ..REFUSED
     },
@@ -134,10 +133,6 @@ fn run_files_refused(rt: HostRuntime) {
     for row in &RUNS_REFUSED {
         runs(&rt, row);
     }
-    prints(
-        &rt,
-        "run S F P X LINKS\n=== S\n[[store\n=== F\n=== P\n=== X\n",
-        "refused 50 NotRead name LINKS\n",
-        1,
-    );
+    let unread = "run S F P X LINKS\n=== S\n[[store\n=== F\n=== P\n=== X\n";
+    refuses(&rt, &[(unread, "refused 50 NotRead name LINKS\n")]);
 }
