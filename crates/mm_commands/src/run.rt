@@ -47,14 +47,23 @@ pub fn run_words<R: Threads + Wait + Sync, S: AsStr, F: Files, W: Write, E: Writ
         Err(error) if error.kind() == ErrorKind::OutOfMemory => {
             tasks::refuse_input(ReadFault::NoMemory, out, err)
         }
-        Err(error) => {
-            write!(err, "{error}").map_err(|_| Unwritten::Messages)?;
-            if words.iter().any(|word| word.as_str() == "--output") {
-                writeln!(err, "{OUTPUT_HINT}").map_err(|_| Unwritten::Messages)?;
-            }
-            Ok(Status::BadCommandLine)
-        }
+        Err(error) => refuse_words(&error, words, err),
     }
+}
+
+// Says what is wrong with words that spell no task, or the help that they ask for.
+fn refuse_words<S: AsStr, E: Write>(
+    error: &clap::Error,
+    words: &[S],
+    err: &mut E,
+) -> Result<Status, Unwritten>
+    ensures status { IfOk result (λ status. status ≡ BadCommandLine) }
+{
+    write!(err, "{error}").map_err(|_| Unwritten::Messages)?;
+    if words.iter().any(|word| word.as_str() == "--output") {
+        writeln!(err, "{OUTPUT_HINT}").map_err(|_| Unwritten::Messages)?;
+    }
+    Ok(Status::BadCommandLine)
 }
 
 // The exit status of a run. Where standard output could not be written, standard error says so.

@@ -2,7 +2,8 @@
 ghost use Rattle.std.specs.Prelude.{◌≡◌, ◌≢◌, ◌⊎◌, IfOk, IfErr};
 ghost use Rattle.std.specs.Io.KnownBytes.{Appends};
 ghost use Rattle.mm_commands.specs.declared.status.Status.TheVariants.{Refused, BadCommandLine};
-ghost use Rattle.mm_commands.specs.Answers.{Gives, Prints, output_in, status_in, text_in};
+ghost use Rattle.mm_command_line.specs.Names.{names_in};
+ghost use Rattle.mm_commands.specs.Answers.{Gives, HoldsTexts, Prints, output_in, status_in, text_in};
 ghost use Rattle.mm_commands.specs.Contents.{IsStored};
 ghost use Rattle.mm_commands.specs.Faults.{refused_line};
 ghost use Rattle.mm_commands.specs.Refusing.{Refuses, refused_input};
@@ -128,6 +129,32 @@ fn give<F: Files, W: Write, E: Write>(
     Ok(answer.status())
 }
 
+// Does a task whose files have these texts.
+fn do_with<R: Threads + Wait + Sync, F: Files, W: Write, E: Write>(
+    rt: &R,
+    alloc: Global,
+    task: Task<'_>,
+    texts: &TaskTexts,
+    files: &mut F,
+    out: &mut W,
+    err: &mut E,
+) -> Result<Status, Unwritten>
+    requires held { HoldsTexts (F.content files.old) (names_in task) texts.now }
+    ensures prints { IfOk result (λ status.
+        Prints (F.content files.old) (F.content files.new) task.entry status (W.contents out.old) (W.contents out.new)
+        ⊎ Refuses (F.content files.old) (F.content files.new) task.entry status (W.contents out.old) (W.contents out.new)) }
+    ensures status { IfOk result (λ status. status ≢ BadCommandLine) }
+    ensures kept { IfErr result (λ _. F.content files.new ≡ F.content files.old) }
+{
+    match answer_to(rt, alloc, task, texts) {
+        Ok(answer) => give(alloc, task, &answer, texts, files, out, err),
+        Err(fault) => {
+            let hint = fault.hint(alloc, texts.hinted());
+            refuse(Some(task), fault, hint, out, err)
+        }
+    }
+}
+
 /// Does a task. What answers it goes to `out`, or into the file of the task's output, and nothing of it to `out` then. The line that says why
 /// a task is refused goes to `out`; what is said of an answer or of a refusal goes to `err`. The status is `Done` where the task is done,
 /// and `Refused` where something is refused, a verdict is not `Least`, or a run was halted. The error says what could not be written. No file
@@ -146,15 +173,8 @@ pub fn do_task<R: Threads + Wait + Sync, F: Files, W: Write, E: Write>(
     ensures status { IfOk result (λ status. status ≢ BadCommandLine) }
     ensures kept { IfErr result (λ _. F.content files.new ≡ F.content files.old) }
 {
-    let texts = match TaskTexts::read(alloc, files, task.names()) {
-        Ok(texts) => texts,
-        Err(fault) => return refuse(Some(task), fault, None, out, err),
-    };
-    match answer_to(rt, alloc, task, &texts) {
-        Ok(answer) => give(alloc, task, &answer, &texts, files, out, err),
-        Err(fault) => {
-            let hint = fault.hint(alloc, texts.hinted());
-            refuse(Some(task), fault, hint, out, err)
-        }
+    match TaskTexts::read(alloc, files, task.names()) {
+        Ok(texts) => do_with(rt, alloc, task, &texts, files, out, err),
+        Err(fault) => refuse(Some(task), fault, None, out, err),
     }
 }

@@ -74,6 +74,30 @@ fn fly_plan<R: Threads + Wait + Sync>(
     }
 }
 
+// Carries the plan out, and says what is printed of it.
+fn print_run<R: Threads + Wait + Sync>(
+    rt: &R,
+    alloc: Global,
+    memory: &mut Memory,
+    problem: &Problem,
+    sheet: Option<Sheet>,
+    sources: Vec<ScriptedSource>,
+    links: Vec<ScriptedLink>,
+) -> Result<Printed, NoMemory>
+    requires limits { AreWithinLimits gives memory.old.stores sources.items }
+    requires unfailed { All (λ l. l.failed < 2 ^ 64 - 1) links.items }
+    ensures { IfOk result (RunEnds sheet problem.now memory.old sources.items links.items) }
+{
+    let reserved = ReservedLines::new(alloc)?;
+    match fly_plan(rt, alloc, memory, problem, sheet, sources, links) {
+        Ok(Flown { sheet, report, .. }) => Printed::whole(alloc, sheet, reserved, &report),
+        Err(FlyHalted { sheet, halted }) => {
+            let Halted { cause, report, .. } = halted;
+            Printed::stopped(alloc, sheet, reserved, &cause, &report)
+        }
+    }
+}
+
 // Offers the packets of step 0, carries the plan out, and says what is printed of it.
 fn carry<R: Threads + Wait + Sync>(
     rt: &R,
@@ -98,14 +122,7 @@ fn carry<R: Threads + Wait + Sync>(
     } = sides;
     constants_are();
     offer_all(alloc, &mut memory, opening.as_slice())?;
-    let reserved = ReservedLines::new(alloc)?;
-    match fly_plan(rt, alloc, &mut memory, &problem, sheet, sources, links) {
-        Ok(Flown { sheet, report, .. }) => Printed::whole(alloc, sheet, reserved, &report),
-        Err(FlyHalted { sheet, halted }) => {
-            let Halted { cause, report, .. } = halted;
-            Printed::stopped(alloc, sheet, reserved, &cause, &report)
-        }
-    }
+    print_run(rt, alloc, &mut memory, &problem, sheet, sources, links)
 }
 
 /// What is printed of the run that the texts say: the packets of step 0 are offered at the moment 0, and then the plan is carried out, its
