@@ -76,25 +76,27 @@ fn dumped<L: Link + Send, R: Threads + Wait + Sync + Abort>(
     }
 }
 
-// A store stands under its name and channel, has lost nothing, and no retrieval is on.
-fn is_whole(rt: &impl Abort, store: &Held, name: &str) {
-    is_named(rt, &store.id, name);
-    assert!(rt; store.channel == 3, "the channel");
-    assert!(rt; store.state.lost() == 0, "none is lost");
-    assert!(rt; store.state.retrieval().is_none(), "no retrieval is on");
-}
-
-// A store holds this many packets, and this many were deleted.
+// A store has its channel and holds this many packets, and this many were deleted; none is lost, and no retrieval is on.
 fn has(rt: &impl Abort, store: &Held, held: u32, deleted: u64) {
-    assert!(rt; store.state.store().len() == held, "how many are held");
-    assert!(rt; store.state.deleted() == deleted, "how many are deleted");
+    let state = &store.state;
+    let is_idle = state.retrieval().is_none();
+    let found = (
+        store.channel,
+        state.store().len(),
+        state.deleted(),
+        state.lost(),
+        is_idle,
+    );
+    assert!(rt; found == (3, held, deleted, 0, true), "the counters");
 }
 
 // How many packets stores hold, and how many were deleted; nothing else is changed.
 fn have(rt: &impl Abort, stores: &[Held], counts: &[(u32, u64)]) {
     assert!(rt; stores.len() == counts.len(), "as many stores");
-    for ((store, name), (held, deleted)) in stores.iter().zip(&NAMES).zip(counts) {
-        is_whole(rt, store, *name);
+    for (store, name) in stores.iter().zip(&NAMES) {
+        is_named(rt, &store.id, *name);
+    }
+    for (store, (held, deleted)) in stores.iter().zip(counts) {
         has(rt, store, *held, *deleted);
     }
 }
@@ -129,8 +131,11 @@ fn tried<R: Threads + Wait + Sync + Abort>(rt: &R, alloc: Global, case: &Case) {
     let mut stores = stores_with(rt, alloc, case.held);
     let mut links = new_links(rt, alloc, case.until);
     let Dumped { broken, spent } = dumped(rt, alloc, case.wanted, &mut stores, &mut links);
-    assert!(rt; broken == case.broken, "{name}: the worst cause");
-    assert!(rt; spent == case.spent, "{name}: how much was spent");
+    let want = (case.broken, case.spent);
+    assert!(rt;
+        (broken, spent) == want,
+        "{name}: the worst cause, and how much was spent"
+    );
     have(rt, &stores, case.counts);
     all_took(rt, &links, case);
 }
@@ -222,7 +227,7 @@ fn packets_of_a_broken_order_are_sent_again(rt: HostRuntime) {
     let first = dumped(&rt, alloc, &[2], &mut stores, &mut links);
     assert!(rt; first.broken == Some(OrderBroken::LinkFailed), "it breaks");
     let second = dumped(&rt, alloc, &[2], &mut stores, &mut links);
-    assert!(rt; second.broken.is_none() && second.spent == 2, "it goes");
+    assert!(rt; (second.broken, second.spent) == (None, 2), "it goes");
     have(&rt, &stores, &[(1, 2)]);
     for link in &links {
         took(&rt, link, &[("AAA", 1), ("AAA", 1), ("AAA", 2)]);
@@ -241,14 +246,16 @@ fn held_in_all(stores: &[Held]) -> u32 {
 // Of three orders the link that fails broke one, or was given none; the other link carried out the rest.
 fn other_went_on(rt: &impl Abort, stores: &[Held], failing: &MemoryLink, other: &MemoryLink) {
     let kept = held_in_all(stores);
-    let has_failed = failing.taken().is_empty() && failing.failures() == u64::from(kept);
-    assert!(rt;
-        kept <= 1 && has_failed,
-        "one order breaks at the most, and nothing went over the link that fails"
+    assert!(rt; kept <= 1, "one order breaks at the most");
+    let found = (
+        failing.taken().len(),
+        failing.failures(),
+        other.taken().len(),
     );
+    let want = (0, u64::from(kept), 3 - kept as usize);
     assert!(rt;
-        other.taken().len() + kept as usize == 3,
-        "the other orders are whole"
+        found == want,
+        "nothing went over the link that fails, and the other orders are whole"
     );
 }
 

@@ -68,7 +68,10 @@ fn hands_back(rt: &impl Abort, alloc: Global, kind: Kind, count: u16) {
     let (first, second) = (packet(rt, alloc, 1), packet(rt, alloc, 2));
     let third = packet(rt, alloc, 3);
     let answer = third_of_two(alloc, kind, first, second, third).expect(rt, "memory");
-    assert!(rt; handed_back(&answer) == Some(count), "packet {count}");
+    assert!(rt;
+        handed_back(&answer) == Some(count),
+        "the packet handed back"
+    );
 }
 
 #[test]

@@ -14,10 +14,13 @@ const TURNS: u32 = 1_000_000;
 
 /// Whether a count comes up to a number before the turns are used up.
 pub fn comes_to(count: &AtomicU64, number: u64) -> bool {
-    (0..TURNS).any(|_| {
+    for _ in 0..TURNS {
         yield_now();
-        count.load(Ordering::SeqCst) >= number
-    })
+        if count.load(Ordering::SeqCst) >= number {
+            return true;
+        }
+    }
+    false
 }
 
 pub fn counter(rt: &impl Abort, alloc: Global) -> Arc<AtomicU64, Global> {
@@ -53,6 +56,22 @@ impl Source for GatedSource {
     }
 }
 
+// A source of one packet of an APID.
+fn gated_source(
+    rt: &impl Abort,
+    alloc: Global,
+    apid: u16,
+    asked: &Arc<AtomicU64, Global>,
+    all: u64,
+) -> GatedSource {
+    GatedSource {
+        script: new_script(rt, alloc, apid, [1, 0, 0]),
+        asked: shared(rt, asked),
+        all,
+        missed: false,
+    }
+}
+
 /// Sources of one packet each, this many for each of these APIDs.
 pub fn gated_sources(rt: &impl Abort, alloc: Global, apids: &[u16], each: u32) -> Vec<GatedSource> {
     let asked = counter(rt, alloc);
@@ -60,12 +79,7 @@ pub fn gated_sources(rt: &impl Abort, alloc: Global, apids: &[u16], each: u32) -
     let mut list = Vec::new(alloc);
     for apid in apids {
         for _ in 0..each {
-            let source = GatedSource {
-                script: new_script(rt, alloc, *apid, [1, 0, 0]),
-                asked: shared(rt, &asked),
-                all,
-                missed: false,
-            };
+            let source = gated_source(rt, alloc, *apid, &asked, all);
             list.push(source).expect(rt, "memory");
         }
     }
@@ -76,9 +90,7 @@ pub fn gated_sources(rt: &impl Abort, alloc: Global, apids: &[u16], each: u32) -
 pub fn all_met(rt: &impl Abort, sources: &[GatedSource], many: usize) {
     assert!(rt; sources.len() == many, "all sources come back");
     for source in sources {
-        assert!(rt;
-            !source.missed && source.left(1) == 0,
-            "each met the others"
-        );
+        assert!(rt; !source.missed, "each met the others");
+        assert!(rt; source.left(1) == 0, "nothing is left");
     }
 }

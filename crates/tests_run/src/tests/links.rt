@@ -33,7 +33,7 @@ pub(crate) fn has_taken(
                 panic!(rt; "{name}: no more packets of this store");
             };
             let found = taken.stored.packet.packet().count();
-            assert!(rt; found == *count, "{name}: packet {count}");
+            assert!(rt; found == *count, "{name}: the packet");
             rest = more;
         }
     }
@@ -42,8 +42,8 @@ pub(crate) fn has_taken(
 
 // A link took this many packets, and this many of its sends failed.
 pub(crate) fn has_sent(rt: &impl Abort, name: &str, link: &MemoryLink, many: usize, failures: u64) {
-    let is_sent = link.taken().len() == many && link.failures() == failures;
-    assert!(rt; is_sent, "{name}: {many} packets sent, {failures} failures");
+    assert!(rt; link.taken().len() == many, "{name}: how many are sent");
+    assert!(rt; link.failures() == failures, "how many sends failed");
 }
 
 // These are so many links, each of which took this many packets without a failure.
@@ -54,7 +54,7 @@ pub(crate) fn all_have_sent(
     many: usize,
     each: usize,
 ) {
-    assert!(rt; links.len() == many, "{name}: {many} links");
+    assert!(rt; links.len() == many, "{name}: as many links");
     for link in links {
         has_sent(rt, name, link, each, 0);
     }

@@ -1,7 +1,6 @@
 //! Steps of recorders, with counts by hand.
-use crate::tests::samples::{
-    counts, id, memory_in_room, memory_of, next_after, one_of_two, packet,
-};
+use crate::tests::runs::trials::{Change, TOO_LATE, change_store};
+use crate::tests::samples::{counts, id, memory_in_room, memory_of, next_after, one_of_two};
 use crate::tests::sources::{
     Script, all_have_left, has_left, new_script, script_of, scripts, scripts_in_room,
 };
@@ -11,10 +10,12 @@ use mm_memory::Memory;
 use mm_packet::{BlockPacket, Header, Octets, Packet};
 use mm_record::laws::held_stores_are_named;
 use mm_record::{
-    Cause, RecordHalted, Recorded, RecordedStep, RecordingStep, cause_in, record, record_step,
+    Cause, RecordHalted, Recorded, RecordedStep, RecordingStep, Source, cause_in, record,
+    record_step,
 };
 use std::alloc::Global;
 use std::process::Abort;
+use std::slice;
 use std::sync::Wait;
 use std::thread::Threads;
 
@@ -37,17 +38,20 @@ fn holds(rt: &impl Abort, memory: &Memory, store: &StoreId, packets: &[(u64, u16
     let mut after = 0;
     for (time, count) in packets {
         let found = next_after(state, after);
-        assert!(rt; found == Some((*time, 100, *count)), "packet {count}");
+        assert!(rt; found == Some((*time, 100, *count)), "the packet");
         after = *time;
     }
     assert!(rt; next_after(state, after).is_none(), "no more packets");
 }
 
-fn recorded<S: Drop>(
-    rt: &impl Abort,
-    answer: Result<RecordedStep<S>, RecordHalted<S>>,
+// Step 1 of these sources, recorded from the moment 0 on.
+fn recorded<S: Source + Send + Drop, R: Threads + Wait + Sync + Abort>(
+    rt: &R,
+    alloc: Global,
+    memory: &mut Memory,
+    sources: Vec<S>,
 ) -> RecordedStep<S> {
-    match answer {
+    match record_step(rt, alloc, memory, 1, 0, sources) {
         Ok(step) => step,
         Err(_) => panic!(rt; "the step is recorded"),
     }
@@ -61,7 +65,7 @@ fn has_recorded(rt: &impl Abort, row: &Recorded, came: u64, lost: u64) {
 
 // These are so many rows: so many packets came to each store, and none was lost.
 fn all_recorded(rt: &impl Abort, rows: &[Recorded], many: usize, came: u64) {
-    assert!(rt; rows.len() == many, "{many} rows");
+    assert!(rt; rows.len() == many, "as many rows");
     for row in rows {
         has_recorded(rt, row, came, 0);
     }
@@ -82,23 +86,27 @@ fn both_lost_one(rt: &impl Abort, step: &RecordedStep<Script>, stores: &[StoreId
     all_have_left(rt, &step.sources, 1, [0, 0, 0]);
 }
 
-// The store at a place has this identifier and virtual channel.
-fn stands_at(rt: &impl Abort, memory: &Memory, place: u32, store: (StoreId, u8)) {
-    assert!(rt; memory.entry(place) == Some(store), "store {place}");
+// Both stores stand where they stood, with two of the three packets.
+fn both_hold_two(rt: &impl Abort, memory: &Memory, stores: &[StoreId; 2]) {
+    let [circular, bounded] = *stores;
+    holds(rt, memory, &circular, &[(2, 2), (3, 3)]);
+    holds(rt, memory, &bounded, &[(1, 1), (2, 2)]);
+    let found = [memory.entry(0), memory.entry(1)];
+    assert!(rt;
+        found == [Some((circular, 3)), Some((bounded, 0))],
+        "identifiers and channels"
+    );
 }
 
 #[test]
 fn record_one_step(rt: HostRuntime) {
     let alloc = rt.alloc();
+    let stores = [id(&rt, "C"), id(&rt, "B")];
     let mut memory = memory_of(&rt, alloc, TWO_STORES);
-    let (circular, bounded) = (id(&rt, "C"), id(&rt, "B"));
     let sources = scripts(&rt, alloc, 1, [3, 0, 0]);
-    let step = recorded(&rt, record_step(&rt, alloc, &mut memory, 1, 0, sources));
-    both_lost_one(&rt, &step, &[circular, bounded]);
-    holds(&rt, &memory, &circular, &[(2, 2), (3, 3)]);
-    holds(&rt, &memory, &bounded, &[(1, 1), (2, 2)]);
-    stands_at(&rt, &memory, 0, (circular, 3));
-    stands_at(&rt, &memory, 1, (bounded, 0));
+    let step = recorded(&rt, alloc, &mut memory, sources);
+    both_lost_one(&rt, &step, &stores);
+    both_hold_two(&rt, &memory, &stores);
 }
 
 // How many packets were offered to a store, lost and deleted, and how many it holds.
@@ -138,7 +146,11 @@ fn refused<R: Threads + Wait + Sync + Abort>(
     assert!(rt; after == before, "the stores are as they were");
 }
 
-const TOO_LATE: u64 = (1 << 63) + 1;
+// What is done to a store, which is not ready then; and the moment and the number of sources.
+static NOT_READY: [(&str, Change, u64, u32); 2] = [
+    ("B", Change::Off, TOO_LATE, 9),
+    ("C", Change::Retrieve, 0, 1),
+];
 
 #[test]
 fn steps_refused_before_they_begin(rt: HostRuntime) {
@@ -147,25 +159,20 @@ fn steps_refused_before_they_begin(rt: HostRuntime) {
     refused(&rt, alloc, &mut memory, 0, 0, Cause::Counts);
     refused(&rt, alloc, &mut memory, 0, 9, Cause::Counts);
     refused(&rt, alloc, &mut memory, TOO_LATE, 9, Cause::ClockTooLate);
-    let store = id(&rt, "B");
-    memory.state_mut(&store).expect(&rt, "a store").disable();
-    let no_bounded = Cause::NotReady { store };
-    refused(&rt, alloc, &mut memory, TOO_LATE, 9, no_bounded);
-    let store = id(&rt, "C");
-    let state = memory.state_mut(&store).expect(&rt, "a store");
-    assert!(rt; state.begin(0, u64::MAX).is_ok(), "a retrieval");
-    let no_circular = Cause::NotReady { store };
-    refused(&rt, alloc, &mut memory, 0, 1, no_circular);
+    for (name, change, base, many) in &NOT_READY {
+        change_store(&rt, alloc, &mut memory, name, slice::from_ref(change));
+        let store = id(&rt, name);
+        let cause = Cause::NotReady { store };
+        refused(&rt, alloc, &mut memory, *base, *many, cause);
+    }
 }
 
 #[test]
 fn a_late_storage_time_refuses_a_step(rt: HostRuntime) {
     let alloc = rt.alloc();
     let mut memory = memory_of(&rt, alloc, TWO_STORES);
-    let circular = id(&rt, "C");
-    let packet = packet(&rt, alloc, 1);
-    let state = memory.state_mut(&circular).expect(&rt, "a store");
-    assert!(rt; state.offer(TOO_LATE, packet).is_ok(), "a packet");
+    let late = [Change::Offer(TOO_LATE, 1)];
+    change_store(&rt, alloc, &mut memory, "C", &late);
     refused(&rt, alloc, &mut memory, 0, 1, Cause::ClockTooLate);
 }
 
@@ -202,7 +209,7 @@ fn packets_of_other_steps_types_and_kinds_are_not_stored(rt: HostRuntime) {
     let alloc = rt.alloc();
     let mut memory = memory_of(&rt, alloc, TWO_STORES);
     let sources = sources_of_others(&rt, alloc);
-    let step = recorded(&rt, record_step(&rt, alloc, &mut memory, 1, 0, sources));
+    let step = recorded(&rt, alloc, &mut memory, sources);
     all_recorded(&rt, &step.recorded, 2, 0);
     only_later_are_left(&rt, &step.sources);
 }
@@ -225,12 +232,17 @@ fn lend_and_record<R: Threads + Wait + Sync + Abort>(
     let Ok(why) = record(rt, alloc, &step, &mut stores, sources) else {
         panic!(rt; "memory");
     };
-    // B comes first in the table, so each recorder offered it one packet and then stopped at C.
-    assert!(rt; stores.len() == 2, "two stores");
-    for (store, (offered, lost)) in stores.iter().zip(&[(0, 0), (3, 1)]) {
-        was_offered(rt, store, *offered, *lost);
-    }
+    second_was_offered_three(rt, &stores);
     why
+}
+
+// B comes first in the table, so each recorder offered it one packet and then stopped at C.
+fn second_was_offered_three(rt: &impl Abort, stores: &[Held]) {
+    let [circular, bounded] = stores else {
+        panic!(rt; "two stores");
+    };
+    was_offered(rt, circular, 0, 0);
+    was_offered(rt, bounded, 3, 1);
 }
 
 // A store was offered so many packets, and lost so many.
@@ -244,13 +256,12 @@ fn was_offered(rt: &impl Abort, store: &Held, offered: u64, lost: u64) {
 fn a_store_that_is_off_breaks_recorders_off(rt: HostRuntime) {
     let alloc = rt.alloc();
     let mut memory = memory_of(&rt, alloc, TWO_STORES);
-    let circular = id(&rt, "C");
-    memory.state_mut(&circular).expect(&rt, "a store").disable();
+    change_store(&rt, alloc, &mut memory, "C", &[Change::Off]);
     let mut sources = scripts(&rt, alloc, 3, [3, 0, 0]);
     let why = lend_and_record(&rt, alloc, &mut memory, &mut sources);
-    assert!(rt; why == Some(Fault::Disabled), "why they stopped early");
-    let mismatch = Cause::LogMismatch { step: 1 };
-    assert!(rt; cause_in(1, why) == Some(mismatch), "the cause");
+    let found = (why, cause_in(1, why));
+    let want = (Some(Fault::Disabled), Some(Cause::LogMismatch { step: 1 }));
+    assert!(rt; found == want, "why they stopped early");
     all_have_left(&rt, &sources, 3, [2, 0, 0]);
 }
 

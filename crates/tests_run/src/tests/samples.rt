@@ -102,7 +102,7 @@ pub fn is_told<T: Refused + Display + Copy>(
     number: u8,
     text: &str,
 ) {
-    assert!(rt; refusal.number() == number, "{text}");
+    assert!(rt; refusal.number() == number, "the number");
     let shown = refusal.to_string(alloc).expect(rt, "memory");
     assert!(rt; shown.as_str() == text, "{text}");
 }

@@ -39,10 +39,7 @@ fn count_of(packet: &Option<BlockPacket>) -> Option<u16> {
 // So many packets are left of a source in a step.
 fn leaves(rt: &impl Abort, sources: &[ScriptedSource], source: usize, step: u32, many: u32) {
     assert!(rt; source < sources.len(), "a source");
-    assert!(rt;
-        sources[source].left(step) == many,
-        "packets in step {step}"
-    );
+    assert!(rt; sources[source].left(step) == many, "packets left");
 }
 
 // The next packet of a source in a step has this sequence count; or there is none.
@@ -88,7 +85,7 @@ fn sources_of(
     let text = text_of(rt, alloc, written);
     let file = read(rt, alloc, &text);
     are_counts(rt, &file.opening, opening);
-    assert!(rt; file.sources.len() == many, "{many} sources");
+    assert!(rt; file.sources.len() == many, "as many sources");
     file.sources
 }
 
@@ -171,7 +168,7 @@ static BAD_SOURCES: [(&str, u64); 22] = [
 // A text of sources is refused at this line.
 fn is_refused(rt: &impl Abort, alloc: Global, text: &[u8], line: u64) {
     match SourceFile::read(alloc, text) {
-        Ok(_) => panic!(rt; "it is read, up to line {line}"),
+        Ok(_) => panic!(rt; "it is read"),
         Err(fault) => assert!(rt; fault == ScriptFault::SourcesText { line }, "line {line}"),
     }
 }
@@ -242,7 +239,7 @@ fn takes(
     assert!(rt; link < links.len(), "a link");
     assert!(rt; links[link].failures() < 10, "a link that may fail");
     let sent = links[link].send(&store, time, packet);
-    assert!(rt; sent.is_ok() == taken, "the send at {time}");
+    assert!(rt; sent.is_ok() == taken, "the send");
 }
 
 // The links of a text, which are so many.

@@ -108,15 +108,13 @@ pub(crate) fn scripts(rt: &impl Abort, alloc: Global, sources: u32, many: [u16; 
 
 // The source still gives this many packets in the steps 1, 2 and 3.
 pub(crate) fn has_left(rt: &impl Abort, source: &impl Source, want: [u32; 3]) {
-    for (step, many) in want.iter().enumerate() {
-        let left = source.left(step as u32 + 1);
-        assert!(rt; left == *many, "{left} packets left");
-    }
+    let left = [source.left(1), source.left(2), source.left(3)];
+    assert!(rt; left == want, "packets left");
 }
 
 // These are so many sources, each of which still gives this many packets in the steps 1, 2 and 3.
 pub(crate) fn all_have_left(rt: &impl Abort, sources: &[Script], many: usize, want: [u32; 3]) {
-    assert!(rt; sources.len() == many, "{many} sources");
+    assert!(rt; sources.len() == many, "as many sources");
     for source in sources {
         has_left(rt, source, want);
     }

@@ -8,7 +8,7 @@ use callers::ends::{Burst, Downlink};
 use callers::flight::{Told, plan_and_fly};
 use callers::halt::{carry_out_or_tell, carry_out_over_used};
 use mm_desk::StoreState;
-use mm_exec::{Cause, Halted};
+use mm_exec::{Cause, Halted, RunEnd};
 use mm_store::PacketStore;
 use std::alloc::Global;
 use std::collections::VecDeque;
@@ -52,8 +52,8 @@ fn one_link(rt: &impl Abort, alloc: Global, most: usize) -> Vec<Downlink>
 
 // A link took so many packets, and so many sends failed.
 fn has_taken(rt: &impl Abort, link: &Downlink, taken: usize, failed: u64) {
-    assert!(rt; link.taken.len() == taken, "{taken} packets");
-    assert!(rt; link.failed == failed, "{failed} failures");
+    assert!(rt; link.taken.len() == taken, "how many were taken");
+    assert!(rt; link.failed == failed, "how many sends failed");
 }
 
 // The first run, with three, three and this many packets, over a link that takes this many.
@@ -72,7 +72,7 @@ fn first_run<R: Threads + Wait + Sync + Abort>(
 
 // A run lost so many packets, by the plan of the first run.
 fn has_lost(rt: &impl Abort, told: &Told, lost: u128) {
-    assert!(rt; told.lost == lost, "{lost} packets lost");
+    assert!(rt; told.lost == lost, "how many were lost");
     assert!(rt;
         told.flown.sheet.as_slice() == TWO_PASSES.as_bytes(),
         "the plan"
@@ -144,24 +144,41 @@ fn the_last_packet_of_a_failed_link_is_still_stored(rt: HostRuntime) {
     }
 }
 
+// One link that has failed this often.
+fn used_link(rt: &impl Abort, alloc: Global, failed: u64) -> Vec<Downlink> {
+    let mut links = one_link(rt, alloc, 9);
+    for link in &mut links {
+        link.failed = failed;
+    }
+    links
+}
+
+// A run was not halted, and its links took all, and have failed this often.
+fn has_ended(
+    rt: &impl Abort,
+    run: &Result<RunEnd<Burst, Downlink>, Halted<Burst, Downlink>>,
+    failed: u64,
+) {
+    let Ok(ended) = run else {
+        panic!(rt; "no run is halted");
+    };
+    for link in &ended.links {
+        has_taken(rt, link, 4, failed);
+    }
+}
+
 // Whether the first plan is carried out over a link that has failed this often.
 fn is_carried_out<R: Threads + Wait + Sync + Abort>(rt: &R, alloc: Global, failed: u64) -> bool {
     let mut trial = Trial::new(rt, alloc, &FIRST_RUN);
     let (memory, problem) = (&mut trial.memory, &trial.problem);
     let sources = three_bursts(rt, alloc, 4);
-    let mut links = one_link(rt, alloc, 9);
-    for link in &mut links {
-        link.failed = failed;
-    }
+    let links = used_link(rt, alloc, failed);
     let plan = trial.sheet.plan();
     match carry_out_over_used(rt, alloc, memory, problem, plan, sources, links) {
-        Some(Ok(ended)) => {
-            for link in &ended.links {
-                has_taken(rt, link, 4, failed);
-            }
+        Some(run) => {
+            has_ended(rt, &run, failed);
             true
         }
-        Some(Err(_)) => panic!(rt; "no run is halted"),
         None => false,
     }
 }

@@ -5,7 +5,7 @@ use crate::tests::gates::{all_met, gated_sources};
 use crate::tests::samples::memory_of;
 use crate::tests::sources::scripts;
 use mm_memory::Memory;
-use mm_record::{Recorded, record_step};
+use mm_record::Recorded;
 use std::alloc::Global;
 use std::process::Abort;
 use std::sync::Wait;
@@ -53,7 +53,7 @@ fn gates_meet_at<R: Threads + Wait + Sync + Abort>(
     let setup = stores_by_apid(rt, alloc, apids, each);
     let mut memory = memory_of(rt, alloc, setup.as_str());
     let sources = gated_sources(rt, alloc, apids, each);
-    let step = recorded(rt, record_step(rt, alloc, &mut memory, 1, 0, sources));
+    let step = recorded(rt, alloc, &mut memory, sources);
     all_recorded(rt, &step.recorded, apids.len(), u64::from(each));
     let many = apids.len().saturating_mul(each as usize);
     all_met(rt, &step.sources, many);
@@ -108,6 +108,6 @@ fn eight_sources_into_sixteen_stores(rt: HostRuntime) {
     let setup = sixteen_stores(&rt, alloc);
     let mut memory = memory_of(&rt, alloc, setup.as_str());
     let sources = scripts(&rt, alloc, 8, [3, 0, 0]);
-    let step = recorded(&rt, record_step(&rt, alloc, &mut memory, 1, 0, sources));
+    let step = recorded(&rt, alloc, &mut memory, sources);
     each_has_lost(&rt, &memory, &step.recorded);
 }

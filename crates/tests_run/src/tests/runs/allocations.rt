@@ -61,7 +61,15 @@ fn wanted(rt: &impl Abort, cause: Cause, given: bool) -> (u32, &'static [Left], 
         Cause::NoMemory { step: 1 } if given => (0, &RECORDED, 0),
         Cause::NoMemory { step: 0 | 1 } => (3, &UNTOUCHED, 0),
         Cause::LinkFailed { step: 1 } => (0, &RECORDED, 1),
-        _ => panic!(rt; "{NAME}: another cause"),
+        _ => panic!(rt; "another cause"),
+    }
+}
+
+// Whether the one source has given its packets.
+fn has_given(sources: &[Script]) -> bool {
+    match sources {
+        [source] => source.left(1) == 0,
+        _ => false,
     }
 }
 
@@ -74,20 +82,17 @@ fn is_halted(rt: &impl Abort, trial: &Trial, halted: &Halted<Script, MemoryLink>
         spent,
         report,
     } = halted;
-    let given = sources.iter().all(|source| source.left(1) == 0);
-    let want = wanted(rt, *cause, given);
+    let want = wanted(rt, *cause, has_given(sources));
     has(rt, trial, sources, links, want);
-    assert!(rt; *spent == want.2, "{NAME}: what was drawn");
-    assert!(rt; report.steps() == 0, "{NAME}: no whole step");
+    assert!(rt; *spent == want.2, "what was drawn");
+    assert!(rt; report.steps() == 0, "no whole step");
 }
 
 fn is_carried_out(rt: &impl Abort, trial: &Trial, ended: &RunEnd<Script, MemoryLink>) {
     has(rt, trial, &ended.sources, &ended.links, (0, &DUMPED, 0));
     let totals = ended.report.totals();
-    assert!(rt;
-        totals.arrived == 9 && totals.dumped == 3,
-        "{NAME}: the report"
-    );
+    assert!(rt; totals.arrived == 9, "how many came");
+    assert!(rt; totals.dumped == 3, "how many were dumped");
 }
 
 // The trial with its source and its link, where there is room for them.

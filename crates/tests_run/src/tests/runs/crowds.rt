@@ -35,6 +35,22 @@ struct GatedLink {
 }
 
 impl GatedLink {
+    // With the counts of the sends that have begun and ended over all links.
+    fn new(
+        rt: &impl Abort,
+        link: MemoryLink,
+        begun: &Arc<AtomicU64, Global>,
+        ended: &Arc<AtomicU64, Global>,
+        awaits: Awaits,
+    ) -> GatedLink {
+        GatedLink {
+            link,
+            begun: shared(rt, begun),
+            ended: shared(rt, ended),
+            awaits,
+        }
+    }
+
     // Begins a send, and says whether what it awaits came.
     fn begins(&self) -> bool {
         let before = self.begun.fetch_add(1, Ordering::SeqCst);
@@ -75,12 +91,7 @@ fn gated_links(
     let ended = counter(rt, alloc);
     let mut list = Vec::new(alloc);
     for link in new_links(rt, alloc, until) {
-        let link = GatedLink {
-            link,
-            begun: shared(rt, &begun),
-            ended: shared(rt, &ended),
-            awaits,
-        };
+        let link = GatedLink::new(rt, link, &begun, &ended, awaits);
         list.push(link).expect(rt, "memory");
     }
     list
@@ -140,25 +151,23 @@ fn flown<S: Source + Send + Drop, R: Threads + Wait + Sync + Abort>(
     ended
 }
 
-// All sources meet, all links meet, and nothing is lost.
-fn all_meet<R: Threads + Wait + Sync + Abort>(rt: &R, alloc: Global, meeting: &Meeting) {
-    let Meeting {
-        task,
-        apids,
-        each,
-        links: until,
-    } = meeting;
-    let mut trial = Trial::new(rt, alloc, task);
-    let sources = gated_sources(rt, alloc, apids, *each);
-    let links = gated_links(rt, alloc, until, Awaits::Begun(until.len() as u64));
-    let ended = flown(rt, &mut trial, sources, links);
-    all_met(
-        rt,
-        &ended.sources,
-        apids.len().saturating_mul(*each as usize),
-    );
-    all_sent(rt, &ended.links, until.len(), *each as usize);
+// All sources have met, all links have met, and nothing is lost.
+fn have_met(rt: &impl Abort, ended: &RunEnd<GatedSource, GatedLink>, meeting: &Meeting) {
+    let each = meeting.each as usize;
+    let many = meeting.apids.len().saturating_mul(each);
+    all_met(rt, &ended.sources, many);
+    all_sent(rt, &ended.links, meeting.links.len(), each);
     assert!(rt; ended.report.totals().lost == 0, "nothing is lost");
+}
+
+// Carries out the plan of a meeting.
+fn all_meet<R: Threads + Wait + Sync + Abort>(rt: &R, alloc: Global, meeting: &Meeting) {
+    let mut trial = Trial::new(rt, alloc, &meeting.task);
+    let sources = gated_sources(rt, alloc, meeting.apids, meeting.each);
+    let awaits = Awaits::Begun(meeting.links.len() as u64);
+    let links = gated_links(rt, alloc, meeting.links, awaits);
+    let ended = flown(rt, &mut trial, sources, links);
+    have_met(rt, &ended, meeting);
 }
 
 #[test]
@@ -197,6 +206,17 @@ fn most_sent(rt: &impl Abort, links: &[GatedLink]) -> usize {
     most
 }
 
+// All come back, and four packets are dumped, three of them over one link.
+fn four_are_dumped(rt: &impl Abort, ended: &RunEnd<Script, GatedLink>) {
+    let lists = [ended.links.len(), ended.sources.len()];
+    assert!(rt; lists == [2, 4], "all come back");
+    assert!(rt; ended.report.totals().dumped == 4, "all are dumped");
+    assert!(rt;
+        most_sent(rt, &ended.links) == 3,
+        "three orders of one link"
+    );
+}
+
 // The first send of all waits for three others, so one link carries out one order and the other three.
 #[test]
 fn orders_from_one_queue(rt: HostRuntime) {
@@ -205,13 +225,7 @@ fn orders_from_one_queue(rt: HostRuntime) {
     let sources = sources_by_apid(&rt, alloc, &[1, 2, 3, 4], 1);
     let links = gated_links(&rt, alloc, &[None, None], Awaits::Ended(3));
     let ended = flown(&rt, &mut trial, sources, links);
-    let is_whole = ended.links.len() == 2 && ended.sources.len() == 4;
-    assert!(rt;
-        is_whole && ended.report.totals().dumped == 4,
-        "all come back, and all are dumped"
-    );
-    let most = most_sent(&rt, &ended.links);
-    assert!(rt; most == 3, "three orders of one link");
+    four_are_dumped(&rt, &ended);
 }
 
 static TWO_ORDERS: Task = task! {
@@ -236,9 +250,9 @@ static B_BROKE: [Left; 2] = [
 fn one_has_failed(rt: &impl Abort, halted: &Halted<Script, GatedLink>, stores: &[Left]) {
     let name = "one of two links fails";
     has_cause(rt, name, halted.cause, Cause::LinkFailed { step: 1 });
-    assert!(rt; halted.spent == 3, "{name}: two sent and one failed");
+    assert!(rt; halted.spent == 3, "two sent and one failed");
     let [bad, good] = halted.links.as_slice() else {
-        panic!(rt; "{name}: both links");
+        panic!(rt; "both links");
     };
     has_sent(rt, name, &bad.link, 0, 1);
     has_sent(rt, name, &good.link, 2, 0);

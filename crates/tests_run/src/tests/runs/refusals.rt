@@ -2,7 +2,7 @@
 
 use crate::tests::links::{all_have_sent, new_links};
 use crate::tests::runs::rows::{Run, carries_out, run};
-use crate::tests::runs::standing::standing;
+use crate::tests::runs::standing::{Standing, standing};
 use crate::tests::runs::trials::{
     Change, FIRST_RUN, Left, NO_STEP, ONE_STORE, TOO_LATE, TWO_PASSES, Task, Trial, has_text, left,
     setup,
@@ -19,8 +19,14 @@ use std::sync::Wait;
 use std::thread::Threads;
 
 // Nothing was drawn, nothing was taken from the sources, and nothing was sent.
-fn is_untouched(rt: &impl Abort, halted: &Halted<Script, MemoryLink>, run: &Refused) {
+fn is_untouched(
+    rt: &impl Abort,
+    alloc: Global,
+    halted: &Halted<Script, MemoryLink>,
+    run: &Refused,
+) {
     let name = run.name;
+    has_text(rt, alloc, name, &halted.report, NO_STEP);
     assert!(rt; halted.spent == 0, "{name}: nothing drawn");
     all_have_left(rt, &halted.sources, run.sources as usize, [3, 3, 4]);
     all_have_sent(rt, name, &halted.links, run.links.len(), 0);
@@ -89,6 +95,12 @@ macro_rules! refused {
     };
 }
 
+// The stores are as they were.
+fn stands_as(rt: &impl Abort, trial: &Trial, before: &Standing, name: &str) {
+    let after = standing(rt, trial);
+    assert!(rt; after == *before, "{name}: the stores are as they were");
+}
+
 // The run is refused; sources, links and stores are as they were.
 fn refuses<R: Threads + Wait + Sync + Abort>(rt: &R, trial: &mut Trial, run: &Refused) {
     let (alloc, name) = (trial.alloc, run.name);
@@ -97,10 +109,8 @@ fn refuses<R: Threads + Wait + Sync + Abort>(rt: &R, trial: &mut Trial, run: &Re
     let links = new_links(rt, alloc, run.links);
     let want = (name, cause_of(rt, &run.why));
     let halted = trial.halted(rt, given, links, run.base, want);
-    has_text(rt, alloc, name, &halted.report, NO_STEP);
-    is_untouched(rt, &halted, run);
-    let after = standing(rt, trial);
-    assert!(rt; after == before, "{name}: the stores are as they were");
+    is_untouched(rt, alloc, &halted, run);
+    stands_as(rt, trial, &before, name);
 }
 
 // The trial of a run that is to be refused.

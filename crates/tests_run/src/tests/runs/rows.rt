@@ -130,7 +130,7 @@ static LAST_OF_MORE: StepCounts = StepCounts {
 // The report is of the store SCI and of this many steps, of which the last has this row.
 pub(crate) fn has_last_row(rt: &impl Abort, report: &Report, steps: u32, last: &StepCounts) {
     assert!(rt; report.ids() == [id(rt, "SCI")].as_slice(), "the store");
-    assert!(rt; steps > 0 && report.steps() == steps, "{steps} steps");
+    assert!(rt; steps > 0 && report.steps() == steps, "as many steps");
     assert!(rt; report.row(steps) == [*last].as_slice(), "the last row");
 }
 
@@ -197,8 +197,9 @@ fn took_one_at(rt: &impl Abort, links: &[MemoryLink], time: u64) {
         panic!(rt; "one link");
     };
     has_sent(rt, "the latest start", link, 1, 0);
-    let is_taken = link.taken().iter().all(|taken| taken.stored.time == time);
-    assert!(rt; is_taken, "its time");
+    for taken in link.taken() {
+        assert!(rt; taken.stored.time == time, "its time");
+    }
 }
 
 // A run begins at its base: the first packet of step 1 is stored one tick later.

@@ -94,7 +94,8 @@ macro_rules! left {
 
 pub(crate) use left;
 
-// What is done to the store of the first run before a run.
+// What is done to a store before a run.
+#[derive(Clone, Copy)]
 pub(crate) enum Change {
     // A packet of this sequence count is offered at a moment.
     Offer(u64, u16),
@@ -125,36 +126,51 @@ fn goes(rt: &impl Abort, alloc: Global, state: &mut StoreState, change: &Change)
     }
 }
 
+// Does these to a store of a memory.
+pub(crate) fn change_store(
+    rt: &impl Abort,
+    alloc: Global,
+    memory: &mut Memory,
+    store: &str,
+    list: &[Change],
+) {
+    let store = id(rt, store);
+    for change in list {
+        let state = memory.state_mut(&store).expect(rt, "a store");
+        assert!(rt; goes(rt, alloc, state, change), "a change");
+    }
+}
+
 fn problem_in_room(alloc: Global, task: &Task) -> Option<Problem> {
     let setup = Setup::read(alloc, task.setup.as_bytes()).ok()?;
     Problem::read(alloc, &setup, task.forecast.as_bytes()).ok()
 }
 
-fn same(rt: &impl Abort, name: &str, found: u64, want: u64) {
-    assert!(rt; found == want, "{name}: {found} in place of {want}");
-}
-
 // The counters of offered, lost and deleted packets of a store, which is on, with no retrieval.
 fn has_counts(rt: &impl Abort, name: &str, state: &StoreState, want: &[u64; 3]) {
-    let [offered, lost, deleted] = *want;
-    same(rt, name, state.offered(), offered);
-    same(rt, name, state.lost(), lost);
-    same(rt, name, state.deleted(), deleted);
-    let is_ready = state.storage() && state.retrieval().is_none();
-    assert!(rt; is_ready, "{name}: storage and retrieval");
+    let found = [state.offered(), state.lost(), state.deleted()];
+    assert!(rt; found == *want, "{name}: offered, lost and deleted packets");
+    let ready = [state.storage(), state.retrieval().is_none()];
+    assert!(rt; ready == [true; 2], "storage is on, and no retrieval");
+}
+
+// The time and the sequence count of the oldest packet that a store holds after a time.
+fn time_and_count(state: &StoreState, after: u64) -> Option<(u64, u16)> {
+    match next_after(state, after) {
+        Some((time, _apid, count)) => Some((time, count)),
+        None => None,
+    }
 }
 
 // The packets held in a store: times and sequence counts.
 fn has_packets(rt: &impl Abort, name: &str, state: &StoreState, want: &[(u64, u16)]) {
-    same(rt, name, u64::from(state.store().len()), want.len() as u64);
+    let held = state.store().len() as usize;
+    assert!(rt; held == want.len(), "how many are held");
     let mut after = 0;
     for (time, count) in want {
-        let Some((found, _apid, number)) = next_after(state, after) else {
-            panic!(rt; "{name}: one more packet");
-        };
-        same(rt, name, found, *time);
-        same(rt, name, u64::from(number), u64::from(*count));
-        after = found;
+        let found = time_and_count(state, after);
+        assert!(rt; found == Some((*time, *count)), "{name}: the packets held");
+        after = *time;
     }
 }
 
@@ -255,11 +271,7 @@ impl Trial {
 
     // Does these to a store.
     pub(crate) fn change_of(&mut self, rt: &impl Abort, store: &str, list: &[Change]) {
-        let store = id(rt, store);
-        for change in list {
-            let state = self.memory.state_mut(&store).expect(rt, "a store");
-            assert!(rt; goes(rt, self.alloc, state, change), "a change");
-        }
+        change_store(rt, self.alloc, &mut self.memory, store, list);
     }
 
     // How many packets of a store were deleted.
@@ -302,7 +314,7 @@ pub(crate) fn each_took(
     stores: &[Left],
     failures: u64,
 ) {
-    assert!(rt; links.len() == many, "{name}: {many} links");
+    assert!(rt; links.len() == many, "{name}: as many links");
     for link in links {
         took_of(rt, name, link, stores, failures);
     }
