@@ -1,0 +1,37 @@
+//! A workload of `bench/workloads.txt`: a study of many plans, made, checked, drawn and listed.
+#![tactic(auto)]
+
+mod extent;
+mod families;
+mod small;
+mod study;
+mod texts;
+
+use anyhow::Result;
+use std::alloc::Global;
+use std::io::Input;
+use thiserror::Error;
+
+/// Words that ask for nothing.
+#[derive(Clone, Copy, Debug, Error)]
+#[error("the words are study SEED")]
+struct UnknownWords;
+
+// What the job of the words answers.
+fn said(alloc: Global, words: &[String]) -> Result<String> {
+    match words {
+        [] => small::small(alloc),
+        [job, seed] if job.as_str() == "study" => study::run(alloc, seed.parse()?),
+        _ => Err(UnknownWords.into()),
+    }
+}
+
+/// With `study` and a seed a digest of all that is answered is printed. With no words a small run is made, and what it
+/// prints can be worked out by hand.
+fn main(rt: HostRuntime) -> Result<()> {
+    let alloc = rt.alloc();
+    let words: Vec<String> = std::env::args(&rt)?.skip(1).collect(alloc)?;
+    let said = said(alloc, &words)?;
+    println!(rt; "{said}")?;
+    Ok(())
+}
