@@ -1,0 +1,52 @@
+//! The workload of a memory on board or in a simulator: packets are recorded, offered and retrieved, and requests are applied.
+#![tactic(auto)]
+
+mod answers;
+mod packets;
+mod requests;
+mod rounds;
+mod setting;
+
+use answers::Answers;
+use anyhow::Result;
+use setting::Setting;
+use std::alloc::Global;
+use thiserror::Error;
+
+/// Words that are no workload.
+#[derive(Clone, Copy, Debug, Error)]
+#[error("the words are: memory SEED")]
+struct UnknownWorkload;
+
+// What is answered in these settings, one after another.
+fn answered(alloc: Global, settings: &[Setting], seed: u64) -> Result<Answers> {
+    let mut answers = Answers::new();
+    for setting in settings {
+        answers = rounds::run(alloc, *setting, seed, answers)?;
+    }
+    Ok(answers)
+}
+
+// What the words ask for.
+fn said(alloc: Global, words: &[String]) -> Result<String> {
+    match words {
+        [] => {
+            let answers = answered(alloc, &[setting::SMALL], 1)?;
+            Ok(format!(in alloc; "{}", answers.counts)?)
+        }
+        [name, seed] if name.as_str() == "memory" => {
+            let answers = answered(alloc, &setting::MEMORIES, seed.as_str().parse()?)?;
+            Ok(format!(in alloc; "{}", answers.digest)?)
+        }
+        _ => Err(UnknownWorkload.into()),
+    }
+}
+
+/// With the words `memory SEED` the digest of all answers is printed, with no words what a small run counts.
+fn main(rt: HostRuntime) -> Result<()> {
+    let alloc = rt.alloc();
+    let words: Vec<String> = std::env::args(&rt)?.skip(1).collect(alloc)?;
+    let said = said(alloc, &words)?;
+    println!(rt; "{said}")?;
+    Ok(())
+}
