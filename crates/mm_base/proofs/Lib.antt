@@ -3,6 +3,7 @@ pub mod NumberFields
 pub mod ReadingSteps
 pub mod NumberLaws
 pub mod NumberTexts
+mod Places
 mod LineLemmas
 mod FileLines
 pub mod Elements

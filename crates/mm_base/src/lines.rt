@@ -4,10 +4,13 @@ ghost use Rattle.std.specs.Option.{option_map};
 ghost use Rattle.mm_base.specs.Characters.{line_feed, space};
 ghost use Rattle.mm_base.specs.Lines.{text_lines, file_lines, cut_word};
 
+use memchr::memchr;
+
+#[tactic(auto, using(crate::proofs::Places::first_place))]
 fn first_feed(text: &[u8]) -> Option<usize>
     ensures { result ≡ position (λ c. c == line_feed) text.now }
 {
-    text.iter().position(|octet| *octet == b'\n')
+    memchr(b'\n', text)
 }
 
 /// The text up to the first line feed, and the text after it; nothing where the text is a single line.
@@ -38,11 +41,12 @@ pub fn first_line(text: &[u8]) -> Option<(&[u8], &[u8])>
     }
 }
 
+#[tactic(auto, using(crate::proofs::Places::first_place))]
 fn first_space(text: &[u8]) -> Option<usize>
     ensures space { result ≡ position (λ c. c == space) text.now }
     ensures within { IfSome result (λ i. i < length text.now) }
 {
-    text.iter().position(|octet| *octet == b' ')
+    memchr(b' ', text)
 }
 
 /// The text up to the first space, and what follows the space.
