@@ -1,15 +1,15 @@
 //! Requests from lines of hexadecimal digits.
-ghost use Rattle.std.specs.Prelude.{◌≡◌, IfOk, IfErr, IsTrue};
+ghost use Rattle.std.specs.Prelude.{◌≡◌, ◌*◌, ◌≤◌, length, take, IfOk, IfErr, IsTrue};
 ghost use Rattle.std.specs.Char.{is_ascii_hexdigit};
 ghost use Rattle.std.specs.List.{list_all};
 ghost use Rattle.mm_base.specs.Reading.{Gives};
-ghost use Rattle.mm_st15.specs.Request.{IsRequest, SpellsRequest};
-ghost use Rattle.mm_ask.specs.declared.fault.LineFault.TheVariants.{NoMemory};
-ghost use Rattle.mm_ask.specs.Line.{has_digits, octets_in, packet_alone, packet_of, request_alone, request_of};
+ghost use Rattle.mm_st15.specs.Request.{IsRequest, SpellsRequest, request_fault};
+ghost use Rattle.mm_ask.specs.declared.fault.LineFault.TheVariants.{NoMemory, HexLine};
+ghost use Rattle.mm_ask.specs.Line.{has_digits, octets_in, packet_alone, packet_of, request_alone, request_of, request_tested};
 
 use crate::fault::LineFault;
 use mm_base::passed_on;
-use mm_packet::Packet;
+use mm_packet::{BLOCK, Packet};
 use mm_st15::Request;
 use std::alloc::Global;
 
@@ -71,16 +71,67 @@ pub fn packet_alone(alloc: Global, octets: &[u8]) -> Result<Packet, LineFault>
     }
 }
 
+// Writes the octets that the digits spell at the head of a room, and gives how many they are.
+#[tactic(auto, using(crate::proofs::DigitLemmas::spelled))]
+fn octets_within(room: &mut [u8], digits: &[u8]) -> Result<usize, LineFault>
+    requires { length digits.now ≤ 2 * length room.old }
+    ensures octets { IfOk result (λ count. octets_in digits.now ≡ Ok (take count room.new)) }
+    ensures count { IfOk result (λ count. count ≤ length room.new) }
+    ensures digits { IfOk result (λ _. IsTrue (has_digits digits.now)) }
+    ensures refused { IfErr result (λ fault. (fault ≡ HexLine) × (octets_in digits.now ≡ Err HexLine)) }
+{
+    let count = digits.len() / 2;
+    match hex::decode_to_slice(digits, &mut room[..count]) {
+        Ok(()) => Ok(count),
+        Err(_) => Err(LineFault::HexLine),
+    }
+}
+
+// The packet of digits that are no more than those of the longest packet that is stored. Their octets take no memory.
+#[tactic(auto, unfolding(crate::specs::Line::packet_of))]
+fn short_packet_of(alloc: Global, digits: &[u8]) -> Result<Packet, LineFault>
+    requires { length digits.now ≤ 2 * BLOCK }
+    ensures packet { Gives NoMemory (λ packet. packet) result (packet_of digits.now) }
+    ensures memory { IfErr result (λ fault. fault ≡ NoMemory → IsTrue (has_digits digits.now)) }
+    ensures digits { IfOk result (λ _. IsTrue (has_digits digits.now)) }
+{
+    let mut room = [0; BLOCK];
+    let count = octets_within(&mut room, digits)?;
+    packet_alone(alloc, &room[..count])
+}
+
+// The packet of any number of digits.
+#[tactic(auto, unfolding(crate::specs::Line::packet_of))]
+fn long_packet_of(alloc: Global, digits: &[u8]) -> Result<Packet, LineFault>
+    ensures packet { Gives NoMemory (λ packet. packet) result (packet_of digits.now) }
+    ensures memory { IfErr result (λ fault. fault ≡ NoMemory → IsTrue (has_digits digits.now)) }
+    ensures digits { IfOk result (λ _. IsTrue (has_digits digits.now)) }
+{
+    let octets = octets_in(alloc, digits)?;
+    packet_alone(alloc, &octets)
+}
+
+// The packet that the digits spell, which are good where there is one.
+fn digits_packet(alloc: Global, digits: &[u8]) -> Result<Packet, LineFault>
+    ensures packet { Gives NoMemory (λ packet. packet) result (packet_of digits.now) }
+    ensures memory { IfErr result (λ fault. fault ≡ NoMemory → IsTrue (has_digits digits.now)) }
+    ensures digits { IfOk result (λ _. IsTrue (has_digits digits.now)) }
+{
+    if digits.len() <= 2 * BLOCK {
+        short_packet_of(alloc, digits)
+    } else {
+        long_packet_of(alloc, digits)
+    }
+}
+
 /// The packet that hexadecimal digits spell, with nothing after it. The tests come in this order: the digits, the
 /// packet, octets after it.
-#[tactic(auto, unfolding(crate::specs::Line::packet_of))]
 pub fn packet_of(alloc: Global, digits: &[u8]) -> Result<Packet, LineFault>
     ensures packet { Gives NoMemory (λ packet. packet) result (packet_of digits.now) }
     // A growth is refused only where the digits are good.
     ensures memory { IfErr result (λ fault. fault ≡ NoMemory → IsTrue (has_digits digits.now)) }
 {
-    let octets = octets_in(alloc, digits)?;
-    packet_alone(alloc, &octets)
+    digits_packet(alloc, digits)
 }
 
 impl From<mm_st15::Fault> for LineFault {
@@ -93,6 +144,16 @@ impl From<mm_st15::Fault> for LineFault {
     }
 }
 
+// The request that a packet asks.
+fn asked_of(alloc: Global, packet: Packet) -> Result<Asked, LineFault>
+    ensures asked { Gives NoMemory (λ asked. asked.packet) result (request_tested packet (request_fault packet)) }
+    ensures spelled { IfOk result (λ asked. IsRequest asked.request
+        × SpellsRequest asked.packet asked.request) }
+{
+    let request = Request::read(alloc, &packet)?;
+    Ok(Asked { packet, request })
+}
+
 /// The request of the packet that the octets are, with nothing after it. The tests come in this order: the packet,
 /// octets after it, the request.
 pub fn request_alone(alloc: Global, octets: &[u8]) -> Result<Asked, LineFault>
@@ -101,13 +162,12 @@ pub fn request_alone(alloc: Global, octets: &[u8]) -> Result<Asked, LineFault>
         × SpellsRequest asked.packet asked.request) }
 {
     let packet = packet_alone(alloc, octets)?;
-    let request = Request::read(alloc, &packet)?;
-    Ok(Asked { packet, request })
+    asked_of(alloc, packet)
 }
 
 /// The request that a line of hexadecimal digits asks. The tests come in this order: the digits,
 /// the packet, octets after it, the request.
-#[tactic(auto, unfolding(crate::specs::Line::request_of))]
+#[tactic(auto, using(crate::proofs::DigitLemmas::request_of_packet))]
 pub fn request_of(alloc: Global, line: &[u8]) -> Result<Asked, LineFault>
     // The packet of the line, which passes every test.
     ensures found { IfOk result (λ asked. request_of line.now ≡ Ok asked.packet) }
@@ -120,7 +180,6 @@ pub fn request_of(alloc: Global, line: &[u8]) -> Result<Asked, LineFault>
     ensures memory { IfErr result (λ fault. fault ≡ NoMemory → IsTrue (has_digits line.now)) }
     ensures digits { IfOk result (λ _. IsTrue (has_digits line.now)) }
 {
-    let octets = octets_in(alloc, line)?;
-    let asked = request_alone(alloc, &octets)?;
-    Ok(asked)
+    let packet = digits_packet(alloc, line)?;
+    asked_of(alloc, packet)
 }
