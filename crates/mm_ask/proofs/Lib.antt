@@ -6,3 +6,4 @@ pub mod LineLemmas
 pub mod ReadingLemmas
 pub mod TelemetryLemmas
 pub mod WordLemmas
+mod SpaceLemmas

@@ -16,6 +16,7 @@ use crate::lines::{TakeLine, take_lines};
 use crate::packet_words::{push_header_line, push_report, push_request};
 use crate::text::push_refused_line;
 use mm_base::NoMemory;
+use mm_base::lines::cut_word;
 use mm_packet::Packet;
 use mm_st15::{Report, Request};
 use std::alloc::{AllocError, Global};
@@ -47,10 +48,14 @@ fn without_spaces(alloc: Global, digits: &[u8]) -> Result<Vec<u8>, AllocError>
         .collect(alloc)
 }
 
-// The packet that the digits spell, with spaces between them.
+// The packet that the digits spell, with spaces between them or none.
+#[tactic(auto, using(crate::proofs::SpaceLemmas::no_space))]
 fn spaced_packet(alloc: Global, digits: &[u8]) -> Result<Packet, LineFault>
     ensures { Gives LineFault.NoMemory (λ packet. packet) result (packet_of (without_spaces digits.now)) }
 {
+    let Some(_) = cut_word(digits) else {
+        return packet_of(alloc, digits);
+    };
     let Ok(digits) = without_spaces(alloc, digits) else {
         return Err(LineFault::NoMemory);
     };
