@@ -4,11 +4,12 @@ use Rattle.std.proofs.lemmas.Bool.{cases_eq}
 use Rattle.std.proofs.lemmas.List.{get_or-set_same, get_or-set_other, length-set, length-replicate}
 use Rattle.std.specs.List.{sum_by}
 use Rattle.std.proofs.lemmas.List.Sums.{sum_by-set}
+use Rattle.mm_flow.specs.declared.links.Step.{Step}
 use Rattle.mm_flow.specs.declared.search.Mark.{Mark}
 use Rattle.mm_flow.specs.Graph.{Graph}
 use Rattle.mm_flow.specs.Flow.{Flow}
 use Rattle.mm_flow.specs.Residual.{entries, tail}
-use Rattle.mm_flow.specs.Links.{IsLinkedBelow}
+use Rattle.mm_flow.specs.Links.{chained, IsLinkedBelow}
 use Rattle.mm_flow.specs.Marks.{mark, level, HasMark, IsReached, IsMarking}
 use Rattle.mm_flow.specs.Levels.{IsPath, HasPath, IsLevelled, IsCursors}
 use Rattle.mm_flow.proofs.Marking.{slice_index-nothing}
@@ -91,7 +92,7 @@ cursors_none g next count same all = record {
   own = λ n e at. absurd (omega (arith, at, ap (λ (xs : List ℕ). slice_index xs n) same, slice_index-nothing count n));
 }
 
-module _ (g : Graph) (last before : List ℕ) (linked : IsLinkedBelow g last before (entries g)) where
+module _ (g : Graph) (last : List ℕ) (steps : List Step) (linked : IsLinkedBelow g last steps (entries g)) where
   -- the first cursors
   pub cursors_first : (next : List ℕ) → next ≡ last → IsCursors g next
   cursors_first next same = record {
@@ -100,7 +101,7 @@ module _ (g : Graph) (last before : List ℕ) (linked : IsLinkedBelow g last bef
   }
 
   -- the cursor after an entry in a chain stands at an entry of the same node before it, or at none
-  pub cursor_before : (e cursor : ℕ) → e < entries g → cursor ≡ slice_index before e → (d : ℕ) → cursor ≡ d + 1 → (d < entries g) × (tail g d ≡ tail g e)
+  pub cursor_before : (e cursor : ℕ) → e < entries g → cursor ≡ chained steps e → (d : ℕ) → cursor ≡ d + 1 → (d < entries g) × (tail g d ≡ tail g e)
   cursor_before e cursor known is d at =
       let own = linked.before_own e d known (sym is ∙ at) in
       (omega (arith, own.0), own.1)

@@ -2,7 +2,7 @@
 ghost use Rattle.std.specs.Prelude.{◌≡◌, ◌≢◌, ◌<◌, ◌≤◌, ◌-◌, true, length, slice_index, IfOk, IfSome, IfNone};
 ghost use Rattle.mm_flow.specs.Levels.{IsCursors};
 
-use crate::residual::{head, residual, twin};
+use crate::residual::{residual, twin};
 use crate::tables::Tables;
 use std::alloc::{AllocError, Global};
 
@@ -119,7 +119,7 @@ impl<'a> Phase<'a> {
             return None;
         }
         let entry = cursor as usize - 1;
-        let from = head(self.tables.network, entry);
+        let from = self.tables.head(entry);
         self.ahead[from as usize] = twin(self.tables.network, entry) as u32;
         Some(from)
     }
@@ -133,7 +133,7 @@ impl<'a> Phase<'a> {
         let height = self.tables.search.marks[at as usize].level;
         let mut cursor = self.next[at as usize];
         while cursor > 0 && !self.leads_up(cursor as usize - 1, height) {
-            cursor = self.tables.links.before[cursor as usize - 1];
+            cursor = self.tables.links.steps[cursor as usize - 1].before;
         }
         cursor
     }
@@ -146,7 +146,7 @@ impl<'a> Phase<'a> {
         ensures { result ≡ true → IsOpen self.now.tables
             (twin self.now.tables.network.now.graph entry) }
     {
-        let from = head(self.tables.network, entry);
+        let from = self.tables.head(entry);
         let below = self.tables.search.marks[from as usize].level;
         let back = twin(self.tables.network, entry);
         below > 0 && below < height && residual(self.tables.network, &self.tables.flow, back) > 0
@@ -160,9 +160,9 @@ impl<'a> Phase<'a> {
         ensures cursors { cursors_of self.new < cursors_of self.old }
         ensures leads { LeadsFrom self.new result }
     {
-        let to = head(self.tables.network, self.ahead[at as usize] as usize);
+        let to = self.tables.head(self.ahead[at as usize] as usize);
         let cursor = self.next[to as usize];
-        self.next[to as usize] = self.tables.links.before[cursor as usize - 1];
+        self.next[to as usize] = self.tables.links.steps[cursor as usize - 1].before;
         to
     }
 
@@ -175,9 +175,10 @@ impl<'a> Phase<'a> {
     {
         let mut at = self.tables.search.source;
         while at != self.tables.sink {
-            let entry = self.ahead[at as usize] as usize;
-            self.tables.reach_by(entry);
-            at = head(self.tables.network, entry);
+            let entry = self.ahead[at as usize];
+            let to = self.tables.head(entry as usize);
+            self.tables.reach_by(entry, at, to);
+            at = to;
         }
     }
 }

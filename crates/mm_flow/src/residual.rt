@@ -61,7 +61,8 @@ pub(crate) fn residual(network: &Network, flow: &[u64], entry: usize) -> u64
     requires entry { entry < entries network.now.graph }
     requires flow { length flow.now ≡ length network.now.graph.arcs }
     requires within { IsWithin network.now.graph (slice_index flow.now) }
-    ensures { result ≡ residual network.now.graph (slice_index flow.now) entry }
+    ensures residual { result ≡ residual network.now.graph (slice_index flow.now) entry }
+    ensures network { IsNetwork network.now.graph }
 {
     let arcs = network.arc_count();
     if entry < arcs {

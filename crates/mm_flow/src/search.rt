@@ -8,7 +8,7 @@ ghost use Rattle.mm_flow.specs.Marks.{no_mark};
 use crate::limits::{MAX_VALUE, UNLIMITED};
 use crate::links::Links;
 use crate::network::Network;
-use crate::residual::{head, push, residual, tail};
+use crate::residual::{push, residual, tail};
 use std::alloc::{AllocError, Global};
 
 /// How a node was reached: its level, one more than the entries on the path to it and 0 where there is none, the last
@@ -16,7 +16,7 @@ use std::alloc::{AllocError, Global};
 #[derive(Clone, Copy)]
 pub(crate) struct Mark {
     pub(crate) level: u32,
-    pub(crate) via: usize,
+    pub(crate) via: u32,
     pub(crate) width: u64,
 }
 
@@ -116,19 +116,24 @@ impl Search {
         ensures least { self.new.least ≡ self.old.least }
         ensures done { self.new.done ≡ self.old.done + 1 }
     {
-        let node = self.order[self.done] as usize;
-        let mut cursor = links.last[node];
+        let node = self.order[self.done];
+        let mut cursor = links.last[node as usize];
         while cursor > 0 {
-            let entry = cursor as usize - 1;
-            self.reach(network, flow, entry);
-            cursor = links.before[entry];
+            let entry = cursor - 1;
+            let step = links.steps[entry as usize];
+            self.reach(network, flow, entry, node, step.head);
+            cursor = step.before;
         }
         self.done += 1;
     }
 
     // Marks the node that an entry leads to, if that has no mark and the entry the residual capacity.
-    fn reach(&mut self, network: &Network, flow: &[u64], entry: usize)
+    fn reach(&mut self, network: &Network, flow: &[u64], entry: u32, node: u32, to: u32)
         requires entry { entry < entries network.now.graph }
+        requires leaves { node ≡ tail network.now.graph entry }
+        requires leads { to ≡ head network.now.graph entry }
+        requires node { node < network.now.graph.nodes }
+        requires to { to < network.now.graph.nodes }
         requires flow { length flow.now ≡ length network.now.graph.arcs }
         requires within { IsWithin network.now.graph (slice_index flow.now) }
         requires search { IsSearching network.now.graph (slice_index flow.now) self.old }
@@ -138,15 +143,14 @@ impl Search {
         ensures leads { self.old.least ≤ residual network.now.graph (slice_index flow.now) entry
             → HasMark self.new.marks.items (head network.now.graph entry) }
     {
-        let to = head(network, entry);
         if self.marks[to as usize].level > 0 {
             return;
         }
-        let capacity = residual(network, flow, entry);
+        let capacity = residual(network, flow, entry as usize);
         if capacity < self.least {
             return;
         }
-        let from = self.marks[tail(network, entry) as usize];
+        let from = self.marks[node as usize];
         self.marks[to as usize] = Mark {
             level: from.level + 1,
             via: entry,
@@ -172,26 +176,36 @@ impl Search {
     }
 
     // Lets a path go on by an entry that leads up from its last node.
-    pub(crate) fn reach_by(&mut self, network: &Network, flow: &[u64], entry: usize)
+    pub(crate) fn reach_by(
+        &mut self,
+        network: &Network,
+        flow: &[u64],
+        entry: u32,
+        node: u32,
+        to: u32,
+    )
+        requires leaves { node ≡ tail network.now.graph entry }
+        requires leads { to ≡ head network.now.graph entry }
+        requires node { node < network.now.graph.nodes }
+        requires to { to < network.now.graph.nodes }
         requires flow { length flow.now ≡ length network.now.graph.arcs }
         requires within { IsWithin network.now.graph (slice_index flow.now) }
         requires levelled { IsLevelled network.now.graph self.old.source self.old.marks.items }
         requires up { IsUp network.now.graph (slice_index flow.now) self.old.marks.items entry }
         requires path { HasPath network.now.graph (slice_index flow.now) self.old.marks.items
-            self.old.source (tail network.now.graph entry) }
+            self.old.source node }
         ensures levelled { IsLevelled network.now.graph self.new.source self.new.marks.items }
         ensures source { self.new.source ≡ self.old.source }
         ensures order { length self.new.order.items ≡ length self.old.order.items }
         ensures levels { (n : ℕ) → level self.new.marks.items n ≡ level self.old.marks.items n }
         ensures path { HasPath network.now.graph (slice_index flow.now) self.new.marks.items
-            self.new.source (head network.now.graph entry) }
+            self.new.source to }
     {
-        let from = self.marks[tail(network, entry) as usize];
-        let to = head(network, entry) as usize;
-        self.marks[to] = Mark {
-            level: self.marks[to].level,
+        let from = self.marks[node as usize];
+        self.marks[to as usize] = Mark {
+            level: self.marks[to as usize].level,
             via: entry,
-            width: from.width.min(residual(network, flow, entry)),
+            width: from.width.min(residual(network, flow, entry as usize)),
         };
     }
 
@@ -213,7 +227,7 @@ impl Search {
         let amount = self.marks[sink as usize].width;
         let mut at = sink;
         while at != self.source {
-            let entry = self.marks[at as usize].via;
+            let entry = self.marks[at as usize].via as usize;
             push(network, flow, entry, amount);
             at = tail(network, entry);
         }

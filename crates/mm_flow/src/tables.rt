@@ -25,7 +25,7 @@ pub(crate) struct Tables<'a> {
 }
 
 impl<'a> Tables<'a> {
-    ghost use Rattle.mm_flow.specs.Residual.{tail, head};
+    ghost use Rattle.mm_flow.specs.Residual.{entries, tail, head};
     ghost use Rattle.mm_flow.specs.Marks.{level};
     ghost use Rattle.mm_flow.specs.Task.{IsTask, SameTask, IsOpen, Reaches, IsOver};
 
@@ -90,18 +90,32 @@ impl<'a> Tables<'a> {
         self.search.put_above_all(self.network, self.sink);
     }
 
+    // The node that an entry leads to.
+    pub(crate) fn head(&self, entry: usize) -> u32
+        requires { entry < entries self.now.network.now.graph }
+        ensures node { result ≡ head self.now.network.now.graph entry }
+        ensures known { result < self.now.network.now.graph.nodes }
+    {
+        self.links.steps[entry].head
+    }
+
     // Lets a path go on by an entry that leads up from its last node.
-    pub(crate) fn reach_by(&mut self, entry: usize)
+    pub(crate) fn reach_by(&mut self, entry: u32, node: u32, to: u32)
+        requires leaves { node ≡ tail self.old.network.now.graph entry }
+        requires leads { to ≡ head self.old.network.now.graph entry }
+        requires node { node < self.old.network.now.graph.nodes }
+        requires to { to < self.old.network.now.graph.nodes }
         requires up { IsOpen self.old entry }
-        requires path { Reaches self.old (tail self.old.network.now.graph entry) }
+        requires path { Reaches self.old node }
         ensures task { SameTask self.old self.new }
         ensures kept { self.new.flow ≡ self.old.flow }
         ensures value { self.new.value ≡ self.old.value }
         ensures levels { (n : ℕ) → level self.new.search.marks.items n
             ≡ level self.old.search.marks.items n }
-        ensures path { Reaches self.new (head self.old.network.now.graph entry) }
+        ensures path { Reaches self.new to }
     {
-        self.search.reach_by(self.network, &self.flow, entry);
+        self.search
+            .reach_by(self.network, &self.flow, entry, node, to);
     }
 
     // The flow, with the nodes that the search reached as the source's side.

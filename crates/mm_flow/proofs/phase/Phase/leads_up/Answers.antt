@@ -22,5 +22,5 @@ returns-then-below-height c = λ some.
       known = omega (arith, c.twin-back.ensures.known, twin_is);
       marked = omega (arith, c.if-below-height.true.0, read, from, below);
       up = omega (arith, c.if-below-height.true.1, c.requires.height, read, from, below, above);
-      open_still = omega (arith, ltb-true 0 c.residual.result some, c.residual.ensures, ap (λ (flow : List ℕ). residual g (slice_index flow) c.twin-back.result) c.deref.ensures.value, ap (residual g (slice_index t.flow.items)) twin_is);
+      open_still = omega (arith, ltb-true 0 c.residual.result some, c.residual.ensures.residual, ap (λ (flow : List ℕ). residual g (slice_index flow) c.twin-back.result) c.deref.ensures.value, ap (residual g (slice_index t.flow.items)) twin_is);
     }
