@@ -5,3 +5,4 @@ pub mod ReportLemmas
 pub mod LawLemmas
 pub mod LendingLemmas
 pub mod RecordLemmas
+pub mod RoutingLemmas

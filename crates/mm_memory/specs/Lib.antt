@@ -10,3 +10,4 @@ pub mod Reports
 pub mod Laws
 pub mod Tallies
 pub mod Recording
+pub mod Routing

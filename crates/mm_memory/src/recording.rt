@@ -1,118 +1,84 @@
 //! A packet that is recorded: each store that its report type is routed to is offered it.
-ghost use Rattle.std.specs.Prelude.{◌≡◌, ◌≤◌, length, map, Option, IfOk, OnOk, OnErr};
+ghost use Rattle.std.specs.Prelude.{◌≡◌, ◌≤◌, length, Some, IfOk, OnOk, OnErr};
 ghost use Rattle.mm_base.specs.declared.limits.TheConstants.{MAX_STORES};
-ghost use Rattle.mm_base.specs.SameRoutes.{same_route};
-ghost use Rattle.mm_packet.specs.Packet.{SpacePacket};
-ghost use Rattle.mm_control.specs.Routes.{has_row};
-ghost use Rattle.mm_memory.specs.Recording.{is_routed, packet_for, after_offer, tally_in, after_offers, tally_over, after_record, tally_after};
+ghost use Rattle.mm_memory.specs.Recording.{after_offer, tally_in, after_offers, tally_over, after_record, tally_after};
+ghost use Rattle.mm_memory.specs.Routing.{rows_for, leads_to, lead_to_any, packet_along};
 
 use crate::memory::Memory;
 use crate::tally::Tally;
 use mm_base::{NoMemory, RouteRow, StoreId};
 use mm_control::ControlTable;
 use mm_desk::Held;
-use mm_packet::BlockPacket;
+use mm_packet::{BlockPacket, Packet};
 use std::alloc::Global;
 
-fn same_route(a: &RouteRow, b: &RouteRow) -> bool
-    ensures { result ≡ same_route a.now b.now }
+// The rows of a packet's report type; none for a telecommand.
+fn rows_for<'a>(control: &'a ControlTable, packet: &Packet) -> &'a [RouteRow]
+    ensures { result.now ≡ rows_for control.now packet.now }
 {
-    a.apid == b.apid && a.service == b.service && a.subtype == b.subtype && a.store == b.store
-}
-
-fn has_row(rows: &[RouteRow], row: &RouteRow) -> bool
-    ensures { result ≡ has_row row.now rows.now }
-{
-    rows.iter().any(|other| same_route(other, row))
-}
-
-// Whether a packet goes into the store with an identifier.
-fn is_routed(control: &ControlTable, id: &StoreId, packet: &BlockPacket) -> bool
-    ensures { result ≡ is_routed control.now id.now packet.now }
-{
-    let content = packet.packet();
-    if content.is_telecommand() {
-        return false;
+    if packet.is_telecommand() {
+        return &[];
     }
-    let row = RouteRow {
-        apid: content.apid(),
-        service: content.service(),
-        subtype: content.subtype(),
-        store: *id,
-    };
-    has_row(control.list(), &row)
+    control.rows_for(packet.apid(), packet.service(), packet.subtype())
 }
 
-// A copy of a packet for a store, where it is routed to it.
-fn copy_for(
-    alloc: Global,
-    control: &ControlTable,
-    packet: &BlockPacket,
-    held: &Held,
-) -> Result<Option<BlockPacket>, NoMemory>
-    ensures { IfOk result (λ copy. copy ≡ packet_for control.now packet.now held.now) }
+// Whether one of the rows leads to the store with an identifier.
+fn leads_to(rows: &[RouteRow], id: &StoreId) -> bool
+    ensures { result ≡ leads_to rows.now id.now }
 {
-    if is_routed(control, &held.id, packet) {
-        Ok(Some(packet.copy(alloc)?))
-    } else {
-        Ok(None)
-    }
+    rows.iter().any(|row| row.store == *id)
 }
 
-// For each of these stores a copy of a packet, where it is routed to it.
-fn copies_for(
-    alloc: Global,
-    control: &ControlTable,
-    packet: &BlockPacket,
-    stores: &[Held],
-) -> Result<Vec<Option<BlockPacket>>, NoMemory>
-    ensures { IfOk result (λ copies. copies.items ≡ map (packet_for control.now packet.now) stores.now) }
+// Whether one of the rows leads to one of the stores.
+fn lead_to_any(rows: &[RouteRow], stores: &[Held]) -> bool
+    ensures { result ≡ lead_to_any rows.now stores.now }
 {
-    let mut copies = Vec::new(alloc);
-    for held in stores {
-        copies.push(copy_for(alloc, control, packet, held)?)?;
-    }
-    Ok(copies)
+    stores.iter().any(|held| leads_to(rows, &held.id))
 }
 
-// Offers the packet for a store to it, where there is one.
-fn offer_one(held: &mut Held, now: u64, packet: Option<BlockPacket>) -> Tally
-    ensures store { held.new ≡ after_offer now held.old packet }
-    ensures tally { result ≡ tally_in now held.old packet }
+// Offers a packet to a store.
+fn offer_one(held: &mut Held, now: u64, packet: BlockPacket) -> Tally
+    ensures store { held.new ≡ after_offer now held.old (Some packet) }
+    ensures tally { result ≡ tally_in now held.old (Some packet) }
     ensures kept { result.kept ≤ 1 }
     ensures lost { result.lost ≤ 1 }
     ensures refused { result.refused ≤ 1 }
 {
-    match packet {
-        Some(packet) => Tally::of(held.state.offer(now, packet)),
-        None => Tally::nothing(),
-    }
+    Tally::of(held.state.offer(now, packet))
 }
 
-// Offers each of these packets to the store in the same place.
-fn offer_each(stores: &mut [Held], now: u64, packets: &mut [Option<BlockPacket>]) -> Tally
+// Offers a packet to each of the stores to which one of the rows leads: copies of it, and it itself to one. The copies are made first.
+fn offer_each(
+    alloc: Global,
+    stores: &mut [Held],
+    rows: &[RouteRow],
+    now: u64,
+    packet: BlockPacket,
+) -> Result<Tally, NoMemory>
     requires few { length stores.old ≤ MAX_STORES }
-    ensures stores { (packet : Held → Option SpacePacket) → packets.old ≡ map packet stores.old
-        → stores.new ≡ after_offers now packet stores.old }
-    ensures tally { (packet : Held → Option SpacePacket) → packets.old ≡ map packet stores.old
-        → result ≡ tally_over now packet stores.old }
-    ensures kept { result.kept ≤ length stores.old }
-    ensures lost { result.lost ≤ length stores.old }
-    ensures refused { result.refused ≤ length stores.old }
+    ensures stores { OnOk result (stores.new ≡ after_offers now (packet_along rows.now packet) stores.old) }
+    ensures tally { IfOk result (λ tally. tally ≡ tally_over now (packet_along rows.now packet) stores.old) }
+    ensures kept { IfOk result (λ tally. tally.kept ≤ length stores.old) }
+    ensures lost { IfOk result (λ tally. tally.lost ≤ length stores.old) }
+    ensures refused { IfOk result (λ tally. tally.refused ≤ length stores.old) }
+    ensures err { OnErr result (stores.new ≡ stores.old) }
 {
     let Some((first, rest)) = stores.split_first_mut() else {
-        return Tally::nothing();
+        return Ok(Tally::nothing());
     };
-    let Some((packet, others)) = packets.split_first_mut() else {
-        return Tally::nothing();
-    };
-    let one = offer_one(first, now, packet.take());
-    let more = offer_each(rest, now, others);
-    Tally {
+    if !leads_to(rows, &first.id) {
+        return offer_each(alloc, rest, rows, now, packet);
+    }
+    if !lead_to_any(rows, rest) {
+        return Ok(offer_one(first, now, packet));
+    }
+    let more = offer_each(alloc, rest, rows, now, packet.copy(alloc)?)?;
+    let one = offer_one(first, now, packet);
+    Ok(Tally {
         kept: one.kept + more.kept,
         lost: one.lost + more.lost,
         refused: one.refused + more.refused,
-    }
+    })
 }
 
 impl Memory {
@@ -129,7 +95,30 @@ impl Memory {
         ensures tally { IfOk result (λ tally. tally ≡ tally_after now packet.now self.old) }
         ensures err { OnErr result (self.new ≡ self.old) }
     {
-        let mut copies = copies_for(alloc, &self.control, packet, &self.stores)?;
-        Ok(offer_each(&mut self.stores, now, &mut copies))
+        let rows = rows_for(&self.control, packet.packet());
+        if !lead_to_any(rows, &self.stores) {
+            return Ok(Tally::nothing());
+        }
+        let packet = packet.copy(alloc)?;
+        self.record_owned(alloc, now, packet)
+    }
+
+    /// As `record`. The packet itself goes to one of the stores, and copies to the others.
+    pub fn record_owned(
+        &mut self,
+        alloc: Global,
+        now: u64,
+        packet: BlockPacket,
+    ) -> Result<Tally, NoMemory>
+        ensures after { OnOk result (self.new ≡ after_record now packet self.old) }
+        ensures tally { IfOk result (λ tally. tally ≡ tally_after now packet self.old) }
+        ensures err { OnErr result (self.new ≡ self.old) }
+    {
+        let rows = rows_for(&self.control, packet.packet());
+        if rows.is_empty() {
+            return Ok(Tally::nothing());
+        }
+        let tally = offer_each(alloc, &mut self.stores, rows, now, packet)?;
+        Ok(tally)
     }
 }

@@ -1,18 +1,24 @@
-use Rattle.std.proofs.Common.{◌≡◌, length, map, sym, subst, ap, ◌∙◌, arith}
-use Rattle.mm_memory.specs.Holdings.{AreHeld}
-use Rattle.mm_memory.specs.Laws.{ids_of}
-use Rattle.mm_memory.specs.Recording.{packet_for}
-use Rattle.mm_memory.proofs.LawLemmas.{AreHeld-same_ids}
-use Rattle.mm_memory.proofs.RecordLemmas.{all_written, ids_kept}
+use Rattle.std.proofs.Common.{◌≡◌, false, sym, subst, ap, ◌∙◌}
+use Rattle.mm_memory.specs.contracts.memory.Memory.{the_view}
+use Rattle.mm_memory.specs.Holdings.{Holdings}
+use Rattle.mm_memory.specs.Recording.{after_record}
+use Rattle.mm_memory.specs.Routing.{rows_for, lead_to_any}
+use Rattle.mm_memory.proofs.RoutingLemmas.{recorded_none, told_none}
 use Rattle.mm_memory.proofs.memory.Memory.record.Goals as goal
 
-pub invariant_of-self : goal.invariant_of-self
-invariant_of-self c =
-    let m = c.self.inside in
-    let new = c.offer_each.new.stores in
-    let packet = packet_for m.control c.args.packet.now in
-    let lent = c.deref_mut.ensures.value in
-    let packets = c.deref_mut-2.ensures.value ∙ c.in_ok-copies.ensures ∙ ap (map packet) (c.deref.ensures.value ∙ sym lent) in
-    let ids = ap ids_of (c.offer_each.ensures.stores packet packets) ∙ ids_kept c.args.now packet c.deref_mut.result.now ∙ ap ids_of lent in
-    let long : m.stores.len ≡ length new = omega (arith, m.stores.ok.0, c.offer_each.auto.stores, ap length lent) in
-    subst AreHeld (sym (all_written m.stores.len new m.stores.items long)) (AreHeld-same_ids m.stores.items new (sym ids) c.self.invariant)
+pub returns-then-not-lead_to_any-clause-after : goal.returns-then-not-lead_to_any-clause-after
+returns-then-not-lead_to_any-clause-after c =
+    let rows = c.rows_for-rows.result.now in
+    let rows_is = c.rows_for-rows.ensures ∙ ap (rows_for c.self.inside.control) c.packet.ensures.same in
+    let none : lead_to_any rows c.deref.result.now ≡ false = cc in
+    let none_held = ap (lead_to_any rows) (sym c.deref.ensures.value) ∙ none in
+    let Kept : Holdings → Type 0 = λ x. x ≡ after_record c.args.now c.args.packet.now x in
+    subst Kept c.self.view_is (recorded_none c.args.now c.args.packet.now (the_view c.self.inside) rows rows_is none_held)
+
+pub returns-then-not-lead_to_any-clause-tally : goal.returns-then-not-lead_to_any-clause-tally
+returns-then-not-lead_to_any-clause-tally c =
+    let rows = c.rows_for-rows.result.now in
+    let rows_is = c.rows_for-rows.ensures ∙ ap (rows_for c.self.inside.control) c.packet.ensures.same in
+    let none : lead_to_any rows c.deref.result.now ≡ false = cc in
+    let none_held = ap (lead_to_any rows) (sym c.deref.ensures.value) ∙ none in
+    rw (← c.self.view_is) (c.nothing.ensures ∙ told_none c.args.now c.args.packet.now (the_view c.self.inside) rows rows_is none_held)

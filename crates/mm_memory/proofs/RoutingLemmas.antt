@@ -1,0 +1,133 @@
+-- The stores that a packet is routed to are those to which a row of its report type leads.
+use Rattle.std.proofs.Common.{◌≡◌, ℕ, add-zero, Bool, true, false, ◌&&◌, ◌||◌, List, [], ◌∷◌, Some, None, refl, sym, ap, ◌∙◌}
+use Rattle.std.specs.Prelude.{if◌then◌else◌, ◌==◌, length}
+use Rattle.std.proofs.lemmas.Bool.{eqb-true}
+use Rattle.std.proofs.lemmas.List.{nil_from_length}
+use Rattle.std.specs.List.{filter, list_any}
+use Rattle.mm_base.specs.declared.rows.RouteRow.{RouteRow}
+use Rattle.mm_packet.specs.declared.header.PacketType.{PacketType}
+use Rattle.mm_packet.specs.declared.header.PacketType.TheVariants.{Telecommand, Telemetry}
+use Rattle.mm_packet.specs.Packet.{SpacePacket}
+use Rattle.mm_control.specs.Routes.{is_for, is_to}
+use Rattle.mm_desk.specs.declared.held.Held.{Held}
+use Rattle.mm_memory.specs.declared.tally.Tally.{Tally}
+use Rattle.mm_memory.specs.Tallies.{nothing, plus}
+use Rattle.mm_memory.specs.Holdings.{Holdings}
+use Rattle.mm_memory.specs.Recording.{is_routed, packet_for, after_offers, after_offer, tally_over, tally_in, after_record, tally_after}
+use Rattle.mm_memory.specs.Routing.{rows_for, leads_to, lead_to_any, packet_along}
+
+-- an element passes two tests where one that passes the first passes the second
+any-both : {X : Type 0} (p q : X → Bool) (xs : List X) → list_any (λ x. p x && q x) xs ≡ list_any q (filter p xs)
+any-both p q [] = refl
+any-both p q (x ∷ xs) = by_test (p x) (any-both p q xs)
+  where
+    by_test : (b : Bool) → list_any (λ y. p y && q y) xs ≡ list_any q (filter p xs)
+        → ((b && q x) || list_any (λ y. p y && q y) xs) ≡ list_any q (if b then x ∷ filter p xs else filter p xs)
+    by_test true rest = ap (λ (b : Bool). q x || b) rest
+    by_test false rest = rest
+
+-- a packet goes into a store where a row of its report type leads there
+routed : (routes : List RouteRow) (p : SpacePacket) (id : List ℕ) → is_routed routes id p ≡ leads_to (rows_for routes p) id
+routed routes p id =
+    elim p.kind as (λ (kind : PacketType). is_routed routes id (record p { kind = kind }) ≡ leads_to (rows_for routes (record p { kind = kind })) id) [
+      | Telecommand source ↦ refl
+      | Telemetry counter destination time ↦ any-both (is_for p.header.apid p.header.service p.header.subtype) (is_to id) routes
+    ]
+
+-- the packet for a store
+along : (routes : List RouteRow) (p : SpacePacket) (h : Held) → packet_along (rows_for routes p) p h ≡ packet_for routes p h
+along routes p h = ap (λ (b : Bool). if b then Some p else None) (sym (routed routes p h.id))
+
+-- the stores after the packet was offered along the rows
+pub after_along : (now : ℕ) (routes : List RouteRow) (p : SpacePacket) (stores : List Held)
+    → after_offers now (packet_along (rows_for routes p) p) stores ≡ after_offers now (packet_for routes p) stores
+after_along now routes p [] = refl
+after_along now routes p (h ∷ hs) = rw (along routes p h, after_along now routes p hs) refl
+
+-- and what became of it
+pub tally_along : (now : ℕ) (routes : List RouteRow) (p : SpacePacket) (stores : List Held)
+    → tally_over now (packet_along (rows_for routes p) p) stores ≡ tally_over now (packet_for routes p) stores
+tally_along now routes p [] = refl
+tally_along now routes p (h ∷ hs) = rw (along routes p h, tally_along now routes p hs) refl
+
+-- a test that none of a list passes is not passed by its first, nor by the others
+none_first : (a b : Bool) → (a || b) ≡ false → a ≡ false
+none_first false b e = refl
+none_first true b e = e
+
+none_others : (a b : Bool) → (a || b) ≡ false → b ≡ false
+none_others false b e = e
+none_others true false e = refl
+none_others true true e = e
+
+-- stores to which no row leads stay as they are
+pub after_none : (now : ℕ) (rows : List RouteRow) (p : SpacePacket) (stores : List Held) → lead_to_any rows stores ≡ false
+    → after_offers now (packet_along rows p) stores ≡ stores
+after_none now rows p [] none = refl
+after_none now rows p (h ∷ hs) none =
+    let first : leads_to rows h.id ≡ false = none_first (leads_to rows h.id) (lead_to_any rows hs) none in
+    rw first (ap (λ (xs : List Held). h ∷ xs) (after_none now rows p hs (none_others (leads_to rows h.id) (lead_to_any rows hs) none)))
+
+-- and nothing becomes of the packet
+pub tally_none : (now : ℕ) (rows : List RouteRow) (p : SpacePacket) (stores : List Held) → lead_to_any rows stores ≡ false
+    → tally_over now (packet_along rows p) stores ≡ nothing
+tally_none now rows p [] none = refl
+tally_none now rows p (h ∷ hs) none =
+    let first : leads_to rows h.id ≡ false = none_first (leads_to rows h.id) (lead_to_any rows hs) none in
+    rw first (ap (plus nothing) (tally_none now rows p hs (none_others (leads_to rows h.id) (lead_to_any rows hs) none)))
+
+-- no row leads anywhere
+pub lead_nowhere : (stores : List Held) → lead_to_any [] stores ≡ false
+lead_nowhere [] = refl
+lead_nowhere (h ∷ hs) = lead_nowhere hs
+
+pub empty_leads : (rows : List RouteRow) (stores : List Held) → (length rows == 0) ≡ true → lead_to_any rows stores ≡ false
+empty_leads rows stores empty =
+    ap (λ (rs : List RouteRow). lead_to_any rs stores) (nil_from_length rows (eqb-true (length rows) 0 empty)) ∙ lead_nowhere stores
+
+-- the memory whose stores were offered a packet along its rows
+pub recorded_along : (now : ℕ) (p : SpacePacket) (m : Holdings) (rows : List RouteRow) (new : List Held) → rows ≡ rows_for m.routes p → new ≡ after_offers now (packet_along rows p) m.stores
+    → ◌≡◌ {A = Holdings} (record m { stores = new }) (after_record now p m)
+recorded_along now p m rows new is after =
+    ap (λ (stores : List Held). let n : Holdings = record m { stores = stores } in n)
+    (after ∙ ap (λ (rs : List RouteRow). after_offers now (packet_along rs p) m.stores) is ∙ after_along now m.routes p m.stores)
+
+-- and what became of the packet
+pub told_along : (now : ℕ) (p : SpacePacket) (m : Holdings) (rows : List RouteRow) (tally : Tally) → rows ≡ rows_for m.routes p → tally ≡ tally_over now (packet_along rows p) m.stores → tally ≡ tally_after now p m
+told_along now p m rows tally is told =
+    told ∙ ap (λ (rs : List RouteRow). tally_over now (packet_along rs p) m.stores) is ∙ tally_along now m.routes p m.stores
+
+-- the memory after a packet of which no row leads to a store
+pub recorded_none : (now : ℕ) (p : SpacePacket) (m : Holdings) (rows : List RouteRow) → rows ≡ rows_for m.routes p → lead_to_any rows m.stores ≡ false → m ≡ after_record now p m
+recorded_none now p m rows is none =
+    let leads = rw is at none in
+    ap (λ (stores : List Held). let n : Holdings = record m { stores = stores } in n)
+    (sym (sym (after_along now m.routes p m.stores) ∙ after_none now (rows_for m.routes p) p m.stores leads))
+
+-- and what became of it
+pub told_none : (now : ℕ) (p : SpacePacket) (m : Holdings) (rows : List RouteRow) → rows ≡ rows_for m.routes p → lead_to_any rows m.stores ≡ false → nothing ≡ tally_after now p m
+told_none now p m rows is none =
+    let leads = rw is at none in
+    sym (sym (tally_along now m.routes p m.stores) ∙ tally_none now (rows_for m.routes p) p m.stores leads)
+
+-- where a row leads to the first store and none to the others, the first alone is offered the packet
+pub after_first : (now : ℕ) (rows : List RouteRow) (p : SpacePacket) (h h' : Held) (hs stores : List Held) → stores ≡ h ∷ hs → leads_to rows h.id ≡ true → lead_to_any rows hs ≡ false → h' ≡ after_offer now h (Some p)
+    → h' ∷ hs ≡ after_offers now (packet_along rows p) stores
+after_first now rows p h h' hs stores is leads none offered =
+    ap (λ (x : Held). x ∷ hs) (offered ∙ ap (λ (b : Bool). after_offer now h (if b then Some p else None)) (sym leads))
+    ∙ ap (λ (xs : List Held). after_offer now h (packet_along rows p h) ∷ xs) (sym (after_none now rows p hs none))
+    ∙ ap (after_offers now (packet_along rows p)) (sym is)
+
+-- nothing more is the same
+plus_nothing : (t : Tally) → t ≡ plus t nothing
+plus_nothing t = rw (add-zero t.kept, add-zero t.lost, add-zero t.refused) refl
+
+-- and what became of it is all
+pub tally_first : (now : ℕ) (rows : List RouteRow) (p : SpacePacket) (h : Held) (hs stores : List Held) (t : Tally) → stores ≡ h ∷ hs → leads_to rows h.id ≡ true → lead_to_any rows hs ≡ false → t ≡ tally_in now h (Some p)
+    → t ≡ tally_over now (packet_along rows p) stores
+tally_first now rows p h hs stores t is leads none told =
+    told
+    ∙ ap (λ (b : Bool). tally_in now h (if b then Some p else None)) (sym leads)
+    ∙ plus_nothing (tally_in now h (packet_along rows p h))
+    ∙ ap (plus (tally_in now h (packet_along rows p h))) (sym (tally_none now rows p hs none))
+    ∙ ap (tally_over now (packet_along rows p)) (sym is)

@@ -1,0 +1,28 @@
+-- The rows of the storage control that a packet follows. No public clause cites this module.
+use Rattle.std.specs.Prelude.{ℕ, Bool, if◌then◌else◌, List, [], filter, Option, Some, None}
+use Rattle.std.specs.List.{list_any}
+use Rattle.mm_base.specs.declared.rows.RouteRow.{RouteRow}
+use Rattle.mm_packet.specs.declared.header.PacketType.{PacketType}
+use Rattle.mm_packet.specs.declared.header.PacketType.TheVariants.{Telecommand, Telemetry}
+use Rattle.mm_packet.specs.Packet.{SpacePacket}
+use Rattle.mm_control.specs.Routes.{is_for, is_to}
+use Rattle.mm_desk.specs.declared.held.Held.{Held}
+
+-- the rows of a packet's report type; none for a telecommand
+abbrev pub rows_for : List RouteRow → SpacePacket → List RouteRow
+rows_for routes p = by_kind p.kind where
+  by_kind : PacketType → List RouteRow
+  by_kind (Telecommand source) = []
+  by_kind (Telemetry counter destination time) = filter (is_for p.header.apid p.header.service p.header.subtype) routes
+
+-- whether one of the rows leads to the store with an identifier
+abbrev pub leads_to : List RouteRow → List ℕ → Bool
+leads_to rows id = list_any (is_to id) rows
+
+-- whether one of the rows leads to one of the stores
+abbrev pub lead_to_any : List RouteRow → List Held → Bool
+lead_to_any rows stores = list_any (λ h. leads_to rows h.id) stores
+
+-- the packet, for a store to which one of the rows leads
+abbrev pub packet_along : List RouteRow → SpacePacket → Held → Option SpacePacket
+packet_along rows p h = if leads_to rows h.id then Some p else None
