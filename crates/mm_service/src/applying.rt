@@ -1,5 +1,6 @@
 //! Requests that are applied to the memory.
-ghost use Rattle.std.specs.Prelude.{◌≡◌, ◌+◌, ◌<◌, ◌≤◌, length, fold, All, vec_len, vec_capacity, MatchResult, OnErr};
+ghost use Rattle.std.specs.Prelude.{◌≡◌, ◌+◌, ◌<◌, ◌≤◌, length, fold, All, MatchResult, OnErr};
+ghost use Rattle.std.specs.VecDeque.{deque_len, deque_capacity};
 ghost use Rattle.mm_packet.specs.Packet.{IsTelecommand};
 ghost use Rattle.mm_st15.specs.Report.{HasCount};
 ghost use Rattle.mm_service.specs.declared.answers.TheConstants.{INSTRUCTIONS};
@@ -14,37 +15,42 @@ use mm_ask::Counters;
 use mm_packet::Packet;
 use mm_st15::Report;
 use std::alloc::Global;
+use std::collections::VecDeque;
 
 // Lets a report on the request of this packet wait.
-fn wait_for(counters: &mut Counters, waiting: &mut Vec<Waiting>, asked: &Packet, report: Report)
+fn wait_for(
+    counters: &mut Counters,
+    waiting: &mut VecDeque<Waiting>,
+    asked: &Packet,
+    report: Report,
+)
     requires telecommand { IsTelecommand asked.now.kind }
     requires count { HasCount report }
-    requires room { vec_len waiting.old < vec_capacity waiting.old }
+    requires room { deque_len waiting.old < deque_capacity waiting.old }
     ensures after { queue_of counters.new waiting.new.items
         ≡ with_report asked.now (queue_of counters.old waiting.old.items) report }
-    ensures len { vec_len waiting.new ≡ vec_len waiting.old + 1 }
-    ensures capacity { vec_capacity waiting.new ≡ vec_capacity waiting.old }
+    ensures len { deque_len waiting.new ≡ deque_len waiting.old + 1 }
+    ensures capacity { deque_capacity waiting.new ≡ deque_capacity waiting.old }
 {
     let numbers = counters.next(report.kind());
     let waits = Waiting::new(asked.apid(), asked.source(), numbers, report);
-    waiting.push_reserved(waits);
+    waiting.push_back_reserved(waits);
 }
 
 // Lets reports on the request of this packet wait, in order.
 fn wait_for_all(
     counters: &mut Counters,
-    waiting: &mut Vec<Waiting>,
+    waiting: &mut VecDeque<Waiting>,
     asked: &Packet,
-    mut reports: Vec<Report>,
+    reports: Vec<Report>,
 )
     requires telecommand { IsTelecommand asked.now.kind }
     requires counts { All HasCount reports.items }
-    requires room { vec_len waiting.old + length reports.items ≤ vec_capacity waiting.old }
+    requires room { deque_len waiting.old + length reports.items ≤ deque_capacity waiting.old }
     ensures after { queue_of counters.new waiting.new.items
         ≡ fold (with_report asked.now) (queue_of counters.old waiting.old.items) reports.items }
 {
-    while !reports.is_empty() {
-        let report = reports.remove(0);
+    for report in reports {
         wait_for(counters, waiting, asked, report);
     }
 }

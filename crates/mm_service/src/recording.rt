@@ -17,6 +17,6 @@ impl Service {
         ensures err { OnErr result (self.new ≡ self.old) }
     {
         let packet = block_of(alloc, packet)?;
-        Ok(self.memory.record(alloc, now, &packet)?)
+        Ok(self.memory.record_owned(alloc, now, packet)?)
     }
 }

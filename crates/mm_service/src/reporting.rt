@@ -26,13 +26,13 @@ impl Service {
         ensures err { OnErr result (self.new ≡ self.old) }
         ensures left { OnErr result (out.new ≡ out.old) }
     {
-        let Some(first) = self.waiting.first() else {
+        let Some(first) = self.waiting.front() else {
             return Ok(Reported::End);
         };
         let packet = first.packet(alloc)?;
         match packet.write_to(out) {
             Ok(len) => {
-                let _given = self.waiting.remove(0);
+                let _given = self.waiting.pop_front();
                 Ok(Reported::Written(len))
             }
             Err(small) => Ok(Reported::TooSmall(small.len)),

@@ -8,6 +8,7 @@ use mm_ask::Counters;
 use mm_memory::Memory;
 use mm_problem::{Fault, Setup};
 use std::alloc::Global;
+use std::collections::VecDeque;
 use std::marker::Model;
 
 /// A mass memory with its storage service: the memory, how many reports there were, and the reports that wait to be given.
@@ -15,7 +16,7 @@ use std::marker::Model;
 pub struct Service {
     pub(crate) memory: Memory,
     pub(crate) counters: Counters,
-    pub(crate) waiting: Vec<Waiting>,
+    pub(crate) waiting: VecDeque<Waiting>,
 }
 
 impl Model for Service {
@@ -38,7 +39,7 @@ impl Service {
             Ok(memory) => Ok(Service {
                 memory,
                 counters: Counters::new(),
-                waiting: Vec::new(alloc),
+                waiting: VecDeque::new(alloc),
             }),
             Err(_) => Err(Fault::NoMemory),
         }
