@@ -40,7 +40,7 @@ fn ids_of(alloc: Global, words: &[&[u8]]) -> Result<Option<Vec<StoreId>>, AllocE
     if words.len() > MAX_STORES {
         return Ok(None);
     }
-    let mut ids = Vec::new(alloc);
+    let mut ids = Vec::with_capacity(alloc, words.len())?;
     let mut rest = words;
     while let [word, after @ ..] = rest {
         let Some(id) = read_id(*word) else {
@@ -59,7 +59,7 @@ fn amounts_of(alloc: Global, words: &[&[u8]]) -> Result<Option<Vec<u32>>, AllocE
     if words.len() > MAX_STORES {
         return Ok(None);
     }
-    let mut amounts = Vec::new(alloc);
+    let mut amounts = Vec::with_capacity(alloc, words.len())?;
     let mut rest = words;
     while let [word, after @ ..] = rest {
         let Some(amount) = read_u32(MAX_BLOCKS, *word) else {

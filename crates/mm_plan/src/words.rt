@@ -1,5 +1,5 @@
 //! The words of a line.
-ghost use Rattle.std.specs.Prelude.{◌≡◌, ◌≤◌, ◌-◌, map, IfOk, IfSome, length};
+ghost use Rattle.std.specs.Prelude.{◌≡◌, ◌≤◌, ◌-◌, [], map, IfOk, IfSome, OnOk, length};
 ghost use Rattle.std.specs.Option.{option_map};
 ghost use Rattle.mm_plan.specs.Reading.{line_words, number_to, read_id, read_bound};
 
@@ -7,11 +7,24 @@ use mm_base::StoreId;
 use mm_base::numbers::Numeral;
 use std::alloc::{AllocError, Global};
 
+// How many words of a line are looked at.
+const MAX_WORDS: usize = 19;
+
 // The words of a line are separated by one space; a line of more than 18 words stands in no sheet.
+fn add_words<'a>(words: &mut Vec<&'a [u8]>, text: &'a [u8]) -> Result<(), AllocError>
+    requires { words.old.items ≡ [] }
+    ensures { OnOk result (map (λ w. w.now) words.new.items ≡ line_words text.now) }
+{
+    words.extend(text.split(|octet| *octet == b' ').take(MAX_WORDS))
+}
+
+// The words of a line, in room that is asked for once.
 pub(crate) fn line_words<'a>(alloc: Global, text: &'a [u8]) -> Result<Vec<&'a [u8]>, AllocError>
     ensures { IfOk result (λ v. map (λ w. w.now) v.items ≡ line_words text.now) }
 {
-    text.split(|octet| *octet == b' ').take(19).collect(alloc)
+    let mut words = Vec::with_capacity(alloc, MAX_WORDS)?;
+    add_words(&mut words, text)?;
+    Ok(words)
 }
 
 // The number that a word writes, where it is at most this.
