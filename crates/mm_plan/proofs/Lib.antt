@@ -2,6 +2,7 @@ pub mod Steps
 pub mod Options
 pub mod IdTexts
 pub mod NumberTexts
+pub mod NumberWords
 pub mod Spelled
 pub mod Lines
 pub mod Drafts

@@ -8,6 +8,7 @@ ghost use Rattle.mm_plan.specs.Printing.{place_of, stretch_key, AreOrdered, AreR
 
 use crate::plan::Plan;
 use crate::stretch::Stretch;
+use itoa::write_digits;
 use mm_base::StoreId;
 use mm_base::numbers::push_number;
 use std::alloc::{AllocError, Global};
@@ -23,11 +24,17 @@ fn push_word(text: &mut Vec<u8>, word: &[u8]) -> Pushed
     Ok(())
 }
 
+// A space and the digits of any number have room in as many octets.
+const NUMBER_WORD: usize = 24;
+
+// The digits are written at the end of spaces, of which the last goes with them.
 fn push_number_word(text: &mut Vec<u8>, number: u64) -> Pushed
     ensures { OnOk result (text.new.items ≡ text.old.items ++ space ∷ decimal number) }
 {
-    text.push(b' ')?;
-    push_number(text, number)
+    let mut word = [b' '; NUMBER_WORD];
+    let first = write_digits(number, &mut word, NUMBER_WORD);
+    text.extend_from_slice(&word[first - 1..])?;
+    Ok(())
 }
 
 #[tactic(auto, using(std::proofs::Common::append_assoc), unfolding(crate::specs::Printing::ended, crate::specs::Sheet::line_text))]
