@@ -1,9 +1,10 @@
 -- What a greater amount of one store makes of a step.
-use Rattle.std.proofs.Common.{◌≡◌, ℕ, ◌+◌, ◌<◌, ◌≤◌, List, Option, cond, min, length, get_or, Some, None, refl, sym, ◌∙◌, ap, subst, inl, inr, arith}
+use Rattle.std.proofs.Common.{◌≡◌, ℕ, ◌+◌, ◌<◌, ◌≤◌, List, Option, not, cond, min, length, get_or, Some, None, refl, sym, ◌∙◌, ap, subst, inl, inr, arith}
 use Rattle.std.specs.Prelude.{◌≢◌, ◌⊎◌}
 use Rattle.std.specs.List.{sum_by}
 use Rattle.std.specs.Option.{option_map}
 use Rattle.std.proofs.lemmas.Bool.{cases_Bool, cases_eq}
+use Rattle.std.proofs.lemmas.List.Filters.{sum_by-filter_both}
 use Rattle.std.proofs.lemmas.Option.{same_Some}
 use Rattle.mm_base.specs.declared.limits.TheConstants.{CHANNELS}
 use Rattle.std.proofs.lemmas.Bool.Decides.{eqb_tells}
@@ -120,4 +121,11 @@ pub fits_no_more : (q : Dumping) (x y : Amounts) (t : ℕ) → IsNoLess q y x t 
 fits_no_more q x y t no_more fits = record {
   windowed = omega (arith, sum_by_range-le (in_step y t) (in_step x t) 0 (length q.rows) (λ s _ below. no_more s (omega arith)), fits.windowed);
   limited = λ c b e. omega (arith, sum_by_filter_range-le (is_of q c) (in_step y t) (in_step x t) 0 (length q.rows) (λ s _ below. no_more s (omega arith)), fits.limited c b e);
+}
+
+-- where nothing is to leave in a step, the plan fits
+pub idle_fits : (q : Dumping) (x : Amounts) (t : ℕ) → sum_by (in_step x t) (stores q) ≡ 0 → FitsAt q x t
+idle_fits q x t none = record {
+  windowed = omega (arith, none);
+  limited = λ c b e. omega (arith, sum_by-filter_both (is_of q c) (λ s. not (is_of q c s)) (λ s. refl) (in_step x t) (stores q), none);
 }

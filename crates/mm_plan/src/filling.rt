@@ -1,9 +1,10 @@
 //! Filling a plan, so that no window stays idle that a store could use.
 ghost use Rattle.std.specs.Prelude.{◌≡◌, ◌≢◌, ℕ, ◌+◌, ◌-◌, ◌<◌, ◌≤◌, length, slice_index, slice_index_or, None, option_map, IfOk, IfSome, ◌⊎◌};
 ghost use Rattle.mm_base.specs.declared.limits.TheConstants.{MAX_STORES, MAX_BLOCKS, CHANNELS};
-ghost use Rattle.mm_problem.specs.Dumping.{start, channel};
+ghost use Rattle.std.specs.List.{sum_by};
+ghost use Rattle.mm_problem.specs.Dumping.{start, channel, stores, window};
 ghost use Rattle.mm_plan.specs.Table.{amount, HasShape, ChangesAmount};
-ghost use Rattle.mm_plan.specs.Fit.{FitsAt, Fits};
+ghost use Rattle.mm_plan.specs.Fit.{in_step, FitsAt, Fits};
 ghost use Rattle.mm_plan.specs.Filled.{IsWindowUsed, IsLimitUsed, IsFilled, IsNowhereWorse};
 ghost use Rattle.mm_plan.specs.Filling.{SameElsewhere, IsLoweredAt, AreLeft, AreSplit, AreUnused, IsRest, IsStepFilled, room_in};
 
@@ -82,17 +83,29 @@ fn unused_limits(problem: &Problem, plan: &Plan, step: u32) -> [Option<u32>; CHA
     by_channel
 }
 
+// What is not used of the window of a step.
+fn idle_in(problem: &Problem, plan: &Plan, step: u32) -> u32
+    requires shape { HasShape problem.now plan.now }
+    requires first { 1 ≤ step }
+    requires last { step ≤ length problem.now.windows }
+    requires fits { FitsAt problem.now (amount plan.now) step }
+    ensures { sum_by (in_step (amount plan.now) step) (stores problem.now) + result ≡ window problem.now step }
+{
+    problem.window(step) - step_amount(problem, plan, step) as u32
+}
+
 impl Rest {
-    // The rest of a step.
-    fn of(problem: &Problem, plan: &Plan, step: u32) -> Rest
+    // The rest of a step, of whose window as much is not used.
+    fn of(problem: &Problem, plan: &Plan, step: u32, idle: u32) -> Rest
         requires shape { HasShape problem.now plan.now }
         requires first { 1 ≤ step }
         requires last { step ≤ length problem.now.windows }
         requires fits { FitsAt problem.now (amount plan.now) step }
+        requires idle { sum_by (in_step (amount plan.now) step) (stores problem.now) + idle ≡ window problem.now step }
         ensures { IsRest problem.now (amount plan.now) step result.idle result.by_channel }
     {
         Rest {
-            idle: problem.window(step) - step_amount(problem, plan, step) as u32,
+            idle,
             by_channel: unused_limits(problem, plan, step),
         }
     }
@@ -155,7 +168,8 @@ fn raise(
     left - more
 }
 
-// Gives the rest of a step's window to stores that still hold blocks, as far as their channels allow.
+// Gives the rest of a step's window to stores that still hold blocks, as far as their channels allow. Where the window is
+// closed or used up, there is nothing to give.
 fn use_rest(problem: &Problem, plan: &mut Plan, left: &mut [u32], step: u32)
     requires shape { HasShape problem.now plan.old }
     requires first { 1 ≤ step }
@@ -166,7 +180,11 @@ fn use_rest(problem: &Problem, plan: &mut Plan, left: &mut [u32], step: u32)
     ensures shape { HasShape problem.now plan.new }
     ensures filled { IsStepFilled problem.now (amount plan.old) (amount plan.new) step left.new }
 {
-    let mut rest = Rest::of(problem, plan, step);
+    let idle = idle_in(problem, plan, step);
+    if idle == 0 {
+        return;
+    }
+    let mut rest = Rest::of(problem, plan, step, idle);
     for store in 0..problem.stores() {
         left[store] = raise(problem, plan, &mut rest, store, step, left[store]);
     }

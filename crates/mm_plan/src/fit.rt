@@ -65,14 +65,19 @@ fn fits_limits(problem: &Problem, plan: &Plan, step: u32) -> bool
     true
 }
 
+// Where nothing is to leave, any window and any limits let it through.
+#[tactic(auto, using(crate::proofs::Raises::idle_fits))]
 fn fits_at(problem: &Problem, plan: &Plan, step: u32) -> bool
     requires shape { HasShape problem.now plan.now }
     requires first { 1 ≤ step }
     requires last { step ≤ length problem.now.windows }
     ensures { IsTrue result ↔ FitsAt problem.now (amount plan.now) step }
 {
-    step_amount(problem, plan, step) <= u64::from(problem.window(step))
-        && fits_limits(problem, plan, step)
+    let amount = step_amount(problem, plan, step);
+    if amount == 0 {
+        return true;
+    }
+    amount <= u64::from(problem.window(step)) && fits_limits(problem, plan, step)
 }
 
 /// Whether the plan fits the window and the channels' limits of each step; otherwise the first step that it does not fit.
