@@ -1,13 +1,11 @@
-//! Amounts of blocks by store or by channel.
+//! Amounts of blocks by store.
 
-/// A number of blocks for each store, or for each channel.
+/// A number of blocks for each store.
 #[derive(Clone, Copy)]
 pub(crate) struct Amounts([u32; 16]);
 
 impl Amounts {
     pub(crate) const NOTHING: Amounts = Amounts([0; 16]);
-
-    pub(crate) const UNLIMITED: Amounts = Amounts([u32::MAX; 16]);
 
     pub(crate) fn of(&self, place: usize) -> u32 {
         self.0[place & 15]
@@ -19,9 +17,5 @@ impl Amounts {
 
     pub(crate) fn add(&mut self, place: usize, blocks: u32) {
         self.set(place, self.of(place).saturating_add(blocks));
-    }
-
-    pub(crate) fn take(&mut self, place: usize, blocks: u32) {
-        self.set(place, self.of(place).saturating_sub(blocks));
     }
 }

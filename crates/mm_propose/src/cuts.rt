@@ -2,7 +2,7 @@
 ghost use Rattle.std.specs.Prelude.{◌<◌, length};
 
 use crate::node::Node;
-use crate::sets::NodeSet;
+use crate::sets::{NodeSet, StoreSet};
 use crate::spans::Span;
 use mm_plan::{NoMemory, Stretch};
 use mm_problem::Problem;
@@ -10,12 +10,12 @@ use std::alloc::Global;
 
 // Whether a run of the store goes on after the span: its blocks could be held there, and then be kept.
 fn goes_on(nodes: NodeSet, store: usize) -> bool {
-    nodes.has(Node::In(store)) && nodes.has(Node::Out(store))
+    nodes.has(Node::into_store(store)) && nodes.has(Node::out_of_store(store))
 }
 
 // Whether a run of the store ends in the span: it is full there.
 fn is_end(nodes: NodeSet, store: usize) -> bool {
-    nodes.has(Node::In(store)) && !nodes.has(Node::Out(store))
+    nodes.has(Node::into_store(store)) && !nodes.has(Node::out_of_store(store))
 }
 
 // Adds the runs of one store, with all steps of their spans.
@@ -45,6 +45,15 @@ fn add_runs(
     Ok(())
 }
 
+// The stores that have a node in some span to which blocks come.
+fn stores_reached(spans: &[Span]) -> StoreSet {
+    let mut reached = StoreSet::NONE;
+    for span in spans.iter() {
+        reached = reached.either(span.found.nodes().stores_in());
+    }
+    reached
+}
+
 /// The stretches of the cut.
 pub(crate) fn stretches_of(
     alloc: Global,
@@ -52,15 +61,18 @@ pub(crate) fn stretches_of(
     spans: &[Span],
 ) -> Result<Vec<Stretch>, NoMemory> {
     let mut cut = Vec::new(alloc);
+    let reached = stores_reached(spans);
     for store in 0..problem.stores() {
-        add_runs(&mut cut, problem, spans, store)?;
+        if reached.has(store) {
+            add_runs(&mut cut, problem, spans, store)?;
+        }
     }
     Ok(cut)
 }
 
 // Whether the span's last step is counted by channels: a store goes on, and the pass is not reached.
 fn is_by_channels(nodes: NodeSet) -> bool {
-    !nodes.has(Node::Pass) && !nodes.stores_in().both(nodes.stores_out()).is_empty()
+    !nodes.has(Node::PASS) && !nodes.stores_in().both(nodes.stores_out()).is_empty()
 }
 
 /// The steps of the cut that are counted by channels.

@@ -1,6 +1,7 @@
 //! A first plan, span by span: each window goes first to the store that overflows next.
 use crate::amounts::Amounts;
-use crate::sets::StoreSet;
+use crate::sets::{SpanSet, StoreSet};
+use crate::slots::{Slot, Table};
 use crate::spans::Span;
 use crate::stores::Stores;
 use mm_problem::MAX_STORES;
@@ -19,6 +20,8 @@ struct Outlook {
     blocks: Amounts,
     // the stores whose next overflow is in each span
     calendar: [StoreSet; MAX_SPANS],
+    // the spans that have such stores
+    busy: SpanSet,
 }
 
 impl Outlook {
@@ -29,6 +32,7 @@ impl Outlook {
             due: [0; MAX_STORES],
             blocks: Amounts::NOTHING,
             calendar: [StoreSet::NONE; MAX_SPANS],
+            busy: SpanSet::NONE,
         };
         for store in 0..stores.count() {
             outlook.look_ahead(stores, spans, store, 0);
@@ -41,18 +45,33 @@ impl Outlook {
         self.calendar[span & 255]
     }
 
+    // Takes a store out of the calendar.
+    fn take_out(&mut self, store: usize) {
+        let due = self.due[store & 15];
+        let others = self.due_in(due).without(store);
+        self.calendar[due & 255] = others;
+        if others.is_empty() {
+            self.busy.remove(due);
+        }
+    }
+
+    // Enters the next overflow of a store.
+    fn enter(&mut self, store: usize, span: usize, blocks: u32) {
+        self.due[store & 15] = span;
+        self.blocks.set(store, blocks);
+        self.calendar[span & 255] = self.due_in(span).with(store);
+        self.busy.add(span);
+    }
+
     // Seeks the next overflow of a store, which does not come before the span.
     fn look_ahead(&mut self, stores: &Stores, spans: &[Span], store: usize, from: usize) {
         let bears = stores.size(store).saturating_add(self.gone.of(store));
-        let before = self.due[store & 15];
-        self.calendar[before & 255] = self.due_in(before).without(store);
+        self.take_out(store);
         self.due[store & 15] = spans.len();
         for k in from..spans.len() {
-            let blocks = spans[k].come.of(store).saturating_sub(bears);
+            let blocks = spans[k].table.of(Slot::come(store)).saturating_sub(bears);
             if blocks > 0 {
-                self.due[store & 15] = k;
-                self.blocks.set(store, blocks);
-                self.calendar[k & 255] = self.due_in(k).with(store);
+                self.enter(store, k, blocks);
                 break;
             }
         }
@@ -66,46 +85,47 @@ impl Outlook {
 }
 
 // How many blocks of a store may still leave in a span.
-fn room(stores: &Stores, span: &Span, store: usize) -> u32 {
-    let channel = stores.channel(store);
-    let rest = span
-        .limits
-        .of(channel)
-        .saturating_sub(span.sent.of(channel));
-    rest.min(span.idle).min(span.kept.of(store))
+fn room(stores: &Stores, table: &Table, store: usize) -> u32 {
+    let open = table.of(Slot::open(stores.channel(store)));
+    let kept = table.of(Slot::kept(store));
+    open.min(table.of(Slot::IDLE)).min(kept)
 }
 
-// Lets a span's arrivals come into a store; what it keeps is all that it holds then.
-fn arrive(span: &mut Span, store: usize, size: u32, gone: u32) -> u32 {
-    let coming = span.come.of(store).saturating_sub(gone);
+// Lets a span's arrivals come into a store; what it keeps is all that it holds then. Answers what is lost.
+fn arrive(table: &mut Table, store: usize, size: u32, gone: u32) -> u32 {
+    let coming = table.of(Slot::come(store)).saturating_sub(gone);
     let held = coming.min(size);
     let lost = coming.saturating_sub(held);
-    span.lost.set(store, lost);
-    span.held.set(store, held);
-    span.kept.set(store, held);
+    table.set(Slot::lost(store), lost);
+    table.set(Slot::room(store), size.saturating_sub(held));
+    table.set(Slot::held(store), held);
+    table.set(Slot::kept(store), held);
     lost
 }
 
 // Lets blocks leave a store.
-fn dump(span: &mut Span, store: usize, channel: usize, blocks: u32) {
-    span.kept.take(store, blocks);
-    span.dumped.add(store, blocks);
-    span.sent.add(channel, blocks);
-    span.idle = span.idle.saturating_sub(blocks);
+fn dump(table: &mut Table, store: usize, channel: usize, blocks: u32) {
+    table.shift(Slot::kept(store), Slot::dumped(store), blocks);
+    table.shift(Slot::open(channel), Slot::sent(channel), blocks);
+    table.take(Slot::IDLE, blocks);
 }
 
-// Lets the arrivals of a span come. Where some are lost, the overflow has come.
-fn fill_stores(stores: &Stores, spans: &mut [Span], outlook: &mut Outlook, at: usize) {
+// Lets the arrivals of a span come. Where some are lost, the overflow has come. Answers whether some are.
+fn fill_stores(stores: &Stores, spans: &mut [Span], outlook: &mut Outlook, at: usize) -> bool {
+    let mut is_losing = false;
     for store in 0..stores.count() {
         let Some(span) = spans.get_mut(at) else {
             break;
         };
-        let lost = arrive(span, store, stores.size(store), outlook.gone.of(store));
+        let gone = outlook.gone.of(store);
+        let lost = arrive(&mut span.table, store, stores.size(store), gone);
         if lost > 0 {
             outlook.gone.add(store, lost);
             outlook.look_ahead(stores, spans, store, at.saturating_add(1));
+            is_losing = true;
         }
     }
+    is_losing
 }
 
 // Lets blocks of these stores leave, of each as many as avert its next overflow.
@@ -115,9 +135,9 @@ fn avert(stores: &Stores, spans: &mut [Span], outlook: &mut Outlook, at: usize, 
         let (Some(store), Some(span)) = (rest.first(), spans.get_mut(at)) else {
             break;
         };
-        let blocks = room(stores, span, store).min(outlook.blocks.of(store));
+        let blocks = room(stores, &span.table, store).min(outlook.blocks.of(store));
         if blocks > 0 {
-            dump(span, store, stores.channel(store), blocks);
+            dump(&mut span.table, store, stores.channel(store), blocks);
             outlook.leave(stores, spans, store, blocks);
         }
         rest = rest.rest();
@@ -127,7 +147,7 @@ fn avert(stores: &Stores, spans: &mut [Span], outlook: &mut Outlook, at: usize, 
 // Whether nothing of the window of a span is left.
 fn is_used_up(spans: &[Span], at: usize) -> bool {
     match spans.get(at) {
-        Some(span) => span.idle == 0,
+        Some(span) => span.table.of(Slot::IDLE) == 0,
         None => true,
     }
 }
@@ -135,21 +155,29 @@ fn is_used_up(spans: &[Span], at: usize) -> bool {
 // Gives the window of a span to the stores: to those that overflow in the next span, then to those that overflow in the one
 // after it, and so on. A store whose overflow is averted overflows later, and is met again there.
 fn empty_stores(stores: &Stores, spans: &mut [Span], outlook: &mut Outlook, at: usize) {
-    for span in at.saturating_add(1)..spans.len() {
+    let mut span = at;
+    for _ in 0..spans.len() {
         if is_used_up(spans, at) {
             break;
         }
-        let due = outlook.due_in(span);
+        let Some(next) = outlook.busy.first_from(span.saturating_add(1)) else {
+            break;
+        };
+        let due = outlook.due_in(next);
         avert(stores, spans, outlook, at, due);
+        span = next;
     }
 }
 
 /// Plans span by span. Without limits of channels the plan loses least: a block that must leave by the next overflow is a
-/// unit job with a due time, and the job that is due first goes first (Horn 1974; Dertouzos 1974). With limits it may not.
-pub(crate) fn dump_by_next_overflow(stores: &Stores, spans: &mut [Span]) {
+/// unit job with a due time, and the job that is due first goes first (Horn 1974; Dertouzos 1974). With limits it may not. Answers
+/// whether it loses blocks.
+pub(crate) fn dump_by_next_overflow(stores: &Stores, spans: &mut [Span]) -> bool {
     let mut outlook = Outlook::of(stores, spans);
+    let mut is_losing = false;
     for at in 0..spans.len() {
-        fill_stores(stores, spans, &mut outlook, at);
+        is_losing |= fill_stores(stores, spans, &mut outlook, at);
         empty_stores(stores, spans, &mut outlook, at);
     }
+    is_losing
 }

@@ -3,6 +3,7 @@
 
 mod amounts;
 mod arcs;
+mod channels;
 mod cuts;
 mod greedy;
 mod moves;
@@ -11,6 +12,7 @@ mod paths;
 mod proposal;
 mod search;
 mod sets;
+mod slots;
 mod spans;
 mod stores;
 

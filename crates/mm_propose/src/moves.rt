@@ -1,6 +1,5 @@
 //! Moving lost blocks along the paths that a search found.
-use crate::node::Node;
-use crate::paths::{Change, Link, link_to, lost_to};
+use crate::paths::{Link, link_to, lost_to};
 use crate::spans::Span;
 use crate::stores::Stores;
 use mm_plan::NoMemory;
@@ -33,45 +32,47 @@ impl Walks {
     fn are_over(&self) -> bool {
         self.have_moved && self.dead_ends > DEAD_ENDS
     }
-}
 
-// How many arcs of a path stand before the first that bears no more.
-fn bearing(stores: &Stores, spans: &[Span], path: &[Link]) -> usize {
-    path.iter()
-        .position(|link| link.most(stores, spans) == 0)
-        .unwrap_or(path.len())
-}
-
-// How many blocks a path bears.
-fn most_on(stores: &Stores, spans: &[Span], path: &[Link]) -> u32 {
-    let mut most = u32::MAX;
-    for link in path.iter() {
-        most = most.min(link.most(stores, spans));
-    }
-    most
-}
-
-// Moves as many blocks along the path as it bears, and keeps of it what comes before the first arc that bears no more.
-fn move_along(stores: &Stores, spans: &mut [Span], walks: &mut Walks) {
-    let blocks = most_on(stores, spans, walks.path.as_slice());
-    for link in walks.path.iter() {
-        if let Some(span) = spans.get_mut(link.span) {
-            link.change.apply(stores, span, blocks);
+    // How many blocks the path bears.
+    fn least(&self) -> u32 {
+        match self.path.last() {
+            Some(link) => link.least,
+            None => u32::MAX,
         }
     }
-    let bearing = bearing(stores, spans, walks.path.as_slice());
-    walks.path.truncate(bearing);
-    walks.have_moved = true;
-}
 
-// Forgets the node that the path has come back to, since no blocks come to it, and the arc from it.
-fn step_forward(spans: &mut [Span], walks: &mut Walks) {
-    if let Some(link) = walks.path.pop() {
-        if let Some(span) = spans.get_mut(link.from.span) {
-            span.found.forget(link.from.node);
-        }
+    // Adds an arc to the path.
+    fn walk(&mut self, spans: &[Span], link: Link) -> Result<(), NoMemory> {
+        let mut link = link;
+        link.least = self.least().min(link.most(spans));
+        self.path.push(link)?;
+        Ok(())
     }
-    walks.dead_ends = walks.dead_ends.saturating_add(1);
+
+    // Moves as many blocks along the path as it bears, and keeps of it what comes before the first arc that bears no more. The
+    // path comes to no node twice, so that its arcs bear as many blocks fewer, each for itself.
+    fn move_along(&mut self, spans: &mut [Span]) {
+        let blocks = self.least();
+        let mut least = u32::MAX;
+        let mut bearing = 0;
+        for link in self.path.as_mut_slice().iter_mut() {
+            least = least.min(link.apply(spans, blocks));
+            link.least = least;
+            bearing = usize::saturating_add(bearing, usize::from(least > 0));
+        }
+        self.path.truncate(bearing);
+        self.have_moved = true;
+    }
+
+    // Forgets the node that the path has come back to, since no blocks come to it, and the arc from it.
+    fn step_forward(&mut self, spans: &mut [Span]) {
+        if let Some(link) = self.path.pop() {
+            if let Some(span) = spans.get_mut(link.from.span) {
+                span.found.forget(link.from.node);
+            }
+        }
+        self.dead_ends = self.dead_ends.saturating_add(1);
+    }
 }
 
 // Walks back from an arc to lost blocks, and moves them along the path, until the arc bears no more or nothing comes to it.
@@ -82,7 +83,7 @@ fn move_to(
     last: Link,
 ) -> Result<(), NoMemory> {
     walks.path.clear();
-    walks.path.push(last)?;
+    walks.walk(spans, last)?;
     for _ in 0..WALKS {
         let Some(link) = walks.path.last() else {
             break;
@@ -92,21 +93,21 @@ fn move_to(
             break;
         }
         if let Some(link) = lost_to(spans, place) {
-            walks.path.push(link)?;
-            move_along(stores, spans, walks);
+            walks.walk(spans, link)?;
+            walks.move_along(spans);
         } else if let Some(link) = link_to(stores, spans, place) {
-            walks.path.push(link)?;
+            walks.walk(spans, link)?;
         } else {
-            step_forward(spans, walks);
+            walks.step_forward(spans);
         }
     }
     Ok(())
 }
 
 // Whether a search found where an arc comes from, and the arc bears blocks.
-fn is_reached(stores: &Stores, spans: &[Span], link: &Link) -> bool {
+fn is_reached(spans: &[Span], link: &Link) -> bool {
     match spans.get(link.from.span) {
-        Some(span) => { span.found.nodes().has(link.from.node) && link.most(stores, spans) > 0 }
+        Some(span) => span.found.nodes().has(link.from.node) && link.most(spans) > 0,
         None => false,
     }
 }
@@ -121,15 +122,14 @@ pub(crate) fn move_lost(
     walks.dead_ends = 0;
     walks.have_moved = false;
     for at in 0..spans.len() {
-        let pass = Link::new(at, Node::Pass, Change::IdleLess);
-        if is_reached(stores, spans, &pass) {
+        let pass = Link::into_window(at);
+        if is_reached(spans, &pass) {
             move_to(stores, spans, walks, pass)?;
         }
     }
     for store in 0..stores.count() {
-        let last = spans.len().saturating_sub(1);
-        let end = Link::new(last, Node::Out(store), Change::KeepMore(store));
-        if is_reached(stores, spans, &end) {
+        let end = Link::keep_more(spans.len().saturating_sub(1), store);
+        if is_reached(spans, &end) {
             move_to(stores, spans, walks, end)?;
         }
     }

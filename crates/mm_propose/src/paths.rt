@@ -1,104 +1,61 @@
 //! Paths by which a block that is lost could go instead, walked back from where it would end.
-use crate::node::{Node, Place};
+use crate::node::{Node, NodeKind, Place};
+use crate::slots::Slot;
 use crate::spans::Span;
 use crate::stores::Stores;
 use mm_problem::{CHANNELS, MAX_STORES};
 
-/// What an arc changes in its span, by store or by channel.
-#[derive(Clone, Copy)]
-pub(crate) enum Change {
-    LoseLess(usize),
-    HoldMore(usize),
-    HoldLess(usize),
-    KeepMore(usize),
-    KeepLess(usize),
-    DumpMore(usize),
-    DumpLess(usize),
-    SendMore(usize),
-    SendLess(usize),
-    IdleLess,
-}
-
-impl Change {
-    // By how many blocks.
-    pub(crate) fn most(self, stores: &Stores, span: &Span) -> u32 {
-        match self {
-            Change::LoseLess(store) => span.lost.of(store),
-            Change::HoldMore(store) => stores.size(store).saturating_sub(span.held.of(store)),
-            Change::HoldLess(store) => span.held.of(store),
-            Change::KeepMore(_) => u32::MAX,
-            Change::KeepLess(store) => span.kept.of(store),
-            Change::DumpMore(_) => u32::MAX,
-            Change::DumpLess(store) => span.dumped.of(store),
-            Change::SendMore(channel) => span
-                .limits
-                .of(channel)
-                .saturating_sub(span.sent.of(channel)),
-            Change::SendLess(channel) => span.sent.of(channel),
-            Change::IdleLess => span.idle,
-        }
-    }
-
-    // Changes the span, and looks at the arcs that this changes.
-    pub(crate) fn apply(self, stores: &Stores, span: &mut Span, blocks: u32) {
-        match self {
-            Change::LoseLess(store) => span.lost.take(store, blocks),
-            Change::HoldMore(store) => span.held.add(store, blocks),
-            Change::HoldLess(store) => span.held.take(store, blocks),
-            Change::KeepMore(store) => span.kept.add(store, blocks),
-            Change::KeepLess(store) => span.kept.take(store, blocks),
-            Change::DumpMore(store) => span.dumped.add(store, blocks),
-            Change::DumpLess(store) => span.dumped.take(store, blocks),
-            Change::SendMore(channel) => span.sent.add(channel, blocks),
-            Change::SendLess(channel) => span.sent.take(channel, blocks),
-            Change::IdleLess => span.idle = span.idle.saturating_sub(blocks),
-        }
-        self.look_at_arcs(stores, span);
-    }
-
-    fn look_at_arcs(self, stores: &Stores, span: &mut Span) {
-        let mut arcs = span.arcs;
-        match self {
-            Change::IdleLess => (),
-            Change::SendMore(channel) | Change::SendLess(channel) => {
-                arcs.look_at_channel(span, channel)
-            }
-            Change::LoseLess(store)
-            | Change::HoldMore(store)
-            | Change::HoldLess(store)
-            | Change::KeepMore(store)
-            | Change::KeepLess(store)
-            | Change::DumpMore(store)
-            | Change::DumpLess(store) => arcs.look_at_store(span, store, stores.size(store)),
-        }
-        span.arcs = arcs;
-    }
-}
-
-/// An arc of a path: where it comes from, and what it changes in which span.
+/// An arc of a path: where it comes from, and from which slot of which span it moves blocks to which.
 #[derive(Clone, Copy)]
 pub(crate) struct Link {
     pub(crate) from: Place,
     pub(crate) span: usize,
-    pub(crate) change: Change,
+    /// How many blocks the path bears up to here.
+    pub(crate) least: u32,
+    takes: Slot,
+    gives: Slot,
 }
 
 impl Link {
     // The arc from a node of a span that changes that span.
-    pub(crate) fn new(span: usize, node: Node, change: Change) -> Link {
+    pub(crate) fn new(span: usize, node: Node, takes: Slot, gives: Slot) -> Link {
         Link {
             from: Place { span, node },
             span,
-            change,
+            least: u32::MAX,
+            takes,
+            gives,
         }
     }
 
+    // More is sent in the rest of the window.
+    pub(crate) fn into_window(span: usize) -> Link {
+        Link::new(span, Node::PASS, Slot::IDLE, Slot::OUTSIDE)
+    }
+
+    // A store keeps more.
+    pub(crate) fn keep_more(span: usize, store: usize) -> Link {
+        let out = Node::out_of_store(store);
+        Link::new(span, out, Slot::ENDLESS, Slot::kept(store))
+    }
+
     // How many blocks it bears.
-    pub(crate) fn most(&self, stores: &Stores, spans: &[Span]) -> u32 {
+    pub(crate) fn most(&self, spans: &[Span]) -> u32 {
         match spans.get(self.span) {
-            Some(span) => self.change.most(stores, span),
+            Some(span) => span.table.of(self.takes),
             None => 0,
         }
+    }
+
+    // Moves blocks along it. Answers how many it bears then.
+    pub(crate) fn apply(&self, spans: &mut [Span], blocks: u32) -> u32 {
+        let Some(span) = spans.get_mut(self.span) else {
+            return 0;
+        };
+        span.table.shift(self.takes, self.gives, blocks);
+        span.arcs.look_at(&span.table, self.takes);
+        span.arcs.look_at(&span.table, self.gives);
+        span.table.of(self.takes)
     }
 }
 
@@ -122,27 +79,28 @@ impl Choice {
 
     // Looks at the arcs to where blocks come into a store: it kept them, or held them and would now not.
     fn into_store(&mut self, before: Option<&Span>, span: &Span, at: usize, store: usize) {
-        let out = Node::Out(store);
+        let out = Node::out_of_store(store);
         if let Some(before) = before {
-            let keep = Link::new(at.saturating_sub(1), out, Change::KeepMore(store));
+            let keep = Link::keep_more(at.saturating_sub(1), store);
             self.consider(before.found.batch(out), keep);
         }
-        if span.arcs.holding.has(store) {
-            let hold = Link::new(at, out, Change::HoldLess(store));
+        if span.arcs.bears(Slot::held(store)) {
+            let hold = Link::new(at, out, Slot::held(store), Slot::room(store));
             self.consider(span.found.batch(out), hold);
         }
     }
 
     // Looks at the arcs to what a store holds: blocks come in, or do not leave after all.
     fn out_of_store(&mut self, stores: &Stores, span: &Span, at: usize, store: usize) {
-        if span.arcs.roomy.has(store) {
-            let hold = Link::new(at, Node::In(store), Change::HoldMore(store));
-            self.consider(span.found.batch(Node::In(store)), hold);
+        if span.arcs.bears(Slot::room(store)) {
+            let node = Node::into_store(store);
+            let hold = Link::new(at, node, Slot::room(store), Slot::held(store));
+            self.consider(span.found.batch(node), hold);
         }
-        if span.arcs.dumping.has(store) {
-            let channel = Node::Channel(stores.channel(store));
-            let dump = Link::new(at, channel, Change::DumpLess(store));
-            self.consider(span.found.batch(channel), dump);
+        if span.arcs.bears(Slot::dumped(store)) {
+            let node = Node::channel(stores.channel(store));
+            let dump = Link::new(at, node, Slot::dumped(store), Slot::OUTSIDE);
+            self.consider(span.found.batch(node), dump);
         }
     }
 
@@ -151,18 +109,11 @@ impl Choice {
         let Some(after) = after else {
             return;
         };
-        if span.arcs.keeping.has(store) {
-            let from = Place {
-                span: at.saturating_add(1),
-                node: Node::In(store),
-            };
-            let change = Change::KeepLess(store);
-            let keep = Link {
-                from,
-                span: at,
-                change,
-            };
-            self.consider(after.found.batch(Node::In(store)), keep);
+        if span.arcs.bears(Slot::kept(store)) {
+            let node = Node::into_store(store);
+            let mut keep = Link::new(at, node, Slot::kept(store), Slot::OUTSIDE);
+            keep.from.span = at.saturating_add(1);
+            self.consider(after.found.batch(node), keep);
         }
     }
 
@@ -173,25 +124,26 @@ impl Choice {
             let Some(store) = rest.first() else {
                 break;
             };
-            let dump = Link::new(at, Node::Out(store), Change::DumpMore(store));
-            self.consider(span.found.batch(Node::Out(store)), dump);
+            let out = Node::out_of_store(store);
+            let dump = Link::new(at, out, Slot::ENDLESS, Slot::dumped(store));
+            self.consider(span.found.batch(out), dump);
             rest = rest.rest();
         }
-        if span.arcs.sending.has(Node::Channel(channel)) {
-            let send = Link::new(at, Node::Pass, Change::SendLess(channel));
-            self.consider(span.found.batch(Node::Pass), send);
+        if span.arcs.bears(Slot::sent(channel)) {
+            let send = Link::new(at, Node::PASS, Slot::sent(channel), Slot::open(channel));
+            self.consider(span.found.batch(Node::PASS), send);
         }
     }
 
     // Looks at the arcs to the pass.
     fn to_pass(&mut self, span: &Span, at: usize) {
-        let mut rest = span.found.nodes().both(span.arcs.open);
+        let mut rest = span.found.nodes().both(span.arcs.open());
         for _ in 0..CHANNELS {
             let Some(channel) = rest.first_channel() else {
                 break;
             };
-            let node = Node::Channel(channel);
-            let send = Link::new(at, node, Change::SendMore(channel));
+            let node = Node::channel(channel);
+            let send = Link::new(at, node, Slot::open(channel), Slot::sent(channel));
             self.consider(span.found.batch(node), send);
             rest = rest.rest();
         }
@@ -211,25 +163,26 @@ pub(crate) fn link_to(stores: &Stores, spans: &[Span], place: Place) -> Option<L
         batch: span.found.batch(place.node)?,
         link: None,
     };
-    match place.node {
-        Node::In(store) => choice.into_store(span_before(spans, at), span, at, store),
-        Node::Out(store) => {
+    match place.node.kind() {
+        NodeKind::In(store) => choice.into_store(span_before(spans, at), span, at, store),
+        NodeKind::Out(store) => {
             choice.out_of_store(stores, span, at, store);
             choice.not_kept(spans.get(at.saturating_add(1)), span, at, store);
         }
-        Node::Channel(channel) => choice.to_channel(stores, span, at, channel),
-        Node::Pass => choice.to_pass(span, at),
+        NodeKind::Channel(channel) => choice.to_channel(stores, span, at, channel),
+        NodeKind::Pass => choice.to_pass(span, at),
     }
     choice.link
 }
 
 /// The arc on which lost blocks begin at a place, where there are any.
 pub(crate) fn lost_to(spans: &[Span], place: Place) -> Option<Link> {
-    let Node::In(store) = place.node else {
+    let NodeKind::In(store) = place.node.kind() else {
         return None;
     };
-    if !spans.get(place.span)?.arcs.losing.has(store) {
+    let lost = Slot::lost(store);
+    if !spans.get(place.span)?.arcs.bears(lost) {
         return None;
     }
-    Some(Link::new(place.span, place.node, Change::LoseLess(store)))
+    Some(Link::new(place.span, place.node, lost, Slot::OUTSIDE))
 }

@@ -3,10 +3,12 @@ ghost use Rattle.std.specs.Prelude.{◌≤◌, length, IfOk};
 ghost use Rattle.mm_plan.specs.Table.{HasShape};
 
 use crate::arcs::Arcs;
+use crate::channels::Channels;
 use crate::cuts::{counts_of, stretches_of};
 use crate::greedy::dump_by_next_overflow;
 use crate::moves::{Walks, move_lost};
 use crate::search::search;
+use crate::slots::Slot;
 use crate::spans::{Span, spans_of};
 use crate::stores::Stores;
 use mm_plan::{NoMemory, Plan, Stretch};
@@ -34,7 +36,11 @@ fn write_span(plan: &mut Plan, problem: &Problem, span: &Span)
         return;
     }
     for store in 0..problem.stores() {
-        plan.set(store, span.last, span.dumped.of(store).min(MAX_BLOCKS));
+        plan.set(
+            store,
+            span.last,
+            span.table.of(Slot::dumped(store)).min(MAX_BLOCKS),
+        );
     }
 }
 
@@ -50,19 +56,21 @@ fn plan_of(alloc: Global, problem: &Problem, spans: &[Span]) -> Result<Plan, NoM
 }
 
 // Looks at which arcs of each span bear blocks.
-fn look_at_arcs(stores: &Stores, spans: &mut [Span]) {
+fn look_at_arcs(spans: &mut [Span]) {
     for span in spans.iter_mut() {
-        let arcs = Arcs::of(stores, span);
+        let arcs = Arcs::of(&span.table);
         span.arcs = arcs;
     }
 }
 
-// Moves lost blocks as long as a search finds where to. The last search finds what the cut is made of.
+// Moves lost blocks as long as a search finds where to. The last search finds what the cut is made of. Where nothing is lost,
+// there is nothing to move.
 fn improve(alloc: Global, stores: &Stores, spans: &mut [Span]) -> Result<(), NoMemory> {
+    let channels = Channels::of(stores);
     let mut walks = Walks::new(alloc);
-    look_at_arcs(stores, spans);
+    look_at_arcs(spans);
     for _ in 0..SEARCHES {
-        search(stores, spans);
+        search(&channels, spans);
         if !move_lost(stores, spans, &mut walks)? {
             break;
         }
@@ -77,8 +85,9 @@ pub fn propose(alloc: Global, problem: &Problem) -> Result<Proposal, NoMemory>
 {
     let stores = Stores::of(problem);
     let mut spans = spans_of(alloc, problem)?;
-    dump_by_next_overflow(&stores, spans.as_mut_slice());
-    improve(alloc, &stores, spans.as_mut_slice())?;
+    if dump_by_next_overflow(&stores, spans.as_mut_slice()) {
+        improve(alloc, &stores, spans.as_mut_slice())?;
+    }
     Ok(Proposal {
         plan: plan_of(alloc, problem, spans.as_slice())?,
         cut: stretches_of(alloc, problem, spans.as_slice())?,

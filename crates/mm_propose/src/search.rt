@@ -1,8 +1,8 @@
 //! The search for where lost blocks could go instead: over the nodes of all spans, along each arc that bears blocks.
+use crate::channels::Channels;
 use crate::node::Node;
-use crate::sets::{NodeSet, StoreSet};
+use crate::sets::{NodeSet, SpanSet};
 use crate::spans::Span;
-use crate::stores::Stores;
 
 // More than the batches of a span and the sweeps of a search.
 const ROUNDS: u32 = 4096;
@@ -59,62 +59,116 @@ impl Found {
     }
 }
 
-// Adds the nodes and all of the span that can be reached from them, batch by batch. Answers whether one was new.
-fn reach(stores: &Stores, span: &mut Span, nodes: NodeSet, batch: &mut u16) -> bool {
-    let mut new = nodes.without(span.found.nodes());
-    if new.is_empty() {
-        return false;
-    }
-    for _ in 0..ROUNDS {
+// How far a search has come: the number of its last batch, and the spans next to which nodes were found since they were looked
+// at, in the one before and in the one after.
+#[derive(Clone, Copy)]
+struct Progress {
+    batch: u16,
+    on: SpanSet,
+    back: SpanSet,
+}
+
+impl Progress {
+    // Adds the nodes and all of the span that can be reached from them, batch by batch. Answers whether one was new.
+    fn reach(
+        &mut self,
+        channels: &Channels,
+        spans: &mut [Span],
+        at: usize,
+        nodes: NodeSet,
+    ) -> bool {
+        let last = spans.len().saturating_sub(1);
+        let Some(span) = spans.get_mut(at) else {
+            return false;
+        };
+        let mut new = nodes.without(span.found.nodes());
         if new.is_empty() {
-            break;
+            return false;
         }
-        *batch = batch.saturating_add(1);
-        span.found.add(new, *batch);
-        new = span.arcs.next(stores, new).without(span.found.nodes());
+        for _ in 0..ROUNDS {
+            if new.is_empty() {
+                break;
+            }
+            self.batch = self.batch.saturating_add(1);
+            span.found.add(new, self.batch);
+            new = span.arcs.next(channels, new).without(span.found.nodes());
+        }
+        if at < last {
+            self.on.add(at.saturating_add(1));
+        }
+        if at > 0 {
+            self.back.add(at.saturating_sub(1));
+        }
+        true
     }
-    true
+
+    // Begins at the lost blocks of each span.
+    fn begin(&mut self, channels: &Channels, spans: &mut [Span]) {
+        for at in 0..spans.len() {
+            if let Some(span) = spans.get_mut(at) {
+                span.found.clear();
+                let losing = span.arcs.losing();
+                if !losing.is_empty() {
+                    self.reach(channels, spans, at, NodeSet::ins(losing));
+                }
+            }
+        }
+    }
+
+    // What a store holds it can keep: from each span to the next.
+    fn sweep_on(&mut self, channels: &Channels, spans: &mut [Span]) -> bool {
+        let mut is_new = false;
+        let mut from = 0;
+        for _ in 0..spans.len() {
+            let Some(at) = self.on.first_from(from) else {
+                break;
+            };
+            self.on.remove(at);
+            let kept = found_in(spans, at.saturating_sub(1)).stores_out();
+            is_new |= self.reach(channels, spans, at, NodeSet::ins(kept));
+            from = at;
+        }
+        is_new
+    }
+
+    // What a store keeps it can let go before: from each span to the one before.
+    fn sweep_back(&mut self, channels: &Channels, spans: &mut [Span]) -> bool {
+        let mut is_new = false;
+        for _ in 0..spans.len() {
+            let Some(at) = self.back.last() else {
+                break;
+            };
+            self.back.remove(at);
+            let coming = found_in(spans, at.saturating_add(1)).stores_in();
+            if let Some(span) = spans.get(at) {
+                let kept = coming.both(span.arcs.keeping());
+                is_new |= self.reach(channels, spans, at, NodeSet::outs(kept));
+            }
+        }
+        is_new
+    }
 }
 
-// Begins at the lost blocks of each span.
-fn begin(stores: &Stores, spans: &mut [Span], batch: &mut u16) {
-    for span in spans.iter_mut() {
-        span.found.clear();
-        let losing = NodeSet::ins(span.arcs.losing);
-        reach(stores, span, losing, batch);
+// The nodes found in a span.
+fn found_in(spans: &[Span], at: usize) -> NodeSet {
+    match spans.get(at) {
+        Some(span) => span.found.nodes(),
+        None => NodeSet::NONE,
     }
 }
 
-// What a store holds it can keep: from each span to the next.
-fn sweep_on(stores: &Stores, spans: &mut [Span], batch: &mut u16) -> bool {
-    let mut is_new = false;
-    let mut kept = NodeSet::NONE;
-    for span in spans.iter_mut() {
-        is_new |= reach(stores, span, kept, batch);
-        kept = NodeSet::ins(span.found.nodes().stores_out());
-    }
-    is_new
-}
-
-// What a store keeps it can let go before: from each span to the one before.
-fn sweep_back(stores: &Stores, spans: &mut [Span], batch: &mut u16) -> bool {
-    let mut is_new = false;
-    let mut coming = StoreSet::NONE;
-    for span in spans.iter_mut().rev() {
-        let kept = coming.both(span.arcs.keeping);
-        is_new |= reach(stores, span, NodeSet::outs(kept), batch);
-        coming = span.found.nodes().stores_in();
-    }
-    is_new
-}
-
-/// Finds all nodes to which lost blocks could go. Each but the first ones has an arc to it from one of a lower batch.
-pub(crate) fn search(stores: &Stores, spans: &mut [Span]) {
-    let mut batch = 0;
-    begin(stores, spans, &mut batch);
+/// Finds all nodes to which lost blocks could go. Each but the first ones has an arc to it from one of a lower batch. A sweep
+/// looks only at the spans next to one in which nodes were found since it looked at them last.
+pub(crate) fn search(channels: &Channels, spans: &mut [Span]) {
+    let mut progress = Progress {
+        batch: 0,
+        on: SpanSet::NONE,
+        back: SpanSet::NONE,
+    };
+    progress.begin(channels, spans);
     for _ in 0..ROUNDS {
-        let on = sweep_on(stores, spans, &mut batch);
-        let back = sweep_back(stores, spans, &mut batch);
+        let on = progress.sweep_on(channels, spans);
+        let back = progress.sweep_back(channels, spans);
         if !on && !back {
             break;
         }

@@ -1,4 +1,4 @@
-//! Sets of stores and of nodes, each in one word.
+//! Sets of stores and of nodes, each in one word, and sets of spans.
 ghost use Rattle.std.specs.Prelude.{◌<◌, IfSome};
 
 use crate::node::Node;
@@ -10,21 +10,22 @@ pub(crate) struct StoreSet(u16);
 impl StoreSet {
     pub(crate) const NONE: StoreSet = StoreSet(0);
 
+    // The stores of the lowest 16 bits of a word.
+    pub(crate) fn of_bits(word: u64) -> StoreSet {
+        StoreSet((word & 0xffff) as u16)
+    }
+
+    // A bit for each store.
+    pub(crate) fn bits(self) -> usize {
+        self.0 as usize
+    }
+
     pub(crate) fn with(self, store: usize) -> StoreSet {
         StoreSet(self.0 | 1 << (store & 15))
     }
 
     pub(crate) fn without(self, store: usize) -> StoreSet {
         StoreSet(self.0 & !(1 << (store & 15)))
-    }
-
-    // The set with the store where it is so, and otherwise without it.
-    pub(crate) fn with_if(self, is_so: bool, store: usize) -> StoreSet {
-        StoreSet(self.without(store).0 | u16::from(is_so) << (store & 15))
-    }
-
-    pub(crate) fn has(self, store: usize) -> bool {
-        self.0 >> (store & 15) & 1 == 1
     }
 
     // The stores of one set or the other.
@@ -39,6 +40,10 @@ impl StoreSet {
 
     pub(crate) fn is_empty(self) -> bool {
         self.0 == 0
+    }
+
+    pub(crate) fn has(self, store: usize) -> bool {
+        self.0 >> (store & 15) & 1 == 1
     }
 
     // The first store, where there is one.
@@ -71,6 +76,11 @@ impl NodeSet {
     // The nodes of what the stores hold.
     pub(crate) fn outs(stores: StoreSet) -> NodeSet {
         NodeSet(u64::from(stores.0) << 16)
+    }
+
+    // The channels of the lowest 8 bits of a word.
+    pub(crate) fn channels_of_bits(word: u64) -> NodeSet {
+        NodeSet((word & 0xff) << 32)
     }
 
     pub(crate) fn with(self, node: Node) -> NodeSet {
@@ -109,14 +119,16 @@ impl NodeSet {
         StoreSet((self.0 >> 16 & 0xffff) as u16)
     }
 
-    // Those of them that are a channel's.
-    pub(crate) fn channels(self) -> NodeSet {
-        NodeSet(self.0 & 0xff << 32)
+    // A bit for each of them that is a channel's.
+    pub(crate) fn channel_bits(self) -> usize
+        ensures { result < 256 }
+    {
+        (self.0 >> 32 & 0xff) as usize
     }
 
     // The first channel whose node is one of them, where there is one.
     pub(crate) fn first_channel(self) -> Option<usize> {
-        let channels = self.channels().0 >> 32;
+        let channels = self.channel_bits();
         if channels == 0 {
             None
         } else {
@@ -138,5 +150,47 @@ impl NodeSet {
     // The set without its first node.
     pub(crate) fn rest(self) -> NodeSet {
         NodeSet(self.0 & self.0.wrapping_sub(1))
+    }
+}
+
+/// Some of 256 spans.
+#[derive(Clone, Copy)]
+pub(crate) struct SpanSet([u64; 4]);
+
+impl SpanSet {
+    pub(crate) const NONE: SpanSet = SpanSet([0; 4]);
+
+    pub(crate) fn add(&mut self, span: usize) {
+        self.0[span >> 6 & 3] |= 1 << (span & 63);
+    }
+
+    pub(crate) fn remove(&mut self, span: usize) {
+        self.0[span >> 6 & 3] &= !(1 << (span & 63));
+    }
+
+    // The first span from this one on, where there is one.
+    pub(crate) fn first_from(&self, from: usize) -> Option<usize> {
+        let mut before = u64::MAX << (from & 63);
+        for word in from >> 6..4 {
+            let bits = self.0[word & 3] & before;
+            if bits != 0 {
+                return Some((word & 3) << 6 | bits.trailing_zeros() as usize);
+            }
+            before = u64::MAX;
+        }
+        None
+    }
+
+    // The last span, where there is one.
+    pub(crate) fn last(&self) -> Option<usize> {
+        for at in 0..4 {
+            let word = 3 - at;
+            let bits = self.0[word];
+            if bits != 0 {
+                let place = 63u32.saturating_sub(bits.leading_zeros());
+                return Some(word << 6 | place as usize);
+            }
+        }
+        None
     }
 }

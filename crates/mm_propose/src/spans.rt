@@ -4,6 +4,7 @@ ghost use Rattle.std.specs.Prelude.{◌≤◌, length};
 use crate::amounts::Amounts;
 use crate::arcs::Arcs;
 use crate::search::Found;
+use crate::slots::{Slot, Table};
 use mm_plan::NoMemory;
 use mm_problem::{CHANNELS, Problem};
 use std::alloc::Global;
@@ -11,40 +12,22 @@ use std::alloc::Global;
 /// A span with what a plan does in it.
 #[derive(Clone, Copy)]
 pub(crate) struct Span {
-    /// The steps from this one on
-    pub(crate) first: u32,
-    /// up to this one, which may have a window.
+    /// The last of its steps, which may have a window.
     pub(crate) last: u32,
-    /// What came to each store since the plan began, with what it held then.
-    pub(crate) come: Amounts,
-    /// What each channel lets through, `u32::MAX` where its limit is not below the window.
-    pub(crate) limits: Amounts,
-    /// What finds no room in each store.
-    pub(crate) lost: Amounts,
-    /// What each store holds before blocks leave it,
-    pub(crate) held: Amounts,
-    /// what leaves it,
-    pub(crate) dumped: Amounts,
-    /// and what it keeps.
-    pub(crate) kept: Amounts,
-    /// What leaves by each channel.
-    pub(crate) sent: Amounts,
-    /// What of the window is not used.
-    pub(crate) idle: u32,
+    /// What its stores and channels do.
+    pub(crate) table: Table,
     /// Which of its arcs bear blocks.
     pub(crate) arcs: Arcs,
     /// What the last search found here.
     pub(crate) found: Found,
 }
 
-// What each channel lets through in a window.
-fn limits_in(problem: &Problem, window: u32) -> Amounts {
-    let mut limits = Amounts::UNLIMITED;
-    for channel in 0..CHANNELS as u8 {
-        if let Some(blocks) = problem.limit(channel) {
-            if blocks < window {
-                limits.set(channel as usize, blocks);
-            }
+// The limit of each channel, `u32::MAX` where it has none.
+fn limits_of(problem: &Problem) -> [u32; CHANNELS] {
+    let mut limits = [u32::MAX; CHANNELS];
+    for channel in 0..CHANNELS {
+        if let Some(blocks) = problem.limit(channel as u8) {
+            limits[channel] = blocks;
         }
     }
     limits
@@ -69,36 +52,41 @@ fn add_arrivals(come: &mut Amounts, problem: &Problem, step: u32)
     }
 }
 
-// A span in which nothing has left yet.
-fn empty_span(problem: &Problem, first: u32, last: u32, come: Amounts, window: u32) -> Span {
-    Span {
-        first,
-        last,
-        come,
-        limits: limits_in(problem, window),
-        lost: Amounts::NOTHING,
-        held: Amounts::NOTHING,
-        dumped: Amounts::NOTHING,
-        kept: Amounts::NOTHING,
-        sent: Amounts::NOTHING,
-        idle: window,
-        arcs: Arcs::NONE,
-        found: Found::nothing(),
+// What a channel lets through in a window, `u32::MAX` where its limit is not below the window.
+fn limit_in(limit: u32, window: u32) -> u32 {
+    if limit < window { limit } else { u32::MAX }
+}
+
+// The amounts of a span in which nothing has left yet.
+fn table_of(come: &Amounts, limits: &[u32; CHANNELS], window: u32) -> Table {
+    let mut table = Table::empty();
+    for store in 0..16 {
+        table.set(Slot::come(store), come.of(store));
     }
+    for channel in 0..CHANNELS {
+        let open = limit_in(limits[channel], window);
+        table.set(Slot::open(channel), open);
+    }
+    table.set(Slot::IDLE, window);
+    table
 }
 
 /// The spans of a problem: each step without a window is joined to the next that has one, and the last such to the end.
 pub(crate) fn spans_of(alloc: Global, problem: &Problem) -> Result<Vec<Span>, NoMemory> {
     let steps = problem.steps();
+    let limits = limits_of(problem);
     let mut spans = Vec::with_capacity(alloc, steps as usize)?;
     let mut come = starts(problem);
-    let mut first = 1;
     for step in 1..steps + 1 {
         add_arrivals(&mut come, problem, step);
         let window = problem.window(step);
         if window > 0 || step == steps {
-            spans.push(empty_span(problem, first, step, come, window))?;
-            first = step + 1;
+            spans.push(Span {
+                last: step,
+                table: table_of(&come, &limits, window),
+                arcs: Arcs::NONE,
+                found: Found::nothing(),
+            })?;
         }
     }
     Ok(spans)

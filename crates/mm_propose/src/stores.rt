@@ -45,8 +45,10 @@ impl Stores {
     }
 
     // The channel of a store.
-    pub(crate) fn channel(&self, store: usize) -> usize {
-        self.channels[store & 15] as usize
+    pub(crate) fn channel(&self, store: usize) -> usize
+        ensures { result < 8 }
+    {
+        self.channels[store & 15] as usize & 7
     }
 
     // The stores of a channel.
