@@ -9,3 +9,5 @@ pub mod Helping
 mod Refusals
 mod WorkedExamples
 pub mod SameVerdict
+pub mod Marking
+pub mod Covered

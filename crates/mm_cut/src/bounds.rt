@@ -6,7 +6,8 @@ ghost use Rattle.mm_cut.specs.Stretches.{is_inner_on, IsStretch};
 ghost use Rattle.mm_cut.specs.Cuts.{opening, coming, coming_sum, held_sum, limit_sum, counts_window, counts_limits, windows_sum, limits_sum, IsCut, bound};
 
 use crate::counts::{is_inner, is_listed};
-use crate::stretches::{channel_of, covers, goes_past, store_of};
+use crate::marks::Marks;
+use crate::stretches::{channel_of, goes_past, store_of};
 use mm_base::{CHANNELS, MAX_STEPS, MAX_STORES};
 use mm_plan::Stretch;
 use mm_problem::Problem;
@@ -25,18 +26,18 @@ fn opening(problem: &Problem, stretch: &Stretch) -> u32
 }
 
 // What it holds before and what arrives in the stretch's steps.
-#[tactic(auto, using(mm_base::proofs::RangeSums::sum_by_filter_range_next))]
+#[tactic(auto, using(crate::proofs::Covered::sum_before_first, crate::proofs::Covered::sum_within_next, crate::proofs::Covered::sum_after_last))]
 fn coming(problem: &Problem, stretch: &Stretch) -> u64
     requires { IsStretch problem.now stretch.now }
     ensures coming { result ≡ coming problem.now stretch.now }
     ensures most { result ≤ MAX_BLOCKS + MAX_STEPS * MAX_BLOCKS }
 {
+    // its last step is one of the problem
+    prove!(problem.steps() <= MAX_STEPS);
     let store = store_of(problem, stretch);
     let mut coming = u64::from(opening(problem, stretch));
-    for step in 1..problem.steps() + 1 {
-        if covers(stretch, step) {
-            coming += u64::from(problem.arrivals(store, step));
-        }
+    for step in stretch.first..stretch.last + 1 {
+        coming += u64::from(problem.arrivals(store, step));
     }
     coming
 }
@@ -102,13 +103,13 @@ pub fn counts_limits(stretches: &[Stretch], counts: &[u32], step: u32) -> bool
 
 // What may leave in the steps that count by their windows.
 #[tactic(auto, using(mm_base::proofs::RangeSums::sum_by_filter_range_next))]
-fn windows_sum(problem: &Problem, stretches: &[Stretch], counts: &[u32]) -> u64
-    ensures sum { result ≡ windows_sum problem.now stretches.now counts.now }
+fn windows_sum(problem: &Problem, marks: &Marks<'_>) -> u64
+    ensures sum { result ≡ windows_sum problem.now marks.now.stretches.now marks.now.counts.now }
     ensures most { result ≤ MAX_STEPS * MAX_BLOCKS }
 {
     let mut sum: u64 = 0;
     for step in 1..problem.steps() + 1 {
-        if counts_window(stretches, counts, step) {
+        if marks.counts_window(step) {
             sum += u64::from(problem.window(step));
         }
     }
@@ -117,15 +118,15 @@ fn windows_sum(problem: &Problem, stretches: &[Stretch], counts: &[u32]) -> u64
 
 // What may leave in the steps that count by the limits of channels.
 #[tactic(auto, using(mm_base::proofs::RangeSums::sum_by_filter_range_next))]
-fn limits_sum(problem: &Problem, stretches: &[Stretch], counts: &[u32]) -> u64
-    requires { All (IsStretch problem.now) stretches.now }
-    ensures sum { result ≡ limits_sum problem.now stretches.now counts.now }
+fn limits_sum(problem: &Problem, marks: &Marks<'_>) -> u64
+    requires { All (IsStretch problem.now) marks.now.stretches.now }
+    ensures sum { result ≡ limits_sum problem.now marks.now.stretches.now marks.now.counts.now }
     ensures most { result ≤ MAX_STEPS * (CHANNELS * MAX_BLOCKS) }
 {
     let mut sum: u64 = 0;
     for step in 1..problem.steps() + 1 {
-        if counts_limits(stretches, counts, step) {
-            sum += limit_sum(problem, stretches, step);
+        if marks.counts_limits(step) {
+            sum += limit_sum(problem, marks.stretches, step);
         }
     }
     sum
@@ -186,11 +187,12 @@ pub fn parts_of(problem: &Problem, stretches: &[Stretch], counts: &[u32]) -> Par
 {
     // at most one stretch for each store and step, so that the sums fit
     prove!(problem.stores() <= MAX_STORES && problem.steps() <= MAX_STEPS);
+    let marks = Marks::new(problem, stretches, counts);
     Parts {
         coming: coming_sum(problem, stretches),
         held: held_sum(problem, stretches),
-        windows: windows_sum(problem, stretches, counts),
-        limits: limits_sum(problem, stretches, counts),
+        windows: windows_sum(problem, &marks),
+        limits: limits_sum(problem, &marks),
     }
 }
 

@@ -7,6 +7,7 @@ mod counts;
 mod fault;
 mod laws;
 mod lines;
+mod marks;
 mod stretches;
 mod verdict;
 
@@ -18,5 +19,6 @@ pub use laws::{
     cuts_are_few, cuts_bound_losses, cuts_count_alike, only_counted_helps, verdicts_exclude,
 };
 pub use lines::verdict_line;
+pub use marks::{STEP_PLACES, inner_steps, listed_steps};
 pub use stretches::{first_bad, store_of};
 pub use verdict::{Verdict, verify};

@@ -1,7 +1,7 @@
 //! The stretches of a cut.
 ghost use Rattle.std.specs.Prelude.{◌≡◌, ◌<◌, ◌≤◌, ◌↔◌, length, All, IsTrue, IsNone, IfSome};
 ghost use Rattle.mm_base.specs.declared.limits.TheConstants.{MAX_CHANNEL};
-ghost use Rattle.mm_cut.specs.Stretches.{store_of, channel_of, covers, goes_past, IsStretch, AreApart, IsStretchAfter, AreStretches};
+ghost use Rattle.mm_cut.specs.Stretches.{store_of, channel_of, goes_past, IsStretch, AreApart, IsStretchAfter, AreStretches};
 ghost use Rattle.mm_cut.specs.FirstBad.{IsFirstBad};
 
 use mm_base::{MAX_STEPS, MAX_STORES};
@@ -25,13 +25,6 @@ pub(crate) fn channel_of(problem: &Problem, stretch: &Stretch) -> u8
     ensures most { result ≤ MAX_CHANNEL }
 {
     problem.channel(store_of(problem, stretch))
-}
-
-// Whether a step is one of the stretch's.
-pub(crate) fn covers(stretch: &Stretch, step: u32) -> bool
-    ensures { result ≡ covers stretch.now step }
-{
-    stretch.first <= step && step <= stretch.last
 }
 
 /// Whether a step is an inner step of the stretch: one of its steps, and not its last.
