@@ -4,3 +4,5 @@ pub mod Mapped
 pub mod Names
 pub mod Ranges
 pub mod Shown
+pub mod Amounts
+pub mod Outlines

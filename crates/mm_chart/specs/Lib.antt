@@ -9,3 +9,4 @@ pub mod Listed
 pub mod Shading
 pub mod Legend
 pub mod Table
+pub mod Columns

@@ -1,6 +1,7 @@
 //! Charts of dump plans: what is lost, when, and why no plan loses less.
 #![tactic(auto)]
 
+mod column;
 mod document;
 mod headline;
 mod laws;

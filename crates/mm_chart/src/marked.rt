@@ -1,11 +1,13 @@
 //! The steps that a series marks, in words.
-ghost use Rattle.std.specs.Prelude.{◌≡◌, ◌≤◌, ◌++◌, OnOk, flat_map};
+ghost use Rattle.std.specs.Prelude.{◌≡◌, ◌<◌, ◌≤◌, ◌++◌, OnOk, flat_map};
 ghost use Rattle.mm_base.specs.declared.limits.TheConstants.{MAX_STEPS};
 ghost use Rattle.mm_problem.specs.Dumping.{steps};
+ghost use Rattle.mm_chart.specs.declared.series.TheConstants.{AMOUNT_PLACES};
 ghost use Rattle.mm_chart.specs.Layout.{word_line};
 ghost use Rattle.mm_chart.specs.Series.{IsSeries};
 ghost use Rattle.mm_chart.specs.Words.{is_marked, begins, ranges_of, range_first, range_last, range_part, marks, marked_where, step_word, in_steps, steps_line};
 
+use crate::column::Column;
 use crate::layout::{MARGIN, word_line};
 use crate::pen::{
     Pushed, Style, push_closed, push_grouped, push_labelled, push_opened, push_said, push_value,
@@ -15,11 +17,11 @@ use crate::picture::{Picture, one_if};
 use crate::series::Series;
 
 // Whether a step has a number of the series.
-fn is_marked(picture: &Picture, series: Series, step: u32) -> bool
-    requires { IsSeries picture.now series }
-    ensures { result ≡ is_marked picture.now series step }
+fn is_marked(column: &Column<'_>, step: u32) -> bool
+    requires { step < AMOUNT_PLACES }
+    ensures { result ≡ is_marked column.now.picture.now column.now.series step }
 {
-    picture.amount_at(series, step) > 0
+    column.amount_at(step) > 0
 }
 
 // How many such steps there are, and how many ranges they make.
@@ -31,16 +33,15 @@ struct Marks {
 
 // The marks of a series.
 #[tactic(auto, using(crate::proofs::Ranges::sum_by_next))]
-fn marks_of(picture: &Picture, series: Series) -> Marks
-    requires { IsSeries picture.now series }
-    ensures steps { result.steps ≡ marks picture.now series }
-    ensures ranges { result.ranges ≡ ranges_of picture.now series }
+fn marks_of(column: &Column<'_>) -> Marks
+    ensures steps { result.steps ≡ marks column.now.picture.now column.now.series }
+    ensures ranges { result.ranges ≡ ranges_of column.now.picture.now column.now.series }
 {
     let mut steps: u64 = 0;
     let mut ranges: u64 = 0;
-    for step in 1..picture.problem().steps() + 1 {
-        let here = is_marked(picture, series, step);
-        let before = is_marked(picture, series, step - 1);
+    for step in 1..column.picture.problem().steps() + 1 {
+        let here = is_marked(column, step);
+        let before = is_marked(column, step - 1);
         steps += one_if(here);
         ranges += one_if(here && !before);
     }
@@ -74,27 +75,26 @@ fn push_range_last(text: &mut Vec<u8>, before: bool, after: bool, step: u32) -> 
 
 // What a step adds to the ranges.
 #[tactic(auto, using(std::proofs::Common::append_assoc), unfolding(crate::specs::Words::range_part))]
-fn push_range_part(text: &mut Vec<u8>, picture: &Picture, series: Series, step: u32) -> Pushed
-    requires series { IsSeries picture.now series }
+fn push_range_part(text: &mut Vec<u8>, column: &Column<'_>, step: u32) -> Pushed
     requires first { 1 ≤ step }
     requires last { step ≤ MAX_STEPS }
-    ensures { OnOk result (text.new.items ≡ text.old.items ++ range_part picture.now series step) }
+    ensures { OnOk result (text.new.items ≡ text.old.items ++ range_part column.now.picture.now column.now.series step) }
 {
-    if !is_marked(picture, series, step) {
+    if !is_marked(column, step) {
         return Ok(());
     }
-    let before = is_marked(picture, series, step - 1);
+    let before = is_marked(column, step - 1);
     push_range_first(text, before, step)?;
-    push_range_last(text, before, is_marked(picture, series, step + 1), step)
+    push_range_last(text, before, is_marked(column, step + 1), step)
 }
 
 #[tactic(auto, using(std::proofs::Common::append_assoc, crate::proofs::Ranges::flat_map_next))]
-fn push_ranges(text: &mut Vec<u8>, picture: &Picture, series: Series) -> Pushed
-    requires { IsSeries picture.now series }
-    ensures { OnOk result (text.new.items ≡ text.old.items ++ flat_map (range_part picture.now series) (steps picture.now.problem)) }
+fn push_ranges(text: &mut Vec<u8>, column: &Column<'_>) -> Pushed
+    ensures { OnOk result (text.new.items ≡ text.old.items
+        ++ flat_map (range_part column.now.picture.now column.now.series) (steps column.now.picture.now.problem)) }
 {
-    for step in 1..picture.problem().steps() + 1 {
-        push_range_part(text, picture, series, step)?;
+    for step in 1..column.picture.problem().steps() + 1 {
+        push_range_part(text, column, step)?;
     }
     Ok(())
 }
@@ -125,18 +125,17 @@ fn push_step_word(text: &mut Vec<u8>, steps: u64) -> Pushed
 
 // The steps as ranges, or their number where they are many ranges.
 #[tactic(auto, using(std::proofs::Common::append_assoc), unfolding(crate::specs::Words::in_steps))]
-fn push_in_steps(text: &mut Vec<u8>, picture: &Picture, series: Series) -> Pushed
-    requires { IsSeries picture.now series }
-    ensures { OnOk result (text.new.items ≡ text.old.items ++ in_steps picture.now series) }
+fn push_in_steps(text: &mut Vec<u8>, column: &Column<'_>) -> Pushed
+    ensures { OnOk result (text.new.items ≡ text.old.items ++ in_steps column.now.picture.now column.now.series) }
 {
-    let marks = marks_of(picture, series);
+    let marks = marks_of(column);
     if marks.ranges <= MANY_RANGES {
         push_step_word(text, marks.steps)?;
-        return push_ranges(text, picture, series);
+        return push_ranges(text, column);
     }
     push_said(text, b"In the ")?;
     push_grouped(text, marks.steps)?;
-    text.extend_from_slice(marked_where(series))
+    text.extend_from_slice(marked_where(column.series))
 }
 
 // A line on the steps of a series, or on that there are none.
@@ -155,11 +154,12 @@ pub(crate) fn push_steps_line(
         ++ steps_line picture.now series (word_line picture.now.problem line) words.now none.now) }
 {
     let y = word_line(picture.problem(), line);
-    if picture.total(series) == 0 {
+    let column = Column::new(picture, series);
+    if column.total() == 0 {
         return push_labelled(text, Style::Plain, MARGIN, y, none);
     }
     push_opened(text, Style::Plain, MARGIN, y)?;
-    push_in_steps(text, picture, series)?;
+    push_in_steps(text, &column)?;
     text.extend_from_slice(words)?;
     push_closed(text)
 }

@@ -4,9 +4,11 @@ ghost use Rattle.mm_problem.specs.Dumping.{steps};
 ghost use Rattle.mm_base.specs.declared.limits.TheConstants.{MAX_STEPS};
 ghost use Rattle.mm_base.specs.Characters.{line_feed};
 ghost use Rattle.mm_chart.specs.Series.{IsSeries};
+ghost use Rattle.mm_chart.specs.declared.series.TheConstants.{AMOUNT_PLACES};
 ghost use Rattle.mm_chart.specs.Layout.{IsPlaced};
 ghost use Rattle.mm_chart.specs.Svg.{said, separated, grouped, signed_grouped, style_name, opened, closed, labelled, height_of, right_to, line_at, begun, outline, step_outline, series_name, path_begun, outlined, profile};
 
+use crate::column::Column;
 use crate::layout::{base_of, edge, room_of};
 use crate::picture::{Picture, scaled};
 use crate::series::Series;
@@ -160,13 +162,13 @@ pub(crate) fn push_labelled(
 }
 
 // How high a step of a series is drawn.
-fn height_of(picture: &Picture, series: Series, whole: u64, step: u32) -> u32
-    requires series { IsSeries picture.now series }
+fn height_of(column: &Column<'_>, whole: u64, step: u32) -> u32
+    requires place { step < AMOUNT_PLACES }
     requires whole { whole ≤ 2 ^ 40 }
-    ensures height { result ≡ height_of picture.now series whole step }
+    ensures height { result ≡ height_of column.now.picture.now column.now.series whole step }
     ensures most { result ≤ 40 }
 {
-    scaled(room_of(series), whole, picture.amount_at(series, step))
+    scaled(room_of(column.series), whole, column.amount_at(step))
 }
 
 // To the right edge of a step.
@@ -247,16 +249,17 @@ fn series_name(series: Series) -> &'static [u8]
 
 // The outlines of all steps.
 #[tactic(auto, using(std::proofs::Common::append_assoc, crate::proofs::Ranges::flat_map_next), unfolding(crate::specs::Svg::step_outline))]
-fn push_steps(text: &mut Vec<u8>, picture: &Picture, series: Series, whole: u64) -> Pushed
-    requires series { IsSeries picture.now series }
-    requires placed { IsPlaced series }
+fn push_steps(text: &mut Vec<u8>, column: &Column<'_>, whole: u64) -> Pushed
+    requires placed { IsPlaced column.now.series }
     requires whole { whole ≤ 2 ^ 40 }
-    ensures { OnOk result (text.new.items ≡ text.old.items ++ flat_map (step_outline picture.now series whole) (steps picture.now.problem)) }
+    ensures { OnOk result (text.new.items ≡ text.old.items
+        ++ flat_map (step_outline column.now.picture.now column.now.series whole) (steps column.now.picture.now.problem)) }
 {
-    let base = base_of(picture.problem(), series);
-    let mut before = height_of(picture, series, whole, 0);
+    let picture = column.picture;
+    let base = base_of(picture.problem(), column.series);
+    let mut before = height_of(column, whole, 0);
     for step in 1..picture.problem().steps() + 1 {
-        let here = height_of(picture, series, whole, step);
+        let here = height_of(column, whole, step);
         push_outline(text, picture, base, before, here, step)?;
         before = here;
     }
@@ -275,26 +278,35 @@ fn push_path(text: &mut Vec<u8>, series: Series) -> Pushed
 
 // The outline of a series over all steps.
 #[tactic(auto, using(std::proofs::Common::append_assoc), unfolding(crate::specs::Svg::outlined))]
-fn push_outlined(text: &mut Vec<u8>, picture: &Picture, series: Series) -> Pushed
-    requires series { IsSeries picture.now series }
-    requires placed { IsPlaced series }
-    ensures { OnOk result (text.new.items ≡ text.old.items ++ outlined picture.now series) }
+fn push_outlined(text: &mut Vec<u8>, column: &Column<'_>) -> Pushed
+    requires series { IsSeries column.now.picture.now column.now.series }
+    requires placed { IsPlaced column.now.series }
+    ensures { OnOk result (text.new.items ≡ text.old.items ++ outlined column.now.picture.now column.now.series) }
 {
-    push_path(text, series)?;
-    push_steps(text, picture, series, picture.whole(series))?;
-    push_value(text, b"V", base_of(picture.problem(), series))?;
+    push_path(text, column.series)?;
+    push_steps(text, column, column.whole())?;
+    push_value(text, b"V", base_of(column.picture.problem(), column.series))?;
     push_said(text, b"'/>\n")
 }
 
-/// Draws a series over all steps, or nothing where it has none.
+/// Draws the series of a column over all steps, or nothing where it has none.
 #[tactic(auto, unfolding(crate::specs::Svg::profile))]
+pub fn push_column(text: &mut Vec<u8>, column: &Column<'_>) -> Pushed
+    requires series { IsSeries column.now.picture.now column.now.series }
+    requires placed { IsPlaced column.now.series }
+    ensures { OnOk result (text.new.items ≡ text.old.items ++ profile column.now.picture.now column.now.series) }
+{
+    if column.total() == 0 {
+        return Ok(());
+    }
+    push_outlined(text, column)
+}
+
+/// Draws a series over all steps, or nothing where it has none.
 pub fn push_profile(text: &mut Vec<u8>, picture: &Picture, series: Series) -> Pushed
     requires series { IsSeries picture.now series }
     requires placed { IsPlaced series }
     ensures { OnOk result (text.new.items ≡ text.old.items ++ profile picture.now series) }
 {
-    if picture.total(series) == 0 {
-        return Ok(());
-    }
-    push_outlined(text, picture, series)
+    push_column(text, &Column::new(picture, series))
 }

@@ -1,5 +1,5 @@
 //! A plan to be drawn, and the numbers of its chart.
-ghost use Rattle.std.specs.Prelude.{◌≡◌, ◌^◌, ◌+◌, ◌*◌, ◌<◌, ◌≤◌, [], if◌then◌else◌, All, IfOk, length};
+ghost use Rattle.std.specs.Prelude.{◌≡◌, ℕ, ◌^◌, ◌+◌, ◌*◌, ◌<◌, ◌≤◌, [], if◌then◌else◌, All, IfOk, length, slice_index_or};
 ghost use Rattle.mm_base.specs.declared.limits.TheConstants.{MAX_STORES, MAX_STEPS, MAX_BLOCKS};
 ghost use Rattle.std.specs.List.{sum_by};
 ghost use Rattle.mm_problem.specs.Dumping.{IsDumping, stores, stores_of};
@@ -9,21 +9,28 @@ ghost use Rattle.mm_plan.specs.Volumes.{written, left, lost};
 ghost use Rattle.mm_plan.specs.Simulated.{written_in, left_in, lost_in, CoversProblem, AgreeEach};
 ghost use Rattle.mm_cut.specs.Stretches.{IsStretch, AreStretches};
 ghost use Rattle.mm_cut.specs.Cuts.{IsCut, coming_sum, held_sum, counts_window, counts_limits, windows_sum, limits_sum};
+ghost use Rattle.mm_cut.specs.declared.marks.TheConstants.{STEP_PLACES};
+ghost use Rattle.mm_chart.specs.declared.series.TheConstants.{AMOUNT_PLACES};
+ghost use Rattle.mm_chart.specs.Columns.{AreMarks, AreAmounts};
 ghost use Rattle.mm_chart.specs.Picture.{has_cut, cut, counts, IsDrawn};
 ghost use Rattle.mm_chart.specs.declared.series.Series.TheVariants.{CountedWindow};
-ghost use Rattle.mm_chart.specs.Series.{one_if, sent, counts_channel, is_inner_of, is_last_of, IsSeries, amount_of, amount_at, total_of, most_of, whole_of, scaled};
+ghost use Rattle.mm_chart.specs.Series.{one_if, sent, counts_channel, is_inner_of, is_last_of, IsSeries, amount_of, total_of, most_of, whole_of, scaled};
 
-use crate::series::Series;
-use crate::shades::{Shade, is_inner_of, is_inner_on, is_last_of, shades_of};
-use mm_base::NoMemory;
-use mm_cut::{Parts, Verdict, counts_limits, counts_window, parts_of, verdict_of};
+use crate::series::{AMOUNT_PLACES, Series};
+use crate::shades::{
+    Shade, inner_steps_of, inner_steps_on, is_inner_of, is_inner_on, is_last_of, last_steps_of,
+    shades_of,
+};
+use mm_base::{MAX_STEPS, NoMemory};
+use mm_cut::{Parts, STEP_PLACES, Verdict, inner_steps, listed_steps, parts_of, verdict_of};
 use mm_plan::{Sheet, Simulated, Stretch, simulate};
 use mm_problem::Problem;
 use std::alloc::Global;
+use std::fmt;
 use std::marker::Model;
 
 /// A problem, a sheet for it, the verdict on the sheet, and what its plan does to the stores.
-#[derive(Debug, Drop)]
+#[derive(Drop)]
 pub struct Picture {
     problem: Problem,
     sheet: Sheet,
@@ -31,12 +38,30 @@ pub struct Picture {
     volumes: Simulated,
     // The stretches that are drawn.
     shades: Vec<Shade>,
+    // Whether each step is inner in some of them.
+    inner: [bool; STEP_PLACES],
+    // Whether each step is counted by channels.
+    listed: [bool; STEP_PLACES],
+}
+
+/// The marks, which the cut determines, are not shown.
+impl fmt::Debug for Picture {
+    fn fmt<W: fmt::Write>(&self, f: &mut fmt::Formatter<W>) -> fmt::Result {
+        f.debug_struct("Picture")
+            .field("problem", &self.problem)
+            .field("sheet", &self.sheet)
+            .field("verdict", &self.verdict)
+            .field("volumes", &self.volumes)
+            .field("shades", &self.shades)
+            .finish()
+    }
 }
 
 impl Model for Picture {
     ghost use Rattle.std.specs.Prelude.{◌≡◌, map};
     ghost use Rattle.mm_chart.specs.Picture.{Drawn, cut, IsDrawn, AreVolumesOf};
     ghost use Rattle.mm_chart.specs.Shading.{shade_of};
+    ghost use Rattle.mm_chart.specs.Columns.{AreStepMarks};
 
     ghost Value = { Drawn };
 
@@ -44,7 +69,8 @@ impl Model for Picture {
 
     ghost invariant = { λ a. IsDrawn (record { problem = a.problem; sheet = a.sheet; verdict = a.verdict })
         × AreVolumesOf (record { problem = a.problem; sheet = a.sheet; verdict = a.verdict }) a.volumes
-        × (a.shades.items ≡ map (shade_of a.problem) (cut (record { problem = a.problem; sheet = a.sheet; verdict = a.verdict }))) };
+        × (a.shades.items ≡ map (shade_of a.problem) (cut (record { problem = a.problem; sheet = a.sheet; verdict = a.verdict })))
+        × AreStepMarks (record { problem = a.problem; sheet = a.sheet; verdict = a.verdict }) a.inner a.listed };
 }
 
 fn has_cut(verdict: Verdict) -> bool
@@ -70,6 +96,17 @@ fn cut_of(sheet: &Sheet, verdict: Verdict) -> &[Stretch]
     if has_cut(verdict) { sheet.cut() } else { &[] }
 }
 
+// The steps of a sheet that are counted by channels, where its stretches are those of a cut.
+fn counts_of(sheet: &Sheet, verdict: Verdict) -> &[u32]
+    ensures { result.now ≡ (if has_cut verdict then sheet.now.by_channels else []) }
+{
+    if has_cut(verdict) {
+        sheet.by_channels()
+    } else {
+        &[]
+    }
+}
+
 // What its plan does to the stores.
 fn volumes_of(alloc: Global, problem: &Problem, sheet: &Sheet) -> Result<Simulated, NoMemory>
     requires { HasShape problem.now sheet.now.plan }
@@ -92,12 +129,16 @@ impl Picture {
         let verdict = verdict_of(&problem, &sheet);
         let volumes = volumes_of(alloc, &problem, &sheet)?;
         let shades = shades_of(alloc, &problem, cut_of(&sheet, verdict))?;
+        let inner = inner_steps(&problem, cut_of(&sheet, verdict));
+        let listed = listed_steps(counts_of(&sheet, verdict));
         Ok(Picture {
             problem,
             sheet,
             verdict,
             volumes,
             shades,
+            inner,
+            listed,
         })
     }
 
@@ -130,11 +171,7 @@ impl Picture {
     pub(crate) fn counts(&self) -> &[u32]
         ensures { result.now ≡ counts self.now }
     {
-        if has_cut(self.verdict) {
-            self.sheet.by_channels()
-        } else {
-            &[]
-        }
+        counts_of(&self.sheet, self.verdict)
     }
 
     /// The sums of the cut's bound.
@@ -149,19 +186,22 @@ impl Picture {
     }
 
     fn counts_window(&self, step: u32) -> bool
+        requires { step < STEP_PLACES }
         ensures { result ≡ counts_window (cut self.now) (counts self.now) step }
     {
-        counts_window(self.cut(), self.counts(), step)
+        self.inner[step as usize] && !self.listed[step as usize]
     }
 
     fn counts_limits(&self, step: u32) -> bool
+        requires { step < STEP_PLACES }
         ensures { result ≡ counts_limits (cut self.now) (counts self.now) step }
     {
-        counts_limits(self.cut(), self.counts(), step)
+        self.inner[step as usize] && self.listed[step as usize]
     }
 
     #[tactic(auto, using(crate::proofs::Mapped::list_any_map))]
     fn counts_channel(&self, channel: u8, step: u32) -> bool
+        requires { step < STEP_PLACES }
         ensures { result ≡ counts_channel self.now channel step }
     {
         self.counts_limits(step) && is_inner_on(self.shades.as_slice(), channel, step)
@@ -183,6 +223,7 @@ impl Picture {
 
     // The step's window, where the step counts by it.
     fn counted_window(&self, step: u32) -> u64
+        requires place { step < STEP_PLACES }
         requires first { 1 ≤ step }
         requires last { step ≤ length self.now.problem.windows }
         ensures window { result ≡ amount_of self.now CountedWindow step }
@@ -249,6 +290,8 @@ impl Picture {
         ensures amount { result ≡ amount_of self.now series step }
         ensures most { result ≤ MAX_STORES * 2 ^ 32 }
     {
+        // no step is past the marks
+        prove!(self.problem.steps() <= MAX_STEPS);
         match series {
             Series::WindowCounts => one_if(self.counts_window(step)),
             Series::Window => u64::from(self.problem.window(step)),
@@ -266,17 +309,55 @@ impl Picture {
         }
     }
 
-    // The same, and 0 at what is no step.
-    pub(crate) fn amount_at(&self, series: Series, step: u32) -> u64
-        requires { IsSeries self.now series }
-        ensures amount { result ≡ amount_at self.now series step }
+    // Marks of the steps in which a series asks for a stretch.
+    #[tactic(auto, using(crate::proofs::Mapped::list_any_map))]
+    fn marks(&self, series: Series) -> [bool; STEP_PLACES]
+        ensures places { length result ≡ STEP_PLACES }
+        ensures marks { AreMarks self.now series result }
+    {
+        match series {
+            Series::Inner(store) => inner_steps_of(self.shades.as_slice(), store),
+            Series::Last(store) => last_steps_of(self.shades.as_slice(), store),
+            Series::ChannelCounts(channel) => inner_steps_on(self.shades.as_slice(), channel),
+            _ => [false; STEP_PLACES],
+        }
+    }
+
+    // The number of a step, by the marks of the series.
+    fn amount_by(&self, marks: &[bool], series: Series, step: u32) -> u64
+        requires series { IsSeries self.now series }
+        requires places { length marks.now ≡ STEP_PLACES }
+        requires marks { AreMarks self.now series marks.now }
+        requires first { 1 ≤ step }
+        requires last { step ≤ length self.now.problem.windows }
+        ensures amount { result ≡ amount_of self.now series step }
         ensures most { result ≤ MAX_STORES * 2 ^ 32 }
     {
-        if 1 <= step && step <= self.problem.steps() {
-            self.amount(series, step)
-        } else {
-            0
+        // no step is past the marks
+        prove!(self.problem.steps() <= MAX_STEPS);
+        match series {
+            Series::Inner(_) | Series::Last(_) => one_if(marks[step as usize]),
+            Series::ChannelCounts(_) => one_if(self.counts_limits(step) && marks[step as usize]),
+            _ => self.amount(series, step),
         }
+    }
+
+    // The numbers of all steps, by their places.
+    #[tactic(auto, using(crate::proofs::Amounts::amount_at_step, crate::proofs::Amounts::amount_at_past))]
+    pub(crate) fn amounts(&self, series: Series) -> [u64; AMOUNT_PLACES]
+        requires { IsSeries self.now series }
+        ensures places { length result ≡ AMOUNT_PLACES }
+        ensures amounts { AreAmounts self.now series result }
+        ensures most { (t : ℕ) → slice_index_or result t 0 ≤ MAX_STORES * 2 ^ 32 }
+    {
+        // no step is past the places
+        prove!(self.problem.steps() <= MAX_STEPS);
+        let marks = self.marks(series);
+        let mut amounts = [0; AMOUNT_PLACES];
+        for step in 1..self.problem.steps() + 1 {
+            amounts[step as usize] = self.amount_by(&marks, series, step);
+        }
+        amounts
     }
 
     /// The sum over all steps.

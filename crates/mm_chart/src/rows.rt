@@ -3,16 +3,19 @@ ghost use Rattle.std.specs.Prelude.{◌≡◌, ◌+◌, ◌-◌, ◌*◌, ◌^�
 ghost use Rattle.mm_base.specs.declared.limits.TheConstants.{MAX_STORES, MAX_STEPS, MAX_BLOCKS};
 ghost use Rattle.mm_base.specs.Id.{id_text};
 ghost use Rattle.mm_problem.specs.Dumping.{IsDumping, row, stores, steps, channels};
+ghost use Rattle.mm_chart.specs.declared.series.Series.TheVariants.{Used};
+ghost use Rattle.mm_chart.specs.Series.{total_of};
 ghost use Rattle.mm_chart.specs.Layout.{edge};
 ghost use Rattle.mm_chart.specs.Rows.{right, counted, frame, name, guide, numbered, windows_words, windows_row, channel_side, channel_row, channel_part, coming_to, all_coming, store_side, store_loss, store_words, store_bars, store_row, tick, rows};
 
+use crate::column::Column;
 use crate::layout::{
     LEFT, NAME_AT, TALL, THIN, TICK_AT, WINDOW_BASE, bottom, channel_base, edge, has_limit,
     step_width, store_base, tick_every,
 };
 use crate::pen::{
-    Line, Pushed, Style, push_begun, push_closed, push_grouped, push_labelled, push_line,
-    push_opened, push_profile, push_said, push_value,
+    Line, Pushed, Style, push_begun, push_closed, push_column, push_grouped, push_labelled,
+    push_line, push_opened, push_profile, push_said, push_value,
 };
 use crate::picture::Picture;
 use crate::series::Series;
@@ -69,12 +72,12 @@ fn push_frame(text: &mut Vec<u8>, problem: &Problem, base: u32, height: u32) -> 
 }
 
 #[tactic(auto, using(std::proofs::Common::append_assoc), unfolding(crate::specs::Rows::windows_words))]
-fn push_windows_words(text: &mut Vec<u8>, picture: &Picture) -> Pushed
+fn push_windows_words(text: &mut Vec<u8>, picture: &Picture, used: u64) -> Pushed
+    requires { used ≡ total_of picture.now Used }
     ensures { OnOk result (text.new.items ≡ text.old.items ++ windows_words picture.now) }
 {
     let right = right(picture.problem());
     let most = picture.most(Series::Window);
-    let used = picture.total(Series::Used);
     let windows = picture.total(Series::Window);
     let (upper, lower) = (WINDOW_BASE - 18, WINDOW_BASE - 4);
     push_labelled(text, Style::Name, NAME_AT, upper, b"windows")?;
@@ -89,9 +92,10 @@ fn push_windows_row(text: &mut Vec<u8>, picture: &Picture) -> Pushed
 {
     push_profile(text, picture, Series::WindowCounts)?;
     push_profile(text, picture, Series::Window)?;
-    push_profile(text, picture, Series::Used)?;
+    let used = Column::new(picture, Series::Used);
+    push_column(text, &used)?;
     push_frame(text, picture.problem(), WINDOW_BASE, TALL)?;
-    push_windows_words(text, picture)
+    push_windows_words(text, picture, used.total())
 }
 
 // The channel and its limit.
@@ -115,12 +119,13 @@ fn push_channel_row(text: &mut Vec<u8>, picture: &Picture, channel: u8) -> Pushe
 {
     let base = channel_base(picture.problem(), channel);
     push_profile(text, picture, Series::ChannelCounts(channel))?;
-    push_profile(text, picture, Series::Sent(channel))?;
+    let sent = Column::new(picture, Series::Sent(channel));
+    push_column(text, &sent)?;
     push_frame(text, picture.problem(), base, THIN)?;
     push_channel_side(text, picture, channel)?;
     let right = right(picture.problem());
-    let sent = picture.total(Series::Sent(channel));
-    push_counted(text, Style::Total.at(right, base - 5), b"", sent, b" sent")
+    let at_right = Style::Total.at(right, base - 5);
+    push_counted(text, at_right, b"", sent.total(), b" sent")
 }
 
 // Nothing for a channel without a limit.

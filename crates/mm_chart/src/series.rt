@@ -1,5 +1,10 @@
 //! What a chart draws: a number for each step.
 
+use mm_base::MAX_STEPS;
+
+/// A place for each step that there may be, by its number, one before the first and one after the last.
+pub const AMOUNT_PLACES: usize = MAX_STEPS as usize + 2;
+
 /// A number for each step. Stores count from 0 in setup order.
 #[derive(Clone, Copy, Debug, PartialEq, Eq)]
 pub enum Series {

@@ -1,11 +1,12 @@
 //! Stretches with the place and the channel of their stores, which are looked up once.
-ghost use Rattle.std.specs.Prelude.{◌≡◌, ◌<◌, ◌==◌, ◌&&◌, nat_le, nat_lt, All, IfOk, map};
+ghost use Rattle.std.specs.Prelude.{◌≡◌, ℕ, ◌<◌, ◌==◌, ◌&&◌, ◌||◌, nat_le, nat_lt, false, All, IfOk, length, map, slice_index_or};
 ghost use Rattle.std.specs.List.{list_any};
 ghost use Rattle.mm_cut.specs.Stretches.{IsStretch};
+ghost use Rattle.mm_cut.specs.declared.marks.TheConstants.{STEP_PLACES};
 ghost use Rattle.mm_chart.specs.Shading.{shade_of};
 
 use mm_base::NoMemory;
-use mm_cut::store_of;
+use mm_cut::{STEP_PLACES, store_of};
 use mm_plan::Stretch;
 use mm_problem::Problem;
 use std::alloc::Global;
@@ -46,6 +47,63 @@ pub(crate) fn shades_of(
         shades.push(shade_of(problem, stretch))?;
     }
     Ok(shades)
+}
+
+// Marks the steps from one up to another.
+fn mark(marks: &mut [bool], first: u32, end: u32)
+    ensures { (t : ℕ) → t < length marks.old → slice_index_or marks.new t false
+        ≡ (slice_index_or marks.old t false || (nat_le first t && nat_lt t end)) }
+{
+    let end = marks.len().min(end as usize);
+    let first = end.min(first as usize);
+    for step in first..end {
+        marks[step] = true;
+    }
+}
+
+// Marks the inner steps of the stretches of a store.
+pub(crate) fn inner_steps_of(shades: &[Shade], store: usize) -> [bool; STEP_PLACES]
+    ensures places { length result ≡ STEP_PLACES }
+    ensures marks { (t : ℕ) → t < STEP_PLACES → slice_index_or result t false
+        ≡ list_any (λ h. (h.store == store) && (nat_le h.first t && nat_lt t h.last)) shades.now }
+{
+    let mut marks = [false; STEP_PLACES];
+    for shade in shades {
+        if shade.store == store {
+            mark(&mut marks, shade.first, shade.last);
+        }
+    }
+    marks
+}
+
+// Marks the inner steps of the stretches of the stores of a channel.
+pub(crate) fn inner_steps_on(shades: &[Shade], channel: u8) -> [bool; STEP_PLACES]
+    ensures places { length result ≡ STEP_PLACES }
+    ensures marks { (t : ℕ) → t < STEP_PLACES → slice_index_or result t false
+        ≡ list_any (λ h. (nat_le h.first t && nat_lt t h.last) && (h.channel == channel)) shades.now }
+{
+    let mut marks = [false; STEP_PLACES];
+    for shade in shades {
+        if shade.channel == channel {
+            mark(&mut marks, shade.first, shade.last);
+        }
+    }
+    marks
+}
+
+// Marks the last steps of the stretches of a store.
+pub(crate) fn last_steps_of(shades: &[Shade], store: usize) -> [bool; STEP_PLACES]
+    ensures places { length result ≡ STEP_PLACES }
+    ensures marks { (t : ℕ) → t < STEP_PLACES → slice_index_or result t false
+        ≡ list_any (λ h. (h.store == store) && (h.last == t)) shades.now }
+{
+    let mut marks = [false; STEP_PLACES];
+    for shade in shades {
+        if shade.store == store && (shade.last as usize) < STEP_PLACES {
+            marks[shade.last as usize] = true;
+        }
+    }
+    marks
 }
 
 // Whether it is an inner step of a stretch of the store.

@@ -6,8 +6,8 @@ use Rattle.mm_chart.proofs.marked.marks_of.Given as goal
 
 abbrev pub invariant-loop-step : goal.invariant-loop-step
 invariant-loop-step l = record {
-  steps : l.steps ≡ sum_by (λ t. one_if (is_marked l.picture l.series t)) (range_with_len 1 (l.step - 1));
-  ranges : l.ranges ≡ sum_by (begins l.picture l.series) (range_with_len 1 (l.step - 1));
+  steps : l.steps ≡ sum_by (λ t. one_if (is_marked l.column.picture.now l.column.series t)) (range_with_len 1 (l.step - 1));
+  ranges : l.ranges ≡ sum_by (begins l.column.picture.now l.column.series) (range_with_len 1 (l.step - 1));
   most_steps : l.steps ≤ l.step - 1;
   most_ranges : l.ranges ≤ l.step - 1;
 }
