@@ -5,6 +5,7 @@ mod advice;
 mod answers;
 mod fault;
 mod files;
+mod gathered;
 pub mod laws;
 mod remark;
 mod run;

@@ -2,9 +2,12 @@
 
 use crate::advice::Advice;
 use crate::answers::Answer;
+use crate::gathered::Gathered;
 use crate::status::Status;
 use crate::texts::TaskTexts;
+use memchr::memmem;
 use mm_base::Refusal;
+use mm_base::lines::{cut_word, first_line};
 use mm_command_line::{Role, Task};
 use mm_cut::Verdict;
 use mm_run::Outcome;
@@ -15,6 +18,9 @@ use mm_told::{
 use std::alloc::Global;
 use std::fmt;
 use std::io::{self, Write};
+
+/// What stands in an answer before the number of a refusal.
+const REFUSED: &[u8] = b" refused ";
 
 /// What is said of a verdict that is not `Least`. It is shown in one line: the file of the plan with the place in it, and the words.
 #[derive(Clone, Copy)]
@@ -58,10 +64,11 @@ struct Refused<'a> {
 
 impl<'a> Refused<'a> {
     // What a line of an answer refuses, as `3 refused 49 HexLine` and `3.1 refused 24 Exists` do.
-    fn of(answer: &'a str) -> Option<Refused<'a>> {
-        let (place, refusal) = answer.split_once(" refused ")?;
-        let (number, _) = refusal.split_once(' ')?;
-        let refusal = refusal_numbered(number.parse().ok()?)?;
+    fn of(answer: &'a [u8]) -> Option<Refused<'a>> {
+        let at = memmem::find(answer, REFUSED)?;
+        let (number, _) = cut_word(&answer[at + REFUSED.len()..])?;
+        let refusal = refusal_numbered(std::str::from_utf8(number).ok()?.parse().ok()?)?;
+        let place = std::str::from_utf8(&answer[..at]).ok()?;
         Some(match place.split_once('.') {
             Some((line, instruction)) => Refused {
                 line,
@@ -92,6 +99,30 @@ impl fmt::Display for Refused<'_> {
     }
 }
 
+// What is said of a line that is refused: the file of the packets, what the numbers count there, and the place with the words.
+#[derive(Clone, Copy)]
+struct RefusedIn<'a> {
+    file: &'a str,
+    counted: &'static str,
+    refused: Refused<'a>,
+}
+
+impl fmt::Display for RefusedIn<'_> {
+    fn fmt<W: fmt::Write>(&self, f: &mut fmt::Formatter<W>) -> fmt::Result {
+        write!(f, "{}, {} {}", self.file, self.counted, self.refused)
+    }
+}
+
+// What is said of a hint.
+#[derive(Clone, Copy)]
+struct Hinted(Hint);
+
+impl fmt::Display for Hinted {
+    fn fmt<W: fmt::Write>(&self, f: &mut fmt::Formatter<W>) -> fmt::Result {
+        write!(f, "hint: {}", self.0)
+    }
+}
+
 // The file of packets of a task, and what the numbers that the task prints count there: a report in the file has the number that `ask`
 // gave it.
 fn packets_of(task: Task<'_>) -> Option<(&str, &'static str)> {
@@ -105,7 +136,7 @@ fn packets_of(task: Task<'_>) -> Option<(&str, &'static str)> {
 /// Says what is found, if anything is.
 pub(crate) fn tell_hint<E: Write>(hint: Option<&Hint>, err: &mut E) -> io::Result<()> {
     match hint {
-        Some(hint) => writeln!(err, "hint: {hint}"),
+        Some(hint) => writeln!(err, "{}", Hinted(*hint)),
         None => Ok(()),
     }
 }
@@ -186,16 +217,26 @@ fn tell_refused<E: Write>(
     lines: &[u8],
     err: &mut E,
 ) -> io::Result<()> {
-    let (Some((file, counted)), Ok(lines)) = (packets_of(task), std::str::from_utf8(lines)) else {
+    let (Some((file, counted)), Ok(_)) = (packets_of(task), std::str::from_utf8(lines)) else {
         return Ok(());
     };
-    for line in lines.lines() {
+    let mut gathered = Gathered::new();
+    let mut rest = lines;
+    while let Some((line, after)) = first_line(rest) {
         if let Some(refused) = Refused::of(line) {
-            writeln!(err, "{file}, {counted} {refused}")?;
-            tell_hint(refused.hint(requests).as_ref(), err)?;
+            let told = RefusedIn {
+                file,
+                counted,
+                refused,
+            };
+            gathered.add(&told, err)?;
+            if let Some(hint) = refused.hint(requests) {
+                gathered.add(&Hinted(hint), err)?;
+            }
         }
+        rest = after;
     }
-    Ok(())
+    gathered.give(err)
 }
 
 /// Says more of an answer: what it means where something is refused, a verdict is not `Least`, or a run did not begin or was halted; and of a
