@@ -19,3 +19,4 @@ mod Ready
 mod Idle
 mod Ending
 mod Leaves
+mod Nothing

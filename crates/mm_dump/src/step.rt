@@ -94,11 +94,17 @@ fn join_passes(queue: &OrderQueue, pass: &mut OrderPass, workers: Vec<DumpWorker
     }
 }
 
-/// Carries out a step's dump orders, of which no two name one store: each link gets a worker, which takes orders from one queue
-/// until none is left, and sends the packets of each before it deletes them. A worker whose order breaks takes no further one, and
-/// the others go on. A store is locked during a call on it and not during a send. The stores and the links are lent: each store is
-/// in its place again afterwards. Where there is no memory for the queue, the workers and the shared stores, nothing is begun.
-pub fn dump<L: Link + Send, R: Threads + Wait + Sync>(
+// Reads each store, which shows that it is sound.
+fn read_states(stores: &[Held])
+    ensures { All (λ h. IsState h.state) stores.now }
+{
+    for held in stores {
+        held.state.store();
+    }
+}
+
+// Carries out a step's dump orders by workers, as `dump` says.
+fn dump_orders<L: Link + Send, R: Threads + Wait + Sync>(
     rt: &R,
     alloc: Global,
     orders: &[Order],
@@ -107,19 +113,14 @@ pub fn dump<L: Link + Send, R: Threads + Wait + Sync>(
 ) -> Result<Dumped, NoMemory>
     requires may { MayDump L.failed orders.now stores.old.items links.old }
     ensures labels { labels_of stores.new.items ≡ labels_of stores.old.items }
-    // What was dumped, where no order broke.
     ensures dumped { IfOk result (λ d. IfNone d.broken (AllDumped L.sent L.failed (map (λ h. h.id) stores.old.items) orders.now
         (states_of stores.old.items) (states_of stores.new.items) links.old links.new)) }
-    // What became of each order in any case.
     ensures settled { IfOk result (λ d. AllSettled L.sent L.failed (map (λ h. h.id) stores.old.items) orders.now d.broken
         (states_of stores.old.items) (states_of stores.new.items) links.old links.new) }
-    // Each store is sound, and each link has sent what it had sent before.
     ensures sound { IfOk result (λ d. All (λ h. IsState h.state) stores.new.items) }
     ensures kept { IfOk result (λ d. AllKept L.sent L.failed links.old links.new) }
-    // The window: what was spent is what was sent and what failed, and no more than the orders want.
     ensures spent { IfOk result (λ d. used_by L.sent L.failed links.new ≡ used_by L.sent L.failed links.old + d.spent) }
     ensures within { IfOk result (λ d. d.spent ≤ amount_of orders.now) }
-    // Where there was no memory.
     ensures stores_same { OnErr result (stores.new.items ≡ stores.old.items) }
     ensures links_same { OnErr result (links.new ≡ links.old) }
 {
@@ -149,4 +150,44 @@ pub fn dump<L: Link + Send, R: Threads + Wait + Sync>(
     join_passes(&queue, &mut pass, workers);
     learn_taken(&queue, &mut pass);
     Ok(Dumped { broken, spent })
+}
+
+/// Carries out a step's dump orders, of which no two name one store: each link gets a worker, which takes orders from one queue
+/// until none is left, and sends the packets of each before it deletes them. A worker whose order breaks takes no further one, and
+/// the others go on. A store is locked during a call on it and not during a send. The stores and the links are lent: each store is
+/// in its place again afterwards. Where there is no memory for the queue, the workers and the shared stores, nothing is begun. Without
+/// orders no worker is needed, and no memory is taken.
+pub fn dump<L: Link + Send, R: Threads + Wait + Sync>(
+    rt: &R,
+    alloc: Global,
+    orders: &[Order],
+    stores: &mut Vec<Held>,
+    links: &mut [L],
+) -> Result<Dumped, NoMemory>
+    requires may { MayDump L.failed orders.now stores.old.items links.old }
+    ensures labels { labels_of stores.new.items ≡ labels_of stores.old.items }
+    // What was dumped, where no order broke.
+    ensures dumped { IfOk result (λ d. IfNone d.broken (AllDumped L.sent L.failed (map (λ h. h.id) stores.old.items) orders.now
+        (states_of stores.old.items) (states_of stores.new.items) links.old links.new)) }
+    // What became of each order in any case.
+    ensures settled { IfOk result (λ d. AllSettled L.sent L.failed (map (λ h. h.id) stores.old.items) orders.now d.broken
+        (states_of stores.old.items) (states_of stores.new.items) links.old links.new) }
+    // Each store is sound, and each link has sent what it had sent before.
+    ensures sound { IfOk result (λ d. All (λ h. IsState h.state) stores.new.items) }
+    ensures kept { IfOk result (λ d. AllKept L.sent L.failed links.old links.new) }
+    // The window: what was spent is what was sent and what failed, and no more than the orders want.
+    ensures spent { IfOk result (λ d. used_by L.sent L.failed links.new ≡ used_by L.sent L.failed links.old + d.spent) }
+    ensures within { IfOk result (λ d. d.spent ≤ amount_of orders.now) }
+    // Where there was no memory.
+    ensures stores_same { OnErr result (stores.new.items ≡ stores.old.items) }
+    ensures links_same { OnErr result (links.new ≡ links.old) }
+{
+    if orders.is_empty() {
+        read_states(stores);
+        return Ok(Dumped {
+            broken: None,
+            spent: 0,
+        });
+    }
+    dump_orders(rt, alloc, orders, stores, links)
 }
