@@ -1,3 +1,4 @@
 pub mod ReadBack
 pub mod Rooms
 pub mod Tables
+pub mod Numbered

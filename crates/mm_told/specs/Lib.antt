@@ -7,3 +7,4 @@ pub mod Telling
 pub mod Verdicts
 pub mod Wording
 pub mod Rooms
+pub mod Lines

@@ -23,7 +23,7 @@ use forecast::forecast_hint;
 use mm_base::Refusal;
 use mm_problem::Name;
 pub use notes::{Note, notes_on};
-pub use packets::request_hint;
+pub use packets::{RequestHints, request_hint};
 use plan::{plan_hint, shape_hint};
 pub use sentence::Sentence;
 use setup::setup_hint;

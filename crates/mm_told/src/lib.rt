@@ -16,7 +16,8 @@ mod words;
 pub use answer::{Answer, Status, tell_text};
 pub use codes::{NAMES, PLACES, Place, REFUSALS, refusal_numbered};
 pub use hints::{
-    EndsHint, Hint, Note, Texts, fit_hint, hint_for, notes_on, opening_hint, request_hint,
+    EndsHint, Hint, Note, RequestHints, Texts, fit_hint, hint_for, notes_on, opening_hint,
+    request_hint,
 };
 pub use reason::Reason;
 pub use refused_at::RefusedAt;

@@ -21,8 +21,8 @@ pub(crate) fn swapped() -> Sentence {
     )
 }
 
-/// What is found in the form of a file whose lines end with LF alone, and in this line of it.
-pub(crate) fn form_hint(text: &[u8], line: u64) -> Option<Sentence> {
+/// What is found in the form of a whole file whose lines end with LF alone.
+pub(crate) fn file_hint(text: &[u8]) -> Option<Sentence> {
     if let Some(hint) = utf16_hint(text) {
         return Some(hint);
     }
@@ -30,11 +30,24 @@ pub(crate) fn form_hint(text: &[u8], line: u64) -> Option<Sentence> {
         let words = "the file begins with a byte order mark; save it in UTF-8 without one";
         return Some(Sentence::new(words, &[]));
     }
-    if line_at(text, line)?.ends_with(b"\r") {
+    None
+}
+
+/// What is found at the end of a line, of this number, of such a file.
+pub(crate) fn end_hint(line: &[u8], number: u64) -> Option<Sentence> {
+    if line.ends_with(b"\r") {
         let words = "line {} ends with CR LF; save the file with LF alone";
-        return Some(Sentence::new(words, &[Shown::Count(line)]));
+        return Some(Sentence::new(words, &[Shown::Count(number)]));
     }
     None
+}
+
+/// What is found in the form of a file whose lines end with LF alone, and in this line of it.
+pub(crate) fn form_hint(text: &[u8], line: u64) -> Option<Sentence> {
+    if let Some(hint) = file_hint(text) {
+        return Some(hint);
+    }
+    end_hint(line_at(text, line)?, line)
 }
 
 /// The line as it is.

@@ -1,5 +1,77 @@
 //! Lines of the files that a hint speaks of, as an editor counts them.
+ghost use Rattle.std.specs.Prelude.{◌≡◌, ◌≤◌, drop};
+ghost use Rattle.std.specs.Option.{option_map};
+ghost use Rattle.mm_base.specs.Lines.{file_lines};
+ghost use Rattle.mm_told.specs.Lines.{numbered};
+
 use mm_base::lines::first_line;
+
+// What follows so many lines of a text.
+#[tactic(auto, using(crate::proofs::Numbered::after_one, crate::proofs::Numbered::after_all))]
+fn after_lines(text: &[u8], count: u64) -> &[u8]
+    ensures { file_lines result.now ≡ drop count (file_lines text.now) }
+{
+    let mut rest = text;
+    for _passed in 0..count {
+        match first_line(rest) {
+            Some((_, after)) => rest = after,
+            None => return rest,
+        }
+    }
+    rest
+}
+
+/// The lines of a text by their numbers. A line after the last one that was looked for is found from there on.
+#[derive(Clone, Copy)]
+pub(crate) struct LineFinder<'a> {
+    text: &'a [u8],
+    // What follows so many lines of the text.
+    rest: &'a [u8],
+    passed: u64,
+    ghost place: { file_lines rest.now ≡ drop passed (file_lines text.now) },
+}
+
+impl<'a> LineFinder<'a> {
+    pub(crate) fn new(text: &'a [u8]) -> LineFinder<'a>
+        ensures text { result.text.now ≡ text.now }
+        ensures front { result.passed ≡ 0 }
+    {
+        LineFinder {
+            text,
+            rest: text,
+            passed: 0,
+        }
+    }
+
+    // The same lines, with no more than so many of them passed.
+    fn before(&self, count: u64) -> LineFinder<'a>
+        ensures text { result.text.now ≡ self.now.text.now }
+        ensures most { result.passed ≤ count }
+    {
+        if count < self.passed {
+            LineFinder::new(self.text)
+        } else {
+            *self
+        }
+    }
+
+    /// The line of this number, from 1, without its line feed.
+    #[tactic(auto, using(crate::proofs::Numbered::after_more))]
+    pub(crate) fn find(&mut self, number: u64) -> Option<&'a [u8]>
+        ensures line { option_map (λ line. line.now) result ≡ numbered number (file_lines self.old.text.now) }
+        ensures text { self.new.text.now ≡ self.old.text.now }
+    {
+        let count = number.checked_sub(1)?;
+        let from = self.before(count);
+        *self = LineFinder {
+            text: from.text,
+            rest: after_lines(from.rest, count - from.passed),
+            passed: count,
+        };
+        let (line, _) = first_line(self.rest)?;
+        Some(line)
+    }
+}
 
 /// The line of this number, from 1, without its line feed.
 pub(crate) fn line_at(text: &[u8], number: u64) -> Option<&[u8]> {

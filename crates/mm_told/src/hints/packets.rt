@@ -2,8 +2,8 @@
 
 use crate::hints::Hint;
 use crate::hints::excerpt::Excerpt;
-use crate::hints::form::form_hint;
-use crate::hints::lines::line_at;
+use crate::hints::form::{end_hint, file_hint};
+use crate::hints::lines::LineFinder;
 use crate::hints::sentence::{Sentence, Shown};
 use mm_base::Refusal;
 
@@ -75,14 +75,46 @@ pub(crate) fn packet_hint(digits: &[u8], line: u64) -> Option<Sentence> {
     octets_hint(digits, line)
 }
 
+// Whether a hint on the digits of a request can say more of its refusal.
+fn is_of_digits(refusal: Refusal) -> bool {
+    matches!(refusal, Refusal::HexLine | Refusal::Short)
+}
+
+/// The hints on the lines of a file of requests. Where the lines come in their order, all of them take one walk over the file.
+#[derive(Clone, Copy)]
+pub struct RequestHints<'a> {
+    text: &'a [u8],
+    lines: LineFinder<'a>,
+}
+
+impl<'a> RequestHints<'a> {
+    /// The hints on the lines of these requests.
+    #[must_use]
+    pub fn new(requests: &'a [u8]) -> RequestHints<'a> {
+        RequestHints {
+            text: requests,
+            lines: LineFinder::new(requests),
+        }
+    }
+
+    /// What is found in this line, which is refused so. It is the same whatever lines came before.
+    pub fn hint(&mut self, refusal: Refusal, line: u64) -> Option<Hint> {
+        if !is_of_digits(refusal) {
+            return None;
+        }
+        if let Some(hint) = file_hint(self.text) {
+            return Some(Hint::Said(hint));
+        }
+        let digits = self.lines.find(line)?;
+        match end_hint(digits, line) {
+            Some(hint) => Some(Hint::Said(hint)),
+            None => Some(Hint::Said(packet_hint(digits, line)?)),
+        }
+    }
+}
+
 /// What is found in this line of a file of requests, which is refused so.
 #[must_use]
 pub fn request_hint(refusal: Refusal, requests: &[u8], line: u64) -> Option<Hint> {
-    if !matches!(refusal, Refusal::HexLine | Refusal::Short) {
-        return None;
-    }
-    match form_hint(requests, line) {
-        Some(hint) => Some(Hint::Said(hint)),
-        None => Some(Hint::Said(packet_hint(line_at(requests, line)?, line)?)),
-    }
+    RequestHints::new(requests).hint(refusal, line)
 }
