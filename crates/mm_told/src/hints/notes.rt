@@ -1,9 +1,11 @@
 //! Notes on the files of a task that is done: what in them has no effect.
+ghost use Rattle.std.specs.Prelude.{◌<◌};
+ghost use Rattle.mm_told.specs.declared.hints.notes.TheConstants.{REMEMBERED};
 
 use crate::hints::Texts;
 use crate::hints::ends::{ReportType, digits_of, is_reached};
 use crate::hints::excerpt::Excerpt;
-use mm_base::lines::first_line;
+use mm_base::lines::{cut_word, first_line};
 use mm_base::{NoMemory, StoreId};
 use mm_problem::Setup;
 use std::alloc::Global;
@@ -71,11 +73,60 @@ fn push_stores(notes: &mut Vec<Note>, setup: &Setup) -> Result<(), NoMemory> {
     Ok(())
 }
 
+/// How many report types are remembered at most.
+const REMEMBERED: usize = 64;
+
+// The digits of a packet that spell its report type; 0 where there are too few of them.
+fn spelled(digits: &[u8]) -> u64 {
+    match digits {
+        [a, b, c, d, _, _, _, _, _, _, _, _, _, _, e, f, g, h, ..] => {
+            u64::from_le_bytes([*a, *b, *c, *d, *e, *f, *g, *h])
+        }
+        _ => 0,
+    }
+}
+
+// Report types that a route takes, as digits spell them. Each has one place, which the next one for it takes over.
+#[derive(Drop)]
+struct Taken {
+    spelled: [u64; REMEMBERED],
+}
+
+// The place of a report type, by multiplicative hashing (Knuth, 1973).
+fn place_of(spelled: u64) -> usize
+    ensures { result < REMEMBERED }
+{
+    (spelled.wrapping_mul(0x9e37_79b9_7f4a_7c15) >> 58) as usize
+}
+
+impl Taken {
+    fn new() -> Taken {
+        Taken {
+            spelled: [0; REMEMBERED],
+        }
+    }
+
+    fn has(&self, spelled: u64) -> bool {
+        spelled != 0 && self.spelled[place_of(spelled)] == spelled
+    }
+
+    fn remember(&mut self, spelled: u64) {
+        self.spelled[place_of(spelled)] = spelled;
+    }
+}
+
 // Whether no route takes the telemetry of a line of sources.
-fn untaken(setup: &Setup, line: &[u8]) -> Option<ReportType> {
+fn untaken(setup: &Setup, taken: &mut Taken, line: &[u8]) -> Option<ReportType> {
+    let (_, rest) = cut_word(line)?;
+    let (_, digits) = cut_word(rest)?;
+    let spelled = spelled(digits);
+    if taken.has(spelled) {
+        return None;
+    }
     let report = ReportType::of(digits_of(line)?)?;
     for route in setup.routes() {
         if report.is_taken(route) {
+            taken.remember(spelled);
             return None;
         }
     }
@@ -84,10 +135,11 @@ fn untaken(setup: &Setup, line: &[u8]) -> Option<ReportType> {
 
 // The first line of the sources that no route takes.
 fn first_untaken(setup: &Setup, sources: &[u8]) -> Option<Note> {
+    let mut taken = Taken::new();
     let mut rest = sources;
     let mut number: u64 = 1;
     while let Some((line, after)) = first_line(rest) {
-        if let Some(report) = untaken(setup, line) {
+        if let Some(report) = untaken(setup, &mut taken, line) {
             return Some(Note::Untaken {
                 line: number,
                 report,
