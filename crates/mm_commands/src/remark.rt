@@ -12,8 +12,8 @@ use mm_command_line::{Role, Task};
 use mm_cut::Verdict;
 use mm_run::Outcome;
 use mm_told::{
-    Hint, Reason, Spot, Texts, Words, fit_hint, hint_for, notes_on, opening_hint, refusal_numbered,
-    request_hint,
+    Hint, Reason, RequestHints, Spot, Texts, Words, fit_hint, hint_for, notes_on, opening_hint,
+    refusal_numbered,
 };
 use std::alloc::Global;
 use std::fmt;
@@ -84,8 +84,8 @@ impl<'a> Refused<'a> {
     }
 
     // What is found in the line of the requests.
-    fn hint(&self, requests: &[u8]) -> Option<Hint> {
-        request_hint(self.refusal, requests, self.line.parse().ok()?)
+    fn hint(&self, requests: &mut RequestHints<'_>) -> Option<Hint> {
+        requests.hint(self.refusal, self.line.parse().ok()?)
     }
 }
 
@@ -220,6 +220,7 @@ fn tell_refused<E: Write>(
     let (Some((file, counted)), Ok(_)) = (packets_of(task), std::str::from_utf8(lines)) else {
         return Ok(());
     };
+    let mut hints = RequestHints::new(requests);
     let mut gathered = Gathered::new();
     let mut rest = lines;
     while let Some((line, after)) = first_line(rest) {
@@ -230,7 +231,7 @@ fn tell_refused<E: Write>(
                 refused,
             };
             gathered.add(&told, err)?;
-            if let Some(hint) = refused.hint(requests) {
+            if let Some(hint) = refused.hint(&mut hints) {
                 gathered.add(&Hinted(hint), err)?;
             }
         }

@@ -11,6 +11,7 @@ mod hinting;
 mod inputs;
 mod planning;
 mod reading;
+mod refusing;
 mod samples;
 mod storing;
 mod tabling;
