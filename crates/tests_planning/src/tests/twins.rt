@@ -40,6 +40,7 @@ macro_rules! counted {
 }
 
 mod paths;
+mod proposals;
 mod sides;
 
 // What a planned dump loses: its plan fits, and its cut shows that no plan loses less.

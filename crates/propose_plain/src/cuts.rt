@@ -1,0 +1,75 @@
+//! The cut that a search says: runs of a store that the lost blocks could reach.
+ghost use Rattle.std.specs.Prelude.{◌<◌, length};
+
+use crate::node::Node;
+use crate::sets::NodeSet;
+use crate::spans::Span;
+use mm_plan::{NoMemory, Stretch};
+use mm_problem::Problem;
+use std::alloc::Global;
+
+// Whether a run of the store goes on after the span: its blocks could be held there, and then be kept.
+fn goes_on(nodes: NodeSet, store: usize) -> bool {
+    nodes.has(Node::In(store)) && nodes.has(Node::Out(store))
+}
+
+// Whether a run of the store ends in the span: it is full there.
+fn is_end(nodes: NodeSet, store: usize) -> bool {
+    nodes.has(Node::In(store)) && !nodes.has(Node::Out(store))
+}
+
+// Adds the runs of one store, with all steps of their spans.
+fn add_runs(
+    cut: &mut Vec<Stretch>,
+    problem: &Problem,
+    spans: &[Span],
+    store: usize,
+) -> Result<(), NoMemory>
+    requires { store < length problem.now.rows }
+{
+    let id = problem.id(store);
+    let mut first = 1;
+    for span in spans.iter() {
+        let nodes = span.found.nodes();
+        if is_end(nodes, store) {
+            cut.push(Stretch {
+                store: id,
+                first,
+                last: span.last,
+            })?;
+        }
+        if !goes_on(nodes, store) {
+            first = span.last.saturating_add(1);
+        }
+    }
+    Ok(())
+}
+
+/// The stretches of the cut.
+pub(crate) fn stretches_of(
+    alloc: Global,
+    problem: &Problem,
+    spans: &[Span],
+) -> Result<Vec<Stretch>, NoMemory> {
+    let mut cut = Vec::new(alloc);
+    for store in 0..problem.stores() {
+        add_runs(&mut cut, problem, spans, store)?;
+    }
+    Ok(cut)
+}
+
+// Whether the span's last step is counted by channels: a store goes on, and the pass is not reached.
+fn is_by_channels(nodes: NodeSet) -> bool {
+    !nodes.has(Node::Pass) && !nodes.stores_in().both(nodes.stores_out()).is_empty()
+}
+
+/// The steps of the cut that are counted by channels.
+pub(crate) fn counts_of(alloc: Global, spans: &[Span]) -> Result<Vec<u32>, NoMemory> {
+    let mut counts = Vec::new(alloc);
+    for span in spans.iter() {
+        if is_by_channels(span.found.nodes()) {
+            counts.push(span.last)?;
+        }
+    }
+    Ok(counts)
+}

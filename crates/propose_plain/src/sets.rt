@@ -1,0 +1,142 @@
+//! Sets of stores and of nodes, each in one word.
+ghost use Rattle.std.specs.Prelude.{◌<◌, IfSome};
+
+use crate::node::Node;
+
+/// Some of the 16 stores.
+#[derive(Clone, Copy)]
+pub(crate) struct StoreSet(u16);
+
+impl StoreSet {
+    pub(crate) const NONE: StoreSet = StoreSet(0);
+
+    pub(crate) fn with(self, store: usize) -> StoreSet {
+        StoreSet(self.0 | 1 << (store & 15))
+    }
+
+    pub(crate) fn without(self, store: usize) -> StoreSet {
+        StoreSet(self.0 & !(1 << (store & 15)))
+    }
+
+    // The set with the store where it is so, and otherwise without it.
+    pub(crate) fn with_if(self, is_so: bool, store: usize) -> StoreSet {
+        StoreSet(self.without(store).0 | u16::from(is_so) << (store & 15))
+    }
+
+    pub(crate) fn has(self, store: usize) -> bool {
+        self.0 >> (store & 15) & 1 == 1
+    }
+
+    // The stores of one set or the other.
+    pub(crate) fn either(self, other: StoreSet) -> StoreSet {
+        StoreSet(self.0 | other.0)
+    }
+
+    // The stores of both sets.
+    pub(crate) fn both(self, other: StoreSet) -> StoreSet {
+        StoreSet(self.0 & other.0)
+    }
+
+    pub(crate) fn is_empty(self) -> bool {
+        self.0 == 0
+    }
+
+    // The first store, where there is one.
+    pub(crate) fn first(self) -> Option<usize> {
+        if self.0 == 0 {
+            None
+        } else {
+            Some(self.0.trailing_zeros() as usize)
+        }
+    }
+
+    // The set without its first store.
+    pub(crate) fn rest(self) -> StoreSet {
+        StoreSet(self.0 & self.0.wrapping_sub(1))
+    }
+}
+
+/// Some of the nodes of a span: two of each store, one of each channel, and the pass.
+#[derive(Clone, Copy)]
+pub(crate) struct NodeSet(u64);
+
+impl NodeSet {
+    pub(crate) const NONE: NodeSet = NodeSet(0);
+
+    // The nodes at which blocks come into the stores.
+    pub(crate) fn ins(stores: StoreSet) -> NodeSet {
+        NodeSet(u64::from(stores.0))
+    }
+
+    // The nodes of what the stores hold.
+    pub(crate) fn outs(stores: StoreSet) -> NodeSet {
+        NodeSet(u64::from(stores.0) << 16)
+    }
+
+    pub(crate) fn with(self, node: Node) -> NodeSet {
+        NodeSet(self.0 | 1 << node.place())
+    }
+
+    pub(crate) fn has(self, node: Node) -> bool {
+        self.0 >> node.place() & 1 == 1
+    }
+
+    // The nodes of one set or the other.
+    pub(crate) fn either(self, other: NodeSet) -> NodeSet {
+        NodeSet(self.0 | other.0)
+    }
+
+    // The nodes of both sets.
+    pub(crate) fn both(self, other: NodeSet) -> NodeSet {
+        NodeSet(self.0 & other.0)
+    }
+
+    pub(crate) fn without(self, other: NodeSet) -> NodeSet {
+        NodeSet(self.0 & !other.0)
+    }
+
+    pub(crate) fn is_empty(self) -> bool {
+        self.0 == 0
+    }
+
+    // The stores whose in-node is one of them.
+    pub(crate) fn stores_in(self) -> StoreSet {
+        StoreSet((self.0 & 0xffff) as u16)
+    }
+
+    // The stores whose out-node is one of them.
+    pub(crate) fn stores_out(self) -> StoreSet {
+        StoreSet((self.0 >> 16 & 0xffff) as u16)
+    }
+
+    // Those of them that are a channel's.
+    pub(crate) fn channels(self) -> NodeSet {
+        NodeSet(self.0 & 0xff << 32)
+    }
+
+    // The first channel whose node is one of them, where there is one.
+    pub(crate) fn first_channel(self) -> Option<usize> {
+        let channels = self.channels().0 >> 32;
+        if channels == 0 {
+            None
+        } else {
+            Some(channels.trailing_zeros() as usize)
+        }
+    }
+
+    // The place of the first node, where there is one.
+    pub(crate) fn first_place(self) -> Option<usize>
+        ensures { IfSome result (λ place. place < 64) }
+    {
+        if self.0 == 0 {
+            None
+        } else {
+            Some((self.0.trailing_zeros() & 63) as usize)
+        }
+    }
+
+    // The set without its first node.
+    pub(crate) fn rest(self) -> NodeSet {
+        NodeSet(self.0 & self.0.wrapping_sub(1))
+    }
+}
