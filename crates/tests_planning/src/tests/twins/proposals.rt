@@ -324,7 +324,7 @@ fn proposals_are_those_of_the_plain_form(rt: HostRuntime) {
 
 static STORES: [u32; 4] = [1, 8, 9, 16];
 
-// Each but the last two is beside a number of spans that fills a word.
+// Each but the first two is beside a number of spans that fills a word.
 static STEPS: [u32; 12] = [1, 2, 63, 64, 65, 127, 128, 129, 192, 193, 255, 256];
 
 #[test]
