@@ -1,5 +1,5 @@
 -- Numbers in texts: decimal, without sign and without leading zeros.
-use Rattle.std.specs.Prelude.{ℕ, ◌+◌, ◌-◌, ◌*◌, ◌≤◌, Bool, false, ◌==◌, nat_le, not, ◌&&◌, if◌then◌else◌, List, [], ◌∷◌}
+use Rattle.std.specs.Prelude.{ℕ, ◌+◌, ◌-◌, ◌*◌, ◌≤◌, Bool, false, ◌==◌, nat_le, not, ◌&&◌, if◌then◌else◌, List, [], ◌∷◌, Option, Some, None}
 use Rattle.std.specs.Char.{is_ascii_digit}
 use Rattle.std.specs.List.{list_all}
 use Rattle.mm_base.specs.declared.numbers.Numeral.{Numeral}
@@ -16,9 +16,17 @@ abbrev pub value_after : ℕ → List ℕ → ℕ
 value_after n [] = n
 value_after n (c ∷ cs) = value_after (n * 10 + (c - 48)) cs
 
+-- the number with these digits after its own, where each is a digit
+abbrev pub digits_number : ℕ → List ℕ → Option ℕ
+digits_number n digits = if list_all is_ascii_digit digits then Some (value_after n digits) else None
+
 -- a number up to a bound
 abbrev pub numeral_within : ℕ → ℕ → Numeral
 numeral_within most n = if nat_le n most then Number n else TooLarge
+
+-- what digits are as a number up to a bound
+abbrev pub digits_numeral : ℕ → List ℕ → Numeral
+digits_numeral most digits = if list_all is_ascii_digit digits then numeral_within most (value_after 0 digits) else NotNumber
 
 -- what a text is as a number up to a bound
 abbrev pub numeral_of : ℕ → List ℕ → Numeral

@@ -1,8 +1,8 @@
 //! Numbers in texts: decimal, without sign and without leading zeros.
-ghost use Rattle.std.specs.Prelude.{◌≡◌, ◌+◌, ◌-◌, ◌*◌, ◌++◌, nat_le, decimal, Some, None, OnOk, if◌then◌else◌};
+ghost use Rattle.std.specs.Prelude.{◌≡◌, ◌+◌, ◌-◌, ◌*◌, ◌++◌, nat_le, decimal, ◌≤◌, ◌&&◌, not, length, Some, None, OnOk, if◌then◌else◌};
 ghost use Rattle.std.specs.Char.{is_ascii_digit};
 ghost use Rattle.std.specs.List.{list_all};
-ghost use Rattle.mm_base.specs.Numbers.{is_number, value_after, numeral_within, numeral_of, IsWithin};
+ghost use Rattle.mm_base.specs.Numbers.{is_number, value_after, digits_number, digits_numeral, numeral_within, numeral_of, IsWithin};
 
 use itoa::Buffer;
 use std::alloc::AllocError;
@@ -23,11 +23,55 @@ impl Numeral {
         ensures numeral { result ≡ numeral_of most text.now }
         ensures within { IsWithin most result }
     {
-        if is_number(text) {
-            value_of(text, most)
-        } else {
+        if begins_as_no_number(text) {
             Numeral::NotNumber
+        } else if text.len() <= SHORT {
+            short_numeral(text, most)
+        } else {
+            long_numeral(text, most)
         }
+    }
+}
+
+// The digits of any number that is below 2^64 whatever its digits are.
+const SHORT: usize = 19;
+
+// Whether the text is empty, or a 0 stands before something else.
+fn begins_as_no_number(text: &[u8]) -> bool
+    ensures { is_number text.now ≡ (not result && list_all is_ascii_digit text.now) }
+{
+    match text {
+        [] => true,
+        [_] => false,
+        [first, _, ..] => *first == b'0',
+    }
+}
+
+// The number with these digits, where each is a digit.
+#[tactic(auto, using(crate::proofs::NumberLaws::digits_more, crate::proofs::NumberLaws::digits_all, crate::proofs::NumberLaws::no_digit, crate::proofs::NumberLaws::has_room, crate::proofs::NumberLaws::more_digits))]
+fn short_value(digits: &[u8]) -> Option<u64>
+    requires { length digits.now ≤ SHORT }
+    ensures { result ≡ digits_number 0 digits.now }
+{
+    let mut number = 0;
+    for digit in digits {
+        if !digit.is_ascii_digit() {
+            return None;
+        }
+        number = number * 10 + u64::from(*digit - b'0');
+    }
+    Some(number)
+}
+
+fn short_numeral(text: &[u8], most: u64) -> Numeral
+    requires { length text.now ≤ SHORT }
+    ensures numeral { result ≡ digits_numeral most text.now }
+    ensures within { IsWithin most result }
+{
+    match short_value(text) {
+        Some(number) if number <= most => Numeral::Number(number),
+        Some(_) => Numeral::TooLarge,
+        None => Numeral::NotNumber,
     }
 }
 
@@ -37,13 +81,14 @@ fn are_digits(text: &[u8]) -> bool
     text.iter().all(|octet| octet.is_ascii_digit())
 }
 
-fn is_number(text: &[u8]) -> bool
-    ensures { result ≡ is_number text.now }
+fn long_numeral(text: &[u8], most: u64) -> Numeral
+    ensures numeral { result ≡ digits_numeral most text.now }
+    ensures within { IsWithin most result }
 {
-    match text {
-        [] => false,
-        [digit] => digit.is_ascii_digit(),
-        [first, _, ..] => *first != b'0' && are_digits(text),
+    if are_digits(text) {
+        value_of(text, most)
+    } else {
+        Numeral::NotNumber
     }
 }
 
