@@ -1,15 +1,14 @@
 -- Paths of a level graph.
-use Rattle.std.proofs.Common.{◌≡◌, ◌≢◌, ℕ, zero, suc, ◌+◌, ◌-◌, ◌<◌, ◌≤◌, List, length, slice_index, slice_set, replicate, ap, sym, ◌∙◌, arith, inl, inr, subst}
+use Rattle.std.proofs.Common.{◌≡◌, ◌≢◌, ℕ, zero, suc, ◌+◌, ◌<◌, ◌≤◌, List, length, slice_index, slice_set, replicate, ap, sym, arith, inl, inr, subst}
 use Rattle.std.proofs.lemmas.Bool.{cases_eq}
 use Rattle.std.proofs.lemmas.List.{get_or-set_same, get_or-set_other, length-set, length-replicate}
 use Rattle.std.specs.List.{sum_by}
 use Rattle.std.proofs.lemmas.List.Sums.{sum_by-set}
-use Rattle.mm_flow.specs.declared.links.Step.{Step}
 use Rattle.mm_flow.specs.declared.search.Mark.{Mark}
 use Rattle.mm_flow.specs.Graph.{Graph}
 use Rattle.mm_flow.specs.Flow.{Flow}
-use Rattle.mm_flow.specs.Residual.{entries, tail}
-use Rattle.mm_flow.specs.Links.{chained, IsLinkedBelow}
+use Rattle.mm_flow.specs.Residual.{tail}
+use Rattle.mm_flow.specs.Links.{degree}
 use Rattle.mm_flow.specs.Marks.{mark, level, HasMark, IsReached, IsMarking}
 use Rattle.mm_flow.specs.Levels.{IsPath, HasPath, IsLevelled, IsCursors}
 use Rattle.mm_flow.proofs.Marking.{slice_index-nothing}
@@ -64,20 +63,15 @@ path_taken g f marks marked source steps e to below reached by others path =
     let kept = path_kept g f marks marked source steps (tail g e) (λ m up. others m (λ same. absurd (omega (arith, ap (level marks) same)))) path in
     (reached, subst (λ (n : ℕ). IsPath g f marked source steps n) (sym (ap (tail g) by)) kept)
 
--- the entry at a node's cursor leaves the node
-pub cursor_own : (g : Graph) (next : List ℕ) (n : ℕ) → IsCursors g next → 0 < slice_index next n → (slice_index next n - 1 < entries g) × (tail g (slice_index next n - 1) ≡ n)
-cursor_own g next n cursors some = cursors.own n (slice_index next n - 1) (omega arith)
-
--- a cursor is put at an entry that leaves its node, or at none
-pub cursors_put : (g : Graph) (next : List ℕ) (at cursor : ℕ) → IsCursors g next → at < g.nodes → ((e : ℕ) → cursor ≡ e + 1 → (e < entries g) × (tail g e ≡ at)) → IsCursors g (slice_set next at cursor)
+-- a cursor is put at some of the entries of its node
+pub cursors_put : (g : Graph) (next : List ℕ) (at cursor : ℕ) → IsCursors g next → at < g.nodes → cursor ≤ degree g at → IsCursors g (slice_set next at cursor)
 cursors_put g next at cursor cursors within own = record {
   size = omega (arith, length-set next at cursor, cursors.size);
-  own = λ n e there. elim (cases_eq n at) [
+  own = λ n. elim (cases_eq n at) [
     | inl same ↦
         let set = get_or-set_same next at cursor 0 (omega (arith, cursors.size)) in
-        let here = own e (sym set ∙ sym (ap (slice_index (slice_set next at cursor)) same) ∙ there) in
-        (here.0, here.1 ∙ sym same)
-    | inr ne ↦ cursors.own n e (sym (get_or-set_other next at n cursor 0 ne) ∙ there)
+        omega (arith, set, own, ap (slice_index (slice_set next at cursor)) same, ap (degree g) same)
+    | inr ne ↦ omega (arith, get_or-set_other next at n cursor 0 ne, cursors.own n)
   ];
 }
 
@@ -89,19 +83,5 @@ cursors_sum g next at cursor cursors within = sum_by-set (λ (c : ℕ). c) next 
 pub cursors_none : (g : Graph) (next : List ℕ) (count : ℕ) → next ≡ replicate count 0 → count ≡ g.nodes → IsCursors g next
 cursors_none g next count same all = record {
   size = omega (arith, ap length same, length-replicate {A = ℕ} count 0, all);
-  own = λ n e at. absurd (omega (arith, at, ap (λ (xs : List ℕ). slice_index xs n) same, slice_index-nothing count n));
+  own = λ n. omega (arith, ap (λ (xs : List ℕ). slice_index xs n) same, slice_index-nothing count n);
 }
-
-module _ (g : Graph) (last : List ℕ) (steps : List Step) (linked : IsLinkedBelow g last steps (entries g)) where
-  -- the first cursors
-  pub cursors_first : (next : List ℕ) → next ≡ last → IsCursors g next
-  cursors_first next same = record {
-    size = omega (arith, ap length same, linked.last_size);
-    own = λ n e at. linked.last_own n e (sym (ap (λ (xs : List ℕ). slice_index xs n) same) ∙ at);
-  }
-
-  -- the cursor after an entry in a chain stands at an entry of the same node before it, or at none
-  pub cursor_before : (e cursor : ℕ) → e < entries g → cursor ≡ chained steps e → (d : ℕ) → cursor ≡ d + 1 → (d < entries g) × (tail g d ≡ tail g e)
-  cursor_before e cursor known is d at =
-      let own = linked.before_own e d known (sym is ∙ at) in
-      (omega (arith, own.0), own.1)

@@ -1,14 +1,11 @@
 -- A search goes on from node to node, and ends.
-use Rattle.std.proofs.Common.{◌≡◌, ℕ, ◌+◌, ◌-◌, ◌<◌, ◌≤◌, List, length, slice_index, ap, sym, ◌∙◌, refl, arith, inl, inr}
+use Rattle.std.proofs.Common.{◌≡◌, ℕ, ◌+◌, ◌<◌, ◌≤◌, List, length, slice_index, ap, sym, ◌∙◌, refl, arith, inl, inr}
 use Rattle.std.proofs.lemmas.Bool.{cases_eq, cases_lt}
 use Rattle.std.proofs.lemmas.List.{get_or_past}
-use Rattle.mm_flow.specs.declared.links.Step.{Step}
 use Rattle.mm_flow.specs.declared.search.Mark.{Mark}
 use Rattle.mm_flow.specs.declared.search.Search.{Search}
 use Rattle.mm_flow.specs.Graph.{Graph}
 use Rattle.mm_flow.specs.Flow.{Flow}
-use Rattle.mm_flow.specs.Residual.{entries, tail}
-use Rattle.mm_flow.specs.Links.{chained, IsLinkedBelow}
 use Rattle.mm_flow.specs.Marks.{no_mark, HasMark, IsClosed, IsSearch, IsSearched, GoesOn}
 
 -- a node with a mark is in the table
@@ -39,34 +36,6 @@ goes_on_further first then last one two = record {
   order = λ i lt. two.order i (omega (arith, one.found)) ∙ one.order i lt;
   marked = λ n has. two.marked n (one.marked n has);
 }
-
-module _ (g : Graph) (last : List ℕ) (steps : List Step) (linked : IsLinkedBelow g last steps (entries g)) where
-  -- a chain's first cursor is that of an entry of the node
-  pub first_own : (node cursor e : ℕ) → cursor ≡ slice_index last node → cursor ≡ e + 1 → (e < entries g) × (tail g e ≡ node)
-  first_own node cursor e is at = linked.last_own node e (sym is ∙ at)
-
-  -- no entry of the node comes after a chain's first
-  pub first_most : (node cursor e : ℕ) → cursor ≡ slice_index last node → e < entries g → tail g e ≡ node → e < cursor
-  first_most node cursor e is known at = omega (arith, is, linked.last_most e known, ap (slice_index last) at)
-
-  -- the next cursor in a chain is that of an entry of the node
-  pub next_own : (node at cursor e : ℕ) → at < entries g → tail g at ≡ node → cursor ≡ chained steps at → cursor ≡ e + 1 → (e < entries g) × (tail g e ≡ node)
-  next_own node at cursor e known leaves is same =
-      let own = linked.before_own at e known (sym is ∙ same) in
-      (omega (arith, own.0), own.1 ∙ leaves)
-
-  -- the next cursor in a chain is smaller
-  pub next_smaller : (at cursor : ℕ) → at < entries g → cursor ≡ chained steps at → cursor < at + 1
-  next_smaller at cursor known is = elim (cases_eq cursor 0) [
-    | inl none ↦ omega arith
-    | inr some ↦
-        let last_is : cursor ≡ cursor - 1 + 1 = omega arith in
-        omega (arith, (linked.before_own at (cursor - 1) known (sym is ∙ last_is)).0)
-  ]
-
-  -- no entry of the node stands between an entry and the next in the chain
-  pub next_most : (node at cursor e : ℕ) → at < entries g → tail g at ≡ node → cursor ≡ chained steps at → tail g e ≡ node → e < at → e < cursor
-  next_most node at cursor e known leaves is own less = omega (arith, is, linked.before_most at e known less (own ∙ sym leaves))
 
 -- the first node that waits is closed, and the others wait on
 pub search_next : (g : Graph) (f : Flow) (source least : ℕ) (marks : List Mark) (order : List ℕ) (found done node : ℕ)

@@ -1,11 +1,12 @@
 -- A phase in a level graph: a search has given the levels, and flow is moved along paths that lead to a higher level
 -- with each entry. Dinitz, "Algorithm for solution of a problem of maximum flow in networks with power estimation", 1970.
-use Rattle.std.specs.Prelude.{◌≡◌, ℕ, zero, suc, ◌+◌, ◌<◌, ◌≤◌, List, length, slice_index}
+use Rattle.std.specs.Prelude.{◌≡◌, ℕ, zero, suc, ◌<◌, ◌≤◌, List, length, slice_index}
 use Rattle.mm_flow.specs.declared.limits.TheConstants.{UNLIMITED}
 use Rattle.mm_flow.specs.declared.search.Mark.{Mark}
 use Rattle.mm_flow.specs.Graph.{Graph}
 use Rattle.mm_flow.specs.Flow.{Flow}
 use Rattle.mm_flow.specs.Residual.{entries, tail, head, residual}
+use Rattle.mm_flow.specs.Links.{degree}
 use Rattle.mm_flow.specs.Marks.{mark, level, HasMark, IsReached}
 
 -- by the entries by which the nodes were reached, so many steps lead back from a node to the source
@@ -24,10 +25,10 @@ pub record IsLevelled (g : Graph) (source : ℕ) (marks : List Mark) : Type 0 wh
   pub wide : (n : ℕ) → HasMark marks n → 0 < (mark marks n).width
   pub narrow : (n : ℕ) → (mark marks n).width ≤ UNLIMITED
 
--- each node's cursor is 0 or stands at an entry that leaves the node
+-- each node's cursor counts some of the entries that leave the node
 pub record IsCursors (g : Graph) (next : List ℕ) : Type 0 where
   pub size : length next ≡ g.nodes
-  pub own : (n e : ℕ) → slice_index next n ≡ e + 1 → (e < entries g) × (tail g e ≡ n)
+  pub own : (n : ℕ) → slice_index next n ≤ degree g n
 
 -- an entry with residual capacity leads from a marked node to one of a higher level
 pub record IsUp (g : Graph) (f : Flow) (marks : List Mark) (e : ℕ) : Type 0 where

@@ -2,14 +2,15 @@
 ghost use Rattle.std.specs.Prelude.{◌≡◌, ◌≢◌, ◌<◌, ◌≤◌, ◌-◌, true, length, slice_index, IfOk, IfSome, IfNone};
 ghost use Rattle.mm_flow.specs.Levels.{IsCursors};
 
+use crate::links::Step;
 use crate::residual::{residual, twin};
 use crate::tables::Tables;
 use std::alloc::{AllocError, Global};
 
 /// A solver that moves flow along the paths of one level graph after another.
 ///
-/// In a phase each node has a cursor, which stands in the chain of its entries and only moves on, and the entry by which a
-/// path last led on from it.
+/// In a phase each node has a cursor, the number of its entries that are left to try, and the entry by which a path last
+/// led on from it.
 #[derive(Drop)]
 pub(crate) struct Phase<'a> {
     pub(crate) tables: Tables<'a>,
@@ -20,7 +21,8 @@ pub(crate) struct Phase<'a> {
 }
 
 impl<'a> Phase<'a> {
-    ghost use Rattle.mm_flow.specs.Residual.{entries, tail, twin};
+    ghost use Rattle.mm_flow.specs.Links.{step_left, IsStep};
+    ghost use Rattle.mm_flow.specs.Residual.{twin};
     ghost use Rattle.mm_flow.specs.Marks.{level};
     ghost use Rattle.mm_flow.specs.Task.{SameTask, IsOpen, Reaches, IsOver};
     ghost use Rattle.mm_flow.specs.Phase.{LeadsFrom, LeadsUp, cursors_of};
@@ -61,14 +63,14 @@ impl<'a> Phase<'a> {
         }
     }
 
-    // Puts the sink above all levels, and each cursor at its node's last entry.
+    // Puts the sink above all levels, and lets each cursor begin with its node's last entry.
     fn begin(&mut self)
         ensures task { SameTask self.old.tables self.new.tables }
         ensures value { self.new.tables.value ≡ self.old.tables.value }
     {
         self.tables.raise_sink();
         for node in 0..self.next.len() {
-            self.next[node] = self.tables.links.last[node];
+            self.next[node] = self.tables.degree(node);
         }
     }
 
@@ -118,37 +120,35 @@ impl<'a> Phase<'a> {
         if cursor == 0 {
             return None;
         }
-        let entry = cursor as usize - 1;
-        let from = self.tables.head(entry);
-        self.ahead[from as usize] = twin(self.tables.network, entry) as u32;
-        Some(from)
+        let step = self.tables.step(at, cursor);
+        self.ahead[step.head as usize] = twin(self.tables.network, step.entry as usize) as u32;
+        Some(step.head)
     }
 
     // Moves a node's cursor on to an entry whose twin leads up to the node.
     fn way_back(&self, at: u32) -> u32
         requires known { at < self.now.tables.network.now.graph.nodes }
         ensures most { result ≤ slice_index self.now.next.items at }
-        ensures leads { 0 < result → LeadsUp self.now at (result - 1) }
+        ensures leads { 0 < result
+            → LeadsUp self.now at (step_left self.now.tables.links at result).entry }
     {
-        let height = self.tables.search.marks[at as usize].level;
         let mut cursor = self.next[at as usize];
-        while cursor > 0 && !self.leads_up(cursor as usize - 1, height) {
-            cursor = self.tables.links.steps[cursor as usize - 1].before;
+        while cursor > 0 && !self.leads_up(at, self.tables.step(at, cursor)) {
+            cursor -= 1;
         }
         cursor
     }
 
-    // Whether an entry's twin can be taken to a node at this level.
-    fn leads_up(&self, entry: usize, height: u32) -> bool
-        requires known { entry < entries self.now.tables.network.now.graph }
-        requires height { height ≡ level self.now.tables.search.marks.items
-            (tail self.now.tables.network.now.graph entry) }
+    // Whether the twin of a node's entry can be taken up to the node.
+    fn leads_up(&self, at: u32, step: Step) -> bool
+        requires known { at < self.now.tables.network.now.graph.nodes }
+        requires own { IsStep self.now.tables.network.now.graph at step }
         ensures { result ≡ true → IsOpen self.now.tables
-            (twin self.now.tables.network.now.graph entry) }
+            (twin self.now.tables.network.now.graph step.entry) }
     {
-        let from = self.tables.head(entry);
-        let below = self.tables.search.marks[from as usize].level;
-        let back = twin(self.tables.network, entry);
+        let height = self.tables.search.marks[at as usize].level;
+        let below = self.tables.search.marks[step.head as usize].level;
+        let back = twin(self.tables.network, step.entry as usize);
         below > 0 && below < height && residual(self.tables.network, &self.tables.flow, back) > 0
     }
 
@@ -161,8 +161,7 @@ impl<'a> Phase<'a> {
         ensures leads { LeadsFrom self.new result }
     {
         let to = self.tables.head(self.ahead[at as usize] as usize);
-        let cursor = self.next[to as usize];
-        self.next[to as usize] = self.tables.links.steps[cursor as usize - 1].before;
+        self.next[to as usize] -= 1;
         to
     }
 

@@ -117,12 +117,11 @@ impl Search {
         ensures done { self.new.done ≡ self.old.done + 1 }
     {
         let node = self.order[self.done];
-        let mut cursor = links.last[node as usize];
-        while cursor > 0 {
-            let entry = cursor - 1;
-            let step = links.steps[entry as usize];
-            self.reach(network, flow, entry, node, step.head);
-            cursor = step.before;
+        let first = links.first[node as usize];
+        let end = links.first[node as usize + 1];
+        for at in first..end {
+            let step = links.steps[at as usize];
+            self.reach(network, flow, step.entry, node, step.head);
         }
         self.done += 1;
     }

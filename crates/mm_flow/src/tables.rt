@@ -1,13 +1,14 @@
 //! A solver at work: its tables, all reserved before its first augmentation, and the flow so far.
-ghost use Rattle.std.specs.Prelude.{◌≡◌, ◌<◌, ℕ, true, false, IfOk};
+ghost use Rattle.std.specs.Prelude.{◌≡◌, ◌<◌, ◌≤◌, ℕ, true, false, IfOk};
 ghost use Rattle.mm_flow.specs.Refusing.{RefusesFaults};
 ghost use Rattle.mm_flow.specs.Solution.{IsSolved};
 ghost use Rattle.mm_flow.specs.Tables.{IsAtWork};
 
 use crate::fault::Fault;
 use crate::limits::UNLIMITED;
-use crate::links::Links;
+use crate::links::{Links, Step};
 use crate::network::Network;
+use crate::residual::head;
 use crate::search::Search;
 use crate::solved::Solved;
 use std::alloc::{AllocError, Global};
@@ -26,6 +27,7 @@ pub(crate) struct Tables<'a> {
 
 impl<'a> Tables<'a> {
     ghost use Rattle.mm_flow.specs.Residual.{entries, tail, head};
+    ghost use Rattle.mm_flow.specs.Links.{degree, step_left, IsStep};
     ghost use Rattle.mm_flow.specs.Marks.{level};
     ghost use Rattle.mm_flow.specs.Task.{IsTask, SameTask, IsOpen, Reaches, IsOver};
 
@@ -96,7 +98,29 @@ impl<'a> Tables<'a> {
         ensures node { result ≡ head self.now.network.now.graph entry }
         ensures known { result < self.now.network.now.graph.nodes }
     {
-        self.links.steps[entry].head
+        head(self.network, entry)
+    }
+
+    // How many entries leave a node.
+    pub(crate) fn degree(&self, node: usize) -> u32
+        requires { node < self.now.network.now.graph.nodes }
+        ensures { result ≡ degree self.now.network.now.graph node }
+    {
+        let first = self.links.first[node];
+        let end = self.links.first[node + 1];
+        end - first
+    }
+
+    // The step of a node at which this many of its steps are left.
+    pub(crate) fn step(&self, node: u32, left: u32) -> Step
+        requires node { node < self.now.network.now.graph.nodes }
+        requires some { 0 < left }
+        requires left { left ≤ degree self.now.network.now.graph node }
+        ensures step { result ≡ step_left self.now.links node left }
+        ensures own { IsStep self.now.network.now.graph node result }
+    {
+        let end = self.links.first[node as usize + 1];
+        self.links.steps[(end - left) as usize]
     }
 
     // Lets a path go on by an entry that leads up from its last node.

@@ -1,6 +1,7 @@
-use Rattle.std.proofs.Common.{◌≡◌, ℕ, ◌-◌, slice_index, slice_set, ap, sym, ◌∙◌, subst, arith}
+use Rattle.std.proofs.Common.{ℕ, slice_index, slice_set, ap, sym, ◌∙◌, subst, arith}
 use Rattle.std.proofs.lemmas.List.{length-set}
-use Rattle.mm_flow.specs.Residual.{tail, head}
+use Rattle.mm_flow.specs.declared.links.Step.{Step}
+use Rattle.mm_flow.specs.Residual.{tail, head, twin}
 use Rattle.mm_flow.specs.Marks.{level}
 use Rattle.mm_flow.specs.Levels.{IsCursors, IsUp}
 use Rattle.mm_flow.proofs.Entries.{twin_ends}
@@ -22,10 +23,7 @@ cursors_there : (c : After-way_back-cursor) → IsCursors c.args.self.now.tables
 cursors_there c =
     let p = c.args.self.now in
     let g = p.tables.network.now.graph in
-    cursors_put g p.next.items c.args.at c.way_back-cursor.result p.cursors (lead_known p c.args.at c.requires.leads) (λ e same.
-    let up = c.way_back-cursor.ensures.leads (omega arith) in
-    let is : c.way_back-cursor.result - 1 ≡ e = omega arith in
-    (omega (arith, up.known), ap (tail g) (sym is) ∙ up.leaves))
+    cursors_put g p.next.items c.args.at c.way_back-cursor.result p.cursors (lead_known p c.args.at c.requires.leads) (omega (arith, c.way_back-cursor.ensures.most, p.cursors.own c.args.at))
 
 pub invariant_of-self : goal.invariant_of-self
 invariant_of-self c = record { cursors = cursors_there (goal.at.invariant_of-self c).After-way_back-cursor; places = c.args.self.now.places }
@@ -39,7 +37,7 @@ returns-then-cursor-eq0-clause-stays c =
 pub invariant_of-self-2 : goal.invariant_of-self-2
 invariant_of-self-2 c = record {
   cursors = cursors_there (goal.at.invariant_of-self-2 c).After-way_back-cursor;
-  places = omega (arith, length-set c.args.self.now.ahead.items c.head-from.result c.twin.result, c.args.self.now.places);
+  places = omega (arith, length-set c.args.self.now.ahead.items c.step-step.result.head c.twin.result, c.args.self.now.places);
 }
 
 pub returns-clause-leads : goal.returns-clause-leads
@@ -50,13 +48,15 @@ returns-clause-leads c =
     let f = slice_index t.flow.items in
     let marks = t.search.marks.items in
     let up = c.way_back-cursor.ensures.leads (omega arith) in
-    let e = c.way_back-cursor.result - 1 in
+    let own = c.step-step.ensures.own in
+    let e = c.step-step.result.entry in
     let twin_is = c.twin.ensures.twin in
-    let back : IsUp g f marks c.twin.result = subst (λ (d : ℕ). IsUp g f marks d) (sym twin_is) up.back in
-    let leaves = ap (tail g) twin_is ∙ (twin_ends g e up.known).0 ∙ sym c.head-from.ensures.node in
-    let leads = ap (head g) twin_is ∙ (twin_ends g e up.known).1 ∙ up.leaves in
-    lead_longer g f t.sink marks p.next.items p.ahead.items c.args.at c.way_back-cursor.result c.twin.result c.head-from.result c.requires.leads back leaves leads
-    (omega arith) (omega (arith, lead_known p c.args.at c.requires.leads, p.cursors.size)) (omega (arith, c.head-from.ensures.known, p.places))
+    let entry_is = ap (λ (s : Step). s.entry) c.step-step.ensures.step in
+    let back : IsUp g f marks c.twin.result = subst (λ (d : ℕ). IsUp g f marks d) (sym (twin_is ∙ ap (twin g) entry_is)) up.back in
+    let leaves = ap (tail g) twin_is ∙ (twin_ends g e own.known).0 ∙ sym own.leads in
+    let leads = ap (head g) twin_is ∙ (twin_ends g e own.known).1 ∙ own.leaves in
+    lead_longer g f t.sink marks p.next.items p.ahead.items c.args.at c.way_back-cursor.result c.twin.result c.step-step.result.head c.requires.leads back leaves leads
+    (omega arith) (omega (arith, lead_known p c.args.at c.requires.leads, p.cursors.size)) (omega (arith, own.there, p.places))
 
 pub returns-clause-lower : goal.returns-clause-lower
 returns-clause-lower c =
@@ -64,7 +64,9 @@ returns-clause-lower c =
     let g = t.network.now.graph in
     let marks = t.search.marks.items in
     let up = c.way_back-cursor.ensures.leads (omega arith) in
-    let e = c.way_back-cursor.result - 1 in
-    let from = ap (level marks) ((twin_ends g e up.known).0 ∙ sym c.head-from.ensures.node) in
-    let to = ap (level marks) ((twin_ends g e up.known).1 ∙ up.leaves) in
+    let own = c.step-step.ensures.own in
+    let e = c.step-step.result.entry in
+    let twin_is = ap (twin g) (ap (λ (s : Step). s.entry) c.step-step.ensures.step) in
+    let from = ap (level marks) (ap (tail g) (sym twin_is) ∙ (twin_ends g e own.known).0 ∙ sym own.leads) in
+    let to = ap (level marks) (ap (head g) (sym twin_is) ∙ (twin_ends g e own.known).1 ∙ own.leaves) in
     omega (arith, up.back.up, from, to)

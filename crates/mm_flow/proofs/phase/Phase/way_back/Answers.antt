@@ -1,68 +1,16 @@
-use Rattle.std.proofs.Common.{◌≡◌, ◌-◌, ◌<◌, ap, sym, ◌∙◌, arith}
+use Rattle.std.proofs.Common.{subst, arith}
 use Rattle.std.proofs.lemmas.List.{get_or_read}
-use Rattle.mm_flow.specs.declared.search.Mark.{Mark}
 use Rattle.mm_flow.specs.declared.links.Step.{Step}
-use Rattle.mm_flow.specs.Links.{no_step, chained}
-use Rattle.mm_flow.specs.Residual.{entries}
-use Rattle.mm_flow.specs.Marks.{no_mark, level}
-use Rattle.mm_flow.proofs.LevelPaths.{cursor_before}
-use Rattle.mm_flow.proofs.Visiting.{next_smaller}
+use Rattle.mm_flow.specs.Phase.{LeadsUp}
 use Rattle.mm_flow.proofs.phase.Phase.way_back.Goals as goal
-use Rattle.mm_flow.proofs.phase.Phase.way_back.Goals.{After-index, After-index-cursor, After-index-in-loop-cursor}
-
--- the node's own level
-height_is : (c : After-index) → c.index.result.now.level ≡ level c.args.self.now.tables.search.marks.items c.args.at
-height_is c =
-    let t = c.args.self.now.tables in
-    ap (λ (m : Mark). m.level) (get_or_read t.search.marks.items c.args.at c.index.result.now (omega (arith, t.at_work.levelled.size, c.requires)) c.index.ensures no_mark)
 
 pub loop-cursor-init : goal.loop-cursor-init
 loop-cursor-init c =
     let p = c.args.self.now in
     let read = get_or_read p.next.items c.args.at c.index-cursor.result.now (omega (arith, p.cursors.size, c.requires)) c.index-cursor.ensures 0 in
-    record { own = λ e same. p.cursors.own c.args.at e (sym read ∙ same); most = omega (arith, read) }
-
-pub leads_up-requires-clause-known : goal.leads_up-requires-clause-known
-leads_up-requires-clause-known c = (c.loop-cursor.invariant.own (c.loop-cursor.cursor - 1) (omega arith)).0
-
-pub leads_up-requires-clause-height : goal.leads_up-requires-clause-height
-leads_up-requires-clause-height c =
-    let own = c.loop-cursor.invariant.own (c.loop-cursor.cursor - 1) (omega arith) in
-    height_is (goal.at.leads_up-requires-clause-height c).After-index ∙ ap (level c.args.self.now.tables.search.marks.items) (sym own.1)
-
-pub index-requires-in-loop-cursor : goal.index-requires-in-loop-cursor
-index-requires-in-loop-cursor c =
-    let t = c.args.self.now.tables in
-    omega (arith, (c.loop-cursor.invariant.own (c.loop-cursor.cursor - 1) (omega arith)).0, t.at_work.linked.steps_size, t.links.steps.ok.0)
-
--- the next cursor of the chain
-next_is : (c : After-index-in-loop-cursor) → c.loop-cursor.cursor - 1 < entries c.args.self.now.tables.network.now.graph → c.index-in-loop-cursor.result.now.before ≡ chained c.args.self.now.tables.links.steps.items (c.loop-cursor.cursor - 1)
-next_is c known =
-    let t = c.args.self.now.tables in
-    ap (λ (s : Step). s.before) (get_or_read t.links.steps.items (c.loop-cursor.cursor - 1) c.index-in-loop-cursor.result.now (omega (arith, t.at_work.linked.steps_size)) c.index-in-loop-cursor.ensures no_step)
-
-pub loop-cursor-smaller : goal.loop-cursor-smaller
-loop-cursor-smaller c =
-    let t = c.args.self.now.tables in
-    let own = c.loop-cursor.invariant.own (c.loop-cursor.cursor - 1) (omega arith) in
-    omega (arith, next_smaller t.network.now.graph t.links.last.items t.links.steps.items t.at_work.linked (c.loop-cursor.cursor - 1) c.index-in-loop-cursor.result.now.before own.0 (next_is (goal.at.loop-cursor-smaller c).After-index-in-loop-cursor own.0))
-
-pub loop-cursor-preserved : goal.loop-cursor-preserved
-loop-cursor-preserved c =
-    let t = c.args.self.now.tables in
-    let g = t.network.now.graph in
-    let next = c.index-in-loop-cursor.result.now.before in
-    let own = c.loop-cursor.invariant.own (c.loop-cursor.cursor - 1) (omega arith) in
-    let is = next_is (goal.at.loop-cursor-preserved c).After-index-in-loop-cursor own.0 in
-    let smaller = next_smaller g t.links.last.items t.links.steps.items t.at_work.linked (c.loop-cursor.cursor - 1) next own.0 is in
-    record {
-      own = λ e same.
-          let before = cursor_before g t.links.last.items t.links.steps.items t.at_work.linked (c.loop-cursor.cursor - 1) next own.0 is e same in
-          (before.0, before.1 ∙ own.1);
-      most = omega (arith, c.loop-cursor.invariant.most, smaller);
-    }
+    record { own = omega (arith, read, p.cursors.own c.args.at); most = omega (arith, read) }
 
 pub returns-else-not-leads_up-clause-leads : goal.returns-else-not-leads_up-clause-leads
 returns-else-not-leads_up-clause-leads c = λ some.
-    let own = c.loop-cursor.invariant.own (c.loop-cursor.cursor - 1) (omega arith) in
-    record { known = own.0; leaves = own.1; back = c.leads_up.ensures c.if-not-leads_up.false }
+    let own = c.step.ensures.own in
+    subst (λ (s : Step). LeadsUp c.args.self.now c.args.at s.entry) c.step.ensures.step (record { known = own.known; leaves = own.leaves; back = c.leads_up.ensures c.if-not-leads_up.false })

@@ -1,13 +1,14 @@
-use Rattle.std.proofs.Common.{◌≡◌, ℕ, ◌-◌, ◌<◌, slice_index, ap, sym, ◌∙◌, arith, inl, inr}
+use Rattle.std.proofs.Common.{◌≡◌, ℕ, ◌+◌, ◌<◌, slice_index, ap, sym, ◌∙◌, subst, arith, inl, inr}
 use Rattle.std.proofs.lemmas.List.{get_or_read}
-use Rattle.std.proofs.lemmas.Bool.{cases_eq, cases_lt}
+use Rattle.std.proofs.lemmas.Bool.{cases_eq}
 use Rattle.mm_flow.specs.declared.links.Step.{Step}
-use Rattle.mm_flow.specs.Links.{no_step, step, chained}
-use Rattle.mm_flow.specs.Residual.{entries, head, residual}
+use Rattle.mm_flow.specs.Links.{no_step, step, start, end, spot, IsStep}
+use Rattle.mm_flow.specs.Residual.{head, residual}
 use Rattle.mm_flow.specs.Marks.{level}
-use Rattle.mm_flow.proofs.Visiting.{marked_lt, goes_on_same, goes_on_further, first_own, first_most, next_own, next_smaller, next_most, search_next}
+use Rattle.mm_flow.proofs.Linking.{end_is, end-most, spot_within}
+use Rattle.mm_flow.proofs.Visiting.{marked_lt, goes_on_same, goes_on_further, search_next}
 use Rattle.mm_flow.proofs.search.Search.visit.Goals as goal
-use Rattle.mm_flow.proofs.search.Search.visit.Goals.{After-index-node, After-index-cursor, After-index-step}
+use Rattle.mm_flow.proofs.search.Search.visit.Goals.{After-index-node, After-index-first, After-index-end, After-index-step}
 
 -- the node that waits next
 node_is : (c : After-index-node) → c.index-node.result.now ≡ slice_index c.args.self.now.order.items c.args.self.now.done
@@ -19,95 +20,109 @@ node_lt c =
     let s = c.args.self.now in
     omega (arith, node_is c, marked_lt s.marks.items (slice_index s.order.items s.done) (c.requires.search.queued s.done c.requires.waits), c.requires.search.marking.size)
 
--- the first cursor of its chain
-first_is : (c : After-index-cursor) → c.index-node.result.now < c.args.network.now.graph.nodes → c.index-cursor.result.now ≡ slice_index c.args.links.now.last.items c.index-node.result.now
-first_is c known = get_or_read c.args.links.now.last.items c.index-node.result.now c.index-cursor.result.now (omega (arith, c.requires.linked.last_size)) c.index-cursor.ensures 0
+-- where its steps begin
+first_is : (c : After-index-first) → c.index-node.result.now < c.args.network.now.graph.nodes → c.index-first.result.now ≡ start c.args.network.now.graph c.index-node.result.now
+first_is c known =
+    get_or_read c.args.links.now.first.items c.index-node.result.now c.index-first.result.now (omega (arith, c.requires.linked.table_size)) c.index-first.ensures 0
+    ∙ c.requires.linked.starts c.index-node.result.now (omega arith)
 
--- the entry in its chain
-step_is : (c : After-index-step) → c.loop-cursor.cursor - 1 < entries c.args.network.now.graph → c.index-step.result.now ≡ step c.args.links.now.steps.items (c.loop-cursor.cursor - 1)
-step_is c known =
-    get_or_read c.args.links.now.steps.items (c.loop-cursor.cursor - 1) c.index-step.result.now (omega (arith, c.requires.linked.steps_size)) c.index-step.ensures no_step
+-- where its steps end
+end_there : (c : After-index-end) → c.index-node.result.now < c.args.network.now.graph.nodes → c.index-end.result.now ≡ end c.args.network.now.graph c.index-node.result.now
+end_there c known =
+    get_or_read c.args.links.now.first.items (c.index-node.result.now + 1) c.index-end.result.now (omega (arith, c.requires.linked.table_size)) c.index-end.ensures 0
+    ∙ c.requires.linked.starts (c.index-node.result.now + 1) (omega arith) ∙ end_is c.args.network.now.graph c.index-node.result.now
 
--- the node that the entry leads to
-to_is : (c : After-index-step) → c.loop-cursor.cursor - 1 < entries c.args.network.now.graph
-    → (c.index-step.result.now.head ≡ head c.args.network.now.graph (c.loop-cursor.cursor - 1)) × (c.index-step.result.now.head < c.args.network.now.graph.nodes)
-to_is c known =
-    let leads = c.requires.linked.leads (c.loop-cursor.cursor - 1) known in
-    let same = ap (λ (s : Step). s.head) (step_is c known) ∙ leads.0 in
-    (same, omega (arith, same, leads.1))
-
--- the next cursor
-next_is : (c : After-index-step) → c.loop-cursor.cursor - 1 < entries c.args.network.now.graph → c.index-step.result.now.before ≡ chained c.args.links.now.steps.items (c.loop-cursor.cursor - 1)
-next_is c known = ap (λ (s : Step). s.before) (step_is c known)
-
-pub index-cursor-requires : goal.index-cursor-requires
-index-cursor-requires c = omega (arith, node_lt (goal.at.index-cursor-requires c).After-index-node, c.requires.linked.last_size, c.args.links.now.last.ok.0)
-
-pub loop-cursor-init : goal.loop-cursor-init
-loop-cursor-init c =
+-- a step of the node that waits next
+own_step : (c : After-index-step) → c.loop-at.at < c.index-end.result.now
+    → (c.index-step.result.now ≡ step c.args.links.now.steps.items c.loop-at.at) × IsStep c.args.network.now.graph c.index-node.result.now c.index-step.result.now
+own_step c below =
     let g = c.args.network.now.graph in
-    let links = c.args.links.now in
-    let first = first_is (goal.at.loop-cursor-init c).After-index-cursor (node_lt (goal.at.loop-cursor-init c).After-index-node) in
+    let steps = c.args.links.now.steps.items in
+    let invariant = c.loop-at.invariant in
+    let read = get_or_read steps c.loop-at.at c.index-step.result.now (omega (arith, below, invariant.ends, c.requires.linked.steps_size, end-most g c.index-node.result.now)) c.index-step.ensures no_step in
+    (read, subst (λ (s : Step). IsStep g c.index-node.result.now s) (sym read) (c.requires.linked.own c.index-node.result.now c.loop-at.at invariant.known invariant.from (omega (arith, below, invariant.ends))))
+
+pub index-first-requires : goal.index-first-requires
+index-first-requires c = omega (arith, node_lt (goal.at.index-first-requires c).After-index-node, c.requires.linked.table_size, c.args.links.now.first.ok.0)
+
+pub index-end-requires : goal.index-end-requires
+index-end-requires c = omega (arith, node_lt (goal.at.index-end-requires c).After-index-node, c.requires.linked.table_size, c.args.links.now.first.ok.0)
+
+pub loop-at-init : goal.loop-at-init
+loop-at-init c =
+    let known = node_lt (goal.at.loop-at-init c).After-index-node in
+    let first = first_is (goal.at.loop-at-init c).After-index-first known in
     record {
+      known = known;
+      ends = end_there (goal.at.loop-at-init c).After-index-end known;
       searching = c.requires.search;
       goes_on = goes_on_same c.args.self.now;
-      own = λ e at. first_own g links.last.items links.steps.items c.requires.linked c.index-node.result.now c.index-cursor.result.now e first at;
-      swept = λ e known leaves past fits. absurd (omega (arith, first_most g links.last.items links.steps.items c.requires.linked c.index-node.result.now c.index-cursor.result.now e first known leaves));
+      from = omega (arith, first);
+      swept = λ i up below fits. absurd (omega (arith, first, up, below));
     }
 
 pub index-step-requires : goal.index-step-requires
-index-step-requires c = omega (arith, (c.loop-cursor.invariant.own (c.loop-cursor.cursor - 1) (omega arith)).0, c.requires.linked.steps_size, c.args.links.now.steps.ok.0)
+index-step-requires c =
+    omega (arith, c.loop-at.invariant.ends, end-most c.args.network.now.graph c.index-node.result.now, c.requires.linked.steps_size, c.args.links.now.steps.ok.0)
 
 pub reach-requires-clause-entry : goal.reach-requires-clause-entry
-reach-requires-clause-entry c = (c.loop-cursor.invariant.own (c.loop-cursor.cursor - 1) (omega arith)).0
+reach-requires-clause-entry c = (own_step (goal.at.reach-requires-clause-entry c).After-index-step (omega arith)).1.known
 
 pub reach-requires-clause-leaves : goal.reach-requires-clause-leaves
-reach-requires-clause-leaves c = sym (c.loop-cursor.invariant.own (c.loop-cursor.cursor - 1) (omega arith)).1
+reach-requires-clause-leaves c = sym (own_step (goal.at.reach-requires-clause-leaves c).After-index-step (omega arith)).1.leaves
 
 pub reach-requires-clause-leads : goal.reach-requires-clause-leads
-reach-requires-clause-leads c = (to_is (goal.at.reach-requires-clause-leads c).After-index-step (c.loop-cursor.invariant.own (c.loop-cursor.cursor - 1) (omega arith)).0).0
+reach-requires-clause-leads c = (own_step (goal.at.reach-requires-clause-leads c).After-index-step (omega arith)).1.leads
 
 pub reach-requires-clause-node : goal.reach-requires-clause-node
-reach-requires-clause-node c = node_lt (goal.at.reach-requires-clause-node c).After-index-node
+reach-requires-clause-node c = c.loop-at.invariant.known
 
 pub reach-requires-clause-to : goal.reach-requires-clause-to
-reach-requires-clause-to c = (to_is (goal.at.reach-requires-clause-to c).After-index-step (c.loop-cursor.invariant.own (c.loop-cursor.cursor - 1) (omega arith)).0).1
+reach-requires-clause-to c = (own_step (goal.at.reach-requires-clause-to c).After-index-step (omega arith)).1.there
 
-pub loop-cursor-smaller : goal.loop-cursor-smaller
-loop-cursor-smaller c =
-    let links = c.args.links.now in
-    let own = c.loop-cursor.invariant.own (c.loop-cursor.cursor - 1) (omega arith) in
-    omega (arith, next_smaller c.args.network.now.graph links.last.items links.steps.items c.requires.linked (c.loop-cursor.cursor - 1) c.index-step.result.now.before own.0 (next_is (goal.at.loop-cursor-smaller c).After-index-step own.0))
+pub reach-requires-clause-from : goal.reach-requires-clause-from
+reach-requires-clause-from c =
+    let s = c.args.self.now in
+    let now = c.loop-at.self.marks.items in
+    let here = c.loop-at.invariant.goes_on.marked c.index-node.result.now (omega (arith, c.requires.search.queued s.done c.requires.waits, ap (level s.marks.items) (node_is (goal.at.reach-requires-clause-from c).After-index-node))) in
+    omega (arith, here, ap (level now) (own_step (goal.at.reach-requires-clause-from c).After-index-step (omega arith)).1.leaves)
 
-pub loop-cursor-preserved : goal.loop-cursor-preserved
-loop-cursor-preserved c =
+pub loop-at-preserved : goal.loop-at-preserved
+loop-at-preserved c =
     let g = c.args.network.now.graph in
-    let links = c.args.links.now in
-    let at = c.loop-cursor.cursor - 1 in
-    let next = c.index-step.result.now.before in
-    let own = c.loop-cursor.invariant.own (c.loop-cursor.cursor - 1) (omega arith) in
-    let is = next_is (goal.at.loop-cursor-preserved c).After-index-step own.0 in
-    let invariant = c.loop-cursor.invariant in
+    let f = slice_index c.args.flow.now in
+    let steps = c.args.links.now.steps.items in
+    let own = own_step (goal.at.loop-at-preserved c).After-index-step (omega arith) in
+    let entry_is = ap (λ (s : Step). s.entry) own.0 in
+    let invariant = c.loop-at.invariant in
     let kept = c.reach.ensures.kept in
     record {
+      known = invariant.known;
+      ends = invariant.ends;
       searching = c.reach.ensures.search;
-      goes_on = goes_on_further c.args.self.now c.loop-cursor.self c.reach.new.self invariant.goes_on kept;
-      own = λ e same. next_own g links.last.items links.steps.items c.requires.linked c.index-node.result.now at next e own.0 own.1 is same;
-      swept = λ e known leaves past fits. elim (cases_lt e at) [
-        | inl less ↦ absurd (omega (arith, next_most g links.last.items links.steps.items c.requires.linked c.index-node.result.now at next e own.0 own.1 is leaves less))
-        | inr up ↦ elim (cases_eq e at) [
-          | inl same ↦ omega (arith, ap (λ (d : ℕ). level c.reach.new.self.marks.items (head g d)) same, c.reach.ensures.leads (omega (arith, fits, ap (residual g (slice_index c.args.flow.now)) same, kept.least)))
-          | inr other ↦ kept.marked (head g e) (invariant.swept e known leaves (omega arith) (omega (arith, fits, kept.least)))
-        ]
+      goes_on = goes_on_further c.args.self.now c.loop-at.self c.reach.new.self invariant.goes_on kept;
+      from = omega (arith, invariant.from);
+      swept = λ i up below fits. elim (cases_eq i c.loop-at.at) [
+        | inl same ↦
+            let there : (step steps i).entry ≡ c.index-step.result.now.entry = ap (λ (j : ℕ). (step steps j).entry) same ∙ sym entry_is in
+            omega (arith, ap (λ (d : ℕ). level c.reach.new.self.marks.items (head g d)) there, c.reach.ensures.leads (omega (arith, fits, ap (residual g f) there, kept.least)))
+        | inr other ↦ kept.marked (head g (step steps i).entry) (invariant.swept i up (omega arith) (omega (arith, fits, kept.least)))
       ];
     }
 
 pub returns-clause-search : goal.returns-clause-search
 returns-clause-search c =
     let g = c.args.network.now.graph in
-    let s = c.loop-cursor.self in
-    let invariant = c.loop-cursor.invariant in
+    let f = slice_index c.args.flow.now in
+    let s = c.loop-at.self in
+    let steps = c.args.links.now.steps.items in
+    let at_node = c.index-node.result.now in
+    let invariant = c.loop-at.invariant in
     let node = node_is (goal.at.returns-clause-search c).After-index-node in
-    let here : slice_index s.order.items s.done ≡ c.index-node.result.now = ap (slice_index s.order.items) invariant.goes_on.done ∙ invariant.goes_on.order c.args.self.now.done c.requires.waits ∙ sym node in
-    search_next g (slice_index c.args.flow.now) s.source s.least s.marks.items s.order.items s.found s.done c.index-node.result.now invariant.searching (omega (arith, invariant.goes_on.done, invariant.goes_on.found, c.requires.waits)) here
-    (λ e known leaves fits. invariant.swept e known leaves (omega arith) fits)
+    let here : slice_index s.order.items s.done ≡ at_node = ap (slice_index s.order.items) invariant.goes_on.done ∙ invariant.goes_on.order c.args.self.now.done c.requires.waits ∙ sym node in
+    search_next g f s.source s.least s.marks.items s.order.items s.found s.done at_node invariant.searching (omega (arith, invariant.goes_on.done, invariant.goes_on.found, c.requires.waits)) here
+    (λ e there leaves fits.
+    let within = spot_within g e there in
+    let stands = c.requires.linked.each e there in
+    let marked = invariant.swept (spot g e) (omega (arith, within.0, ap (start g) leaves)) (omega (arith, within.1, ap (end g) leaves, invariant.ends)) (omega (arith, fits, ap (residual g f) stands)) in
+    omega (arith, marked, ap (λ (d : ℕ). level s.marks.items (head g d)) stands))

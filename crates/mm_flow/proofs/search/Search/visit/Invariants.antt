@@ -1,15 +1,15 @@
-use Rattle.std.proofs.Common.{◌≡◌, ℕ, ◌+◌, ◌<◌, ◌≤◌, slice_index}
-use Rattle.mm_flow.specs.Residual.{entries, tail, head, residual}
+use Rattle.std.proofs.Common.{◌≡◌, ℕ, ◌<◌, ◌≤◌, slice_index}
+use Rattle.mm_flow.specs.Residual.{head, residual}
+use Rattle.mm_flow.specs.Links.{start, end, step}
 use Rattle.mm_flow.specs.Marks.{IsSearching, GoesOn, HasMark}
 use Rattle.mm_flow.proofs.search.Search.visit.Given as goal
 
-abbrev pub invariant-loop-cursor : goal.invariant-loop-cursor
-invariant-loop-cursor l = record {
+abbrev pub invariant-loop-at : goal.invariant-loop-at
+invariant-loop-at l = record {
   searching : IsSearching l.network.graph (slice_index l.flow) l.self;
   goes_on : GoesOn l.initial.self l.self;
-  own : (e : ℕ) → l.cursor ≡ e + 1 → (e < entries l.network.graph) × (tail l.network.graph e ≡ l.node);
-  swept : (e : ℕ) → e < entries l.network.graph → tail l.network.graph e ≡ l.node → l.cursor ≤ e → l.self.least ≤ residual l.network.graph (slice_index l.flow) e → HasMark l.self.marks.items (head l.network.graph e);
+  known : l.node < l.network.graph.nodes;
+  ends : l.end ≡ end l.network.graph l.node;
+  from : start l.network.graph l.node ≤ l.at;
+  swept : (i : ℕ) → start l.network.graph l.node ≤ i → i < l.at → l.self.least ≤ residual l.network.graph (slice_index l.flow) (step l.links.steps.items i).entry → HasMark l.self.marks.items (head l.network.graph (step l.links.steps.items i).entry);
 }
-
-abbrev pub decreases-loop-cursor : goal.decreases-loop-cursor
-decreases-loop-cursor l = l.cursor
