@@ -25,7 +25,7 @@ pub fn solve_paths(
     ensures refused { RefusesFaults network.now.graph source sink result }
 {
     let mut tables = Tables::new(alloc, network, source, sink)?;
-    while tables.search_anew() {
+    while tables.search_to_sink() {
         tables.augment();
     }
     Ok(tables.solved(alloc)?)

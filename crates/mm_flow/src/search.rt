@@ -40,7 +40,7 @@ pub(crate) struct Search {
 
 impl Search {
     ghost use Rattle.mm_flow.specs.declared.search.Mark.{Mark};
-    ghost use Rattle.mm_flow.specs.Marks.{IsSearching, IsSearched, GoesOn, HasMark, level};
+    ghost use Rattle.mm_flow.specs.Marks.{IsMarking, IsSearching, IsSearched, GoesOn, HasMark, level};
     ghost use Rattle.mm_flow.specs.Balance.{IsAugmented};
     ghost use Rattle.mm_flow.specs.Levels.{IsLevelled, IsUp, HasPath};
 
@@ -77,6 +77,29 @@ impl Search {
     {
         self.start(network, flow, least);
         while self.done < self.found {
+            self.visit(network, links, flow);
+        }
+    }
+
+    // Marks nodes as `run` does along entries that carry anything, and visits no further node once the sink is marked.
+    pub(crate) fn run_to(&mut self, network: &Network, links: &Links, flow: &[u64], sink: u32)
+        requires linked { IsLinked network.now.graph links.now }
+        requires flow { length flow.now ≡ length network.now.graph.arcs }
+        requires within { IsWithin network.now.graph (slice_index flow.now) }
+        requires source { self.old.source < network.now.graph.nodes }
+        requires sink { sink < network.now.graph.nodes }
+        requires marks { length self.old.marks.items ≡ network.now.graph.nodes }
+        requires order { length self.old.order.items ≡ network.now.graph.nodes }
+        ensures marking { IsMarking network.now.graph (slice_index flow.now) self.old.source 1
+            self.new.marks.items }
+        ensures searched { level self.new.marks.items sink ≡ 0
+            → IsSearched network.now.graph (slice_index flow.now) self.old.source 1
+            self.new.marks.items }
+        ensures source { self.new.source ≡ self.old.source }
+        ensures order { length self.new.order.items ≡ network.now.graph.nodes }
+    {
+        self.start(network, flow, 1);
+        while self.done < self.found && self.marks[sink as usize].level == 0 {
             self.visit(network, links, flow);
         }
     }

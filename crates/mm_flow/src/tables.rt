@@ -74,6 +74,18 @@ impl<'a> Tables<'a> {
         self.search.marks[self.sink as usize].level > 0
     }
 
+    // Searches anew, no further than to the sink, and answers whether it was reached.
+    pub(crate) fn search_to_sink(&mut self) -> bool
+        ensures task { SameTask self.old self.new }
+        ensures value { self.new.value ≡ self.old.value }
+        ensures way { result ≡ true → Reaches self.new self.new.sink }
+        ensures over { result ≡ false → IsOver self.new }
+    {
+        self.search
+            .run_to(self.network, &self.links, &self.flow, self.sink);
+        self.search.marks[self.sink as usize].level > 0
+    }
+
     // Moves as much as fits along the path by which the sink was reached.
     pub(crate) fn augment(&mut self)
         requires way { Reaches self.old self.old.sink }
