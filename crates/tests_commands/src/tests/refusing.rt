@@ -60,10 +60,11 @@ fn refused(answer: &str) -> Option<(&str, Refusal)> {
     Some((place, refusal_numbered(number.parse().ok()?)?))
 }
 
-// What is said of a refused line.
+// What is said of a refused line of a file.
 fn push_said<R: Abort + AllocGlobal>(
     rt: &R,
     said: &mut String,
+    name: &str,
     counted: &str,
     requests: &str,
     (place, refusal): (&str, Refusal),
@@ -73,14 +74,14 @@ fn push_said<R: Abort + AllocGlobal>(
     let line = match place.split_once('.') {
         Some((line, instruction)) => {
             let told = format!(in alloc;
-                "P, {counted} {line}, instruction {instruction}: {words}\n"
+                "{name}, {counted} {line}, instruction {instruction}: {words}\n"
             );
             said.push_str(told.expect(rt, "memory").as_str())
                 .expect(rt, "memory");
             line
         }
         None => {
-            let told = format!(in alloc; "P, {counted} {place}: {words}\n");
+            let told = format!(in alloc; "{name}, {counted} {place}: {words}\n");
             said.push_str(told.expect(rt, "memory").as_str())
                 .expect(rt, "memory");
             place
@@ -98,6 +99,7 @@ fn push_said<R: Abort + AllocGlobal>(
 // What is said of all refused lines of the answer.
 fn all_said<R: Abort + AllocGlobal>(
     rt: &R,
+    name: &str,
     counted: &str,
     requests: &str,
     answer: &Answer,
@@ -105,23 +107,24 @@ fn all_said<R: Abort + AllocGlobal>(
     let mut said = String::new(rt.alloc());
     for line in answer.out.as_str().lines() {
         if let Some(refused) = refused(line) {
-            push_said(rt, &mut said, counted, requests, refused);
+            push_said(rt, &mut said, name, counted, requests, refused);
         }
     }
     said
 }
 
-// What the program says of this text of packets is what the plain form says.
+// What the program says of this text of packets, in a file of this name, is what the plain form says.
 fn is_as_plain<R: Abort + AllocGlobal + Threads + Wait + Sync>(
     rt: &R,
     front: &str,
+    name: &str,
     counted: &str,
     text: &str,
 ) {
-    let script = joined(rt, &[front, "=== P\n", text]);
+    let script = joined(rt, &[front, "=== ", name, "\n", text]);
     let answer = told_bytes(rt, script.as_bytes());
     let requests = if counted == "line" { text } else { "" };
-    let said = all_said(rt, counted, requests, &answer);
+    let said = all_said(rt, name, counted, requests, &answer);
     holds(rt, text, &answer, answer.err.as_str() == said.as_str());
 }
 
@@ -133,7 +136,19 @@ fn refused_lines_are_told_as_by_a_plain_form(rt: HostRuntime) {
     for lines in [0, 1, 2, 3, 10, 90, 91, 92, 200, 350] {
         let mut text = String::new(alloc);
         made(&rt, &mut text, lines, &mut state);
-        is_as_plain(&rt, "read P\n", "packet", text.as_str());
-        is_as_plain(&rt, asked.as_str(), "line", text.as_str());
+        is_as_plain(&rt, "read P\n", "P", "packet", text.as_str());
+        is_as_plain(&rt, asked.as_str(), "P", "line", text.as_str());
+    }
+}
+
+#[test]
+fn long_lines_are_told_as_by_a_plain_form(rt: HostRuntime) {
+    let mut state = 1;
+    let mut text = String::new(rt.alloc());
+    made(&rt, &mut text, 12, &mut state);
+    for len in 940..1024 {
+        let name = "P".repeat(rt.alloc(), len).expect(&rt, "memory");
+        let front = joined(&rt, &["read ", name.as_str(), "\n"]);
+        is_as_plain(&rt, front.as_str(), name.as_str(), "packet", text.as_str());
     }
 }
