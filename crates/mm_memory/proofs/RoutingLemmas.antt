@@ -1,9 +1,12 @@
 -- The stores that a packet is routed to are those to which a row of its report type leads.
-use Rattle.std.proofs.Common.{◌≡◌, ℕ, add-zero, Bool, true, false, ◌&&◌, ◌||◌, List, [], ◌∷◌, Some, None, refl, sym, ap, ◌∙◌}
+use Rattle.std.proofs.Common.{◌≡◌, suc, ℕ, ◌+◌, add-zero, Bool, true, false, not, cond, nat_lt, ◌&&◌, ◌||◌, List, [], ◌∷◌, ◌++◌, take, drop, Some, None, refl, sym, ap, ◌∙◌, arith}
 use Rattle.std.specs.Prelude.{if◌then◌else◌, ◌==◌, length}
 use Rattle.std.proofs.lemmas.Bool.{eqb-true}
 use Rattle.std.proofs.lemmas.List.{nil_from_length}
-use Rattle.std.specs.List.{filter, list_any}
+use Rattle.std.proofs.lemmas.Bool.Decides.{nat_tests}
+use Rattle.std.proofs.lemmas.List.Sums.{prefix_len-le-length}
+use Rattle.std.specs.List.{filter, list_any, position, position_or_len}
+use Rattle.std.specs.Option.{unwrap_or}
 use Rattle.mm_base.specs.declared.rows.RouteRow.{RouteRow}
 use Rattle.mm_packet.specs.declared.header.PacketType.{PacketType}
 use Rattle.mm_packet.specs.declared.header.PacketType.TheVariants.{Telecommand, Telemetry}
@@ -14,7 +17,7 @@ use Rattle.mm_memory.specs.declared.tally.Tally.{Tally}
 use Rattle.mm_memory.specs.Tallies.{nothing, plus}
 use Rattle.mm_memory.specs.Holdings.{Holdings}
 use Rattle.mm_memory.specs.Recording.{is_routed, packet_for, after_offers, after_offer, tally_over, tally_in, after_record, tally_after}
-use Rattle.mm_memory.specs.Routing.{rows_for, leads_to, lead_to_any, packet_along}
+use Rattle.mm_memory.specs.Routing.{rows_for, leads_to, lead_to_any, packet_along, passed}
 
 -- an element passes two tests where one that passes the first passes the second
 any-both : {X : Type 0} (p q : X → Bool) (xs : List X) → list_any (λ x. p x && q x) xs ≡ list_any q (filter p xs)
@@ -131,3 +134,93 @@ tally_first now rows p h hs stores t is leads none told =
     ∙ plus_nothing (tally_in now h (packet_along rows p h))
     ∙ ap (plus (tally_in now h (packet_along rows p h))) (sym (tally_none now rows p hs none))
     ∙ ap (tally_over now (packet_along rows p)) (sym is)
+
+-- the first place that passes, or the length, is what is found, or the length
+pub place_or_length : (p : Held → Bool) (stores : List Held) → unwrap_or (position p stores) (length stores) ≡ position_or_len p stores
+place_or_length p stores = by_test (nat_lt (position_or_len p stores) (length stores)) refl
+  where
+    by_test : (b : Bool) → nat_lt (position_or_len p stores) (length stores) ≡ b
+        → unwrap_or (cond b (Some (position_or_len p stores)) None) (length stores) ≡ position_or_len p stores
+    by_test true e = refl
+    by_test false e = grind (arith, nat_tests, e, prefix_len-le-length (λ (h : Held). not (p h)) stores)
+
+-- the first store that is not passed by
+pub first_leads : (rows : List RouteRow) (h : Held) (hs : List Held) → passed rows (h ∷ hs) ≡ 0 → leads_to rows h.id ≡ true
+first_leads rows h hs at = by_test (leads_to rows h.id) at
+  where
+    by_test : (b : Bool) → cond (not b) (1 + passed rows hs) 0 ≡ 0 → b ≡ true
+    by_test true e = refl
+    by_test false e = absurd (omega (arith, e))
+
+-- where all stores are passed by no row leads to one
+pub all_passed : (rows : List RouteRow) (stores : List Held) → passed rows stores ≡ length stores → lead_to_any rows stores ≡ false
+all_passed rows [] all = refl
+all_passed rows (h ∷ hs) all = by_test (leads_to rows h.id) all (all_passed rows hs)
+  where
+    by_test : (b : Bool) → cond (not b) (1 + passed rows hs) 0 ≡ length (h ∷ hs) → (passed rows hs ≡ length hs → lead_to_any rows hs ≡ false)
+        → (b || lead_to_any rows hs) ≡ false
+    by_test true e rest = absurd (omega (arith, e))
+    by_test false e rest = rest (omega (arith, e))
+
+-- the stores that are passed by stay as they are
+pub after_passed : (now : ℕ) (rows : List RouteRow) (p : SpacePacket) (stores : List Held)
+    → after_offers now (packet_along rows p) stores ≡ take (passed rows stores) stores ++ after_offers now (packet_along rows p) (drop (passed rows stores) stores)
+after_passed now rows p [] = refl
+after_passed now rows p (h ∷ hs) = by_test (leads_to rows h.id) refl (after_passed now rows p hs)
+  where
+    by_test : (b : Bool) → leads_to rows h.id ≡ b
+        → after_offers now (packet_along rows p) hs ≡ take (passed rows hs) hs ++ after_offers now (packet_along rows p) (drop (passed rows hs) hs)
+        → after_offers now (packet_along rows p) (h ∷ hs) ≡ take (passed rows (h ∷ hs)) (h ∷ hs) ++ after_offers now (packet_along rows p) (drop (passed rows (h ∷ hs)) (h ∷ hs))
+    by_test true e rest = rw (e, e) refl
+    by_test false e rest =
+        let next : 1 + passed rows hs ≡ suc (passed rows hs) = omega arith in
+        rw (e, next) (ap (λ (xs : List Held). h ∷ xs) rest)
+
+-- the same after nothing is the same
+nothing_plus : (t : Tally) → plus nothing t ≡ t
+nothing_plus t =
+    let kept : 0 + t.kept ≡ t.kept = omega arith in
+    let lost : 0 + t.lost ≡ t.lost = omega arith in
+    let refused : 0 + t.refused ≡ t.refused = omega arith in
+    rw (kept, lost, refused) refl
+
+-- and nothing becomes of the packet there
+pub tally_passed : (now : ℕ) (rows : List RouteRow) (p : SpacePacket) (stores : List Held)
+    → tally_over now (packet_along rows p) stores ≡ tally_over now (packet_along rows p) (drop (passed rows stores) stores)
+tally_passed now rows p [] = refl
+tally_passed now rows p (h ∷ hs) = by_test (leads_to rows h.id) refl (tally_passed now rows p hs)
+  where
+    by_test : (b : Bool) → leads_to rows h.id ≡ b
+        → tally_over now (packet_along rows p) hs ≡ tally_over now (packet_along rows p) (drop (passed rows hs) hs)
+        → tally_over now (packet_along rows p) (h ∷ hs) ≡ tally_over now (packet_along rows p) (drop (passed rows (h ∷ hs)) (h ∷ hs))
+    by_test true e rest = rw (e, e) refl
+    by_test false e rest =
+        let next : 1 + passed rows hs ≡ suc (passed rows hs) = omega arith in
+        rw (e, next) (nothing_plus (tally_over now (packet_along rows p) hs) ∙ rest)
+
+-- what comes after the stores that are passed by begins with one that is not
+pub none_passed : (rows : List RouteRow) (stores : List Held) → passed rows (drop (passed rows stores) stores) ≡ 0
+none_passed rows [] = refl
+none_passed rows (h ∷ hs) = by_test (leads_to rows h.id) refl (none_passed rows hs)
+  where
+    by_test : (b : Bool) → leads_to rows h.id ≡ b → passed rows (drop (passed rows hs) hs) ≡ 0 → passed rows (drop (passed rows (h ∷ hs)) (h ∷ hs)) ≡ 0
+    by_test true e rest = rw (e, e) refl
+    by_test false e rest =
+        let next : 1 + passed rows hs ≡ suc (passed rows hs) = omega arith in
+        rw (e, next) rest
+
+-- where a row leads to the first store, and the others up to the next one stay, the stores are those after the offers
+pub after_more : (now : ℕ) (rows : List RouteRow) (p : SpacePacket) (h h' : Held) (hs led stores : List Held) → stores ≡ h ∷ hs → passed rows stores ≡ 0 → h' ≡ after_offer now h (Some p)
+    → led ≡ after_offers now (packet_along rows p) (drop (passed rows hs) hs)
+    → h' ∷ (take (passed rows hs) hs ++ led) ≡ after_offers now (packet_along rows p) stores
+after_more now rows p h h' hs led stores is begins offered after =
+    let leads : leads_to rows h.id ≡ true = first_leads rows h hs (rw is at begins) in
+    rw (is, offered, after, leads, sym (after_passed now rows p hs)) refl
+
+-- and what became of the packet is the sum
+pub tally_more : (now : ℕ) (rows : List RouteRow) (p : SpacePacket) (h : Held) (hs stores : List Held) (one more : Tally) → stores ≡ h ∷ hs → passed rows stores ≡ 0 → one ≡ tally_in now h (Some p)
+    → more ≡ tally_over now (packet_along rows p) (drop (passed rows hs) hs)
+    → plus one more ≡ tally_over now (packet_along rows p) stores
+tally_more now rows p h hs stores one more is begins told rest =
+    let leads : leads_to rows h.id ≡ true = first_leads rows h hs (rw is at begins) in
+    rw (is, told, rest, leads, sym (tally_passed now rows p hs)) refl

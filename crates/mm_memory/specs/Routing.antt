@@ -1,6 +1,6 @@
 -- The rows of the storage control that a packet follows. No public clause cites this module.
 use Rattle.std.specs.Prelude.{ℕ, Bool, if◌then◌else◌, List, [], filter, Option, Some, None}
-use Rattle.std.specs.List.{list_any}
+use Rattle.std.specs.List.{list_any, position_or_len}
 use Rattle.mm_base.specs.declared.rows.RouteRow.{RouteRow}
 use Rattle.mm_packet.specs.declared.header.PacketType.{PacketType}
 use Rattle.mm_packet.specs.declared.header.PacketType.TheVariants.{Telecommand, Telemetry}
@@ -26,3 +26,7 @@ lead_to_any rows stores = list_any (λ h. leads_to rows h.id) stores
 -- the packet, for a store to which one of the rows leads
 abbrev pub packet_along : List RouteRow → SpacePacket → Held → Option SpacePacket
 packet_along rows p h = if leads_to rows h.id then Some p else None
+
+-- how many stores stand before the first to which one of the rows leads: all, where there is none
+abbrev pub passed : List RouteRow → List Held → ℕ
+passed rows stores = position_or_len (λ h. leads_to rows h.id) stores

@@ -1,8 +1,8 @@
 //! A packet that is recorded: each store that its report type is routed to is offered it.
-ghost use Rattle.std.specs.Prelude.{◌≡◌, ◌≤◌, length, Some, IfOk, OnOk, OnErr};
+ghost use Rattle.std.specs.Prelude.{◌≡◌, ◌≤◌, ◌<◌, length, Some, IfOk, OnOk, OnErr};
 ghost use Rattle.mm_base.specs.declared.limits.TheConstants.{MAX_STORES};
 ghost use Rattle.mm_memory.specs.Recording.{after_offer, tally_in, after_offers, tally_over, after_record, tally_after};
-ghost use Rattle.mm_memory.specs.Routing.{rows_for, leads_to, lead_to_any, packet_along};
+ghost use Rattle.mm_memory.specs.Routing.{rows_for, leads_to, lead_to_any, packet_along, passed};
 
 use crate::memory::Memory;
 use crate::tally::Tally;
@@ -47,7 +47,54 @@ fn offer_one(held: &mut Held, now: u64, packet: BlockPacket) -> Tally
     Tally::of(held.state.offer(now, packet))
 }
 
-// Offers a packet to each of the stores to which one of the rows leads: copies of it, and it itself to one. The copies are made first.
+// How many stores stand before the first to which one of the rows leads.
+fn passed(rows: &[RouteRow], stores: &[Held]) -> usize
+    ensures passed { result ≡ passed rows.now stores.now }
+    ensures within { result ≤ length stores.now }
+{
+    stores
+        .iter()
+        .position(|held| leads_to(rows, &held.id))
+        .unwrap_or(stores.len())
+}
+
+// Offers a packet to each of the stores to which one of the rows leads, as one does to the first: copies of it, and it itself to one. The
+// copies are made first.
+fn offer_led(
+    alloc: Global,
+    stores: &mut [Held],
+    rows: &[RouteRow],
+    now: u64,
+    packet: BlockPacket,
+) -> Result<Tally, NoMemory>
+    requires few { length stores.old ≤ MAX_STORES }
+    requires some { 0 < length stores.old }
+    requires first { passed rows.now stores.old ≡ 0 }
+    ensures stores { OnOk result (stores.new ≡ after_offers now (packet_along rows.now packet) stores.old) }
+    ensures tally { IfOk result (λ tally. tally ≡ tally_over now (packet_along rows.now packet) stores.old) }
+    ensures kept { IfOk result (λ tally. tally.kept ≤ length stores.old) }
+    ensures lost { IfOk result (λ tally. tally.lost ≤ length stores.old) }
+    ensures refused { IfOk result (λ tally. tally.refused ≤ length stores.old) }
+    ensures err { OnErr result (stores.new ≡ stores.old) }
+{
+    let Some((first, rest)) = stores.split_first_mut() else {
+        unreachable!()
+    };
+    let next = passed(rows, rest);
+    if next == rest.len() {
+        return Ok(offer_one(first, now, packet));
+    }
+    let (_passed, led) = rest.split_at_mut(next);
+    let more = offer_led(alloc, led, rows, now, packet.copy(alloc)?)?;
+    let one = offer_one(first, now, packet);
+    Ok(Tally {
+        kept: one.kept + more.kept,
+        lost: one.lost + more.lost,
+        refused: one.refused + more.refused,
+    })
+}
+
+// Offers a packet to each of the stores to which one of the rows leads.
 fn offer_each(
     alloc: Global,
     stores: &mut [Held],
@@ -58,27 +105,15 @@ fn offer_each(
     requires few { length stores.old ≤ MAX_STORES }
     ensures stores { OnOk result (stores.new ≡ after_offers now (packet_along rows.now packet) stores.old) }
     ensures tally { IfOk result (λ tally. tally ≡ tally_over now (packet_along rows.now packet) stores.old) }
-    ensures kept { IfOk result (λ tally. tally.kept ≤ length stores.old) }
-    ensures lost { IfOk result (λ tally. tally.lost ≤ length stores.old) }
-    ensures refused { IfOk result (λ tally. tally.refused ≤ length stores.old) }
     ensures err { OnErr result (stores.new ≡ stores.old) }
 {
-    let Some((first, rest)) = stores.split_first_mut() else {
+    let first = passed(rows, stores);
+    if first == stores.len() {
         return Ok(Tally::nothing());
-    };
-    if !leads_to(rows, &first.id) {
-        return offer_each(alloc, rest, rows, now, packet);
     }
-    if !lead_to_any(rows, rest) {
-        return Ok(offer_one(first, now, packet));
-    }
-    let more = offer_each(alloc, rest, rows, now, packet.copy(alloc)?)?;
-    let one = offer_one(first, now, packet);
-    Ok(Tally {
-        kept: one.kept + more.kept,
-        lost: one.lost + more.lost,
-        refused: one.refused + more.refused,
-    })
+    let (_passed, led) = stores.split_at_mut(first);
+    let tally = offer_led(alloc, led, rows, now, packet)?;
+    Ok(tally)
 }
 
 impl Memory {
