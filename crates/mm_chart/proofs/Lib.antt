@@ -6,3 +6,4 @@ pub mod Ranges
 pub mod Shown
 pub mod Amounts
 pub mod Outlines
+pub mod Scales

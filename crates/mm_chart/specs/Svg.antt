@@ -92,6 +92,16 @@ outline p base before here t =
     else if here == before then right_to p t
     else (if before == 0 then begun (edge p.problem (t - 1)) base else []) ++ line_at (base - here) ++ right_to p t
 
+-- what leads to a height from another: from the base line where that is none
+abbrev pub rise : ℕ → ℕ → ℕ → ℕ → List ℕ
+rise left base before here = if here == before then [] else (if before == 0 then begun left base else []) ++ line_at (base - here)
+
+-- the outline of a step between two edges, as it is written
+unfoldable pub bar_line : ℕ → ℕ → ℕ → ℕ → ℕ → List ℕ
+bar_line left right base before here =
+    if here == 0 then (if before == 0 then [] else line_at base)
+    else rise left base before here ++ (said (codes "H") ++ decimal right)
+
 -- the outline of one step of a series
 unfoldable pub step_outline : Drawn → Series → ℕ → ℕ → List ℕ
 step_outline p x whole t = outline p (base_of p.problem x) (height_of p x whole (t - 1)) (height_of p x whole t) t

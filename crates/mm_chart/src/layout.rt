@@ -64,14 +64,25 @@ pub(crate) fn step_width(problem: &Problem) -> u32
     MAX_WIDTH.min(ROOM / problem.steps())
 }
 
-// The right edge of a step; of step 0 it is where the first begins.
+// The right edge of a step where steps have this width; of step 0 it is where the first begins.
+pub(crate) fn edge_at(width: u32, step: u32) -> u32
+    requires width { width ≤ MAX_WIDTH }
+    requires step { step ≤ MAX_STEPS }
+    ensures edge { result ≡ LEFT + width * step }
+    ensures least { LEFT ≤ result }
+    ensures most { result ≤ LEFT + MAX_WIDTH * MAX_STEPS }
+{
+    LEFT + width * step
+}
+
+// The right edge of a step of a problem.
 pub(crate) fn edge(problem: &Problem, step: u32) -> u32
     requires { step ≤ MAX_STEPS }
     ensures edge { result ≡ edge problem.now step }
     ensures least { LEFT ≤ result }
     ensures most { result ≤ LEFT + MAX_WIDTH * MAX_STEPS }
 {
-    LEFT + step_width(problem) * step
+    edge_at(step_width(problem), step)
 }
 
 // 1 where the channel has a limit.

@@ -2,6 +2,7 @@
 #![tactic(auto)]
 
 mod column;
+mod digits;
 mod document;
 mod headline;
 mod laws;

@@ -1,15 +1,16 @@
 //! Parts of the text of a picture: Scalable Vector Graphics (SVG) 1.1.
-ghost use Rattle.std.specs.Prelude.{◌≡◌, ◌+◌, ◌-◌, ◌*◌, ◌<◌, ◌≤◌, ◌++◌, ◌∷◌, [], OnOk, length, codes, decimal, flat_map, ◌^◌};
+ghost use Rattle.std.specs.Prelude.{◌≡◌, ◌+◌, ◌-◌, ◌*◌, ◌<◌, ◌≤◌, ◌++◌, ◌∷◌, [], OnOk, length, drop, codes, decimal, flat_map, ◌^◌};
 ghost use Rattle.mm_problem.specs.Dumping.{steps};
 ghost use Rattle.mm_base.specs.declared.limits.TheConstants.{MAX_STEPS};
 ghost use Rattle.mm_base.specs.Characters.{line_feed};
 ghost use Rattle.mm_chart.specs.Series.{IsSeries};
 ghost use Rattle.mm_chart.specs.declared.series.TheConstants.{AMOUNT_PLACES};
 ghost use Rattle.mm_chart.specs.Layout.{IsPlaced};
-ghost use Rattle.mm_chart.specs.Svg.{said, separated, grouped, signed_grouped, style_name, opened, closed, labelled, height_of, right_to, line_at, begun, outline, step_outline, series_name, path_begun, outlined, profile};
+ghost use Rattle.mm_chart.specs.Svg.{said, separated, grouped, signed_grouped, style_name, opened, closed, labelled, height_of, line_at, begun, rise, bar_line, step_outline, series_name, path_begun, outlined, profile};
 
 use crate::column::Column;
-use crate::layout::{base_of, edge, room_of};
+use crate::digits::write_number;
+use crate::layout::{base_of, edge_at, room_of, step_width};
 use crate::picture::{Picture, scaled};
 use crate::series::Series;
 use itoa::Buffer;
@@ -171,16 +172,6 @@ fn height_of(column: &Column<'_>, whole: u64, step: u32) -> u32
     scaled(room_of(column.series), whole, column.amount_at(step))
 }
 
-// To the right edge of a step.
-#[tactic(auto, unfolding(crate::specs::Svg::right_to))]
-fn push_right(text: &mut Vec<u8>, picture: &Picture, step: u32) -> Pushed
-    requires { step ≤ MAX_STEPS }
-    ensures { OnOk result (text.new.items ≡ text.old.items ++ right_to picture.now step) }
-{
-    push_said(text, b"H")?;
-    push_number(text, u64::from(edge(picture.problem(), step)))
-}
-
 // Up or down to a line.
 #[tactic(auto, unfolding(crate::specs::Svg::line_at))]
 pub(crate) fn push_line(text: &mut Vec<u8>, y: u32) -> Pushed
@@ -201,34 +192,55 @@ pub(crate) fn push_begun(text: &mut Vec<u8>, x: u32, y: u32) -> Pushed
     push_number(text, u64::from(y))
 }
 
-// A step of a height after one of another.
-#[tactic(auto, using(std::proofs::Common::append_assoc), unfolding(crate::specs::Svg::outline))]
-fn push_outline(
-    text: &mut Vec<u8>,
-    picture: &Picture,
+// The octets that a step of an outline takes at most.
+const STEP_ROOM: usize = 48;
+
+// A step of an outline: its edges, the line on which it stands, its height and the height before it.
+#[derive(Clone, Copy)]
+struct Bar {
+    left: u32,
+    right: u32,
     base: u32,
     before: u32,
     here: u32,
-    step: u32,
-) -> Pushed
-    requires first { 1 ≤ step }
-    requires last { step ≤ MAX_STEPS }
-    requires high { here ≤ base }
-    ensures { OnOk result (text.new.items ≡ text.old.items ++ outline picture.now base before here step) }
+}
+
+// Writes what leads up or down to the height of a step so that it ends at a place, and answers where it starts.
+#[tactic(auto, using(std::proofs::Common::append_assoc), unfolding(crate::specs::Svg::said, crate::specs::Svg::begun, crate::specs::Svg::line_at))]
+fn write_rise(octets: &mut [u8], end: usize, bar: Bar) -> usize
+    requires room { 33 ≤ end }
+    requires within { end ≤ length octets.old }
+    requires high { bar.here ≤ bar.base }
+    ensures written { drop result octets.new ≡ rise bar.left bar.base bar.before bar.here ++ drop end octets.old }
+    ensures most { result ≤ end }
 {
-    if here == 0 {
-        if before != 0 {
-            push_line(text, base)?;
+    if bar.here == bar.before {
+        return end;
+    }
+    let up = write_number(octets, end, b'V', bar.base - bar.here);
+    if bar.before != 0 {
+        return up;
+    }
+    let base = write_number(octets, up, b' ', bar.base);
+    write_number(octets, base, b'M', bar.left)
+}
+
+// A step of a height after one of another, in one piece.
+#[tactic(auto, using(std::proofs::Common::append_assoc), unfolding(crate::specs::Svg::said, crate::specs::Svg::bar_line))]
+fn push_bar(text: &mut Vec<u8>, bar: Bar) -> Pushed
+    requires { bar.here ≤ bar.base }
+    ensures { OnOk result (text.new.items ≡ text.old.items ++ bar_line bar.left bar.right bar.base bar.before bar.here) }
+{
+    if bar.here == 0 {
+        if bar.before != 0 {
+            push_line(text, bar.base)?;
         }
         return Ok(());
     }
-    if here != before {
-        if before == 0 {
-            push_begun(text, edge(picture.problem(), step - 1), base)?;
-        }
-        push_line(text, base - here)?;
-    }
-    push_right(text, picture, step)
+    let mut octets = [0; STEP_ROOM];
+    let end = write_number(&mut octets, STEP_ROOM, b'H', bar.right);
+    let first = write_rise(&mut octets, end, bar);
+    text.extend_from_slice(&octets[first..])
 }
 
 fn series_name(series: Series) -> &'static [u8]
@@ -255,12 +267,20 @@ fn push_steps(text: &mut Vec<u8>, column: &Column<'_>, whole: u64) -> Pushed
     ensures { OnOk result (text.new.items ≡ text.old.items
         ++ flat_map (step_outline column.now.picture.now column.now.series whole) (steps column.now.picture.now.problem)) }
 {
-    let picture = column.picture;
-    let base = base_of(picture.problem(), column.series);
+    let problem = column.picture.problem();
+    let base = base_of(problem, column.series);
+    let width = step_width(problem);
     let mut before = height_of(column, whole, 0);
-    for step in 1..picture.problem().steps() + 1 {
+    for step in 1..problem.steps() + 1 {
         let here = height_of(column, whole, step);
-        push_outline(text, picture, base, before, here, step)?;
+        let bar = Bar {
+            left: edge_at(width, step - 1),
+            right: edge_at(width, step),
+            base,
+            before,
+            here,
+        };
+        push_bar(text, bar)?;
         before = here;
     }
     Ok(())

@@ -418,8 +418,11 @@ pub fn scaled(height: u32, whole: u64, amount: u64) -> u32
     ensures scaled { result ≡ scaled height whole amount }
     ensures most { result ≤ height }
 {
-    if whole == 0 {
+    if whole == 0 || amount == 0 {
         return 0;
+    }
+    if whole <= amount {
+        return height;
     }
     let height = u64::from(height);
     height.min((amount * height + (whole - 1)) / whole) as u32
