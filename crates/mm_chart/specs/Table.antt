@@ -23,6 +23,10 @@ next_cell cell = comma ∷ cell
 unfoldable pub place_cells : Dumping → ℕ → ℕ → List ℕ
 place_cells q t s = decimal t ++ next_cell (decimal (window q t)) ++ next_cell (id_text (row q s).id)
 
+-- the cells of a step and its window, with a comma after each
+abbrev pub step_cells : ℕ → ℕ → List ℕ
+step_cells t blocks = decimal t ++ next_cell (decimal blocks) ++ comma ∷ []
+
 -- the cells that say what happens in the step, up to the end of the record
 unfoldable pub volume_cells : ℕ → ℕ → ℕ → ℕ → List ℕ
 volume_cells arrived lost dumped held =

@@ -1,14 +1,15 @@
 //! Tables of plans: what each step does to each store, as comma separated values.
-ghost use Rattle.std.specs.Prelude.{◌≡◌, ◌<◌, ◌≤◌, ◌++◌, length, decimal, flat_map, IfOk, OnOk};
+ghost use Rattle.std.specs.Prelude.{◌≡◌, ◌<◌, ◌≤◌, ◌++◌, length, drop, flat_map, IfOk, OnOk};
 ghost use Rattle.mm_base.specs.Reading.{IfRefused};
 ghost use Rattle.mm_cut.specs.declared.fault.Fault.TheVariants.{NoMemory};
 ghost use Rattle.mm_cut.specs.Checking.{IsFaultOf};
-ghost use Rattle.mm_problem.specs.Dumping.{steps};
+ghost use Rattle.mm_problem.specs.Dumping.{steps, window};
 ghost use Rattle.mm_plan.specs.Table.{amount, HasShape};
-ghost use Rattle.mm_chart.specs.Table.{dumped, next_cell, place_cells, volume_cells, record_of, step_records, table, IsTableOf, IsSimulation};
+ghost use Rattle.mm_chart.specs.Table.{dumped, step_cells, volume_cells, record_of, step_records, table, IsTableOf, IsSimulation};
 
+use crate::digits::write_number;
 use crate::pen::Pushed;
-use mm_base::numbers::push_number;
+use itoa::write_digits;
 use mm_cut::{Fault, read_texts};
 use mm_plan::{Plan, Simulated, simulate};
 use mm_problem::Problem;
@@ -24,34 +25,18 @@ struct Course<'a> {
     ghost are_volumes: { IsSimulation problem.now (amount plan.now) volumes },
 }
 
-// A cell after another of its record.
-fn push_next(text: &mut Vec<u8>, cell: &[u8]) -> Pushed
-    ensures { OnOk result (text.new.items ≡ text.old.items ++ next_cell cell.now) }
-{
-    text.push(b',')?;
-    text.extend_from_slice(cell)
-}
+// The octets that a step and its window take at most, with a comma after each.
+const PLACE_ROOM: usize = 24;
 
-// A number after another cell of its record.
-fn push_next_number(text: &mut Vec<u8>, number: u32) -> Pushed
-    ensures { OnOk result (text.new.items ≡ text.old.items ++ next_cell (decimal number)) }
+// Writes the cells that say which step it is so that they end at the end of the octets, and answers where they start.
+#[tactic(auto, using(std::proofs::Common::append_assoc))]
+fn write_step(octets: &mut [u8; PLACE_ROOM], step: u32, window: u32) -> usize
+    ensures written { drop result octets.new ≡ step_cells step window }
+    ensures within { result ≤ PLACE_ROOM }
 {
-    text.push(b',')?;
-    push_number(text, u64::from(number))
-}
-
-// The cells that say which step and which store it is.
-#[tactic(auto, using(std::proofs::Common::append_assoc), unfolding(crate::specs::Table::place_cells))]
-fn push_place(text: &mut Vec<u8>, problem: &Problem, step: u32, store: usize) -> Pushed
-    requires store { store < length problem.now.rows }
-    requires first { 1 ≤ step }
-    requires last { step ≤ length problem.now.windows }
-    ensures { OnOk result (text.new.items ≡ text.old.items ++ place_cells problem.now step store) }
-{
-    push_number(text, u64::from(step))?;
-    push_next_number(text, problem.window(step))?;
-    let id = problem.id(store);
-    push_next(text, id.text())
+    octets[PLACE_ROOM - 1] = b',';
+    let end = write_number(octets, PLACE_ROOM - 1, b',', window);
+    write_digits(u64::from(step), octets, end)
 }
 
 // What a plan dumps from a store in a step.
@@ -65,29 +50,41 @@ fn dumped(course: &Course<'_>, step: u32, store: usize) -> u32
     course.plan.amount(store, step).min(stands)
 }
 
-// The cells of a record that say what happens in the step.
+// The octets that the numbers of a record take at most.
+const VOLUMES_ROOM: usize = 48;
+
+// The cells of a record that say what happens in the step, in one piece up to its line feed.
 #[tactic(auto, using(std::proofs::Common::append_assoc), unfolding(crate::specs::Table::volume_cells))]
 fn push_volumes(text: &mut Vec<u8>, arrived: u32, lost: u32, dumped: u32, held: u32) -> Pushed
     ensures { OnOk result (text.new.items ≡ text.old.items ++ volume_cells arrived lost dumped held) }
 {
-    push_next_number(text, arrived)?;
-    push_next_number(text, lost)?;
-    push_next_number(text, dumped)?;
-    push_next_number(text, held)?;
-    text.push(b'\n')?;
-    Ok(())
+    let mut octets = [b'\n'; VOLUMES_ROOM];
+    let held_at = write_number(&mut octets, VOLUMES_ROOM - 1, b',', held);
+    let dumped_at = write_number(&mut octets, held_at, b',', dumped);
+    let lost_at = write_number(&mut octets, dumped_at, b',', lost);
+    let arrived_at = write_number(&mut octets, lost_at, b',', arrived);
+    text.extend_from_slice(&octets[arrived_at..])
 }
 
 // What a step does to a store.
-#[tactic(auto, using(std::proofs::Common::append_assoc), unfolding(crate::specs::Table::record_of))]
-fn push_record(text: &mut Vec<u8>, course: &Course<'_>, step: u32, store: usize) -> Pushed
+#[tactic(auto, using(std::proofs::Common::append_assoc), unfolding(crate::specs::Table::record_of, crate::specs::Table::place_cells))]
+fn push_record(
+    text: &mut Vec<u8>,
+    course: &Course<'_>,
+    front: &[u8],
+    step: u32,
+    store: usize,
+) -> Pushed
+    requires front { front.now ≡ step_cells step (window course.now.problem.now step) }
     requires store { store < length course.now.problem.now.rows }
     requires first { 1 ≤ step }
     requires last { step ≤ length course.now.problem.now.windows }
     ensures { OnOk result (text.new.items ≡ text.old.items
         ++ record_of course.now.problem.now (amount course.now.plan.now) step store) }
 {
-    push_place(text, course.problem, step, store)?;
+    text.extend_from_slice(front)?;
+    let id = course.problem.id(store);
+    text.extend_from_slice(id.text())?;
     let arrived = course.problem.arrivals(store, step);
     let lost = course.volumes.lost(store, step);
     let dumped = dumped(course, step, store);
@@ -103,8 +100,10 @@ fn push_step(text: &mut Vec<u8>, course: &Course<'_>, step: u32) -> Pushed
     ensures { OnOk result (text.new.items ≡ text.old.items
         ++ step_records course.now.problem.now (amount course.now.plan.now) step) }
 {
+    let mut octets = [0; PLACE_ROOM];
+    let first = write_step(&mut octets, step, course.problem.window(step));
     for store in 0..course.problem.stores() {
-        push_record(text, course, step, store)?;
+        push_record(text, course, &octets[first..], step, store)?;
     }
     Ok(())
 }
