@@ -5,6 +5,7 @@ ghost use Rattle.mm_cut.specs.declared.verdict.Verdict.TheVariants.{Least};
 ghost use Rattle.mm_chart.specs.Svg.{said, grouped, signed_grouped, closed};
 ghost use Rattle.mm_chart.specs.Words.{why_heading, words_of, at_most, sum_line, leaving, why, stretched, broken, stretched_at, stores_line, help, words, word_lines};
 
+use crate::column::Column;
 use crate::layout::{LINE_PITCH, MARGIN, word_line};
 use crate::marked::push_steps_line;
 use crate::pen::{
@@ -120,7 +121,7 @@ fn push_stretched(text: &mut Vec<u8>, picture: &Picture, store: usize) -> Pushed
     requires { store < length picture.now.problem.rows }
     ensures { OnOk result (text.new.items ≡ text.old.items ++ stretched picture.now store) }
 {
-    if picture.total(Series::Last(store)) == 0 {
+    if Column::new(picture, Series::Last(store)).total() == 0 {
         return Ok(());
     }
     push_said(text, b" ")?;
