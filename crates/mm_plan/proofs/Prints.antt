@@ -13,7 +13,7 @@ use Rattle.mm_plan.specs.Sheet.{SheetRows, IsSheet, IsWritten, Line, title_line,
 use Rattle.mm_plan.specs.Printing.{AreOrdered, AreRising, IsPrinted, ended, all_ended, spaced, plan_lines}
 
 -- the joined words, each but the first with its space
-join-spaced : (k : List ℕ) (ws : List (List ℕ)) → join_with_byte 32 (k ∷ ws) ≡ k ++ spaced ws
+pub join-spaced : (k : List ℕ) (ws : List (List ℕ)) → join_with_byte 32 (k ∷ ws) ≡ k ++ spaced ws
 join-spaced k [] = sym (append-nil k)
 join-spaced k (w ∷ ws) = ap (λ rest. k ++ 32 ∷ rest) (join-spaced w ws)
 

@@ -4,8 +4,9 @@ ghost use Rattle.mm_plan.specs.Reading.{may_follow, next_stage, after, take_line
 ghost use Rattle.mm_plan.specs.Seen.{seen};
 
 use crate::line::{Line, read_line};
+use crate::row::is_dump;
 use crate::stretch::{MAX_COUNTS, MAX_STRETCHES, Stretch};
-use mm_base::StoreId;
+use mm_base::{MAX_STEPS, MAX_STORES, StoreId};
 use std::alloc::{AllocError, Global};
 use std::marker::Model;
 
@@ -129,6 +130,26 @@ impl Draft {
         Ok(())
     }
 
+    // Takes a line where it is that of the next step, or answers that it is not, and nothing is changed then.
+    fn take_dump(&mut self, text: &[u8]) -> Result<bool, AllocError>
+        ensures { IfOk result (λ taken. MatchBool taken
+            (take_line self.old text.now ≡ Some self.new)
+            (self.new ≡ self.old)) }
+    {
+        let stores = self.stores.len();
+        if stores > MAX_STORES || self.steps >= MAX_STEPS || !matches!(self.stage, Stage::ToDumps) {
+            return Ok(false);
+        }
+        let mut amounts = [0; MAX_STORES];
+        let step = self.steps + 1;
+        if !is_dump(text, step, stores, &mut amounts) {
+            return Ok(false);
+        }
+        self.amounts.extend_from_slice(&amounts[..stores])?;
+        self.steps = step;
+        Ok(true)
+    }
+
     // Takes the next line, or answers that this line cannot come next.
     #[tactic(auto, unfolding(crate::specs::Reading::take_line, crate::specs::Reading::add_line))]
     pub(crate) fn take(&mut self, alloc: Global, text: &[u8]) -> Result<bool, AllocError>
@@ -136,6 +157,9 @@ impl Draft {
             (take_line self.old text.now ≡ Some self.new)
             (take_line self.old text.now ≡ None)) }
     {
+        if self.take_dump(text)? {
+            return Ok(true);
+        }
         let Some(line) = read_line(alloc, text)? else {
             return Ok(false);
         };

@@ -10,6 +10,7 @@ mod line;
 mod loss;
 mod plan;
 mod print;
+mod row;
 mod sheet;
 mod simulation;
 mod stretch;
