@@ -26,8 +26,11 @@ fn leading_number(text: &[u8]) -> Option<Front<'_>>
     }
     let mut number = u32::from(*first - b'0');
     let mut rest = after;
+    if number == 0 {
+        return Some(Front { number, rest });
+    }
     while let [digit, after @ ..] = rest {
-        if number == 0 || !digit.is_ascii_digit() {
+        if !digit.is_ascii_digit() {
             return Some(Front { number, rest });
         }
         if number > MAX_BLOCKS {
