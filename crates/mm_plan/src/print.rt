@@ -1,7 +1,8 @@
 //! The lines of a plan text, as they are printed.
-ghost use Rattle.std.specs.Prelude.{◌≡◌, ◌-◌, ◌*◌, ◌+◌, ◌<◌, ◌++◌, ◌∷◌, [], length, map, decimal, codes, IfOk, OnOk};
+ghost use Rattle.std.specs.Prelude.{◌≡◌, ◌-◌, ◌*◌, ◌+◌, ◌<◌, ◌≤◌, ◌++◌, ◌∷◌, [], length, map, drop, decimal, codes, IfOk, OnOk};
 ghost use Rattle.std.specs.Fmt.{signed_decimal};
-ghost use Rattle.mm_base.specs.Characters.{space};
+ghost use Rattle.mm_base.specs.Characters.{line_feed, space};
+ghost use Rattle.mm_base.specs.declared.limits.TheConstants.{MAX_STORES};
 ghost use Rattle.mm_base.specs.Id.{id_text};
 ghost use Rattle.mm_plan.specs.Sheet.{title_line, stores_line, dump_line, loss_line, stretch_line, count_line, bound_line, end_line, dump_lines};
 ghost use Rattle.mm_plan.specs.Printing.{place_of, stretch_key, AreOrdered, AreRising, ended, all_ended, spaced, plan_lines};
@@ -9,8 +10,8 @@ ghost use Rattle.mm_plan.specs.Printing.{place_of, stretch_key, AreOrdered, AreR
 use crate::plan::Plan;
 use crate::stretch::Stretch;
 use itoa::write_digits;
-use mm_base::StoreId;
 use mm_base::numbers::push_number;
+use mm_base::{MAX_STORES, StoreId};
 use std::alloc::{AllocError, Global};
 
 /// Whether memory was found for what was to be pushed.
@@ -80,14 +81,74 @@ fn push_amounts(text: &mut Vec<u8>, amounts: &[u32]) -> Pushed
     Ok(())
 }
 
-fn push_dump(text: &mut Vec<u8>, step: u32, amounts: &[u32]) -> Pushed
-    ensures { OnOk result (text.new.items ≡ text.old.items ++ ended (dump_line step amounts.now)) }
+// Writes a space and the digits of a number so that they end at a place, and answers where they start. They take at
+// most 11 octets.
+fn write_number_word(octets: &mut [u8], end: usize, number: u32) -> usize
+    requires room { 11 ≤ end }
+    requires within { end ≤ length octets.old }
+    ensures written { drop result octets.new ≡ space ∷ decimal number ++ drop end octets.old }
+    ensures least { end ≤ result + 11 }
+    ensures most { result ≤ end }
 {
-    text.extend_from_slice(b"dump")?;
+    let first = write_digits(u64::from(number), octets, end) - 1;
+    octets[first] = b' ';
+    first
+}
+
+// The same for several numbers, from the last to the first.
+fn write_amounts(octets: &mut [u8], end: usize, amounts: &[u32]) -> usize
+    requires room { 11 * length amounts.now ≤ end }
+    requires within { end ≤ length octets.old }
+    ensures written { drop result octets.new ≡ spaced (map decimal amounts.now) ++ drop end octets.old }
+    ensures least { end ≤ result + 11 * length amounts.now }
+    ensures most { result ≤ end }
+{
+    let mut first = end;
+    let mut left = amounts.len();
+    while left > 0 {
+        left -= 1;
+        first = write_number_word(octets, first, amounts[left]);
+    }
+    first
+}
+
+// A step and the amounts of all stores have room in as many octets, with a line feed.
+const DUMP_ROOM: usize = 11 * (MAX_STORES + 1) + 1;
+
+// The words of a dump line after its keyword, in one piece up to its line feed.
+#[tactic(auto, using(std::proofs::Common::append_assoc))]
+fn push_row(text: &mut Vec<u8>, step: u32, amounts: &[u32]) -> Pushed
+    requires { length amounts.now ≤ MAX_STORES }
+    ensures { OnOk result (text.new.items ≡ text.old.items
+        ++ space ∷ decimal step ++ spaced (map decimal amounts.now) ++ line_feed ∷ []) }
+{
+    let mut octets = [b'\n'; DUMP_ROOM];
+    let end = write_amounts(&mut octets, DUMP_ROOM - 1, amounts);
+    let first = write_number_word(&mut octets, end, step);
+    text.extend_from_slice(&octets[first..])
+}
+
+// The same of any number of stores.
+#[tactic(auto, using(std::proofs::Common::append_assoc))]
+fn push_words(text: &mut Vec<u8>, step: u32, amounts: &[u32]) -> Pushed
+    ensures { OnOk result (text.new.items ≡ text.old.items
+        ++ space ∷ decimal step ++ spaced (map decimal amounts.now) ++ line_feed ∷ []) }
+{
     push_number_word(text, u64::from(step))?;
     push_amounts(text, amounts)?;
     text.push(b'\n')?;
     Ok(())
+}
+
+fn push_dump(text: &mut Vec<u8>, step: u32, amounts: &[u32]) -> Pushed
+    ensures { OnOk result (text.new.items ≡ text.old.items ++ ended (dump_line step amounts.now)) }
+{
+    text.extend_from_slice(b"dump")?;
+    if amounts.len() <= MAX_STORES {
+        push_row(text, step, amounts)
+    } else {
+        push_words(text, step, amounts)
+    }
 }
 
 // A line for each step, with the amounts of as many stores.
