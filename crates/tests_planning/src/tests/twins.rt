@@ -39,6 +39,7 @@ macro_rules! counted {
     };
 }
 
+mod flows;
 mod paths;
 mod proposals;
 mod sides;
