@@ -1,10 +1,10 @@
 //! Numbers in texts: decimal, without sign and without leading zeros.
-ghost use Rattle.std.specs.Prelude.{◌≡◌, ◌+◌, ◌-◌, ◌*◌, ◌++◌, nat_le, decimal, ◌≤◌, ◌&&◌, not, length, Some, None, OnOk, if◌then◌else◌};
+ghost use Rattle.std.specs.Prelude.{◌≡◌, ◌+◌, ◌-◌, ◌*◌, ◌++◌, ◌∷◌, nat_le, decimal, ◌≤◌, ◌&&◌, not, length, drop, Some, None, OnOk, if◌then◌else◌};
 ghost use Rattle.std.specs.Char.{is_ascii_digit};
 ghost use Rattle.std.specs.List.{list_all};
 ghost use Rattle.mm_base.specs.Numbers.{is_number, value_after, digits_number, digits_numeral, numeral_within, numeral_of, IsWithin};
 
-use itoa::Buffer;
+use itoa::{Buffer, write_digits};
 use std::alloc::AllocError;
 
 /// What a text is as a number up to a bound.
@@ -33,7 +33,7 @@ impl Numeral {
     }
 }
 
-// The digits of any number that is below 2^64 whatever its digits are.
+// A number of at most this many digits is below 2^64, whichever they are.
 const SHORT: usize = 19;
 
 // Whether the text is empty, or a 0 stands before something else.
@@ -48,7 +48,6 @@ fn begins_as_no_number(text: &[u8]) -> bool
 }
 
 // The number with these digits, where each is a digit.
-#[tactic(auto, using(crate::proofs::NumberLaws::digits_more, crate::proofs::NumberLaws::digits_all, crate::proofs::NumberLaws::no_digit, crate::proofs::NumberLaws::has_room, crate::proofs::NumberLaws::more_digits))]
 fn short_value(digits: &[u8]) -> Option<u64>
     requires { length digits.now ≤ SHORT }
     ensures { result ≡ digits_number 0 digits.now }
@@ -126,4 +125,18 @@ pub fn push_number(text: &mut Vec<u8>, number: u64) -> Result<(), AllocError>
 {
     let mut buffer = Buffer::new();
     text.extend_from_slice(buffer.format(number).as_bytes())
+}
+
+/// Writes an octet and the digits of a number after it so that they end at a place, and answers where they start. They
+/// take at most 11 octets. A line with several numbers is written so from its last to its first.
+pub fn write_number(octets: &mut [u8], end: usize, octet: u8, number: u32) -> usize
+    requires room { 11 ≤ end }
+    requires within { end ≤ length octets.old }
+    ensures written { drop result octets.new ≡ octet ∷ decimal number ++ drop end octets.old }
+    ensures least { end ≤ result + 11 }
+    ensures most { result ≤ end }
+{
+    let first = write_digits(u64::from(number), octets, end) - 1;
+    octets[first] = octet;
+    first
 }

@@ -2,7 +2,6 @@
 #![tactic(auto)]
 
 mod column;
-mod digits;
 mod document;
 mod headline;
 mod laws;

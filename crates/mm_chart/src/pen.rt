@@ -9,12 +9,11 @@ ghost use Rattle.mm_chart.specs.Layout.{IsPlaced};
 ghost use Rattle.mm_chart.specs.Svg.{said, separated, grouped, signed_grouped, style_name, opened, closed, labelled, height_of, line_at, begun, rise, bar_line, step_outline, series_name, path_begun, outlined, profile};
 
 use crate::column::Column;
-use crate::digits::write_number;
 use crate::layout::{base_of, edge_at, room_of, step_width};
 use crate::picture::{Picture, scaled};
 use crate::series::Series;
 use itoa::Buffer;
-use mm_base::numbers::push_number;
+use mm_base::numbers::{push_number, write_number};
 use std::alloc::AllocError;
 
 /// How a line of words looks, and where it begins.

@@ -7,9 +7,9 @@ ghost use Rattle.mm_problem.specs.Dumping.{steps, window};
 ghost use Rattle.mm_plan.specs.Table.{amount, HasShape};
 ghost use Rattle.mm_chart.specs.Table.{dumped, step_cells, volume_cells, record_of, step_records, table, IsTableOf, IsSimulation};
 
-use crate::digits::write_number;
 use crate::pen::Pushed;
 use itoa::write_digits;
+use mm_base::numbers::write_number;
 use mm_cut::{Fault, read_texts};
 use mm_plan::{Plan, Simulated, simulate};
 use mm_problem::Problem;

@@ -37,7 +37,7 @@ pub record IsUp (g : Graph) (f : Flow) (marks : List Mark) (e : ℕ) : Type 0 wh
   pub up : level marks (tail g e) < level marks (head g e)
   pub open_still : 0 < residual g f e
 
--- an entry leads up from a node to one whose cursor stands
+-- an entry leads up from a node to one that has entries left to try
 pub record IsAhead (g : Graph) (f : Flow) (marks : List Mark) (next : List ℕ) (n e : ℕ) : Type 0 where
   pub leaves : tail g e ≡ n
   pub up : IsUp g f marks e

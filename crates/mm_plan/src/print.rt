@@ -10,7 +10,7 @@ ghost use Rattle.mm_plan.specs.Printing.{place_of, stretch_key, AreOrdered, AreR
 use crate::plan::Plan;
 use crate::stretch::Stretch;
 use itoa::write_digits;
-use mm_base::numbers::push_number;
+use mm_base::numbers::{push_number, write_number};
 use mm_base::{MAX_STORES, StoreId};
 use std::alloc::{AllocError, Global};
 
@@ -81,21 +81,7 @@ fn push_amounts(text: &mut Vec<u8>, amounts: &[u32]) -> Pushed
     Ok(())
 }
 
-// Writes a space and the digits of a number so that they end at a place, and answers where they start. They take at
-// most 11 octets.
-fn write_number_word(octets: &mut [u8], end: usize, number: u32) -> usize
-    requires room { 11 ≤ end }
-    requires within { end ≤ length octets.old }
-    ensures written { drop result octets.new ≡ space ∷ decimal number ++ drop end octets.old }
-    ensures least { end ≤ result + 11 }
-    ensures most { result ≤ end }
-{
-    let first = write_digits(u64::from(number), octets, end) - 1;
-    octets[first] = b' ';
-    first
-}
-
-// The same for several numbers, from the last to the first.
+// Writes a space and the digits of a number for each of several so that they end at a place, and answers where they start.
 fn write_amounts(octets: &mut [u8], end: usize, amounts: &[u32]) -> usize
     requires room { 11 * length amounts.now ≤ end }
     requires within { end ≤ length octets.old }
@@ -107,7 +93,7 @@ fn write_amounts(octets: &mut [u8], end: usize, amounts: &[u32]) -> usize
     let mut left = amounts.len();
     while left > 0 {
         left -= 1;
-        first = write_number_word(octets, first, amounts[left]);
+        first = write_number(octets, first, b' ', amounts[left]);
     }
     first
 }
@@ -124,7 +110,7 @@ fn push_row(text: &mut Vec<u8>, step: u32, amounts: &[u32]) -> Pushed
 {
     let mut octets = [b'\n'; DUMP_ROOM];
     let end = write_amounts(&mut octets, DUMP_ROOM - 1, amounts);
-    let first = write_number_word(&mut octets, end, step);
+    let first = write_number(&mut octets, end, b' ', step);
     text.extend_from_slice(&octets[first..])
 }
 
