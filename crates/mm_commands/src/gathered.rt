@@ -21,6 +21,31 @@ pub(crate) struct Gathered {
     line: ArrayVec<u8, LINE>,
 }
 
+// The writer takes these bytes one by one.
+fn write_singly<W: Write>(writer: &mut W, bytes: &[u8]) -> io::Result<()>
+    ensures taken { OnOk result (Appends (W.contents writer.old) (W.contents writer.new) bytes.now) }
+{
+    for byte in bytes {
+        writer.write_all(&[*byte])?;
+    }
+    Ok(())
+}
+
+// The writer takes these bytes, as many at once as it likes. Where it takes none, those that are left come to it one by one, so that
+// it takes no fewer than if they had come in small pieces.
+fn write_out<W: Write>(writer: &mut W, bytes: &[u8]) -> io::Result<()>
+    ensures taken { OnOk result (Appends (W.contents writer.old) (W.contents writer.new) bytes.now) }
+{
+    let mut rest = bytes;
+    while !rest.is_empty() {
+        match writer.write(rest) {
+            Ok(count) if count > 0 => rest = &rest[count..],
+            _ => return write_singly(writer, rest),
+        }
+    }
+    Ok(())
+}
+
 impl Gathered {
     /// No lines.
     pub(crate) fn new() -> Gathered
@@ -44,7 +69,7 @@ impl Gathered {
         }
         if self.lines.try_extend_from_slice(&self.line).is_err() {
             self.give(writer)?;
-            return writer.write_all(&self.line);
+            return write_out(writer, &self.line);
         }
         Ok(())
     }
@@ -58,7 +83,7 @@ impl Gathered {
         if self.lines.is_empty() {
             return Ok(());
         }
-        writer.write_all(&self.lines)?;
+        write_out(writer, &self.lines)?;
         self.lines.clear();
         Ok(())
     }

@@ -58,9 +58,9 @@ fn passed(rows: &[RouteRow], stores: &[Held]) -> usize
         .unwrap_or(stores.len())
 }
 
-// Offers a packet to each of the stores to which one of the rows leads, as one does to the first: copies of it, and it itself to one. The
-// copies are made first.
-fn offer_led(
+// Offers a packet to each of the stores to which one of the rows leads; the first is one. It takes the packet itself, and the others
+// take copies, which are all made before the first offer.
+fn offer_from_first(
     alloc: Global,
     stores: &mut [Held],
     rows: &[RouteRow],
@@ -84,8 +84,8 @@ fn offer_led(
     if next == rest.len() {
         return Ok(offer_one(first, now, packet));
     }
-    let (_passed, led) = rest.split_at_mut(next);
-    let more = offer_led(alloc, led, rows, now, packet.copy(alloc)?)?;
+    let (_passed, others) = rest.split_at_mut(next);
+    let more = offer_from_first(alloc, others, rows, now, packet.copy(alloc)?)?;
     let one = offer_one(first, now, packet);
     Ok(Tally {
         kept: one.kept + more.kept,
@@ -111,8 +111,8 @@ fn offer_each(
     if first == stores.len() {
         return Ok(Tally::nothing());
     }
-    let (_passed, led) = stores.split_at_mut(first);
-    let tally = offer_led(alloc, led, rows, now, packet)?;
+    let (_passed, others) = stores.split_at_mut(first);
+    let tally = offer_from_first(alloc, others, rows, now, packet)?;
     Ok(tally)
 }
 

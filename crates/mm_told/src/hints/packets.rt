@@ -2,8 +2,8 @@
 
 use crate::hints::Hint;
 use crate::hints::excerpt::Excerpt;
-use crate::hints::form::{end_hint, file_hint};
-use crate::hints::lines::LineFinder;
+use crate::hints::form::{end_hint, file_hint, form_hint};
+use crate::hints::lines::{LineFinder, line_at};
 use crate::hints::sentence::{Sentence, Shown};
 use mm_base::Refusal;
 
@@ -116,5 +116,11 @@ impl<'a> RequestHints<'a> {
 /// What is found in this line of a file of requests, which is refused so.
 #[must_use]
 pub fn request_hint(refusal: Refusal, requests: &[u8], line: u64) -> Option<Hint> {
-    RequestHints::new(requests).hint(refusal, line)
+    if !is_of_digits(refusal) {
+        return None;
+    }
+    match form_hint(requests, line) {
+        Some(hint) => Some(Hint::Said(hint)),
+        None => Some(Hint::Said(packet_hint(line_at(requests, line)?, line)?)),
+    }
 }

@@ -3,8 +3,10 @@
 
 use crate::tests::samples::{Answer, SCI, holds, joined, told_bytes};
 use mm_base::Refusal;
+use mm_commands::run_script;
 use mm_told::{Words, refusal_numbered, request_hint};
 use std::alloc::Global;
+use std::io::{self, ErrorKind, Write};
 use std::process::Abort;
 use std::sync::Wait;
 use std::thread::Threads;
@@ -150,5 +152,70 @@ fn long_lines_are_told_as_by_a_plain_form(rt: HostRuntime) {
         let name = "P".repeat(rt.alloc(), len).expect(&rt, "memory");
         let front = joined(&rt, &["read ", name.as_str(), "\n"]);
         is_as_plain(&rt, front.as_str(), name.as_str(), "packet", text.as_str());
+    }
+}
+
+// A writer that has room for so many bytes. Of what it has no room for it takes a part, or refuses it whole.
+#[derive(Drop)]
+struct Narrow {
+    taken: Vec<u8>,
+    room: usize,
+    takes_parts: bool,
+}
+
+impl Write for Narrow {
+    fn write(&mut self, buf: &[u8]) -> io::Result<usize> {
+        let room = self.room.saturating_sub(self.taken.len());
+        if room < buf.len() && (room == 0 || !self.takes_parts) {
+            return Err(io::Error::from(ErrorKind::WouldBlock));
+        }
+        let count = room.min(buf.len());
+        match self.taken.extend_from_slice(&buf[..count]) {
+            Ok(()) => Ok(count),
+            Err(_) => Err(io::Error::from(ErrorKind::OutOfMemory)),
+        }
+    }
+
+    fn flush(&mut self) -> io::Result<()> {
+        Ok(())
+    }
+}
+
+// Standard error with room for so many bytes has taken that many of what the program says.
+fn takes_all_it_can<R: Abort + AllocGlobal + Threads + Wait + Sync>(
+    rt: &R,
+    script: &[u8],
+    said: &[u8],
+    room: usize,
+    takes_parts: bool,
+) {
+    let alloc = rt.alloc();
+    let mut out = Vec::new(alloc);
+    let mut err = Narrow {
+        taken: Vec::new(alloc),
+        room,
+        takes_parts,
+    };
+    run_script(rt, alloc, script, &mut out, &mut err);
+    let all = &said[..room.min(said.len())];
+    assert!(rt; err.taken.as_slice() == all, "room {room}, parts {takes_parts}");
+}
+
+#[test]
+fn standard_error_takes_all_that_it_has_room_for(rt: HostRuntime) {
+    let mut state = 1;
+    let mut text = String::new(rt.alloc());
+    made(&rt, &mut text, 350, &mut state);
+    let script = joined(&rt, &["read P\n=== P\n", text.as_str()]);
+    let answer = told_bytes(&rt, script.as_bytes());
+    let said = all_said(&rt, "P", "packet", "", &answer);
+    let len = said.len();
+    assert!(rt; len > 3 * 8192);
+    for room in [
+        0, 1, 99, 1000, 4096, 8191, 8192, 8193, 9000, 16_383, 16_385, len - 1, len, len + 1,
+    ] {
+        for takes_parts in [false, true] {
+            takes_all_it_can(&rt, script.as_bytes(), said.as_bytes(), room, takes_parts);
+        }
     }
 }

@@ -13,8 +13,8 @@ returns-then-first-stores-clause-tally c =
     let none : lead_to_any c.args.rows.now c.args.stores.now ≡ false = all_passed c.args.rows.now c.args.stores.now cc in
     c.nothing.ensures ∙ sym (tally_none c.args.now c.args.rows.now c.args.packet c.args.stores.now none)
 
-pub offer_led-requires-clause-first : goal.offer_led-requires-clause-first
-offer_led-requires-clause-first c =
+pub offer_from_first-requires-clause-first : goal.offer_from_first-requires-clause-first
+offer_from_first-requires-clause-first c =
     let led : c.split_at_mut-passed.result.1.now ≡ drop (passed c.args.rows.now c.args.stores.now) c.args.stores.now = cc in
     rw led (none_passed c.args.rows.now c.args.stores.now)
 

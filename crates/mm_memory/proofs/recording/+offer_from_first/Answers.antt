@@ -1,7 +1,7 @@
 use Rattle.std.proofs.Common.{◌≡◌, length, take, drop, ◌∷◌, ap, true, false, arith}
 use Rattle.mm_memory.specs.Routing.{leads_to, lead_to_any, passed}
 use Rattle.mm_memory.proofs.RoutingLemmas.{after_first, tally_first, first_leads, all_passed, none_passed, after_more, tally_more}
-use Rattle.mm_memory.proofs.recording.+offer_led.Goals as goal
+use Rattle.mm_memory.proofs.recording.+offer_from_first.Goals as goal
 
 pub returns-then-next-rest-clause-stores : goal.returns-then-next-rest-clause-stores
 returns-then-next-rest-clause-stores t c =
@@ -19,8 +19,8 @@ returns-then-next-rest-clause-tally t c =
     let none : lead_to_any c.args.rows.now rest ≡ false = all_passed c.args.rows.now rest cc in
     tally_first c.args.now c.args.rows.now c.args.packet first rest c.args.stores.now c.offer_one.result c.in-Some.ensures.cases.0 leads none c.offer_one.ensures.tally
 
-pub offer_led-requires : goal.offer_led-requires
-offer_led-requires t c =
+pub offer_from_first-requires : goal.offer_from_first-requires
+offer_from_first-requires t c =
     let rest = c.in-Some.rest.now in
     let led = c.split_at_mut-passed.result.1.now in
     let after : led ≡ drop (passed c.args.rows.now rest) rest = cc in
@@ -39,7 +39,7 @@ returns-clause-stores t c =
     let before : c.split_at_mut-passed.result.0.now ≡ take (passed c.args.rows.now rest) rest = cc in
     let led : c.split_at_mut-passed.result.1.now ≡ drop (passed c.args.rows.now rest) rest = cc in
     let after = rw (led, c.in_ok-copy.ensures.same) at c.in_ok-more.ensures.stores in
-    rw before (after_more c.args.now c.args.rows.now c.args.packet c.in-Some.first.now c.offer_one-one.new.held rest c.offer_led.new.stores c.args.stores.now c.in-Some.ensures.cases.0 c.requires.first c.offer_one-one.ensures.store after)
+    rw before (after_more c.args.now c.args.rows.now c.args.packet c.in-Some.first.now c.offer_one-one.new.held rest c.offer_from_first.new.stores c.args.stores.now c.in-Some.ensures.cases.0 c.requires.first c.offer_one-one.ensures.store after)
 
 pub returns-clause-tally : goal.returns-clause-tally
 returns-clause-tally t c =

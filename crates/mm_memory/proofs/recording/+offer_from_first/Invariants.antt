@@ -1,0 +1,5 @@
+use Rattle.std.proofs.Common.{length}
+use Rattle.mm_memory.proofs.recording.+offer_from_first.Given as goal
+
+abbrev pub decreases-offer_from_first : goal.decreases-offer_from_first
+decreases-offer_from_first l = length l.stores.now
