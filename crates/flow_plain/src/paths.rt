@@ -1,21 +1,31 @@
-//! The solver by shortest augmenting paths.
+//! A maximum flow by shortest augmenting paths (Ford and Fulkerson, 1956; Edmonds and Karp, 1972).
+ghost use Rattle.std.specs.Prelude.{◌<◌, IfOk};
+ghost use Rattle.flow_plain.specs.Refusing.{RefusesFaults};
+ghost use Rattle.flow_plain.specs.Solution.{IsSolved};
+
+use crate::fault::Fault;
+use crate::network::Network;
+use crate::solved::Solved;
 use crate::tables::Tables;
-use mm_flow::{Fault, Network, Solved};
 use std::alloc::Global;
 
-/// A maximum flow from the source to the sink, and a minimum cut, by shortest augmenting paths (Ford and Fulkerson, 1956;
-/// Edmonds and Karp, 1972).
+/// A maximum flow from the source to the sink, and a minimum cut, by shortest augmenting paths.
+///
+/// `SameEnds` is tested first. Where a path of unlimited arcs leads from the source to the sink the answer is
+/// `Unbounded`. Want of memory aside, these are the only refusals.
 pub fn solve_paths(
     alloc: Global,
     network: &Network,
     source: u32,
     sink: u32,
-) -> Result<Solved, Fault> {
+) -> Result<Solved, Fault>
+    requires source { source < network.now.graph.nodes }
+    requires sink { sink < network.now.graph.nodes }
+    ensures solved { IfOk result (IsSolved network.now.graph source sink) }
+    ensures refused { RefusesFaults network.now.graph source sink result }
+{
     let mut tables = Tables::new(alloc, network, source, sink)?;
-    for _ in 0..u64::MAX {
-        if !tables.search_anew() {
-            break;
-        }
+    while tables.search_anew() {
         tables.augment();
     }
     Ok(tables.solved(alloc)?)

@@ -1,6 +1,7 @@
 //! Phases of level graphs and blocking flows (Dinitz, 1970).
-use crate::links::entry_at;
-use crate::places::{at, set};
+ghost use Rattle.std.specs.Prelude.{◌≡◌, ◌≢◌, ◌<◌, ◌≤◌, ◌-◌, true, length, slice_index, IfOk, IfSome, IfNone};
+ghost use Rattle.flow_plain.specs.Levels.{IsCursors};
+
 use crate::residual::{head, residual, twin};
 use crate::tables::Tables;
 use std::alloc::{AllocError, Global};
@@ -12,13 +13,22 @@ use std::alloc::{AllocError, Global};
 #[derive(Drop)]
 pub(crate) struct Phase<'a> {
     pub(crate) tables: Tables<'a>,
-    next: Vec<usize>,
-    ahead: Vec<usize>,
+    next: Vec<u32>,
+    ahead: Vec<u32>,
+    ghost cursors: { IsCursors tables.network.now.graph next.items },
+    ghost places: { length ahead.items ≡ tables.network.now.graph.nodes },
 }
 
 impl<'a> Phase<'a> {
+    ghost use Rattle.flow_plain.specs.Residual.{entries, tail, twin};
+    ghost use Rattle.flow_plain.specs.Marks.{level};
+    ghost use Rattle.flow_plain.specs.Task.{SameTask, IsOpen, Reaches, IsOver};
+    ghost use Rattle.flow_plain.specs.Phase.{LeadsFrom, LeadsUp, cursors_of};
+
     // A solver before its first phase.
-    pub(crate) fn new(alloc: Global, tables: Tables<'a>) -> Result<Phase<'a>, AllocError> {
+    pub(crate) fn new(alloc: Global, tables: Tables<'a>) -> Result<Phase<'a>, AllocError>
+        ensures { IfOk result (λ phase. phase.tables ≡ tables.entry) }
+    {
         let nodes = tables.network.node_count();
         Ok(Phase {
             tables,
@@ -28,38 +38,46 @@ impl<'a> Phase<'a> {
     }
 
     // Moves flow until a search no longer reaches the sink.
-    pub(crate) fn run(&mut self) {
-        for _ in 0..u64::MAX {
-            if !self.tables.search_anew() {
-                return;
-            }
+    pub(crate) fn run(&mut self)
+        ensures task { SameTask self.old.tables self.new.tables }
+        ensures over { IsOver self.new.tables }
+    {
+        while self.tables.search_anew() {
             self.block();
         }
     }
 
     // Moves flow along the path by which the search reached the sink, and then along further paths of its levels until
     // the cursors lead to none.
-    fn block(&mut self) {
+    pub(crate) fn block(&mut self)
+        requires way { Reaches self.old.tables self.old.tables.sink }
+        ensures task { SameTask self.old.tables self.new.tables }
+        ensures more { self.old.tables.value < self.new.tables.value }
+    {
         self.tables.augment();
         self.begin();
-        for _ in 0..u64::MAX {
-            if !self.find_path() {
-                return;
-            }
+        while self.find_path() {
             self.tables.augment();
         }
     }
 
     // Puts the sink above all levels, and each cursor at its node's last entry.
-    fn begin(&mut self) {
+    fn begin(&mut self)
+        ensures task { SameTask self.old.tables self.new.tables }
+        ensures value { self.new.tables.value ≡ self.old.tables.value }
+    {
         self.tables.raise_sink();
         for node in 0..self.next.len() {
-            set(&mut self.next, node, self.tables.links.last(node));
+            self.next[node] = self.tables.links.last[node];
         }
     }
 
     // Looks for a path on which each arc leads to a higher level, and marks its nodes.
-    fn find_path(&mut self) -> bool {
+    fn find_path(&mut self) -> bool
+        ensures task { SameTask self.old.tables self.new.tables }
+        ensures value { self.new.tables.value ≡ self.old.tables.value }
+        ensures way { result ≡ true → Reaches self.new.tables self.new.tables.sink }
+    {
         let found = self.lead_back();
         if found {
             self.follow();
@@ -68,78 +86,98 @@ impl<'a> Phase<'a> {
     }
 
     // Looks for such a path from the sink back to the source.
-    fn lead_back(&mut self) -> bool {
-        let mut node = self.tables.sink;
-        for _ in 0..u64::MAX {
-            if node == self.tables.search.source {
-                return true;
-            }
-            if let Some(from) = self.step_back(node) {
-                node = from;
-            } else if node == self.tables.sink {
+    fn lead_back(&mut self) -> bool
+        ensures tables { self.new.tables ≡ self.old.tables }
+        ensures leads { result ≡ true → LeadsFrom self.new self.new.tables.search.source }
+    {
+        let mut at = self.tables.sink;
+        while at != self.tables.search.source {
+            if let Some(from) = self.step_back(at) {
+                at = from;
+            } else if at == self.tables.sink {
                 return false;
             } else {
-                node = self.retreat(node);
+                at = self.retreat(at);
             }
         }
-        false
+        true
     }
 
     // Takes a path from a node on one step back, if its cursor leads to a way.
-    fn step_back(&mut self, node: u32) -> Option<u32> {
-        let cursor = self.way_back(node);
-        set(&mut self.next, node as usize, cursor);
+    fn step_back(&mut self, at: u32) -> Option<u32>
+        requires leads { LeadsFrom self.old at }
+        ensures tables { self.new.tables ≡ self.old.tables }
+        ensures cursors { cursors_of self.new ≤ cursors_of self.old }
+        ensures leads { IfSome result (LeadsFrom self.new) }
+        ensures lower { IfSome result (λ from. level self.new.tables.search.marks.items from
+            < level self.new.tables.search.marks.items at) }
+        ensures stays { IfNone result (LeadsFrom self.new at) }
+    {
+        let cursor = self.way_back(at);
+        self.next[at as usize] = cursor;
         if cursor == 0 {
             return None;
         }
-        let entry = entry_at(cursor);
+        let entry = cursor as usize - 1;
         let from = head(self.tables.network, entry);
-        let ahead = twin(self.tables.network, entry);
-        set(&mut self.ahead, from as usize, ahead);
+        self.ahead[from as usize] = twin(self.tables.network, entry) as u32;
         Some(from)
     }
 
     // Moves a node's cursor on to an entry whose twin leads up to the node.
-    fn way_back(&self, node: u32) -> usize {
-        let height = self.tables.search.level(node);
-        let mut cursor = at(&self.next, node as usize, 0);
-        for _ in 0..u64::MAX {
-            if cursor == 0 || self.leads_up(entry_at(cursor), height) {
-                break;
-            }
-            cursor = self.tables.links.before(cursor);
+    fn way_back(&self, at: u32) -> u32
+        requires known { at < self.now.tables.network.now.graph.nodes }
+        ensures most { result ≤ slice_index self.now.next.items at }
+        ensures leads { 0 < result → LeadsUp self.now at (result - 1) }
+    {
+        let height = self.tables.search.marks[at as usize].level;
+        let mut cursor = self.next[at as usize];
+        while cursor > 0 && !self.leads_up(cursor as usize - 1, height) {
+            cursor = self.tables.links.before[cursor as usize - 1];
         }
         cursor
     }
 
     // Whether an entry's twin can be taken to a node at this level.
-    fn leads_up(&self, entry: usize, height: u32) -> bool {
+    fn leads_up(&self, entry: usize, height: u32) -> bool
+        requires known { entry < entries self.now.tables.network.now.graph }
+        requires height { height ≡ level self.now.tables.search.marks.items
+            (tail self.now.tables.network.now.graph entry) }
+        ensures { result ≡ true → IsOpen self.now.tables
+            (twin self.now.tables.network.now.graph entry) }
+    {
         let from = head(self.tables.network, entry);
-        let below = self.tables.search.level(from);
+        let below = self.tables.search.marks[from as usize].level;
         let back = twin(self.tables.network, entry);
         below > 0 && below < height && residual(self.tables.network, &self.tables.flow, back) > 0
     }
 
     // Takes a path one step towards the sink again, and moves the cursor of the node there on.
-    fn retreat(&mut self, node: u32) -> u32 {
-        let ahead = at(&self.ahead, node as usize, 0);
-        let to = head(self.tables.network, ahead);
-        let cursor = at(&self.next, to as usize, 0);
-        let before = self.tables.links.before(cursor);
-        set(&mut self.next, to as usize, before);
+    fn retreat(&mut self, at: u32) -> u32
+        requires leads { LeadsFrom self.old at }
+        requires inner { at ≢ self.old.tables.sink }
+        ensures tables { self.new.tables ≡ self.old.tables }
+        ensures cursors { cursors_of self.new < cursors_of self.old }
+        ensures leads { LeadsFrom self.new result }
+    {
+        let to = head(self.tables.network, self.ahead[at as usize] as usize);
+        let cursor = self.next[to as usize];
+        self.next[to as usize] = self.tables.links.before[cursor as usize - 1];
         to
     }
 
     // Marks the nodes of the path anew, from the source on.
-    fn follow(&mut self) {
-        let mut node = self.tables.search.source;
-        for _ in 0..u64::MAX {
-            if node == self.tables.sink {
-                return;
-            }
-            let entry = at(&self.ahead, node as usize, 0);
+    fn follow(&mut self)
+        requires leads { LeadsFrom self.old self.old.tables.search.source }
+        ensures task { SameTask self.old.tables self.new.tables }
+        ensures value { self.new.tables.value ≡ self.old.tables.value }
+        ensures way { Reaches self.new.tables self.new.tables.sink }
+    {
+        let mut at = self.tables.search.source;
+        while at != self.tables.sink {
+            let entry = self.ahead[at as usize] as usize;
             self.tables.reach_by(entry);
-            node = head(self.tables.network, entry);
+            at = head(self.tables.network, entry);
         }
     }
 }

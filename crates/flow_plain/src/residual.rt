@@ -1,76 +1,92 @@
 //! The residual network: each arc forward and backward, as entries numbered from 0.
-use crate::places::{at, set};
-use mm_flow::{Arc, Network};
+ghost use Rattle.std.specs.Prelude.{◌≡◌, ◌<◌, ◌≤◌, length, slice_index};
+ghost use Rattle.flow_plain.specs.Residual.{entries, tail, head, twin, place, residual, IsPushed};
+ghost use Rattle.flow_plain.specs.Flow.{IsWithin};
+ghost use Rattle.flow_plain.specs.Graph.{IsNetwork};
 
-/// The residual capacity that an unlimited arc shows, which is above every limited one.
-pub(crate) const UNLIMITED: u64 = 1 << 60;
-
-const NO_ARC: Arc = Arc {
-    from: 0,
-    to: 0,
-    capacity: Some(0),
-};
-
-// The arc with this number.
-fn arc(network: &Network, number: usize) -> Arc {
-    if number < network.arc_count() {
-        network.arc(number)
-    } else {
-        NO_ARC
-    }
-}
+use crate::limits::{MAX_VALUE, UNLIMITED};
+use crate::network::Network;
 
 // How many entries the network has.
-pub(crate) fn entry_count(network: &Network) -> usize {
-    network.arc_count().saturating_mul(2)
+pub(crate) fn entry_count(network: &Network) -> usize
+    ensures { result ≡ entries network.now.graph }
+{
+    2 * network.arc_count()
 }
 
 // The node that an entry leaves.
-pub(crate) fn tail(network: &Network, entry: usize) -> u32 {
+#[tactic(auto, unfolding(crate::specs::Residual::tail))]
+pub(crate) fn tail(network: &Network, entry: usize) -> u32
+    requires { entry < entries network.now.graph }
+    ensures node { result ≡ tail network.now.graph entry }
+    ensures known { result < network.now.graph.nodes }
+    ensures network { IsNetwork network.now.graph }
+{
     let arcs = network.arc_count();
     if entry < arcs {
-        arc(network, entry).from
+        network.arc(entry).from
     } else {
-        arc(network, entry - arcs).to
+        network.arc(entry - arcs).to
     }
 }
 
 // The entry of the same arc that leads the other way.
-pub(crate) fn twin(network: &Network, entry: usize) -> usize {
+#[tactic(auto, unfolding(crate::specs::Residual::twin))]
+pub(crate) fn twin(network: &Network, entry: usize) -> usize
+    requires { entry < entries network.now.graph }
+    ensures twin { result ≡ twin network.now.graph entry }
+    ensures known { result < entries network.now.graph }
+    ensures network { IsNetwork network.now.graph }
+{
     let arcs = network.arc_count();
     if entry < arcs {
-        entry.saturating_add(arcs)
+        entry + arcs
     } else {
         entry - arcs
     }
 }
 
 // The node that an entry leads to, which its twin leaves.
-pub(crate) fn head(network: &Network, entry: usize) -> u32 {
+pub(crate) fn head(network: &Network, entry: usize) -> u32
+    requires { entry < entries network.now.graph }
+    ensures node { result ≡ head network.now.graph entry }
+    ensures known { result < network.now.graph.nodes }
+{
     tail(network, twin(network, entry))
 }
 
 // What an entry can still carry.
-pub(crate) fn residual(network: &Network, flow: &[u64], entry: usize) -> u64 {
+#[tactic(auto, unfolding(crate::specs::Residual::residual))]
+pub(crate) fn residual(network: &Network, flow: &[u64], entry: usize) -> u64
+    requires entry { entry < entries network.now.graph }
+    requires flow { length flow.now ≡ length network.now.graph.arcs }
+    requires within { IsWithin network.now.graph (slice_index flow.now) }
+    ensures { result ≡ residual network.now.graph (slice_index flow.now) entry }
+{
     let arcs = network.arc_count();
     if entry < arcs {
-        match arc(network, entry).capacity {
-            Some(most) => most.saturating_sub(at(flow, entry, 0)),
+        match network.arc(entry).capacity {
+            Some(most) => most - flow[entry],
             None => UNLIMITED,
         }
     } else {
-        at(flow, entry - arcs, 0)
+        flow[entry - arcs]
     }
 }
 
 // Moves this much along an entry: more on the arc forward, less on the arc backward.
-pub(crate) fn push(network: &Network, flow: &mut [u64], entry: usize, amount: u64) {
+pub(crate) fn push(network: &Network, flow: &mut [u64], entry: usize, amount: u64)
+    requires entry { entry < entries network.now.graph }
+    requires flow { length flow.old ≡ length network.now.graph.arcs }
+    requires fits { amount ≤ residual network.now.graph (slice_index flow.old) entry }
+    requires small { slice_index flow.old (place network.now.graph entry) ≤ MAX_VALUE }
+    ensures pushed { IsPushed network.now.graph (slice_index flow.old) (slice_index flow.new) entry
+        amount }
+{
     let arcs = network.arc_count();
     if entry < arcs {
-        let carried = at(flow, entry, 0);
-        set(flow, entry, carried.saturating_add(amount));
+        flow[entry] += amount;
     } else {
-        let carried = at(flow, entry - arcs, 0);
-        set(flow, entry - arcs, carried.saturating_sub(amount));
+        flow[entry - arcs] -= amount;
     }
 }

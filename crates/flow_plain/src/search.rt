@@ -1,8 +1,14 @@
 //! A search by breadth through the residual network (Edmonds and Karp, 1972).
-use crate::links::{Links, entry_at};
-use crate::places::{at, set};
-use crate::residual::{UNLIMITED, head, push, residual, tail};
-use mm_flow::Network;
+ghost use Rattle.std.specs.Prelude.{◌≡◌, ◌≢◌, ◌+◌, ◌<◌, ◌≤◌, ℕ, length, slice_index, IfOk, replicate, map, nat_lt};
+ghost use Rattle.flow_plain.specs.Flow.{IsWithin};
+ghost use Rattle.flow_plain.specs.Residual.{entries, tail, head, residual};
+ghost use Rattle.flow_plain.specs.Links.{IsLinked};
+ghost use Rattle.flow_plain.specs.Marks.{no_mark};
+
+use crate::limits::{MAX_VALUE, UNLIMITED};
+use crate::links::Links;
+use crate::network::Network;
+use crate::residual::{head, push, residual, tail};
 use std::alloc::{AllocError, Global};
 
 /// How a node was reached: its level, one more than the entries on the path to it and 0 where there is none, the last
@@ -25,16 +31,25 @@ const UNREACHED: Mark = Mark {
 #[derive(Drop)]
 pub(crate) struct Search {
     pub(crate) source: u32,
-    least: u64,
-    marks: Vec<Mark>,
-    order: Vec<u32>,
-    found: usize,
-    done: usize,
+    pub(crate) least: u64,
+    pub(crate) marks: Vec<Mark>,
+    pub(crate) order: Vec<u32>,
+    pub(crate) found: usize,
+    pub(crate) done: usize,
 }
 
 impl Search {
+    ghost use Rattle.flow_plain.specs.declared.search.Mark.{Mark};
+    ghost use Rattle.flow_plain.specs.Marks.{IsSearching, IsSearched, GoesOn, HasMark, level};
+    ghost use Rattle.flow_plain.specs.Balance.{IsAugmented};
+    ghost use Rattle.flow_plain.specs.Levels.{IsLevelled, IsUp, HasPath};
+
     // A search from this source that has not begun.
-    pub(crate) fn new(alloc: Global, network: &Network, source: u32) -> Result<Search, AllocError> {
+    pub(crate) fn new(alloc: Global, network: &Network, source: u32) -> Result<Search, AllocError>
+        ensures source { IfOk result (λ s. s.source ≡ source) }
+        ensures marks { IfOk result (λ s. length s.marks.items ≡ network.now.graph.nodes) }
+        ensures order { IfOk result (λ s. length s.order.items ≡ network.now.graph.nodes) }
+    {
         let nodes = network.node_count();
         Ok(Search {
             source,
@@ -46,116 +61,177 @@ impl Search {
         })
     }
 
-    // The mark of a node.
-    fn mark(&self, node: u32) -> Mark {
-        at(&self.marks, node as usize, UNREACHED)
-    }
-
-    // The level of a node.
-    pub(crate) fn level(&self, node: u32) -> u32 {
-        self.mark(node).level
-    }
-
     // Marks all nodes that the source reaches along entries of at least this residual capacity.
-    pub(crate) fn run(&mut self, network: &Network, links: &Links, flow: &[u64], least: u64) {
-        self.start(least);
-        for _ in 0..u64::MAX {
-            if self.done >= self.found {
-                return;
-            }
+    pub(crate) fn run(&mut self, network: &Network, links: &Links, flow: &[u64], least: u64)
+        requires linked { IsLinked network.now.graph links.now }
+        requires flow { length flow.now ≡ length network.now.graph.arcs }
+        requires within { IsWithin network.now.graph (slice_index flow.now) }
+        requires source { self.old.source < network.now.graph.nodes }
+        requires marks { length self.old.marks.items ≡ network.now.graph.nodes }
+        requires order { length self.old.order.items ≡ network.now.graph.nodes }
+        requires least { least ≤ UNLIMITED }
+        ensures searched { IsSearched network.now.graph (slice_index flow.now) self.old.source least
+            self.new.marks.items }
+        ensures source { self.new.source ≡ self.old.source }
+        ensures order { length self.new.order.items ≡ network.now.graph.nodes }
+    {
+        self.start(network, flow, least);
+        while self.done < self.found {
             self.visit(network, links, flow);
         }
     }
 
     // Marks the source alone.
-    fn start(&mut self, least: u64) {
+    fn start(&mut self, network: &Network, flow: &[u64], least: u64)
+        requires source { self.old.source < network.now.graph.nodes }
+        requires marks { length self.old.marks.items ≡ network.now.graph.nodes }
+        requires order { length self.old.order.items ≡ network.now.graph.nodes }
+        requires least { least ≤ UNLIMITED }
+        ensures begun { IsSearching network.now.graph (slice_index flow.now) self.new }
+        ensures source { self.new.source ≡ self.old.source }
+        ensures least { self.new.least ≡ least }
+    {
+        let source = self.source as usize;
         self.least = least;
-        self.marks.fill(UNREACHED);
-        let mark = Mark {
+        clear(&mut self.marks);
+        self.marks[source] = Mark {
             level: 1,
             via: 0,
             width: UNLIMITED,
         };
-        set(&mut self.marks, self.source as usize, mark);
-        set(&mut self.order, 0, self.source);
+        self.order[0] = self.source;
         self.found = 1;
         self.done = 0;
     }
 
     // Marks what the next node in the order leads to.
-    fn visit(&mut self, network: &Network, links: &Links, flow: &[u64]) {
-        let node = at(&self.order, self.done, 0) as usize;
-        let mut cursor = links.last(node);
-        for _ in 0..u64::MAX {
-            if cursor == 0 {
-                break;
-            }
-            self.reach(network, flow, entry_at(cursor));
-            cursor = links.before(cursor);
+    fn visit(&mut self, network: &Network, links: &Links, flow: &[u64])
+        requires linked { IsLinked network.now.graph links.now }
+        requires flow { length flow.now ≡ length network.now.graph.arcs }
+        requires within { IsWithin network.now.graph (slice_index flow.now) }
+        requires search { IsSearching network.now.graph (slice_index flow.now) self.old }
+        requires waits { self.old.done < self.old.found }
+        ensures search { IsSearching network.now.graph (slice_index flow.now) self.new }
+        ensures source { self.new.source ≡ self.old.source }
+        ensures least { self.new.least ≡ self.old.least }
+        ensures done { self.new.done ≡ self.old.done + 1 }
+    {
+        let node = self.order[self.done] as usize;
+        let mut cursor = links.last[node];
+        while cursor > 0 {
+            let entry = cursor as usize - 1;
+            self.reach(network, flow, entry);
+            cursor = links.before[entry];
         }
-        self.done = self.done.saturating_add(1);
+        self.done += 1;
     }
 
     // Marks the node that an entry leads to, if that has no mark and the entry the residual capacity.
-    fn reach(&mut self, network: &Network, flow: &[u64], entry: usize) {
+    fn reach(&mut self, network: &Network, flow: &[u64], entry: usize)
+        requires entry { entry < entries network.now.graph }
+        requires flow { length flow.now ≡ length network.now.graph.arcs }
+        requires within { IsWithin network.now.graph (slice_index flow.now) }
+        requires search { IsSearching network.now.graph (slice_index flow.now) self.old }
+        requires from { HasMark self.old.marks.items (tail network.now.graph entry) }
+        ensures search { IsSearching network.now.graph (slice_index flow.now) self.new }
+        ensures kept { GoesOn self.old self.new }
+        ensures leads { self.old.least ≤ residual network.now.graph (slice_index flow.now) entry
+            → HasMark self.new.marks.items (head network.now.graph entry) }
+    {
         let to = head(network, entry);
-        if self.level(to) > 0 {
+        if self.marks[to as usize].level > 0 {
             return;
         }
         let capacity = residual(network, flow, entry);
         if capacity < self.least {
             return;
         }
-        let from = self.mark(tail(network, entry));
-        let mark = Mark {
-            level: from.level.saturating_add(1),
+        let from = self.marks[tail(network, entry) as usize];
+        self.marks[to as usize] = Mark {
+            level: from.level + 1,
             via: entry,
             width: capacity.min(from.width),
         };
-        set(&mut self.marks, to as usize, mark);
-        set(&mut self.order, self.found, to);
-        self.found = self.found.saturating_add(1);
+        self.order[self.found] = to;
+        self.found += 1;
     }
 
     // Puts a node above all levels.
-    pub(crate) fn put_above_all(&mut self, node: u32) {
-        let mark = Mark {
+    pub(crate) fn put_above_all(&mut self, network: &Network, node: u32)
+        requires node { node < network.now.graph.nodes }
+        requires levelled { IsLevelled network.now.graph self.old.source self.old.marks.items }
+        ensures levelled { IsLevelled network.now.graph self.new.source self.new.marks.items }
+        ensures source { self.new.source ≡ self.old.source }
+        ensures order { length self.new.order.items ≡ length self.old.order.items }
+    {
+        self.marks[node as usize] = Mark {
             level: u32::MAX,
             via: 0,
             width: UNLIMITED,
         };
-        set(&mut self.marks, node as usize, mark);
     }
 
     // Lets a path go on by an entry that leads up from its last node.
-    pub(crate) fn reach_by(&mut self, network: &Network, flow: &[u64], entry: usize) {
-        let from = self.mark(tail(network, entry));
-        let to = head(network, entry);
-        let mark = Mark {
-            level: self.level(to),
+    pub(crate) fn reach_by(&mut self, network: &Network, flow: &[u64], entry: usize)
+        requires flow { length flow.now ≡ length network.now.graph.arcs }
+        requires within { IsWithin network.now.graph (slice_index flow.now) }
+        requires levelled { IsLevelled network.now.graph self.old.source self.old.marks.items }
+        requires up { IsUp network.now.graph (slice_index flow.now) self.old.marks.items entry }
+        requires path { HasPath network.now.graph (slice_index flow.now) self.old.marks.items
+            self.old.source (tail network.now.graph entry) }
+        ensures levelled { IsLevelled network.now.graph self.new.source self.new.marks.items }
+        ensures source { self.new.source ≡ self.old.source }
+        ensures order { length self.new.order.items ≡ length self.old.order.items }
+        ensures levels { (n : ℕ) → level self.new.marks.items n ≡ level self.old.marks.items n }
+        ensures path { HasPath network.now.graph (slice_index flow.now) self.new.marks.items
+            self.new.source (head network.now.graph entry) }
+    {
+        let from = self.marks[tail(network, entry) as usize];
+        let to = head(network, entry) as usize;
+        self.marks[to] = Mark {
+            level: self.marks[to].level,
             via: entry,
             width: from.width.min(residual(network, flow, entry)),
         };
-        set(&mut self.marks, to as usize, mark);
     }
 
     // Moves as much as fits along the path by which the sink was reached, and returns how much.
-    pub(crate) fn augment(&self, network: &Network, flow: &mut [u64], sink: u32) -> u64 {
-        let amount = self.mark(sink).width;
-        let mut node = sink;
-        for _ in 0..u64::MAX {
-            if node == self.source {
-                break;
-            }
-            let entry = self.mark(node).via;
+    pub(crate) fn augment(&self, network: &Network, flow: &mut [u64], sink: u32) -> u64
+        requires flow { length flow.old ≡ length network.now.graph.arcs }
+        requires within { IsWithin network.now.graph (slice_index flow.old) }
+        requires small { (k : ℕ) → slice_index flow.old k ≤ MAX_VALUE }
+        requires sink { sink < network.now.graph.nodes }
+        requires levelled { IsLevelled network.now.graph self.now.source self.now.marks.items }
+        requires path { HasPath network.now.graph (slice_index flow.old) self.now.marks.items
+            self.now.source sink }
+        ensures positive { (0 < result) × (result ≤ UNLIMITED) }
+        ensures augmented { (value : ℕ)
+            → IsAugmented network.now.graph self.now.source sink (slice_index flow.old) value
+            → IsAugmented network.now.graph self.now.source sink (slice_index flow.new)
+            (value + result) }
+    {
+        let amount = self.marks[sink as usize].width;
+        let mut at = sink;
+        while at != self.source {
+            let entry = self.marks[at as usize].via;
             push(network, flow, entry, amount);
-            node = tail(network, entry);
+            at = tail(network, entry);
         }
         amount
     }
 
     // Which nodes have a mark.
-    pub(crate) fn side(&self, alloc: Global) -> Result<Vec<bool>, AllocError> {
+    pub(crate) fn side(&self, alloc: Global) -> Result<Vec<bool>, AllocError>
+        ensures { IfOk result
+            (λ side. side.items ≡ map (λ (m : Mark). nat_lt 0 m.level) self.now.marks.items) }
+    {
         self.marks.iter().map(|mark| mark.level > 0).collect(alloc)
     }
+}
+
+// Takes every mark away.
+fn clear(marks: &mut [Mark])
+    ensures { marks.new ≡ replicate (length marks.old) no_mark }
+{
+    marks.fill(UNREACHED);
 }

@@ -1,4 +1,4 @@
-//! The numbers and the verdict of a picture.
+//! The numbers and the verdict of a picture, and how it is shown.
 ghost use Rattle.mm_chart.specs.Series.{IsSeries};
 ghost use Rattle.std.specs.Prelude.{◌≡◌, length};
 
@@ -7,6 +7,7 @@ use crate::tests::charts::samples::has_lines;
 use crate::tests::samples::{FIRST_RUN, SCI, THREE_STEPS};
 use mm_chart::{Picture, Series, draw};
 use mm_cut::{Parts, Verdict, read_sheet};
+use mm_plan::simulate;
 use mm_problem::{Problem, read_problem};
 use std::alloc::Global;
 use std::process::Abort;
@@ -99,4 +100,23 @@ fn a_picture_is_drawn_with_these_lines(rt: HostRuntime) {
     let picture = picture_of(&rt, rt.alloc());
     let chart = drawn(&rt, rt.alloc(), &picture);
     has_lines(&rt, chart.as_str(), &SHOWN);
+}
+
+// What a derive shows of the picture's problem, sheet, verdict, volumes and shades.
+fn shown_by_fields(rt: &impl Abort, alloc: Global, picture: &Picture) -> String {
+    let (problem, verdict) = (picture.problem(), picture.verdict());
+    let sheet = read_sheet(alloc, problem, FIRST_RUN.as_bytes()).expect(rt, "a plan");
+    let volumes = simulate(alloc, problem, sheet.plan()).expect(rt, "memory");
+    let shown = format!(in alloc;
+        "Picture {{ problem: {problem:?}, sheet: {sheet:?}, verdict: {verdict:?}, volumes: {volumes:?}, shades: [Shade {{ store: 0, channel: 0, first: 1, last: 3 }}] }}"
+    );
+    shown.expect(rt, "memory")
+}
+
+#[test]
+fn a_picture_is_shown_without_its_marks(rt: HostRuntime) {
+    let picture = picture_of(&rt, rt.alloc());
+    let shown = format!(in rt.alloc(); "{picture:?}").expect(&rt, "memory");
+    let wanted = shown_by_fields(&rt, rt.alloc(), &picture);
+    assert!(rt; shown.as_str() == wanted.as_str(), "{shown}");
 }

@@ -1,0 +1,100 @@
+-- A search goes on from node to node, and ends.
+use Rattle.std.proofs.Common.{◌≡◌, ℕ, ◌+◌, ◌-◌, ◌<◌, ◌≤◌, List, length, slice_index, ap, sym, ◌∙◌, refl, arith, inl, inr}
+use Rattle.std.proofs.lemmas.Bool.{cases_eq, cases_lt}
+use Rattle.std.proofs.lemmas.List.{get_or_past}
+use Rattle.flow_plain.specs.declared.search.Mark.{Mark}
+use Rattle.flow_plain.specs.declared.search.Search.{Search}
+use Rattle.flow_plain.specs.Graph.{Graph}
+use Rattle.flow_plain.specs.Flow.{Flow}
+use Rattle.flow_plain.specs.Residual.{entries, tail}
+use Rattle.flow_plain.specs.Links.{IsLinkedBelow}
+use Rattle.flow_plain.specs.Marks.{no_mark, HasMark, IsClosed, IsSearch, IsSearched, GoesOn}
+
+-- a node with a mark is in the table
+pub marked_lt : (marks : List Mark) (n : ℕ) → HasMark marks n → n < length marks
+marked_lt marks n has = elim (cases_lt n (length marks)) [
+  | inl lt ↦ lt
+  | inr up ↦ absurd (omega (arith, ap (λ (m : Mark). m.level) (get_or_past marks n no_mark up)))
+]
+
+-- a step that changes nothing goes on
+pub goes_on_same : (s : Search) → GoesOn s s
+goes_on_same s = record {
+  source = refl;
+  least = refl;
+  done = refl;
+  found = omega arith;
+  order = λ i lt. refl;
+  marked = λ n has. has;
+}
+
+-- two steps that go on
+pub goes_on_further : (first then last : Search) → GoesOn first then → GoesOn then last → GoesOn first last
+goes_on_further first then last one two = record {
+  source = two.source ∙ one.source;
+  least = two.least ∙ one.least;
+  done = two.done ∙ one.done;
+  found = omega (arith, one.found, two.found);
+  order = λ i lt. two.order i (omega (arith, one.found)) ∙ one.order i lt;
+  marked = λ n has. two.marked n (one.marked n has);
+}
+
+module _ (g : Graph) (last before : List ℕ) (linked : IsLinkedBelow g last before (entries g)) where
+  -- a chain's first cursor is that of an entry of the node
+  pub first_own : (node cursor e : ℕ) → cursor ≡ slice_index last node → cursor ≡ e + 1 → (e < entries g) × (tail g e ≡ node)
+  first_own node cursor e is at = linked.last_own node e (sym is ∙ at)
+
+  -- no entry of the node comes after a chain's first
+  pub first_most : (node cursor e : ℕ) → cursor ≡ slice_index last node → e < entries g → tail g e ≡ node → e < cursor
+  first_most node cursor e is known at = omega (arith, is, linked.last_most e known, ap (slice_index last) at)
+
+  -- the next cursor in a chain is that of an entry of the node
+  pub next_own : (node at cursor e : ℕ) → at < entries g → tail g at ≡ node → cursor ≡ slice_index before at → cursor ≡ e + 1 → (e < entries g) × (tail g e ≡ node)
+  next_own node at cursor e known leaves is same =
+      let own = linked.before_own at e known (sym is ∙ same) in
+      (omega (arith, own.0), own.1 ∙ leaves)
+
+  -- the next cursor in a chain is smaller
+  pub next_smaller : (at cursor : ℕ) → at < entries g → cursor ≡ slice_index before at → cursor < at + 1
+  next_smaller at cursor known is = elim (cases_eq cursor 0) [
+    | inl none ↦ omega arith
+    | inr some ↦
+        let last_is : cursor ≡ cursor - 1 + 1 = omega arith in
+        omega (arith, (linked.before_own at (cursor - 1) known (sym is ∙ last_is)).0)
+  ]
+
+  -- no entry of the node stands between an entry and the next in the chain
+  pub next_most : (node at cursor e : ℕ) → at < entries g → tail g at ≡ node → cursor ≡ slice_index before at → tail g e ≡ node → e < at → e < cursor
+  next_most node at cursor e known leaves is own less = omega (arith, is, linked.before_most at e known less (own ∙ sym leaves))
+
+-- the first node that waits is closed, and the others wait on
+pub search_next : (g : Graph) (f : Flow) (source least : ℕ) (marks : List Mark) (order : List ℕ) (found done node : ℕ)
+    → IsSearch g f source least marks order found done → done < found → slice_index order done ≡ node → IsClosed g f marks least node
+    → IsSearch g f source least marks order found (done + 1)
+search_next g f source least marks order found done node search ahead here closed = record {
+  marking = search.marking;
+  order_size = search.order_size;
+  count = search.count;
+  ahead = omega arith;
+  levels = search.levels;
+  queued = search.queued;
+  swept = λ n has. elim (search.swept n has) [
+    | inl all ↦ inl all
+    | inr waits ↦ elim (cases_eq waits.0 done) [
+      | inl first ↦
+          let same : n ≡ node = sym waits.3 ∙ ap (slice_index order) first ∙ here in
+          inl (λ e lt at. closed e lt (at ∙ same))
+      | inr other ↦ inr (waits.0, omega (arith, waits.1), waits.2, waits.3)
+    ]
+  ];
+}
+
+-- once no node waits, all are closed
+pub search_ended : (g : Graph) (f : Flow) (source least : ℕ) (marks : List Mark) (order : List ℕ) (found done : ℕ) → IsSearch g f source least marks order found done → found ≤ done → IsSearched g f source least marks
+search_ended g f source least marks order found done search over = record {
+  marking = search.marking;
+  closed = λ n has. elim (search.swept n has) [
+    | inl all ↦ all
+    | inr waits ↦ absurd (omega (arith, waits.1, waits.2))
+  ];
+}

@@ -1,0 +1,9 @@
+use Rattle.std.proofs.Common.{ap, ◌∙◌}
+use Rattle.flow_plain.specs.Residual.{tail}
+use Rattle.flow_plain.proofs.Entries.{twin_ends}
+use Rattle.flow_plain.proofs.residual.head.Goals as goal
+
+pub returns-clause-node : goal.returns-clause-node
+returns-clause-node c =
+    let g = c.args.network.now.graph in
+    c.tail.ensures.node ∙ ap (tail g) c.twin.ensures.twin ∙ (twin_ends g c.args.entry c.requires).0

@@ -1,0 +1,8 @@
+use Rattle.std.proofs.Common.{arith}
+use Rattle.flow_plain.proofs.Working.{work_marked}
+use Rattle.flow_plain.proofs.tables.Tables.raise_sink.Goals as goal
+
+pub invariant_of-self : goal.invariant_of-self
+invariant_of-self c =
+    let t = c.args.self.now in
+    record { at_work = work_marked t.network.now.graph t.sink t.links t.search t.flow.items t.value t.at_work c.put_above_all.new.self c.put_above_all.ensures.source (omega (arith, c.put_above_all.ensures.order, t.at_work.order)) c.put_above_all.ensures.levelled }

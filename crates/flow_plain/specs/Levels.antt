@@ -1,0 +1,52 @@
+-- A phase in a level graph: a search has given the levels, and flow is moved along paths that lead to a higher level
+-- with each entry. Dinitz, "Algorithm for solution of a problem of maximum flow in networks with power estimation", 1970.
+use Rattle.std.specs.Prelude.{◌≡◌, ℕ, zero, suc, ◌+◌, ◌<◌, ◌≤◌, List, length, slice_index}
+use Rattle.flow_plain.specs.declared.limits.TheConstants.{UNLIMITED}
+use Rattle.flow_plain.specs.declared.search.Mark.{Mark}
+use Rattle.flow_plain.specs.Graph.{Graph}
+use Rattle.flow_plain.specs.Flow.{Flow}
+use Rattle.flow_plain.specs.Residual.{entries, tail, head, residual}
+use Rattle.flow_plain.specs.Marks.{mark, level, HasMark, IsReached}
+
+-- by the entries by which the nodes were reached, so many steps lead back from a node to the source
+abbrev pub IsPath : Graph → Flow → List Mark → ℕ → ℕ → ℕ → Type 0
+IsPath g f marks source zero n = n ≡ source
+IsPath g f marks source (suc steps) n = IsReached g f marks n × IsPath g f marks source steps (tail g (mark marks n).via)
+
+-- a path leads from the source to a node; of the marks of other nodes it says nothing
+abbrev pub HasPath : Graph → Flow → List Mark → ℕ → ℕ → Type 0
+HasPath g f marks source n = (steps : ℕ) × IsPath g f marks source steps n
+
+-- what holds of the marks all through a phase, whatever flow was moved in it
+pub record IsLevelled (g : Graph) (source : ℕ) (marks : List Mark) : Type 0 where
+  pub size : length marks ≡ g.nodes
+  pub start : HasMark marks source
+  pub wide : (n : ℕ) → HasMark marks n → 0 < (mark marks n).width
+  pub narrow : (n : ℕ) → (mark marks n).width ≤ UNLIMITED
+
+-- each node's cursor is 0 or stands at an entry that leaves the node
+pub record IsCursors (g : Graph) (next : List ℕ) : Type 0 where
+  pub size : length next ≡ g.nodes
+  pub own : (n e : ℕ) → slice_index next n ≡ e + 1 → (e < entries g) × (tail g e ≡ n)
+
+-- an entry with residual capacity leads from a marked node to one of a higher level
+pub record IsUp (g : Graph) (f : Flow) (marks : List Mark) (e : ℕ) : Type 0 where
+  pub known : e < entries g
+  pub marked : HasMark marks (tail g e)
+  pub up : level marks (tail g e) < level marks (head g e)
+  pub open_still : 0 < residual g f e
+
+-- an entry leads up from a node to one whose cursor stands
+pub record IsAhead (g : Graph) (f : Flow) (marks : List Mark) (next : List ℕ) (n e : ℕ) : Type 0 where
+  pub leaves : tail g e ≡ n
+  pub up : IsUp g f marks e
+  pub cursor : 0 < slice_index next (head g e)
+
+-- by their entries in `ahead`, so many steps lead up from a node to the sink
+abbrev pub IsLead : Graph → Flow → List Mark → List ℕ → List ℕ → ℕ → ℕ → ℕ → Type 0
+IsLead g f marks next ahead sink zero n = n ≡ sink
+IsLead g f marks next ahead sink (suc steps) n = IsAhead g f marks next n (slice_index ahead n) × IsLead g f marks next ahead sink steps (head g (slice_index ahead n))
+
+-- a path leads up from a node to the sink
+abbrev pub HasLead : Graph → Flow → List Mark → List ℕ → List ℕ → ℕ → ℕ → Type 0
+HasLead g f marks next ahead sink n = (steps : ℕ) × IsLead g f marks next ahead sink steps n

@@ -1,0 +1,20 @@
+-- The entries that leave a node, as a chain through flat tables. A cursor is 0 at the end of a chain, and otherwise
+-- an entry and 1.
+use Rattle.std.specs.Prelude.{◌≡◌, ℕ, ◌+◌, ◌<◌, List, length, slice_index}
+use Rattle.flow_plain.specs.declared.links.Links.{Links}
+use Rattle.flow_plain.specs.Graph.{Graph}
+use Rattle.flow_plain.specs.Residual.{entries, tail}
+
+-- the entries below one are chained by the nodes that they leave: `last` leads to a node's last entry, and `before`
+-- from an entry to the node's entry before it
+pub record IsLinkedBelow (g : Graph) (last before : List ℕ) (count : ℕ) : Type 0 where
+  pub last_size : length last ≡ g.nodes
+  pub before_size : length before ≡ count
+  pub last_own : (n e : ℕ) → slice_index last n ≡ e + 1 → (e < count) × (tail g e ≡ n)
+  pub before_own : (e d : ℕ) → e < count → slice_index before e ≡ d + 1 → (d < e) × (tail g d ≡ tail g e)
+  pub last_most : (e : ℕ) → e < count → e < slice_index last (tail g e)
+  pub before_most : (e d : ℕ) → e < count → d < e → tail g d ≡ tail g e → d < slice_index before e
+
+-- all entries are chained
+abbrev pub IsLinked : Graph → Links → Type 0
+IsLinked g links = IsLinkedBelow g links.last.items links.before.items (entries g)

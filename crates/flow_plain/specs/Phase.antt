@@ -1,0 +1,20 @@
+-- Paths that a phase finds from the sink back.
+use Rattle.std.specs.Prelude.{◌≡◌, ℕ, ◌<◌, slice_index, sum_by}
+use Rattle.flow_plain.specs.declared.phase.Phase.{Phase}
+use Rattle.flow_plain.specs.Residual.{entries, tail, twin}
+use Rattle.flow_plain.specs.Levels.{HasLead}
+use Rattle.flow_plain.specs.Task.{IsOpen}
+
+-- an entry leaves a node, and a path can go on by its twin to come to the node
+pub record LeadsUp (p : Phase) (at e : ℕ) : Type 0 where
+  pub known : e < entries p.tables.network.now.graph
+  pub leaves : tail p.tables.network.now.graph e ≡ at
+  pub back : IsOpen p.tables (twin p.tables.network.now.graph e)
+
+-- a path leads up from a node to the sink
+abbrev pub LeadsFrom : Phase → ℕ → Type 0
+LeadsFrom p n = HasLead p.tables.network.now.graph (slice_index p.tables.flow.items) p.tables.search.marks.items p.next.items p.ahead.items p.tables.sink n
+
+-- the cursors of all nodes, added up
+abbrev pub cursors_of : Phase → ℕ
+cursors_of p = sum_by (λ (c : ℕ). c) p.next.items
