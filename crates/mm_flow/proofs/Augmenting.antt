@@ -7,7 +7,9 @@ use Rattle.mm_flow.specs.Flow.{Flow, IsFlow, IsWithin}
 use Rattle.mm_flow.specs.declared.limits.TheConstants.{MAX_VALUE}
 use Rattle.mm_flow.specs.Residual.{entries, place, tail, head, residual, spare, IsPushed}
 use Rattle.mm_flow.specs.Balance.{IsBalanced, IsBalancedAt, IsAugmented, IsBounded}
-use Rattle.mm_flow.specs.Marks.{mark, level, HasMark, IsReached}
+use Rattle.mm_flow.specs.Marks.{mark, level, HasMark}
+use Rattle.mm_flow.specs.Levels.{HasPath}
+use Rattle.mm_flow.proofs.LevelPaths.{path_back}
 use Rattle.mm_flow.proofs.Pushes.{cond-plus}
 use Rattle.mm_flow.proofs.Entries.{place-forward, place-backward, tail-forward, tail-backward, head-forward, head-backward, residual-forward, residual-backward}
 
@@ -87,27 +89,30 @@ balanced_flow g source sink f value ends within balanced = record {
       omega (arith, balanced source, cond-true {A = ℕ} (eqb source source) value 0 (eq-eqb source source refl), cond-false {A = ℕ} (eqb sink source) value 0 (ne_eqb sink source (λ e. ends (sym e))));
 }
 
--- the path to the sink has been followed back as far as a node, and the amount was moved along it
+-- the path to the sink has been followed back as far as a node, the amount was moved along it, and the rest of the path
+-- could carry the amount before that
 pub record IsFollowed (g : Graph) (marks : List Mark) (old now : Flow) (source at amount : ℕ) : Type 0 where
   pub marked : HasMark marks at
-  pub wide : amount ≤ (mark marks at).width
+  pub path : HasPath g old marks source amount at
   pub within : IsWithin g now
   pub most : (k : ℕ) → now k ≤ old k + amount
   pub untouched : IsUntouched g marks old now (level marks at)
 
 -- the entry by which a node was reached can carry the amount, and its arc is untouched
-pub record IsReady (g : Graph) (marks : List Mark) (old now : Flow) (at e amount : ℕ) : Type 0 where
+pub record IsReady (g : Graph) (marks : List Mark) (old now : Flow) (source at e amount : ℕ) : Type 0 where
   pub known : e < entries g
   pub leads : head g e ≡ at
   pub fits : amount ≤ residual g now e
   pub same : now (place g e) ≡ old (place g e)
   pub below : level marks (tail g e) < level marks at
   pub marked : HasMark marks (tail g e)
-  pub wide : amount ≤ (mark marks (tail g e)).width
+  pub path : HasPath g old marks source amount (tail g e)
 
--- as far as a node that was reached by an entry, that entry is ready
-pub followed_ready : (g : Graph) (marks : List Mark) (old now : Flow) (source at e amount : ℕ) → IsReached g old marks at → IsFollowed g marks old now source at amount → e ≡ (mark marks at).via → IsReady g marks old now at e amount
-followed_ready g marks old now source at e amount reached followed via =
+-- as far as another node than the source, the entry by which that was reached is ready
+pub followed_ready : (g : Graph) (marks : List Mark) (old now : Flow) (source at e amount : ℕ) → at ≢ source → IsFollowed g marks old now source at amount → e ≡ (mark marks at).via → IsReady g marks old now source at e amount
+followed_ready g marks old now source at e amount inner followed via =
+    let back = path_back g old marks source amount at inner followed.path in
+    let reached = back.0 in
     let tail_is = ap (λ (d : ℕ). mark marks (tail g d)) via in
     let leads : head g e ≡ at = ap (head g) via ∙ reached.leads in
     let below : level marks (tail g e) < level marks at = omega (arith, ap (λ (m : Mark). m.level) tail_is, reached.above) in
@@ -115,20 +120,20 @@ followed_ready g marks old now source at e amount reached followed via =
     record {
       known = omega (arith, reached.known);
       leads = leads;
-      fits = omega (arith, followed.wide, reached.entry, ap (residual g old) via, residual_same g old now e same);
+      fits = omega (arith, reached.fits, ap (residual g old) via, residual_same g old now e same);
       same = same;
       below = below;
       marked = omega (arith, ap (λ (m : Mark). m.level) tail_is, reached.reached);
-      wide = omega (arith, followed.wide, reached.path, ap (λ (m : Mark). m.width) tail_is);
+      path = subst (λ (n : ℕ). HasPath g old marks source amount n) (sym (ap (tail g) via)) back.1;
     }
 
 -- a push along a ready entry follows the path one node further
-pub followed_next : (g : Graph) (marks : List Mark) (old now new : Flow) (source at e from amount : ℕ) → IsFollowed g marks old now source at amount → IsReady g marks old now at e amount → IsPushed g now new e amount → from ≡ tail g e → IsFollowed g marks old new source from amount
+pub followed_next : (g : Graph) (marks : List Mark) (old now new : Flow) (source at e from amount : ℕ) → IsFollowed g marks old now source at amount → IsReady g marks old now source at e amount → IsPushed g now new e amount → from ≡ tail g e → IsFollowed g marks old new source from amount
 followed_next g marks old now new source at e from amount followed ready pushed leaves =
     let from_level = ap (level marks) leaves in
     record {
       marked = omega (arith, ready.marked, from_level);
-      wide = omega (arith, ready.wide, ap (λ (n : ℕ). (mark marks n).width) leaves);
+      path = subst (λ (n : ℕ). HasPath g old marks source amount n) (sym leaves) ready.path;
       within = pushed.within followed.within;
       most = most_next g old now new e amount pushed ready.same followed.most;
       untouched = untouched_next g marks old now new (level marks at) (level marks from) e amount followed.untouched pushed (ap (level marks) ready.leads) (omega (arith, ready.below, from_level));

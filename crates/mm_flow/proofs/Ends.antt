@@ -145,7 +145,7 @@ path_to g source nothing marks network none marking (suc d) n small has = elim (
       let reached = marking.reached n ne has in
       let via = (mark marks n).via in
       let before = path_to g source nothing marks network none marking d (tail g via) (omega (arith, reached.above)) reached.reached in
-      let last = unlimited_entry g nothing via network none reached.known (omega (arith, marking.wide n has, reached.entry)) in
+      let last = unlimited_entry g nothing via network none reached.known reached.fits in
       (suc before.0, (tail g via, before.1, (last.0, last.1, last.2, last.3 ∙ reached.leads, last.4)))
 ]
 

@@ -7,23 +7,18 @@ use Rattle.std.proofs.lemmas.List.Sums.{sum_by-set}
 use Rattle.mm_flow.specs.declared.search.Mark.{Mark}
 use Rattle.mm_flow.specs.Graph.{Graph}
 use Rattle.mm_flow.specs.Flow.{Flow}
-use Rattle.mm_flow.specs.Residual.{tail}
+use Rattle.mm_flow.specs.Residual.{tail, residual}
 use Rattle.mm_flow.specs.Links.{degree}
 use Rattle.mm_flow.specs.Marks.{mark, level, HasMark, IsReached, IsMarking}
 use Rattle.mm_flow.specs.Levels.{IsPath, HasPath, IsLevelled, IsCursors}
 use Rattle.mm_flow.proofs.Marking.{slice_index-nothing}
 
 -- the marks of a search hold all through the phase that follows
-pub marking_levelled : (g : Graph) (f : Flow) (source least : ℕ) (marks : List Mark) → 0 < least → IsMarking g f source least marks → IsLevelled g source marks
-marking_levelled g f source least marks some marking = record {
-  size = marking.size;
-  start = marking.start;
-  wide = λ n has. omega (arith, marking.wide n has);
-  narrow = marking.narrow;
-}
+pub marking_levelled : (g : Graph) (f : Flow) (source least : ℕ) (marks : List Mark) → IsMarking g f source least marks → IsLevelled g source marks
+marking_levelled g f source least marks marking = record { size = marking.size; start = marking.start }
 
 -- a path leads to each node that a search marked
-tree_path : (g : Graph) (f : Flow) (source least : ℕ) (marks : List Mark) → IsMarking g f source least marks → (d n : ℕ) → level marks n ≤ d → HasMark marks n → HasPath g f marks source n
+tree_path : (g : Graph) (f : Flow) (source least : ℕ) (marks : List Mark) → IsMarking g f source least marks → (d n : ℕ) → level marks n ≤ d → HasMark marks n → HasPath g f marks source least n
 tree_path g f source least marks marking zero n small has = absurd (omega arith)
 tree_path g f source least marks marking (suc d) n small has = elim (cases_eq n source) [
   | inl same ↦ (0, same)
@@ -34,34 +29,39 @@ tree_path g f source least marks marking (suc d) n small has = elim (cases_eq n 
 ]
 
 -- a path leads to each node that a search marked
-pub marked_path : (g : Graph) (f : Flow) (source least : ℕ) (marks : List Mark) (n : ℕ) → IsMarking g f source least marks → HasMark marks n → HasPath g f marks source n
+pub marked_path : (g : Graph) (f : Flow) (source least : ℕ) (marks : List Mark) (n : ℕ) → IsMarking g f source least marks → HasMark marks n → HasPath g f marks source least n
 marked_path g f source least marks n marking has = tree_path g f source least marks marking (level marks n) n (omega arith) has
 
 -- the last node of a path is marked
-pub path_marked : (g : Graph) (f : Flow) (marks : List Mark) (source steps n : ℕ) → HasMark marks source → IsPath g f marks source steps n → HasMark marks n
-path_marked g f marks source zero n start path = omega (arith, start, ap (level marks) path)
-path_marked g f marks source (suc steps) n start path = omega (arith, path.0.above)
+pub path_marked : (g : Graph) (f : Flow) (marks : List Mark) (source amount n : ℕ) → HasMark marks source → HasPath g f marks source amount n → HasMark marks n
+path_marked g f marks source amount n start (zero, path) = omega (arith, start, ap (level marks) path)
+path_marked g f marks source amount n start (suc steps, path) = omega (arith, path.0.above)
 
 -- a path to another node than the source has a last entry, and leads to the node that this leaves
-pub path_back : (g : Graph) (f : Flow) (marks : List Mark) (source steps n : ℕ) → n ≢ source → IsPath g f marks source steps n → IsReached g f marks n × HasPath g f marks source (tail g (mark marks n).via)
-path_back g f marks source zero n ne path = absurd (ne path)
-path_back g f marks source (suc steps) n ne path = (path.0, (steps, path.1))
+pub path_back : (g : Graph) (f : Flow) (marks : List Mark) (source amount n : ℕ) → n ≢ source → HasPath g f marks source amount n → IsReached g f marks amount n × HasPath g f marks source amount (tail g (mark marks n).via)
+path_back g f marks source amount n ne (zero, path) = absurd (ne path)
+path_back g f marks source amount n ne (suc steps, path) = (path.0, (steps, path.1))
+
+-- a path that can carry an amount goes on by a last entry that can carry it
+pub path_on : (g : Graph) (f : Flow) (marks : List Mark) (source least amount n : ℕ) → IsReached g f marks least n → amount ≤ residual g f (mark marks n).via → HasPath g f marks source amount (tail g (mark marks n).via) → HasPath g f marks source amount n
+path_on g f marks source least amount n reached fits path =
+    (suc path.0, (record { known = reached.known; leads = reached.leads; reached = reached.reached; above = reached.above; fits = fits }, path.1))
 
 -- a path depends on the marks up to its last node's level
-path_kept : (g : Graph) (f : Flow) (marks marked : List Mark) (source steps n : ℕ) → ((m : ℕ) → level marks m ≤ level marks n → mark marked m ≡ mark marks m) → IsPath g f marks source steps n → IsPath g f marked source steps n
-path_kept g f marks marked source zero n same path = path
-path_kept g f marks marked source (suc steps) n same path =
+path_kept : (g : Graph) (f : Flow) (marks marked : List Mark) (source amount steps n : ℕ) → ((m : ℕ) → level marks m ≤ level marks n → mark marked m ≡ mark marks m) → IsPath g f marks source amount steps n → IsPath g f marked source amount steps n
+path_kept g f marks marked source amount zero n same path = path
+path_kept g f marks marked source amount (suc steps) n same path =
     let before = tail g (mark marks n).via in
     let below : level marks before < level marks n = path.0.above in
-    let rest = path_kept g f marks marked source steps before (λ m up. same m (omega arith)) path.1 in
+    let rest = path_kept g f marks marked source amount steps before (λ m up. same m (omega arith)) path.1 in
     rw (same n (omega arith), same before (omega arith)) (path.0, rest)
 
 -- a node of a higher level is reached along an entry of the last node of a path, and the path leads on to it
-pub path_taken : (g : Graph) (f : Flow) (marks marked : List Mark) (source steps e to : ℕ) → level marks (tail g e) < level marks to → IsReached g f marked to → (mark marked to).via ≡ e
-    → ((n : ℕ) → n ≢ to → mark marked n ≡ mark marks n) → IsPath g f marks source steps (tail g e) → IsPath g f marked source (suc steps) to
-path_taken g f marks marked source steps e to below reached by others path =
-    let kept = path_kept g f marks marked source steps (tail g e) (λ m up. others m (λ same. absurd (omega (arith, ap (level marks) same)))) path in
-    (reached, subst (λ (n : ℕ). IsPath g f marked source steps n) (sym (ap (tail g) by)) kept)
+pub path_taken : (g : Graph) (f : Flow) (marks marked : List Mark) (source amount e to : ℕ) → level marks (tail g e) < level marks to → IsReached g f marked amount to → (mark marked to).via ≡ e
+    → ((n : ℕ) → n ≢ to → mark marked n ≡ mark marks n) → HasPath g f marks source amount (tail g e) → HasPath g f marked source amount to
+path_taken g f marks marked source amount e to below reached by others path =
+    let kept = path_kept g f marks marked source amount path.0 (tail g e) (λ m up. others m (λ same. absurd (omega (arith, ap (level marks) same)))) path.1 in
+    (suc path.0, (reached, subst (λ (n : ℕ). IsPath g f marked source amount path.0 n) (sym (ap (tail g) by)) kept))
 
 -- a cursor is put at some of the entries of its node
 pub cursors_put : (g : Graph) (next : List ℕ) (at cursor : ℕ) → IsCursors g next → at < g.nodes → cursor ≤ degree g at → IsCursors g (slice_set next at cursor)

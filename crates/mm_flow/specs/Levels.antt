@@ -1,7 +1,6 @@
 -- A phase in a level graph: a search has given the levels, and flow is moved along paths that lead to a higher level
 -- with each entry. Dinitz, "Algorithm for solution of a problem of maximum flow in networks with power estimation", 1970.
 use Rattle.std.specs.Prelude.{◌≡◌, ℕ, zero, suc, ◌<◌, ◌≤◌, List, length, slice_index}
-use Rattle.mm_flow.specs.declared.limits.TheConstants.{UNLIMITED}
 use Rattle.mm_flow.specs.declared.search.Mark.{Mark}
 use Rattle.mm_flow.specs.Graph.{Graph}
 use Rattle.mm_flow.specs.Flow.{Flow}
@@ -9,21 +8,20 @@ use Rattle.mm_flow.specs.Residual.{entries, tail, head, residual}
 use Rattle.mm_flow.specs.Links.{degree}
 use Rattle.mm_flow.specs.Marks.{mark, level, HasMark, IsReached}
 
--- by the entries by which the nodes were reached, so many steps lead back from a node to the source
-abbrev pub IsPath : Graph → Flow → List Mark → ℕ → ℕ → ℕ → Type 0
-IsPath g f marks source zero n = n ≡ source
-IsPath g f marks source (suc steps) n = IsReached g f marks n × IsPath g f marks source steps (tail g (mark marks n).via)
+-- by the entries by which the nodes were reached, so many steps lead back from a node to the source, and each of these
+-- entries can carry an amount
+abbrev pub IsPath : Graph → Flow → List Mark → ℕ → ℕ → ℕ → ℕ → Type 0
+IsPath g f marks source amount zero n = n ≡ source
+IsPath g f marks source amount (suc steps) n = IsReached g f marks amount n × IsPath g f marks source amount steps (tail g (mark marks n).via)
 
--- a path leads from the source to a node; of the marks of other nodes it says nothing
-abbrev pub HasPath : Graph → Flow → List Mark → ℕ → ℕ → Type 0
-HasPath g f marks source n = (steps : ℕ) × IsPath g f marks source steps n
+-- a path that can carry an amount leads from the source to a node; of the marks of other nodes it says nothing
+abbrev pub HasPath : Graph → Flow → List Mark → ℕ → ℕ → ℕ → Type 0
+HasPath g f marks source amount n = (steps : ℕ) × IsPath g f marks source amount steps n
 
 -- what holds of the marks all through a phase, whatever flow was moved in it
 pub record IsLevelled (g : Graph) (source : ℕ) (marks : List Mark) : Type 0 where
   pub size : length marks ≡ g.nodes
   pub start : HasMark marks source
-  pub wide : (n : ℕ) → HasMark marks n → 0 < (mark marks n).width
-  pub narrow : (n : ℕ) → (mark marks n).width ≤ UNLIMITED
 
 -- each node's cursor counts some of the entries that leave the node
 pub record IsCursors (g : Graph) (next : List ℕ) : Type 0 where

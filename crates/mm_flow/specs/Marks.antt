@@ -1,7 +1,6 @@
 -- What a search by breadth leaves at the nodes: Edmonds and Karp, "Theoretical improvements in algorithmic efficiency
 -- for network flow problems", 1972.
 use Rattle.std.specs.Prelude.{◌≡◌, ◌≢◌, ℕ, ◌+◌, ◌<◌, ◌≤◌, ◌==◌, ◌⊎◌, List, length, slice_index, slice_index_or, count_by}
-use Rattle.mm_flow.specs.declared.limits.TheConstants.{UNLIMITED}
 use Rattle.mm_flow.specs.declared.search.Mark.{Mark}
 use Rattle.mm_flow.specs.declared.search.Search.{Search}
 use Rattle.mm_flow.specs.Graph.{Graph}
@@ -10,7 +9,7 @@ use Rattle.mm_flow.specs.Residual.{entries, tail, head, residual}
 
 -- the mark of a node that is not reached
 abbrev pub no_mark : Mark
-no_mark = record { level = 0; via = 0; width = 0 }
+no_mark = record { level = 0; via = 0 }
 
 -- the mark of a node
 abbrev pub mark : List Mark → ℕ → Mark
@@ -28,27 +27,23 @@ HasMark marks n = 0 < level marks n
 abbrev pub unmarked : List Mark → ℕ
 unmarked marks = count_by (λ (m : Mark). m.level == 0) marks
 
--- a node was reached by an entry from a node of a lower level, and the path to it is no wider than the entry and the
--- path to that node
-pub record IsReachedFrom (g : Graph) (f : Flow) (before own : Mark) (n : ℕ) : Type 0 where
+-- a node was reached by an entry that can carry an amount, from a node of a lower level
+pub record IsReachedFrom (g : Graph) (f : Flow) (amount : ℕ) (before own : Mark) (n : ℕ) : Type 0 where
   pub known : own.via < entries g
   pub leads : head g own.via ≡ n
   pub reached : 0 < before.level
   pub above : before.level < own.level
-  pub entry : own.width ≤ residual g f own.via
-  pub path : own.width ≤ before.width
+  pub fits : amount ≤ residual g f own.via
 
 -- the same, where the marks of all nodes are given
-abbrev pub IsReached : Graph → Flow → List Mark → ℕ → Type 0
-IsReached g f marks n = IsReachedFrom g f (mark marks (tail g (mark marks n).via)) (mark marks n) n
+abbrev pub IsReached : Graph → Flow → List Mark → ℕ → ℕ → Type 0
+IsReached g f marks amount n = IsReachedFrom g f amount (mark marks (tail g (mark marks n).via)) (mark marks n) n
 
--- each marked node is the source or was reached, by a path whose narrowest entry has at least this residual capacity
+-- each marked node is the source or was reached, by an entry of at least this residual capacity
 pub record IsMarking (g : Graph) (f : Flow) (source least : ℕ) (marks : List Mark) : Type 0 where
   pub size : length marks ≡ g.nodes
   pub start : HasMark marks source
-  pub reached : (n : ℕ) → n ≢ source → HasMark marks n → IsReached g f marks n
-  pub wide : (n : ℕ) → HasMark marks n → least ≤ (mark marks n).width
-  pub narrow : (n : ℕ) → (mark marks n).width ≤ UNLIMITED
+  pub reached : (n : ℕ) → n ≢ source → HasMark marks n → IsReached g f marks least n
 
 -- each entry that leaves a node with at least this residual capacity leads to a marked node
 abbrev pub IsClosed : Graph → Flow → List Mark → ℕ → ℕ → Type 0

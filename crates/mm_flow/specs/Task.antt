@@ -21,7 +21,7 @@ IsOpen t e = IsUp t.network.now.graph (slice_index t.flow.items) t.search.marks.
 
 -- a path with residual capacity leads from the source to a node
 abbrev pub Reaches : Tables → ℕ → Type 0
-Reaches t n = HasPath t.network.now.graph (slice_index t.flow.items) t.search.marks.items t.search.source n
+Reaches t n = HasPath t.network.now.graph (slice_index t.flow.items) t.search.marks.items t.search.source 1 n
 
 -- a search of the residual network of the flow does not reach the sink
 abbrev pub IsOver : Tables → Type 0

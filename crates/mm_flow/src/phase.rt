@@ -176,7 +176,7 @@ impl<'a> Phase<'a> {
         while at != self.tables.sink {
             let entry = self.ahead[at as usize];
             let to = self.tables.head(entry as usize);
-            self.tables.reach_by(entry, at, to);
+            self.tables.reach_by(entry, to);
             at = to;
         }
     }

@@ -11,20 +11,15 @@ use crate::network::Network;
 use crate::residual::{push, residual, tail};
 use std::alloc::{AllocError, Global};
 
-/// How a node was reached: its level, one more than the entries on the path to it and 0 where there is none, the last
-/// entry of the path, and the least residual capacity on it.
+/// How a node was reached: its level, one more than the entries on the path to it and 0 where there is none, and the
+/// last entry of the path.
 #[derive(Clone, Copy)]
 pub(crate) struct Mark {
     pub(crate) level: u32,
     pub(crate) via: u32,
-    pub(crate) width: u64,
 }
 
-const UNREACHED: Mark = Mark {
-    level: 0,
-    via: 0,
-    width: 0,
-};
+const UNREACHED: Mark = Mark { level: 0, via: 0 };
 
 /// A search from a source along entries of at least a residual capacity: the nodes' marks, and the nodes in the order
 /// in which they were found, of which the first `done` were visited.
@@ -69,7 +64,6 @@ impl Search {
         requires source { self.old.source < network.now.graph.nodes }
         requires marks { length self.old.marks.items ≡ network.now.graph.nodes }
         requires order { length self.old.order.items ≡ network.now.graph.nodes }
-        requires least { least ≤ UNLIMITED }
         ensures searched { IsSearched network.now.graph (slice_index flow.now) self.old.source least
             self.new.marks.items }
         ensures source { self.new.source ≡ self.old.source }
@@ -109,7 +103,6 @@ impl Search {
         requires source { self.old.source < network.now.graph.nodes }
         requires marks { length self.old.marks.items ≡ network.now.graph.nodes }
         requires order { length self.old.order.items ≡ network.now.graph.nodes }
-        requires least { least ≤ UNLIMITED }
         ensures begun { IsSearching network.now.graph (slice_index flow.now) self.new }
         ensures source { self.new.source ≡ self.old.source }
         ensures least { self.new.least ≡ least }
@@ -117,11 +110,7 @@ impl Search {
         let source = self.source as usize;
         self.least = least;
         clear(&mut self.marks);
-        self.marks[source] = Mark {
-            level: 1,
-            via: 0,
-            width: UNLIMITED,
-        };
+        self.marks[source] = Mark { level: 1, via: 0 };
         self.order[0] = self.source;
         self.found = 1;
         self.done = 0;
@@ -176,7 +165,6 @@ impl Search {
         self.marks[to as usize] = Mark {
             level: from.level + 1,
             via: entry,
-            width: capacity.min(from.width),
         };
         self.order[self.found] = to;
         self.found += 1;
@@ -193,42 +181,25 @@ impl Search {
         self.marks[node as usize] = Mark {
             level: u32::MAX,
             via: 0,
-            width: UNLIMITED,
         };
     }
 
     // Lets a path go on by an entry that leads up from its last node.
-    pub(crate) fn reach_by(
-        &mut self,
-        network: &Network,
-        flow: &[u64],
-        entry: u32,
-        node: u32,
-        to: u32,
-    )
-        requires leaves { node ≡ tail network.now.graph entry }
+    pub(crate) fn reach_by(&mut self, network: &Network, flow: &[u64], entry: u32, to: u32)
         requires leads { to ≡ head network.now.graph entry }
-        requires node { node < network.now.graph.nodes }
         requires to { to < network.now.graph.nodes }
-        requires flow { length flow.now ≡ length network.now.graph.arcs }
-        requires within { IsWithin network.now.graph (slice_index flow.now) }
         requires levelled { IsLevelled network.now.graph self.old.source self.old.marks.items }
         requires up { IsUp network.now.graph (slice_index flow.now) self.old.marks.items entry }
         requires path { HasPath network.now.graph (slice_index flow.now) self.old.marks.items
-            self.old.source node }
+            self.old.source 1 (tail network.now.graph entry) }
         ensures levelled { IsLevelled network.now.graph self.new.source self.new.marks.items }
         ensures source { self.new.source ≡ self.old.source }
         ensures order { length self.new.order.items ≡ length self.old.order.items }
         ensures levels { (n : ℕ) → level self.new.marks.items n ≡ level self.old.marks.items n }
         ensures path { HasPath network.now.graph (slice_index flow.now) self.new.marks.items
-            self.new.source to }
+            self.new.source 1 to }
     {
-        let from = self.marks[node as usize];
-        self.marks[to as usize] = Mark {
-            level: self.marks[to as usize].level,
-            via: entry,
-            width: from.width.min(residual(network, flow, entry as usize)),
-        };
+        self.marks[to as usize].via = entry;
     }
 
     // Moves as much as fits along the path by which the sink was reached, and returns how much.
@@ -239,21 +210,61 @@ impl Search {
         requires sink { sink < network.now.graph.nodes }
         requires levelled { IsLevelled network.now.graph self.now.source self.now.marks.items }
         requires path { HasPath network.now.graph (slice_index flow.old) self.now.marks.items
-            self.now.source sink }
+            self.now.source 1 sink }
         ensures positive { (0 < result) × (result ≤ UNLIMITED) }
         ensures augmented { (value : ℕ)
             → IsAugmented network.now.graph self.now.source sink (slice_index flow.old) value
             → IsAugmented network.now.graph self.now.source sink (slice_index flow.new)
             (value + result) }
     {
-        let amount = self.marks[sink as usize].width;
+        let amount = self.bottleneck(network, flow, sink);
+        self.push_along(network, flow, sink, amount);
+        amount
+    }
+
+    // The residual capacity of the path by which the sink was reached: the least of its entries.
+    fn bottleneck(&self, network: &Network, flow: &[u64], sink: u32) -> u64
+        requires flow { length flow.now ≡ length network.now.graph.arcs }
+        requires within { IsWithin network.now.graph (slice_index flow.now) }
+        requires levelled { IsLevelled network.now.graph self.now.source self.now.marks.items }
+        requires path { HasPath network.now.graph (slice_index flow.now) self.now.marks.items
+            self.now.source 1 sink }
+        ensures within { result ≤ UNLIMITED }
+        ensures fits { HasPath network.now.graph (slice_index flow.now) self.now.marks.items
+            self.now.source result sink }
+        ensures greatest { (amount : ℕ) → amount ≤ UNLIMITED
+            → HasPath network.now.graph (slice_index flow.now) self.now.marks.items
+            self.now.source amount sink → amount ≤ result }
+    {
+        let mut least = UNLIMITED;
+        let mut at = sink;
+        while at != self.source {
+            let entry = self.marks[at as usize].via as usize;
+            least = least.min(residual(network, flow, entry));
+            at = tail(network, entry);
+        }
+        least
+    }
+
+    // Moves an amount that fits along the path by which the sink was reached.
+    fn push_along(&self, network: &Network, flow: &mut [u64], sink: u32, amount: u64)
+        requires flow { length flow.old ≡ length network.now.graph.arcs }
+        requires within { IsWithin network.now.graph (slice_index flow.old) }
+        requires small { (k : ℕ) → slice_index flow.old k ≤ MAX_VALUE }
+        requires levelled { IsLevelled network.now.graph self.now.source self.now.marks.items }
+        requires path { HasPath network.now.graph (slice_index flow.old) self.now.marks.items
+            self.now.source amount sink }
+        ensures { (value : ℕ)
+            → IsAugmented network.now.graph self.now.source sink (slice_index flow.old) value
+            → IsAugmented network.now.graph self.now.source sink (slice_index flow.new)
+            (value + amount) }
+    {
         let mut at = sink;
         while at != self.source {
             let entry = self.marks[at as usize].via as usize;
             push(network, flow, entry, amount);
             at = tail(network, entry);
         }
-        amount
     }
 
     // Which nodes have a mark.

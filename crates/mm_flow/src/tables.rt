@@ -136,13 +136,11 @@ impl<'a> Tables<'a> {
     }
 
     // Lets a path go on by an entry that leads up from its last node.
-    pub(crate) fn reach_by(&mut self, entry: u32, node: u32, to: u32)
-        requires leaves { node ≡ tail self.old.network.now.graph entry }
+    pub(crate) fn reach_by(&mut self, entry: u32, to: u32)
         requires leads { to ≡ head self.old.network.now.graph entry }
-        requires node { node < self.old.network.now.graph.nodes }
         requires to { to < self.old.network.now.graph.nodes }
         requires up { IsOpen self.old entry }
-        requires path { Reaches self.old node }
+        requires path { Reaches self.old (tail self.old.network.now.graph entry) }
         ensures task { SameTask self.old self.new }
         ensures kept { self.new.flow ≡ self.old.flow }
         ensures value { self.new.value ≡ self.old.value }
@@ -150,8 +148,7 @@ impl<'a> Tables<'a> {
             ≡ level self.old.search.marks.items n }
         ensures path { Reaches self.new to }
     {
-        self.search
-            .reach_by(self.network, &self.flow, entry, node, to);
+        self.search.reach_by(self.network, &self.flow, entry, to);
     }
 
     // The flow, with the nodes that the search reached as the source's side.

@@ -3,6 +3,7 @@ use Rattle.mm_flow.specs.Residual.{head}
 use Rattle.mm_flow.specs.Marks.{level}
 use Rattle.mm_flow.specs.Levels.{IsAhead, HasLead}
 use Rattle.mm_flow.specs.Phase.{LeadsFrom}
+use Rattle.mm_flow.specs.Task.{Reaches}
 use Rattle.mm_flow.proofs.Leading.{lead_known, lead_read, lead-le, lead_same}
 use Rattle.mm_flow.proofs.Working.{same_further}
 use Rattle.mm_flow.proofs.phase.Phase.follow.Goals as goal
@@ -22,11 +23,9 @@ ahead_is c ne = lead_read c.loop-at.self c.loop-at.at c.index-entry.result.now c
 pub reach_by-requires-clause-up : goal.reach_by-requires-clause-up
 reach_by-requires-clause-up c = (ahead_is (goal.at.reach_by-requires-clause-up c).After-index-entry (omega arith)).0.up
 
-pub reach_by-requires-clause-leaves : goal.reach_by-requires-clause-leaves
-reach_by-requires-clause-leaves c = sym (ahead_is (goal.at.reach_by-requires-clause-leaves c).After-index-entry (omega arith)).0.leaves
-
-pub reach_by-requires-clause-node : goal.reach_by-requires-clause-node
-reach_by-requires-clause-node c = lead_known c.loop-at.self c.loop-at.at c.loop-at.invariant.leads
+pub reach_by-requires-clause-path : goal.reach_by-requires-clause-path
+reach_by-requires-clause-path c =
+    subst (λ (n : ℕ). Reaches c.loop-at.self.tables n) (sym (ahead_is (goal.at.reach_by-requires-clause-path c).After-index-entry (omega arith)).0.leaves) c.loop-at.invariant.path
 
 pub head-to-requires : goal.head-to-requires
 head-to-requires c = (ahead_is (goal.at.head-to-requires c).After-index-entry (omega arith)).0.up.known

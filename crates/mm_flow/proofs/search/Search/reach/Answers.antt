@@ -26,10 +26,8 @@ returns-clause-search c =
     let from_read = from_is (goal.at.returns-clause-search c).After-index-from in
     let read = ap (λ (m : Mark). m.level) from_read in
     let from_marked : HasMark s.marks.items c.args.node = omega (arith, c.requires.from, ap (level s.marks.items) c.requires.leaves) in
-    let from_wide = c.requires.search.marking.wide c.args.node from_marked in
-    let width_read = ap (λ (m : Mark). m.width) from_read in
     let to_read = ap (λ (m : Mark). m.level) (get_or_read s.marks.items c.args.to c.index.result.now (omega (arith, c.requires.search.marking.size, c.requires.to)) c.index.ensures no_mark) in
     search_more g f s.source s.least s.marks.items s.order.items s.found s.done c.args.entry c.args.to c.args.node from _
     c.requires.search c.requires.entry c.requires.leads c.requires.leaves c.requires.to
     from_read (omega (arith, read, from_marked)) (omega (arith, to_read))
-    refl refl (omega arith) (omega arith) (omega (arith, width_read, from_wide))
+    refl refl (omega (arith, c.residual-capacity.ensures.residual))

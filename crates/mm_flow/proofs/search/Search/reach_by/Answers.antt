@@ -1,4 +1,4 @@
-use Rattle.std.proofs.Common.{◌≡◌, ◌≢◌, ℕ, suc, slice_index, slice_set, ap, sym, ◌∙◌, refl, subst, arith}
+use Rattle.std.proofs.Common.{◌≡◌, ◌≢◌, ℕ, slice_index, slice_set, ap, sym, ◌∙◌, refl, subst, arith}
 use Rattle.std.proofs.lemmas.List.{get_or_read, get_or-set_same, get_or-set_other}
 use Rattle.mm_flow.specs.declared.search.Mark.{Mark}
 use Rattle.mm_flow.specs.Residual.{tail, head}
@@ -17,28 +17,23 @@ returns-clause-path c =
     let e = c.args.entry in
     let at = tail g e in
     let to = head g e in
-    let own : Mark = record { level = c.index.result.now.level; via = e; width = c.min.result } in
+    let own : Mark = record { level = c.index_mut.result.now.level; via = e } in
     let marked = slice_set marks c.args.to own in
     let size = c.requires.levelled.size in
     let up = c.requires.up in
     let to_is = c.requires.leads in
-    let from_read = get_or_read marks c.args.node c.index-from.result.now (omega (arith, size, c.requires.node)) c.index-from.ensures no_mark ∙ ap (mark marks) c.requires.leaves in
-    let to_read = get_or_read marks c.args.to c.index.result.now (omega (arith, size, c.requires.to)) c.index.ensures no_mark ∙ ap (mark marks) to_is in
-    let from_level = ap (λ (m : Mark). m.level) from_read in
-    let from_width = ap (λ (m : Mark). m.width) from_read in
+    let to_read = get_or_read marks c.args.to c.index_mut.result.now (omega (arith, size, c.requires.to)) c.index_mut.ensures.value no_mark ∙ ap (mark marks) to_is in
     let to_level = ap (λ (m : Mark). m.level) to_read in
     let own_is : mark marked to ≡ own = sym (ap (mark marked) to_is) ∙ get_or-set_same marks c.args.to own no_mark (omega (arith, size, c.requires.to)) in
     let others : (n : ℕ) → n ≢ to → mark marked n ≡ mark marks n = λ n ne. get_or-set_other marks c.args.to n own no_mark (λ same. ne (same ∙ to_is)) in
     let before_is : mark marked (tail g own.via) ≡ mark marks at = others at (λ same. absurd (omega (arith, up.up, ap (λ (n : ℕ). (mark marks n).level) same))) in
     let reached =
-    IsReached-from g f marked to (mark marks at) own own_is before_is (record {
+    IsReached-from g f marked 1 to (mark marks at) own own_is before_is (record {
       known = up.known;
       leads = refl;
       reached = up.marked;
       above = omega (arith, up.up, to_level);
-      entry = omega arith;
-      path = omega (arith, from_width);
+      fits = omega (arith, up.open_still);
     }) in
-    let path : HasPath g f marks s.source at = subst (λ (n : ℕ). HasPath g f marks s.source n) c.requires.leaves c.requires.path in
-    subst (λ (n : ℕ). HasPath g f marked s.source n) (sym to_is)
-    (suc path.0, path_taken g f marks marked s.source path.0 e to up.up reached (ap (λ (m : Mark). m.via) own_is) others path.1)
+    subst (λ (n : ℕ). HasPath g f marked s.source 1 n) (sym to_is)
+    (path_taken g f marks marked s.source 1 e to up.up reached (ap (λ (m : Mark). m.via) own_is) others c.requires.path)

@@ -2,7 +2,6 @@ use Rattle.std.proofs.Common.{◌≡◌, ◌++◌, length, take, drop, replicate
 use Rattle.std.proofs.lemmas.Grind.{common_steps}
 use Rattle.mm_flow.specs.Marks.{no_mark}
 use Rattle.mm_flow.specs.declared.search.Mark.{Mark}
-use Rattle.mm_flow.specs.declared.limits.TheConstants.{UNLIMITED}
 use Rattle.mm_flow.proofs.Marking.{search_begun}
 use Rattle.mm_flow.proofs.search.Search.start.Goals as goal
 
@@ -10,6 +9,6 @@ pub returns-clause-begun : goal.returns-clause-begun
 returns-clause-begun c =
     let g = c.args.network.now.graph in
     let s = c.args.self.now in
-    let start : Mark = record { level = 1; via = 0; width = UNLIMITED } in
+    let start : Mark = record { level = 1; via = 0 } in
     let cleared : take s.marks.len (c.clear.new.marks ++ drop (length c.clear.new.marks) s.marks.items) ≡ replicate g.nodes no_mark = grind (arith, common_steps) in
-    rw cleared (search_begun g (slice_index c.args.flow.now) s.source c.args.least s.order.items start c.requires.source c.requires.order refl refl c.requires.least)
+    rw cleared (search_begun g (slice_index c.args.flow.now) s.source c.args.least s.order.items start c.requires.source c.requires.order refl)

@@ -29,7 +29,7 @@ invariant_of-self c =
     let t = c.args.self.now in
     let next = c.run.new.self in
     let searched = searched_there (goal.at.invariant_of-self c).After-run in
-    record { at_work = work_marked t.network.now.graph t.sink t.links t.search t.flow.items t.value t.at_work next c.run.ensures.source c.run.ensures.order (marking_levelled t.network.now.graph (slice_index t.flow.items) next.source 1 next.marks.items (omega arith) searched.marking) }
+    record { at_work = work_marked t.network.now.graph t.sink t.links t.search t.flow.items t.value t.at_work next c.run.ensures.source c.run.ensures.order (marking_levelled t.network.now.graph (slice_index t.flow.items) next.source 1 next.marks.items searched.marking) }
 
 pub returns-clause-way : goal.returns-clause-way
 returns-clause-way c = λ reached.

@@ -37,7 +37,7 @@ pub invariant_of-self : goal.invariant_of-self
 invariant_of-self c =
     let t = c.args.self.now in
     let next = c.run_to.new.self in
-    record { at_work = work_marked t.network.now.graph t.sink t.links t.search t.flow.items t.value t.at_work next c.run_to.ensures.source c.run_to.ensures.order (marking_levelled t.network.now.graph (slice_index t.flow.items) next.source 1 next.marks.items (omega arith) (marked_there (goal.at.invariant_of-self c).After-run_to)) }
+    record { at_work = work_marked t.network.now.graph t.sink t.links t.search t.flow.items t.value t.at_work next c.run_to.ensures.source c.run_to.ensures.order (marking_levelled t.network.now.graph (slice_index t.flow.items) next.source 1 next.marks.items (marked_there (goal.at.invariant_of-self c).After-run_to)) }
 
 pub returns-clause-way : goal.returns-clause-way
 returns-clause-way c = λ reached.
