@@ -1,5 +1,5 @@
 //! Both solvers beside what they were before they were made faster: on many made networks each finds the same flow, the same side
-//! and the same value, and refuses the same. Which of several greatest flows is found is fixed by no contract.
+//! and the same value, and refuses the same. Which of several maximum flows is found is fixed by no contract.
 ghost use Rattle.std.specs.Prelude.{◌<◌};
 
 use crate::tests::flows::{ArcRow, built};
