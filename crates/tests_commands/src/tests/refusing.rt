@@ -198,7 +198,10 @@ fn takes_all_it_can<R: Abort + AllocGlobal + Threads + Wait + Sync>(
     };
     run_script(rt, alloc, script, &mut out, &mut err);
     let all = &said[..room.min(said.len())];
-    assert!(rt; err.taken.as_slice() == all, "room {room}, parts {takes_parts}");
+    assert!(rt;
+        err.taken.as_slice() == all,
+        "room {room}, parts {takes_parts}"
+    );
 }
 
 #[test]
@@ -212,7 +215,20 @@ fn standard_error_takes_all_that_it_has_room_for(rt: HostRuntime) {
     let len = said.len();
     assert!(rt; len > 3 * 8192);
     for room in [
-        0, 1, 99, 1000, 4096, 8191, 8192, 8193, 9000, 16_383, 16_385, len - 1, len, len + 1,
+        0,
+        1,
+        99,
+        1000,
+        4096,
+        8191,
+        8192,
+        8193,
+        9000,
+        16_383,
+        16_385,
+        len - 1,
+        len,
+        len + 1,
     ] {
         for takes_parts in [false, true] {
             takes_all_it_can(&rt, script.as_bytes(), said.as_bytes(), room, takes_parts);

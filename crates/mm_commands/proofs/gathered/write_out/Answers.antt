@@ -8,8 +8,7 @@ loop-rest-preserved g c =
     let (done, split, appended) = c.loop-rest.invariant in
     let rest = c.loop-rest.rest.now in
     let count = c.in-Ok.count in
-    let parted = ap (λ xs. done ++ xs) (sym (take-append-drop count rest)) ∙ sym (append_assoc done (take count rest) (drop count rest)) in
-    (
+    let parted = ap (λ xs. done ++ xs) (sym (take-append-drop count rest)) ∙ sym (append_assoc done (take count rest) (drop count rest)) in (
       done ++ take count rest,
       split ∙ parted ∙ ap (λ xs. (done ++ take count rest) ++ xs) (sym (take_rest rest count)),
       Appends-trans _ _ _ _ _ appended c.in-Ok.ensures.bytes,
