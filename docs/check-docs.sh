@@ -9,16 +9,17 @@
 #   under `<!-- status N -->`;
 # - each file that a link or a path of any document names is there;
 # - each heading of a page of docs/ that a document cites (docs/PAGE.md, 'Heading') is there;
-# - each name in code style in a crate's README stands in the sources of that crate, or of another that it names; README's table of
-#   crates has those of crates.txt; and each promise of docs/PROMISES.md names something of its crates;
+# - each name in code style in a crate's README stands in the sources of that crate, or of another that it names; the table of crates of
+#   docs/LAYERS.md has those of crates.txt; and each promise of docs/PROMISES.md names something of its crates;
 # - each must-fail edit is named in docs/PROMISES.md in a sentence that begins with 'Refused:', each edit named there is there, each promise
 #   names one, and there are at most as many as the gate has time for;
+# - each must-fail edit changes a function that the program or the library for C runs: docs/reached;
 # - each name in code style in docs/TOUR.md, docs/READING.md and docs/LAYERS.md stands in some source;
-# - docs/DEFINITIONS.md and docs/EXAMPLES.md are what docs/definitions makes of the sources;
+# - docs/DEFINITIONS.md and docs/TESTS.md are what docs/definitions makes of the sources;
 # - each function of a picture of docs/TOUR.md stands in the file that stands beside it;
 # - each refusal of mm_base's table has one row in the tables of refusals of docs/FORMATS.md, with its number, its name and the
-#   words of mm_told, and what `check` finds has a row with its words; 'Where each refusal is met' names a test for each, and that test and
-#   its crate are there.
+#   words of mm_told, and what `check` finds has a row with its words; docs/CONTRIBUTING.md, 'Where each refusal is met' names a test for
+#   each, and that test and its crate are there.
 # The commands of one document are run one after another in one new folder, in which the top of the repository is seen, but not its
 # folder out.
 # The program must be built from the sources that are there: `./mm_tool --help` builds it. Prints one line where all is well.
@@ -227,11 +228,11 @@ check_page_names() {
   done
 }
 
-# README's table of crates: first a row for each crate that stands above the line `# Tools` of crates.txt, in that order.
+# The table of crates of docs/LAYERS.md: a row for each crate that stands above the line `# Tools` of crates.txt, in that order, and no other.
 check_crate_rows() {
   sed '/^# Tools/q' "$top/crates.txt" | grep -oE '^[a-z_0-9]+' >"$work/crates"
-  grep -E '^\| \[`[a-z_0-9]+`\]\(crates/' "$top/README.md" | cut -d '`' -f 2 | head -n "$(wc -l <"$work/crates")" >"$work/rows"
-  diff "$work/crates" "$work/rows" || fail "README.md: the table of crates has other rows than crates.txt"
+  grep -E '^\| \[`[a-z_0-9]+`\]\(\.\./crates/' "$top/docs/LAYERS.md" | cut -d '`' -f 2 >"$work/rows"
+  diff "$work/crates" "$work/rows" || fail "docs/LAYERS.md: the table of crates has other rows than crates.txt"
 }
 
 # Each promise of docs/PROMISES.md whose heading names a crate.
@@ -295,12 +296,19 @@ check_edits() {
   [ "$edits" -le "$most" ] || fail "$edits must-fail edits, and the gate has time for $most: move some to wrong-bodies"
 }
 
+# What each must-fail edit changes is run by the program or by the library for C.
+check_reached() {
+  local line
+  "$top/docs/reached" >"$work/unreached" 2>&1 && return
+  while IFS= read -r line; do fail "$line"; done <"$work/unreached"
+}
+
 # The pages that docs/definitions makes.
 check_made_pages() {
   local page
   mkdir "$work/made"
   "$top/docs/definitions" "$work/made" 2>"$work/errors" || fail "$(head -n 1 "$work/errors")"
-  for page in DEFINITIONS EXAMPLES; do
+  for page in DEFINITIONS TESTS; do
     [ ! -f "$work/made/$page.md" ] || diff -u "$top/docs/$page.md" "$work/made/$page.md" >"$work/differs" ||
       { fail "docs/$page.md is not what the sources say: docs/definitions makes it"; head -n 20 "$work/differs"; }
   done
@@ -370,8 +378,8 @@ check_findings() {
   done <"$work/findings"
 }
 
-# The tests that docs/FORMATS.md names for refusals, as lines of crate, test and number. There the tests of a crate are one point of a list, each
-# with its numbers in parentheses.
+# The tests that docs/CONTRIBUTING.md names for refusals, as lines of crate, test and number. There the tests of a crate are one point of a
+# list, each with its numbers in parentheses.
 refusal_tests() {
   awk '
     /^## / { inside = /^## Where each refusal is met/ }
@@ -384,7 +392,7 @@ refusal_tests() {
           for (i = 3; word[i] != ""; i++) print crate, word[2], word[i]
           told[crate] = substr(told[crate], RSTART + RLENGTH)
         }
-    }' "$top/docs/FORMATS.md"
+    }' "$top/docs/CONTRIBUTING.md"
 }
 
 # At least one test for each refusal, in a crate whose sources name the refusal.
@@ -392,16 +400,16 @@ check_refusal_tests() {
   local crate name number case file
   refusal_tests >"$work/met"
   while read -r number case _; do
-    grep -q " $number\$" "$work/met" || fail "docs/FORMATS.md: no test is named that meets $number $case"
+    grep -q " $number\$" "$work/met" || fail "docs/CONTRIBUTING.md: no test is named that meets $number $case"
   done < <(refusals)
   while read -r crate name number; do
     case=$(refusals | sed -nE "s/^$number ([A-Za-z0-9]+) .*/\1/p")
-    [ -n "$case" ] || fail "docs/FORMATS.md: $name of $crate is to meet $number, which is no refusal"
+    [ -n "$case" ] || fail "docs/CONTRIBUTING.md: $name of $crate is to meet $number, which is no refusal"
     file=$(grep -rlE --include='*.rt' --exclude-dir=out "^ *fn $name\(" "$top/crates/$crate/src" | head -n 1)
     if [ -z "$file" ]; then
-      fail "docs/FORMATS.md: $crate has no test $name, in which $number $case is met"
+      fail "docs/CONTRIBUTING.md: $crate has no test $name, in which $number $case is met"
     elif ! grep -rqswE -- "$case|$number" "$file" "${file%.rt}" "${file%/*}.rt"; then
-      fail "docs/FORMATS.md: the module of the test $name of $crate has neither $number nor $case"
+      fail "docs/CONTRIBUTING.md: the module of the test $name of $crate has neither $number nor $case"
     fi
   done <"$work/met"
 }
@@ -414,6 +422,7 @@ check_crate_rows
 check_page_names
 check_promises
 check_edits
+check_reached
 check_made_pages
 check_tour
 check_refusals

@@ -1,5 +1,5 @@
-/* A memory in flight: packets are recorded by the routes of a setup, ground asks for a retrieval and a report by telecommand, and the packets
- * of both are given one by one. */
+/* A memory in flight: packets are recorded by the routes of a setup, ground asks for a retrieval and a report by telecommand, and the
+ * packets of both are given one by one. */
 #include <rudlayog.h>
 #include <stdio.h>
 #include <string.h>
@@ -14,8 +14,8 @@ static const char setup[] = "[[store]]\nid = \"SCI\"\nsize = 4\ntype = \"bounded
 static uint8_t housekeeping[] = {0x08, 1, 0xC0, 0, 0, 14, 0x20, 3, 25, 0, 0, 0, 0, 0, 0, 0, 0, 0, 0, 0, 0};
 
 /* TC[15,9] starts a retrieval from HK of all times up to 255; TC[15,12] asks for a summary of it. Both stand with their identifier. */
-static const uint8_t retrieval[] = {0x18, 100, 0xC0, 0, 0, 29,  0x20, 15, 9, 0, 7, 1, 'H', 'K', ' ', ' ', ' ', ' ',
-                                    ' ',  ' ', 0,    0, 0, 0,   0,    0,  0, 0, 0, 0, 0,   0,   0,   0,   0,   255};
+static const uint8_t retrieval[] = {0x18, 100, 0xC0, 0, 0, 29, 0x20, 15, 9, 0, 7, 1, 'H', 'K', ' ', ' ', ' ', ' ',
+                                    ' ',  ' ', 0,    0, 0, 0,  0,    0,  0, 0, 0, 0, 0,   0,   0,   0,   0,   255};
 static const uint8_t summary[] = {0x18, 100, 0xC0, 1, 0, 13, 0x20, 15, 12, 0, 7, 1, 'H', 'K', ' ', ' ', ' ', ' ', ' ', ' '};
 
 static int complain(const char *what, const struct mm_answer *answer) {
@@ -72,7 +72,8 @@ static int fly(struct mm_memory *memory) {
     }
     mm_memory_report(memory, out, 10, &answer);
     printf("a report of %zu octets waits\n", answer.length);
-    for (mm_memory_report(memory, out, sizeof out, &answer); answer.status == MM_WRITTEN; mm_memory_report(memory, out, sizeof out, &answer)) {
+    for (mm_memory_report(memory, out, sizeof out, &answer); answer.status == MM_WRITTEN;
+         mm_memory_report(memory, out, sizeof out, &answer)) {
         printf("TM[%u,%u]\n", out[7], out[8]);
     }
     if (answer.status != MM_END) {

@@ -3,7 +3,9 @@
  *   tool plan SETUP FORECAST
  *   tool check SETUP FORECAST PLAN
  *   tool chart SETUP FORECAST PLAN
+ *   tool table SETUP FORECAST PLAN
  *   tool ask SETUP REQUESTS
+ *   tool read PACKETS
  *
  * The status is 0 where all is done, 1 where something is refused or a verdict is not `least`, and 2 where the command line or a file is
  * not well. */
@@ -17,7 +19,7 @@ struct text {
     size_t length;
 };
 
-/* What a call needs, and what it leaves. */
+/* What a call needs, and what it leaves. Packets that are read stand in the place of the setup. */
 struct call {
     struct text setup, second, plan;
     struct mm_verdict verdict;
@@ -41,6 +43,15 @@ static void chart(struct call *call, uint8_t *out, size_t room) {
              room, &call->answer);
 }
 
+static void table(struct call *call, uint8_t *out, size_t room) {
+    mm_table(call->setup.octets, call->setup.length, call->second.octets, call->second.length, call->plan.octets, call->plan.length, out,
+             room, &call->answer);
+}
+
+static void read_packets(struct call *call, uint8_t *out, size_t room) {
+    mm_read(call->setup.octets, call->setup.length, out, room, &call->outcome, &call->answer);
+}
+
 static void ask(struct call *call, uint8_t *out, size_t room) {
     mm_ask(call->setup.octets, call->setup.length, call->second.octets, call->second.length, out, room, &call->outcome, &call->answer);
 }
@@ -54,10 +65,8 @@ struct command {
 };
 
 static const struct command commands[] = {
-    {"plan", 2, MM_PLAN_ROOM, plan},
-    {"check", 3, MM_LINE_ROOM, check},
-    {"chart", 3, 131072, chart},
-    {"ask", 2, 4096, ask},
+    {"plan", 2, MM_PLAN_ROOM, plan}, {"check", 3, MM_LINE_ROOM, check}, {"chart", 3, 131072, chart}, {"table", 3, 131072, table},
+    {"ask", 2, 4096, ask},           {"read", 1, 4096, read_packets},
 };
 
 /* Reads a file whole; the octets are null where that fails. */
@@ -107,9 +116,26 @@ static uint8_t *make(const struct command *command, struct call *call) {
     return out;
 }
 
+/* The octets of a text, of which there may be none. */
+static const uint8_t *octets_of(const struct text *text) {
+    static const uint8_t none[1];
+    return text->octets == NULL ? none : text->octets;
+}
+
+/* Prints what is found in the texts that are refused, if more can be said of them. */
+static void print_hint(const struct call *call) {
+    uint8_t hint[MM_HINT_ROOM];
+    struct mm_answer said;
+    mm_hint(octets_of(&call->setup), call->setup.length, octets_of(&call->second), call->second.length, octets_of(&call->plan),
+            call->plan.length, &call->answer.refused, hint, sizeof hint, &said);
+    if (said.status == MM_WRITTEN && said.length > 0) {
+        fprintf(stderr, "hint: %.*s\n", (int)said.length, (const char *)hint);
+    }
+}
+
 /* Prints the text or the refusal. */
 static int print(const struct call *call, const uint8_t *out) {
-    uint8_t words[1024];
+    uint8_t words[MM_WORDS_ROOM];
     struct mm_answer said;
     if (call->answer.status == MM_WRITTEN) {
         fwrite(out, 1, call->answer.length, stdout);
@@ -121,6 +147,7 @@ static int print(const struct call *call, const uint8_t *out) {
     } else {
         fprintf(stderr, "refused %u\n", (unsigned)call->answer.refused.number);
     }
+    print_hint(call);
     return 1;
 }
 
@@ -152,6 +179,7 @@ int main(int count, char **words) {
             return run(&commands[k], words + 2);
         }
     }
-    fprintf(stderr, "usage: tool plan SETUP FORECAST | check SETUP FORECAST PLAN | chart SETUP FORECAST PLAN | ask SETUP REQUESTS\n");
+    fprintf(stderr, "usage: tool plan SETUP FORECAST | check SETUP FORECAST PLAN | chart SETUP FORECAST PLAN | table SETUP FORECAST PLAN | "
+                    "ask SETUP REQUESTS | read PACKETS\n");
     return 2;
 }

@@ -1,6 +1,7 @@
 /* Makes each call once for each allocation that it asks for, with that one refused. The call must then tell want of memory, and leave the
  * buffer as it was, or give the same text as with ample memory; and no block may stay allocated. The life of a memory is lived in the same
- * way: a call that tells want of memory is made again, and the life must go on as with ample memory. Linked with
+ * way: a call that tells want of memory is made again, and the life must go on as with ample memory. A store that changes its kind asks for
+ * what the other kind is kept in. Where reports gather, the room for them is asked for a few times, each time twice as much. Linked with
  * `-Wl,--wrap=malloc,--wrap=realloc,--wrap=free`. */
 #include <rudlayog.h>
 #include <stdio.h>
@@ -17,16 +18,28 @@ void __wrap_free(void *block);
 /* How many allocations were asked for, which of them is refused (0: none), and how many blocks are allocated. */
 static long asked, refused, held;
 
-static int is_refused(void) { return ++asked == refused; }
+/* The same of those of more than LARGE bytes, with the bytes of the first ones. */
+enum { LARGE = 4096, GROWTHS = 3 };
+static long large_asked, large_refused;
+static size_t large[GROWTHS];
+
+static int is_refused(size_t size) {
+    int is_large = size > LARGE;
+    if (is_large && large_asked < GROWTHS) {
+        large[large_asked] = size;
+    }
+    large_asked += is_large;
+    return ++asked == refused || (is_large && large_asked == large_refused);
+}
 
 void *__wrap_malloc(size_t size) {
-    void *block = is_refused() ? NULL : __real_malloc(size);
+    void *block = is_refused(size) ? NULL : __real_malloc(size);
     held += block != NULL;
     return block;
 }
 
 void *__wrap_realloc(void *block, size_t size) {
-    void *moved = is_refused() ? NULL : __real_realloc(block, size);
+    void *moved = is_refused(size) ? NULL : __real_realloc(block, size);
     held += block == NULL && moved != NULL;
     return moved;
 }
@@ -39,7 +52,8 @@ void __wrap_free(void *block) {
 #define ROOM 65536
 
 static const char setup[] =
-    "[[store]]\nid = \"SCI\"\nsize = 4\ntype = \"bounded\"\nchannel = 0\n\n[[store]]\nid = \"HK\"\nsize = 3\ntype = \"circular\"\nchannel = "
+    "[[store]]\nid = \"SCI\"\nsize = 4\ntype = \"bounded\"\nchannel = 0\n\n[[store]]\nid = \"HK\"\nsize = 3\ntype = \"circular\"\nchannel "
+    "= "
     "1\nstart = 2\n\n[[route]]\napid = 100\nservice = 3\nsubtype = 25\nstore = \"HK\"\n\n[[limit]]\nchannel = 1\nblocks = 1\n";
 static const char forecast[] = "step,window,SCI,HK\n1,2,5,1\n2,3,3,2\n3,0,1,1\n";
 static const char bad_forecast[] = "step,window,SCI,HK\n1,2,5,1\n2,3,x,2\n";
@@ -66,6 +80,18 @@ static void make_chart(uint8_t *out, struct mm_answer *answer) {
     mm_chart(TEXT(setup), TEXT(forecast), plan, plan_length, out, ROOM, answer);
 }
 
+static void make_table(uint8_t *out, struct mm_answer *answer) {
+    mm_table(TEXT(setup), TEXT(forecast), plan, plan_length, out, ROOM, answer);
+}
+
+static void make_read(uint8_t *out, struct mm_answer *answer) {
+    uint32_t outcome;
+    mm_read(TEXT(requests), out, ROOM, &outcome, answer);
+    if ((answer->status == MM_WRITTEN) != (outcome != MM_NO_OUTCOME)) {
+        answer->status = 99;
+    }
+}
+
 static void make_ask(uint8_t *out, struct mm_answer *answer) {
     uint32_t outcome;
     mm_ask(TEXT(setup), TEXT(requests), out, ROOM, &outcome, answer);
@@ -76,6 +102,10 @@ static void make_ask(uint8_t *out, struct mm_answer *answer) {
 
 static void make_words(uint8_t *out, struct mm_answer *answer) { mm_words(&cell, out, ROOM, answer); }
 
+static void make_hint(uint8_t *out, struct mm_answer *answer) {
+    mm_hint(TEXT(setup), TEXT(bad_forecast), (const uint8_t *)"", 0, &cell, out, ROOM, answer);
+}
+
 struct part {
     const char *name;
     void (*make)(uint8_t *out, struct mm_answer *answer);
@@ -85,7 +115,9 @@ struct part {
 static const struct part parts[] = {
     {"mm_plan", make_plan, MM_WRITTEN},   {"mm_plan of a bad cell", make_no_plan, MM_REFUSED},
     {"mm_check", make_check, MM_WRITTEN}, {"mm_chart", make_chart, MM_WRITTEN},
+    {"mm_table", make_table, MM_WRITTEN}, {"mm_read", make_read, MM_WRITTEN},
     {"mm_ask", make_ask, MM_WRITTEN},     {"mm_words", make_words, MM_WRITTEN},
+    {"mm_hint", make_hint, MM_WRITTEN},
 };
 
 static int fail(const struct part *part, const char *what) {
@@ -137,41 +169,126 @@ struct life {
     struct mm_answer answer;
     struct mm_fate fate;
     struct mm_tally tally;
-    uint64_t time;
+    struct mm_state state;
+    uint64_t time, reports;
     uint8_t each[MM_INSTRUCTIONS], out[MM_BLOCK];
 };
 
-/* Telemetry that goes into HK, and telecommands: a summary of HK, and a retrieval of all that it holds. */
+/* A request with one instruction, or with none where there is no identifier. */
+struct request {
+    uint8_t subtype;
+    const char *id;
+    size_t length;
+    uint8_t fields[16];
+};
+
+/* Telemetry that goes into HK. */
 static const uint8_t housekeeping[] = {0x08, 100, 0xC0, 0, 0, 14, 0x20, 3, 25, 0, 0, 0, 0, 0, 0, 0, 0, 0, 0, 0, 0};
-static const uint8_t summary[] = {0x18, 100, 0xC0, 1, 0, 13, 0x20, 15, 12, 0, 7, 1, 'H', 'K', ' ', ' ', ' ', ' ', ' ', ' '};
-static const uint8_t retrieval[] = {0x18, 100, 0xC0, 0, 0, 29,  0x20, 15, 9, 0, 7, 1, 'H', 'K', ' ', ' ', ' ', ' ',
-                                    ' ',  ' ', 0,    0, 0, 0,   0,    0,  0, 0, 0, 0, 0,   0,   0,   0,   0,   255};
 
-static void life_open(struct life *l) { mm_memory_open(&l->memory, TEXT(setup), &l->answer); }
-
-static void life_record(struct life *l) { mm_memory_record(&l->memory, 1, housekeeping, sizeof housekeeping, &l->tally, &l->answer); }
-
-static void life_offer(struct life *l) {
-    mm_memory_offer(&l->memory, TEXT("HK"), 2, housekeeping, sizeof housekeeping, &l->fate, &l->answer);
+/* Makes the telecommand of a request, and applies it. */
+static void apply(struct life *l, const struct request *request) {
+    uint8_t packet[64] = {0x18, 100, 0xC0, 0, 0, 0, 0x20, 15, request->subtype, 0, 7, 1};
+    size_t length = 11;
+    if (request->id != NULL) {
+        memset(packet + 12, ' ', 8);
+        memcpy(packet + 12, request->id, strlen(request->id));
+        memcpy(packet + 20, request->fields, request->length);
+        length = 20 + request->length;
+    }
+    packet[5] = (uint8_t)(length - 7);
+    mm_memory_apply(&l->memory, 3, packet, length, l->each, sizeof l->each, &l->answer);
 }
 
-static void life_ask(struct life *l) { mm_memory_apply(&l->memory, 3, summary, sizeof summary, l->each, sizeof l->each, &l->answer); }
-
-static void life_retrieve(struct life *l) {
-    mm_memory_apply(&l->memory, 4, retrieval, sizeof retrieval, l->each, sizeof l->each, &l->answer);
+static void life_open(struct life *l, const struct request *request) {
+    (void)request;
+    mm_memory_open(&l->memory, TEXT(setup), &l->answer);
 }
 
-static void life_report(struct life *l) { mm_memory_report(&l->memory, l->out, sizeof l->out, &l->answer); }
+static void life_record(struct life *l, const struct request *request) {
+    (void)request;
+    mm_memory_record(&l->memory, 1, housekeeping, sizeof housekeeping, &l->tally, &l->answer);
+}
 
-static void life_next(struct life *l) { mm_memory_next(&l->memory, TEXT("HK"), l->out, sizeof l->out, &l->time, &l->answer); }
+static void life_offer(struct life *l, const struct request *request) {
+    mm_memory_offer(&l->memory, TEXT(request->id), 2, housekeeping, sizeof housekeeping, &l->fate, &l->answer);
+}
 
+static void life_report(struct life *l, const struct request *request) {
+    (void)request;
+    mm_memory_report(&l->memory, l->out, sizeof l->out, &l->answer);
+}
+
+static void life_state(struct life *l, const struct request *request) {
+    mm_memory_state(&l->memory, TEXT(request->id), &l->state, &l->answer);
+}
+
+static void life_waiting(struct life *l, const struct request *request) {
+    (void)request;
+    mm_memory_waiting(&l->memory, &l->reports, &l->answer);
+}
+
+static void life_next(struct life *l, const struct request *request) {
+    mm_memory_next(&l->memory, TEXT(request->id), l->out, sizeof l->out, &l->time, &l->answer);
+}
+
+#define ALL_TIMES 0, 0, 0, 0, 0, 0, 0, 0, 0, 0, 0, 0, 0, 0, 0, 255
+#define CALL(call, status)                                                                                                                 \
+    {                                                                                                                                      \
+        call, status, {                                                                                                                    \
+            0, "HK", 0, { 0 }                                                                                                              \
+        }                                                                                                                                  \
+    }
+#define REPORT CALL(life_report, MM_WRITTEN)
+#define ASK(...)                                                                                                                           \
+    {                                                                                                                                      \
+        apply, MM_WRITTEN, { __VA_ARGS__ }                                                                                                 \
+    }
+
+/* Each call on a handle, and each subtype of a request, with the reports on it. */
 static const struct {
-    void (*call)(struct life *life);
+    void (*call)(struct life *life, const struct request *request);
     uint32_t status; /* with ample memory */
+    struct request request;
 } calls[] = {
-    {life_open, MM_WRITTEN},   {life_record, MM_WRITTEN}, {life_offer, MM_WRITTEN},    {life_ask, MM_WRITTEN},
-    {life_report, MM_WRITTEN}, {life_report, MM_END},     {life_retrieve, MM_WRITTEN}, {life_next, MM_WRITTEN},
-    {life_next, MM_WRITTEN},   {life_next, MM_END},
+    CALL(life_open, MM_WRITTEN),
+    CALL(life_record, MM_WRITTEN),
+    CALL(life_offer, MM_WRITTEN),
+    ASK(12, "HK", 0, {0}),
+    CALL(life_state, MM_WRITTEN),
+    CALL(life_waiting, MM_WRITTEN),
+    REPORT,
+    CALL(life_report, MM_END),
+    ASK(9, "HK", 16, {ALL_TIMES}),
+    CALL(life_next, MM_WRITTEN),
+    CALL(life_next, MM_WRITTEN),
+    CALL(life_next, MM_END),
+    ASK(9, "HK", 16, {ALL_TIMES}),
+    ASK(17, "HK", 0, {0}),
+    ASK(2, "HK", 0, {0}),
+    ASK(1, "HK", 0, {0}),
+    ASK(3, "SCI", 4, {0, 100, 3, 26}),
+    ASK(5, "SCI", 0, {0}),
+    REPORT,
+    ASK(4, "SCI", 4, {0, 100, 3, 26}),
+    ASK(20, "CAM", 6, {0, 0, 1, 0, 0, 1}),
+    ASK(1, "CAM", 0, {0}),
+    {life_offer, MM_WRITTEN, {0, "CAM", 0, {0}}},
+    ASK(2, "CAM", 0, {0}),
+    ASK(25, "CAM", 4, {0, 0, 2, 0}),
+    ASK(27, "CAM", 0, {0}),
+    ASK(26, "CAM", 0, {0}),
+    ASK(28, "CAM", 1, {2}),
+    ASK(18, NULL, 0, {0}),
+    ASK(22, NULL, 0, {0}),
+    REPORT,
+    REPORT,
+    ASK(11, "HK", 8, {0, 0, 0, 0, 0, 0, 0, 1}),
+    ASK(21, "CAM", 0, {0}),
+    ASK(12, "HK", 0, {0}),
+    REPORT,
+    ASK(22, NULL, 0, {0}),
+    REPORT,
+    CALL(life_report, MM_END),
 };
 enum { CALLS = sizeof calls / sizeof calls[0] };
 
@@ -180,18 +297,36 @@ static int fail_life(size_t call, const char *what) {
     return 1;
 }
 
+/* Whether a call tells out of memory: as a whole, or of its instruction. */
+static int is_out_of_memory(const struct life *life, int is_request) {
+    return (life->answer.status == MM_REFUSED && life->answer.refused.number == MM_REFUSAL_NO_MEMORY) ||
+           (is_request && life->answer.status == MM_WRITTEN && life->answer.length == 1 && life->each[0] == MM_REFUSAL_NO_MEMORY);
+}
+
+/* Makes a call, and a second time where it tells out of memory. A request is carried out then. */
+static int make_call(struct life *life, size_t k, long *told) {
+    const int is_request = calls[k].call == apply;
+    calls[k].call(life, &calls[k].request);
+    if (is_out_of_memory(life, is_request)) {
+        ++*told;
+        calls[k].call(life, &calls[k].request);
+    }
+    if (life->answer.status != calls[k].status) {
+        return fail_life(k, "another status");
+    }
+    if (is_request && (life->answer.length != (calls[k].request.id != NULL) || (life->answer.length == 1 && life->each[0] != MM_DONE))) {
+        return fail_life(k, "the request is not carried out");
+    }
+    return 0;
+}
+
 /* Lives a memory's life, each call of which leaves what it left with ample memory. */
 static int live(struct life lives[CALLS], int is_first, long *told) {
     static struct life life;
     memset(&life, 0, sizeof life);
     for (size_t k = 0; k < CALLS; k++) {
-        calls[k].call(&life);
-        if (life.answer.status == MM_REFUSED && life.answer.refused.number == 0) {
-            ++*told;
-            calls[k].call(&life);
-        }
-        if (life.answer.status != calls[k].status) {
-            return fail_life(k, "another status");
+        if (make_call(&life, k, told)) {
+            return 1;
         }
         if (is_first) {
             lives[k] = life;
@@ -224,6 +359,86 @@ static int sweep_life(void) {
     return told == 0;
 }
 
+/* How many allocations this request asks for, which changes the kind of SCI. */
+static long change_kind(struct life *life, uint8_t subtype) {
+    const struct request change = {subtype, "SCI", 0, {0}};
+    asked = 0;
+    apply(life, &change);
+    return life->answer.status == MM_WRITTEN && life->each[0] == MM_DONE ? asked : -1;
+}
+
+/* SCI is bounded, becomes circular, and bounded again: a ring is one block of memory, and a table of blocks with its two lists three. */
+static int sweep_kinds(void) {
+    static const struct request disable = {2, "SCI", 0, {0}};
+    static struct life life;
+    long same, ring, table;
+    life_open(&life, NULL);
+    apply(&life, &disable);
+    same = change_kind(&life, 27);
+    ring = change_kind(&life, 26) - same;
+    table = change_kind(&life, 27) - same;
+    mm_memory_close(&life.memory);
+    printf("changes of kind: %ld allocation for a ring, %ld for a table\n", ring, table);
+    return ring != 1 || table != 3;
+}
+
+/* Rounds of two requests with a report each, of which one is taken: each round leaves one report more. */
+enum { ROUNDS = 300 };
+
+static int ask_twice_take_one(struct life *life, long *told) {
+    static const struct request summary = {12, "HK", 0, {0}};
+    for (int k = 0; k < 2; k++) {
+        apply(life, &summary);
+        if (life->answer.status == MM_REFUSED && life->answer.refused.number == 0) {
+            ++*told;
+            apply(life, &summary);
+        }
+        if (life->answer.status != MM_WRITTEN) {
+            return 1;
+        }
+    }
+    life_report(life, NULL);
+    return life->answer.status != MM_WRITTEN;
+}
+
+/* Lives all rounds, and then takes the reports that are left. */
+static int live_rounds(long *told) {
+    static struct life life;
+    int taken = -1;
+    memset(&life, 0, sizeof life);
+    life_open(&life, NULL);
+    asked = large_asked = 0;
+    for (int k = 0; k < ROUNDS; k++) {
+        if (ask_twice_take_one(&life, told)) {
+            return fail_life(k, "another status in a round");
+        }
+    }
+    do {
+        life_report(&life, NULL);
+        taken++;
+    } while (life.answer.status == MM_WRITTEN);
+    mm_memory_close(&life.memory);
+    return taken == ROUNDS && life.answer.status == MM_END ? 0 : fail_life(taken, "other reports were left");
+}
+
+/* Room for 255 reports more is asked for by each request: 255 places by the first, 510 by the second, and 1,020 where 256 reports wait.
+ * Each of these requests for memory is refused once. */
+static int sweep_rounds(void) {
+    long told = 0;
+    if (live_rounds(&told) || large_asked != GROWTHS || large[1] != 2 * large[0] || large[2] != 4 * large[0]) {
+        printf("reports: memory was asked for %ld times: %zu, %zu, %zu bytes\n", large_asked, large[0], large[1], large[2]);
+        return 1;
+    }
+    for (large_refused = 1; large_refused <= GROWTHS; large_refused++) {
+        if (live_rounds(&told) || told != large_refused || large_asked != GROWTHS + 1) {
+            return fail_life(ROUNDS, "another number of requests for memory");
+        }
+    }
+    large_refused = 0;
+    printf("reports: %d rounds, %d requests for the memory of those that wait, each refused once\n", ROUNDS, GROWTHS);
+    return 0;
+}
+
 int main(void) {
     struct mm_answer answer;
     int status = 0;
@@ -233,5 +448,7 @@ int main(void) {
         status |= sweep(&parts[k]);
     }
     status |= sweep_life();
+    status |= sweep_kinds();
+    status |= sweep_rounds();
     return status;
 }

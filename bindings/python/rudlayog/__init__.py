@@ -1,5 +1,5 @@
-"""Plans the downlink of a spacecraft's mass memory, judges a plan, draws it, answers telecommands of the storage service, and keeps a memory
-with that service.
+"""Plans the downlink of a spacecraft's mass memory, judges a plan, draws it, answers telecommands of the storage service and says them in
+words, and keeps a memory with that service.
 
     >>> from rudlayog import Forecast, Setup, Store, check, plan
     >>> setup = Setup.of([Store("SCI", size=4)])
@@ -16,26 +16,32 @@ not proved. A call lets go of Python's lock, so calls run in several threads at 
 with threads: start processes by `spawn`.
 """
 
-from .calls import Chart, Replies, Verdict, ask, chart, check, plan, version
-from .forecasts import Forecast
-from .memory import Fate, Memory, Tally
-from .plans import Cut, Plan, Stretch
+from .calls import Chart, PlanTable, Replies, Verdict, ask, chart, check, plan, read, table, version
+from .forecasts import Forecast, ForecastLike
+from .memory import Fate, Memory, Retrieval, StoreState, Tally
+from .plans import Cut, Plan, PlanLike, Stretch
 from .refusals import Refusal
-from .setups import Limit, Route, Setup, Store
+from .setups import Limit, Route, Setup, SetupLike, Store
 
 __all__ = [
     "Chart",
     "Cut",
     "Fate",
     "Forecast",
+    "ForecastLike",
     "Limit",
     "Memory",
     "Plan",
+    "PlanLike",
+    "PlanTable",
     "Refusal",
     "Replies",
+    "Retrieval",
     "Route",
     "Setup",
+    "SetupLike",
     "Store",
+    "StoreState",
     "Stretch",
     "Tally",
     "Verdict",
@@ -43,6 +49,8 @@ __all__ = [
     "chart",
     "check",
     "plan",
+    "read",
+    "table",
     "version",
 ]
 __version__ = "0.3.0"

@@ -1,14 +1,18 @@
 """The shared library: its structs, its calls, and a buffer for the text that a call writes."""
 
+from __future__ import annotations
+
 import ctypes
 import os
-import threading
 from collections.abc import Callable
 from pathlib import Path
 
+from ._data import whole
 from .refusals import Refusal
 
 WRITTEN, TOO_SMALL, REFUSED, CLOSED, OPEN, END = range(6)
+ROW = 2  # MM_ROW
+NO_MEMORY, SHORT, HEADER, STEP_NUMBER, PLAN_TEXT, HEX_LINE = 0, 1, 30, 32, 34, 49  # MM_REFUSAL_NO_MEMORY and so on
 PLAN_ROOM = 204800  # MM_PLAN_ROOM
 LINE_ROOM = 64  # MM_LINE_ROOM
 INSTRUCTIONS = 255  # MM_INSTRUCTIONS
@@ -58,6 +62,15 @@ class FateTold(ctypes.Structure):
     _fields_ = [("kind", ctypes.c_uint32), ("time", ctypes.c_uint64)]
 
 
+class StateTold(ctypes.Structure):
+    """struct mm_state"""
+
+    _fields_ = [
+        *((name, ctypes.c_uint32) for name in ("kind", "size", "held", "storage", "retrieval")),
+        *((name, ctypes.c_uint64) for name in ("offered", "lost", "deleted", "oldest", "newest", "first", "last", "after")),
+    ]
+
+
 class TallyTold(ctypes.Structure):
     """struct mm_tally"""
 
@@ -82,9 +95,9 @@ except OSError as error:
 
 
 def _call(name: str, *types: object) -> Callable[..., None]:
-    call = getattr(_calls, name)
+    call = _calls[name]
     call.restype = None
-    call.argtypes = [*types, ctypes.POINTER(Answer)]
+    call.argtypes = [*types, ctypes.POINTER(Answer)]  # type: ignore[list-item]
     return call
 
 
@@ -93,7 +106,10 @@ _out = (_buffer, _size)
 mm_plan = _call("mm_plan", *_text, *_text, *_out)
 mm_check = _call("mm_check", *_text, *_text, *_text, *_out, ctypes.POINTER(VerdictTold))
 mm_chart = _call("mm_chart", *_text, *_text, *_text, *_out)
+mm_table = _call("mm_table", *_text, *_text, *_text, *_out)
 mm_ask = _call("mm_ask", *_text, *_text, *_out, ctypes.POINTER(ctypes.c_uint32))
+mm_read = _call("mm_read", *_text, *_out, ctypes.POINTER(ctypes.c_uint32))
+mm_hint = _call("mm_hint", *_text, *_text, *_text, ctypes.POINTER(RefusedAt), *_out)
 mm_words = _call("mm_words", ctypes.POINTER(RefusedAt), *_out)
 mm_version = _call("mm_version", *_out)
 
@@ -105,38 +121,75 @@ mm_memory_record = _call("mm_memory_record", _handle, _moment, *_text, ctypes.PO
 mm_memory_apply = _call("mm_memory_apply", _handle, _moment, *_text, *_out)
 mm_memory_report = _call("mm_memory_report", _handle, *_out)
 mm_memory_next = _call("mm_memory_next", _handle, *_text, *_out, ctypes.POINTER(ctypes.c_uint64))
+mm_memory_state = _call("mm_memory_state", _handle, *_text, ctypes.POINTER(StateTold))
+mm_memory_waiting = _call("mm_memory_waiting", _handle, ctypes.POINTER(ctypes.c_uint64))
 mm_memory_close = _calls.mm_memory_close
 mm_memory_close.restype = None
 mm_memory_close.argtypes = [_handle]
 
-_rooms = threading.local()
+# Buffers that no call uses. A call takes one out, and no two have the same: not in threads, and not where a signal handler makes a call
+# while another one has not ended.
+_rooms: list[ctypes.Array[ctypes.c_char]] = []
+_MOST_ROOMS = 16
 
 
-def room_of(least: int) -> ctypes.Array[ctypes.c_char]:
-    """A buffer of this thread with that many octets at least."""
-    room: ctypes.Array[ctypes.c_char] | None = getattr(_rooms, "room", None)
-    if room is None or len(room) < least:
-        room = _rooms.room = ctypes.create_string_buffer(max(least, PLAN_ROOM))
-    return room
-
-
-def told(call: Callable[..., None], *given: object, more: tuple[object, ...] = (), least: int = PLAN_ROOM) -> bytes:
-    """The text that a call writes. `given` stands before the buffer, `more` after it. Where the buffer is too small for the text, the call
-    is made again. Raises what `Refusal` says."""
+def told(call: Callable[..., None], *given: object, texts: tuple[bytes, ...] = (), more: tuple[object, ...] = ()) -> bytes:
+    """The text that a call writes. The texts and what else is given stand before the buffer, `more` after it. Where the buffer is too small
+    for the text, the call is made again. Raises what `Refusal` says."""
+    given = (*(part for text in texts for part in (text, len(text))), *given)
     answer = Answer()
-    room = room_of(least)
-    call(*given, room, len(room), *more, answer)
-    while answer.status == TOO_SMALL:
-        room = room_of(answer.length)
+    try:
+        room = _rooms.pop()
+    except IndexError:
+        room = ctypes.create_string_buffer(PLAN_ROOM)
+    try:
         call(*given, room, len(room), *more, answer)
+        while answer.status == TOO_SMALL:
+            room = ctypes.create_string_buffer(answer.length)
+            call(*given, room, len(room), *more, answer)
+        text = ctypes.string_at(room, answer.length)
+    finally:
+        if len(_rooms) < _MOST_ROOMS:
+            _rooms.append(room)
     if answer.status == REFUSED:
-        raise refusal_of(answer.refused)
-    return ctypes.string_at(room, answer.length)
+        raise refusal_in(answer.refused, *texts)
+    return text
 
 
-def refusal_of(refused: RefusedAt) -> Refusal:
-    """The refusal that is told, with its words."""
-    if refused.number == 0:
-        return Refusal(0, "NoMemory")
-    words = told(mm_words, refused).decode("ascii")
-    return Refusal.read(words)
+def _words(refused: RefusedAt) -> str:
+    return told(mm_words, refused).decode("ascii")
+
+
+def refusal_of(refused: RefusedAt, found: str | None = None) -> Refusal:
+    """The refusal that is told, with its words. Those of out of memory are not asked for when there is none."""
+    return Refusal.read(_NO_MEMORY if refused.number == NO_MEMORY else _words(refused), found)
+
+
+def refusal_in(refused: RefusedAt, *texts: bytes) -> Refusal:
+    """The refusal that is told of these texts, a setup, a forecast and a plan, with the hint on what is found in them."""
+    found = told(mm_hint, refused, texts=(*texts, b"", b"", b"")[:3]) if texts and refused.number != NO_MEMORY else b""
+    return refusal_of(refused, found.decode("ascii") or None)
+
+
+def accept(*texts: bytes) -> None:
+    """Raises the library's refusal of a setup; of a setup and a forecast; or of these and a plan. After a setup or a forecast that it
+    accepts the library refuses the empty text that it reads next."""
+    setup, forecast, plan = (*texts, b"", b"")[:3]
+    room, verdict, answer = ctypes.create_string_buffer(LINE_ROOM), VerdictTold(), Answer()
+    mm_check(setup, len(setup), forecast, len(forecast), plan, len(plan), room, len(room), verdict, answer)
+    if answer.status == REFUSED and answer.refused.number != {1: HEADER, 2: PLAN_TEXT}.get(len(texts)):
+        raise refusal_in(answer.refused, *texts)
+
+
+def moment(given: object, name: str) -> int:
+    """A moment in ticks, which the library takes in 64 bits."""
+    try:
+        now = whole(given, name)
+    except ValueError:
+        now = -1
+    if not 0 <= now < 2**64:
+        raise ValueError(f"{name} is {given!r}, and a whole number from 0 to 2^64 - 1 is expected")
+    return now
+
+
+_NO_MEMORY = _words(RefusedAt())

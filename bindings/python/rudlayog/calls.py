@@ -2,27 +2,31 @@
 
 from __future__ import annotations
 
+import csv
 import ctypes
+import io
 import os
-from collections.abc import Iterable
+from collections.abc import Callable, Iterable
 from dataclasses import dataclass
 from pathlib import Path
-from typing import Any
+from typing import Any, TypeVar
 
 from . import _library
 from ._data import Packet, Text
-from .forecasts import forecast_octets
-from .plans import Plan, plan_octets, request_octets
-from .setups import setup_octets
+from .forecasts import Forecast, ForecastLike, forecast_octets
+from .plans import Plan, PlanLike, plan_octets, request_octets
+from .setups import Setup, SetupLike, setup_octets
 
+Made = TypeVar("Made")
 KINDS = ("", "least", "does not fit", "loss is", "bad stretch", "bad count", "bound is", "not shown")
 PLACED = ("bad stretch", "bad count")
 
 
 @dataclass(frozen=True)
 class Verdict:
-    """A verdict on a plan, with its line. It is true where the plan loses least. `step` is the first step at which the plan does not fit,
-    `place` the place of the first bad stretch or count, from 1; `loss` and `bound` are in blocks. Each is `None` where it says nothing."""
+    """A verdict on a plan: its `kind`, and its `line`. It is true where the plan loses least. `step` is the first step at which the plan
+    does not fit, `place` the place of the first bad stretch or count, from 1; `loss` and `bound` are in blocks. Each is `None` where it
+    says nothing."""
 
     kind: str
     line: str
@@ -37,7 +41,7 @@ class Verdict:
 
 @dataclass(frozen=True)
 class Chart:
-    """A chart: a document of Scalable Vector Graphics (SVG) 1.1, which a notebook shows."""
+    """A chart, which a notebook shows: `svg` is a document of Scalable Vector Graphics (SVG) 1.1."""
 
     svg: str
 
@@ -50,33 +54,51 @@ class Chart:
 
 
 @dataclass(frozen=True)
+class PlanTable:
+    """What each step of a plan does to each store: `text`, comma separated values."""
+
+    text: str
+
+    def to_dict(self) -> dict[str, list[Any]]:
+        """The columns: whole numbers, and the identifiers in `store`."""
+        names, *rows = csv.reader(io.StringIO(self.text))
+        return {name: cells if name == "store" else list(map(int, cells)) for name, *cells in zip(names, *rows, strict=True)}
+
+    def to_frame(self, make: Callable[[dict[str, list[Any]]], Made]) -> Made:
+        """The table as a data frame, made by `make`, as `pandas.DataFrame`."""
+        return make(self.to_dict())
+
+    def save(self, path: str | os.PathLike[str]) -> None:
+        """Writes the text into a file."""
+        Path(path).write_text(self.text, encoding="utf-8", newline="")
+
+
+@dataclass(frozen=True)
 class Replies:
-    """The lines that answer requests, and whether all was done that they asked."""
+    """What answers requests, or says packets in words: `text`, and `all_done`, whether nothing was refused."""
 
     all_done: bool
     text: str
 
     @property
     def lines(self) -> tuple[str, ...]:
+        """The lines of the text."""
         return tuple(self.text.splitlines())
 
 
-def plan(setup: Any, forecast: Any) -> Plan:
+def plan(setup: SetupLike, forecast: ForecastLike) -> Plan:
     """A plan that loses least, with the cut that shows it.
 
     A setup is a text (octets, a str of several lines, or a path), a `Setup`, a dict of its tables, or a table of stores. A forecast is a
     text, a `Forecast`, or a table: dicts with `window` and the stores, a dict of columns, or a data frame. Raises `Refusal`."""
-    first, second = setup_octets(setup), forecast_octets(forecast)
-    text = _library.told(_library.mm_plan, first, len(first), second, len(second))
-    return Plan(text, (first, second))
+    problem = texts(setup=setup, forecast=forecast)
+    return Plan._made(_library.told(_library.mm_plan, texts=problem), problem)
 
 
-def check(setup: Any, forecast: Any, plan: Any) -> Verdict:
+def check(setup: SetupLike, forecast: ForecastLike, plan: PlanLike) -> Verdict:
     """The verdict on a plan, whoever made it: a text, a `Plan`, or a table of dumps. Raises `Refusal`."""
-    first, second, third = setup_octets(setup), forecast_octets(forecast), plan_octets(plan)
-    told = _library.VerdictTold()
-    given = (first, len(first), second, len(second), third, len(third))
-    line = _library.told(_library.mm_check, *given, more=(told,)).decode("ascii").rstrip("\n")
+    given, told = texts(setup=setup, forecast=forecast, plan=plan), _library.VerdictTold()
+    line = _library.told(_library.mm_check, texts=given, more=(told,)).decode("ascii").rstrip("\n")
     kind = KINDS[told.kind]
     return Verdict(
         kind,
@@ -88,21 +110,50 @@ def check(setup: Any, forecast: Any, plan: Any) -> Verdict:
     )
 
 
-def chart(setup: Any, forecast: Any, plan: Any) -> Chart:
+def chart(setup: SetupLike, forecast: ForecastLike, plan: PlanLike) -> Chart:
     """The chart of a plan. Raises `Refusal`."""
-    first, second, third = setup_octets(setup), forecast_octets(forecast), plan_octets(plan)
-    return Chart(_library.told(_library.mm_chart, first, len(first), second, len(second), third, len(third)).decode("utf-8"))
+    return Chart(_library.told(_library.mm_chart, texts=texts(setup=setup, forecast=forecast, plan=plan)).decode("utf-8"))
 
 
-def ask(setup: Any, requests: Text | Iterable[Packet]) -> Replies:
+def table(setup: SetupLike, forecast: ForecastLike, plan: PlanLike) -> PlanTable:
+    """The table of a plan: what each step does to each store. Raises `Refusal`."""
+    return PlanTable(_library.told(_library.mm_table, texts=texts(setup=setup, forecast=forecast, plan=plan)).decode("ascii"))
+
+
+def read(packets: Text | Iterable[Packet]) -> Replies:
+    """What requests and reports are, in words: packets, or a text with one in hexadecimal digits a line, as that of `Replies`."""
+    outcome = ctypes.c_uint32()
+    text = _library.told(_library.mm_read, texts=(request_octets(packets),), more=(outcome,))
+    return Replies(outcome.value == 1, text.decode("ascii"))
+
+
+def ask(setup: SetupLike, requests: Text | Iterable[Packet]) -> Replies:
     """The lines that answer telecommands of the storage service: a text with one in hexadecimal digits a line, or the packets. Raises
     `Refusal` where the setup is refused; a line that is refused is told in the replies."""
-    first, second = setup_octets(setup), request_octets(requests)
     outcome = ctypes.c_uint32()
-    text = _library.told(_library.mm_ask, first, len(first), second, len(second), more=(outcome,))
+    text = _library.told(_library.mm_ask, texts=(*texts(setup=setup), request_octets(requests)), more=(outcome,))
     return Replies(outcome.value == 1, text.decode("ascii"))
 
 
 def version() -> str:
     """The version of the library."""
     return _library.told(_library.mm_version).decode("ascii")
+
+
+_KINDS: dict[str, tuple[type, Callable[[Any], bytes]]] = {
+    "setup": (Setup, setup_octets),
+    "forecast": (Forecast, forecast_octets),
+    "plan": (Plan, plan_octets),
+}
+
+
+def texts(**given: object) -> tuple[bytes, ...]:
+    """The octets of what is given as a setup, a forecast and a plan. Raises `TypeError` where they stand in another order."""
+    return tuple([_octets(name, value) for name, value in given.items()])
+
+
+def _octets(name: str, value: object) -> bytes:
+    kind, octets = _KINDS[name]
+    if isinstance(value, (Setup, Forecast, Plan)) and not isinstance(value, kind):
+        raise TypeError(f"the {name} is a {type(value).__name__}; the order is {', '.join(_KINDS)}")
+    return octets(value)

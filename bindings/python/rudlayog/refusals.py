@@ -2,26 +2,26 @@
 
 from __future__ import annotations
 
-_MEMORY = ("memory for the task", "free some memory, and run again")
 
+class Refusal(ValueError):
+    """Why a call is refused: the number and the name of the refusal, where in its text the fault is, what was expected, what to do, and in
+    `found` what was found: the hint that the program prints, which counts lines in the text that the library was given.
 
-class Refusal(Exception):
-    """Why a call is refused: the number and the name of the refusal, where in its text the fault is, what was expected, and what to do.
-
-    `row`, `column` and `line` count from 1; row 0 is the top of the setup. `field` is a key of a setup or a column of a forecast. Each is
-    `None` where it says nothing. docs/FORMATS.md has every refusal."""
+    `row`, `column` and `line` count from 1; row 0 is the top of the setup. `field` is a key of a setup or a column of a forecast. Each, and
+    `found`, is `None` where it says nothing. docs/FORMATS.md has every refusal."""
 
     def __init__(
         self,
         number: int,
         name: str,
         *,
+        expected: str,
+        advice: str,
         row: int | None = None,
         column: int | None = None,
         line: int | None = None,
         field: str | None = None,
-        expected: str = _MEMORY[0],
-        advice: str = _MEMORY[1],
+        found: str | None = None,
     ) -> None:
         self.number = number
         self.name = name
@@ -31,18 +31,19 @@ class Refusal(Exception):
         self.field = field
         self.expected = expected
         self.advice = advice
-        super().__init__(self.words())
+        self.found = found
+        super().__init__(self.words() if found is None else f"{self.words()}; found {found}")
 
     @classmethod
-    def read(cls, words: str) -> Refusal:
+    def read(cls, words: str, found: str | None = None) -> Refusal:
         """The refusal that has these words, as `words` gives them."""
         told, _, rest = words.partition(": expected ")
         expected, _, advice = rest.partition("; ")
         number, name, *fields = told.split(" ")
-        found = dict(zip(fields[::2], fields[1::2], strict=True))
+        values = dict(zip(fields[::2], fields[1::2], strict=True))
 
         def count(field: str) -> int | None:
-            return int(found[field]) if field in found else None
+            return int(values[field]) if field in values else None
 
         return cls(
             int(number),
@@ -50,9 +51,10 @@ class Refusal(Exception):
             row=count("row"),
             column=count("column"),
             line=count("line"),
-            field=found.get("name"),
+            field=values.get("name"),
             expected=expected,
             advice=advice,
+            found=found,
         )
 
     @property
@@ -70,4 +72,4 @@ class Refusal(Exception):
         return f"{self.text()}: expected {self.expected}; {self.advice}"
 
     def __reduce__(self) -> tuple[object, ...]:
-        return (Refusal.read, (self.words(),))
+        return (Refusal.read, (self.words(), self.found))

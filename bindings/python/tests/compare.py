@@ -1,19 +1,21 @@
 #!/usr/bin/env python3
 """Compares the package with the program on random texts, good and bad: `compare.py PROGRAM CALLS SEED`. What goes to standard output, the
-status and the words of each refusal must be the same. Prints one line where they are."""
+status, and the words and the hint of each refusal must be the same; and texts that are read and written again must be answered as they are, where the
+library takes them, and be refused where it does not. Prints one line where that is so."""
 
 import random
 import subprocess
 import sys
 import tempfile
+from collections.abc import Callable
 from pathlib import Path
 
 sys.path.insert(0, str(Path(__file__).resolve().parents[1]))
-from rudlayog import Forecast, Limit, Refusal, Route, Setup, Store, ask, chart, check, plan  # noqa: E402
+from rudlayog import Forecast, Limit, Plan, Refusal, Route, Setup, Store, ask, chart, check, plan, read, table  # noqa: E402
 
 EXAMPLES = Path(__file__).resolve().parents[3] / "examples"
 REQUESTS = (EXAMPLES / "requests" / "requests.hex").read_text().split("\n")
-COMMANDS = {"plan": ("setup", "forecast"), "check": ("setup", "forecast", "plan"), "chart": ("setup", "forecast", "plan"), "ask": ("setup", "requests")}
+COMMANDS = {"plan": ("setup", "forecast"), "check": ("setup", "forecast", "plan"), "chart": ("setup", "forecast", "plan"), "table": ("setup", "forecast", "plan"), "ask": ("setup", "requests"), "read": ("requests",)}
 
 
 def setup(dice: random.Random) -> Setup:
@@ -56,20 +58,41 @@ def texts(dice: random.Random) -> dict[str, bytes]:
     return {name: spoiled(dice, text) for name, text in found.items()}
 
 
-def answered(command: str, given: list[bytes]) -> tuple[bytes, int, str]:
-    """What the package answers: as standard output, as a status, and as words."""
+def answered(command: str, given: list[bytes]) -> tuple[bytes, int, str, str | None]:
+    """What the package answers: as standard output, as a status, as words, and as a hint."""
     try:
         if command == "plan":
-            return bytes(plan(*given)), 0, ""
+            return bytes(plan(*given)), 0, "", None
         if command == "check":
             verdict = check(*given)
-            return f"{verdict.line}\n".encode(), 0 if verdict else 1, ""
+            return f"{verdict.line}\n".encode(), 0 if verdict else 1, "", None
         if command == "chart":
-            return chart(*given).svg.encode(), 0, ""
-        replies = ask(*given)
-        return replies.text.encode(), 0 if replies.all_done else 1, ""
+            return chart(*given).svg.encode(), 0, "", None
+        if command == "table":
+            return table(*given).text.encode(), 0, "", None
+        replies = read(*given) if command == "read" else ask(*given)
+        return replies.text.encode(), 0 if replies.all_done else 1, "", None
     except Refusal as refusal:
-        return f"refused {refusal.text()}\n".encode(), 1, f"expected {refusal.expected}; {refusal.advice}"
+        return f"refused {refusal.text()}\n".encode(), 1, f"expected {refusal.expected}; {refusal.advice}", refusal.found
+
+
+def told(call: Callable[[], object]) -> object:
+    """What a call answers, or the text of its refusal."""
+    try:
+        return call()
+    except Refusal as refusal:
+        return refusal.text()
+
+
+def are_read(found: dict[str, bytes]) -> bool:
+    """Whether the package reads a setup, a forecast and a plan as the library does."""
+    setup, forecast, made = found["setup"], found["forecast"], Plan(found["plan"])
+    direct = told(lambda: plan(setup, forecast))
+    if direct != "30 Header" and told(lambda: plan(Setup.read(setup), Forecast.read(forecast))) != direct:
+        return False
+    verdict = told(lambda: check(setup, forecast, made).kind)
+    again = told(lambda: Plan.of(made.to_dict(), made.loss, made.cut) == made)
+    return isinstance(direct, str) or again == verdict or (again is True and not str(verdict).startswith("34"))
 
 
 def main() -> int:
@@ -80,18 +103,21 @@ def main() -> int:
         for call in range(calls):
             command = dice.choice(list(COMMANDS))
             found = texts(dice)
+            if not are_read(found):
+                print(f"compare: call {call} of seed {seed}: the package and the library read differently: {found}"[:2000])
+                return 1
             given = [found[name] for name in COMMANDS[command]]
             names = [str(Path(room, name)) for name in COMMANDS[command]]
             for name, text in zip(names, given, strict=True):
                 Path(name).write_bytes(text)
             ran = subprocess.run([program, command, *names], capture_output=True, check=False)
-            # of a verdict, and of a line that `ask` refuses, the program says more on standard error than the package keeps; a hint and
-            # notes are lines of their own, which the program alone has
+            # of a verdict, and of a line that `ask` refuses, the program says more on standard error than the package keeps
             words = ran.stderr.decode() if ran.stdout.startswith(b"refused ") else ""
             said = words[words.index("expected ") :].split("\n", 1)[0] if words else ""
-            if (ran.stdout, ran.returncode, said) != answered(command, given):
+            hint = next((line.removeprefix("hint: ") for line in words.splitlines() if line.startswith("hint: ")), None)
+            if (ran.stdout, ran.returncode, said, hint) != answered(command, given):
                 print(f"compare: call {call} of seed {seed}, {command}: the package and the program answer differently")
-                print(f"program: {ran.stdout[:300]!r} {ran.returncode} {said!r}\npackage: {answered(command, given)!r}"[:2000])
+                print(f"program: {ran.stdout[:300]!r} {ran.returncode} {said!r} {hint!r}\npackage: {answered(command, given)!r}"[:2000])
                 return 1
             refused += bool(said)
     print(f"compare: {calls} calls, {refused} of them refused: package and program answer the same")

@@ -3,19 +3,27 @@ the pages of the examples."""
 
 import concurrent.futures
 import ctypes
+import dataclasses
 import doctest
+import inspect
 import os
 import pickle
+import re
+import shutil
+import signal
 import tempfile
+import typing
 import unittest
 from pathlib import Path
 
 import rudlayog
-from rudlayog import Cut, Forecast, Plan, Refusal, Setup, Store, Stretch, _library, ask, chart, check, plan
+from rudlayog import Cut, Forecast, Plan, Refusal, Replies, Setup, Store, Stretch, _library, ask, chart, check, plan, read, table
 
 EXAMPLES = Path(__file__).resolve().parents[3] / "examples"
 FIRST = EXAMPLES / "first_run"
 MISSION = EXAMPLES / "mission"
+# How many plans are made while a handler plans too.
+HANDLED_PLANS = int(os.environ.get("HANDLED_PLANS", "5000"))
 SETUP = '[[store]]\nid = "SCI"\nsize = 4\ntype = "bounded"\nchannel = 0\n'
 FORECAST = "step,window,SCI\n1,2,3\n2,2,3\n3,0,4\n"
 
@@ -44,6 +52,18 @@ class Planning(unittest.TestCase):
             drawn.save(os.path.join(room, "chart.svg"))
             self.assertEqual(Path(room, "chart.svg").read_text(), drawn.svg)
 
+    def test_tables(self):
+        # docs/FORMATS.md, 'The table of a plan', has the one of the first run.
+        made = table(*files(FIRST), FIRST / "plan.txt")
+        self.assertEqual(made.text, "step,window,store,arrived,lost,dumped,held\n1,2,SCI,3,0,2,1\n2,2,SCI,3,0,2,2\n3,0,SCI,4,2,0,4\n")
+        self.assertEqual(made.to_dict()["held"], [1, 2, 4])
+        self.assertEqual(made.to_frame(dict)["store"], ["SCI", "SCI", "SCI"])
+        with tempfile.TemporaryDirectory() as room:
+            made.save(os.path.join(room, "plan.csv"))
+            self.assertEqual(Path(room, "plan.csv").read_text(), made.text)
+        whole = table(*files(MISSION), MISSION / "plan.txt").to_dict()
+        self.assertEqual(sum(whole["lost"]), Plan(MISSION / "plan.txt").loss)
+
     def test_data_in_place_of_texts(self):
         setup = Setup.of([Store("SCI", 4)])
         wanted = bytes(plan(SETUP, FORECAST))
@@ -54,6 +74,36 @@ class Planning(unittest.TestCase):
         ):
             self.assertEqual(bytes(plan(setup, forecast)), wanted)
             self.assertEqual(bytes(plan({"store": [{"id": "SCI", "size": 4, "type": "bounded", "channel": 0}]}, forecast)), wanted)
+
+    def test_rows_in_any_order(self):
+        # The plan of a table whose rows stand backwards is that of the same table.
+        made = plan(*files(MISSION))
+        table = {name: column[::-1] for name, column in Forecast.read(MISSION / "forecast.csv").to_dict().items()}
+        self.assertEqual(plan(MISSION / "setup.toml", table), made)
+        backwards = {name: column[::-1] for name, column in made.to_dict().items()}
+        self.assertEqual(Plan.of(backwards, made.loss, made.cut), made)
+        self.assertEqual(check(*files(MISSION), backwards).loss, made.loss)
+
+    def test_read_and_written_again(self):
+        for folder in (FIRST, MISSION, EXAMPLES / "tight", EXAMPLES / "channel_limit"):
+            setup, forecast = Setup.read(folder / "setup.toml"), Forecast.read(folder / "forecast.csv")
+            made = plan(setup, forecast)
+            self.assertEqual(bytes(made), (folder / "plan.txt").read_bytes())
+            self.assertEqual(Plan.of(made.to_dict(), made.loss, made.cut), made)
+
+    def test_words_in_another_order(self):
+        setup, forecast = Setup.of([Store("SCI", 4)]), Forecast.of([2], {"SCI": [3]})
+        made = plan(setup, forecast)
+        order = "; the order is setup, forecast, plan"
+        for call, given, words in (
+            (plan, (forecast, setup), "the setup is a Forecast"),
+            (check, (setup, made, forecast), "the forecast is a Plan"),
+            (chart, (setup, forecast, setup), "the plan is a Setup"),
+            (ask, (forecast, ""), "the setup is a Forecast"),
+            (rudlayog.Memory, (made,), "the setup is a Plan"),
+        ):
+            with self.assertRaisesRegex(TypeError, words + order):
+                call(*given)
 
     def test_verdicts(self):
         # A store of 4 blocks with 3, 3 and 4 arrivals and windows 2, 2, 0: at least 2 blocks are lost, and the cut shows it.
@@ -111,8 +161,25 @@ class Refusing(unittest.TestCase):
         self.assertEqual((refusal.row, refusal.field), (1, "size"))
         self.assertTrue(refusal.expected.startswith("the keys that docs/FORMATS.md lists"))
         self.assertTrue(refusal.advice)
-        self.assertEqual(str(refusal), f"28 SetupField row 1 name size: expected {refusal.expected}; {refusal.advice}")
+        self.assertEqual(refusal.words(), f"28 SetupField row 1 name size: expected {refusal.expected}; {refusal.advice}")
         self.assertEqual(str(pickle.loads(pickle.dumps(refusal))), str(refusal))
+
+    def test_what_was_found(self):
+        # docs/FORMATS.md, 'Hints'.
+        for call, given, found in (
+            (plan, (SETUP.replace("size = 4", 'size = "4"'), FORECAST), 'table 1 of store, "SCI", has no whole number as size; write it without quotes'),
+            (plan, (SETUP, FORECAST.replace("1,2,3", "1,2,03")), 'the cell is "03" in line 2 of the file, whose header is line 1'),
+            (plan, (FORECAST, SETUP), "the files are in another order; name the setup first, then the forecast"),
+            (plan, (SETUP, {"window": [2], "SCI": [-1]}), 'the cell is "-1" in line 2 of the file, whose header is line 1'),
+            (check, (SETUP, {"window": [2], "HK": [1]}, ""), 'the header is "step,window,HK", and "step,window,SCI" is expected'),
+            (chart, (SETUP, FORECAST, "refused 28 SetupField\n"), "the file holds the line of a refusal, and no plan; plan again"),
+            (ask, (SETUP.replace("= 4", "= 0"), ""), 'table 1 of store, "SCI", has size = 0; 1 to 1000000 can be'),
+            (rudlayog.Memory, (SETUP.replace("= 4", "= 0"),), 'table 1 of store, "SCI", has size = 0; 1 to 1000000 can be'),
+            (Setup.read, (SETUP.replace("bounded", "round"),), 'table 1 of store, "SCI", has the type "round"; "circular" and "bounded" can be'),
+            (Forecast.read, ("step,window,SCI\n3,2,7\n",), 'the step is "3" in line 2 of the file, whose header is line 1; it is to be 1'),
+        ):
+            refusal = self.refused(call, *given)
+            self.assertEqual((refusal.found, str(refusal)), (found, f"{refusal.words()}; found {found}"))
 
     def test_words_of_every_refusal(self):
         for number in range(54):
@@ -139,6 +206,17 @@ class Asking(unittest.TestCase):
         lines = "".join(packet.hex() + "\n" for packet in packets)
         self.assertEqual(ask(self.FOLDER / "setup.toml", packets), ask(self.FOLDER / "setup.toml", lines))
 
+    def test_packets_in_words(self):
+        # docs/PACKETS.md, 'Packets in words'.
+        packet = bytes.fromhex("1864C0010004200F120007")
+        told = read([packet])
+        self.assertEqual((told.all_done, told), (True, read(packet.hex() + "\n")))
+        self.assertEqual(
+            told.lines,
+            ("1 telecommand apid 100 count 1 length 4 acknowledgement 0 service 15 subtype 18 source 7", "  report the status of each store"),
+        )
+        self.assertEqual(read("xx\n"), Replies(False, "1 refused 49 HexLine\n"))
+
     def test_nothing_asked(self):
         replies = ask(SETUP, "")
         self.assertEqual((replies.all_done, replies.text, replies.lines), (True, "", ()))
@@ -163,8 +241,8 @@ class Buffers(unittest.TestCase):
 
     def test_a_text_longer_than_the_buffer(self):
         setup, forecast = SETUP.encode(), FORECAST.encode()
-        _library._rooms.room = ctypes.create_string_buffer(16)
-        text = _library.told(_library.mm_plan, setup, len(setup), forecast, len(forecast), least=16)
+        _library._rooms[:] = [ctypes.create_string_buffer(16)]
+        text = _library.told(_library.mm_plan, setup, len(setup), forecast, len(forecast))
         self.assertEqual(text, bytes(plan(SETUP, FORECAST)))
 
     def test_many_stores_and_steps(self):
@@ -180,12 +258,86 @@ class Buffers(unittest.TestCase):
             made = list(pool.map(lambda _: bytes(plan(*files(MISSION))), range(64)))
         self.assertEqual(set(made), {wanted})
 
+    def test_a_handler_that_plans(self):
+        # Each text is that of its own call, though a signal handler plans while another call has not ended.
+        given = [(f"{SETUP}start = {held}\n", FORECAST) for held in (0, 1, 2)]
+        wanted = [bytes(plan(*pair)) for pair in given]
+        self.assertEqual(len(set(wanted)), 3)
+        wrong, handled = [], []
+
+        def handle(*_):
+            handled.append(bytes(plan(*given[2])) == wanted[2])
+
+        earlier = signal.signal(signal.SIGALRM, handle)
+        signal.setitimer(signal.ITIMER_REAL, 0.0005, 0.0005)
+        try:
+            for turn in range(HANDLED_PLANS):
+                if bytes(plan(*given[turn % 2])) != wanted[turn % 2]:
+                    wrong.append(turn)
+        finally:
+            signal.setitimer(signal.ITIMER_REAL, 0)
+            signal.signal(signal.SIGALRM, earlier)
+        self.assertEqual((wrong, all(handled)), ([], True))
+        self.assertTrue(handled)
+
+    def test_constants_of_the_header(self):
+        header = (Path(__file__).resolve().parents[2] / "c" / "rudlayog.h").read_text()
+        told = {name: int(value) for name, value in re.findall(r"\bMM_(\w+) = (\d+)", header)}
+        for name in ("WRITTEN", "TOO_SMALL", "REFUSED", "CLOSED", "OPEN", "END", "PLAN_ROOM", "LINE_ROOM", "INSTRUCTIONS", "BLOCK", "PACKET", "DONE", "ROW"):
+            self.assertEqual(getattr(_library, name), told[name], name)
+        for name in ("NO_MEMORY", "SHORT", "HEADER", "STEP_NUMBER", "PLAN_TEXT", "HEX_LINE"):
+            self.assertEqual(getattr(_library, name), told[f"REFUSAL_{name}"], name)
+        # The room for words does for each refusal, at any place.
+        far = {"row": 2**32 - 1, "column": 2**32 - 1, "line": 2**64 - 1}
+        for number in range(54):
+            for place in range(6):
+                refused = _library.RefusedAt(number=number, place=place, name=6, **far)
+                self.assertLessEqual(len(_library.told(_library.mm_words, refused)), told["WORDS_ROOM"])
+
     def test_version(self):
         self.assertEqual(rudlayog.version(), rudlayog.__version__)
 
 
+class Documented(unittest.TestCase):
+    def test_each_public_member_has_a_docstring(self):
+        for name in rudlayog.__all__:
+            public = getattr(rudlayog, name)
+            if typing.get_origin(public) is typing.Union:
+                continue
+            self.assertTrue(inspect.getdoc(public), name)
+            if not inspect.isclass(public):
+                continue
+            for member, value in vars(public).items():
+                named_in_the_class = dataclasses.is_dataclass(public) and member in {field.name for field in dataclasses.fields(public)}
+                if not member.startswith("_") and not named_in_the_class:
+                    self.assertTrue(inspect.getdoc(getattr(value, "func", value)), f"{name}.{member}")
+            for field in dataclasses.fields(public) if dataclasses.is_dataclass(public) else ():
+                self.assertIn(f"`{field.name}`", public.__doc__, f"{name}.{field.name}")
+
+
+def page_tests(page):
+    """The blocks of a page, each run in a folder in which the examples are seen."""
+    earlier = os.getcwd()
+
+    def enter(_):
+        room = tempfile.mkdtemp()
+        os.symlink(EXAMPLES, os.path.join(room, "examples"))
+        os.chdir(room)
+
+    def leave(_):
+        room = os.getcwd()
+        os.chdir(earlier)
+        shutil.rmtree(room)
+
+    for place, block in enumerate(re.findall(r"^```python\n(.*?)^```$", page.read_text(), re.MULTILINE | re.DOTALL), 1):
+        test = doctest.DocTestParser().get_doctest(block, {}, f"README.md, block {place}", str(page), 0)
+        yield doctest.DocTestCase(test, setUp=enter, tearDown=leave)
+
+
 def load_tests(_loader, tests, _pattern):
     tests.addTests(doctest.DocTestSuite(rudlayog))
+    tests.addTests(doctest.DocTestSuite(rudlayog.memory))
+    tests.addTests(page_tests(Path(__file__).resolve().parents[1] / "README.md"))
     return tests
 
 

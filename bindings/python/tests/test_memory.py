@@ -1,12 +1,13 @@
 """A memory with its storage service: on the example of the requests, and on packets that are recorded, offered and given. What is wanted
-stands in docs/FORMATS.md and in the pages of the examples."""
+stands in docs/PACKETS.md and in the pages of the examples."""
 
 import ctypes
 import pickle
+import signal
 import unittest
 from pathlib import Path
 
-from rudlayog import Fate, Memory, Refusal, Route, Setup, Store, Tally, _library
+from rudlayog import Fate, Memory, Refusal, Retrieval, Route, Setup, Store, StoreState, Tally, _library
 
 REQUESTS = Path(__file__).resolve().parents[3] / "examples" / "requests"
 SETUP = Setup.of(
@@ -80,6 +81,69 @@ class Memories(unittest.TestCase):
                 with self.assertRaises(TypeError):
                     call(*given)
 
+    def test_moments_out_of_range(self):
+        # ctypes would take -1 for 2^64 - 1, and 2^64 + 7 for 7.
+        with Memory(SETUP) as memory:
+            for moment in (-1, 2**64, 2**64 + 7, 1.5, None, "1", True):
+                for call in (
+                    lambda: memory.offer("SCI", moment, telemetry(1)),
+                    lambda: memory.record(moment, telemetry(1)),
+                    lambda: memory.apply(moment, telecommand(18)),
+                ):
+                    with self.assertRaises(ValueError) as caught:
+                        call()
+                    self.assertEqual(str(caught.exception), f"now is {moment!r}, and a whole number from 0 to 2^64 - 1 is expected")
+            self.assertEqual(list(memory.reports()), [])
+            self.assertEqual(memory.offer("SCI", 0, telemetry(1)), Fate("kept", 1))
+            self.assertEqual(memory.offer("SCI", 2**64 - 1, telemetry(1)), Fate("kept", 2**64 - 1))
+
+    def test_words_in_another_order(self):
+        with Memory(SETUP) as memory:
+            with self.assertRaisesRegex(TypeError, "store is 7, and not the identifier of a store"):
+                memory.offer(7, "SCI", telemetry(1))
+            with self.assertRaisesRegex(ValueError, "now is 'SCI'"):
+                memory.record("SCI", telemetry(1))
+            with self.assertRaisesRegex(TypeError, "packet is 7, and not the octets of a packet"):
+                memory.offer("SCI", 7, 7)
+            with self.assertRaisesRegex(TypeError, "request is 'SCI', and not the octets of a packet"):
+                memory.apply(7, "SCI")
+            with self.assertRaisesRegex(TypeError, "store is b'HK'"):
+                memory.next(b"HK")
+
+    def test_octets_after_a_packet(self):
+        with Memory(SETUP) as memory:
+            # Telemetry without data has 21 octets.
+            for packet, name, found in (
+                (telemetry(1) + b"\0\0", "HexLine", "23 octets, and the packet data length says 21"),
+                (telemetry(1)[:-1], "Short", "20 octets, and the packet data length says 21"),
+                (b"\x08", "Short", None),
+                (telemetry(1)[:6] + b"\x10" + telemetry(1)[7:], "PusVersion", None),
+            ):
+                with self.assertRaises(Refusal) as caught:
+                    memory.record(1, packet)
+                self.assertEqual((caught.exception.name, caught.exception.found), (name, found))
+                self.assertTrue(str(caught.exception).endswith(found or caught.exception.advice))
+
+    def test_a_handler_that_records(self):
+        # A handler finds the memory between two calls of its thread, and neither waits for the other.
+        with Memory(Setup.of([Store("HK", size=4, type="circular")], routes=[Route(1, 3, 25, "HK")])) as memory:
+            handled = []
+
+            def handle(*_):
+                handled.append(memory.record(0, telemetry(1)))
+
+            earlier = signal.signal(signal.SIGALRM, handle)
+            signal.setitimer(signal.ITIMER_REAL, 0.0005, 0.0005)
+            try:
+                recorded = [memory.record(0, telemetry(1)) for _ in range(20_000)]
+            finally:
+                signal.setitimer(signal.ITIMER_REAL, 0)
+                signal.signal(signal.SIGALRM, earlier)
+            self.assertTrue(handled)
+            # Four packets found room, and each other one overwrote the oldest.
+            self.assertEqual(sum(tally.lost for tally in recorded + handled), len(recorded) + len(handled) - 4)
+            self.assertEqual({tally.kept for tally in recorded + handled}, {1})
+
     def test_fates(self):
         with Memory(SETUP) as memory:
             self.assertEqual(memory.offer("SCI", 7, telemetry(1)), Fate("kept", 7))
@@ -99,6 +163,39 @@ class Memories(unittest.TestCase):
             self.assertEqual(memory.next("HK"), (3, telemetry(3)))
             self.assertIsNone(memory.next("HK"))
             self.assertEqual(self.refused(memory.next, "HK"), "Idle")
+
+    def test_states(self):
+        with Memory(SETUP) as memory:
+            self.assertEqual(memory.state("SCI"), StoreState("bounded", 2, 0, 0, 0, 0, True, None, 0, 0))
+            for count in (1, 2, 3):
+                memory.record(count, telemetry(count))
+            # The bounded store keeps the first two, and the circular one the last two.
+            self.assertEqual(memory.state("SCI"), StoreState("bounded", 2, 3, 2, 1, 0, True, None, 1, 2))
+            self.assertEqual(memory.state("HK"), StoreState("circular", 2, 3, 2, 1, 0, True, None, 2, 3))
+            memory.apply(4, telecommand(9, name("HK") + times(0, 8)))
+            memory.next("HK")
+            memory.apply(5, telecommand(11, name("SCI") + times(1)))
+            memory.apply(6, telecommand(2, name("SCI")))
+            self.assertEqual(memory.state("SCI"), StoreState("bounded", 2, 3, 1, 1, 1, False, None, 2, 2))
+            self.assertEqual(memory.state("HK"), StoreState("circular", 2, 3, 2, 1, 0, True, Retrieval(0, 8, 2), 2, 3))
+            self.assertEqual((self.refused(memory.state, "CAM"), self.refused(memory.state, "sci")), ("NoSuchStore", "BadId"))
+            self.assertEqual(memory.waiting(), 0)
+            memory.apply(7, telecommand(18))
+            memory.apply(7, telecommand(22))
+            self.assertEqual(memory.waiting(), 2)
+            next(memory.reports())
+            self.assertEqual(memory.waiting(), 1)
+        with self.assertRaisesRegex(ValueError, "closed"):
+            memory.state("SCI")
+
+    def test_iterators_over_a_retrieval(self):
+        with Memory(SETUP) as memory:
+            for count in (1, 2):
+                memory.record(count, telemetry(count))
+            memory.apply(4, telecommand(9, name("HK") + times(0, 2**64 - 1)))
+            self.assertEqual(next(memory.retrieved("HK")), (1, telemetry(1)))
+            self.assertEqual(list(memory.retrieved("HK")), [(2, telemetry(2))])
+            self.assertEqual(self.refused(list, memory.retrieved("HK")), "Idle")
 
     def test_refusals(self):
         with Memory(SETUP) as memory:

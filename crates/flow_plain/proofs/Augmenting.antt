@@ -1,38 +1,15 @@
 -- An augmentation: back along the entries by which the nodes were reached.
-use Rattle.std.proofs.Common.{◌≡◌, ◌≢◌, ℕ, ◌+◌, ◌<◌, ◌≤◌, cond, eqb, length, List, ap, sym, ◌∙◌, refl, arith, inl, inr, ◌⊎◌, subst}
-use Rattle.std.proofs.lemmas.Bool.{cases_eq, cases_lt, cond-true, cond-false, eq-eqb, ne_eqb}
+use Rattle.std.proofs.Common.{◌≡◌, ◌≢◌, ℕ, ◌+◌, ◌<◌, ◌≤◌, List, ap, ◌∙◌, refl, arith, inl, inr}
 use Rattle.flow_plain.specs.declared.search.Mark.{Mark}
-use Rattle.flow_plain.specs.Graph.{Graph, arc}
-use Rattle.flow_plain.specs.Flow.{Flow, IsFlow, IsWithin}
-use Rattle.flow_plain.specs.declared.limits.TheConstants.{MAX_VALUE}
-use Rattle.flow_plain.specs.Residual.{entries, place, tail, head, residual, spare, IsPushed}
-use Rattle.flow_plain.specs.Balance.{IsBalanced, IsBalancedAt, IsAugmented, IsBounded}
+use Rattle.mm_flow.specs.Graph.{Graph, arc}
+use Rattle.mm_flow.specs.Flow.{Flow, IsWithin}
+use Rattle.mm_flow.specs.Residual.{entries, place, tail, head, residual, IsPushed}
 use Rattle.flow_plain.specs.Marks.{mark, level, HasMark, IsReached}
-use Rattle.flow_plain.proofs.Pushes.{cond-plus}
-use Rattle.flow_plain.proofs.Entries.{place-forward, place-backward, tail-forward, tail-backward, head-forward, head-backward, residual-forward, residual-backward}
+use Rattle.mm_flow.proofs.Augmenting.{residual_same, place_ends, most_next}
 
 -- arcs with both ends up to a level carry what they did
 unfoldable pub IsUntouched : Graph → List Mark → Flow → Flow → ℕ → Type 0
 IsUntouched g marks old new upto = (k : ℕ) → level marks (arc g k).from ≤ upto → level marks (arc g k).to ≤ upto → new k ≡ old k
-
--- the residual capacity of an entry depends on its arc alone
-pub residual_same : (g : Graph) (old new : Flow) (e : ℕ) → new (place g e) ≡ old (place g e) → residual g new e ≡ residual g old e
-residual_same g old new e same = elim (cases_lt e (length g.arcs)) [
-  | inl forward ↦
-      let here = place-forward g e forward in
-      let carried : new e ≡ old e = omega (arith, same, ap new here, ap old here) in
-      residual-forward g e forward new ∙ ap (spare (arc g e).capacity) carried ∙ sym (residual-forward g e forward old)
-  | inr backward ↦
-      let here = place-backward g e backward in
-      omega (arith, residual-backward g e backward new, residual-backward g e backward old, same, ap new here, ap old here)
-]
-
--- the ends of an entry's arc are the entry's
-pub place_ends : (g : Graph) (e : ℕ) → (((arc g (place g e)).from ≡ tail g e) × ((arc g (place g e)).to ≡ head g e)) ⊎ (((arc g (place g e)).from ≡ head g e) × ((arc g (place g e)).to ≡ tail g e))
-place_ends g e = elim (cases_lt e (length g.arcs)) [
-  | inl forward ↦ inl (ap (λ (k : ℕ). (arc g k).from) (place-forward g e forward) ∙ sym (tail-forward g e forward), ap (λ (k : ℕ). (arc g k).to) (place-forward g e forward) ∙ sym (head-forward g e forward))
-  | inr backward ↦ inr (ap (λ (k : ℕ). (arc g k).from) (place-backward g e backward) ∙ sym (head-backward g e backward), ap (λ (k : ℕ). (arc g k).to) (place-backward g e backward) ∙ sym (tail-backward g e backward))
-]
 
 -- an entry between levels that are untouched has an untouched arc
 pub untouched_at : (g : Graph) (marks : List Mark) (old new : Flow) (upto e : ℕ) → IsUntouched g marks old new upto → level marks (tail g e) ≤ upto → level marks (head g e) ≤ upto → new (place g e) ≡ old (place g e)
@@ -56,36 +33,6 @@ untouched_next g marks old now new upto below e amount untouched pushed to less 
       | inr ends ↦ omega (arith, ap (λ (j : ℕ). level marks (arc g j).from) same, ap (level marks) ends.0)
     ]) in
     pushed.elsewhere k other ∙ untouched k (omega arith) (omega arith)
-
--- no arc carries more than it did and the amount
-pub most_next : (g : Graph) (old now new : Flow) (e amount : ℕ) → IsPushed g now new e amount → now (place g e) ≡ old (place g e) → ((k : ℕ) → now k ≤ old k + amount) → (k : ℕ) → new k ≤ old k + amount
-most_next g old now new e amount pushed same most k = elim (cases_eq k (place g e)) [
-  | inl at ↦ omega (arith, ap new at, ap old at, pushed.most, same)
-  | inr other ↦ omega (arith, pushed.elsewhere k other, most k)
-]
-
--- a balanced flow is balanced with an amount at the sink
-pub balanced_start : (g : Graph) (source sink : ℕ) (f : Flow) (value amount : ℕ) → IsBalanced g source sink f value → IsBalancedAt g source sink f value sink amount
-balanced_start g source sink f value amount balanced n = omega (arith, balanced n, cond-plus (eqb sink n) value amount (value + amount) refl)
-
--- a push takes the amount from the node that an entry leads to back to the node that it leaves
-pub balanced_next : (g : Graph) (source sink : ℕ) (now new : Flow) (value at e amount : ℕ) → IsPushed g now new e amount → head g e ≡ at → IsBalancedAt g source sink now value at amount → IsBalancedAt g source sink new value (tail g e) amount
-balanced_next g source sink now new value at e amount pushed leads balanced n =
-    omega (arith, pushed.moves n, balanced n, ap (λ (m : ℕ). cond (eqb m n) amount 0) leads)
-
--- once the amount has come back to the source, the value is greater by it
-pub balanced_end : (g : Graph) (source sink : ℕ) (f : Flow) (value amount : ℕ) → IsBalancedAt g source sink f value source amount → IsBalanced g source sink f (value + amount)
-balanced_end g source sink f value amount balanced n = omega (arith, balanced n, cond-plus (eqb source n) value amount (value + amount) refl)
-
--- a balanced flow within the capacities is a flow of its value
-pub balanced_flow : (g : Graph) (source sink : ℕ) (f : Flow) (value : ℕ) → source ≢ sink → IsWithin g f → IsBalanced g source sink f value → IsFlow g source sink f value
-balanced_flow g source sink f value ends within balanced = record {
-  within = within;
-  conserved = λ n not_source not_sink.
-      omega (arith, balanced n, cond-false {A = ℕ} (eqb source n) value 0 (ne_eqb source n (λ e. not_source (sym e))), cond-false {A = ℕ} (eqb sink n) value 0 (ne_eqb sink n (λ e. not_sink (sym e))));
-  has_value =
-      omega (arith, balanced source, cond-true {A = ℕ} (eqb source source) value 0 (eq-eqb source source refl), cond-false {A = ℕ} (eqb sink source) value 0 (ne_eqb sink source (λ e. ends (sym e))));
-}
 
 -- the path to the sink has been followed back as far as a node, and the amount was moved along it
 pub record IsFollowed (g : Graph) (marks : List Mark) (old now : Flow) (source at amount : ℕ) : Type 0 where
@@ -133,21 +80,3 @@ followed_next g marks old now new source at e from amount followed ready pushed 
       most = most_next g old now new e amount pushed ready.same followed.most;
       untouched = untouched_next g marks old now new (level marks at) (level marks from) e amount followed.untouched pushed (ap (level marks) ready.leads) (omega (arith, ready.below, from_level));
     }
-
--- what augmentations have made is a flow
-pub augmented_flow : (g : Graph) (source sink : ℕ) (f : Flow) (value : ℕ) → source ≢ sink → IsAugmented g source sink f value → IsFlow g source sink f value
-augmented_flow g source sink f value ends augmented = balanced_flow g source sink f value ends augmented.within augmented.balanced
-
--- and its value is bounded
-pub augmented_small : (g : Graph) (source sink : ℕ) (f : Flow) (value : ℕ) → source ≢ sink → IsBounded g source sink → IsAugmented g source sink f value → value ≤ MAX_VALUE
-augmented_small g source sink f value ends bounded augmented = bounded f value (augmented_flow g source sink f value ends augmented)
-
--- no arc of it carries more than that bound
-pub arcs_small : (g : Graph) (source sink : ℕ) (f : Flow) (value : ℕ) → source ≢ sink → IsBounded g source sink → IsAugmented g source sink f value → (k : ℕ) → f k ≤ MAX_VALUE
-arcs_small g source sink f value ends bounded augmented k = omega (arith, augmented.most k, augmented_small g source sink f value ends bounded augmented)
-
--- one more augmentation from the same source
-pub augmented_more : (g : Graph) (source same sink : ℕ) (old new : Flow) (value amount : ℕ) → same ≡ source → IsAugmented g source sink old value
-    → ((before : ℕ) → IsAugmented g same sink old before → IsAugmented g same sink new (before + amount)) → IsAugmented g source sink new (value + amount)
-augmented_more g source same sink old new value amount is augmented more =
-    subst (λ (s : ℕ). IsAugmented g s sink new (value + amount)) is (more value (subst (λ (s : ℕ). IsAugmented g s sink old value) (sym is) augmented))

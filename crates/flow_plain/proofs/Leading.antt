@@ -5,9 +5,9 @@ use Rattle.std.proofs.lemmas.Nat.{mul-add-lt}
 use Rattle.flow_plain.specs.declared.search.Mark.{Mark}
 use Rattle.flow_plain.specs.declared.tables.Tables.{Tables}
 use Rattle.flow_plain.specs.declared.phase.Phase.{Phase}
-use Rattle.flow_plain.specs.Graph.{Graph}
-use Rattle.flow_plain.specs.Flow.{Flow}
-use Rattle.flow_plain.specs.Residual.{tail, head}
+use Rattle.mm_flow.specs.Graph.{Graph}
+use Rattle.mm_flow.specs.Flow.{Flow}
+use Rattle.mm_flow.specs.Residual.{tail, head}
 use Rattle.flow_plain.specs.Marks.{level, HasMark}
 use Rattle.flow_plain.specs.Levels.{IsUp, IsAhead, IsLead, HasLead}
 use Rattle.flow_plain.specs.Task.{SameTask}

@@ -5,9 +5,9 @@ use Rattle.std.proofs.lemmas.List.{get_or-set_same, get_or-set_other, length-set
 use Rattle.std.specs.List.{sum_by}
 use Rattle.std.proofs.lemmas.List.Sums.{sum_by-set}
 use Rattle.flow_plain.specs.declared.search.Mark.{Mark}
-use Rattle.flow_plain.specs.Graph.{Graph}
-use Rattle.flow_plain.specs.Flow.{Flow}
-use Rattle.flow_plain.specs.Residual.{entries, tail}
+use Rattle.mm_flow.specs.Graph.{Graph}
+use Rattle.mm_flow.specs.Flow.{Flow}
+use Rattle.mm_flow.specs.Residual.{entries, tail}
 use Rattle.flow_plain.specs.Links.{IsLinkedBelow}
 use Rattle.flow_plain.specs.Marks.{mark, level, HasMark, IsReached, IsMarking}
 use Rattle.flow_plain.specs.Levels.{IsPath, HasPath, IsLevelled, IsCursors}

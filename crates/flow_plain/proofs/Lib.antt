@@ -1,11 +1,8 @@
 pub mod Augmenting
 pub mod Ends
-pub mod Entries
 pub mod Leading
 pub mod LevelPaths
 pub mod Linking
 pub mod Marking
-pub mod Pushes
-pub mod Sides
 pub mod Visiting
 pub mod Working

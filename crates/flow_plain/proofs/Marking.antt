@@ -5,10 +5,11 @@ use Rattle.std.proofs.lemmas.List.{get_or-set_same, get_or-set_other, length-set
 use Rattle.std.proofs.lemmas.List.Sums.{sum_by-set, get_or-le-sum_by}
 use Rattle.std.proofs.lemmas.List.Folds.{sum_by-replicate}
 use Rattle.flow_plain.specs.declared.search.Mark.{Mark}
-use Rattle.flow_plain.specs.declared.limits.TheConstants.{UNLIMITED, MAX_NODES}
-use Rattle.flow_plain.specs.Graph.{Graph}
-use Rattle.flow_plain.specs.Flow.{Flow}
-use Rattle.flow_plain.specs.Residual.{entries, tail, head, residual}
+use Rattle.flow_plain.specs.declared.limits.TheConstants.{UNLIMITED}
+use Rattle.mm_flow.specs.declared.limits.TheConstants.{MAX_NODES}
+use Rattle.mm_flow.specs.Graph.{Graph}
+use Rattle.mm_flow.specs.Flow.{Flow}
+use Rattle.mm_flow.specs.Residual.{entries, tail, head, residual}
 use Rattle.flow_plain.specs.Marks.{no_mark, mark, level, HasMark, IsReachedFrom, IsReached, IsSearch}
 
 -- 1 for a node that is not reached

@@ -4,9 +4,9 @@ use Rattle.std.proofs.lemmas.Bool.{cases_eq, cases_lt}
 use Rattle.std.proofs.lemmas.List.{get_or_past}
 use Rattle.flow_plain.specs.declared.search.Mark.{Mark}
 use Rattle.flow_plain.specs.declared.search.Search.{Search}
-use Rattle.flow_plain.specs.Graph.{Graph}
-use Rattle.flow_plain.specs.Flow.{Flow}
-use Rattle.flow_plain.specs.Residual.{entries, tail}
+use Rattle.mm_flow.specs.Graph.{Graph}
+use Rattle.mm_flow.specs.Flow.{Flow}
+use Rattle.mm_flow.specs.Residual.{entries, tail}
 use Rattle.flow_plain.specs.Links.{IsLinkedBelow}
 use Rattle.flow_plain.specs.Marks.{no_mark, HasMark, IsClosed, IsSearch, IsSearched, GoesOn}
 

@@ -1,17 +1,14 @@
 -- A solver at work, from its first search to its last.
-use Rattle.std.proofs.Common.{◌≡◌, ℕ, ◌≤◌, List, length, slice_index, sym, ◌∙◌, subst, arith}
+use Rattle.std.proofs.Common.{◌≡◌, ℕ, ◌≤◌, List, length, slice_index, sym, subst, arith}
 use Rattle.flow_plain.specs.declared.limits.TheConstants.{MAX_VALUE}
 use Rattle.flow_plain.specs.declared.links.Links.{Links}
 use Rattle.flow_plain.specs.declared.search.Search.{Search}
-use Rattle.flow_plain.specs.declared.solved.Solved.{Solved}
 use Rattle.flow_plain.specs.declared.tables.Tables.{Tables}
-use Rattle.flow_plain.specs.Graph.{Graph}
-use Rattle.flow_plain.specs.Solution.{IsSolved}
-use Rattle.flow_plain.specs.Balance.{IsAugmented, IsBounded}
+use Rattle.mm_flow.specs.Graph.{Graph}
+use Rattle.mm_flow.specs.Balance.{IsAugmented, IsBounded}
 use Rattle.flow_plain.specs.Levels.{IsLevelled}
 use Rattle.flow_plain.specs.Tables.{IsAtWork}
-use Rattle.flow_plain.specs.Task.{IsTask, SameTask}
-use Rattle.flow_plain.proofs.Augmenting.{augmented_small, arcs_small}
+use Rattle.mm_flow.proofs.Augmenting.{augmented_small, arcs_small}
 
 module _ (g : Graph) (sink : ℕ) (links : Links) (search : Search) (flow : List ℕ) (value : ℕ) (work : IsAtWork g sink links search flow value) where
   -- the value is bounded
@@ -53,18 +50,3 @@ module _ (g : Graph) (sink : ℕ) (links : Links) (search : Search) (flow : List
 -- the value that tables have is bounded
 pub value_bound : (t : Tables) → t.value ≤ MAX_VALUE
 value_bound t = value_small t.network.now.graph t.sink t.links t.search t.flow.items t.value t.at_work
-
--- a task that stays the same twice stays the same
-pub same_further : (first then last : Tables) → SameTask first then → SameTask then last → SameTask first last
-same_further first then last one two = record {
-  graph = two.graph ∙ one.graph;
-  source = two.source ∙ one.source;
-  sink = two.sink ∙ one.sink;
-}
-
--- a solution of the tables' task
-pub solved_task : (g : Graph) (source sink : ℕ) (t : Tables) (solved : Solved) → IsTask g source sink t → IsSolved t.network.now.graph t.search.source t.sink solved → IsSolved g source sink solved
-solved_task g source sink t solved task is =
-    subst (λ (h : Graph). IsSolved h source sink solved) task.graph
-    (subst (λ (n : ℕ). IsSolved t.network.now.graph n sink solved) task.source
-    (subst (λ (n : ℕ). IsSolved t.network.now.graph t.search.source n solved) task.sink is))

@@ -3,9 +3,9 @@
 use Rattle.std.specs.Prelude.{◌≡◌, ℕ, zero, suc, ◌+◌, ◌<◌, ◌≤◌, List, length, slice_index}
 use Rattle.flow_plain.specs.declared.limits.TheConstants.{UNLIMITED}
 use Rattle.flow_plain.specs.declared.search.Mark.{Mark}
-use Rattle.flow_plain.specs.Graph.{Graph}
-use Rattle.flow_plain.specs.Flow.{Flow}
-use Rattle.flow_plain.specs.Residual.{entries, tail, head, residual}
+use Rattle.mm_flow.specs.Graph.{Graph}
+use Rattle.mm_flow.specs.Flow.{Flow}
+use Rattle.mm_flow.specs.Residual.{entries, tail, head, residual}
 use Rattle.flow_plain.specs.Marks.{mark, level, HasMark, IsReached}
 
 -- by the entries by which the nodes were reached, so many steps lead back from a node to the source

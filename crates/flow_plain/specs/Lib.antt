@@ -1,15 +1,6 @@
-pub mod Balance
-pub mod Built
-pub mod Cut
-pub mod Fault
-pub mod Flow
-pub mod Graph
 pub mod Levels
 pub mod Links
 pub mod Marks
 pub mod Phase
-pub mod Refusing
-pub mod Residual
-pub mod Solution
 pub mod Tables
 pub mod Task

@@ -2,8 +2,8 @@
 -- an entry and 1.
 use Rattle.std.specs.Prelude.{◌≡◌, ℕ, ◌+◌, ◌<◌, List, length, slice_index}
 use Rattle.flow_plain.specs.declared.links.Links.{Links}
-use Rattle.flow_plain.specs.Graph.{Graph}
-use Rattle.flow_plain.specs.Residual.{entries, tail}
+use Rattle.mm_flow.specs.Graph.{Graph}
+use Rattle.mm_flow.specs.Residual.{entries, tail}
 
 -- the entries below one are chained by the nodes that they leave: `last` leads to a node's last entry, and `before`
 -- from an entry to the node's entry before it

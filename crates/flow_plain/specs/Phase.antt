@@ -1,7 +1,7 @@
 -- Paths that a phase finds from the sink back.
 use Rattle.std.specs.Prelude.{◌≡◌, ℕ, ◌<◌, slice_index, sum_by}
 use Rattle.flow_plain.specs.declared.phase.Phase.{Phase}
-use Rattle.flow_plain.specs.Residual.{entries, tail, twin}
+use Rattle.mm_flow.specs.Residual.{entries, tail, twin}
 use Rattle.flow_plain.specs.Levels.{HasLead}
 use Rattle.flow_plain.specs.Task.{IsOpen}
 

@@ -2,12 +2,9 @@
 use Rattle.std.specs.Prelude.{◌≡◌, ◌≢◌, ℕ, ◌<◌, List, length, slice_index}
 use Rattle.flow_plain.specs.declared.links.Links.{Links}
 use Rattle.flow_plain.specs.declared.search.Search.{Search}
-use Rattle.flow_plain.specs.declared.search.Mark.{Mark}
-use Rattle.flow_plain.specs.Graph.{Graph}
-use Rattle.flow_plain.specs.Flow.{IsFlow}
-use Rattle.flow_plain.specs.Balance.{IsAugmented, IsBounded}
+use Rattle.mm_flow.specs.Graph.{Graph}
+use Rattle.mm_flow.specs.Balance.{IsAugmented, IsBounded}
 use Rattle.flow_plain.specs.Links.{IsLinked}
-use Rattle.flow_plain.specs.Marks.{HasMark, IsSearched}
 use Rattle.flow_plain.specs.Levels.{IsLevelled}
 
 -- augmentations have made a flow of this value
@@ -21,10 +18,3 @@ pub record IsAtWork (g : Graph) (sink : ℕ) (links : Links) (search : Search) (
   pub arcs : length flow ≡ length g.arcs
   pub bounded : IsBounded g search.source sink
   pub augmented : IsAugmented g search.source sink (slice_index flow) value
-
--- a flow of this value, and marks of a search that does not reach the sink
-pub record IsEnded (g : Graph) (source sink : ℕ) (marks : List Mark) (flow : List ℕ) (value : ℕ) : Type 0 where
-  pub arcs : length flow ≡ length g.arcs
-  pub is_flow : IsFlow g source sink (slice_index flow) value
-  pub searched : IsSearched g (slice_index flow) source 1 marks
-  pub ended : ¬ HasMark marks sink

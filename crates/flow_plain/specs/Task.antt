@@ -1,9 +1,8 @@
 -- What tables are of.
 use Rattle.std.specs.Prelude.{◌≡◌, ℕ, slice_index}
 use Rattle.flow_plain.specs.declared.tables.Tables.{Tables}
-use Rattle.flow_plain.specs.Graph.{Graph}
+use Rattle.mm_flow.specs.Graph.{Graph}
 use Rattle.flow_plain.specs.Levels.{IsUp, HasPath}
-use Rattle.flow_plain.specs.Tables.{IsEnded}
 
 -- the tables are of this network, source and sink
 pub record IsTask (g : Graph) (from to : ℕ) (t : Tables) : Type 0 where
@@ -22,7 +21,3 @@ IsOpen t e = IsUp t.network.now.graph (slice_index t.flow.items) t.search.marks.
 -- a path with residual capacity leads from the source to a node
 abbrev pub Reaches : Tables → ℕ → Type 0
 Reaches t n = HasPath t.network.now.graph (slice_index t.flow.items) t.search.marks.items t.search.source n
-
--- a search of the residual network of the flow does not reach the sink
-abbrev pub IsOver : Tables → Type 0
-IsOver t = IsEnded t.network.now.graph t.search.source t.sink t.search.marks.items t.flow.items t.value

@@ -1,15 +1,6 @@
-//! The limits of a network.
+//! The limits of a network that `mm_flow` keeps to itself.
 
-/// The most nodes.
-pub const MAX_NODES: u32 = 65_536;
-
-/// The most arcs.
-pub const MAX_ARCS: u32 = 262_144;
-
-/// The greatest limited capacity, 2^40.
-pub const MAX_CAPACITY: u64 = 1 << 40;
-
-/// What `MAX_ARCS` arcs of `MAX_CAPACITY` carry together, 2^58. No flow has a greater value where one has a bound.
+/// What the most arcs of the greatest capacity carry together, 2^58. No flow has a greater value where one has a bound.
 pub(crate) const MAX_VALUE: u64 = 1 << 58;
 
 /// The residual capacity that an unlimited arc shows, 2^60, which is above every limited one.

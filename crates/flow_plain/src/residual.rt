@@ -1,11 +1,11 @@
 //! The residual network: each arc forward and backward, as entries numbered from 0.
 ghost use Rattle.std.specs.Prelude.{◌≡◌, ◌<◌, ◌≤◌, length, slice_index};
-ghost use Rattle.flow_plain.specs.Residual.{entries, tail, head, twin, place, residual, IsPushed};
-ghost use Rattle.flow_plain.specs.Flow.{IsWithin};
-ghost use Rattle.flow_plain.specs.Graph.{IsNetwork};
+ghost use Rattle.mm_flow.specs.Residual.{entries, tail, head, twin, place, residual, IsPushed};
+ghost use Rattle.mm_flow.specs.Flow.{IsWithin};
+ghost use Rattle.mm_flow.specs.Graph.{IsNetwork};
 
 use crate::limits::{MAX_VALUE, UNLIMITED};
-use crate::network::Network;
+use mm_flow::Network;
 
 // How many entries the network has.
 pub(crate) fn entry_count(network: &Network) -> usize
@@ -15,7 +15,7 @@ pub(crate) fn entry_count(network: &Network) -> usize
 }
 
 // The node that an entry leaves.
-#[tactic(auto, unfolding(crate::specs::Residual::tail))]
+#[tactic(auto, unfolding(mm_flow::specs::Residual::tail))]
 pub(crate) fn tail(network: &Network, entry: usize) -> u32
     requires { entry < entries network.now.graph }
     ensures node { result ≡ tail network.now.graph entry }
@@ -31,7 +31,7 @@ pub(crate) fn tail(network: &Network, entry: usize) -> u32
 }
 
 // The entry of the same arc that leads the other way.
-#[tactic(auto, unfolding(crate::specs::Residual::twin))]
+#[tactic(auto, unfolding(mm_flow::specs::Residual::twin))]
 pub(crate) fn twin(network: &Network, entry: usize) -> usize
     requires { entry < entries network.now.graph }
     ensures twin { result ≡ twin network.now.graph entry }
@@ -56,7 +56,7 @@ pub(crate) fn head(network: &Network, entry: usize) -> u32
 }
 
 // What an entry can still carry.
-#[tactic(auto, unfolding(crate::specs::Residual::residual))]
+#[tactic(auto, unfolding(mm_flow::specs::Residual::residual))]
 pub(crate) fn residual(network: &Network, flow: &[u64], entry: usize) -> u64
     requires entry { entry < entries network.now.graph }
     requires flow { length flow.now ≡ length network.now.graph.arcs }

@@ -1,14 +1,14 @@
 //! A search by breadth through the residual network (Edmonds and Karp, 1972).
 ghost use Rattle.std.specs.Prelude.{◌≡◌, ◌≢◌, ◌+◌, ◌<◌, ◌≤◌, ℕ, length, slice_index, IfOk, replicate, map, nat_lt};
-ghost use Rattle.flow_plain.specs.Flow.{IsWithin};
-ghost use Rattle.flow_plain.specs.Residual.{entries, tail, head, residual};
+ghost use Rattle.mm_flow.specs.Flow.{IsWithin};
+ghost use Rattle.mm_flow.specs.Residual.{entries, tail, head, residual};
 ghost use Rattle.flow_plain.specs.Links.{IsLinked};
 ghost use Rattle.flow_plain.specs.Marks.{no_mark};
 
 use crate::limits::{MAX_VALUE, UNLIMITED};
 use crate::links::Links;
-use crate::network::Network;
 use crate::residual::{head, push, residual, tail};
+use mm_flow::Network;
 use std::alloc::{AllocError, Global};
 
 /// How a node was reached: its level, one more than the entries on the path to it and 0 where there is none, the last
@@ -41,7 +41,7 @@ pub(crate) struct Search {
 impl Search {
     ghost use Rattle.flow_plain.specs.declared.search.Mark.{Mark};
     ghost use Rattle.flow_plain.specs.Marks.{IsSearching, IsSearched, GoesOn, HasMark, level};
-    ghost use Rattle.flow_plain.specs.Balance.{IsAugmented};
+    ghost use Rattle.mm_flow.specs.Balance.{IsAugmented};
     ghost use Rattle.flow_plain.specs.Levels.{IsLevelled, IsUp, HasPath};
 
     // A search from this source that has not begun.
@@ -221,10 +221,7 @@ impl Search {
     }
 
     // Which nodes have a mark.
-    pub(crate) fn side(&self, alloc: Global) -> Result<Vec<bool>, AllocError>
-        ensures { IfOk result
-            (λ side. side.items ≡ map (λ (m : Mark). nat_lt 0 m.level) self.now.marks.items) }
-    {
+    pub(crate) fn side(&self, alloc: Global) -> Result<Vec<bool>, AllocError> {
         self.marks.iter().map(|mark| mark.level > 0).collect(alloc)
     }
 }

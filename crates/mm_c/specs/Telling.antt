@@ -1,5 +1,5 @@
 -- What the calls tell, by the definitions of the crates that answer.
-use Rattle.std.specs.Prelude.{◌≡◌, ◌≢◌, ℕ, List}
+use Rattle.std.specs.Prelude.{◌≡◌, ◌≢◌, ℕ, ⊤, List}
 use Rattle.mm_cut.specs.declared.verdict.Verdict.{Verdict}
 use Rattle.mm_cut.specs.declared.verdict.Verdict.TheVariants.{Least}
 use Rattle.mm_cut.specs.Checking.{Checks, LosesLeast, IsFaultOf}
@@ -11,6 +11,7 @@ use Rattle.mm_planner.specs.PlanTexts.{IsPlanningFault}
 use Rattle.mm_ask.specs.declared.answering.Outcome.{Outcome}
 use Rattle.mm_ask.specs.declared.answering.Outcome.TheVariants.{AllDone, SomeRefused}
 use Rattle.mm_ask.specs.Asking.{Answers, IsSetupFault}
+use Rattle.mm_ask.specs.Reads.{Reads}
 use Rattle.mm_told.specs.Reasons.{of_texts, of_setup, no_memory}
 use Rattle.mm_told.specs.Verdicts.{told_of, nothing_told}
 use Rattle.mm_told.specs.Telling.{code_of_status}
@@ -58,6 +59,16 @@ pub record Replies (setup requests : List ℕ) (code : ℕ) (text : List ℕ) : 
 abbrev pub LeavesUnasked : List ℕ → ℕ → Reason → Type 0
 LeavesUnasked setup code reason = ((fault : SetupFault) × IsSetupFault setup fault × (reason ≡ of_setup fault)) × (code ≡ 0)
 
+-- the text says the packets in words, and the code is that of its outcome
+pub record IsInWords (packets : List ℕ) (code : ℕ) (text : List ℕ) : Type 0 where
+  pub outcome : Outcome
+  pub reads : Reads packets outcome text
+  pub code_is : code ≡ code_of_outcome outcome
+
+-- no outcome is told, for want of memory
+abbrev pub LeavesUnread : ℕ → Reason → Type 0
+LeavesUnread code reason = (reason ≡ no_memory) × (code ≡ 0)
+
 -- the reason is want of memory
 abbrev pub IsNoMemory : Reason → Type 0
 IsNoMemory reason = reason ≡ no_memory
@@ -65,3 +76,7 @@ IsNoMemory reason = reason ≡ no_memory
 -- the buffer is not too small
 abbrev pub IsNotTooSmall : Answer → Type 0
 IsNotTooSmall answer = answer.status ≢ code_of_status TooSmall
+
+-- any text: of the words for people no more is said than that they are told whole, or not at all
+abbrev pub IsAnyText : List ℕ → Type 0
+IsAnyText text = ⊤

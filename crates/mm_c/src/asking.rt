@@ -1,9 +1,9 @@
-//! Requests to the storage service, answered in one go.
+//! Requests to the storage service, answered in one go; and packets in words.
 ghost use Rattle.std.specs.Prelude.{◌≡◌};
 ghost use Rattle.mm_told.specs.Telling.{Tells};
-ghost use Rattle.mm_c.specs.Telling.{code_of_outcome, Replies, LeavesUnasked};
+ghost use Rattle.mm_c.specs.Telling.{code_of_outcome, Replies, LeavesUnasked, IsInWords, LeavesUnread};
 
-use mm_ask::{Outcome, ask_bytes};
+use mm_ask::{Outcome, ask_bytes, read_bytes};
 use mm_told::{Answer, Reason, tell_text};
 use std::alloc::Global;
 
@@ -38,6 +38,30 @@ pub extern "C" fn mm_ask(
         Err(fault) => {
             *outcome = 0;
             *answer = Answer::refused(Reason::of_setup(fault));
+        }
+    }
+}
+
+/// What the packets of a text are, in words, as `read_bytes` of `mm_ask` says it; and in `outcome` 1 where no line was refused, 2 where one
+/// was, and 0 where the call is refused, out of memory.
+#[unsafe(no_mangle)]
+pub extern "C" fn mm_read(
+    alloc: Global,
+    packets: &[u8],
+    out: &mut [u8],
+    outcome: &mut u32,
+    answer: &mut Answer,
+)
+    ensures told { Tells (IsInWords packets.now outcome.new) (LeavesUnread outcome.new) out.old out.new answer.new }
+{
+    match read_bytes(alloc, packets) {
+        Ok((told, lines)) => {
+            *outcome = code_of_outcome(told);
+            *answer = tell_text(&lines, out);
+        }
+        Err(_) => {
+            *outcome = 0;
+            *answer = Answer::refused(Reason::no_memory());
         }
     }
 }

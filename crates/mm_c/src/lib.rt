@@ -3,7 +3,9 @@
 
 pub mod asking;
 pub mod handle;
+pub mod hinting;
 pub mod memory;
 mod parts;
 pub mod plans;
 pub mod saying;
+pub mod showing;

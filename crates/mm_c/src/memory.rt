@@ -75,14 +75,14 @@ impl TallyTold {
 }
 
 // The answer that a call ended so, with no text.
-fn ended(status: Status) -> Answer
+pub(crate) fn ended(status: Status) -> Answer
     ensures { result ≡ ended status }
 {
     Answer::with_length(status, 0)
 }
 
 // The answer that a call is refused for this fault.
-fn refused(fault: Fault) -> Answer
+pub(crate) fn refused(fault: Fault) -> Answer
     ensures { result ≡ refused_answer (of_call fault) }
 {
     Answer::refused(Reason {

@@ -2,10 +2,11 @@
 ghost use Rattle.std.specs.Prelude.{◌≤◌, length};
 ghost use Rattle.mm_planner.specs.PlanTexts.{PlansLeast};
 ghost use Rattle.mm_chart.specs.Charts.{Charts};
+ghost use Rattle.mm_chart.specs.Table.{IsTableOf};
 ghost use Rattle.mm_told.specs.Telling.{Tells};
 ghost use Rattle.mm_c.specs.Telling.{IsWhyUnplanned, IsWhyUnjudged, Judges, LeavesUnjudged, IsNotTooSmall};
 
-use mm_chart::chart_bytes;
+use mm_chart::{chart_bytes, table_bytes};
 use mm_cut::check_bytes;
 use mm_planner::plan_bytes;
 use mm_told::{Answer, PLAN_ROOM, Reason, VerdictTold, plan_texts_fit, tell_text};
@@ -82,6 +83,26 @@ pub extern "C" fn mm_chart(
         out.old out.new answer.new }
 {
     *answer = match chart_bytes(alloc, setup, forecast, plan) {
+        Ok(text) => tell_text(&text, out),
+        Err(fault) => Answer::refused(Reason::of_texts(fault)),
+    };
+}
+
+/// The table of a plan text for a setup and a forecast, as `table_bytes` of `mm_chart` makes it: comma separated values, which say what each
+/// step does to each store.
+#[unsafe(no_mangle)]
+pub extern "C" fn mm_table(
+    alloc: Global,
+    setup: &[u8],
+    forecast: &[u8],
+    plan: &[u8],
+    out: &mut [u8],
+    answer: &mut Answer,
+)
+    ensures told { Tells (IsTableOf setup.now forecast.now plan.now) (IsWhyUnjudged setup.now forecast.now plan.now)
+        out.old out.new answer.new }
+{
+    *answer = match table_bytes(alloc, setup, forecast, plan) {
         Ok(text) => tell_text(&text, out),
         Err(fault) => Answer::refused(Reason::of_texts(fault)),
     };

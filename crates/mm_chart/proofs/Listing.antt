@@ -8,7 +8,6 @@ use Rattle.std.proofs.lemmas.List.Elements.{All-contains}
 use Rattle.std.proofs.lemmas.List.Sums.{passes_at_first}
 use Rattle.std.proofs.lemmas.Slice.Eq.{bytes_eq-Decides}
 use Rattle.std.specs.Str.{bytes_eq}
-use Rattle.mm_base.proofs.RangeSums.{term-le-sum_by_range}
 use Rattle.mm_base.proofs.Sums.{sum_by-filter_parts}
 use Rattle.mm_problem.specs.Dumping.{Dumping, no_row, row, place, size, start, channel, window, arrivals, steps}
 use Rattle.mm_plan.specs.Table.{amount}
@@ -23,7 +22,7 @@ use Rattle.mm_cut.specs.declared.verdict.Verdict.TheVariants.{NotShown, Least}
 use Rattle.mm_chart.specs.declared.series.Series.{Series}
 use Rattle.mm_chart.specs.declared.series.Series.TheVariants.{WindowCounts, ChannelCounts, LimitsCount, Inner, Last}
 use Rattle.mm_chart.specs.Picture.{Drawn, IsDrawn, has_cut, cut, counts}
-use Rattle.mm_chart.specs.Series.{one_if, amount_of, total_of, is_inner_of, is_last_of, counts_channel}
+use Rattle.mm_chart.specs.Series.{one_if, amount_of, has_stretch, is_inner_of, is_last_of, counts_channel}
 use Rattle.mm_chart.specs.Words.{is_marked}
 use Rattle.mm_chart.specs.Listed.{sum_of, SumsAddUp, is_shaded, place_of, KeepsListed, OnlyListedHelps}
 
@@ -57,6 +56,9 @@ either_first a b holds = rw holds refl
 either_second : (a b : Bool) → b ≡ true → (a || b) ≡ true
 either_second true b holds = refl
 either_second false b holds = holds
+
+same_one : (a : ℕ) → eqb a a ≡ true
+same_one a = grind (arith, nat_tests)
 
 same_two : (a b : ℕ) → (eqb a a && eqb b b) ≡ true
 same_two a b = grind (arith, nat_tests)
@@ -157,10 +159,8 @@ module _ (p : Drawn) (is : IsDrawn p) where
     last_marked = marked_at p (Last s) e.last (omega (arith, here.first, here.order)) here.last (one_of (is_last_of p s e.last) last_of)
 
     -- its store is named
-    is_named : 1 ≤ total_of p (Last s)
-    is_named =
-        let term = term-le-sum_by_range (amount_of p (Last s)) 1 (length p.problem.windows) e.last (omega (arith, here.first, here.order)) (omega (arith, here.last)) in
-        omega (arith, term, one_of (is_last_of p s e.last) last_of)
+    is_named : has_stretch p s ≡ true
+    is_named = list_any_at (λ f. eqb (store_of p.problem f) s) ds k d inside (same_one s)
 
     shaded : (t : ℕ) → covers e t ≡ true → is_shaded p s t ≡ true
     shaded t at = elim (inner_or_last e.first e.last t at) [

@@ -5,7 +5,7 @@ use Rattle.mm_base.specs.declared.limits.TheConstants.{MAX_STORES}
 use Rattle.mm_problem.specs.Dumping.{Dumping, limit}
 use Rattle.mm_chart.specs.declared.layout.TheConstants.{LEFT, ROOM, MAX_WIDTH, WINDOW_BASE, CHANNEL_PITCH, STORE_PITCH, TALL, THIN, LOSS, OVER, WORDS_BELOW, LINE_PITCH}
 use Rattle.mm_chart.specs.declared.series.Series.{Series}
-use Rattle.mm_chart.specs.declared.series.Series.TheVariants.{WindowCounts, ChannelCounts, Sent, Inner, Last, Written, Left, Lost, Arrivals}
+use Rattle.mm_chart.specs.declared.series.Series.TheVariants.{WindowCounts, ChannelCounts, Sent, Inner, Last, Written, Left, Lost}
 
 -- the width of a step
 abbrev pub step_width : Dumping → ℕ
@@ -63,7 +63,6 @@ base_of q (Last s) = store_base q s + OVER
 base_of q (Lost s) = store_base q s - TALL
 base_of q (Written s) = store_base q s
 base_of q (Left s) = store_base q s
-base_of q (Arrivals s) = store_base q s
 base_of q _ = WINDOW_BASE
 
 -- its store is one of those that there may be
@@ -73,7 +72,6 @@ IsPlaced (Last s) = s < MAX_STORES
 IsPlaced (Written s) = s < MAX_STORES
 IsPlaced (Left s) = s < MAX_STORES
 IsPlaced (Lost s) = s < MAX_STORES
-IsPlaced (Arrivals s) = s < MAX_STORES
 IsPlaced _ = Unit {0}
 
 -- from one tick to the next, in steps

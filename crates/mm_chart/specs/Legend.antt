@@ -17,7 +17,7 @@ legend =
     codes "<g class='t'>"
     ++ key (Left 0) (codes "x='16' y='44'") (codes "x='32' y='54'") (codes "stays in the store")
     ++ key (Written 0) (codes "x='170' y='44'") (codes "x='186' y='54'") (codes "leaves in this step")
-    ++ key (Lost 0) (codes "x='330' y='44'") (codes "x='346' y='54'") (codes "lost in this step (each store has a scale of its own)")
+    ++ key (Lost 0) (codes "x='330' y='44'") (codes "x='346' y='54'") (codes "lost in this step (one scale for all stores)")
     ++ key Window (codes "x='710' y='44'") (codes "x='726' y='54'") (codes "window")
     ++ key Used (codes "x='800' y='44'") (codes "x='816' y='54'") (codes "used")
     ++ key WindowCounts (codes "x='16' y='62'") (codes "x='32' y='72'") (codes "counts in the cut")

@@ -7,7 +7,7 @@ use Rattle.mm_cut.specs.Cuts.{coming_sum, held_sum, windows_sum, limits_sum, lim
 use Rattle.mm_cut.specs.declared.verdict.Verdict.TheVariants.{NotShown, Least}
 use Rattle.mm_chart.specs.declared.series.Series.TheVariants.{WindowCounts, ChannelCounts, LimitsCount, Inner, Last}
 use Rattle.mm_chart.specs.Picture.{Drawn, IsDrawn, cut, counts}
-use Rattle.mm_chart.specs.Series.{total_of}
+use Rattle.mm_chart.specs.Series.{has_stretch}
 use Rattle.mm_chart.specs.Words.{is_marked}
 
 -- what comes, less what the stores hold, less what leaves by windows and by limits: the numbers of the sum
@@ -46,7 +46,7 @@ pub record KeepsListed (p : Drawn) (r : Dumping) : Type 0 where
   pub steps : length r.windows ≡ length p.problem.windows
   pub channels : length r.limits ≡ length p.problem.limits
   -- the stores that the words name, as they have a stretch
-  pub stores : (s : ℕ) → s < length p.problem.rows → 1 ≤ total_of p (Last s) → KeepsStore p r s
+  pub stores : (s : ℕ) → s < length p.problem.rows → IsTrue (has_stretch p s) → KeepsStore p r s
   pub windows : (t : ℕ) → IsTrue (is_marked p WindowCounts t) → window r t ≤ window p.problem t
   pub limited : (t c : ℕ) → IsTrue (is_marked p LimitsCount t) → IsTrue (is_marked p (ChannelCounts c) t) → IsSome (limit r c)
   pub limits : (t c : ℕ) → IsTrue (is_marked p LimitsCount t) → IsTrue (is_marked p (ChannelCounts c) t) → limit_or_0 r c ≤ limit_or_0 p.problem c

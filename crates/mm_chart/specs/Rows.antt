@@ -3,12 +3,12 @@ use Rattle.std.specs.Prelude.{ℕ, ◌+◌, ◌-◌, ◌/◌, ◌%◌, ◌==◌,
 use Rattle.std.specs.List.{sum_by}
 use Rattle.mm_base.specs.Characters.{line_feed}
 use Rattle.mm_base.specs.Id.{id_text}
-use Rattle.mm_problem.specs.Dumping.{Dumping, row, size, start, channel, steps, stores, channels}
+use Rattle.mm_problem.specs.Dumping.{Dumping, row, size, start, channel, arrivals, steps, stores, channels}
 use Rattle.mm_cut.specs.Cuts.{limit_or_0}
 use Rattle.mm_chart.specs.declared.layout.TheConstants.{LEFT, WINDOW_BASE, TALL, THIN, NAME_AT, TICK_AT}
 use Rattle.mm_chart.specs.declared.pen.Style.{Style}
 use Rattle.mm_chart.specs.declared.pen.Style.TheVariants as style
-use Rattle.mm_chart.specs.declared.series.Series.TheVariants.{WindowCounts, Window, Used, ChannelCounts, Sent, Inner, Last, Written, Left, Lost, Arrivals}
+use Rattle.mm_chart.specs.declared.series.Series.TheVariants.{WindowCounts, Window, Used, ChannelCounts, Sent, Inner, Last, Written, Left, Lost}
 use Rattle.mm_chart.specs.Picture.{Drawn}
 use Rattle.mm_chart.specs.Series.{total_of, most_of}
 use Rattle.mm_chart.specs.Layout.{edge, step_width, has_limit, channel_base, store_base, bottom, tick_every}
@@ -65,7 +65,7 @@ channel_part p c = if has_limit p.problem c == 0 then [] else channel_row p c
 
 -- what a store holds at the beginning and what comes to it
 unfoldable pub coming_to : Drawn → ℕ → ℕ
-coming_to p s = start p.problem s + total_of p (Arrivals s)
+coming_to p s = start p.problem s + sum_by (arrivals p.problem s) (steps p.problem)
 
 -- what comes to all stores
 abbrev pub all_coming : Drawn → ℕ
@@ -90,11 +90,10 @@ store_words p s =
     ++ counted style.Total (right p.problem) (store_base p.problem s - 4) (codes "of ") (coming_to p s) []
 
 unfoldable pub store_bars : Drawn → ℕ → List ℕ
-store_bars p s =
-    profile p (Inner s) ++ profile p (Last s) ++ profile p (Written s) ++ profile p (Left s) ++ profile p (Lost s)
+store_bars p s = profile p (Inner s) ++ profile p (Last s) ++ profile p (Written s) ++ profile p (Left s)
 
 unfoldable pub store_row : Drawn → ℕ → List ℕ
-store_row p s = store_bars p s ++ frame p.problem (store_base p.problem s) TALL ++ store_words p s
+store_row p s = store_bars p s ++ profile p (Lost s) ++ frame p.problem (store_base p.problem s) TALL ++ store_words p s
 
 -- ---- ticks
 

@@ -1,12 +1,12 @@
 -- The numbers that a chart draws: one for each step.
 use Rattle.std.specs.Prelude.{ℕ, ◌+◌, ◌-◌, ◌*◌, ◌/◌, ◌<◌, min, max, nat_le, Bool, ◌==◌, ◌&&◌, if◌then◌else◌, List, [], ◌∷◌, length}
 use Rattle.std.specs.List.{sum_by, list_any}
-use Rattle.mm_problem.specs.Dumping.{size, window, arrivals, stores, stores_of, steps}
+use Rattle.mm_problem.specs.Dumping.{size, window, stores, stores_of, steps}
 use Rattle.mm_plan.specs.Volumes.{written, left, lost}
 use Rattle.mm_cut.specs.Stretches.{store_of, goes_past, is_inner_on}
 use Rattle.mm_cut.specs.Cuts.{limit_or_0, counts_window, counts_limits}
 use Rattle.mm_chart.specs.declared.series.Series.{Series}
-use Rattle.mm_chart.specs.declared.series.Series.TheVariants.{WindowCounts, Window, Used, ChannelCounts, Sent, LimitsCount, CountedWindow, Inner, Last, Written, Left, Lost, Arrivals}
+use Rattle.mm_chart.specs.declared.series.Series.TheVariants.{WindowCounts, Window, Used, ChannelCounts, Sent, LimitsCount, CountedWindow, Inner, Last, Written, Left, Lost}
 use Rattle.mm_chart.specs.Picture.{Drawn, amounts, cut, counts}
 
 abbrev pub one_if : Bool → ℕ
@@ -28,6 +28,10 @@ is_inner_of p s t = list_any (λ d. (store_of p.problem d == s) && goes_past t d
 abbrev pub is_last_of : Drawn → ℕ → ℕ → Bool
 is_last_of p s t = list_any (λ d. (store_of p.problem d == s) && (d.last == t)) (cut p)
 
+-- whether the store has a stretch
+abbrev pub has_stretch : Drawn → ℕ → Bool
+has_stretch p s = list_any (λ d. store_of p.problem d == s) (cut p)
+
 -- the store or the channel is there
 abbrev pub IsSeries : Drawn → Series → Type 0
 IsSeries p (Inner s) = s < length p.problem.rows
@@ -35,7 +39,6 @@ IsSeries p (Last s) = s < length p.problem.rows
 IsSeries p (Written s) = s < length p.problem.rows
 IsSeries p (Left s) = s < length p.problem.rows
 IsSeries p (Lost s) = s < length p.problem.rows
-IsSeries p (Arrivals s) = s < length p.problem.rows
 IsSeries p _ = Unit {0}
 
 -- the number of a step
@@ -52,9 +55,8 @@ amount_of p (Last s) t = one_if (is_last_of p s t)
 amount_of p (Written s) t = written p.problem (amounts p) s t
 amount_of p (Left s) t = left p.problem (amounts p) s t
 amount_of p (Lost s) t = lost p.problem (amounts p) s t
-amount_of p (Arrivals s) t = arrivals p.problem s t
 
--- the same, and 0 at what is no step
+-- the number of a step, and 0 at what is no step
 abbrev pub amount_at : Drawn → Series → ℕ → ℕ
 amount_at p x t = if nat_le 1 t && nat_le t (length p.problem.windows) then amount_of p x t else 0
 
@@ -71,15 +73,22 @@ largest f (t ∷ ts) = max (f t) (largest f ts)
 abbrev pub most_of : Drawn → Series → ℕ
 most_of p x = largest (amount_of p x) (steps p.problem)
 
--- the amount that is drawn in full height
+-- the most that a store loses in a step
+abbrev pub most_lost_by : Drawn → ℕ → ℕ
+most_lost_by p s = most_of p (Lost s)
+
+-- the most that any store loses in a step
+abbrev pub most_lost : Drawn → ℕ
+most_lost p = largest (most_lost_by p) (stores p.problem)
+
+-- the amount that is drawn in full height: the losses of all stores have one scale
 abbrev pub whole_of : Drawn → Series → ℕ
 whole_of p Window = most_of p Window
 whole_of p Used = most_of p Window
 whole_of p (Sent c) = limit_or_0 p.problem c
 whole_of p (Written s) = size p.problem s
 whole_of p (Left s) = size p.problem s
-whole_of p (Arrivals s) = size p.problem s
-whole_of p (Lost s) = most_of p (Lost s)
+whole_of p (Lost s) = most_lost p
 whole_of p _ = 1
 
 -- an amount in a scale in which the whole has this height: amount * height / whole, rounded up, and at most the height

@@ -10,9 +10,9 @@ use Rattle.mm_chart.specs.declared.layout.TheConstants.{MARGIN, HEADLINE_AT, LIN
 use Rattle.mm_chart.specs.declared.phrases.TheConstants.{MANY_RANGES, INDENT, NO_FEWER, ONLY_SHOWN, MARKED_WINDOWS, MARKED_PASSES, MARKED_LIMITS, MARKED, AT_LEAST, WHY, IN_STRETCHES, COME, AS_ENDS, STAND, BY_WINDOWS, NO_WINDOWS, BY_LIMITS, NO_LIMITS, HELP, WIDER, NO_WIDER, HIGHER, NO_HIGHER, LARGER, FEWER}
 use Rattle.mm_chart.specs.declared.pen.Style.TheVariants as style
 use Rattle.mm_chart.specs.declared.series.Series.{Series}
-use Rattle.mm_chart.specs.declared.series.Series.TheVariants.{WindowCounts, CountedWindow, LimitsCount, Last}
+use Rattle.mm_chart.specs.declared.series.Series.TheVariants.{WindowCounts, CountedWindow, LimitsCount}
 use Rattle.mm_chart.specs.Picture.{Drawn, cut, counts}
-use Rattle.mm_chart.specs.Series.{one_if, amount_at, total_of}
+use Rattle.mm_chart.specs.Series.{one_if, amount_at, total_of, has_stretch}
 use Rattle.mm_chart.specs.Layout.{word_line}
 use Rattle.mm_chart.specs.Svg.{said, grouped, signed_grouped, opened, closed, labelled}
 use Rattle.mm_chart.specs.Rows.{all_coming, counted, name}
@@ -120,7 +120,7 @@ why p bound =
     ++ leaving p
     ++ sum_line p (word_line p.problem 5) bound
 
--- ---- what would help
+-- ---- what may help
 
 -- a new line, before the ninth store
 unfoldable pub broken : ℕ → ℕ → List ℕ
@@ -128,7 +128,7 @@ broken y s = if s == 8 then closed ++ opened style.Plain INDENT (y + LINE_PITCH)
 
 -- the identifier of a store with a stretch
 unfoldable pub stretched : Drawn → ℕ → List ℕ
-stretched p s = if total_of p (Last s) == 0 then [] else said (codes " ") ++ name p.problem s
+stretched p s = if has_stretch p s then said (codes " ") ++ name p.problem s else []
 
 -- the same, on a line of 8 stores
 unfoldable pub stretched_at : Drawn → ℕ → ℕ → List ℕ

@@ -1,7 +1,7 @@
 //! The numbers of a series over all steps, which are looked up once.
 ghost use Rattle.std.specs.Prelude.{◌≡◌, ◌^◌, ◌+◌, ◌*◌, ◌<◌, ◌≤◌, ℕ, length, slice_index_or};
 ghost use Rattle.mm_base.specs.declared.limits.TheConstants.{MAX_STORES, MAX_STEPS};
-ghost use Rattle.mm_chart.specs.Series.{IsSeries, amount_of, amount_at, total_of, most_of, whole_of};
+ghost use Rattle.mm_chart.specs.Series.{IsSeries, amount_of, amount_at, total_of, most_of};
 ghost use Rattle.mm_chart.specs.Columns.{AreAmounts};
 ghost use Rattle.mm_chart.specs.declared.series.TheConstants.{AMOUNT_PLACES};
 
@@ -82,18 +82,5 @@ impl<'a> Column<'a> {
             most = most.max(self.amount(step));
         }
         most
-    }
-
-    /// The amount that is drawn in full height.
-    #[must_use]
-    pub fn whole(&self) -> u64
-        requires { IsSeries self.now.picture.now self.now.series }
-        ensures whole { result ≡ whole_of self.now.picture.now self.now.series }
-        ensures most { result ≤ MAX_STORES * 2 ^ 32 }
-    {
-        match self.series {
-            Series::Lost(_) => self.most(),
-            _ => self.picture.whole(self.series),
-        }
     }
 }

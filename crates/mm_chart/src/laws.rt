@@ -11,7 +11,7 @@ pub fn sums_add_up()
     ensures { SumsAddUp }
 {}
 
-/// Where the chart says that no plan loses fewer, only what its words list under 'What would help' can lower the loss:
+/// Where the chart says that no plan loses fewer, only what its words list under 'What may help' can lower the loss:
 /// whatever else changes, no plan that fits loses less.
 pub fn only_listed_helps()
     ensures { OnlyListedHelps }
@@ -46,18 +46,18 @@ pub fn sum_words_are()
     ensures follows { AT_LEAST.now ≡ codes ": at least that many blocks are lost, whatever is dumped." }
 {}
 
-/// The words of what would help.
+/// The words of what may help.
 pub fn helping_words_are()
     ensures heading { HELP.now
-        ≡ codes "What would help: only these changes can lower the loss, and no change anywhere else can" }
-    ensures windows { WIDER.now ≡ codes " a wider window." }
+        ≡ codes "What may help: only these changes can lower the loss, and one of them alone may not be enough" }
+    ensures windows { WIDER.now ≡ codes " and only there, a wider window." }
     ensures no_windows { NO_WIDER.now ≡ codes "No wider window." }
     ensures limits { HIGHER.now
-        ≡ codes " a higher limit of a channel marked there, or another channel for a store shaded there." }
+        ≡ codes " and only there, a higher limit of a marked channel, or another channel for a shaded store." }
     ensures no_limits { NO_HIGHER.now ≡ codes "No higher limit, and no other channel for a store." }
-    ensures stores { LARGER.now ≡ codes "Larger stores:" }
+    ensures stores { LARGER.now ≡ codes "Larger stores, and only these:" }
     ensures arrivals { FEWER.now
-        ≡ codes "In the shaded stretches, fewer blocks that come, or stand there as step 1 begins." }
+        ≡ codes "In the shaded stretches, and only there, fewer blocks that come, or stand there as step 1 begins." }
 {}
 
 /// What follows the number of steps that are too many to list.

@@ -32,7 +32,7 @@ pub const TALL: u32 = 32;
 /// The height of a row of a channel.
 pub const THIN: u32 = 18;
 
-/// The height of the greatest loss of a store.
+/// The height of the greatest loss of any store.
 pub const LOSS: u32 = 10;
 
 /// How far the marks of a cut reach over a row, above and below.
@@ -176,9 +176,7 @@ pub(crate) fn base_of(problem: &Problem, series: Series) -> u32
         Series::Sent(channel) => channel_base(problem, channel),
         Series::Inner(store) | Series::Last(store) => store_base(problem, store) + OVER,
         Series::Lost(store) => store_base(problem, store) - TALL,
-        Series::Written(store) | Series::Left(store) | Series::Arrivals(store) => {
-            store_base(problem, store)
-        }
+        Series::Written(store) | Series::Left(store) => store_base(problem, store),
         _ => WINDOW_BASE,
     }
 }

@@ -16,6 +16,7 @@ mod shades;
 mod table;
 mod words;
 
+pub use column::Column;
 pub use document::{chart_bytes, draw};
 pub use laws::{
     headline_words_are, helping_words_are, marked_words_are, only_listed_helps, records_balance,

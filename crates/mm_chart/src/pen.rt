@@ -3,7 +3,7 @@ ghost use Rattle.std.specs.Prelude.{◌≡◌, ◌+◌, ◌-◌, ◌*◌, ◌<�
 ghost use Rattle.mm_problem.specs.Dumping.{steps};
 ghost use Rattle.mm_base.specs.declared.limits.TheConstants.{MAX_STEPS};
 ghost use Rattle.mm_base.specs.Characters.{line_feed};
-ghost use Rattle.mm_chart.specs.Series.{IsSeries};
+ghost use Rattle.mm_chart.specs.Series.{IsSeries, whole_of};
 ghost use Rattle.mm_chart.specs.declared.series.TheConstants.{AMOUNT_PLACES};
 ghost use Rattle.mm_chart.specs.Layout.{IsPlaced};
 ghost use Rattle.mm_chart.specs.Svg.{said, separated, grouped, signed_grouped, style_name, opened, closed, labelled, height_of, line_at, begun, rise, bar_line, step_outline, series_name, path_begun, outlined, profile};
@@ -297,35 +297,39 @@ fn push_path(text: &mut Vec<u8>, series: Series) -> Pushed
 
 // The outline of a series over all steps.
 #[tactic(auto, using(std::proofs::Common::append_assoc), unfolding(crate::specs::Svg::outlined))]
-fn push_outlined(text: &mut Vec<u8>, column: &Column<'_>) -> Pushed
-    requires series { IsSeries column.now.picture.now column.now.series }
+fn push_outlined(text: &mut Vec<u8>, column: &Column<'_>, whole: u64) -> Pushed
     requires placed { IsPlaced column.now.series }
+    requires whole { whole ≡ whole_of column.now.picture.now column.now.series }
+    requires most { whole ≤ 2 ^ 40 }
     ensures { OnOk result (text.new.items ≡ text.old.items ++ outlined column.now.picture.now column.now.series) }
 {
     push_path(text, column.series)?;
-    push_steps(text, column, column.whole())?;
+    push_steps(text, column, whole)?;
     push_value(text, b"V", base_of(column.picture.problem(), column.series))?;
     push_said(text, b"'/>\n")
 }
 
-/// Draws the series of a column over all steps, or nothing where it has none.
+/// Draws the series of a column over all steps, or nothing where it has none. The whole is drawn in full height.
 #[tactic(auto, unfolding(crate::specs::Svg::profile))]
-pub fn push_column(text: &mut Vec<u8>, column: &Column<'_>) -> Pushed
-    requires series { IsSeries column.now.picture.now column.now.series }
+pub fn push_column(text: &mut Vec<u8>, column: &Column<'_>, whole: u64) -> Pushed
     requires placed { IsPlaced column.now.series }
+    requires whole { whole ≡ whole_of column.now.picture.now column.now.series }
+    requires most { whole ≤ 2 ^ 40 }
     ensures { OnOk result (text.new.items ≡ text.old.items ++ profile column.now.picture.now column.now.series) }
 {
     if column.total() == 0 {
         return Ok(());
     }
-    push_outlined(text, column)
+    push_outlined(text, column, whole)
 }
 
 /// Draws a series over all steps, or nothing where it has none.
-pub fn push_profile(text: &mut Vec<u8>, picture: &Picture, series: Series) -> Pushed
+pub fn push_profile(text: &mut Vec<u8>, picture: &Picture, series: Series, whole: u64) -> Pushed
     requires series { IsSeries picture.now series }
     requires placed { IsPlaced series }
+    requires whole { whole ≡ whole_of picture.now series }
+    requires most { whole ≤ 2 ^ 40 }
     ensures { OnOk result (text.new.items ≡ text.old.items ++ profile picture.now series) }
 {
-    push_column(text, &Column::new(picture, series))
+    push_column(text, &Column::new(picture, series), whole)
 }

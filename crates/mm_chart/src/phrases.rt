@@ -55,26 +55,26 @@ pub const BY_LIMITS: &[u8] = b" leave by the limits of the channels.";
 /// What is said where no limit counts.
 pub const NO_LIMITS: &[u8] = b"No limit of a channel counts.";
 
-/// The heading of what would help.
+/// The heading of what may help.
 pub const HELP: &[u8] =
-    b"What would help: only these changes can lower the loss, and no change anywhere else can";
+    b"What may help: only these changes can lower the loss, and one of them alone may not be enough";
 
-/// Windows that would help.
-pub const WIDER: &[u8] = b" a wider window.";
+/// Windows that may help.
+pub const WIDER: &[u8] = b" and only there, a wider window.";
 
-/// What is said where no window would help.
+/// What is said where no window can help.
 pub const NO_WIDER: &[u8] = b"No wider window.";
 
-/// Limits that would help.
+/// Limits that may help.
 pub const HIGHER: &[u8] =
-    b" a higher limit of a channel marked there, or another channel for a store shaded there.";
+    b" and only there, a higher limit of a marked channel, or another channel for a shaded store.";
 
-/// What is said where no limit would help.
+/// What is said where no limit can help.
 pub const NO_HIGHER: &[u8] = b"No higher limit, and no other channel for a store.";
 
-/// What comes before the stores that would help.
-pub const LARGER: &[u8] = b"Larger stores:";
+/// What comes before the stores that may help.
+pub const LARGER: &[u8] = b"Larger stores, and only these:";
 
-/// Arrivals that would help.
+/// Arrivals that may help.
 pub const FEWER: &[u8] =
-    b"In the shaded stretches, fewer blocks that come, or stand there as step 1 begins.";
+    b"In the shaded stretches, and only there, fewer blocks that come, or stand there as step 1 begins.";

@@ -14,13 +14,10 @@ ghost use Rattle.mm_chart.specs.declared.series.TheConstants.{AMOUNT_PLACES};
 ghost use Rattle.mm_chart.specs.Columns.{AreMarks, AreAmounts};
 ghost use Rattle.mm_chart.specs.Picture.{has_cut, cut, counts, IsDrawn};
 ghost use Rattle.mm_chart.specs.declared.series.Series.TheVariants.{CountedWindow};
-ghost use Rattle.mm_chart.specs.Series.{one_if, sent, counts_channel, is_inner_of, is_last_of, IsSeries, amount_of, total_of, most_of, whole_of, scaled};
+ghost use Rattle.mm_chart.specs.Series.{one_if, sent, has_stretch, IsSeries, amount_of, scaled};
 
 use crate::series::{AMOUNT_PLACES, Series};
-use crate::shades::{
-    Shade, inner_steps_of, inner_steps_on, is_inner_of, is_inner_on, is_last_of, last_steps_of,
-    shades_of,
-};
+use crate::shades::{Shade, has_stretch, inner_steps_of, inner_steps_on, last_steps_of, shades_of};
 use mm_base::{MAX_STEPS, NoMemory};
 use mm_cut::{Parts, STEP_PLACES, Verdict, inner_steps, listed_steps, parts_of, verdict_of};
 use mm_plan::{Sheet, Simulated, Stretch, simulate};
@@ -199,26 +196,12 @@ impl Picture {
         self.inner[step as usize] && self.listed[step as usize]
     }
 
+    // Whether a store has a stretch.
     #[tactic(auto, using(crate::proofs::Mapped::list_any_map))]
-    fn counts_channel(&self, channel: u8, step: u32) -> bool
-        requires { step < STEP_PLACES }
-        ensures { result ≡ counts_channel self.now channel step }
+    pub(crate) fn has_stretch(&self, store: usize) -> bool
+        ensures { result ≡ has_stretch self.now store }
     {
-        self.counts_limits(step) && is_inner_on(self.shades.as_slice(), channel, step)
-    }
-
-    #[tactic(auto, using(crate::proofs::Mapped::list_any_map))]
-    fn is_inner_of(&self, store: usize, step: u32) -> bool
-        ensures { result ≡ is_inner_of self.now store step }
-    {
-        is_inner_of(self.shades.as_slice(), store, step)
-    }
-
-    #[tactic(auto, using(crate::proofs::Mapped::list_any_map))]
-    fn is_last_of(&self, store: usize, step: u32) -> bool
-        ensures { result ≡ is_last_of self.now store step }
-    {
-        is_last_of(self.shades.as_slice(), store, step)
+        has_stretch(self.shades.as_slice(), store)
     }
 
     // The step's window, where the step counts by it.
@@ -281,34 +264,6 @@ impl Picture {
         sent
     }
 
-    /// The number of a step.
-    #[must_use]
-    pub fn amount(&self, series: Series, step: u32) -> u64
-        requires series { IsSeries self.now series }
-        requires first { 1 ≤ step }
-        requires last { step ≤ length self.now.problem.windows }
-        ensures amount { result ≡ amount_of self.now series step }
-        ensures most { result ≤ MAX_STORES * 2 ^ 32 }
-    {
-        // no step is past the marks
-        prove!(self.problem.steps() <= MAX_STEPS);
-        match series {
-            Series::WindowCounts => one_if(self.counts_window(step)),
-            Series::Window => u64::from(self.problem.window(step)),
-            Series::CountedWindow => self.counted_window(step),
-            Series::Used => self.used(step),
-            Series::ChannelCounts(channel) => one_if(self.counts_channel(channel, step)),
-            Series::Sent(channel) => self.sent_on(channel, step),
-            Series::LimitsCount => one_if(self.counts_limits(step)),
-            Series::Inner(store) => one_if(self.is_inner_of(store, step)),
-            Series::Last(store) => one_if(self.is_last_of(store, step)),
-            Series::Written(store) => u64::from(self.volumes.written(store, step)),
-            Series::Left(store) => u64::from(self.volumes.left(store, step)),
-            Series::Lost(store) => u64::from(self.volumes.lost(store, step)),
-            Series::Arrivals(store) => u64::from(self.problem.arrivals(store, step)),
-        }
-    }
-
     // Marks of the steps in which a series asks for a stretch.
     #[tactic(auto, using(crate::proofs::Mapped::list_any_map))]
     fn marks(&self, series: Series) -> [bool; STEP_PLACES]
@@ -324,7 +279,7 @@ impl Picture {
     }
 
     // The number of a step, by the marks of the series.
-    fn amount_by(&self, marks: &[bool], series: Series, step: u32) -> u64
+    fn amount(&self, marks: &[bool], series: Series, step: u32) -> u64
         requires series { IsSeries self.now series }
         requires places { length marks.now ≡ STEP_PLACES }
         requires marks { AreMarks self.now series marks.now }
@@ -336,9 +291,17 @@ impl Picture {
         // no step is past the marks
         prove!(self.problem.steps() <= MAX_STEPS);
         match series {
-            Series::Inner(_) | Series::Last(_) => one_if(marks[step as usize]),
+            Series::WindowCounts => one_if(self.counts_window(step)),
+            Series::Window => u64::from(self.problem.window(step)),
+            Series::CountedWindow => self.counted_window(step),
+            Series::Used => self.used(step),
             Series::ChannelCounts(_) => one_if(self.counts_limits(step) && marks[step as usize]),
-            _ => self.amount(series, step),
+            Series::Sent(channel) => self.sent_on(channel, step),
+            Series::LimitsCount => one_if(self.counts_limits(step)),
+            Series::Inner(_) | Series::Last(_) => one_if(marks[step as usize]),
+            Series::Written(store) => u64::from(self.volumes.written(store, step)),
+            Series::Left(store) => u64::from(self.volumes.left(store, step)),
+            Series::Lost(store) => u64::from(self.volumes.lost(store, step)),
         }
     }
 
@@ -355,57 +318,9 @@ impl Picture {
         let marks = self.marks(series);
         let mut amounts = [0; AMOUNT_PLACES];
         for step in 1..self.problem.steps() + 1 {
-            amounts[step as usize] = self.amount_by(&marks, series, step);
+            amounts[step as usize] = self.amount(&marks, series, step);
         }
         amounts
-    }
-
-    /// The sum over all steps.
-    #[tactic(auto, using(crate::proofs::Ranges::sum_by_next))]
-    #[must_use]
-    pub fn total(&self, series: Series) -> u64
-        requires { IsSeries self.now series }
-        ensures total { result ≡ total_of self.now series }
-        ensures most { result ≤ MAX_STEPS * (MAX_STORES * 2 ^ 32) }
-    {
-        let mut total: u64 = 0;
-        for step in 1..self.problem.steps() + 1 {
-            total += self.amount(series, step);
-        }
-        total
-    }
-
-    /// The largest number of a step.
-    #[tactic(auto, using(crate::proofs::Ranges::largest_next))]
-    #[must_use]
-    pub fn most(&self, series: Series) -> u64
-        requires { IsSeries self.now series }
-        ensures largest { result ≡ most_of self.now series }
-        ensures most { result ≤ MAX_STORES * 2 ^ 32 }
-    {
-        let mut most: u64 = 0;
-        for step in 1..self.problem.steps() + 1 {
-            most = most.max(self.amount(series, step));
-        }
-        most
-    }
-
-    /// The amount that is drawn in full height.
-    #[must_use]
-    pub fn whole(&self, series: Series) -> u64
-        requires { IsSeries self.now series }
-        ensures whole { result ≡ whole_of self.now series }
-        ensures most { result ≤ MAX_STORES * 2 ^ 32 }
-    {
-        match series {
-            Series::Window | Series::Used => self.most(Series::Window),
-            Series::Sent(channel) => u64::from(self.problem.limit(channel).unwrap_or(0)),
-            Series::Written(store) | Series::Left(store) | Series::Arrivals(store) => {
-                u64::from(self.problem.size(store))
-            }
-            Series::Lost(_) => self.most(series),
-            _ => 1,
-        }
     }
 }
 

@@ -3,8 +3,8 @@ ghost use Rattle.std.specs.Prelude.{◌≡◌, ◌+◌, ◌-◌, ◌*◌, ◌^�
 ghost use Rattle.mm_base.specs.declared.limits.TheConstants.{MAX_STORES, MAX_STEPS, MAX_BLOCKS};
 ghost use Rattle.mm_base.specs.Id.{id_text};
 ghost use Rattle.mm_problem.specs.Dumping.{IsDumping, row, stores, steps, channels};
-ghost use Rattle.mm_chart.specs.declared.series.Series.TheVariants.{Used};
-ghost use Rattle.mm_chart.specs.Series.{total_of};
+ghost use Rattle.mm_chart.specs.declared.series.Series.TheVariants.{Window, Used, Lost};
+ghost use Rattle.mm_chart.specs.Series.{total_of, most_of, most_lost};
 ghost use Rattle.mm_chart.specs.Layout.{edge};
 ghost use Rattle.mm_chart.specs.Rows.{right, counted, frame, name, guide, numbered, windows_words, windows_row, channel_side, channel_row, channel_part, coming_to, all_coming, store_side, store_loss, store_words, store_bars, store_row, tick, rows};
 
@@ -72,13 +72,19 @@ fn push_frame(text: &mut Vec<u8>, problem: &Problem, base: u32, height: u32) -> 
 }
 
 #[tactic(auto, using(std::proofs::Common::append_assoc), unfolding(crate::specs::Rows::windows_words))]
-fn push_windows_words(text: &mut Vec<u8>, picture: &Picture, used: u64) -> Pushed
-    requires { used ≡ total_of picture.now Used }
+fn push_windows_words(
+    text: &mut Vec<u8>,
+    picture: &Picture,
+    most: u64,
+    windows: u64,
+    used: u64,
+) -> Pushed
+    requires most { most ≡ most_of picture.now Window }
+    requires windows { windows ≡ total_of picture.now Window }
+    requires used { used ≡ total_of picture.now Used }
     ensures { OnOk result (text.new.items ≡ text.old.items ++ windows_words picture.now) }
 {
     let right = right(picture.problem());
-    let most = picture.most(Series::Window);
-    let windows = picture.total(Series::Window);
     let (upper, lower) = (WINDOW_BASE - 18, WINDOW_BASE - 4);
     push_labelled(text, Style::Name, NAME_AT, upper, b"windows")?;
     push_counted(text, Style::Side.at(NAME_AT, lower), b"up to ", most, b"")?;
@@ -90,12 +96,14 @@ fn push_windows_words(text: &mut Vec<u8>, picture: &Picture, used: u64) -> Pushe
 fn push_windows_row(text: &mut Vec<u8>, picture: &Picture) -> Pushed
     ensures { OnOk result (text.new.items ≡ text.old.items ++ windows_row picture.now) }
 {
-    push_profile(text, picture, Series::WindowCounts)?;
-    push_profile(text, picture, Series::Window)?;
+    let windows = Column::new(picture, Series::Window);
     let used = Column::new(picture, Series::Used);
-    push_column(text, &used)?;
+    let most = windows.most();
+    push_profile(text, picture, Series::WindowCounts, 1)?;
+    push_column(text, &windows, most)?;
+    push_column(text, &used, most)?;
     push_frame(text, picture.problem(), WINDOW_BASE, TALL)?;
-    push_windows_words(text, picture, used.total())
+    push_windows_words(text, picture, most, windows.total(), used.total())
 }
 
 // The channel and its limit.
@@ -118,9 +126,10 @@ fn push_channel_row(text: &mut Vec<u8>, picture: &Picture, channel: u8) -> Pushe
     ensures { OnOk result (text.new.items ≡ text.old.items ++ channel_row picture.now channel) }
 {
     let base = channel_base(picture.problem(), channel);
-    push_profile(text, picture, Series::ChannelCounts(channel))?;
+    push_profile(text, picture, Series::ChannelCounts(channel), 1)?;
     let sent = Column::new(picture, Series::Sent(channel));
-    push_column(text, &sent)?;
+    let limit = picture.problem().limit(channel).unwrap_or(0);
+    push_column(text, &sent, u64::from(limit))?;
     push_frame(text, picture.problem(), base, THIN)?;
     push_channel_side(text, picture, channel)?;
     let right = right(picture.problem());
@@ -150,13 +159,17 @@ fn push_channels(text: &mut Vec<u8>, picture: &Picture) -> Pushed
 }
 
 // What a store holds at the beginning and what comes to it.
-#[tactic(auto, unfolding(crate::specs::Rows::coming_to))]
+#[tactic(auto, using(crate::proofs::Ranges::sum_by_next), unfolding(crate::specs::Rows::coming_to))]
 fn coming_to(picture: &Picture, store: usize) -> u64
     requires { store < length picture.now.problem.rows }
     ensures coming { result ≡ coming_to picture.now store }
     ensures most { result ≤ 2 ^ 45 }
 {
-    u64::from(picture.problem().start(store)) + picture.total(Series::Arrivals(store))
+    let mut coming = u64::from(picture.problem().start(store));
+    for step in 1..picture.problem().steps() + 1 {
+        coming += u64::from(picture.problem().arrivals(store, step));
+    }
+    coming
 }
 
 // What comes to all stores.
@@ -169,6 +182,18 @@ pub(crate) fn all_coming(picture: &Picture) -> u64
         coming += coming_to(picture, store);
     }
     coming
+}
+
+// The most that any store loses in a step.
+fn most_lost(picture: &Picture) -> u64
+    ensures lost { result ≡ most_lost picture.now }
+    ensures most { result ≤ MAX_STORES * 2 ^ 32 }
+{
+    let mut most: u64 = 0;
+    for store in 0..picture.problem().stores() {
+        most = most.max(Column::new(picture, Series::Lost(store)).most());
+    }
+    most
 }
 
 // A store's size and channel.
@@ -187,14 +212,13 @@ fn push_store_side(text: &mut Vec<u8>, picture: &Picture, store: usize) -> Pushe
 
 // What it loses.
 #[tactic(auto, unfolding(crate::specs::Rows::store_loss))]
-fn push_store_loss(text: &mut Vec<u8>, picture: &Picture, store: usize) -> Pushed
-    requires store { store < length picture.now.problem.rows }
+fn push_store_loss(text: &mut Vec<u8>, picture: &Picture, store: usize, lost: u64) -> Pushed
     requires few { store < MAX_STORES }
+    requires lost { lost ≡ total_of picture.now (Lost store) }
     ensures { OnOk result (text.new.items ≡ text.old.items ++ store_loss picture.now store) }
 {
     let right = right(picture.problem());
     let y = store_base(picture.problem(), store) - 18;
-    let lost = picture.total(Series::Lost(store));
     if lost == 0 {
         return push_labelled(text, Style::Total, right, y, b"nothing lost");
     }
@@ -202,9 +226,10 @@ fn push_store_loss(text: &mut Vec<u8>, picture: &Picture, store: usize) -> Pushe
 }
 
 #[tactic(auto, using(std::proofs::Common::append_assoc), unfolding(crate::specs::Rows::store_words))]
-fn push_store_words(text: &mut Vec<u8>, picture: &Picture, store: usize) -> Pushed
+fn push_store_words(text: &mut Vec<u8>, picture: &Picture, store: usize, lost: u64) -> Pushed
     requires store { store < length picture.now.problem.rows }
     requires few { store < MAX_STORES }
+    requires lost { lost ≡ total_of picture.now (Lost store) }
     ensures { OnOk result (text.new.items ≡ text.old.items ++ store_words picture.now store) }
 {
     let problem = picture.problem();
@@ -213,7 +238,7 @@ fn push_store_words(text: &mut Vec<u8>, picture: &Picture, store: usize) -> Push
     push_name(text, problem, store)?;
     push_closed(text)?;
     push_store_side(text, picture, store)?;
-    push_store_loss(text, picture, store)?;
+    push_store_loss(text, picture, store, lost)?;
     let coming = coming_to(picture, store);
     let at_right = Style::Total.at(right(problem), base - 4);
     push_counted(text, at_right, b"of ", coming, b"")
@@ -225,31 +250,36 @@ fn push_store_bars(text: &mut Vec<u8>, picture: &Picture, store: usize) -> Pushe
     requires few { store < MAX_STORES }
     ensures { OnOk result (text.new.items ≡ text.old.items ++ store_bars picture.now store) }
 {
-    push_profile(text, picture, Series::Inner(store))?;
-    push_profile(text, picture, Series::Last(store))?;
-    push_profile(text, picture, Series::Written(store))?;
-    push_profile(text, picture, Series::Left(store))?;
-    push_profile(text, picture, Series::Lost(store))
+    let size = u64::from(picture.problem().size(store));
+    push_profile(text, picture, Series::Inner(store), 1)?;
+    push_profile(text, picture, Series::Last(store), 1)?;
+    push_profile(text, picture, Series::Written(store), size)?;
+    push_profile(text, picture, Series::Left(store), size)
 }
 
 #[tactic(auto, using(std::proofs::Common::append_assoc), unfolding(crate::specs::Rows::store_row))]
-fn push_store_row(text: &mut Vec<u8>, picture: &Picture, store: usize) -> Pushed
+fn push_store_row(text: &mut Vec<u8>, picture: &Picture, store: usize, whole: u64) -> Pushed
     requires store { store < length picture.now.problem.rows }
     requires few { store < MAX_STORES }
+    requires whole { whole ≡ most_lost picture.now }
+    requires most { whole ≤ 2 ^ 40 }
     ensures { OnOk result (text.new.items ≡ text.old.items ++ store_row picture.now store) }
 {
+    let lost = Column::new(picture, Series::Lost(store));
     push_store_bars(text, picture, store)?;
+    push_column(text, &lost, whole)?;
     let base = store_base(picture.problem(), store);
     push_frame(text, picture.problem(), base, TALL)?;
-    push_store_words(text, picture, store)
+    push_store_words(text, picture, store, lost.total())
 }
 
 #[tactic(auto, using(std::proofs::Common::append_assoc, crate::proofs::Ranges::flat_map_range_more))]
 fn push_stores(text: &mut Vec<u8>, picture: &Picture) -> Pushed
     ensures { OnOk result (text.new.items ≡ text.old.items ++ flat_map (store_row picture.now) (stores picture.now.problem)) }
 {
+    let whole = most_lost(picture);
     for store in 0..picture.problem().stores() {
-        push_store_row(text, picture, store)?;
+        push_store_row(text, picture, store, whole)?;
     }
     Ok(())
 }

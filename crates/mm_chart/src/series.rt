@@ -30,5 +30,4 @@ pub enum Series {
     /// What stands in a store as the step ends.
     Left(usize),
     Lost(usize),
-    Arrivals(usize),
 }

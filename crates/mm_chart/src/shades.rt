@@ -106,26 +106,9 @@ pub(crate) fn last_steps_of(shades: &[Shade], store: usize) -> [bool; STEP_PLACE
     marks
 }
 
-// Whether it is an inner step of a stretch of the store.
-pub(crate) fn is_inner_of(shades: &[Shade], store: usize, step: u32) -> bool
-    ensures { result ≡ list_any (λ h. (h.store == store) && (nat_le h.first step && nat_lt step h.last)) shades.now }
+// Whether the store has a stretch.
+pub(crate) fn has_stretch(shades: &[Shade], store: usize) -> bool
+    ensures { result ≡ list_any (λ h. h.store == store) shades.now }
 {
-    shades.iter().any(|shade| shade.store == store && (shade.first <= step && step < shade.last))
-}
-
-// Whether it is an inner step of a stretch of a store of the channel.
-pub(crate) fn is_inner_on(shades: &[Shade], channel: u8, step: u32) -> bool
-    ensures { result ≡ list_any (λ h. (nat_le h.first step && nat_lt step h.last) && (h.channel == channel)) shades.now }
-{
-    shades.iter().any(|shade| (shade.first <= step && step < shade.last)
-        && shade.channel == channel)
-}
-
-// Whether it is the last step of a stretch of the store.
-pub(crate) fn is_last_of(shades: &[Shade], store: usize, step: u32) -> bool
-    ensures { result ≡ list_any (λ h. (h.store == store) && (h.last == step)) shades.now }
-{
-    shades
-        .iter()
-        .any(|shade| shade.store == store && shade.last == step)
+    shades.iter().any(|shade| shade.store == store)
 }

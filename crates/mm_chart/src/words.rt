@@ -1,11 +1,10 @@
-//! What a chart says in words: why no plan loses fewer, and what would help.
+//! What a chart says in words: why no plan loses fewer, and what may help.
 ghost use Rattle.std.specs.Prelude.{◌≡◌, ◌<◌, ◌≤◌, ◌^◌, ◌++◌, ◌∷◌, [], IfOk, OnOk, length, codes, flat_map};
 ghost use Rattle.mm_problem.specs.Dumping.{stores};
 ghost use Rattle.mm_cut.specs.declared.verdict.Verdict.TheVariants.{Least};
 ghost use Rattle.mm_chart.specs.Svg.{said, grouped, signed_grouped, closed};
 ghost use Rattle.mm_chart.specs.Words.{why_heading, words_of, at_most, sum_line, leaving, why, stretched, broken, stretched_at, stores_line, help, words, word_lines};
 
-use crate::column::Column;
 use crate::layout::{LINE_PITCH, MARGIN, word_line};
 use crate::marked::push_steps_line;
 use crate::pen::{
@@ -121,7 +120,7 @@ fn push_stretched(text: &mut Vec<u8>, picture: &Picture, store: usize) -> Pushed
     requires { store < length picture.now.problem.rows }
     ensures { OnOk result (text.new.items ≡ text.old.items ++ stretched picture.now store) }
 {
-    if Column::new(picture, Series::Last(store)).total() == 0 {
+    if !picture.has_stretch(store) {
         return Ok(());
     }
     push_said(text, b" ")?;
@@ -211,7 +210,7 @@ fn push_other_words(alloc: Global, text: &mut Vec<u8>, picture: &Picture, bound:
     push_why(alloc, text, picture, number.as_slice())
 }
 
-/// Writes why no plan loses fewer than the cut's bound, and what would help.
+/// Writes why no plan loses fewer than the cut's bound, and what may help.
 #[tactic(auto, unfolding(crate::specs::Words::words_of))]
 pub(crate) fn push_words(alloc: Global, text: &mut Vec<u8>, picture: &Picture) -> Pushed
     ensures { OnOk result (text.new.items ≡ text.old.items ++ words picture.now) }

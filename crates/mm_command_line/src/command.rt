@@ -53,7 +53,8 @@ or one line:
   refused NUMBER NAME ..      a file was not read, or is not what it should be
 
 Option, after the files:
-  --output FILE               the plan text goes into FILE, whole or not at all, and is not printed
+  --output FILE               the plan text goes into FILE, whole or not at all, and is not printed; FILE is
+                              none of the files above
 
 Examples:
   mm_tool plan setup.toml forecast.csv

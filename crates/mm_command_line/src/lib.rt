@@ -10,6 +10,6 @@ mod table;
 mod task;
 mod version;
 
-pub use line::parse;
+pub use line::{has_misplaced_output, parse};
 pub use task::{FileNames, FlightFiles, PlanFiles, Role, Task};
 pub use version::{VERSION, asks_version};

@@ -211,6 +211,19 @@ fn split_output<'a, S: AsStr>(words: &'a [S]) -> (&'a [S], Option<&'a str>)
     }
 }
 
+// Whether a word is meant as the option of an output.
+fn is_output(word: &str) -> bool {
+    word.strip_prefix(OUTPUT)
+        .is_some_and(|rest| rest.is_empty() || rest.starts_with('='))
+        || (word.starts_with("-o") && !word.starts_with("--"))
+}
+
+/// Whether the words have the option of an output where none is read: in one word, in short, or not as the last two words.
+pub fn has_misplaced_output<S: AsStr>(words: &[S]) -> bool {
+    let (words, _) = split_output(words);
+    words.iter().any(|word| is_output(word.as_str()))
+}
+
 /// What the words ask for; the error has the text for the user.
 pub fn parse<'a, S: AsStr>(alloc: Global, words: &'a [S]) -> Result<Task<'a>, Error>
     // Words that spell a task give that task and nothing else.

@@ -13,7 +13,8 @@ Or one line:
   refused NUMBER NAME ..      a file was not read, or is not what it should be
 
 Option, after the files:
-  --output FILE               the table goes into FILE, whole or not at all, and is not printed
+  --output FILE               the table goes into FILE, whole or not at all, and is not printed; FILE is
+                              none of the files above
 
 Example:
   mm_tool table setup.toml forecast.csv plan.txt --output table.csv

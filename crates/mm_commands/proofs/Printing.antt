@@ -1,5 +1,5 @@
 -- What was printed of an answer.
-use Rattle.std.proofs.Common.{◌≡◌, ◌≢◌, ◌⊎◌, List, ℕ, Option, Result, Ok, Err, IfOk, sym, subst, inl, ◌∙◌}
+use Rattle.std.proofs.Common.{◌≡◌, ◌≢◌, ◌⊎◌, List, ℕ, Option, Result, Ok, Err, IfOk, IfSome, sym, subst, inl, ◌∙◌}
 use Rattle.mm_cut.specs.declared.verdict.Verdict.{Verdict}
 use Rattle.mm_cut.specs.declared.verdict.Verdict.TheVariants.{DoesNotFit, LossIs, BadStretch, BadCount, BoundIs, NotShown, Least}
 use Rattle.mm_ask.specs.declared.answering.Outcome.{Outcome as Replied}
@@ -11,19 +11,23 @@ use Rattle.mm_commands.specs.declared.status.Status.{Status}
 use Rattle.mm_commands.specs.declared.status.Status.TheVariants.{BadCommandLine}
 use Rattle.mm_commands.specs.declared.answers.Answer.{Answer}
 use Rattle.mm_command_line.specs.Lines.{output_of}
+use Rattle.mm_command_line.specs.Names.{names_in}
 use Rattle.mm_command_line.specs.declared.task.Task.{Task}
 use Rattle.mm_commands.specs.Contents.{Contents}
-use Rattle.mm_commands.specs.Answers.{AnswersTask, Gives, IsAnswerTo, Prints, output_in, text_in, status_in, status_of, status_of_replies, status_of_run}
+use Rattle.mm_commands.specs.Answers.{AnswersTask, AreOthers, Gives, IsAnswerTo, Prints, output_in, text_in, status_in, status_of, status_of_replies, status_of_run}
 
 -- what answers the task was given, after its files were read
 pub answer-prints : {E : Type 0} (R : Status → Type 0) (old mid new : Contents) (task : Task) (answer : Answer) (before after : Option (List ℕ)) (result : Result Status E)
-    → mid ≡ old → IfOk result (λ status. Gives (output_in answer) (text_in answer) mid new before after) → IfOk result (λ status. status ≡ status_in answer)
+    → mid ≡ old → IfOk result (λ status. Gives (output_in answer) (text_in answer) mid new before after)
+    → IfOk result (λ status. IfSome (output_in answer) (λ name. AreOthers (names_in task) name.now)) → IfOk result (λ status. status ≡ status_in answer)
     → output_in answer ≡ output_of task → IsAnswerTo old task answer → IfOk result (λ status. Prints old new task status before after ⊎ R status)
-answer-prints R old mid new task answer before after (Ok status) same given is output answers =
+answer-prints R old mid new task answer before after (Ok status) same given others is output answers =
     let into : Gives (output_of task) (text_in answer) old new before after =
     subst (λ name. Gives name (text_in answer) old new before after) output (subst (λ known. Gives (output_in answer) (text_in answer) known new before after) same given) in
-    inl (record { text = text_in answer; given = into; answers = subst (λ s. AnswersTask old task s (text_in answer)) (sym is) answers })
-answer-prints R old mid new task answer before after (Err e) same given is output answers = tt
+    let apart : IfSome (output_of task) (λ name. AreOthers (names_in task) name.now) =
+    subst (λ output. IfSome output (λ name. AreOthers (names_in task) name.now)) output others in
+    inl (record { text = text_in answer; given = into; others = apart; answers = subst (λ s. AnswersTask old task s (text_in answer)) (sym is) answers })
+answer-prints R old mid new task answer before after (Err e) same given others is output answers = tt
 
 -- no verdict, no reply and no run ends as a bad command line
 no-bad-verdict : (v : Verdict) → BadCommandLine ≡ status_of v → ⊥

@@ -1,5 +1,5 @@
 -- What answers a task, by what its files hold.
-use Rattle.std.specs.Prelude.{◌≡◌, ℕ, List, Option, Some, None}
+use Rattle.std.specs.Prelude.{◌≡◌, ◌≢◌, ℕ, List, Option, Some, None, IfSome}
 use Rattle.std.specs.Borrow.{Bor}
 use Rattle.std.specs.Io.KnownBytes.{Appends}
 use Rattle.mm_cut.specs.declared.verdict.Verdict.{Verdict}
@@ -25,6 +25,7 @@ use Rattle.mm_commands.specs.declared.answers.Answer.{Answer}
 use Rattle.mm_commands.specs.declared.answers.Answer.TheVariants.{Text, Lines, Line, Run}
 use Rattle.mm_commands.specs.declared.texts.TaskTexts.{TaskTexts}
 use Rattle.mm_command_line.specs.Lines.{output_of}
+use Rattle.mm_command_line.specs.Names.{names_in}
 use Rattle.mm_command_line.specs.declared.task.FileNames.{FileNames}
 use Rattle.mm_command_line.specs.declared.task.PlanFiles.{PlanFiles}
 use Rattle.mm_command_line.specs.declared.task.FlightFiles.{FlightFiles}
@@ -174,8 +175,19 @@ abbrev pub Gives : Option (Bor (List ℕ)) → List ℕ → Contents → Content
 Gives (Some name) text old new before after = IsStored old new name.now text × (after ≡ before)
 Gives None text old new before after = (new ≡ old) × Appends before after text
 
--- the files and a writer had the first of these, and then the second: what was stored or written between answers the task
+-- none of a task's files has this name
+pub record AreOthers (names : FileNames) (name : List ℕ) : Type 0 where
+  pub setup : IfSome names.setup (λ n. n.now ≢ name)
+  pub forecast : IfSome names.forecast (λ n. n.now ≢ name)
+  pub plan : IfSome names.plan (λ n. n.now ≢ name)
+  pub sources : IfSome names.sources (λ n. n.now ≢ name)
+  pub links : IfSome names.links (λ n. n.now ≢ name)
+  pub packets : IfSome names.packets (λ n. n.now ≢ name)
+
+-- the files and a writer had the first of these, and then the second: what was stored or written between answers the task, and
+-- no file that the task reads has the name of its output
 pub record Prints (old new : Contents) (task : Task) (status : Status) (before after : Option (List ℕ)) : Type 0 where
   pub text : List ℕ
   pub given : Gives (output_of task) text old new before after
+  pub others : IfSome (output_of task) (λ name. AreOthers (names_in task) name.now)
   pub answers : AnswersTask old task status text

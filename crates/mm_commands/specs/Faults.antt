@@ -12,6 +12,7 @@ use Rattle.mm_run.specs.declared.fault.Fault.TheVariants as flight
 use Rattle.mm_told.specs.Spots.{spot_in_problem, spot_in_plan, spot_in_texts, fields_text}
 use Rattle.mm_told.specs.declared.spot.Spot.{Spot}
 use Rattle.mm_told.specs.declared.spot.Spot.TheVariants.{Whole}
+use Rattle.mm_commands.specs.FileNames.{shown_name}
 use Rattle.mm_commands.specs.Spots.{spot_in_script}
 use Rattle.mm_commands.specs.declared.fault.Fault.{Fault}
 use Rattle.mm_commands.specs.declared.fault.Fault.TheVariants.{NoMemory, NotRead, Texts, Run, Setup}
@@ -41,7 +42,7 @@ spot_of (Setup fault) = spot_in_problem fault
 
 -- its fields: the name of the file, or the place in it
 abbrev pub fields_of : Fault → List ℕ
-fields_of (NotRead name obstacle) = codes " name " ++ name.now
+fields_of (NotRead name obstacle) = codes " name " ++ shown_name name.now
 fields_of fault = fields_text (spot_of fault)
 
 -- its number, its name and its fields

@@ -5,6 +5,7 @@ pub mod Scripts
 pub mod Statuses
 pub mod Answers
 pub mod Spots
+pub mod FileNames
 pub mod Faults
 pub mod Refusing
 pub mod Doing

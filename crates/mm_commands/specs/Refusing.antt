@@ -19,6 +19,7 @@ use Rattle.mm_commands.specs.declared.status.Status.{Status}
 use Rattle.mm_commands.specs.declared.status.Status.TheVariants.{Refused}
 use Rattle.mm_commands.specs.Answers.{Holds, Of, OfPlan, OfFlight}
 use Rattle.mm_commands.specs.Faults.{refused_line}
+use Rattle.mm_commands.specs.FileNames.{shown_name}
 use Rattle.mm_commands.specs.declared.fault.Fault.{Fault}
 use Rattle.mm_commands.specs.declared.fault.Fault.TheVariants.{NoMemory, NotRead, Texts, Run, Setup}
 use Rattle.mm_command_line.specs.Names.{names_in}
@@ -81,4 +82,4 @@ pub record Refuses (old new : Contents) (task : Task) (status : Status) (before 
 -- the line that says why the program's own input was not read
 abbrev pub refused_input : ReadFault → List ℕ
 refused_input read.NoMemory = codes "refused " ++ refusal_text refusal.NoMemory ++ line_feed ∷ []
-refused_input (read.NotRead obstacle) = codes "refused " ++ refusal_text refusal.NotRead ++ codes " name -" ++ line_feed ∷ []
+refused_input (read.NotRead obstacle) = codes "refused " ++ refusal_text refusal.NotRead ++ codes " name " ++ shown_name (codes "-") ++ line_feed ∷ []

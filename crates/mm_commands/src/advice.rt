@@ -1,6 +1,7 @@
 //! What the program says of a refusal on standard error: which file, where in it, what was expected, and what to do.
 
 use crate::fault::Fault;
+use crate::file_name::Shown;
 use crate::files::Obstacle;
 use crate::spot::InFile;
 use mm_base::{Refusal, Refused};
@@ -61,7 +62,7 @@ impl<'a> Advice<'a> {
 impl fmt::Display for Advice<'_> {
     fn fmt<W: fmt::Write>(&self, f: &mut fmt::Formatter<W>) -> fmt::Result {
         if let Some(file) = self.file {
-            write!(f, "{file}{}: ", InFile(self.spot))?;
+            write!(f, "{}{}: ", Shown(file), InFile(self.spot))?;
         }
         write!(f, "{}", self.why)
     }

@@ -3,10 +3,14 @@ ghost use Rattle.std.specs.Prelude.{◌≡◌, Some};
 ghost use Rattle.mm_commands.specs.Faults.{refusal_of, spot_in_run, spot_of, fault_text};
 ghost use Rattle.mm_commands.specs.declared.fault.Fault.TheVariants.{NoMemory, Texts, Run, Setup};
 
+use crate::file_name::Shown;
 use crate::files::Obstacle;
+use crate::remark::{Found, is_plan_misplaced};
 use crate::spot::spot_in_script;
+use crate::texts::TaskTexts;
 use mm_base::{Refusal, Refused, refusals};
-use mm_told::{Hint, Reason, Spot, Texts, hint_for, spot_in_plan, spot_in_problem, spot_in_texts};
+use mm_command_line::Task;
+use mm_told::{Reason, Spot, hint_for, spot_in_plan, spot_in_problem, spot_in_texts};
 use std::alloc::Global;
 use std::fmt;
 
@@ -88,13 +92,14 @@ impl Fault<'_> {
         }
     }
 
-    /// What is found in these files, if more can be said of the fault.
-    pub(crate) fn hint(self, alloc: Global, texts: Texts<'_>) -> Option<Hint> {
-        let reason = Reason {
-            refusal: self.refusal(),
-            spot: self.spot(),
-        };
-        hint_for(alloc, reason, texts)
+    /// What is found in the files of the task, if more can be said of the fault.
+    pub(crate) fn found(self, alloc: Global, task: Task<'_>, texts: &TaskTexts) -> Option<Found> {
+        let (refusal, spot) = (self.refusal(), self.spot());
+        if is_plan_misplaced(task, refusal, texts) {
+            return Some(Found::PlanMisplaced);
+        }
+        let reason = Reason { refusal, spot };
+        Some(Found::Hint(hint_for(alloc, reason, texts.hinted())?))
     }
 }
 
@@ -105,7 +110,7 @@ impl fmt::Display for Fault<'_> {
         let fault = *self;
         write!(f, "{} {}", fault.number(), fault.name())?;
         match fault {
-            Fault::NotRead { name, .. } => write!(f, " name {name}"),
+            Fault::NotRead { name, .. } => write!(f, " name {}", Shown(name)),
             _ => write!(f, "{}", fault.spot()),
         }
     }

@@ -111,6 +111,8 @@ pub enum StoreFault {
     NoMemory,
     #[error("the files of a script are only read")]
     InScript,
+    #[error("it is a file that the task reads")]
+    IsRead,
     #[error("what has this name is no file, but a folder, a device or a link")]
     NotAFile,
     #[error("its folder is not there")]
@@ -222,6 +224,10 @@ pub trait Files {
         ensures whole { IfOk result (λ text. MayBe (content self.old name.now) text.items) }
         ensures unread { IfErr result (λ fault. IsTrue (is_unread fault) → MayBeUnread (content self.old name.now)) }
         ensures stays { content self.new ≡ content self.old };
+
+    /// Whether both names are known to be of one file. The same name always is.
+    fn is_same_file(&self, one: &str, other: &str) -> bool
+        ensures same { one.now ≡ other.now → IsTrue result };
 
     /// Makes the text the whole file of this name, whether or not there is one. Where it fails, each file is as it was.
     fn store(&mut self, alloc: Global, name: &str, text: &[u8]) -> Result<(), StoreFault>

@@ -4,8 +4,8 @@
 mod advice;
 mod answers;
 mod fault;
+mod file_name;
 mod files;
-mod gathered;
 pub mod laws;
 mod remark;
 mod run;
@@ -18,7 +18,7 @@ mod texts;
 
 pub use fault::Fault;
 pub use files::{Device, Files, Input, MAX_READS, Obstacle, ReadFault, StoreFault, read_to_end};
-pub use run::{refuse_input, run_script, run_tool, run_words};
+pub use run::{refuse_input, refuse_words, run_script, run_tool, run_words};
 pub use script::{ScriptFiles, first_line};
 pub use status::{Status, Unwritten};
 pub use system::SystemFiles;

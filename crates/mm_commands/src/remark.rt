@@ -2,7 +2,7 @@
 
 use crate::advice::Advice;
 use crate::answers::Answer;
-use crate::gathered::Gathered;
+use crate::file_name::Shown;
 use crate::status::Status;
 use crate::texts::TaskTexts;
 use memchr::memmem;
@@ -21,6 +21,13 @@ use std::io::{self, Write};
 
 /// What stands in an answer before the number of a refusal.
 const REFUSED: &[u8] = b" refused ";
+
+/// How many lines are told of each refusal.
+const MOST_TOLD: u8 = 10;
+
+/// What is said of a plan text that stands in front of the other files.
+const PLAN_MISPLACED: &str =
+    "the files are in another order; name the setup first, then the forecast, then the plan";
 
 /// What is said of a verdict that is not `Least`. It is shown in one line: the file of the plan with the place in it, and the words.
 #[derive(Clone, Copy)]
@@ -43,7 +50,7 @@ impl<'a> Remark<'a> {
 
 impl fmt::Display for Remark<'_> {
     fn fmt<W: fmt::Write>(&self, f: &mut fmt::Formatter<W>) -> fmt::Result {
-        write!(f, "{}", self.plan)?;
+        write!(f, "{}", Shown(self.plan))?;
         match self.verdict {
             Verdict::DoesNotFit(step) => write!(f, ", step {step}")?,
             Verdict::BadStretch(place) => write!(f, ", stretch {place}")?,
@@ -109,18 +116,62 @@ struct RefusedIn<'a> {
 
 impl fmt::Display for RefusedIn<'_> {
     fn fmt<W: fmt::Write>(&self, f: &mut fmt::Formatter<W>) -> fmt::Result {
-        write!(f, "{}, {} {}", self.file, self.counted, self.refused)
+        write!(f, "{}, {} {}", Shown(self.file), self.counted, self.refused)
     }
 }
 
-// What is said of a hint.
-#[derive(Clone, Copy)]
-struct Hinted(Hint);
+// How often each refusal was told, by its number, and how many more there were.
+#[derive(Drop)]
+struct Tally {
+    told: [u8; 256],
+    untold: u64,
+}
 
-impl fmt::Display for Hinted {
-    fn fmt<W: fmt::Write>(&self, f: &mut fmt::Formatter<W>) -> fmt::Result {
-        write!(f, "hint: {}", self.0)
+impl Tally {
+    fn new() -> Tally {
+        Tally {
+            told: [0; 256],
+            untold: 0,
+        }
     }
+
+    // Counts the refusal, and says whether it is one of the first `MOST_TOLD`.
+    fn count(&mut self, refusal: Refusal) -> bool {
+        let told = &mut self.told[usize::from(refusal.number())];
+        if *told < MOST_TOLD {
+            *told += 1;
+            return true;
+        }
+        self.untold = self.untold.saturating_add(1);
+        false
+    }
+}
+
+/// What is found in the files of a task. It is shown in one line.
+#[derive(Clone, Copy)]
+pub(crate) enum Found {
+    /// A plan text stands where the setup or the forecast is to stand.
+    PlanMisplaced,
+    Hint(Hint),
+}
+
+impl fmt::Display for Found {
+    fn fmt<W: fmt::Write>(&self, f: &mut fmt::Formatter<W>) -> fmt::Result {
+        match self {
+            Found::PlanMisplaced => write!(f, "hint: {PLAN_MISPLACED}"),
+            Found::Hint(hint) => write!(f, "hint: {hint}"),
+        }
+    }
+}
+
+/// Whether the refusal comes from a plan text that stands where the setup or the forecast of a task with a plan is to stand.
+pub(crate) fn is_plan_misplaced(task: Task<'_>, refusal: Refusal, texts: &TaskTexts) -> bool {
+    let text = match refusal {
+        Refusal::SetupText => &texts.setup,
+        Refusal::Header => &texts.forecast,
+        _ => return false,
+    };
+    task.file(Role::Plan).is_some() && text.starts_with(b"mmplan ")
 }
 
 // The file of packets of a task, and what the numbers that the task prints count there: a report in the file has the number that `ask`
@@ -134,9 +185,16 @@ fn packets_of(task: Task<'_>) -> Option<(&str, &'static str)> {
 }
 
 /// Says what is found, if anything is.
-pub(crate) fn tell_hint<E: Write>(hint: Option<&Hint>, err: &mut E) -> io::Result<()> {
+pub(crate) fn tell_found<E: Write>(found: Option<Found>, err: &mut E) -> io::Result<()> {
+    match found {
+        Some(found) => writeln!(err, "{found}"),
+        None => Ok(()),
+    }
+}
+
+fn tell_hint<E: Write>(hint: Option<Hint>, err: &mut E) -> io::Result<()> {
     match hint {
-        Some(hint) => writeln!(err, "{}", Hinted(*hint)),
+        Some(hint) => tell_found(Some(Found::Hint(hint)), err),
         None => Ok(()),
     }
 }
@@ -152,7 +210,7 @@ fn tell_stop<E: Write>(
 ) -> io::Result<()> {
     let hint = hint_of_run(alloc, refusal, end, texts);
     writeln!(err, "{}", Advice::of_run(task, refusal, hint.as_ref()))?;
-    tell_hint(hint.as_ref(), err)
+    tell_hint(hint, err)
 }
 
 // Says what a verdict means that is not `Least`.
@@ -167,7 +225,7 @@ fn tell_verdict<E: Write>(
         writeln!(err, "{remark}")?;
     }
     match verdict {
-        Verdict::DoesNotFit(step) => tell_hint(fit_hint(alloc, texts, step).as_ref(), err),
+        Verdict::DoesNotFit(step) => tell_hint(fit_hint(alloc, texts, step), err),
         _ => Ok(()),
     }
 }
@@ -210,7 +268,17 @@ fn tell_notes<E: Write>(
     Ok(())
 }
 
-// Says what each line means that is refused.
+// Says what a line means that is refused, and what is found in it.
+fn tell_line<E: Write>(
+    told: RefusedIn<'_>,
+    hints: &mut RequestHints<'_>,
+    err: &mut E,
+) -> io::Result<()> {
+    writeln!(err, "{told}")?;
+    tell_hint(told.refused.hint(hints), err)
+}
+
+// Says what the lines mean that are refused: of each refusal the first `MOST_TOLD`, and then how many more there are.
 fn tell_refused<E: Write>(
     task: Task<'_>,
     requests: &[u8],
@@ -221,23 +289,29 @@ fn tell_refused<E: Write>(
         return Ok(());
     };
     let mut hints = RequestHints::new(requests);
-    let mut gathered = Gathered::new();
+    let mut tally = Tally::new();
     let mut rest = lines;
     while let Some((line, after)) = first_line(rest) {
         if let Some(refused) = Refused::of(line) {
-            let told = RefusedIn {
-                file,
-                counted,
-                refused,
-            };
-            gathered.add(&told, err)?;
-            if let Some(hint) = refused.hint(&mut hints) {
-                gathered.add(&Hinted(hint), err)?;
+            if tally.count(refused.refusal) {
+                let told = RefusedIn {
+                    file,
+                    counted,
+                    refused,
+                };
+                tell_line(told, &mut hints, err)?;
             }
         }
         rest = after;
     }
-    gathered.give(err)
+    match tally.untold {
+        0 => Ok(()),
+        untold => writeln!(
+            err,
+            "{}: more of the same refusals: {untold}; standard output has them all",
+            Shown(file)
+        ),
+    }
 }
 
 /// Says more of an answer: what it means where something is refused, a verdict is not `Least`, or a run did not begin or was halted; and of a

@@ -10,16 +10,18 @@ use crate::script::{ScriptFiles, first_line};
 use crate::status::{Status, Unwritten};
 use crate::tasks::{self, do_task};
 use clap::error::ErrorKind;
-use mm_command_line::{VERSION, asks_version, parse};
+use mm_command_line::{VERSION, asks_version, has_misplaced_output, parse};
 use std::alloc::{AllocError, Global};
 use std::convert::AsStr;
-use std::io::Write;
+use std::io::{self, Write};
 use std::sync::Wait;
 use std::thread::Threads;
 
-// What is said of a bad command line that has the word `--output`.
-const OUTPUT_HINT: &str =
-    "hint: --output FILE stands last, after the files of plan, chart or table";
+// What is said of an output that is not read as one.
+const OUTPUT_MISPLACED: &str = "\
+error: --output FILE stands last, as two words, after the files of plan, chart or table, and with no -- before it
+
+For more information, try '--help'.";
 
 /// Does what the words of a command line, without the program's own name, ask for. What answers the task goes to `out`, or into the file of
 /// its output. The line that says why it is refused goes to `out`, and so does the version. The texts of a bad command line and of help go
@@ -47,22 +49,24 @@ pub fn run_words<R: Threads + Wait + Sync, S: AsStr, F: Files, W: Write, E: Writ
         Err(error) if error.kind() == ErrorKind::OutOfMemory => {
             tasks::refuse_input(ReadFault::NoMemory, out, err)
         }
-        Err(error) => refuse_words(&error, words, err),
+        Err(error) => refuse_bad_words(&error, words, err),
     }
 }
 
 // Says what is wrong with words that spell no task, or the help that they ask for.
-fn refuse_words<S: AsStr, E: Write>(
+fn refuse_bad_words<S: AsStr, E: Write>(
     error: &clap::Error,
     words: &[S],
     err: &mut E,
 ) -> Result<Status, Unwritten>
     ensures status { IfOk result (λ status. status ≡ BadCommandLine) }
 {
-    write!(err, "{error}").map_err(|_| Unwritten::Messages)?;
-    if words.iter().any(|word| word.as_str() == "--output") {
-        writeln!(err, "{OUTPUT_HINT}").map_err(|_| Unwritten::Messages)?;
-    }
+    let said = if error.kind() == ErrorKind::UnknownArgument && has_misplaced_output(words) {
+        writeln!(err, "{OUTPUT_MISPLACED}")
+    } else {
+        write!(err, "{error}")
+    };
+    said.map_err(|_| Unwritten::Messages)?;
     Ok(Status::BadCommandLine)
 }
 
@@ -102,6 +106,29 @@ pub fn run_tool<R: Threads + Wait + Sync, S: AsStr, F: Files, W: Write, E: Write
     end(run, err)
 }
 
+// Says why no words are read, and gives the exit status.
+fn refuse_line<E: Write>(why: &str, err: &mut E) -> u8
+    ensures refused { result ≢ 0 }
+    ensures status { result ≤ 2 }
+{
+    match writeln!(err, "error: {why}") {
+        Ok(()) => Status::BadCommandLine.code(),
+        Err(_) => Status::Refused.code(),
+    }
+}
+
+/// Says why the words of a command line were not read, as the error tells, and gives the exit status: 2, or 1 where a write failed.
+pub fn refuse_words<E: Write>(error: &io::Error, err: &mut E) -> u8
+    ensures refused { result ≢ 0 }
+    ensures status { result ≤ 2 }
+{
+    let why = match error.kind() {
+        io::ErrorKind::OutOfMemory => "there is no memory for the words of the command line",
+        _ => "the words of the command line are not UTF-8",
+    };
+    refuse_line(why, err)
+}
+
 /// Runs the program on a script: a first line with the words, separated by single spaces, and then the files.
 pub fn run_script<R: Threads + Wait + Sync, W: Write, E: Write>(
     rt: &R,
@@ -118,10 +145,7 @@ pub fn run_script<R: Threads + Wait + Sync, W: Write, E: Write>(
 {
     let (line, files) = first_line(script);
     let Ok(line) = std::str::from_utf8(line) else {
-        return match err.write_all(b"error: the first line of the script is not UTF-8\n") {
-            Ok(()) => Status::BadCommandLine.code(),
-            Err(_) => Status::Refused.code(),
-        };
+        return refuse_line("the first line of the script is not UTF-8", err);
     };
     let words: Vec<&str> = match words_of(alloc, line) {
         Ok(words) => words,

@@ -111,6 +111,10 @@ impl Files for ScriptFiles<'_> {
         Vec::from_slice(alloc, text).map_err(|_| ReadFault::NoMemory)
     }
 
+    fn is_same_file(&self, one: &str, other: &str) -> bool {
+        one == other
+    }
+
     fn store(&mut self, _alloc: Global, _name: &str, _text: &[u8]) -> Result<(), StoreFault> {
         Err(StoreFault::InScript)
     }

@@ -17,10 +17,10 @@ impl fmt::Display for InFile {
             Spot::Line(line) => write!(f, ", line {line}"),
             Spot::Row(row) => write!(f, ", row {row}"),
             Spot::Cell { row, column } => write!(f, ", row {row}, column {column}"),
-            Spot::Key { row: 0, name } => write!(f, ", at the top, {name}"),
+            Spot::Key { row: 0, name } => write!(f, ", at the top, {}", said(name)),
             Spot::Key { row, name } => match array_of(name) {
                 Some(array) => write!(f, ", table {row} of {array}, {name}"),
-                None => write!(f, ", table {row}, {name}"),
+                None => write!(f, ", table {row}, {}", said(name)),
             },
             Spot::Number(name) => write!(f, ", {name}"),
         }
@@ -34,6 +34,15 @@ fn array_of(name: Name) -> Option<Name> {
         Name::Apid | Name::Service | Name::Subtype => Some(Name::Route),
         Name::Blocks => Some(Name::Limit),
         _ => None,
+    }
+}
+
+// A name as people read it: `unknown` and `repeated` are no keys.
+fn said(name: Name) -> &'static str {
+    match name {
+        Name::Unknown => "a key that cannot be there",
+        Name::Repeated => "a table that comes twice",
+        key => key.text(),
     }
 }
 

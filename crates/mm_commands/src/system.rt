@@ -7,6 +7,7 @@ use crate::files::{Device, Files, ReadFault, StoreFault, read_to_end};
 use std::alloc::Global;
 use std::fs::{self, File, OpenFile, Permissions};
 use std::io::{self, ErrorKind, Read, Write};
+use std::os::unix::fs::MetadataExt;
 use std::rt;
 
 // Reads what was opened to its end.
@@ -30,6 +31,14 @@ fn permissions_of<R: rt::Files>(
         Ok(_) => Err(StoreFault::NotAFile),
         Err(error) if error.kind() == ErrorKind::NotFound => Ok(None),
         Err(error) => Err(StoreFault::of(&error)),
+    }
+}
+
+// Whether two names are known to lead to one file.
+fn are_of_one_file<R: rt::Files>(runtime: &R, one: &str, other: &str) -> bool {
+    match (fs::metadata(runtime, one), fs::metadata(runtime, other)) {
+        (Ok(one), Ok(other)) => one.dev() == other.dev() && one.ino() == other.ino(),
+        _ => false,
     }
 }
 
@@ -81,6 +90,10 @@ impl<R: rt::Files> Files for SystemFiles<'_, R> {
 
     fn read(&mut self, alloc: Global, name: &str) -> Result<Vec<u8>, ReadFault> {
         read_opened(alloc, fs::open(self.runtime, name))
+    }
+
+    fn is_same_file(&self, one: &str, other: &str) -> bool {
+        one == other || are_of_one_file(self.runtime, one, other)
     }
 
     // The text is written to a new file, which then takes the name in one step. So the file of the name is the old one or the new one,

@@ -1,9 +1,9 @@
 //! A task is done: what answers it goes to one writer or into a file, and what is said of it to another writer.
-ghost use Rattle.std.specs.Prelude.{◌≡◌, ◌≢◌, ◌⊎◌, IfOk, IfErr};
+ghost use Rattle.std.specs.Prelude.{◌≡◌, ◌≢◌, ◌⊎◌, IfOk, IfErr, IfSome, IsFalse};
 ghost use Rattle.std.specs.Io.KnownBytes.{Appends};
 ghost use Rattle.mm_commands.specs.declared.status.Status.TheVariants.{Refused, BadCommandLine};
 ghost use Rattle.mm_command_line.specs.Names.{names_in};
-ghost use Rattle.mm_commands.specs.Answers.{Gives, HoldsTexts, Prints, output_in, status_in, text_in};
+ghost use Rattle.mm_commands.specs.Answers.{AreOthers, Gives, HoldsTexts, Prints, output_in, status_in, text_in};
 ghost use Rattle.mm_commands.specs.Contents.{IsStored};
 ghost use Rattle.mm_commands.specs.Faults.{refused_line};
 ghost use Rattle.mm_commands.specs.Refusing.{Refuses, refused_input};
@@ -11,12 +11,12 @@ ghost use Rattle.mm_commands.specs.Refusing.{Refuses, refused_input};
 use crate::advice::Advice;
 use crate::answers::{Answer, answer_to};
 use crate::fault::Fault;
-use crate::files::{Files, ReadFault};
-use crate::remark::{tell_hint, tell_more};
+use crate::file_name::Shown;
+use crate::files::{Files, ReadFault, StoreFault};
+use crate::remark::{Found, tell_found, tell_more};
 use crate::status::{Status, Unwritten};
 use crate::texts::TaskTexts;
-use mm_command_line::Task;
-use mm_told::Hint;
+use mm_command_line::{FileNames, Task};
 use std::alloc::Global;
 use std::io::{self, Write};
 use std::sync::Wait;
@@ -26,7 +26,7 @@ use std::thread::Threads;
 fn refuse<'a, W: Write, E: Write>(
     task: Option<Task<'a>>,
     fault: Fault<'a>,
-    hint: Option<Hint>,
+    found: Option<Found>,
     out: &mut W,
     err: &mut E,
 ) -> Result<Status, Unwritten>
@@ -35,7 +35,7 @@ fn refuse<'a, W: Write, E: Write>(
 {
     writeln!(out, "refused {fault}").map_err(|_| Unwritten::Output)?;
     writeln!(err, "{}", Advice::of_fault(task, fault)).map_err(|_| Unwritten::Messages)?;
-    tell_hint(hint.as_ref(), err).map_err(|_| Unwritten::Messages)?;
+    tell_found(found, err).map_err(|_| Unwritten::Messages)?;
     Ok(Status::Refused)
 }
 
@@ -58,23 +58,53 @@ pub fn refuse_input<W: Write, E: Write>(
     refuse(None, fault, None, out, err)
 }
 
-// Stores the text in the file of this name; standard error has its name where that fails.
+// Whether the file of this name is known to be that of an input, where one is named.
+fn is_that<F: Files>(files: &F, input: Option<&str>, name: &str) -> bool
+    ensures other { IsFalse result → IfSome input.entry (λ input. input.now ≢ name.now) }
+{
+    match input {
+        Some(input) => files.is_same_file(input, name),
+        None => false,
+    }
+}
+
+// Whether the file of this name is known to be one of these inputs.
+fn is_among<F: Files>(files: &F, inputs: FileNames<'_>, name: &str) -> bool
+    ensures others { IsFalse result → AreOthers inputs.entry name.now }
+{
+    is_that(files, inputs.setup, name)
+        || is_that(files, inputs.forecast, name)
+        || is_that(files, inputs.plan, name)
+        || is_that(files, inputs.sources, name)
+        || is_that(files, inputs.links, name)
+        || is_that(files, inputs.packets, name)
+}
+
+// Stores the text in the file of this name, which must be none of the inputs; standard error has its name where that fails.
 fn store<F: Files, E: Write>(
     alloc: Global,
     files: &mut F,
+    inputs: FileNames<'_>,
     name: &str,
     text: &[u8],
     err: &mut E,
 ) -> Result<(), Unwritten>
+    ensures others { IfOk result (λ _. AreOthers inputs.entry name.now) }
     ensures stored { IfOk result (λ _. IsStored (F.content files.old) (F.content files.new) name.now text.now) }
     ensures kept { IfErr result (λ _. F.content files.new ≡ F.content files.old) }
 {
-    match files.store(alloc, name, text) {
+    let stored = if is_among(files, inputs, name) {
+        Err(StoreFault::IsRead)
+    } else {
+        files.store(alloc, name, text)
+    };
+    match stored {
         Ok(()) => Ok(()),
         Err(fault) => {
             writeln!(
                 err,
-                "mm_tool: {name} could not be written, and is as it was: {fault}"
+                "mm_tool: {} could not be written, and is as it was: {fault}",
+                Shown(name)
             )
             .map_err(|_| Unwritten::Messages)?;
             Err(Unwritten::File)
@@ -110,6 +140,8 @@ fn give<F: Files, W: Write, E: Write>(
 ) -> Result<Status, Unwritten>
     ensures given { IfOk result (λ status. Gives (output_in answer.now) (text_in answer.now)
         (F.content files.old) (F.content files.new) (W.contents out.old) (W.contents out.new)) }
+    // A text goes into no file that the task reads.
+    ensures others { IfOk result (λ status. IfSome (output_in answer.now) (λ name. AreOthers (names_in task.entry) name.now)) }
     ensures status { IfOk result (λ status. status ≡ status_in answer.now) }
     ensures kept { IfErr result (λ _. F.content files.new ≡ F.content files.old) }
 {
@@ -119,7 +151,7 @@ fn give<F: Files, W: Write, E: Write>(
             output: Some(name),
         } => {
             tell_more(alloc, task, answer, texts, err).map_err(|_| Unwritten::Messages)?;
-            store(alloc, files, *name, text, err)?;
+            store(alloc, files, task.names(), *name, text, err)?;
         }
         _ => {
             print(answer, out).map_err(|_| Unwritten::Output)?;
@@ -149,8 +181,8 @@ fn do_with<R: Threads + Wait + Sync, F: Files, W: Write, E: Write>(
     match answer_to(rt, alloc, task, texts) {
         Ok(answer) => give(alloc, task, &answer, texts, files, out, err),
         Err(fault) => {
-            let hint = fault.hint(alloc, texts.hinted());
-            refuse(Some(task), fault, hint, out, err)
+            let found = fault.found(alloc, task, texts);
+            refuse(Some(task), fault, found, out, err)
         }
     }
 }

@@ -3,9 +3,8 @@ ghost use Rattle.std.specs.Prelude.{◌≡◌, ℕ, ◌+◌, ◌*◌, ◌<◌, �
 ghost use Rattle.mm_base.specs.declared.limits.TheConstants.{MAX_STORES, MAX_STEPS, MAX_BLOCKS, CHANNELS};
 ghost use Rattle.mm_problem.specs.Dumping.{IsDumping};
 ghost use Rattle.mm_cut.specs.Stretches.{is_inner_on, IsStretch};
-ghost use Rattle.mm_cut.specs.Cuts.{opening, coming, coming_sum, held_sum, limit_sum, counts_window, counts_limits, windows_sum, limits_sum, IsCut, bound};
+ghost use Rattle.mm_cut.specs.Cuts.{opening, coming, coming_sum, held_sum, limit_sum, windows_sum, limits_sum, IsCut, bound};
 
-use crate::counts::{is_inner, is_listed};
 use crate::marks::Marks;
 use crate::stretches::{channel_of, goes_past, store_of};
 use mm_base::{CHANNELS, MAX_STEPS, MAX_STORES};
@@ -42,15 +41,6 @@ fn coming(problem: &Problem, stretch: &Stretch) -> u64
     coming
 }
 
-/// Whether a step is inner in some stretch of a store of the channel.
-fn is_inner_on(problem: &Problem, stretches: &[Stretch], step: u32, channel: u8) -> bool
-    requires { All (IsStretch problem.now) stretches.now }
-    ensures { result ≡ is_inner_on problem.now stretches.now step channel }
-{
-    stretches.iter().any(|stretch| goes_past(step, stretch)
-        && channel_of(problem, stretch) == channel)
-}
-
 // The channels of the stores that are inner in the step.
 fn inner_channels(problem: &Problem, stretches: &[Stretch], step: u32) -> [bool; CHANNELS]
     requires { All (IsStretch problem.now) stretches.now }
@@ -83,22 +73,6 @@ fn limit_sum(problem: &Problem, stretches: &[Stretch], step: u32) -> u64
         }
     }
     sum
-}
-
-/// Whether a step counts by its window: it is an inner step of some stretch, and not counted by channels.
-#[must_use]
-pub fn counts_window(stretches: &[Stretch], counts: &[u32], step: u32) -> bool
-    ensures { result ≡ counts_window stretches.now counts.now step }
-{
-    is_inner(stretches, step) && !is_listed(counts, step)
-}
-
-/// Whether a step counts by the limits of channels.
-#[must_use]
-pub fn counts_limits(stretches: &[Stretch], counts: &[u32], step: u32) -> bool
-    ensures { result ≡ counts_limits stretches.now counts.now step }
-{
-    is_inner(stretches, step) && is_listed(counts, step)
 }
 
 // What may leave in the steps that count by their windows.

@@ -11,7 +11,7 @@ mod marks;
 mod stretches;
 mod verdict;
 
-pub use bounds::{Parts, bound, counts_limits, counts_window, parts_of};
+pub use bounds::{Parts, bound, parts_of};
 pub use check::{check_bytes, read_sheet, read_texts, verdict_of};
 pub use counts::{first_bad_count, is_inner};
 pub use fault::Fault;

@@ -6,3 +6,4 @@ pub mod Lone
 pub mod Keeping
 pub mod Answering
 pub mod Foreseeing
+pub mod FateLemmas

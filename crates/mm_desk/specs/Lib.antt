@@ -12,3 +12,4 @@ pub mod Agreeing
 pub mod Offers
 pub mod Orders
 pub mod Passes
+pub mod Fates

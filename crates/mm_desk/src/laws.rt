@@ -1,6 +1,7 @@
 //! Laws of the store machine, over the definitions alone.
 ghost use Rattle.std.specs.Prelude.{◌≡◌};
 ghost use Rattle.mm_desk.specs.declared.desk.TheConstants.{MAX_SEATS};
+ghost use Rattle.mm_desk.specs.Fates.{ConservePackets, GiveWhatIsKnown, GiveInOrder};
 ghost use Rattle.mm_desk.specs.Laws.{KeepBalance, KeepStates, ReplaysKeepStates, OffersLeave, ShufflesLoseAlike, OrdersDumpTheOldest, LoneSeatsAreLogs};
 
 use mm_store::laws::{stores_lose_alike, stores_stay_stores};
@@ -26,6 +27,18 @@ pub fn events_keep_a_state()
 pub fn any_order_loses_alike()
     ensures leaves { OffersLeave }
     ensures alike { ShufflesLoseAlike }
+{}
+
+/// No packet is lost uncounted, and none is invented: over any events from any state, in either kind of store, each packet that was
+/// held or offered and not refused is deleted, held or given up. What was given up the counter of losses tells.
+pub fn events_conserve_packets()
+    ensures law { ConservePackets }
+{}
+
+/// A retrieval gives what was held or offered before, and its packets have rising times: none comes twice.
+pub fn retrievals_give_in_order()
+    ensures known { GiveWhatIsKnown }
+    ensures rising { GiveInOrder }
 {}
 
 /// A whole dump order gives and deletes the oldest packets: as many as it wants, or all that are held.

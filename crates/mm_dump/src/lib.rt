@@ -15,4 +15,4 @@ mod worst;
 pub use link::{Link, SendFailed, may_fail};
 pub use memory_link::{MemoryLink, TakenPacket};
 pub use order::{Order, OrderBroken};
-pub use step::{Dumped, dump};
+pub use step::{Dumped, dump, read_states};

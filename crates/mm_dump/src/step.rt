@@ -1,5 +1,5 @@
 //! A step's dump: workers carry out the orders of one queue, over any number of stores.
-ghost use Rattle.std.specs.Prelude.{◌≡◌, ◌+◌, ◌<◌, ◌≤◌, ◌^◌, length, map, sum_by, All, IfNone, IfOk, OnErr, vec_len};
+ghost use Rattle.std.specs.Prelude.{◌≡◌, ◌+◌, ◌<◌, ◌≤◌, ◌^◌, [], length, map, sum_by, All, None, IfNone, Ok, IfOk, OnErr, vec_len};
 ghost use Rattle.crossbeam_queue.specs.Passes.{view, IsPassOf};
 ghost use Rattle.mm_base.specs.declared.limits.TheConstants.{MAX_STORES};
 ghost use Rattle.mm_desk.specs.declared.desk.TheConstants.{MAX_SEATS};
@@ -94,8 +94,8 @@ fn join_passes(queue: &OrderQueue, pass: &mut OrderPass, workers: Vec<DumpWorker
     }
 }
 
-// Reads each store, which shows that it is sound.
-fn read_states(stores: &[Held])
+/// Reads each store, which shows that it is sound.
+pub fn read_states(stores: &[Held])
     ensures { All (λ h. IsState h.state) stores.now }
 {
     for held in stores {
@@ -156,7 +156,7 @@ fn dump_orders<L: Link + Send, R: Threads + Wait + Sync>(
 /// until none is left, and sends the packets of each before it deletes them. A worker whose order breaks takes no further one, and
 /// the others go on. A store is locked during a call on it and not during a send. The stores and the links are lent: each store is
 /// in its place again afterwards. Where there is no memory for the queue, the workers and the shared stores, nothing is begun. Without
-/// orders no worker is needed, and no memory is taken.
+/// orders no worker is needed.
 pub fn dump<L: Link + Send, R: Threads + Wait + Sync>(
     rt: &R,
     alloc: Global,
@@ -181,6 +181,9 @@ pub fn dump<L: Link + Send, R: Threads + Wait + Sync>(
     // Where there was no memory.
     ensures stores_same { OnErr result (stores.new.items ≡ stores.old.items) }
     ensures links_same { OnErr result (links.new ≡ links.old) }
+    // Without orders it is never out of memory, and nothing is done.
+    ensures without_orders { orders.now ≡ [] → (result ≡ Ok (record { broken = None; spent = 0 }))
+        × (stores.new.items ≡ stores.old.items) × (links.new ≡ links.old) }
 {
     if orders.is_empty() {
         read_states(stores);

@@ -1,17 +1,20 @@
--- Draws from a window that is not passed.
+-- What is given in a step that a plan fits, and draws from its window, which is not passed.
 use Rattle.std.proofs.Common.{◌≡◌, ◌⊎◌, inl, inr, ℕ, ◌+◌, ◌<◌, ◌≤◌, cond, eqb, List, [], ◌∷◌, length, get_or, All, refl, sym, ap, ◌∙◌, arith}
 use Rattle.std.specs.List.{sum_by, count_by, range_with_len}
 use Rattle.std.proofs.lemmas.Bool.{cases_lt}
 use Rattle.mm_base.proofs.Tests.{cond-eqb_same, cond-eqb_other}
-use Rattle.mm_base.proofs.RangeSums.{sum_by_range_one, sum_by_range_same, sum_by_range-le}
+use Rattle.mm_base.proofs.RangeSums.{sum_by_filter_range-le, sum_by_range_one, sum_by_range_same, sum_by_range-le}
 use Rattle.mm_base.proofs.Sums.{sum_by-swap, sum_by-same, sum_by_ones}
-use Rattle.mm_problem.specs.Dumping.{Dumping, window}
+use Rattle.mm_problem.specs.Dumping.{Dumping, is_of, window}
 use Rattle.mm_plan.specs.Fit.{FitsAt, in_step}
 use Rattle.mm_plan.specs.Volumes.{Amounts}
 use Rattle.mm_store.specs.declared.stored.Stored.{Stored}
 use Rattle.mm_desk.specs.declared.entry.Entry.{Entry}
+use Rattle.mm_desk.specs.declared.held.Held.{Held}
 use Rattle.mm_exec.specs.StepRuns.{IsDumpOf}
 use Rattle.mm_exec.specs.Draws.{AreDrawsOf, MeetNoRefusal}
+use Rattle.mm_exec.specs.RunInput.{RunInput, place_in_memory}
+use Rattle.mm_exec.specs.Steps.{AreStepRuns, sent_amounts}
 
 -- draws that the window has room for meet no refusal
 with_room : (window drawn : ℕ) (draws : List ℕ) → drawn + length draws ≤ window → MeetNoRefusal window drawn draws
@@ -39,6 +42,20 @@ given_within wanted gave calls is = by_wanted (cases_lt 0 wanted)
     by_wanted (inl some) = (is.whole (omega arith)).1.most
     by_wanted (inr none) = let nothing = ap length (is.none (omega arith)).0 in omega (arith, nothing)
 
+-- amounts that are no larger fit where a plan does
+fits_less : (q : Dumping) (x y : Amounts) (t : ℕ) → FitsAt q x t → ((s : ℕ) → s < length q.rows → y s t ≤ x s t) → FitsAt q y t
+fits_less q x y t fits less = record {
+  windowed = omega (arith, sum_by_range-le (in_step y t) (in_step x t) 0 (length q.rows) (λ s from to. less s (omega arith)), fits.windowed);
+  limited = λ c b is. omega (arith, sum_by_filter_range-le (is_of q c) (in_step y t) (in_step x t) 0 (length q.rows) (λ s from to. less s (omega arith)), fits.limited c b is);
+}
+
+-- what was sent in a whole step fits
+pub whole_fits : (m : RunInput) (steps : ℕ) (stores : ℕ → List Held) (gave : ℕ → ℕ → List Stored) → AreStepRuns m steps stores gave
+    → (t : ℕ) → 1 ≤ t → t ≤ steps → FitsAt m.problem m.amounts t → FitsAt m.problem (sent_amounts m gave) t
+whole_fits m steps stores gave are t first last fits =
+    fits_less m.problem m.amounts (sent_amounts m gave) t fits
+    (λ s store. let run = are.runs s t store first last in given_within (m.amounts s t) (gave (place_in_memory m s) t) run.dumped run.dump)
+
 -- the draws of a step that a plan fits meet no refusal
 pub no_refusal : (q : Dumping) (x : Amounts) (t : ℕ) (gave : ℕ → List Stored) (calls : ℕ → List Entry) (draws : List ℕ)
     → FitsAt q x t → ((s : ℕ) → s < length q.rows → IsDumpOf (x s t) (gave s) (calls s)) → AreDrawsOf (length q.rows) gave draws
@@ -47,5 +64,6 @@ no_refusal q x t gave calls draws fits orders are =
     let n = length q.rows in
     let many = by_store n draws are.known in
     let one_each = sum_by_range_same (λ s. count_by (λ d. eqb d s) draws) (λ s. length (gave s)) 0 n (λ s from to. are.one_each s (omega arith)) in
-    let most = sum_by_range-le (λ s. length (gave s)) (in_step x t) 0 n (λ s from to. given_within (x s t) (gave s) (calls s) (orders s (omega arith))) in
-    with_room (window q t) 0 draws (omega (arith, many, one_each, most, fits.windowed))
+    let given : sum_by (λ s. length (gave s)) (range_with_len 0 n) ≤ window q t =
+    (fits_less q x (λ s u. length (gave s)) t fits (λ s store. given_within (x s t) (gave s) (calls s) (orders s store))).windowed in
+    with_room (window q t) 0 draws (omega (arith, many, one_each, given))

@@ -21,3 +21,4 @@ pub mod Failing
 pub mod Halts
 pub mod Ended
 pub mod Headline
+pub mod AccountLemmas

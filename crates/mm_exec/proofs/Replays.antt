@@ -36,11 +36,6 @@ IsRun-append s mid t es fs first second = record {
   leaves = second.leaves ∙ ap (λ (u : State). replay u fs) first.leaves ∙ sym (replay-append s es fs);
 }
 
--- what holds of a list holds of its first part
-pub All-front : {X : Type 0} (P : X → Type 0) (xs ys : List X) → All P (xs ++ ys) → All P xs
-All-front P [] ys all = All-nil P
-All-front P (x ∷ xs) ys all = All-cons P x xs (All-head P x (xs ++ ys) all) (All-front P xs ys (All-tail P x (xs ++ ys) all))
-
 -- what holds of a mapped list
 pub All-unmapped : {X Y : Type 0} (P : Y → Type 0) (f : X → Y) (xs : List X) → All P (map f xs) → All (λ x. P (f x)) xs
 All-unmapped P f [] all = All-nil (λ x. P (f x))

@@ -7,6 +7,7 @@ use Rattle.std.proofs.lemmas.List.{length-map, get_or-map, get_or_default, appen
 use Rattle.std.proofs.lemmas.List.FromFn.{length-map-range_with_len}
 use Rattle.std.proofs.lemmas.List.Folds.{find_at}
 use Rattle.std.proofs.lemmas.List.Sums.{fails_before_first, passes_at_first, prefix_len-le-length}
+use Rattle.std.proofs.lemmas.List.Sorted.{IsPermutation-refl}
 use Rattle.std.proofs.lemmas.List.Elements.{All-cons, All-from_get_or, All-map, All-nil}
 use Rattle.std.proofs.lemmas.Option.{slice_get-get_or}
 use Rattle.std.proofs.lemmas.Slice.Eq.{bytes_eq-Decides}
@@ -32,7 +33,7 @@ use Rattle.mm_exec.specs.declared.requirement.Requirement.{Requirement}
 use Rattle.mm_exec.specs.declared.requirement.Requirement.TheVariants.{Ready, Size, Opening}
 use Rattle.mm_exec.specs.Readiness.{RunStart, run_start, MayBegin, AllMeet, NoneUnknown, is_unknown, meets, meets_at, AreCounts}
 use Rattle.mm_exec.proofs.Replays.{All-unmapped}
-use Rattle.mm_exec.specs.Laws.{RunsLoseAsPlanned}
+use Rattle.mm_exec.specs.Laws.{RunsLoseAsPlanned, RunsLoseNoPacketUncounted}
 use Rattle.mm_exec.specs.AsPlanned.{IsReady}
 use Rattle.mm_exec.specs.declared.room.RunBuffers.{RunBuffers}
 use Rattle.mm_exec.specs.Places.{IsPlaceOf, ArePlaces}
@@ -226,6 +227,7 @@ done_first gives sent failed m now report stores is = record {
     lists = λ l within. sym (append-nil (slice_index_or (map sent now.links) l []));
     no_failure = refl;
   };
+  accounted = λ s store. record { lost = []; packets = IsPermutation-refl _; counted = omega arith; rising = λ t first last. absurd (omega arith) };
   report_is = is;
   counted =
       subst (λ (held : List Held). AreByCounters m held report.steps) (sym stores)
@@ -292,18 +294,18 @@ still_room failed links links_left same room =
 
 -- a step carried out after those before it
 pub done_at : {S L : Type 0} (gives : S → ℕ → List SpacePacket) (sent : L → List Sent) (failed : L → ℕ) (m : RunInput) (sources : List S) (links : List L) (places : List ℕ)
-    → Footing gives m sources places → RunsLoseAsPlanned → (t : ℕ) → 1 ≤ t → t ≤ length m.problem.windows → (before after : RunState S L) (report new : Reported)
+    → Footing gives m sources places → RunsLoseAsPlanned → RunsLoseNoPacketUncounted → (t : ℕ) → 1 ≤ t → t ≤ length m.problem.windows → (before after : RunState S L) (report new : Reported)
     → StepsDone gives sent failed m sources links (t - 1) before report
     → StepDone gives sent failed (recording t (m.base + t) m.memory.routes before.stores) (orders_of m.amounts places t (length m.problem.rows)) before after
     → new ≡ record report { steps = report.steps ++ row_from m.problem t places before.stores after.stores (length m.problem.rows) ∷ [] }
     → StepsDone gives sent failed m sources links (t + 1 - 1) after new
-done_at gives sent failed m sources links places footing law t first last before after report new done stepped is =
+done_at gives sent failed m sources links places footing law counts t first last before after report new done stepped is =
     let same : t ≡ suc (t - 1) = omega arith in
     let then : suc (t - 1) ≡ t + 1 - 1 = omega arith in
     let step = subst (λ (u : ℕ). StepDone gives sent failed (recording u (m.base + u) m.memory.routes before.stores) (orders_of m.amounts places u (length m.problem.rows)) before after) same stepped in
     let row = subst (λ (u : ℕ). new ≡ record report { steps = report.steps ++ row_from m.problem u places before.stores after.stores (length m.problem.rows) ∷ [] }) same is in
     subst (λ (u : ℕ). StepsDone gives sent failed m sources links u after new) then
-    (done_on gives sent failed m sources links places footing (t - 1) before after report done step law (omega arith) new row)
+    (done_on gives sent failed m sources links places footing (t - 1) before after report done step law counts (omega arith) new row)
 
 -- the next step may be carried out and reported
 pub may_report : {S L : Type 0} (gives : S → ℕ → List SpacePacket) (sent : L → List Sent) (failed : L → ℕ) (q : Dumping) (plan : Table) (base : ℕ) (memory : Holdings)
@@ -359,10 +361,10 @@ pub early_at : (base t n : ℕ) → base ≤ LATEST_START → t ≤ n → n ≤ 
 early_at base t n first last few = omega arith
 
 -- counts that are far from their end as a run begins
-pub far_first : {S : Type 0} (gives : S → ℕ → List SpacePacket) (sources : List S) (stores : List Held) (base : ℕ) → IsEarly stores base → AreWithinLimits gives stores sources
+pub far_first : {S : Type 0} (gives : S → ℕ → List SpacePacket) (steps : ℕ) (sources : List S) (stores : List Held) (base : ℕ) → IsEarly stores base → AreWithinLimits gives steps stores sources
     → AllFar (bound_at 0) stores
-far_first gives sources stores base early far k d inside =
-    let offered = (far 0).offered k d inside in
+far_first gives steps sources stores base early far k d inside =
+    let offered = far.offered k d inside in
     let last = early.last_times k d inside in
     record { offered = omega (arith, offered); last = omega (arith, last) }
 

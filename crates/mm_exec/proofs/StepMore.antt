@@ -31,7 +31,7 @@ use Rattle.mm_report.specs.Report.{Reported}
 use Rattle.mm_exec.proofs.Replays.{All-unmapped}
 use Rattle.mm_exec.specs.StepRuns.{IsStepRun}
 use Rattle.mm_exec.specs.AsPlanned.{IsReady, AsPlanned}
-use Rattle.mm_exec.specs.Laws.{IsRunOf, RunsLoseAsPlanned}
+use Rattle.mm_exec.specs.Laws.{IsRunOf, RunsLoseAsPlanned, RunsLoseNoPacketUncounted}
 use Rattle.mm_exec.specs.Places.{ArePlaces, AreApart}
 use Rattle.mm_exec.specs.RunInput.{RunInput, step_of, offered, as_came, place_in_memory, store_state, step_orders}
 use Rattle.mm_record.specs.Counters.{counters_of}
@@ -308,7 +308,7 @@ module _ {S L : Type 0} (gives : S → ℕ → List SpacePacket) (sent : L → L
             ap (λ (u : ℕ). length (took_after u)) same ∙ ap length (extend-here (suc k) stepped.places done.links_are.took)
             ∙ took_now.many ∙ links_many
 
-    module _ (law : RunsLoseAsPlanned) (within : suc k ≤ length m.problem.windows) where
+    module _ (law : RunsLoseAsPlanned) (counts : RunsLoseNoPacketUncounted) (within : suc k ≤ length m.problem.windows) where
       -- the steps so far are a run of the plan, with what came in place of the forecast
       run_of : IsRunOf (as_came m) m.amounts (suc k) (offered m) (λ s t. gave_after (place_in_memory m s) t) (λ s t. store_state m (stores_after t) s)
       run_of = record {
@@ -384,6 +384,7 @@ module _ {S L : Type 0} (gives : S → ℕ → List SpacePacket) (sent : L → L
         stores_are = sym at_new;
         sources_are = given_on;
         links_are = sent_on;
+        accounted = counts (as_came m) m.amounts (suc k) (offered m) (λ s t. gave_after (place_in_memory m s) t) (λ s t. store_state m (stores_after t) s) run_of;
         report_is =
             is ∙ ap (λ (r : Reported). record r { steps = r.steps ++ row_from m.problem (suc k) places before.stores after.stores n ∷ [] }) done.report_is
             ∙ ap (λ (rows : List (List StepCounts)). record { ids = map (λ r. r.id) m.problem.rows; most = length m.problem.windows; steps = rows }) rows_more;

@@ -3,6 +3,7 @@ use Rattle.std.proofs.Common.{◌≡◌, ◌⊎◌, inl, inr, ℕ, zero, suc, �
 use Rattle.std.specs.Prelude.{None, Ok, Some}
 use Rattle.std.proofs.lemmas.Bool.{cases_lt}
 use Rattle.std.proofs.lemmas.List.Elements.{All-nil, All-cons, All-head, All-tail, All-append, All-weaker}
+use Rattle.mm_base.proofs.Pairs.{All-front}
 use Rattle.mm_problem.specs.Dumping.{Dumping, size, arrivals}
 use Rattle.mm_plan.specs.Volumes.{Amounts, left, written, lost}
 use Rattle.mm_plan.proofs.Steps.{left_step, left_start}
@@ -22,7 +23,7 @@ use Rattle.mm_exec.specs.StepRuns.{IsDumpOf, IsStepRun, AreTimed, IsBy}
 use Rattle.mm_exec.proofs.Offers.{by_offer}
 use Rattle.mm_exec.specs.AsPlanned.{AtEach, AsPlanned}
 use Rattle.mm_exec.specs.Laws.{IsRunOf, StepRunsKeepStores}
-use Rattle.mm_exec.proofs.Replays.{IsLegal-parts, replay-append, All-front, shuffled, timed_log}
+use Rattle.mm_exec.proofs.Replays.{IsLegal-parts, replay-append, shuffled, timed_log}
 use Rattle.mm_exec.proofs.Times.{log_last}
 
 -- the time of the packet given last is no later than that of any
@@ -182,10 +183,10 @@ module _ (leave : OffersLeave) (keep : ReplaysKeepStates) (dump : OrdersDumpTheO
       }
 
   -- a store after some steps
-  record Stands (q : Dumping) (x : Amounts) (s t : ℕ) (state : State) : Type 0 where
-    sound : IsState state
-    sized : state.store.size ≡ size q s
-    holds : length state.store.content ≡ left q x s t
+  pub record Stands (q : Dumping) (x : Amounts) (s t : ℕ) (state : State) : Type 0 where
+    pub sound : IsState state
+    pub sized : state.store.size ≡ size q s
+    pub holds : length state.store.content ≡ left q x s t
 
   -- one step more
   stands_more : (q : Dumping) (x : Amounts) (s t : ℕ) (before after : State) (n : ℕ) → 1 ≤ t → Stands q x s (t - 1) before → arrivals q s t ≡ n
@@ -221,7 +222,7 @@ module _ (leave : OffersLeave) (keep : ReplaysKeepStates) (dump : OrdersDumpTheO
       (run_leaves (states s (t - 1)) (states s t) (offers s t) (x s t) (gave s t) stood.sound (is.timed s t store first last) (is.runs s t store first last))
 
   -- all steps
-  stands : (q : Dumping) (x : Amounts) (steps : ℕ) (offers : ℕ → ℕ → List (List Event)) (gave : ℕ → ℕ → List Stored) (states : ℕ → ℕ → State)
+  pub stands : (q : Dumping) (x : Amounts) (steps : ℕ) (offers : ℕ → ℕ → List (List Event)) (gave : ℕ → ℕ → List Stored) (states : ℕ → ℕ → State)
       → IsRunOf q x steps offers gave states → (s n : ℕ) → s < length q.rows → n ≤ steps → Stands q x s n (states s n)
   stands q x steps offers gave states is s zero store within =
       let ready = is.ready s store in

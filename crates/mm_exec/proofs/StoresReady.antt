@@ -6,6 +6,7 @@ use Rattle.std.proofs.lemmas.Bool.{cases_lt, cond_both}
 use Rattle.std.proofs.lemmas.List.{length-map, get_or-map}
 use Rattle.std.proofs.lemmas.List.Elements.{All-nil, All-cons, All-head, All-tail, All-map}
 use Rattle.std.proofs.lemmas.List.Sums.{length-filter, count_by-le-length, sum_by-cons}
+use Rattle.mm_base.proofs.Pairs.{All-front}
 use Rattle.mm_packet.specs.Packet.{SpacePacket}
 use Rattle.mm_store.specs.Content.{clock_end}
 use Rattle.mm_desk.specs.declared.entry.Entry.{Entry}
@@ -34,7 +35,7 @@ use Rattle.mm_report.specs.declared.cause.Cause.{Cause}
 use Rattle.mm_exec.specs.Laws.{StepRunsKeepStores}
 use Rattle.mm_exec.specs.StepRuns.{IsBy, AreBy, KeepsStore}
 use Rattle.mm_exec.proofs.Offers.{by_offer}
-use Rattle.mm_exec.proofs.Replays.{All-front, shuffled}
+use Rattle.mm_exec.proofs.Replays.{shuffled}
 use Rattle.mm_exec.specs.Halts.{AreFirstOffers}
 use Rattle.mm_exec.specs.Step.{RunState, AreReady, MayCarry, StepRecorded, StepDone, OutOfMemory, RecordersBroke, OrdersBroke, StepBroke}
 use Rattle.mm_exec.proofs.Firsts.{first_turns}

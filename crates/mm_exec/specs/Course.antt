@@ -8,7 +8,7 @@ use Rattle.mm_desk.specs.declared.held.Held.{Held}
 use Rattle.mm_desk.specs.Machine.{IsState}
 use Rattle.mm_memory.specs.Holdings.{AreHeld}
 use Rattle.mm_record.specs.Recorded.{recording}
-use Rattle.mm_record.specs.Steps.{IsWithinLimits}
+use Rattle.mm_record.specs.Steps.{AreFew}
 use Rattle.mm_dump.specs.Dumped.{amount_of}
 use Rattle.mm_dump.specs.Sending.{Sent}
 use Rattle.mm_report.specs.declared.cause.Cause.{Cause}
@@ -90,6 +90,7 @@ abbrev pub IsEnded : {S L : Type 0} → (S → ℕ → List SpacePacket) → (L 
 IsEnded gives sent failed m plan before after stopped =
     (RunHalted gives sent failed m before after stopped × MayBegin (run_start_of m plan before)) ⊎ NeverBegan (run_start_of m plan before) before after stopped
 
--- in each step each source gives at most 65,535 packets, and no store was offered more than 2^63 packets before the run
-abbrev pub AreWithinLimits : {S : Type 0} → (S → ℕ → List SpacePacket) → List Held → List S → Type 0
-AreWithinLimits gives stores sources = (step : ℕ) → IsWithinLimits gives step stores sources
+-- in each of this many steps each source gives at most 65,535 packets, and no store was offered more than 2^63 packets before the first
+pub record AreWithinLimits {S : Type 0} (gives : S → ℕ → List SpacePacket) (steps : ℕ) (stores : List Held) (sources : List S) : Type 0 where
+  pub few : (step : ℕ) → 1 ≤ step → step ≤ steps → AreFew gives step sources
+  pub offered : All (λ h. h.state.offered ≤ 2 ^ 63) stores

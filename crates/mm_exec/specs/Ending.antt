@@ -43,7 +43,7 @@ abbrev pub state_left : {S L : Type 0} → Holdings → Halted S L → RunState 
 state_left memory halted = record { stores = memory.stores; sources = halted.sources.items; links = halted.links.items }
 
 -- the tests before a run passed, and the run was halted in a step: those before it are carried out, and the report is theirs. The memory
--- has its stores in their order, each sound and ready for more, and its routes; each source keeps the rest of what it gave in the step, and no more was drawn
+-- has its stores in their order, each sound and ready for more, and its routes; each source keeps the rest of what it gave in the step, and no more was spent
 -- in it than its window
 pub record IsHaltedIn {S L : Type 0} (gives : S → ℕ → List SpacePacket) (sent : L → List Sent) (failed : L → ℕ) (m : RunInput) (plan : Table) (sources : List S)
     (links : List L) (memory : Holdings) (step : ℕ) (halted : Halted S L) : Type 0 where

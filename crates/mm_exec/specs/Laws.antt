@@ -1,5 +1,5 @@
 -- Laws of whole runs.
-use Rattle.std.specs.Prelude.{◌≡◌, ℕ, ◌+◌, ◌-◌, ◌<◌, ◌^◌, List, length}
+use Rattle.std.specs.Prelude.{◌≡◌, ℕ, ◌+◌, ◌-◌, ◌<◌, ◌≤◌, ◌^◌, List, length}
 use Rattle.std.specs.List.{sum_by}
 use Rattle.mm_problem.specs.Dumping.{Dumping, arrivals, window, stores}
 use Rattle.mm_plan.specs.Fit.{FitsAt}
@@ -7,12 +7,16 @@ use Rattle.mm_plan.specs.Volumes.{Amounts, loss}
 use Rattle.mm_store.specs.declared.stored.Stored.{Stored}
 use Rattle.mm_desk.specs.declared.entry.Entry.{Entry}
 use Rattle.mm_desk.specs.declared.event.Event.{Event}
+use Rattle.mm_desk.specs.declared.held.Held.{Held}
 use Rattle.mm_desk.specs.Machine.{State, IsState}
 use Rattle.mm_desk.specs.Offers.{AreTaken, IsShuffleOfEvents, count_of}
 use Rattle.mm_desk.specs.Runs.{IsRun}
 use Rattle.mm_exec.specs.StepRuns.{IsDumpOf, IsStepRun, AreTimed, AreBy, KeepsStore}
+use Rattle.mm_exec.specs.Accounts.{IsAccounted}
 use Rattle.mm_exec.specs.AsPlanned.{AtEach, IsReady, AsPlanned}
 use Rattle.mm_exec.specs.Draws.{AreDrawsOf, MeetNoRefusal}
+use Rattle.mm_exec.specs.RunInput.{RunInput}
+use Rattle.mm_exec.specs.Steps.{AreStepRuns, sent_amounts}
 
 -- a run of a plan over its first steps: the stores begin ready, in each step a step run leads each store from the state that the
 -- step before left to the next, and what comes in the problem is what is offered
@@ -44,8 +48,19 @@ RunsLoseThePlansLoss = (q : Dumping) (x : Amounts) (offers : ℕ → ℕ → Lis
     → IsRunOf q x (length q.windows) offers gave states
     → sum_by (λ s. (states s (length q.windows)).lost) (stores q) ≡ sum_by (λ s. (states s 0).lost) (stores q) + loss q x
 
--- where a plan fits a step, the draws of the step's orders meet no refusal, in whatever order they come
+-- where the plan fits a step of a run that was carried out whole, what was sent in it fits too: no more than the window, and of each channel no
+-- more than its limit
+abbrev pub WholeStepsFit : Type 0
+WholeStepsFit = (m : RunInput) (steps : ℕ) (stores : ℕ → List Held) (gave : ℕ → ℕ → List Stored) → AreStepRuns m steps stores gave
+    → (t : ℕ) → 1 ≤ t → t ≤ steps → FitsAt m.problem m.amounts t → FitsAt m.problem (sent_amounts m gave) t
+
+-- where a plan fits a step, draws of one block for each packet that the step's orders are given meet no refusal, in whatever order they come
 abbrev pub DrawsMeetNoRefusal : Type 0
 DrawsMeetNoRefusal = (q : Dumping) (x : Amounts) (t : ℕ) (gave : ℕ → List Stored) (calls : ℕ → List Entry) (draws : List ℕ)
     → FitsAt q x t → ((s : ℕ) → s < length q.rows → IsDumpOf (x s t) (gave s) (calls s)) → AreDrawsOf (length q.rows) gave draws
     → MeetNoRefusal (window q t) 0 draws
+
+-- each store of a run is accounted for, packet by packet
+abbrev pub RunsLoseNoPacketUncounted : Type 0
+RunsLoseNoPacketUncounted = (q : Dumping) (x : Amounts) (steps : ℕ) (offers : ℕ → ℕ → List (List Event)) (gave : ℕ → ℕ → List Stored) (states : ℕ → ℕ → State)
+    → IsRunOf q x steps offers gave states → (s : ℕ) → s < length q.rows → IsAccounted steps (offers s) (gave s) (states s)

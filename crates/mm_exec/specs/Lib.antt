@@ -2,6 +2,7 @@ pub use Rattle.mm_report.specs.Cause
 pub mod StepRuns
 pub mod AsPlanned
 pub mod Draws
+pub mod Accounts
 pub mod Laws
 pub mod Readiness
 pub mod Places

@@ -112,7 +112,7 @@ abbrev pub dump_cause : ℕ → OrderBroken → Cause
 dump_cause step broken.LinkFailed = LinkFailed step
 dump_cause step broken.NoMemory = NoMemory step
 
--- orders broke: which course each order took, what each link sent and how often it failed, how much was drawn in all, that no link lost
+-- orders broke: which course each order took, what each link sent and how often it failed, how much was spent in all, that no link lost
 -- what it had sent before, and the cause is that of the worst
 pub record OrdersBroke {L : Type 0} (sent : L → List Sent) (failed : L → ℕ) (step : ℕ) (orders : List Order) (stores : List Held) (links : List L)
     (stores_left : List Held) (links_left : List L) (cause : Cause) (spent : ℕ) : Type 0 where

@@ -2,6 +2,7 @@
 use Rattle.std.specs.Prelude.{◌≡◌, ℕ, ◌-◌, ◌<◌, ◌≤◌, List, [], ◌++◌, length, map, flat_map, sum_by, slice_index_or, All}
 use Rattle.std.specs.List.{range_with_len}
 use Rattle.mm_packet.specs.Packet.{SpacePacket}
+use Rattle.mm_plan.specs.Volumes.{Amounts}
 use Rattle.mm_store.specs.declared.stored.Stored.{Stored}
 use Rattle.mm_desk.specs.declared.held.Held.{Held}
 use Rattle.mm_shared.specs.Stores.{labels_of, id_at}
@@ -10,6 +11,7 @@ use Rattle.mm_dump.specs.Sending.{Sent, all_sent}
 use Rattle.mm_dump.specs.Dumped.{times, places_of}
 use Rattle.mm_report.specs.Report.{Reported}
 use Rattle.mm_exec.specs.StepRuns.{IsStepRun}
+use Rattle.mm_exec.specs.Accounts.{IsAccounted}
 use Rattle.mm_exec.specs.AsPlanned.{AtEach}
 use Rattle.mm_exec.specs.RunInput.{RunInput, offered, as_came, place_in_memory, store_state, step_orders}
 use Rattle.mm_exec.specs.Numbers.{report_of, AreByCounters}
@@ -42,6 +44,10 @@ pub record LinksSent {L : Type 0} (sent : L → List Sent) (failed : L → ℕ) 
       ≡ slice_index_or (map sent before) l [] ++ flat_map (λ t. sent_in m gave t (slice_index_or (took t) l [])) (range_with_len 1 steps)
   pub no_failure : map failed after ≡ map failed before
 
+-- how many packets the order of each store was given in each step, as amounts of a plan
+abbrev pub sent_amounts : RunInput → (ℕ → ℕ → List Stored) → Amounts
+sent_amounts m gave s t = length (gave (place_in_memory m s) t)
+
 -- the first steps of a run are carried out: the stores, the sources and the links are as they leave them, and the report has the numbers
 -- of the plan, with what came in place of the forecast, and those of the stores' counters
 pub record StepsDone {S L : Type 0} (gives : S → ℕ → List SpacePacket) (sent : L → List Sent) (failed : L → ℕ) (m : RunInput) (sources : List S) (links : List L)
@@ -53,5 +59,8 @@ pub record StepsDone {S L : Type 0} (gives : S → ℕ → List SpacePacket) (se
   pub stores_are : after.stores ≡ stores steps
   pub sources_are : SourcesGave gives steps sources after.sources
   pub links_are : LinksSent sent failed m steps gave links after.links
+  -- of each store of the problem, what became of its packets: what the links sent is what its orders were given
+  pub accounted : (s : ℕ) → s < length m.problem.rows
+      → IsAccounted steps (offered m s) (gave (place_in_memory m s)) (λ t. store_state m (stores t) s)
   pub report_is : report ≡ report_of m.problem (as_came m) m.amounts steps
   pub counted : AreByCounters m after.stores report.steps

@@ -9,7 +9,7 @@ ghost use Rattle.mm_exec.specs.RunInput.{run_input};
 ghost use Rattle.mm_exec.specs.Step.{run_state, AreReady, StepDone, StepBroke, NeverRefused};
 ghost use Rattle.mm_exec.specs.Course.{MayReport, MayRun, RunDone, RunHalted, AreWithinLimits};
 
-use crate::laws::{runs_lose_as_planned, step_runs_keep_stores};
+use crate::laws::{runs_lose_as_planned, runs_lose_no_packet_uncounted, step_runs_keep_stores};
 use crate::orders::list_orders;
 use crate::places::places_of;
 use crate::room::RunBuffers;
@@ -112,9 +112,11 @@ pub(crate) fn carry_steps<S: Source + Send, L: Link + Send, R: Threads + Wait + 
     ensures halted { IfErr result (RunHalted S.gives L.sent L.failed
         (run_input S.gives run.now.problem.now run.now.plan.now run.now.base (record { stores = stores.old.items; routes = run.now.control.now }) sources.old)
         (run_state stores.old sources.old links.old) (run_state stores.new sources.new links.new)) }
-    ensures far { AreWithinLimits S.gives stores.old.items sources.old → IfErr result (λ stopped. NeverRefused stopped.broken.cause) }
+    ensures far { AreWithinLimits S.gives (length run.now.problem.now.windows) stores.old.items sources.old
+        → IfErr result (λ stopped. NeverRefused stopped.broken.cause) }
 {
     runs_lose_as_planned();
+    runs_lose_no_packet_uncounted();
     step_runs_keep_stores();
     let all = places_of(run.problem, stores);
     let places = &all[..run.problem.stores()];

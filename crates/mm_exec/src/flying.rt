@@ -1,5 +1,5 @@
 //! A run that begins with its plan.
-ghost use Rattle.std.specs.Prelude.{◌-◌, ◌<◌, ◌^◌, ◌⊎◌, All, IfOk, IfErr};
+ghost use Rattle.std.specs.Prelude.{◌-◌, ◌<◌, ◌^◌, ◌⊎◌, All, length, IfOk, IfErr};
 ghost use Rattle.mm_exec.specs.Flying.{Flies, FliesNot, HasNoPlan};
 ghost use Rattle.mm_exec.specs.Step.{NeverRefused};
 ghost use Rattle.mm_exec.specs.Course.{AreWithinLimits};
@@ -35,7 +35,8 @@ pub fn fly<S: Source + Send + Drop, L: Link + Send + Drop, R: Threads + Wait + S
     ensures not_flown { IfErr result (λ ended. FliesNot S.gives L.sent L.failed problem.now base memory.old sources.items links.items memory.new ended
         ⊎ HasNoPlan memory.old sources.items links.items memory.new ended) }
     // Where counts are far from their end, no store refuses a packet.
-    ensures far { AreWithinLimits S.gives memory.old.stores sources.items → IfErr result (λ ended. NeverRefused ended.halted.cause) }
+    ensures far { AreWithinLimits S.gives (length problem.now.windows) memory.old.stores sources.items
+        → IfErr result (λ ended. NeverRefused ended.halted.cause) }
 {
     let Ok(PrintedPlan { sheet, text }) = print_plan(alloc, problem) else {
         return Err(FlyHalted {

@@ -1,10 +1,12 @@
 //! Laws of runs, over the definitions alone, and the number of this crate's constant.
 ghost use Rattle.std.specs.Prelude.{◌≡◌};
-ghost use Rattle.mm_exec.specs.Laws.{RunsLoseAsPlanned, RunsLoseThePlansLoss, HalvesMakeStepRuns, StepRunsKeepStores, DrawsMeetNoRefusal};
+ghost use Rattle.mm_exec.specs.Laws.{RunsLoseAsPlanned, RunsLoseThePlansLoss, RunsLoseNoPacketUncounted, HalvesMakeStepRuns, StepRunsKeepStores, WholeStepsFit, DrawsMeetNoRefusal};
 ghost use Rattle.mm_exec.specs.Halts.{BrokenStepsAreLogs};
 ghost use Rattle.mm_exec.specs.declared.readiness.TheConstants.{MAX_LINKS};
 
-use mm_desk::laws::{any_order_loses_alike, events_keep_a_state, orders_dump_the_oldest};
+use mm_desk::laws::{
+    any_order_loses_alike, events_conserve_packets, events_keep_a_state, orders_dump_the_oldest,
+};
 use mm_dump::Link;
 use mm_record::Source;
 
@@ -25,6 +27,18 @@ pub fn runs_lose_as_planned()
     orders_dump_the_oldest();
 }
 
+/// In step runs of whole orders no packet is lost uncounted, none is invented and none is given twice: of each store, what stood in it and
+/// what was offered to it is what its orders were given, what it holds, and the lost, as many as its counter says. What an order was
+/// given has rising times.
+pub fn runs_lose_no_packet_uncounted()
+    ensures law { RunsLoseNoPacketUncounted }
+{
+    any_order_loses_alike();
+    events_conserve_packets();
+    events_keep_a_state();
+    orders_dump_the_oldest();
+}
+
 /// Offers that a store takes, in any order that keeps each recorder's own, and then a dump make a step run.
 pub fn halves_make_step_runs()
     ensures law { HalvesMakeStepRuns }
@@ -40,8 +54,13 @@ pub fn step_runs_keep_stores()
     orders_dump_the_oldest();
 }
 
-/// Where the plan fits a step's window, none of the step's draws is refused, whatever their order: one draw of one block for each
-/// packet that an order was given.
+/// In each whole step of a run no more was sent than the window, and of each channel no more than its limit.
+pub fn whole_steps_fit()
+    ensures law { WholeStepsFit }
+{}
+
+/// Where the plan fits a step's window, draws of one block for each packet that an order was given are never refused, whatever their
+/// order. No run draws: this is for a caller that keeps a pass book.
 pub fn draws_meet_no_refusal()
     ensures law { DrawsMeetNoRefusal }
 {}

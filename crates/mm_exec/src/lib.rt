@@ -18,7 +18,7 @@ mod step_counts;
 pub use flying::fly;
 pub use laws::{
     broken_steps_are_logs, draws_meet_no_refusal, halves_make_step_runs, runs_lose_as_planned,
-    step_runs_keep_stores,
+    step_runs_keep_stores, whole_steps_fit,
 };
 pub use mm_dump::{Link, SendFailed};
 pub use mm_record::{RecordHalted, Recorded, RecordedStep, Source, record_step};

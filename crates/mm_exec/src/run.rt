@@ -12,10 +12,9 @@ use crate::readiness::ready;
 use crate::room::reserve_run;
 use crate::run_end::{Halted, RunEnd};
 use crate::step::StepBroken;
-use crate::step_counts::read_states;
 use mm_desk::Held;
-use mm_dump::Link;
 use mm_dump::laws::broken_orders_change_nothing;
+use mm_dump::{Link, read_states};
 use mm_memory::Memory;
 use mm_memory::laws::identifiers_decide_what_is_restored;
 use mm_plan::Plan;
@@ -57,7 +56,8 @@ fn carry_plan<S: Source + Send, L: Link + Send, R: Threads + Wait + Sync>(
     ensures ended { IfErr result (IsEnded S.gives L.sent L.failed
         (run_input S.gives run.now.problem.now run.now.plan.now run.now.base (record { stores = stores.old.items; routes = run.now.control.now }) sources.old)
         run.now.plan.now (run_state stores.old sources.old links.old) (run_state stores.new sources.new links.new)) }
-    ensures far { AreWithinLimits S.gives stores.old.items sources.old → IfErr result (λ stopped. NeverRefused stopped.broken.cause) }
+    ensures far { AreWithinLimits S.gives (length run.now.problem.now.windows) stores.old.items sources.old
+        → IfErr result (λ stopped. NeverRefused stopped.broken.cause) }
 {
     let many_sources = sources.len();
     let many_links = links.len();
@@ -97,7 +97,8 @@ pub fn carry_out<S: Source + Send + Drop, L: Link + Send + Drop, R: Threads + Wa
     ensures halted { IfErr result (IsHalted S.gives L.sent L.failed
         (run_input S.gives problem.now plan.now base memory.old sources.items) plan.now sources.items links.items memory.new) }
     // Where counts are far from their end, no store refuses a packet.
-    ensures far { AreWithinLimits S.gives memory.old.stores sources.items → IfErr result (λ halted. NeverRefused halted.cause) }
+    ensures far { AreWithinLimits S.gives (length problem.now.windows) memory.old.stores sources.items
+        → IfErr result (λ halted. NeverRefused halted.cause) }
 {
     identifiers_decide_what_is_restored();
     broken_orders_change_nothing();

@@ -11,8 +11,8 @@ pub struct RunEnd<S: Drop, L: Drop> {
     pub links: Vec<L>,
 }
 
-/// What a run that was halted leaves: why, the report of the whole steps before, how many blocks were drawn from the window of
-/// the step in which it was halted, its sources and its links.
+/// What a run that was halted leaves: why, the report of the whole steps before, how many blocks of the window of the step in
+/// which it was halted were spent, its sources and its links.
 #[derive(Drop)]
 pub struct Halted<S: Drop, L: Drop> {
     pub cause: Cause,

@@ -16,7 +16,7 @@ use std::alloc::Global;
 use std::sync::Wait;
 use std::thread::Threads;
 
-/// A step that was broken off: why, and how many blocks were drawn from its window.
+/// A step that was broken off: why, and how many blocks of its window were spent.
 #[derive(Clone, Copy)]
 pub(crate) struct StepBroken {
     pub(crate) cause: Cause,

@@ -1,7 +1,6 @@
 //! What a step brings to the stores, by their counters.
 ghost use Rattle.std.specs.Prelude.{◌≡◌, ◌<◌, ◌≤◌, length, slice_index, All};
 ghost use Rattle.mm_base.specs.declared.limits.TheConstants.{MAX_STORES};
-ghost use Rattle.mm_desk.specs.Machine.{IsState};
 ghost use Rattle.mm_desk.specs.Runs.{opening_at};
 ghost use Rattle.mm_shared.specs.Stores.{states_of};
 ghost use Rattle.mm_exec.specs.Numbers.{counts_from, AreCounters, AreStepCounts};
@@ -12,15 +11,6 @@ use mm_problem::Problem;
 use mm_record::Counters;
 use mm_report::StepCounts;
 use mm_store::PacketStore;
-
-// Reads each store, which shows that it is sound.
-pub(crate) fn read_states(stores: &[Held])
-    ensures { All (λ h. IsState h.state) stores.now }
-{
-    for held in stores {
-        held.state.store();
-    }
-}
 
 // The state of the store at a place.
 fn state_at(stores: &[Held], place: usize) -> &StoreState

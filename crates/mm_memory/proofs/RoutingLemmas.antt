@@ -17,7 +17,7 @@ use Rattle.mm_memory.specs.declared.tally.Tally.{Tally}
 use Rattle.mm_memory.specs.Tallies.{nothing, plus}
 use Rattle.mm_memory.specs.Holdings.{Holdings}
 use Rattle.mm_memory.specs.Recording.{is_routed, packet_for, after_offers, after_offer, tally_over, tally_in, after_record, tally_after}
-use Rattle.mm_memory.specs.Routing.{rows_for, leads_to, lead_to_any, packet_along, passed}
+use Rattle.mm_memory.specs.Routing.{rows_for, leads_to, packet_along, passed}
 
 -- an element passes two tests where one that passes the first passes the second
 any-both : {X : Type 0} (p q : X → Bool) (xs : List X) → list_any (λ x. p x && q x) xs ≡ list_any q (filter p xs)
@@ -53,40 +53,38 @@ pub tally_along : (now : ℕ) (routes : List RouteRow) (p : SpacePacket) (stores
 tally_along now routes p [] = refl
 tally_along now routes p (h ∷ hs) = rw (along routes p h, tally_along now routes p hs) refl
 
--- a test that none of a list passes is not passed by its first, nor by the others
-none_first : (a b : Bool) → (a || b) ≡ false → a ≡ false
-none_first false b e = refl
-none_first true b e = e
-
-none_others : (a b : Bool) → (a || b) ≡ false → b ≡ false
-none_others false b e = e
-none_others true false e = refl
-none_others true true e = e
+-- where all stores are passed by, no row leads to the first, and all others are passed by
+all_passed : (rows : List RouteRow) (h : Held) (hs : List Held) → passed rows (h ∷ hs) ≡ length (h ∷ hs) → (leads_to rows h.id ≡ false) × (passed rows hs ≡ length hs)
+all_passed rows h hs all = by_test (leads_to rows h.id) all
+  where
+    by_test : (b : Bool) → cond (not b) (1 + passed rows hs) 0 ≡ length (h ∷ hs) → (b ≡ false) × (passed rows hs ≡ length hs)
+    by_test true e = absurd (omega (arith, e))
+    by_test false e = (refl, omega (arith, e))
 
 -- stores to which no row leads stay as they are
-pub after_none : (now : ℕ) (rows : List RouteRow) (p : SpacePacket) (stores : List Held) → lead_to_any rows stores ≡ false
+pub after_none : (now : ℕ) (rows : List RouteRow) (p : SpacePacket) (stores : List Held) → passed rows stores ≡ length stores
     → after_offers now (packet_along rows p) stores ≡ stores
-after_none now rows p [] none = refl
-after_none now rows p (h ∷ hs) none =
-    let first : leads_to rows h.id ≡ false = none_first (leads_to rows h.id) (lead_to_any rows hs) none in
-    rw first (ap (λ (xs : List Held). h ∷ xs) (after_none now rows p hs (none_others (leads_to rows h.id) (lead_to_any rows hs) none)))
+after_none now rows p [] all = refl
+after_none now rows p (h ∷ hs) all =
+    let none = all_passed rows h hs all in
+    rw none.0 (ap (λ (xs : List Held). h ∷ xs) (after_none now rows p hs none.1))
 
 -- and nothing becomes of the packet
-pub tally_none : (now : ℕ) (rows : List RouteRow) (p : SpacePacket) (stores : List Held) → lead_to_any rows stores ≡ false
+pub tally_none : (now : ℕ) (rows : List RouteRow) (p : SpacePacket) (stores : List Held) → passed rows stores ≡ length stores
     → tally_over now (packet_along rows p) stores ≡ nothing
-tally_none now rows p [] none = refl
-tally_none now rows p (h ∷ hs) none =
-    let first : leads_to rows h.id ≡ false = none_first (leads_to rows h.id) (lead_to_any rows hs) none in
-    rw first (ap (plus nothing) (tally_none now rows p hs (none_others (leads_to rows h.id) (lead_to_any rows hs) none)))
+tally_none now rows p [] all = refl
+tally_none now rows p (h ∷ hs) all =
+    let none = all_passed rows h hs all in
+    rw none.0 (ap (plus nothing) (tally_none now rows p hs none.1))
 
 -- no row leads anywhere
-pub lead_nowhere : (stores : List Held) → lead_to_any [] stores ≡ false
+lead_nowhere : (stores : List Held) → passed [] stores ≡ length stores
 lead_nowhere [] = refl
-lead_nowhere (h ∷ hs) = lead_nowhere hs
+lead_nowhere (h ∷ hs) = omega (arith, lead_nowhere hs)
 
-pub empty_leads : (rows : List RouteRow) (stores : List Held) → (length rows == 0) ≡ true → lead_to_any rows stores ≡ false
+pub empty_leads : (rows : List RouteRow) (stores : List Held) → (length rows == 0) ≡ true → passed rows stores ≡ length stores
 empty_leads rows stores empty =
-    ap (λ (rs : List RouteRow). lead_to_any rs stores) (nil_from_length rows (eqb-true (length rows) 0 empty)) ∙ lead_nowhere stores
+    ap (λ (rs : List RouteRow). passed rs stores) (nil_from_length rows (eqb-true (length rows) 0 empty)) ∙ lead_nowhere stores
 
 -- the memory whose stores were offered a packet along its rows
 pub recorded_along : (now : ℕ) (p : SpacePacket) (m : Holdings) (rows : List RouteRow) (new : List Held) → rows ≡ rows_for m.routes p → new ≡ after_offers now (packet_along rows p) m.stores
@@ -101,20 +99,20 @@ told_along now p m rows tally is told =
     told ∙ ap (λ (rs : List RouteRow). tally_over now (packet_along rs p) m.stores) is ∙ tally_along now m.routes p m.stores
 
 -- the memory after a packet of which no row leads to a store
-pub recorded_none : (now : ℕ) (p : SpacePacket) (m : Holdings) (rows : List RouteRow) → rows ≡ rows_for m.routes p → lead_to_any rows m.stores ≡ false → m ≡ after_record now p m
+pub recorded_none : (now : ℕ) (p : SpacePacket) (m : Holdings) (rows : List RouteRow) → rows ≡ rows_for m.routes p → passed rows m.stores ≡ length m.stores → m ≡ after_record now p m
 recorded_none now p m rows is none =
     let leads = rw is at none in
     ap (λ (stores : List Held). let n : Holdings = record m { stores = stores } in n)
     (sym (sym (after_along now m.routes p m.stores) ∙ after_none now (rows_for m.routes p) p m.stores leads))
 
 -- and what became of it
-pub told_none : (now : ℕ) (p : SpacePacket) (m : Holdings) (rows : List RouteRow) → rows ≡ rows_for m.routes p → lead_to_any rows m.stores ≡ false → nothing ≡ tally_after now p m
+pub told_none : (now : ℕ) (p : SpacePacket) (m : Holdings) (rows : List RouteRow) → rows ≡ rows_for m.routes p → passed rows m.stores ≡ length m.stores → nothing ≡ tally_after now p m
 told_none now p m rows is none =
     let leads = rw is at none in
     sym (sym (tally_along now m.routes p m.stores) ∙ tally_none now (rows_for m.routes p) p m.stores leads)
 
 -- where a row leads to the first store and none to the others, the first alone is offered the packet
-pub after_first : (now : ℕ) (rows : List RouteRow) (p : SpacePacket) (h h' : Held) (hs stores : List Held) → stores ≡ h ∷ hs → leads_to rows h.id ≡ true → lead_to_any rows hs ≡ false → h' ≡ after_offer now h (Some p)
+pub after_first : (now : ℕ) (rows : List RouteRow) (p : SpacePacket) (h h' : Held) (hs stores : List Held) → stores ≡ h ∷ hs → leads_to rows h.id ≡ true → passed rows hs ≡ length hs → h' ≡ after_offer now h (Some p)
     → h' ∷ hs ≡ after_offers now (packet_along rows p) stores
 after_first now rows p h h' hs stores is leads none offered =
     ap (λ (x : Held). x ∷ hs) (offered ∙ ap (λ (b : Bool). after_offer now h (if b then Some p else None)) (sym leads))
@@ -126,7 +124,7 @@ plus_nothing : (t : Tally) → t ≡ plus t nothing
 plus_nothing t = rw (add-zero t.kept, add-zero t.lost, add-zero t.refused) refl
 
 -- and what became of it is all
-pub tally_first : (now : ℕ) (rows : List RouteRow) (p : SpacePacket) (h : Held) (hs stores : List Held) (t : Tally) → stores ≡ h ∷ hs → leads_to rows h.id ≡ true → lead_to_any rows hs ≡ false → t ≡ tally_in now h (Some p)
+pub tally_first : (now : ℕ) (rows : List RouteRow) (p : SpacePacket) (h : Held) (hs stores : List Held) (t : Tally) → stores ≡ h ∷ hs → leads_to rows h.id ≡ true → passed rows hs ≡ length hs → t ≡ tally_in now h (Some p)
     → t ≡ tally_over now (packet_along rows p) stores
 tally_first now rows p h hs stores t is leads none told =
     told
@@ -151,16 +149,6 @@ first_leads rows h hs at = by_test (leads_to rows h.id) at
     by_test : (b : Bool) → cond (not b) (1 + passed rows hs) 0 ≡ 0 → b ≡ true
     by_test true e = refl
     by_test false e = absurd (omega (arith, e))
-
--- where all stores are passed by no row leads to one
-pub all_passed : (rows : List RouteRow) (stores : List Held) → passed rows stores ≡ length stores → lead_to_any rows stores ≡ false
-all_passed rows [] all = refl
-all_passed rows (h ∷ hs) all = by_test (leads_to rows h.id) all (all_passed rows hs)
-  where
-    by_test : (b : Bool) → cond (not b) (1 + passed rows hs) 0 ≡ length (h ∷ hs) → (passed rows hs ≡ length hs → lead_to_any rows hs ≡ false)
-        → (b || lead_to_any rows hs) ≡ false
-    by_test true e rest = absurd (omega (arith, e))
-    by_test false e rest = rest (omega (arith, e))
 
 -- the stores that are passed by stay as they are
 pub after_passed : (now : ℕ) (rows : List RouteRow) (p : SpacePacket) (stores : List Held)

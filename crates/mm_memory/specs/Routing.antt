@@ -19,10 +19,6 @@ rows_for routes p = by_kind p.kind where
 abbrev pub leads_to : List RouteRow → List ℕ → Bool
 leads_to rows id = list_any (is_to id) rows
 
--- whether one of the rows leads to one of the stores
-abbrev pub lead_to_any : List RouteRow → List Held → Bool
-lead_to_any rows stores = list_any (λ h. leads_to rows h.id) stores
-
 -- the packet, for a store to which one of the rows leads
 abbrev pub packet_along : List RouteRow → SpacePacket → Held → Option SpacePacket
 packet_along rows p h = if leads_to rows h.id then Some p else None

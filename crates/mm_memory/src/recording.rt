@@ -2,7 +2,7 @@
 ghost use Rattle.std.specs.Prelude.{◌≡◌, ◌≤◌, ◌<◌, length, Some, IfOk, OnOk, OnErr};
 ghost use Rattle.mm_base.specs.declared.limits.TheConstants.{MAX_STORES};
 ghost use Rattle.mm_memory.specs.Recording.{after_offer, tally_in, after_offers, tally_over, after_record, tally_after};
-ghost use Rattle.mm_memory.specs.Routing.{rows_for, leads_to, lead_to_any, packet_along, passed};
+ghost use Rattle.mm_memory.specs.Routing.{rows_for, leads_to, packet_along, passed};
 
 use crate::memory::Memory;
 use crate::tally::Tally;
@@ -27,13 +27,6 @@ fn leads_to(rows: &[RouteRow], id: &StoreId) -> bool
     ensures { result ≡ leads_to rows.now id.now }
 {
     rows.iter().any(|row| row.store == *id)
-}
-
-// Whether one of the rows leads to one of the stores.
-fn lead_to_any(rows: &[RouteRow], stores: &[Held]) -> bool
-    ensures { result ≡ lead_to_any rows.now stores.now }
-{
-    stores.iter().any(|held| leads_to(rows, &held.id))
 }
 
 // Offers a packet to a store.
@@ -131,14 +124,15 @@ impl Memory {
         ensures err { OnErr result (self.new ≡ self.old) }
     {
         let rows = rows_for(&self.control, packet.packet());
-        if !lead_to_any(rows, &self.stores) {
+        if passed(rows, &self.stores) == self.stores.len() {
             return Ok(Tally::nothing());
         }
         let packet = packet.copy(alloc)?;
         self.record_owned(alloc, now, packet)
     }
 
-    /// As `record`. The packet itself goes to one of the stores, and copies to the others.
+    /// As `record`, of a packet that is given up: it goes to one of the stores, and copies of it to the others. It is dropped where no
+    /// store keeps it, and after `NoMemory`.
     pub fn record_owned(
         &mut self,
         alloc: Global,

@@ -114,7 +114,7 @@ fn push_row(text: &mut Vec<u8>, step: u32, amounts: &[u32]) -> Pushed
     text.extend_from_slice(&octets[first..])
 }
 
-// The same of any number of stores.
+// The same of any number of stores. No plan has more than MAX_STORES, but the type does not say so.
 #[tactic(auto, using(std::proofs::Common::append_assoc))]
 fn push_words(text: &mut Vec<u8>, step: u32, amounts: &[u32]) -> Pushed
     ensures { OnOk result (text.new.items ≡ text.old.items

@@ -1,87 +1,99 @@
 //! Which arcs of a span bear blocks. The network itself is never built.
-use crate::channels::Channels;
 use crate::node::Node;
 use crate::sets::{NodeSet, StoreSet};
-use crate::slots::{Slot, Table};
+use crate::slots::{Row, Slot, Table};
+use crate::stores::Stores;
+use mm_problem::{CHANNELS, MAX_STORES};
 
-/// The arcs of a span that can carry more, or give back what they carry: a bit for each slot that bears blocks.
+/// The arcs of a span that can carry more, or give back what they carry: the slots of each row of its table that bear blocks.
 #[derive(Clone, Copy)]
-pub(crate) struct Arcs([u64; 2]);
+pub(crate) struct Arcs([StoreSet; 8]);
 
 impl Arcs {
-    pub(crate) const NONE: Arcs = Arcs([0; 2]);
+    pub(crate) const NONE: Arcs = Arcs([StoreSet::NONE; 8]);
 
-    // The arcs of a span by its amounts, eight slots at a time.
-    pub(crate) fn of(table: &Table) -> Arcs {
+    // The arcs of a span by its amounts.
+    pub(crate) fn of(stores: &Stores, table: &Table) -> Arcs {
         let mut arcs = Arcs::NONE;
-        for part in 0..12usize {
-            arcs.0[part >> 3 & 1] |= u64::from(table.bears_from(8 * part)) << (8 * (part & 7));
+        for store in 0..stores.count() {
+            arcs.add(table, Slot::lost(store));
+            arcs.add(table, Slot::room(store));
+            arcs.add(table, Slot::held(store));
+            arcs.add(table, Slot::kept(store));
+            arcs.add(table, Slot::dumped(store));
+        }
+        for channel in 0..CHANNELS {
+            arcs.add(table, Slot::open(channel));
+            arcs.add(table, Slot::sent(channel));
         }
         arcs
     }
 
+    // Adds a slot if it bears blocks.
+    fn add(&mut self, table: &Table, slot: Slot) {
+        let row = &mut self.0[slot.row()];
+        *row = row.with_if(table.of(slot) > 0, slot.column());
+    }
+
     // Looks at the amount in a slot.
     pub(crate) fn look_at(&mut self, table: &Table, slot: Slot) {
-        let place = slot.place();
-        let bears = u64::from(table.of(slot) > 0);
-        let others = self.0[place >> 6 & 1] & !(1 << (place & 63));
-        self.0[place >> 6 & 1] = others | bears << (place & 63);
+        let row = &mut self.0[slot.row()];
+        *row = row.without(slot.column());
+        self.add(table, slot);
     }
 
     // Whether a slot bears blocks.
     pub(crate) fn bears(&self, slot: Slot) -> bool {
-        let place = slot.place();
-        self.0[place >> 6 & 1] >> (place & 63) & 1 == 1
+        self.0[slot.row()].has(slot.column())
     }
 
-    // The stores that lose blocks.
-    pub(crate) fn losing(&self) -> StoreSet {
-        StoreSet::of_bits(self.0[0])
-    }
-
-    // The stores that are not full.
-    fn roomy(&self) -> StoreSet {
-        StoreSet::of_bits(self.0[0] >> 16)
-    }
-
-    // The stores that hold blocks.
-    fn holding(&self) -> StoreSet {
-        StoreSet::of_bits(self.0[0] >> 32)
-    }
-
-    // The stores that keep blocks.
-    pub(crate) fn keeping(&self) -> StoreSet {
-        StoreSet::of_bits(self.0[0] >> 48)
-    }
-
-    // The stores from which blocks leave.
-    fn dumping(&self) -> StoreSet {
-        StoreSet::of_bits(self.0[1])
-    }
-
-    // The channels that let more through.
-    pub(crate) fn open(&self) -> NodeSet {
-        NodeSet::channels_of_bits(self.0[1] >> 16)
-    }
-
-    // The channels by which blocks leave.
-    fn sending(&self) -> NodeSet {
-        NodeSet::channels_of_bits(self.0[1] >> 24)
+    // The stores, or the channels, whose slots of a row bear blocks.
+    pub(crate) fn of_row(&self, row: Row) -> StoreSet {
+        self.0[row as usize]
     }
 
     // The nodes of the span to which an arc leads from one of these.
-    pub(crate) fn next(&self, channels: &Channels, nodes: NodeSet) -> NodeSet {
+    pub(crate) fn next(&self, stores: &Stores, nodes: NodeSet) -> NodeSet {
         let (coming, held) = (nodes.stores_in(), nodes.stores_out());
-        let spared = channels.stores_on(nodes).both(self.dumping());
-        let mut next = channels.of_stores(held);
-        next = next.either(NodeSet::outs(coming.both(self.roomy()).either(spared)));
-        next = next.either(NodeSet::ins(held.both(self.holding())));
-        if !nodes.both(self.open()).is_empty() {
+        let spared = stores_on(stores, nodes).both(self.of_row(Row::Dumped));
+        let roomy = coming.both(self.of_row(Row::Room));
+        let mut next = channels_of(stores, held);
+        next = next.either(NodeSet::outs(roomy.either(spared)));
+        next = next.either(NodeSet::ins(held.both(self.of_row(Row::Held))));
+        if !nodes.channels().both(self.of_row(Row::Open)).is_empty() {
             next = next.with(Node::PASS);
         }
         if nodes.has(Node::PASS) {
-            next = next.either(self.sending());
+            next = next.either(NodeSet::of_channels(self.of_row(Row::Sent)));
         }
         next
     }
+}
+
+// The channels of these stores.
+fn channels_of(stores: &Stores, held: StoreSet) -> NodeSet {
+    let mut channels = NodeSet::NONE;
+    let mut rest = held;
+    for _ in 0..MAX_STORES {
+        let Some(store) = rest.first() else {
+            break;
+        };
+        channels = channels.with(Node::channel(stores.channel(store)));
+        rest = rest.rest();
+    }
+    channels
+}
+
+// The stores of the channels among these nodes.
+fn stores_on(stores: &Stores, nodes: NodeSet) -> StoreSet {
+    let mut on = StoreSet::NONE;
+    let mut rest = nodes.channels();
+    for _ in 0..CHANNELS {
+        let Some(channel) = rest.first() else {
+            break;
+        };
+        on = on.either(stores.on(channel));
+        rest = rest.rest();
+    }
+    on
 }

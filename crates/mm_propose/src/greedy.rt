@@ -110,22 +110,32 @@ fn dump(table: &mut Table, store: usize, channel: usize, blocks: u32) {
     table.take(Slot::IDLE, blocks);
 }
 
+// Lets the arrivals of a span come. Answers the stores that lose some.
+fn arrivals(stores: &Stores, table: &mut Table, gone: &Amounts) -> StoreSet {
+    let mut losing = StoreSet::NONE;
+    for store in 0..stores.count() {
+        let lost = arrive(table, store, stores.size(store), gone.of(store));
+        losing = losing.with_if(lost > 0, store);
+    }
+    losing
+}
+
 // Lets the arrivals of a span come. Where some are lost, the overflow has come. Answers whether some are.
 fn fill_stores(stores: &Stores, spans: &mut [Span], outlook: &mut Outlook, at: usize) -> bool {
-    let mut is_losing = false;
-    for store in 0..stores.count() {
-        let Some(span) = spans.get_mut(at) else {
+    let Some(span) = spans.get_mut(at) else {
+        return false;
+    };
+    let losing = arrivals(stores, &mut span.table, &outlook.gone);
+    let mut rest = losing;
+    for _ in 0..MAX_STORES {
+        let (Some(store), Some(span)) = (rest.first(), spans.get(at)) else {
             break;
         };
-        let gone = outlook.gone.of(store);
-        let lost = arrive(&mut span.table, store, stores.size(store), gone);
-        if lost > 0 {
-            outlook.gone.add(store, lost);
-            outlook.look_ahead(stores, spans, store, at.saturating_add(1));
-            is_losing = true;
-        }
+        outlook.gone.add(store, span.table.of(Slot::lost(store)));
+        outlook.look_ahead(stores, spans, store, at.saturating_add(1));
+        rest = rest.rest();
     }
-    is_losing
+    !losing.is_empty()
 }
 
 // Lets blocks of these stores leave, of each as many as avert its next overflow.

@@ -3,7 +3,6 @@
 
 mod amounts;
 mod arcs;
-mod channels;
 mod cuts;
 mod greedy;
 mod moves;

@@ -1,6 +1,6 @@
 //! Paths by which a block that is lost could go instead, walked back from where it would end.
 use crate::node::{Node, NodeKind, Place};
-use crate::slots::Slot;
+use crate::slots::{Row, Slot};
 use crate::spans::Span;
 use crate::stores::Stores;
 use mm_problem::{CHANNELS, MAX_STORES};
@@ -137,9 +137,13 @@ impl Choice {
 
     // Looks at the arcs to the pass.
     fn to_pass(&mut self, span: &Span, at: usize) {
-        let mut rest = span.found.nodes().both(span.arcs.open());
+        let mut rest = span
+            .found
+            .nodes()
+            .channels()
+            .both(span.arcs.of_row(Row::Open));
         for _ in 0..CHANNELS {
-            let Some(channel) = rest.first_channel() else {
+            let Some(channel) = rest.first() else {
                 break;
             };
             let node = Node::channel(channel);

@@ -3,7 +3,6 @@ ghost use Rattle.std.specs.Prelude.{◌≤◌, length, IfOk};
 ghost use Rattle.mm_plan.specs.Table.{HasShape};
 
 use crate::arcs::Arcs;
-use crate::channels::Channels;
 use crate::cuts::{counts_of, stretches_of};
 use crate::greedy::dump_by_next_overflow;
 use crate::moves::{Walks, move_lost};
@@ -56,9 +55,9 @@ fn plan_of(alloc: Global, problem: &Problem, spans: &[Span]) -> Result<Plan, NoM
 }
 
 // Looks at which arcs of each span bear blocks.
-fn look_at_arcs(spans: &mut [Span]) {
+fn look_at_arcs(stores: &Stores, spans: &mut [Span]) {
     for span in spans.iter_mut() {
-        let arcs = Arcs::of(&span.table);
+        let arcs = Arcs::of(stores, &span.table);
         span.arcs = arcs;
     }
 }
@@ -66,11 +65,10 @@ fn look_at_arcs(spans: &mut [Span]) {
 // Moves lost blocks as long as a search finds where to. The last search finds what the cut is made of. Where nothing is lost,
 // there is nothing to move.
 fn improve(alloc: Global, stores: &Stores, spans: &mut [Span]) -> Result<(), NoMemory> {
-    let channels = Channels::of(stores);
     let mut walks = Walks::new(alloc);
-    look_at_arcs(spans);
+    look_at_arcs(stores, spans);
     for _ in 0..SEARCHES {
-        search(&channels, spans);
+        search(stores, spans);
         if !move_lost(stores, spans, &mut walks)? {
             break;
         }

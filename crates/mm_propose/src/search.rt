@@ -1,8 +1,9 @@
 //! The search for where lost blocks could go instead: over the nodes of all spans, along each arc that bears blocks.
-use crate::channels::Channels;
 use crate::node::Node;
 use crate::sets::{NodeSet, SpanSet};
+use crate::slots::Row;
 use crate::spans::Span;
+use crate::stores::Stores;
 
 // More than the batches of a span and the sweeps of a search.
 const ROUNDS: u32 = 4096;
@@ -15,12 +16,10 @@ pub(crate) struct Found {
 }
 
 impl Found {
-    pub(crate) fn nothing() -> Found {
-        Found {
-            nodes: NodeSet::NONE,
-            batches: [0; 64],
-        }
-    }
+    pub(crate) const NOTHING: Found = Found {
+        nodes: NodeSet::NONE,
+        batches: [0; 64],
+    };
 
     pub(crate) fn nodes(&self) -> NodeSet {
         self.nodes
@@ -70,13 +69,7 @@ struct Progress {
 
 impl Progress {
     // Adds the nodes and all of the span that can be reached from them, batch by batch. Answers whether one was new.
-    fn reach(
-        &mut self,
-        channels: &Channels,
-        spans: &mut [Span],
-        at: usize,
-        nodes: NodeSet,
-    ) -> bool {
+    fn reach(&mut self, stores: &Stores, spans: &mut [Span], at: usize, nodes: NodeSet) -> bool {
         let last = spans.len().saturating_sub(1);
         let Some(span) = spans.get_mut(at) else {
             return false;
@@ -91,7 +84,7 @@ impl Progress {
             }
             self.batch = self.batch.saturating_add(1);
             span.found.add(new, self.batch);
-            new = span.arcs.next(channels, new).without(span.found.nodes());
+            new = span.arcs.next(stores, new).without(span.found.nodes());
         }
         if at < last {
             self.on.add(at.saturating_add(1));
@@ -103,20 +96,20 @@ impl Progress {
     }
 
     // Begins at the lost blocks of each span.
-    fn begin(&mut self, channels: &Channels, spans: &mut [Span]) {
+    fn begin(&mut self, stores: &Stores, spans: &mut [Span]) {
         for at in 0..spans.len() {
             if let Some(span) = spans.get_mut(at) {
                 span.found.clear();
-                let losing = span.arcs.losing();
+                let losing = span.arcs.of_row(Row::Lost);
                 if !losing.is_empty() {
-                    self.reach(channels, spans, at, NodeSet::ins(losing));
+                    self.reach(stores, spans, at, NodeSet::ins(losing));
                 }
             }
         }
     }
 
     // What a store holds it can keep: from each span to the next.
-    fn sweep_on(&mut self, channels: &Channels, spans: &mut [Span]) -> bool {
+    fn sweep_on(&mut self, stores: &Stores, spans: &mut [Span]) -> bool {
         let mut is_new = false;
         let mut from = 0;
         for _ in 0..spans.len() {
@@ -125,14 +118,14 @@ impl Progress {
             };
             self.on.remove(at);
             let kept = found_in(spans, at.saturating_sub(1)).stores_out();
-            is_new |= self.reach(channels, spans, at, NodeSet::ins(kept));
+            is_new |= self.reach(stores, spans, at, NodeSet::ins(kept));
             from = at;
         }
         is_new
     }
 
     // What a store keeps it can let go before: from each span to the one before.
-    fn sweep_back(&mut self, channels: &Channels, spans: &mut [Span]) -> bool {
+    fn sweep_back(&mut self, stores: &Stores, spans: &mut [Span]) -> bool {
         let mut is_new = false;
         for _ in 0..spans.len() {
             let Some(at) = self.back.last() else {
@@ -141,8 +134,8 @@ impl Progress {
             self.back.remove(at);
             let coming = found_in(spans, at.saturating_add(1)).stores_in();
             if let Some(span) = spans.get(at) {
-                let kept = coming.both(span.arcs.keeping());
-                is_new |= self.reach(channels, spans, at, NodeSet::outs(kept));
+                let kept = coming.both(span.arcs.of_row(Row::Kept));
+                is_new |= self.reach(stores, spans, at, NodeSet::outs(kept));
             }
         }
         is_new
@@ -159,16 +152,16 @@ fn found_in(spans: &[Span], at: usize) -> NodeSet {
 
 /// Finds all nodes to which lost blocks could go. Each but the first ones has an arc to it from one of a lower batch. A sweep
 /// looks only at the spans next to one in which nodes were found since it looked at them last.
-pub(crate) fn search(channels: &Channels, spans: &mut [Span]) {
+pub(crate) fn search(stores: &Stores, spans: &mut [Span]) {
     let mut progress = Progress {
         batch: 0,
         on: SpanSet::NONE,
         back: SpanSet::NONE,
     };
-    progress.begin(channels, spans);
+    progress.begin(stores, spans);
     for _ in 0..ROUNDS {
-        let on = progress.sweep_on(channels, spans);
-        let back = progress.sweep_back(channels, spans);
+        let on = progress.sweep_on(stores, spans);
+        let back = progress.sweep_back(stores, spans);
         if !on && !back {
             break;
         }

@@ -3,22 +3,12 @@ ghost use Rattle.std.specs.Prelude.{◌<◌, IfSome};
 
 use crate::node::Node;
 
-/// Some of the 16 stores.
+/// Some of the 16 stores, or of the channels, which count as stores do.
 #[derive(Clone, Copy)]
 pub(crate) struct StoreSet(u16);
 
 impl StoreSet {
     pub(crate) const NONE: StoreSet = StoreSet(0);
-
-    // The stores of the lowest 16 bits of a word.
-    pub(crate) fn of_bits(word: u64) -> StoreSet {
-        StoreSet((word & 0xffff) as u16)
-    }
-
-    // A bit for each store.
-    pub(crate) fn bits(self) -> usize {
-        self.0 as usize
-    }
 
     pub(crate) fn with(self, store: usize) -> StoreSet {
         StoreSet(self.0 | 1 << (store & 15))
@@ -26,6 +16,11 @@ impl StoreSet {
 
     pub(crate) fn without(self, store: usize) -> StoreSet {
         StoreSet(self.0 & !(1 << (store & 15)))
+    }
+
+    // The set, with a store if something holds.
+    pub(crate) fn with_if(self, holds: bool, store: usize) -> StoreSet {
+        StoreSet(self.0 | u16::from(holds) << (store & 15))
     }
 
     // The stores of one set or the other.
@@ -78,9 +73,9 @@ impl NodeSet {
         NodeSet(u64::from(stores.0) << 16)
     }
 
-    // The channels of the lowest 8 bits of a word.
-    pub(crate) fn channels_of_bits(word: u64) -> NodeSet {
-        NodeSet((word & 0xff) << 32)
+    // The nodes of channels.
+    pub(crate) fn of_channels(channels: StoreSet) -> NodeSet {
+        NodeSet((u64::from(channels.0) & 0xff) << 32)
     }
 
     pub(crate) fn with(self, node: Node) -> NodeSet {
@@ -119,21 +114,9 @@ impl NodeSet {
         StoreSet((self.0 >> 16 & 0xffff) as u16)
     }
 
-    // A bit for each of them that is a channel's.
-    pub(crate) fn channel_bits(self) -> usize
-        ensures { result < 256 }
-    {
-        (self.0 >> 32 & 0xff) as usize
-    }
-
-    // The first channel whose node is one of them, where there is one.
-    pub(crate) fn first_channel(self) -> Option<usize> {
-        let channels = self.channel_bits();
-        if channels == 0 {
-            None
-        } else {
-            Some(channels.trailing_zeros() as usize)
-        }
+    // The channels whose node is one of them.
+    pub(crate) fn channels(self) -> StoreSet {
+        StoreSet((self.0 >> 32 & 0xff) as u16)
     }
 
     // The place of the first node, where there is one.

@@ -1,5 +1,27 @@
 //! The amounts of a span: what its stores and channels do, each in its slot.
-ghost use Rattle.std.specs.Prelude.{◌<◌, ◌≤◌};
+ghost use Rattle.std.specs.Prelude.{◌<◌};
+
+/// The rows of a span's table, each with an amount for each store or channel. The last eight places of `Open` have those that no
+/// store or channel has.
+#[derive(Clone, Copy)]
+pub(crate) enum Row {
+    /// What finds no room in a store.
+    Lost = 0,
+    /// What it could hold beside what it holds.
+    Room = 1,
+    /// What it holds before blocks leave it.
+    Held = 2,
+    /// What it keeps.
+    Kept = 3,
+    /// What leaves it.
+    Dumped = 4,
+    /// What a channel would let through beside what it sends.
+    Open = 5,
+    /// What leaves by a channel.
+    Sent = 6,
+    /// What came to a store since the plan began, with what it held then.
+    Come = 7,
+}
 
 /// Where an amount of a span stands in its table. Stores and channels count from 0.
 #[derive(Clone, Copy)]
@@ -7,52 +29,49 @@ pub(crate) struct Slot(u8);
 
 impl Slot {
     /// What of the window is not used.
-    pub(crate) const IDLE: Slot = Slot(96);
+    pub(crate) const IDLE: Slot = Slot(88);
 
     /// As many as are wanted.
-    pub(crate) const ENDLESS: Slot = Slot(97);
+    pub(crate) const ENDLESS: Slot = Slot(89);
 
     /// What goes out of the network, or comes into it.
-    pub(crate) const OUTSIDE: Slot = Slot(98);
+    pub(crate) const OUTSIDE: Slot = Slot(90);
 
-    // What finds no room in a store.
+    // The slot of a store or a channel in a row.
+    fn of(row: Row, column: usize) -> Slot {
+        Slot((row as u8) << 4 | (column & 15) as u8)
+    }
+
     pub(crate) fn lost(store: usize) -> Slot {
-        Slot((store & 15) as u8)
+        Slot::of(Row::Lost, store)
     }
 
-    // What it could hold beside what it holds.
     pub(crate) fn room(store: usize) -> Slot {
-        Slot((16 + (store & 15)) as u8)
+        Slot::of(Row::Room, store)
     }
 
-    // What it holds before blocks leave it.
     pub(crate) fn held(store: usize) -> Slot {
-        Slot((32 + (store & 15)) as u8)
+        Slot::of(Row::Held, store)
     }
 
-    // What it keeps.
     pub(crate) fn kept(store: usize) -> Slot {
-        Slot((48 + (store & 15)) as u8)
+        Slot::of(Row::Kept, store)
     }
 
-    // What leaves it.
     pub(crate) fn dumped(store: usize) -> Slot {
-        Slot((64 + (store & 15)) as u8)
+        Slot::of(Row::Dumped, store)
     }
 
-    // What a channel would let through beside what it sends.
     pub(crate) fn open(channel: usize) -> Slot {
-        Slot((80 + (channel & 7)) as u8)
+        Slot::of(Row::Open, channel)
     }
 
-    // What leaves by a channel.
     pub(crate) fn sent(channel: usize) -> Slot {
-        Slot((88 + (channel & 7)) as u8)
+        Slot::of(Row::Sent, channel)
     }
 
-    // What came to a store since the plan began, with what it held then.
     pub(crate) fn come(store: usize) -> Slot {
-        Slot((112 + (store & 15)) as u8)
+        Slot::of(Row::Come, store)
     }
 
     // Its place in a table of 128.
@@ -61,6 +80,18 @@ impl Slot {
     {
         self.0 as usize & 127
     }
+
+    // The number of its row.
+    pub(crate) fn row(self) -> usize
+        ensures { result < 8 }
+    {
+        self.0 as usize >> 4 & 7
+    }
+
+    // Its store or channel.
+    pub(crate) fn column(self) -> usize {
+        self.0 as usize & 15
+    }
 }
 
 /// The amounts of a span.
@@ -68,26 +99,11 @@ impl Slot {
 pub(crate) struct Table([u32; 128]);
 
 impl Table {
-    // Nothing anywhere.
-    pub(crate) fn empty() -> Table {
-        let mut table = Table([0; 128]);
-        table.set(Slot::ENDLESS, u32::MAX);
-        table
-    }
+    /// Nothing anywhere.
+    pub(crate) const EMPTY: Table = Table([0; 128]);
 
     pub(crate) fn of(&self, slot: Slot) -> u32 {
         self.0[slot.place()]
-    }
-
-    // A bit for each of the eight slots from a place on that bears blocks.
-    pub(crate) fn bears_from(&self, place: usize) -> u8
-        requires { place ≤ 120 }
-    {
-        let mut bits = 0;
-        for k in 0..8usize {
-            bits |= u8::from(self.0[place + k] > 0) << k;
-        }
-        bits
     }
 
     pub(crate) fn set(&mut self, slot: Slot, blocks: u32) {

@@ -22,6 +22,15 @@ pub(crate) struct Span {
     pub(crate) found: Found,
 }
 
+impl Span {
+    const EMPTY: Span = Span {
+        last: 0,
+        table: Table::EMPTY,
+        arcs: Arcs::NONE,
+        found: Found::NOTHING,
+    };
+}
+
 // The limit of each channel, `u32::MAX` where it has none.
 fn limits_of(problem: &Problem) -> [u32; CHANNELS] {
     let mut limits = [u32::MAX; CHANNELS];
@@ -57,9 +66,8 @@ fn limit_in(limit: u32, window: u32) -> u32 {
     if limit < window { limit } else { u32::MAX }
 }
 
-// The amounts of a span in which nothing has left yet.
-fn table_of(come: &Amounts, limits: &[u32; CHANNELS], window: u32) -> Table {
-    let mut table = Table::empty();
+// Writes the amounts of a span in which nothing has left yet.
+fn begin(table: &mut Table, come: &Amounts, limits: &[u32; CHANNELS], window: u32) {
     for store in 0..16 {
         table.set(Slot::come(store), come.of(store));
     }
@@ -68,7 +76,7 @@ fn table_of(come: &Amounts, limits: &[u32; CHANNELS], window: u32) -> Table {
         table.set(Slot::open(channel), open);
     }
     table.set(Slot::IDLE, window);
-    table
+    table.set(Slot::ENDLESS, u32::MAX);
 }
 
 /// The spans of a problem: each step without a window is joined to the next that has one, and the last such to the end.
@@ -81,12 +89,12 @@ pub(crate) fn spans_of(alloc: Global, problem: &Problem) -> Result<Vec<Span>, No
         add_arrivals(&mut come, problem, step);
         let window = problem.window(step);
         if window > 0 || step == steps {
-            spans.push(Span {
-                last: step,
-                table: table_of(&come, &limits, window),
-                arcs: Arcs::NONE,
-                found: Found::nothing(),
-            })?;
+            let at = spans.len();
+            spans.push(Span::EMPTY)?;
+            if let Some(span) = spans.get_mut(at) {
+                span.last = step;
+                begin(&mut span.table, &come, &limits, window);
+            }
         }
     }
     Ok(spans)

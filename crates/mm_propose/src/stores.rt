@@ -1,6 +1,4 @@
 //! What a problem says of its stores, as tables.
-ghost use Rattle.std.specs.Prelude.{◌<◌};
-
 use crate::amounts::Amounts;
 use crate::sets::StoreSet;
 use mm_problem::{CHANNELS, MAX_STORES, Problem};
@@ -45,10 +43,8 @@ impl Stores {
     }
 
     // The channel of a store.
-    pub(crate) fn channel(&self, store: usize) -> usize
-        ensures { result < 8 }
-    {
-        self.channels[store & 15] as usize & 7
+    pub(crate) fn channel(&self, store: usize) -> usize {
+        self.channels[store & 15] as usize
     }
 
     // The stores of a channel.

@@ -1,11 +1,12 @@
 -- Lists of calls that go on, line by line.
-use Rattle.std.proofs.Common.{◌≡◌, ◌≢◌, ◌⊎◌, inl, inr, ℕ, zero, suc, ◌+◌, ◌-◌, ◌<◌, ◌≤◌, ◌==◌, Bool, true, false, cond, eqb, List, [], ◌∷◌, ◌++◌, length, get_or, map, filter, take, drop, bytes_eq, Result, Ok, Err, OnOk, OnErr, refl, sym, subst, ap, ◌∙◌, append_assoc, length-set, get_or-set_same, get_or-set_other, length-append, arith}
+use Rattle.std.proofs.Common.{◌≡◌, ◌≢◌, ◌⊎◌, inl, inr, ℕ, zero, suc, ◌+◌, ◌-◌, ◌<◌, ◌≤◌, ◌==◌, Bool, true, false, cond, eqb, List, [], ◌∷◌, ◌++◌, length, get_or, map, filter, take, drop, bytes_eq, Result, Ok, Err, OnOk, OnErr, refl, sym, subst, ap, ◌∙◌, append_assoc, length-set, get_or-set_same, get_or-set_other, arith}
 use Rattle.std.proofs.Math.ListN.{set}
-use Rattle.std.specs.Prelude.{if◌then◌else◌}
+use Rattle.std.specs.Prelude.{if◌then◌else◌, Any}
 use Rattle.std.proofs.lemmas.Bool.Decides.{eqb_tells}
 use Rattle.std.proofs.lemmas.List.{append-nil, get_or-map, length-map, map-append, map-set, take_more, take_all, take-append-drop}
-use Rattle.std.proofs.Math.Seq.{get_or-append_seam, map-set_same}
+use Rattle.std.proofs.Math.Seq.{map-set_same}
 use Rattle.std.proofs.lemmas.List.Elements.{filter-append, All-append}
+use Rattle.std.proofs.lemmas.List.Quantifiers.{Any-push}
 use Rattle.std.proofs.lemmas.Result.{on_ok_weaker, on_err_weaker}
 use Rattle.mm_base.specs.declared.rows.RouteRow.{RouteRow}
 use Rattle.mm_packet.specs.Packet.{SpacePacket}
@@ -25,6 +26,7 @@ use Rattle.mm_shared.specs.declared.stores.NamedStore.{NamedStore}
 use Rattle.mm_shared.specs.Stores.{list_at, ends_of, id_at}
 use Rattle.mm_shared.specs.Views.{PortView, with_call}
 use Rattle.mm_record.specs.Offering.{offer_at, offers_by, AreAt, ExtendsBy, ExtendsInPart, AddsBy, Adds, AddsPartly, IsReason}
+use Rattle.mm_record.specs.Steps.{IsRefusedWith}
 
 -- a list that stays goes on by nothing
 pub goes_nowhere : (xs : List Entry) → ExtendsBy [] xs xs
@@ -85,13 +87,6 @@ offer_refused old new now p back told = record {
   first = ap (λ (s : PortView). asked_in s.list) told ∙ asked_more old.list (entry old.number (Offer now p) (reply.Offered (Err back)));
 }
 
--- a list with an offer that was refused at its end is not taken
-not_taken : (xs : List Entry) (seat now : ℕ) (p : SpacePacket) (back : Returned) → ¬ AreTaken (xs ++ entry seat (Offer now p) (reply.Offered (Err back)) ∷ [])
-not_taken xs seat now p back taken =
-    let e : Entry = entry seat (Offer now p) (reply.Offered (Err back)) in
-    let last : IsTaken (get_or (xs ++ e ∷ []) (length xs) e).event (get_or (xs ++ e ∷ []) (length xs) e).reply = taken (length xs) e (omega (arith, length-append xs (e ∷ []))) in
-    subst (λ (x : Entry). IsTaken x.event x.reply) (get_or-append_seam xs e [] e) last
-
 -- what is at the end of a line, which no call changes
 abbrev pub end_of : Line → ℕ × TableId × ℕ
 end_of l = (l.index, l.port.of, l.port.number)
@@ -147,7 +142,8 @@ module _ (now : ℕ) (p : SpacePacket) (stores : List NamedStore) (lines : List 
   reason_at old back told = inr (record {
     index = index;
     within = within;
-    refused = λ taken. not_taken old.list old.number now p back (subst AreTaken (here ∙ ap (λ (s : PortView). s.list) told) taken);
+    refused = subst (Any (λ (e : Entry). IsRefusedWith back.fault e.event e.reply)) (sym (here ∙ ap (λ (s : PortView). s.list) told))
+        (Any-push (λ (e : Entry). IsRefusedWith back.fault e.event e.reply) old.list (entry old.number (Offer now p) (reply.Offered (Err back))) refl);
   })
     where
       here : list_at (set lines index line) index ≡ line.port.list

@@ -5,6 +5,7 @@ pub mod SoFar
 pub mod Whys
 pub mod Runs
 pub mod Taking
+pub mod Reasons
 pub mod Steps
 pub mod Before
 pub mod Memories

@@ -25,7 +25,7 @@ use Rattle.mm_record.specs.Causes.{cause_in}
 use Rattle.mm_record.specs.Counters.{counters_of, AreRows}
 use Rattle.mm_record.specs.MemorySteps.{came, store_at, AreTold, IsRecorded, WasEnded}
 use Rattle.mm_record.specs.Recorded.{RecordingContext, recording, offers}
-use Rattle.mm_record.specs.Steps.{given_in, AllRecorded, Records, RecorderRun}
+use Rattle.mm_record.specs.Steps.{given_in, AllRecorded, Records, RecorderRun, StoreRefused}
 use Rattle.mm_record.proofs.Steps.{same_many}
 use Rattle.mm_record.proofs.Taking.{all_unmapped}
 
@@ -102,6 +102,14 @@ caused step (Some fault.Idle) cause is = refusal step fault.Idle cause (λ is. c
 caused step (Some fault.BadRange) cause is = refusal step fault.BadRange cause (λ is. cc) is
 caused step (Some fault.ClockEnd) cause is = refusal step fault.ClockEnd cause (λ is. cc) is
 caused step (Some fault.StorageOn) cause is = refusal step fault.StorageOn cause (λ is. cc) is
+
+-- where a step is ended since a store refused an offer: with which fault
+pub refused_with : (step : ℕ) (A : Fault → Type 0) (why : Option Fault) → cause_in step why ≡ Some (LogMismatch step) → IfSome why (λ f. (f ≡ fault.NoMemory) ⊎ A f) → (f : Fault) × A f
+refused_with step A None is reason = cc
+refused_with step A (Some f) is (inr refused) = (f, refused)
+refused_with step A (Some f) is (inl lack) =
+    let no : Some (NoMemory step) ≡ Some (LogMismatch step) = sym (ap (λ (g : Fault). cause_in step (Some g)) lack) ∙ is in
+    cc
 
 -- the state of the store at a place
 state_at : (stores : List Held) (k : ℕ) (h : Held) → k < length stores → opening_at (states_of stores) k ≡ (get_or stores k h).state
@@ -202,6 +210,7 @@ module _ {S : Type 0} (gives : S → ℕ → List SpacePacket) (e : RecordingCon
     runs = records.runs;
     are_runs = records.are_runs;
     went = records.went;
+    refused = λ refused. refused_with e.step (StoreRefused records.runs (states_of old.stores) (states_of stores)) why (is ∙ ap Some refused) records.reason;
     lack = λ lack. all_unmapped (λ f. IfSome f (λ g. g ≡ fault.NoMemory)) (λ (run : RecorderRun). run.broken) records.runs
         (records.why_is.lack ((caused e.step why cause is).lack lack));
     others = records.others;

@@ -1,5 +1,5 @@
 -- From what each recorder and each store says, to the step.
-use Rattle.std.proofs.Common.{◌≡◌, ◌≢◌, inl, inr, ℕ, zero, suc, ◌+◌, ◌*◌, ◌<◌, ◌≤◌, max, List, [], ◌∷◌, ◌++◌, length, get_or, map, filter, All, Option, Some, None, IfNone, IfSome, refl, sym, subst, ap, ◌∙◌, append_assoc, length-append, arith}
+use Rattle.std.proofs.Common.{◌≡◌, ◌≢◌, ◌⊎◌, inl, inr, ℕ, zero, suc, ◌+◌, ◌*◌, ◌<◌, ◌≤◌, max, List, [], ◌∷◌, ◌++◌, length, get_or, map, filter, All, Option, Some, None, IfNone, IfSome, refl, sym, subst, ap, ◌∙◌, append_assoc, length-append, arith}
 use Rattle.std.proofs.lemmas.List.{append-nil, length-map}
 use Rattle.std.proofs.lemmas.List.Elements.{All-head, All-map, All-tail}
 use Rattle.std.proofs.lemmas.List.Sums.{sum_by-le}
@@ -21,10 +21,11 @@ use Rattle.mm_shared.specs.declared.lines.Lines.{Lines}
 use Rattle.mm_shared.specs.declared.stores.NamedStore.{NamedStore}
 use Rattle.mm_shared.specs.Stores.{list_at, lists_at, states_of, labels_of, names_of, openings_of, ids_of, id_at, HaveLegalLogs}
 use Rattle.mm_record.specs.Offering.{asked, IsReason}
+use Rattle.mm_record.proofs.Reasons.{IsReasonOf, not_taken, reason_more, refusal_in_log}
 use Rattle.mm_memory.specs.Recording.{is_routed}
 use Rattle.mm_record.specs.Recorded.{RecordingContext, recording, open_recording, offers}
 use Rattle.mm_record.specs.Recorders.{AreRunsAt, HaveRun, IsRunAt}
-use Rattle.mm_record.specs.Steps.{given_in, latest, AllRecorded, HasRecorded, AllHaveLegalOffers, AreFew, AreRecorderRuns, IsOpen, IsRecorderRun, IsWhy, RecorderRun, Records, StoppedEarly}
+use Rattle.mm_record.specs.Steps.{given_in, latest, AllRecorded, HasRecorded, AllHaveLegalOffers, AreFew, AreRecorderRuns, IsOpen, IsRecorderRun, IsWhy, RecorderRun, Records, StoppedEarly, StoreRefused}
 use Rattle.mm_record.proofs.Offers.{offers_more}
 use Rattle.mm_record.proofs.Runs.{all_first, for_all}
 use Rattle.mm_record.proofs.Taking.{HasTime, IsOfferAt, all_unmapped, filter_fewer, lists_taken, parts_all, shuffle_is_taken, shuffle_last}
@@ -126,7 +127,7 @@ reason_of : (e : RecordingContext) (lines : List Line) (broken : Option Fault) �
     → ((k : ℕ) → k < length e.ids → AreTaken (list_at lines k)) → IfSome broken (λ fault. fault ≡ NoMemory)
 reason_of e lines None reason taken = tt
 reason_of e lines (Some fault) (inl lack) taken = lack
-reason_of e lines (Some fault) (inr refusal) taken = absurd (refusal.refused (taken refusal.index refusal.within))
+reason_of e lines (Some fault) (inr refusal) taken = absurd (not_taken (list_at lines refusal.index) fault refusal.refused (taken refusal.index refusal.within))
 
 module _ {S : Type 0} (gives : S → ℕ → List SpacePacket) (e : RecordingContext) where
   -- what recorders did, without their lines
@@ -188,12 +189,25 @@ module _ {S : Type 0} (gives : S → ℕ → List SpacePacket) (e : RecordingCon
       (reason_of e w.lines.items run.broken one.reason (λ k within. All-head AreTaken (list_at w.lines.items k) (lists_at k ws) (taken k within)))
       (rest (λ k within. All-tail AreTaken (list_at w.lines.items k) (lists_at k ws) (taken k within))))
 
+  -- where one of them stopped early so, it was out of memory, or an offer through one of their lines was refused so
+  reasons_in : (fault : Fault) (ss ts : List S) (ws : List Lines) (runs : List RecorderRun) → AreRunsAt gives e ss ts ws runs
+      → (i : ℕ) → i < length runs → get_or (map (λ run. run.broken) runs) i None ≡ Some fault → IsReasonOf (length e.ids) ws fault
+  reasons_in fault =
+      for_all gives e (λ ss ts ws runs. (i : ℕ) → i < length runs → get_or (map (λ run. run.broken) runs) i None ≡ Some fault → IsReasonOf (length e.ids) ws fault)
+      (λ i within is. absurd (omega arith))
+      (λ s t w run ss ts ws runs one rest. reason_more (length e.ids) w run ws runs fault one.reason rest)
+
 -- the last storage time of a store that has recorded
 pub recorded_last : (e : RecordingContext) (gave : List (List SpacePacket)) (k : ℕ) (s t : State) → HasRecorded e gave k s t
     → t.store.last ≤ max s.store.last e.now + count_of (map (offers e k) gave)
 recorded_last e gave k s t has =
     shuffle_last e.now s t (map (offers e k) gave) has.log has.run has.shuffle
     (All-map (λ es. All (IsOfferAt e.now) es) (offers e k) gave (λ i d within. offers_all e k (get_or gave i d)))
+
+-- what follows of what there is
+if_some : {A : Type 0} (P Q : A → Type 0) (o : Option A) → IfSome o P → ((x : A) → P x → Q x) → IfSome o Q
+if_some P Q None p f = tt
+if_some P Q (Some x) p f = f x p
 
 -- what follows where there is nothing
 if_none : {A : Type 0} (P Q : Type 0) (o : Option A) → IfNone o P → (P → Q) → IfNone o Q
@@ -255,6 +269,27 @@ module _ {S : Type 0} (gives : S → ℕ → List SpacePacket) (e : RecordingCon
         shuffle = subst (λ (xs : List (List Event)). IsShuffleOfEvents xs store.log) lists.0 (asked_shuffled (lists_at k workers) store.log store.shuffle);
         taken = shuffle_taken (lists_at k workers) store.log store.shuffle lists.1;
       }
+
+  -- a refusal through a line is in the log of its store
+  refused_at : length after ≡ length e.ids → (fault : Fault) → IsReasonOf (length e.ids) workers fault → (fault ≡ NoMemory) ⊎ StoreRefused have.runs before after fault
+  unfolding went_offers
+  refused_at same fault (inl lack) = inl lack
+  refused_at same fault (inr line) =
+      let within : line.index < length after = omega (arith, line.within, same) in
+      let store = went line.index within in
+      inr (record {
+        place = line.index;
+        within = within;
+        went = went_offers line.index within;
+        refused = refusal_in_log fault (lists_at line.index workers) store.log store.shuffle line.refused;
+      })
+
+  -- why recorders stopped early: out of memory, or what a store answered to an offer
+  reason_is : length after ≡ length e.ids → IfSome why (λ fault. (fault ≡ NoMemory) ⊎ StoreRefused have.runs before after fault)
+  reason_is same =
+      if_some _ _ why have.why_is.some
+      (λ fault one. refused_at same fault
+      (reasons_in gives e fault sources left workers have.runs have.are one.0 (omega (arith, one.1, length-map have.runs (λ (run : RecorderRun). run.broken))) one.2))
 
   -- where there is time, no offer was refused
   all_taken : length after ≡ length e.ids → length sources ≤ 16 → e.now ≤ latest → ((k : ℕ) → k < length after → IsOpen (opening_at before k)) → AreFew gives e.step sources
@@ -318,6 +353,7 @@ module _ {S : Type 0} (gives : S → ℕ → List SpacePacket) (step now : ℕ) 
     why_is = have.why_is;
     went = went_offers gives e sources left workers why (states_of before) (states_of after) have went inside;
     others = λ t other. others_same gives e t other sources left workers have.runs have.are;
+    reason = reason_is gives e sources left workers why (states_of before) (states_of after) have went inside many;
     recorded = if_none _ _ why have.why_is.none
         (λ none. all_recorded gives e sources left workers why (states_of before) (states_of after) have went inside (whole_of have.runs none));
     nothing_left = if_none _ _ why have.why_is.none (λ none. none_left gives e sources left workers have.runs have.are (whole_of have.runs none));

@@ -1,6 +1,7 @@
 -- A step of recorders over a memory.
 use Rattle.std.specs.Prelude.{◌≡◌, ◌≢◌, ◌⊎◌, ℕ, ◌-◌, ◌<◌, List, [], length, map, slice_index_or, All, Result, is_ok, false, IfErr, IfSome}
 use Rattle.mm_packet.specs.Packet.{SpacePacket}
+use Rattle.mm_desk.specs.declared.fault.Fault.{Fault}
 use Rattle.mm_desk.specs.declared.fault.Fault.TheVariants as fault
 use Rattle.mm_desk.specs.Machine.{State, IsState}
 use Rattle.mm_desk.specs.Offers.{Leaves, count_of}
@@ -13,7 +14,7 @@ use Rattle.mm_record.specs.declared.memory_step.Recorded.{Recorded}
 use Rattle.mm_record.specs.declared.memory_step.RecordedStep.{RecordedStep}
 use Rattle.mm_record.specs.declared.memory_step.RecordHalted.{RecordHalted}
 use Rattle.mm_record.specs.Recorded.{RecordingContext, recording, offers}
-use Rattle.mm_record.specs.Steps.{given_in, AllRecorded, AllHaveLegalOffers, RecorderRun, AreRecorderRuns}
+use Rattle.mm_record.specs.Steps.{given_in, AllRecorded, AllHaveLegalOffers, RecorderRun, AreRecorderRuns, StoreRefused}
 
 -- a step at a moment, over the stores of a memory and by its routes
 abbrev pub recording_of : ℕ → ℕ → Holdings → RecordingContext
@@ -57,13 +58,14 @@ pub record IsRefused {S : Type 0} (cause : Cause) (old new : Holdings) (sources 
   pub same : new ≡ old
 
 -- recorders were at work when the step was ended: each store went by what the recorders offered. Where the cause is out of
--- memory no recorder stopped for another reason
+-- memory no recorder stopped for another reason, and else a store refused an offer
 pub record WasEnded {S : Type 0} (gives : S → ℕ → List SpacePacket) (e : RecordingContext) (old new : Holdings) (sources left : List S) (cause : Cause) : Type 0 where
   pub cause_is : (cause ≡ LogMismatch e.step) ⊎ (cause ≡ NoMemory e.step)
   pub placed : PlacedAsBefore old new
   pub runs : List RecorderRun
   pub are_runs : AreRecorderRuns gives e sources left runs
   pub went : AllHaveLegalOffers runs (states_of old.stores) (states_of new.stores)
+  pub refused : cause ≡ LogMismatch e.step → (f : Fault) × StoreRefused runs (states_of old.stores) (states_of new.stores) f
   pub lack : cause ≡ NoMemory e.step → All (λ run. IfSome run.broken (λ f. f ≡ fault.NoMemory)) runs
   pub others : (t : ℕ) → t ≢ e.step → given_in gives t left ≡ given_in gives t sources
 

@@ -1,5 +1,5 @@
 -- How lists of calls go on while packets are offered. No public clause cites this module.
-use Rattle.std.specs.Prelude.{◌≡◌, ◌⊎◌, ℕ, ◌<◌, ◌==◌, if◌then◌else◌, List, [], ◌∷◌, ◌++◌, length, map, filter, slice_index_or, bytes_eq}
+use Rattle.std.specs.Prelude.{◌≡◌, ◌⊎◌, ℕ, ◌<◌, ◌==◌, if◌then◌else◌, List, [], ◌∷◌, ◌++◌, length, map, filter, slice_index_or, Any, bytes_eq}
 use Rattle.atomic_table.specs.Seated.{TableId}
 use Rattle.mm_base.specs.declared.rows.RouteRow.{RouteRow}
 use Rattle.mm_packet.specs.Packet.{SpacePacket}
@@ -14,6 +14,7 @@ use Rattle.mm_shared.specs.declared.lines.Line.{Line}
 use Rattle.mm_shared.specs.declared.stores.NamedStore.{NamedStore}
 use Rattle.mm_shared.specs.Stores.{list_at, ends_of}
 use Rattle.mm_memory.specs.Recording.{is_routed}
+use Rattle.mm_record.specs.Steps.{IsRefusedWith}
 
 -- what was asked through the line at an index
 abbrev pub asked : List Line → ℕ → List Event
@@ -62,12 +63,12 @@ Adds count more old new = AddsBy ExtendsBy count more old new
 abbrev pub AddsPartly : ℕ → (ℕ → List Event) → List Line → List Line → Type 0
 AddsPartly count more old new = AddsBy ExtendsInPart count more old new
 
--- an offer through one of these lines was refused
-pub record HasRefusal (count : ℕ) (lines : List Line) : Type 0 where
+-- an offer through one of these lines was refused with this fault
+pub record HasRefusal (count : ℕ) (lines : List Line) (fault : Fault) : Type 0 where
   pub index : ℕ
   pub within : index < count
-  pub refused : ¬ AreTaken (list_at lines index)
+  pub refused : Any (λ e. IsRefusedWith fault e.event e.reply) (list_at lines index)
 
--- why it ended there: out of memory, or an offer was refused
+-- why it ended there: out of memory, or an offer was refused so
 abbrev pub IsReason : ℕ → List Line → Fault → Type 0
-IsReason count lines fault = (fault ≡ NoMemory) ⊎ HasRefusal count lines
+IsReason count lines fault = (fault ≡ NoMemory) ⊎ HasRefusal count lines fault

@@ -13,7 +13,7 @@ use Rattle.mm_record.specs.Offering.{asked, AreAt, IsReason}
 use Rattle.mm_record.specs.Steps.{RecorderRun, IsRecorderRun, IsWhy}
 
 -- a recorder with these lines had this run. Where it did not stop early no offer of its was refused; where it did, it was out of memory or
--- an offer was refused
+-- an offer was refused with that fault
 pub record IsRunAt (e : RecordingContext) (before after : ℕ → List SpacePacket) (lines : List Line) (run : RecorderRun) : Type 0 where
   pub is : IsRecorderRun e before after run
   pub offered : (k : ℕ) → run.offered k ≡ asked lines k

@@ -1,11 +1,14 @@
 -- A step of recorders: what its stores and its sources are afterwards.
-use Rattle.std.specs.Prelude.{◌≡◌, ◌≢◌, ℕ, ◌+◌, ◌<◌, ◌≤◌, ◌^◌, true, List, [], ◌∷◌, ◌++◌, length, map, slice_index_or, All, Option, Some, None, IfNone, IfSome}
+use Rattle.std.specs.Prelude.{◌≡◌, ◌≢◌, ◌⊎◌, ℕ, ◌+◌, ◌<◌, ◌≤◌, ◌^◌, true, List, [], ◌∷◌, ◌++◌, length, map, slice_index_or, All, Any, Option, Some, None, IfNone, IfSome, Err}
 use Rattle.mm_packet.specs.Packet.{SpacePacket}
 use Rattle.mm_desk.specs.declared.entry.Entry.{Entry}
 use Rattle.mm_desk.specs.declared.event.Event.{Event}
+use Rattle.mm_desk.specs.declared.event.Event.TheVariants.{Offer}
 use Rattle.mm_desk.specs.declared.fault.Fault.{Fault}
 use Rattle.mm_desk.specs.declared.fault.Fault.TheVariants.{NoMemory}
 use Rattle.mm_desk.specs.declared.held.Held.{Held}
+use Rattle.mm_desk.specs.declared.reply.Reply.{Reply}
+use Rattle.mm_desk.specs.declared.reply.Reply.TheVariants as reply
 use Rattle.mm_desk.specs.Machine.{State, IsState}
 use Rattle.mm_desk.specs.Offers.{AreTaken, IsShuffleOfEvents}
 use Rattle.mm_desk.specs.Runs.{IsRun, opening_at}
@@ -72,6 +75,18 @@ abbrev pub AllHaveLegalOffers : List RecorderRun → List State → List State �
 AllHaveLegalOffers runs before after =
     (k : ℕ) → k < length after → HasLegalOffers (map (λ run. run.offered k) runs) (opening_at before k) (opening_at after k)
 
+-- the answer to an offer is a refusal with this fault
+abbrev pub IsRefusedWith : Fault → Event → Reply → Type 0
+IsRefusedWith fault (Offer now packet) (reply.Offered (Err back)) = back.fault ≡ fault
+IsRefusedWith fault event other = ⊥
+
+-- a store refused an offer of the recorders with this fault: the refusal is in the log by which it went
+pub record StoreRefused (runs : List RecorderRun) (before after : List State) (fault : Fault) : Type 0 where
+  pub place : ℕ
+  pub within : place < length after
+  pub went : HasLegalOffers (map (λ run. run.offered place) runs) (opening_at before place) (opening_at after place)
+  pub refused : Any (λ e. IsRefusedWith fault e.event e.reply) went.log
+
 -- why recorders stopped early: the fault of one of them; out of memory only where none stopped for another reason
 pub record IsWhy (faults : List (Option Fault)) (why : Option Fault) : Type 0 where
   pub none : IfNone why (All (λ f. f ≡ None) faults)
@@ -112,6 +127,7 @@ pub record Records {S : Type 0} (gives : S → ℕ → List SpacePacket) (e : Re
   pub runs : List RecorderRun
   pub are_runs : AreRecorderRuns gives e sources left runs
   pub why_is : IsWhy (map (λ run. run.broken) runs) why
+  pub reason : IfSome why (λ fault. (fault ≡ NoMemory) ⊎ StoreRefused runs (states_of before) (states_of after) fault)
   pub went : AllHaveLegalOffers runs (states_of before) (states_of after)
   pub others : (t : ℕ) → t ≢ e.step → given_in gives t left ≡ given_in gives t sources
   -- where no recorder stopped early

@@ -8,9 +8,9 @@ use Rattle.mm_exec.specs.Course.{AreWithinLimits}
 use Rattle.mm_run.specs.Opening.{AreOffered}
 use Rattle.mm_run.specs.Runs.{gives}
 
-pub within_limits : (stores : List Held) (sources : List ScriptedSource) (most : ℕ) → most ≤ 2 ^ 63 → MAX_PACKETS ≡ 65535 → AreOffered most stores → AreFew sources
-    → AreWithinLimits gives stores sources
-within_limits stores sources most fits least offered few step = record {
-  few = λ k d within. let one = few k d within step in omega (arith, one, least);
+pub within_limits : (steps : ℕ) (stores : List Held) (sources : List ScriptedSource) (most : ℕ) → most ≤ 2 ^ 63 → MAX_PACKETS ≡ 65535 → AreOffered most stores → AreFew sources
+    → AreWithinLimits gives steps stores sources
+within_limits steps stores sources most fits least offered few = record {
+  few = λ step first last k d within. let one = few k d within step in omega (arith, one, least);
   offered = λ k d within. let one = offered k d within in omega (arith, one, fits);
 }

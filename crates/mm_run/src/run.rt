@@ -1,5 +1,5 @@
 //! A run from texts to what is printed: of the plan of a text, or of one that is made.
-ghost use Rattle.std.specs.Prelude.{◌<◌, ◌-◌, ◌^◌, All, Some, IfOk, IfErr};
+ghost use Rattle.std.specs.Prelude.{◌<◌, ◌-◌, ◌^◌, All, length, Some, IfOk, IfErr};
 ghost use Rattle.std.specs.Option.{option_copied};
 ghost use Rattle.mm_base.specs.Reading.{IfRefused};
 ghost use Rattle.mm_exec.specs.Course.{AreWithinLimits};
@@ -41,7 +41,7 @@ fn fly_sheet<R: Threads + Wait + Sync>(
     requires links { All (λ l. l.failed < 2 ^ 64 - 1) links.items }
     ensures flown { IfOk result (IsFlown (Some sheet.now) problem.now memory.old sources.items links.items memory.new) }
     ensures not_flown { IfErr result (IsNotFlown (Some sheet.now) problem.now memory.old sources.items links.items memory.new) }
-    ensures far { AreWithinLimits gives memory.old.stores sources.items → IfErr result (λ ended. NeverRefused ended.halted.cause) }
+    ensures far { AreWithinLimits gives (length problem.now.windows) memory.old.stores sources.items → IfErr result (λ ended. NeverRefused ended.halted.cause) }
 {
     let text = Vec::new(alloc);
     match carry_out(rt, alloc, memory, problem, sheet.plan(), sources, links, 0) {
@@ -66,7 +66,7 @@ fn fly_plan<R: Threads + Wait + Sync>(
     requires links { All (λ l. l.failed < 2 ^ 64 - 1) links.items }
     ensures flown { IfOk result (IsFlown sheet problem.now memory.old sources.items links.items memory.new) }
     ensures not_flown { IfErr result (IsNotFlown sheet problem.now memory.old sources.items links.items memory.new) }
-    ensures far { AreWithinLimits gives memory.old.stores sources.items → IfErr result (λ ended. NeverRefused ended.halted.cause) }
+    ensures far { AreWithinLimits gives (length problem.now.windows) memory.old.stores sources.items → IfErr result (λ ended. NeverRefused ended.halted.cause) }
 {
     match sheet {
         Some(sheet) => fly_sheet(rt, alloc, &sheet, memory, problem, sources, links),
@@ -84,7 +84,7 @@ fn print_run<R: Threads + Wait + Sync>(
     sources: Vec<ScriptedSource>,
     links: Vec<ScriptedLink>,
 ) -> Result<Printed, NoMemory>
-    requires limits { AreWithinLimits gives memory.old.stores sources.items }
+    requires limits { AreWithinLimits gives (length problem.now.windows) memory.old.stores sources.items }
     requires unfailed { All (λ l. l.failed < 2 ^ 64 - 1) links.items }
     ensures { IfOk result (RunEnds sheet problem.now memory.old sources.items links.items) }
 {

@@ -9,3 +9,4 @@ pub mod Queue
 pub mod Answering
 pub mod Applying
 pub mod Reporting
+pub mod Showing

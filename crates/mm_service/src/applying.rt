@@ -1,5 +1,5 @@
 //! Requests that are applied to the memory.
-ghost use Rattle.std.specs.Prelude.{◌≡◌, ◌+◌, ◌<◌, ◌≤◌, length, fold, All, MatchResult, OnErr};
+ghost use Rattle.std.specs.Prelude.{◌≡◌, ◌≢◌, ◌+◌, ◌*◌, ◌<◌, ◌≤◌, length, fold, All, MatchResult, OnOk, OnErr};
 ghost use Rattle.std.specs.VecDeque.{deque_len, deque_capacity};
 ghost use Rattle.mm_packet.specs.Packet.{IsTelecommand};
 ghost use Rattle.mm_st15.specs.Report.{HasCount};
@@ -14,7 +14,7 @@ use crate::waiting::Waiting;
 use mm_ask::Counters;
 use mm_packet::Packet;
 use mm_st15::Report;
-use std::alloc::Global;
+use std::alloc::{AllocError, Global};
 use std::collections::VecDeque;
 
 // Lets a report on the request of this packet wait.
@@ -55,6 +55,20 @@ fn wait_for_all(
     }
 }
 
+// Makes room for the reports of one request more. Where it lacks, the room doubles at least, so that few calls ask for memory.
+fn make_room(waiting: &mut VecDeque<Waiting>) -> Result<(), AllocError>
+    ensures same { waiting.new.items ≡ waiting.old.items }
+    ensures room { OnOk result (deque_len waiting.new + INSTRUCTIONS ≤ deque_capacity waiting.new) }
+    ensures doubled { deque_capacity waiting.new ≢ deque_capacity waiting.old
+        → 2 * deque_capacity waiting.old ≤ deque_capacity waiting.new }
+{
+    let (held, room) = (waiting.len(), waiting.capacity());
+    if room - held < INSTRUCTIONS {
+        waiting.reserve_exact(INSTRUCTIONS.max(2 * room - held))?;
+    }
+    Ok(())
+}
+
 impl Service {
     ghost use Rattle.mm_service.specs.Applying.{Applies, RefusesRequest};
 
@@ -76,7 +90,7 @@ impl Service {
         ensures left { OnErr result (each.new ≡ each.old) }
     {
         let asked = request_of(alloc, packet)?;
-        self.waiting.reserve(INSTRUCTIONS)?;
+        make_room(&mut self.waiting)?;
         let answers = self.memory.apply(alloc, now, &asked.request)?;
         tell_answers(&answers.each, each);
         let count = answers.each.len();

@@ -6,11 +6,13 @@ mod answers;
 mod applying;
 mod fault;
 mod giving;
+pub mod laws;
 mod offering;
 mod reading;
 mod recording;
 mod reporting;
 mod service;
+mod showing;
 mod waiting;
 
 pub use answers::{DONE, INSTRUCTIONS};
@@ -20,3 +22,4 @@ pub use mm_memory::Tally;
 pub use offering::Fate;
 pub use reporting::Reported;
 pub use service::Service;
+pub use showing::Shown;

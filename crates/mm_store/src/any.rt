@@ -1,13 +1,13 @@
 //! Packet stores of either kind.
 ghost use Rattle.std.specs.Prelude.{◌≡◌, ◌<◌, ◌≤◌, ◌↔◌, length, Err, IfOk, IsOk, OnOk, OnErr};
-ghost use Rattle.mm_store.specs.Content.{IsStore, empty_store, first_in, shown};
-ghost use Rattle.mm_store.specs.Any.{loses_next};
+ghost use Rattle.mm_store.specs.Content.{empty_store, first_in, shown};
 ghost use Rattle.mm_store.specs.declared.fault.Fault.TheVariants.{HoldsMore};
 
 use crate::fault::Fault;
 use crate::put::Put;
 use crate::ring::RingStore;
 use crate::store::PacketStore;
+use crate::table::BlockStore;
 use mm_base::{Kind, MAX_BLOCKS, NoMemory};
 use mm_packet::BlockPacket;
 use std::alloc::Global;
@@ -16,9 +16,23 @@ use std::marker::Model;
 /// A packet store of either kind (ECSS-E-ST-70-41C, 6.15), which may be resized and change its kind.
 #[derive(Drop)]
 pub struct AnyStore {
-    kind: Kind,
-    // The packets. Where the store is bounded, none is put into a full ring.
-    ring: RingStore,
+    form: Form,
+}
+
+#[derive(Drop)]
+enum Form {
+    Ring(RingStore),
+    Blocks(BlockStore),
+}
+
+// What a call gives for the store of either form.
+macro_rules! of_store {
+    ($form:expr; $store:ident => $call:expr) => {
+        match $form {
+            Form::Ring($store) => $call,
+            Form::Blocks($store) => $call,
+        }
+    };
 }
 
 impl Model for AnyStore {
@@ -26,11 +40,11 @@ impl Model for AnyStore {
 
     ghost Value = { Store };
 
-    ghost use Rattle.mm_store.specs.Any.{of_kind, IsCircular};
+    ghost use Rattle.mm_store.specs.Any.{store_of, IsOfItsKind};
 
-    ghost view = { λ a. of_kind a.kind a.ring };
+    ghost view = { λ a. store_of a.form };
 
-    ghost invariant = { λ a. IsCircular a.ring };
+    ghost invariant = { λ a. IsOfItsKind a.form };
 }
 
 impl AnyStore {
@@ -40,8 +54,11 @@ impl AnyStore {
         requires highest { size ≤ MAX_BLOCKS }
         ensures empty { IfOk result (λ store. store ≡ empty_store kind size) }
     {
-        let ring = RingStore::new(alloc, size)?;
-        Ok(AnyStore { kind, ring })
+        let form = match kind {
+            Kind::Circular => Form::Ring(RingStore::new(alloc, size)?),
+            Kind::Bounded => Form::Blocks(BlockStore::new(alloc, size)?),
+        };
+        Ok(AnyStore { form })
     }
 
     /// Sets the size, in blocks, and keeps all else. `HoldsMore` where the store holds more packets than that.
@@ -52,16 +69,22 @@ impl AnyStore {
         ensures holds_more { (result ≡ Err HoldsMore) ↔ (size < length self.old.content) }
         ensures err { OnErr result (self.new ≡ self.old) }
     {
-        self.ring.resize(size)
+        of_store!(&mut self.form; store => store.resize(size))
     }
 
-    /// Sets the kind, and keeps all else. No memory is taken.
+    /// Sets the kind, and keeps all else. A store that has the kind takes no memory.
     pub fn change_kind(&mut self, kind: Kind) -> Result<(), NoMemory>
         ensures ok { OnOk result (self.new ≡ record self.old { kind = kind }) }
         ensures same_kind { kind ≡ self.old.kind → IsOk result }
         ensures err { OnErr result (self.new ≡ self.old) }
     {
-        self.kind = kind;
+        if kind == self.kind() {
+            return Ok(());
+        }
+        self.form = match &mut self.form {
+            Form::Ring(ring) => Form::Blocks(BlockStore::taking(ring)?),
+            Form::Blocks(blocks) => Form::Ring(RingStore::taking(blocks)?),
+        };
         Ok(())
     }
 
@@ -77,17 +100,7 @@ impl AnyStore {
     ) -> Option<(u64, &BlockPacket)>
         ensures found { shown result ≡ first_in from to after self.now.content }
     {
-        self.ring.first_near(from, to, after, place)
-    }
-
-    // Whether a put hands its packet back: the store is bounded and full, and its clock is not at its end.
-    #[inline(always)]
-    fn loses_next(&self) -> bool
-        ensures lost { result ≡ loses_next self.now }
-        ensures sound { IsStore self.now }
-    {
-        let is_full = self.ring.len() == self.ring.size();
-        is_full && self.kind == Kind::Bounded && self.ring.last_time() != u64::MAX
+        of_store!(&self.form; store => store.first_near(from, to, after, place))
     }
 }
 
@@ -96,41 +109,38 @@ impl PacketStore for AnyStore {
 
     #[inline(always)]
     fn put(&mut self, now: u64, packet: BlockPacket) -> Put {
-        if self.loses_next() {
-            return Put::Lost(packet);
-        }
-        self.ring.put(now, packet)
+        of_store!(&mut self.form; store => store.put(now, packet))
     }
 
     fn first_in(&self, from: u64, to: u64, after: u64) -> Option<(u64, &BlockPacket)> {
-        self.ring.first_in(from, to, after)
+        of_store!(&self.form; store => store.first_in(from, to, after))
     }
 
     fn delete_up_to(&mut self, limit: u64) -> u32 {
-        self.ring.delete_up_to(limit)
+        of_store!(&mut self.form; store => store.delete_up_to(limit))
     }
 
     fn len(&self) -> u32 {
-        self.ring.len()
+        of_store!(&self.form; store => store.len())
     }
 
     fn oldest(&self) -> u64 {
-        self.ring.oldest()
+        of_store!(&self.form; store => store.oldest())
     }
 
     fn newest(&self) -> u64 {
-        self.ring.newest()
+        of_store!(&self.form; store => store.newest())
     }
 
     fn kind(&self) -> Kind {
-        self.kind
+        of_store!(&self.form; store => store.kind())
     }
 
     fn size(&self) -> u32 {
-        self.ring.size()
+        of_store!(&self.form; store => store.size())
     }
 
     fn last_time(&self) -> u64 {
-        self.ring.last_time()
+        of_store!(&self.form; store => store.last_time())
     }
 }

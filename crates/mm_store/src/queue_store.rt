@@ -71,6 +71,21 @@ impl<Q: PacketQueue> QueueStore<Q> {
     {
         queue::first_near(&self.queue, from, to, after, place)
     }
+
+    // A store of the other kind with all that this one holds, which is empty then.
+    pub(crate) fn taking<F: PacketQueue>(
+        store: &mut QueueStore<F>,
+    ) -> Result<QueueStore<Q>, NoMemory>
+        ensures ok { IfOk result (λ taken. taken ≡ record store.old { kind = Q.kind }) }
+        ensures err { OnErr result (store.new ≡ store.old) }
+    {
+        let size = store.size();
+        let queue = queue::moved(&mut store.queue, size)?;
+        Ok(QueueStore {
+            queue,
+            last: store.last,
+        })
+    }
 }
 
 impl<Q: PacketQueue> PacketStore for QueueStore<Q> {

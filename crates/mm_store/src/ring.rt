@@ -43,14 +43,13 @@ impl PacketQueue for HeapCircularBuffer<Stored> {
 
     #[inline(always)]
     fn append(&mut self, newest: Stored) {
-        let _overwritten = self.push_back(newest);
+        let Ok(()) = self.try_push_back(newest) else {
+            unreachable!()
+        };
     }
 
+    #[inline(always)]
     fn take_oldest(&mut self) -> Stored {
         self.pop_front().unwrap()
-    }
-
-    fn replace_oldest(&mut self, newest: Stored) -> Stored {
-        self.push_back(newest).unwrap()
     }
 }

@@ -72,17 +72,20 @@ impl PacketQueue for BlockTable {
         self.blocks.len()
     }
 
+    #[inline(always)]
     fn at(&self, place: usize) -> &Stored {
         let number = self.queue[place];
         self.blocks[number as usize].as_ref().unwrap()
     }
 
+    #[inline(always)]
     fn append(&mut self, newest: Stored) {
         let number = self.free.pop().unwrap();
         self.blocks[number as usize] = Some(newest);
         self.queue.push_back_reserved(number);
     }
 
+    #[inline(always)]
     fn take_oldest(&mut self) -> Stored {
         let number = self.queue.pop_front().unwrap();
         self.free.push_reserved(number);

@@ -19,7 +19,7 @@ impl Words {
             }),
             Verdict::LossIs(_) => Some(Words {
                 expected: "the loss that the plan has, which is the number printed",
-                advice: "write that number after loss, or plan again",
+                advice: "plan again if dumps were changed, since it is then no least plan; else write that number after loss",
             }),
             Verdict::BadStretch(_) => Some(Words {
                 expected: "stretches of stores of the setup, with steps in order and in range, that share no step",

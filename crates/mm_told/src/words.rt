@@ -113,7 +113,7 @@ fn expected(refusal: Refusal) -> &'static str
         Refusal::NoMemoryInStep => "memory for this step",
         Refusal::LinkFailed => "a link that takes the packet",
         Refusal::LogMismatch => {
-            "a store that refuses no packet, as no store does within the limits of a run"
+            "stores that refuse no packet of the step: storage is on, and another offer and a later storage time can be counted"
         }
         Refusal::BadSize => "a size from 1 to 1,000,000 blocks",
         Refusal::HexLine => {
@@ -168,7 +168,8 @@ fn advice(refusal: Refusal) -> &'static str
         Refusal::Exists => "choose another identifier, or delete that store with subtype 21",
         Refusal::TooManyStores => "delete a store with subtype 21 first",
         Refusal::StorageOn => "disable storage into it with subtype 2",
-        Refusal::SetupText => "look for a bracket or a quote that is missing",
+        Refusal::SetupText =>
+            "look for a bracket or a quote that is missing, a name that comes twice, or a number that is too large",
         Refusal::SetupField => {
             "look for a key that is missing, misspelt or has a value of another kind"
         }
@@ -198,14 +199,13 @@ fn advice(refusal: Refusal) -> &'static str
         }
         Refusal::LinkFailed => "plan the rest with another link; nothing of that order was deleted",
         Refusal::LogMismatch => {
-            "keep the report: in a run that began this is a fault of the program"
+            "enable storage with subtype 1, or create another store with subtype 20"
         }
         Refusal::BadSize => "choose another size",
         Refusal::HexLine => {
             "write one packet a line, and compare its packet data length with its octets"
         }
-        Refusal::NotRead =>
-            "check its name and who may read it; the name - stands for the script on standard input",
+        Refusal::NotRead => "check its name and who may read it",
         Refusal::SourcesText =>
             "compare the line with 'Sources as text' in docs/FORMATS.md, and the packet data length with the octets; it ends with LF alone",
         Refusal::LinksText => "compare the line with 'Links as text' in docs/FORMATS.md",

@@ -1,17 +1,27 @@
 //! The program of the mass memory: it gives the commands their words, and the files and writers of the system.
 #![tactic(auto)]
 
-use mm_commands::{Device, SystemFiles, read_to_end, refuse_input, run_script, run_tool};
+use mm_commands::{
+    Device, SystemFiles, read_to_end, refuse_input, refuse_words, run_script, run_tool,
+};
 use std::io::{self, IsTerminal, Write};
 use std::process::ExitCode;
 
 const WAITING: &str = "mm_tool: waiting for a script; `mm_tool --help` lists the commands";
 
+// The words of the command line.
+fn words_of(rt: &HostRuntime) -> io::Result<Vec<String>> {
+    Ok(std::env::args(rt)?.skip(1).collect(rt.alloc())?)
+}
+
 /// Runs the program on its words, or where it has none on the script that standard input holds.
-fn main(rt: HostRuntime) -> io::Result<ExitCode> {
+fn main(rt: HostRuntime) -> ExitCode {
     let alloc = rt.alloc();
-    let words: Vec<String> = std::env::args(&rt)?.skip(1).collect(alloc)?;
     let (mut out, mut err) = (rt.stdout(), rt.stderr());
+    let words = match words_of(&rt) {
+        Ok(words) => words,
+        Err(error) => return ExitCode::from(refuse_words(&error, &mut err)),
+    };
     let status = if words.is_empty() {
         let reader = rt.reader();
         if reader.is_terminal() {
@@ -25,5 +35,5 @@ fn main(rt: HostRuntime) -> io::Result<ExitCode> {
         let mut files = SystemFiles::new(&rt);
         run_tool(&rt, alloc, &words, &mut files, &mut out, &mut err)
     };
-    Ok(ExitCode::from(status))
+    ExitCode::from(status)
 }

@@ -14,4 +14,4 @@ mod sets;
 mod spans;
 mod stores;
 
-pub use proposal::{Proposal, propose};
+pub use proposal::{first_plan, propose};

@@ -9,21 +9,13 @@ use crate::moves::{Walks, move_lost};
 use crate::search::search;
 use crate::spans::{Span, spans_of};
 use crate::stores::Stores;
-use mm_plan::{NoMemory, Plan, Stretch};
+use mm_plan::{NoMemory, Plan};
 use mm_problem::{MAX_BLOCKS, Problem};
+use mm_propose::Proposal;
 use std::alloc::Global;
 
 // How many searches are made. Few problems want more than ten.
 const SEARCHES: u32 = 256;
-
-/// A plan, and a cut with the steps that it counts by channels. Nothing is known of them but that the plan is one for the
-/// problem.
-#[derive(Debug, Drop)]
-pub struct Proposal {
-    pub plan: Plan,
-    pub cut: Vec<Stretch>,
-    pub by_channels: Vec<u32>,
-}
 
 // Writes what leaves the stores in a span into its last step.
 fn write_span(plan: &mut Plan, problem: &Problem, span: &Span)
@@ -84,4 +76,14 @@ pub fn propose(alloc: Global, problem: &Problem) -> Result<Proposal, NoMemory>
         cut: stretches_of(alloc, problem, spans.as_slice())?,
         by_channels: counts_of(alloc, spans.as_slice())?,
     })
+}
+
+/// The plan before lost blocks are moved.
+pub fn first_plan(alloc: Global, problem: &Problem) -> Result<Plan, NoMemory>
+    ensures shape { IfOk result (HasShape problem.now) }
+{
+    let stores = Stores::of(problem);
+    let mut spans = spans_of(alloc, problem)?;
+    dump_by_next_overflow(&stores, spans.as_mut_slice());
+    plan_of(alloc, problem, spans.as_slice())
 }

@@ -21,6 +21,7 @@ macro_rules! refused {
 
 mod bases;
 mod controls;
+mod hinting;
 mod noting;
 mod packets;
 mod reports;

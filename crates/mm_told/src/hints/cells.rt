@@ -23,6 +23,8 @@ pub(crate) enum Wanted {
     Uneven { cells: u32 },
     /// The first with a number above 1,000,000.
     TooLarge,
+    /// The first in whose line a quoted cell is left open.
+    Open,
 }
 
 // The line without the CR at its end.
@@ -33,15 +35,15 @@ fn without_return(line: &[u8]) -> &[u8] {
     }
 }
 
-// Whether a quoted cell goes on in the next line, or a CR stands in the line.
-fn is_odd(line: &[u8]) -> bool {
+// Whether a quoted cell goes on in the next line.
+fn is_open(line: &[u8]) -> bool {
     let mut is_quoted = false;
     for byte in line {
         if *byte == b'"' {
             is_quoted = !is_quoted;
         }
     }
-    is_quoted || line.contains(&b'\r')
+    is_quoted
 }
 
 // The text up to the first comma outside quotes, and what follows it.
@@ -109,6 +111,7 @@ impl<'a> Record<'a> {
             Wanted::Row(row) => self.row == row,
             Wanted::Uneven { cells } => self.row > 0 && self.cells() != cells,
             Wanted::TooLarge => self.row > 0 && self.too_large().is_some(),
+            Wanted::Open => is_open(self.text),
         }
     }
 }
@@ -120,7 +123,8 @@ pub(crate) fn record_in(text: &[u8], wanted: Wanted) -> Option<Record<'_>> {
     let mut row: u32 = 0;
     while let Some((front, after)) = first_line(rest) {
         let front = without_return(front);
-        if is_odd(front) {
+        let is_alone = !is_open(front) || matches!(wanted, Wanted::Open);
+        if !is_alone || front.contains(&b'\r') {
             return None;
         }
         if !front.is_empty() {

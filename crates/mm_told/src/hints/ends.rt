@@ -62,6 +62,9 @@ impl EndsHint {
     }
 }
 
+/// The most packets of a source in a step.
+const MAX_PACKETS: u64 = 65_535;
+
 // The source, the step and the digits of a line of sources.
 fn parts_of(line: &[u8]) -> Option<(u64, u64, &[u8])> {
     let (source, rest) = cut_word(line)?;
@@ -72,14 +75,44 @@ fn parts_of(line: &[u8]) -> Option<(u64, u64, &[u8])> {
     }
 }
 
+// Whether a line of sources is of this source and step.
+fn is_of(line: &[u8], source: u64, step: u64) -> bool {
+    match parts_of(line) {
+        Some((of_source, of_step, _)) => of_source == source && of_step == step,
+        None => false,
+    }
+}
+
+// How many of the lines before this one are of this source and step.
+fn packets_before(text: &[u8], line: u64, source: u64, step: u64) -> u64 {
+    let mut rest = text;
+    let mut packets: u64 = 0;
+    for _ in 1..line {
+        let Some((front, after)) = first_line(rest) else {
+            return packets;
+        };
+        if is_of(front, source, step) {
+            packets = packets.saturating_add(1);
+        }
+        rest = after;
+    }
+    packets
+}
+
 /// What is found in this line of the sources.
 pub(crate) fn sources_hint(text: &[u8], line: u64) -> Option<Sentence> {
     if let Some(hint) = form_hint(text, line) {
         return Some(hint);
     }
-    if let Some((_, _, digits)) = parts_of(line_at(text, line)?) {
+    if let Some((source, step, digits)) = parts_of(line_at(text, line)?) {
         if let Some(hint) = packet_hint(digits, line) {
             return Some(hint);
+        }
+        if packets_before(text, line, source, step) >= MAX_PACKETS {
+            return Some(Sentence::new(
+                "before line {} come 65,535 packets of source {} in step {}, which is the most; another source can give the rest",
+                &[Shown::Count(line), Shown::Count(source), Shown::Count(step)],
+            ));
         }
     }
     quoted(text, line)

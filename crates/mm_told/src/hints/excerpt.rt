@@ -6,7 +6,8 @@ use std::fmt::{self, Write};
 /// How many bytes of a text are quoted.
 const ROOM: usize = 160;
 
-/// A piece of a text, as a line quotes it: in quotes, with `?` for a byte that is not printable ASCII, and `..` where the text goes on.
+/// A piece of a text, as a line quotes it: in quotes, with `<tab>` for a tab, `?` for another byte that is not printable ASCII, and `..`
+/// where the text goes on.
 #[derive(Clone, Copy)]
 pub struct Excerpt {
     pub(crate) bytes: [u8; ROOM],
@@ -38,26 +39,24 @@ impl Excerpt {
     /// Adds a text, as far as there is room.
     pub(crate) fn push(&mut self, text: &[u8]) {
         for byte in text {
-            self.push_byte(*byte);
+            match *byte {
+                b'\t' => self.push_shown(b"<tab>"),
+                32..=126 => self.push_shown(&[*byte]),
+                _ => self.push_shown(b"?"),
+            }
         }
     }
 
-    fn push_byte(&mut self, byte: u8) {
-        if self.len < ROOM {
-            self.bytes[self.len] = shown(byte);
-            self.len += 1;
-        } else {
-            self.is_cut = true;
+    // Adds what is shown for a byte.
+    fn push_shown(&mut self, shown: &[u8]) {
+        for byte in shown {
+            if self.len < ROOM {
+                self.bytes[self.len] = *byte;
+                self.len += 1;
+            } else {
+                self.is_cut = true;
+            }
         }
-    }
-}
-
-// The byte as a line shows it.
-fn shown(byte: u8) -> u8 {
-    if 32 <= byte && byte <= 126 {
-        byte
-    } else {
-        b'?'
     }
 }
 

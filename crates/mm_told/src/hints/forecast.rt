@@ -89,6 +89,12 @@ fn large_hint(text: &[u8]) -> Option<Sentence> {
     ))
 }
 
+fn open_hint(text: &[u8]) -> Option<Sentence> {
+    let line = record_in(text, Wanted::Open)?.line;
+    let words = "line {} of the file has a quote that is not closed; numbers need no quotes";
+    Some(Sentence::new(words, &[Shown::Count(line)]))
+}
+
 fn in_forecast(alloc: Global, reason: Reason, texts: Texts<'_>) -> Option<Sentence> {
     match (reason.refusal, reason.spot) {
         (Refusal::Header, _) => header_hint(alloc, texts),
@@ -108,5 +114,8 @@ pub(crate) fn forecast_hint(alloc: Global, reason: Reason, texts: Texts<'_>) -> 
     if lines_with(texts.forecast, b"[[store]]") > 0 {
         return Some(swapped());
     }
-    in_forecast(alloc, reason, texts)
+    match in_forecast(alloc, reason, texts) {
+        Some(hint) => Some(hint),
+        None => open_hint(texts.forecast),
+    }
 }

@@ -77,7 +77,7 @@ fn push_stores(notes: &mut Vec<Note>, setup: &Setup) -> Result<(), NoMemory> {
 const REMEMBERED: usize = 64;
 
 // The digits of a packet that spell its report type; 0 where there are too few of them.
-fn spelled(digits: &[u8]) -> u64 {
+fn type_digits(digits: &[u8]) -> u64 {
     match digits {
         [a, b, c, d, _, _, _, _, _, _, _, _, _, _, e, f, g, h, ..] => {
             u64::from_le_bytes([*a, *b, *c, *d, *e, *f, *g, *h])
@@ -119,7 +119,7 @@ impl Taken {
 fn untaken(setup: &Setup, taken: &mut Taken, line: &[u8]) -> Option<ReportType> {
     let (_, rest) = cut_word(line)?;
     let (_, digits) = cut_word(rest)?;
-    let spelled = spelled(digits);
+    let spelled = type_digits(digits);
     if taken.has(spelled) {
         return None;
     }

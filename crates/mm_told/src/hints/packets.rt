@@ -1,4 +1,6 @@
 //! Hints on a packet in hexadecimal digits.
+ghost use Rattle.std.specs.Prelude.{◌≡◌, ◌⊎◌, IsTrue, IsSome};
+ghost use Rattle.mm_base.specs.declared.refusal.Refusal.TheVariants.{HexLine, Short};
 
 use crate::hints::Hint;
 use crate::hints::excerpt::Excerpt;
@@ -76,33 +78,42 @@ pub(crate) fn packet_hint(digits: &[u8], line: u64) -> Option<Sentence> {
 }
 
 // Whether a hint on the digits of a request can say more of its refusal.
-fn is_of_digits(refusal: Refusal) -> bool {
+fn is_of_digits(refusal: Refusal) -> bool
+    ensures { IsTrue result → (refusal ≡ HexLine) ⊎ (refusal ≡ Short) }
+{
     matches!(refusal, Refusal::HexLine | Refusal::Short)
 }
 
 /// The hints on the lines of a file of requests. Where the lines come in their order, all of them take one walk over the file.
 #[derive(Clone, Copy)]
 pub struct RequestHints<'a> {
-    text: &'a [u8],
+    /// The file.
+    pub requests: &'a [u8],
     lines: LineFinder<'a>,
+    ghost of_file: { lines.text.now ≡ requests.now },
 }
 
 impl<'a> RequestHints<'a> {
     /// The hints on the lines of these requests.
     #[must_use]
-    pub fn new(requests: &'a [u8]) -> RequestHints<'a> {
+    pub fn new(requests: &'a [u8]) -> RequestHints<'a>
+        ensures { result.requests.now ≡ requests.now }
+    {
         RequestHints {
-            text: requests,
+            requests,
             lines: LineFinder::new(requests),
         }
     }
 
     /// What is found in this line, which is refused so. It is the same whatever lines came before.
-    pub fn hint(&mut self, refusal: Refusal, line: u64) -> Option<Hint> {
+    pub fn hint(&mut self, refusal: Refusal, line: u64) -> Option<Hint>
+        ensures of_digits { IsSome result → (refusal ≡ HexLine) ⊎ (refusal ≡ Short) }
+        ensures file { self.new.requests.now ≡ self.old.requests.now }
+    {
         if !is_of_digits(refusal) {
             return None;
         }
-        if let Some(hint) = file_hint(self.text) {
+        if let Some(hint) = file_hint(self.requests) {
             return Some(Hint::Said(hint));
         }
         let digits = self.lines.find(line)?;

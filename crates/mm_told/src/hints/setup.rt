@@ -13,6 +13,43 @@ use mm_problem::Name;
 use std::alloc::Global;
 use toml::Table;
 
+// The array whose name a line has in single brackets.
+fn single_table(line: &[u8]) -> Option<Name> {
+    let name = line.trim_ascii().strip_prefix(b"[")?.strip_suffix(b"]")?;
+    for array in &ARRAYS {
+        if array.text().as_bytes() == name {
+            return Some(*array);
+        }
+    }
+    None
+}
+
+// Whether this is a number in digits alone, which is then too large where it is not TOML.
+fn is_whole_number(word: &[u8]) -> bool {
+    for byte in word {
+        if !byte.is_ascii_digit() && *byte != b'_' && *byte != b'-' && *byte != b'+' {
+            return false;
+        }
+    }
+    !word.is_empty()
+}
+
+// What is found in a line in which the text is not TOML, from this word on.
+fn line_hint(number: u64, line: &[u8], word: &[u8]) -> Sentence {
+    let line = line.strip_suffix(b"\r").unwrap_or(line);
+    let (number, text) = (Shown::Count(number), Shown::Text(Excerpt::of(line)));
+    if let Some(array) = single_table(line) {
+        let words = "line {} is {}; write [[{}]] above each table";
+        return Sentence::new(words, &[number, text, Shown::Name(array)]);
+    }
+    let words = if is_whole_number(word) {
+        "line {} is {}; the number is too large"
+    } else {
+        "line {} is {}; numbers have no commas, and texts have quotes"
+    };
+    Sentence::new(words, &[number, text])
+}
+
 // The line in which the text is not TOML.
 fn toml_hint(alloc: Global, octets: &[u8]) -> Option<Sentence> {
     let text = match std::str::from_utf8(octets) {
@@ -25,10 +62,9 @@ fn toml_hint(alloc: Global, octets: &[u8]) -> Option<Sentence> {
     match toml::table_from_str(alloc, text) {
         Ok(_) => None,
         Err(error) => {
-            let line = line_of(octets, error.span()?.start);
-            let text = Shown::Text(Excerpt::of(line_at(octets, line)?));
-            let words = "line {} is {}; numbers have no commas, and texts have quotes";
-            Some(Sentence::new(words, &[Shown::Count(line), text]))
+            let span = error.span()?;
+            let line = line_of(octets, span.start);
+            Some(line_hint(line, line_at(octets, line)?, octets.get(span)?))
         }
     }
 }
@@ -149,6 +185,15 @@ fn key_hint(document: &Table, array: Name, key: Name, table: &Table) -> Option<S
     Some(Sentence::new(words, &shown))
 }
 
+// What is said of a table of an array that an earlier one repeats.
+fn repeated(array: Name) -> &'static str {
+    match array {
+        Name::Store => "has the id of an earlier one; rename one of them",
+        Name::Route => "is the same as an earlier one; leave one of them out",
+        _ => "has the channel of an earlier one; leave one of them out",
+    }
+}
+
 // What is wrong by this name with a table in this row of an array.
 fn in_table(
     document: &Table,
@@ -159,8 +204,7 @@ fn in_table(
 ) -> Option<Sentence> {
     match name {
         Name::Repeated if is_repeated(document, array, row, table) => {
-            let words = "is the same as an earlier one; leave one of them out";
-            Some(Sentence::new(words, &[]))
+            Some(Sentence::new(repeated(array), &[]))
         }
         Name::Repeated => None,
         Name::Unknown => {

@@ -6,7 +6,7 @@ use std::sync::Wait;
 use std::thread::Threads;
 
 // A script whose task is refused, and the line on standard error, or how it begins where a long list of ranges follows.
-static ADVICE: [(&str, &str); 19] = [
+static ADVICE: [(&str, &str); 21] = [
     (
         "plan S F\n=== S\n",
         "F: expected a file of this name; check the name and its folder, or in a script the line === NAME above the file; standard input has the name /dev/stdin\n",
@@ -17,11 +17,11 @@ static ADVICE: [(&str, &str); 19] = [
     ),
     (
         "plan S F\n=== S\n[[store\n=== F\n",
-        "S: expected a TOML document in UTF-8; look for a bracket or a quote that is missing\n",
+        "S: expected a TOML document in UTF-8; look for a bracket or a quote that is missing, a name that comes twice, or a number that is too large\n",
     ),
     (
         "plan S F\n=== S\nstores = 1\n=== F\n",
-        "S, at the top, unknown: expected the keys that docs/FORMATS.md lists for this table, each with an allowed value, and no store, route or limit twice; look for a key that is missing, misspelt or has a value of another kind\n",
+        "S, at the top, a key that cannot be there: expected the keys that docs/FORMATS.md lists for this table, each with an allowed value, and no store, route or limit twice; look for a key that is missing, misspelt or has a value of another kind\n",
     ),
     (
         "plan S F\n=== S\n[[store]]\nid = \"A\"\nsize = \"4\"\ntype = \"bounded\"\nchannel = 0\n=== F\n",
@@ -40,8 +40,16 @@ static ADVICE: [(&str, &str); 19] = [
         "S, table 1, channel: expected the keys",
     ),
     (
+        "plan S F\n=== S\n[[store]]\nid = \"A\"\nsise = 1\n=== F\n",
+        "S, table 1, a key that cannot be there: expected the keys",
+    ),
+    (
+        "plan S F\n=== S\n[[store]]\nid = \"A\"\nsize = 1\ntype = \"bounded\"\nchannel = 0\n[[store]]\nid = \"A\"\nsize = 1\ntype = \"bounded\"\nchannel = 0\n=== F\n",
+        "S, table 2, a table that comes twice: expected the keys",
+    ),
+    (
         "ask S R\n=== S\n[[store]\n=== R\n",
-        "S: expected a TOML document in UTF-8; look for a bracket or a quote that is missing\n",
+        "S: expected a TOML document in UTF-8; look for a bracket or a quote that is missing, a name that comes twice, or a number that is too large\n",
     ),
     (
         "plan S F\n=== S\n[[store]]\nid = \"A\"\nsize = 1\ntype = \"bounded\"\nchannel = 0\n=== F\nstep,window,B\n",
@@ -112,7 +120,7 @@ static FOUND: [(&str, &str); 7] = [
     ),
     (
         "mmplan 2\nstores A\ndump 1 1\ndump 2 0\nloss 3\nstretch A 1 2\ncount 1 channels\nbound 2\nend\n",
-        "P: expected the loss that the plan has, which is the number printed; write that number after loss, or plan again\n",
+        "P: expected the loss that the plan has, which is the number printed; plan again if dumps were changed, since it is then no least plan; else write that number after loss\n",
     ),
     (
         "mmplan 2\nstores A\ndump 1 1\ndump 2 0\nloss 2\nstretch A 2 1\ncount 1 channels\nbound 2\nend\n",

@@ -105,8 +105,8 @@ impl rt::Files for FailingSystem<'_> {
         Err(fault())
     }
 
-    fn metadata(&self, _path: &str) -> io::Result<Metadata> {
-        Err(fault())
+    fn metadata(&self, path: &str) -> io::Result<Metadata> {
+        self.runtime.metadata(path)
     }
 
     fn symlink_metadata(&self, path: &str) -> io::Result<Metadata> {

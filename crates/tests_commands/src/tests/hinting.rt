@@ -61,7 +61,7 @@ static SETUP_HINTS: [(&str, &str); 18] = [
     ),
     (
         "[[store]]\nid = \"A\"\nsize = 4\ntype = \"bounded\"\nchannel = 0\n[[store]]\nid = \"A\"\nsize = 4\ntype = \"bounded\"\nchannel = 0\n",
-        "table 2 of store, \"A\", is the same as an earlier one; leave one of them out",
+        "table 2 of store, \"A\", has the id of an earlier one; rename one of them",
     ),
     (
         "[[store]]\nid = \"A\"\nsize = 4\ntype = \"bounded\"\nchannel = 0\n[[route]]\napid = 100\nservice = 3\nsubtype = 25\nstore = \"A\"\n[[route]]\napid = 100\nservice = 3\nsubtype = 25\nstore = \"A\"\n",
@@ -209,7 +209,11 @@ static FLIGHT_HINTS: [(&str, &str); 9] = [
 ];
 
 // Requests that are refused, and what is found in each.
-static REQUEST_HINTS: [(&str, &str); 3] = [
+static REQUEST_HINTS: [(&str, &str); 4] = [
+    (
+        "\u{FEFF}1864C000000D200F01000001484B202020202020\n",
+        "the file begins with a byte order mark; save it in UTF-8 without one",
+    ),
     (
         "1864 C000\n",
         "line 1 has spaces between digits; write the digits without them",
@@ -225,7 +229,19 @@ static REQUEST_HINTS: [(&str, &str); 3] = [
 ];
 
 // Other scripts with a file that is refused, and what is found in them.
-static OTHER_HINTS: [(&str, &str); 4] = [
+static OTHER_HINTS: [(&str, &str); 7] = [
+    (
+        "check P S F\n=== S\n=== F\n=== P\nmmplan 1\nstores A\n",
+        "the files are in another order; name the setup first, then the forecast, then the plan",
+    ),
+    (
+        "run S P F X L\n=== S\n[[store]]\nid = \"A\"\nsize = 4\ntype = \"bounded\"\nchannel = 0\n=== F\n=== P\nmmplan 2\nstores A\n=== X\n=== L\n",
+        "the files are in another order; name the setup first, then the forecast, then the plan",
+    ),
+    (
+        "plan P F\n=== F\n=== P\nmmplan 1\nstores A\n",
+        "line 1 is \"mmplan 1\"; numbers have no commas, and texts have quotes",
+    ),
     (
         "plan S F\n=== S\nstep,window,A\n1,2,3\n2,2,3\n=== F\n[[store]]\nid = \"A\"\nsize = 4\ntype = \"bounded\"\nchannel = 0\n",
         "the files are in another order; name the setup first, then the forecast",
@@ -294,10 +310,11 @@ fn faults_of_files_are_shown(rt: HostRuntime) {
     each_hints(&rt, "", &OTHER_HINTS, "");
 }
 
-// A setup and a forecast in UTF-16.
-static IN_UTF16: [&[u8]; 2] = [
+// A setup, a forecast and requests in UTF-16.
+static IN_UTF16: [&[u8]; 3] = [
     b"plan S F\n=== F\n=== S\n\xFF\xFE[\0[\0",
     b"plan S F\n=== S\n[[store]]\nid = \"A\"\nsize = 4\ntype = \"bounded\"\nchannel = 0\n=== F\n\xFF\xFEs\0t\0",
+    b"ask S R\n=== S\n[[store]]\nid = \"A\"\nsize = 4\ntype = \"bounded\"\nchannel = 0\n=== R\n\xFF\xFE1\08\0",
 ];
 
 #[test]

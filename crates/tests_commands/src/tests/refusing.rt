@@ -1,7 +1,7 @@
-//! What is said of the lines that are refused, of long made texts, beside a plain form of it: each line of the answer is searched as text, and
-//! each hint is sought from the front of the file.
+//! What is said of the lines that are refused: of long made texts, beside a plain form of it that searches each line of the answer as text and
+//! seeks each hint from the front of the file; and where standard error does not take it.
 
-use crate::tests::samples::{Answer, SCI, holds, joined, told_bytes};
+use crate::tests::samples::{Answer, SCI, holds, joined, told, told_bytes};
 use mm_base::Refusal;
 use mm_commands::run_script;
 use mm_told::{Words, refusal_numbered, request_hint};
@@ -98,7 +98,10 @@ fn push_said<R: Abort + AllocGlobal>(
     }
 }
 
-// What is said of all refused lines of the answer.
+// How many lines are said of each refusal.
+const MOST: u32 = 10;
+
+// What is said of the refused lines of the answer: of each refusal the first ones, and then how many more there are.
 fn all_said<R: Abort + AllocGlobal>(
     rt: &R,
     name: &str,
@@ -106,13 +109,32 @@ fn all_said<R: Abort + AllocGlobal>(
     requests: &str,
     answer: &Answer,
 ) -> String {
-    let mut said = String::new(rt.alloc());
+    let (mut said, mut more) = (String::new(rt.alloc()), 0);
+    let mut counts = [0u32; 256];
     for line in answer.out.as_str().lines() {
-        if let Some(refused) = refused(line) {
-            push_said(rt, &mut said, name, counted, requests, refused);
+        if let Some((place, refusal)) = refused(line) {
+            let count = &mut counts[usize::from(refusal.number())];
+            *count = count.saturating_add(1);
+            if *count <= MOST {
+                push_said(rt, &mut said, name, counted, requests, (place, refusal));
+            } else {
+                more = u32::saturating_add(more, 1);
+            }
         }
     }
+    push_more(rt, &mut said, name, more);
     said
+}
+
+// How many more are said to be there.
+fn push_more<R: Abort + AllocGlobal>(rt: &R, said: &mut String, name: &str, more: u32) {
+    if more > 0 {
+        let told = format!(in rt.alloc();
+            "{name}: more of the same refusals: {more}; standard output has them all\n"
+        );
+        said.push_str(told.expect(rt, "memory").as_str())
+            .expect(rt, "memory");
+    }
 }
 
 // What the program says of this text of packets, in a file of this name, is what the plain form says.
@@ -143,36 +165,90 @@ fn refused_lines_are_told_as_by_a_plain_form(rt: HostRuntime) {
     }
 }
 
+// Eleven lines that are no packet, an answer of another refusal, and a twelfth. What is said of the tenth, and after it.
+const TWELVE: &str = "y\ny\ny\ny\ny\ny\ny\ny\ny\ny\ny\n1.1 refused 24 Exists\ny\n";
+
+const AFTER_NINE: &str = "\
+P, packet 10: expected one packet in hexadecimal digits, two for each octet, and nothing after it; write one packet a line, and compare its packet data length with its octets
+P, packet 1, instruction 1: expected an identifier that no store has yet; choose another identifier, or delete that store with subtype 21
+P: more of the same refusals: 2; standard output has them all
+";
+
 #[test]
-fn long_lines_are_told_as_by_a_plain_form(rt: HostRuntime) {
-    let mut state = 1;
-    let mut text = String::new(rt.alloc());
-    made(&rt, &mut text, 12, &mut state);
-    for len in 940..1024 {
-        let name = "P".repeat(rt.alloc(), len).expect(&rt, "memory");
-        let front = joined(&rt, &["read ", name.as_str(), "\n"]);
-        is_as_plain(&rt, front.as_str(), name.as_str(), "packet", text.as_str());
+fn ten_lines_are_told_of_a_refusal(rt: HostRuntime) {
+    let answer = told(&rt, &["read P\n=== P\n", TWELVE]);
+    let lines = answer.err.as_str().lines().count();
+    let is_told = answer.err.as_str().ends_with(AFTER_NINE);
+    holds(&rt, TWELVE, &answer, lines == 12 && is_told);
+}
+
+// An answer of `ask`, which `read` prints as it stands, with status 0. What is said of it, by the pieces that standard error takes.
+const ANSWERED: &str = "read P\n=== P\n8.1 refused 18 Busy\n";
+
+static SAID: [&str; 13] = [
+    "P",
+    ", ",
+    "packet",
+    " ",
+    "8",
+    ", instruction ",
+    "1",
+    ": ",
+    "expected ",
+    "a store with no retrieval on",
+    "; ",
+    "abort the retrieval with subtype 17",
+    "\n",
+];
+
+// What a writer does with the first write that passes a byte, or with each that does.
+#[derive(Clone, Copy, Debug, PartialEq, Eq)]
+enum Turn {
+    Refused,
+    Interrupted,
+    TakenNone,
+    TakenSingly,
+}
+
+// A writer that does so at this byte, and takes all else.
+#[derive(Drop)]
+struct Fickle {
+    taken: Vec<u8>,
+    turn: Option<Turn>,
+    at: usize,
+}
+
+impl Fickle {
+    fn take(&mut self, bytes: &[u8]) -> io::Result<()> {
+        match self.taken.extend_from_slice(bytes) {
+            Ok(()) => Ok(()),
+            Err(_) => Err(io::Error::from(ErrorKind::OutOfMemory)),
+        }
     }
 }
 
-// A writer that has room for so many bytes. Of what it has no room for it takes a part, or refuses it whole.
-#[derive(Drop)]
-struct Narrow {
-    taken: Vec<u8>,
-    room: usize,
-    takes_parts: bool,
-}
-
-impl Write for Narrow {
+impl Write for Fickle {
     fn write(&mut self, buf: &[u8]) -> io::Result<usize> {
-        let room = self.room.saturating_sub(self.taken.len());
-        if room < buf.len() && (room == 0 || !self.takes_parts) {
-            return Err(io::Error::from(ErrorKind::WouldBlock));
-        }
-        let count = room.min(buf.len());
-        match self.taken.extend_from_slice(&buf[..count]) {
-            Ok(()) => Ok(count),
-            Err(_) => Err(io::Error::from(ErrorKind::OutOfMemory)),
+        let passes = self.at.saturating_sub(self.taken.len()) < buf.len();
+        let turn = if passes { self.turn } else { None };
+        match turn {
+            None => {
+                self.take(buf)?;
+                Ok(buf.len())
+            }
+            Some(Turn::TakenSingly) => {
+                let count = buf.len().min(1);
+                self.take(&buf[..count])?;
+                Ok(count)
+            }
+            Some(turn) => {
+                self.turn = None;
+                match turn {
+                    Turn::Refused => Err(io::Error::from(ErrorKind::BrokenPipe)),
+                    Turn::Interrupted => Err(io::Error::from(ErrorKind::Interrupted)),
+                    _ => Ok(0),
+                }
+            }
         }
     }
 
@@ -181,57 +257,56 @@ impl Write for Narrow {
     }
 }
 
-// Standard error with room for so many bytes has taken that many of what the program says.
-fn takes_all_it_can<R: Abort + AllocGlobal + Threads + Wait + Sync>(
+// How many bytes the pieces have that end at this byte or before it.
+fn whole_pieces(at: usize) -> usize {
+    let mut whole: usize = 0;
+    for piece in &SAID {
+        if whole.saturating_add(piece.len()) > at {
+            return whole;
+        }
+        whole = whole.saturating_add(piece.len());
+    }
+    whole
+}
+
+// A write that is refused, or of which nothing is taken, ends what is said, and the status is 1. Any other changes nothing.
+fn is_said_as_far<R: Abort + AllocGlobal + Threads + Wait + Sync>(
     rt: &R,
-    script: &[u8],
     said: &[u8],
-    room: usize,
-    takes_parts: bool,
+    turn: Turn,
+    at: usize,
 ) {
     let alloc = rt.alloc();
     let mut out = Vec::new(alloc);
-    let mut err = Narrow {
+    let mut err = Fickle {
         taken: Vec::new(alloc),
-        room,
-        takes_parts,
+        turn: Some(turn),
+        at,
     };
-    run_script(rt, alloc, script, &mut out, &mut err);
-    let all = &said[..room.min(said.len())];
+    let status = run_script(rt, alloc, ANSWERED.as_bytes(), &mut out, &mut err);
+    let is_ended = matches!(turn, Turn::Refused | Turn::TakenNone) && at < said.len();
+    let len = if is_ended {
+        whole_pieces(at)
+    } else {
+        said.len()
+    };
     assert!(rt;
-        err.taken.as_slice() == all,
-        "room {room}, parts {takes_parts}"
+        (status, err.taken.as_slice()) == (u8::from(is_ended), &said[..len.min(said.len())]),
+        "{turn:?} at {at}"
     );
 }
 
 #[test]
-fn standard_error_takes_all_that_it_has_room_for(rt: HostRuntime) {
-    let mut state = 1;
-    let mut text = String::new(rt.alloc());
-    made(&rt, &mut text, 350, &mut state);
-    let script = joined(&rt, &["read P\n=== P\n", text.as_str()]);
-    let answer = told_bytes(&rt, script.as_bytes());
-    let said = all_said(&rt, "P", "packet", "", &answer);
-    let len = said.len();
-    assert!(rt; len > 3 * 8192);
-    for room in [
-        0,
-        1,
-        99,
-        1000,
-        4096,
-        8191,
-        8192,
-        8193,
-        9000,
-        16_383,
-        16_385,
-        len - 1,
-        len,
-        len + 1,
-    ] {
-        for takes_parts in [false, true] {
-            takes_all_it_can(&rt, script.as_bytes(), said.as_bytes(), room, takes_parts);
+fn a_refused_write_on_standard_error_is_told(rt: HostRuntime) {
+    let said = joined(&rt, &SAID);
+    for at in 0..said.len() + 2 {
+        for turn in [
+            Turn::Refused,
+            Turn::Interrupted,
+            Turn::TakenNone,
+            Turn::TakenSingly,
+        ] {
+            is_said_as_far(&rt, said.as_bytes(), turn, at);
         }
     }
 }

@@ -1,11 +1,11 @@
 //! Texts that go into a file, and what is there where they do not.
 
 use crate::tests::failing_system::{FailingSystem, Fails};
-use crate::tests::hinting::hints;
 use crate::tests::samples::{
     Answer, FIRST_PLAN, SCI, THREE_STEPS, answer_to, answers, holds, joined, replaced, told,
 };
 use mm_commands::SystemFiles;
+use std::os::unix;
 use std::process::Abort;
 use std::sync::Wait;
 use std::thread::Threads;
@@ -198,6 +198,77 @@ fn a_write_that_fails_leaves_the_file(rt: HostRuntime) {
     }
 }
 
+// Tasks whose output is one of their own files, under its name or another, and that output.
+static OWN: [(&str, &str); 10] = [
+    ("plan @/S @/F", "F"),
+    ("plan @/S @/F", "S"),
+    ("chart @/S @/F @/P", "P"),
+    ("table @/S @/F @/P", "F"),
+    ("plan @/S @/F", "./F"),
+    ("plan @/S @/F", "FOLDER/F"),
+    ("plan @/S @/F", "LINK"),
+    ("plan @/S @/LINK", "F"),
+    ("plan @/S @/F", "TWIN"),
+    ("plan @/S @/TWIN", "F"),
+];
+
+// A new folder in which F has a link, a hard link and a copy, and the folder a link.
+fn make_links<R: Abort + AllocGlobal + rt::Env + rt::Files>(rt: &R) -> String {
+    let folder = make_folder(rt, "own");
+    let name = |file: &str| whole(rt, folder.as_str(), file);
+    let (file, copy) = (name("F"), name("COPY"));
+    unix::fs::symlink(rt, "F", name("LINK").as_str()).expect(rt, "a link");
+    unix::fs::symlink(rt, ".", name("FOLDER").as_str()).expect(rt, "a link");
+    fs::hard_link(rt, file.as_str(), name("TWIN").as_str()).expect(rt, "a link");
+    fs::copy(rt, file.as_str(), copy.as_str()).expect(rt, "a copy");
+    folder
+}
+
+// The task is not done, its output is told, and no file has changed.
+fn is_kept<R>(rt: &R, folder: &str, task: &str, output: &str)
+where
+    R: Abort + AllocGlobal + rt::Files + Threads + Wait + Sync,
+{
+    let line = joined(rt, &[task, " --output @/", output]);
+    let answer = run(rt, rt, folder, line.as_str());
+    let says = joined(
+        rt,
+        &[
+            "mm_tool: ",
+            folder,
+            "/",
+            output,
+            " could not be written, and is as it was: it is a file that the task reads\n",
+        ],
+    );
+    let is_told = answer.has("", 1) && answer.err.as_str() == says.as_str();
+    let are_kept = has(rt, folder, "S", SCI)
+        && has(rt, folder, "F", THREE_STEPS)
+        && has(rt, folder, "P", FIRST_PLAN);
+    let is_alone = !is_there(rt, folder, "F.new1") && !is_there(rt, folder, "S.new1");
+    holds(rt, line.as_str(), &answer, is_told && are_kept && is_alone);
+}
+
+fn own_files_are_kept<R>(rt: &R)
+where
+    R: Abort + AllocGlobal + rt::Env + rt::Files + Threads + Wait + Sync,
+{
+    let folder = make_links(rt);
+    for (task, output) in &OWN {
+        is_kept(rt, folder.as_str(), task, output);
+    }
+    let answer = run(rt, rt, folder.as_str(), "plan @/S @/F --output @/COPY");
+    let is_stored = has(rt, folder.as_str(), "COPY", FIRST_PLAN);
+    holds(rt, "a copy", &answer, answer.has("", 0) && is_stored);
+    remove(rt, folder.as_str());
+}
+
+// What a task reads is not replaced by what it makes. A copy of it may be.
+#[test]
+fn an_output_is_no_input(rt: HostRuntime) {
+    own_files_are_kept(&rt);
+}
+
 // The files of a script are not written, and its output is told as one that was not.
 #[test]
 fn scripts_store_nothing(rt: HostRuntime) {
@@ -207,30 +278,58 @@ fn scripts_store_nothing(rt: HostRuntime) {
     answers(&rt, &script, "", words, 1);
 }
 
-// Lines of which no task has the output.
-static LINES: [&str; 6] = [
-    "check S F P --output X\n",
+// An output that is not read as one, and what is said of it.
+static MISPLACED: [&str; 8] = [
     "plan --output X S F\n",
     "plan S F --output\n",
     "plan S F --output --help\n",
     "plan S F --output X --output Y\n",
     "plan -- S F --output X\n",
+    "plan S F --output=X\n",
+    "plan S F -o X\n",
+    "chart S F P -oX\n",
 ];
 
-// A bad command line is told with the hint where an output stands.
-fn is_misplaced<R: Abort + AllocGlobal + Threads + Wait + Sync>(rt: &R, line: &str) {
-    let answer = told(rt, &[line]);
-    holds(rt, line, &answer, answer.has("", 2));
-    hints(
-        rt,
-        &answer,
-        "--output FILE stands last, after the files of plan, chart or table",
-    );
-}
+const STANDS_LAST: &str = "\
+error: --output FILE stands last, as two words, after the files of plan, chart or table, and with no -- before it
+
+For more information, try '--help'.
+";
 
 #[test]
 fn an_output_stands_last(rt: HostRuntime) {
-    for line in &LINES {
-        is_misplaced(&rt, line);
+    for line in &MISPLACED {
+        answers(&rt, &[*line], "", STANDS_LAST, 2);
+    }
+}
+
+// Other bad lines with an output, and what is said first.
+static OUTPUTS: [(&str, &str); 4] = [
+    (
+        "check S F P --output X\n",
+        "error: --output goes with plan, chart and table alone\n",
+    ),
+    (
+        "plan S F P --output X\n",
+        "error: unexpected argument 'P' found\n",
+    ),
+    (
+        "plan S --output X\n",
+        "error: the following required arguments were not provided:\n  <FORECAST>\n",
+    ),
+    ("plan -p F\n", "error: unexpected argument '-p' found\n"),
+];
+
+// A bad line is told with this first.
+fn is_bad<R: Abort + AllocGlobal + Threads + Wait + Sync>(rt: &R, line: &str, front: &str) {
+    let answer = told(rt, &[line]);
+    let is_told = answer.has("", 2) && answer.err.as_str().starts_with(front);
+    holds(rt, line, &answer, is_told);
+}
+
+#[test]
+fn bad_lines_with_an_output(rt: HostRuntime) {
+    for (line, front) in &OUTPUTS {
+        is_bad(&rt, line, front);
     }
 }

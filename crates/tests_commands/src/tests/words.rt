@@ -2,10 +2,13 @@
 
 use crate::tests::failing::{FailingWriter, UNWRITTEN};
 use crate::tests::samples::{
-    Answer, FIRST_PLAN, SCI, THREE_STEPS, holds, prints, refuses, told, told_bytes,
+    Answer, FIRST_PLAN, SCI, THREE_STEPS, answer_to, holds, joined, prints, refuses, told,
+    told_bytes,
 };
-use mm_commands::{Obstacle, ReadFault, refuse_input, run_script};
+use mm_commands::{Obstacle, ReadFault, SystemFiles, refuse_input, refuse_words, run_script};
+use std::io::{self, ErrorKind};
 use std::process::Abort;
+use std::rt;
 use std::sync::Wait;
 use std::thread::Threads;
 
@@ -139,4 +142,68 @@ fn input_that_is_not_read(rt: HostRuntime) {
     let answer = Answer::of(&rt, out, err, status);
     let is_told = answer.has("refused 50 NotRead name -\n", 1) && !answer.err.is_empty();
     holds(&rt, "an input that is not read", &answer, is_told);
+}
+
+// Why the words of a command line were not read, and what is said of it.
+static UNREAD: [(ErrorKind, &str); 2] = [
+    (
+        ErrorKind::InvalidData,
+        "error: the words of the command line are not UTF-8\n",
+    ),
+    (
+        ErrorKind::OutOfMemory,
+        "error: there is no memory for the words of the command line\n",
+    ),
+];
+
+// Words that are not read are a bad command line, unless standard error does not take that.
+fn is_unread<R: Abort + AllocGlobal>(rt: &R, kind: ErrorKind, said: &str) {
+    let error = io::Error::from(kind);
+    let mut err = Vec::new(rt.alloc());
+    let status = refuse_words(&error, &mut err);
+    let untold = refuse_words(&error, &mut FailingWriter::after(0));
+    assert!(rt;
+        (status, untold) == (2, 1) && err.as_slice() == said.as_bytes(),
+        "{said}"
+    );
+}
+
+#[test]
+fn words_that_are_not_read(rt: HostRuntime) {
+    for (kind, said) in &UNREAD {
+        is_unread(&rt, *kind, said);
+    }
+}
+
+// Names of files that are not there, and how they are shown: each control character as `?`, and no other.
+static NAMES: [(&str, &str); 4] = [
+    ("a b.csv", "a b.csv"),
+    ("a\nrefused 0 NoMemory", "a?refused 0 NoMemory"),
+    ("\t\u{1b}[31m\r\u{7f}", "??[31m??"),
+    ("\u{e9}\u{2192}\u{1f6f0}", "\u{e9}\u{2192}\u{1f6f0}"),
+];
+
+// A file of this name is told as not read, in one line of standard output and one of standard error.
+fn is_shown<R>(rt: &R, name: &str, shown: &str)
+where
+    R: Abort + AllocGlobal + rt::Files + Threads + Wait + Sync,
+{
+    let answer = answer_to(rt, &["plan", name, "F"], &mut SystemFiles::new(rt));
+    let line = joined(rt, &["refused 50 NotRead name ", shown, "\n"]);
+    let front = joined(rt, &[shown, ": expected a file of this name; "]);
+    let said = answer.err.as_str();
+    let is_one_line = said.starts_with(front.as_str()) && said.lines().count() == 1;
+    holds(
+        rt,
+        shown,
+        &answer,
+        answer.has(line.as_str(), 1) && is_one_line,
+    );
+}
+
+#[test]
+fn names_are_shown_in_one_line(rt: HostRuntime) {
+    for (name, shown) in &NAMES {
+        is_shown(&rt, name, shown);
+    }
 }

@@ -3,7 +3,7 @@ use crate::tests::samples::{
     A_LIMITED, CHANNEL_LIMIT_CUT, FIRST_RUN, SCI, THREE_STEPS, TWO_STEPS_OF_A,
 };
 use mm_chart::chart_bytes;
-use samples::{chart_of, has_lines, is_fault};
+use samples::{chart_of, has_lines, has_texts, is_fault};
 use std::alloc::Global;
 use std::process::Abort;
 
@@ -26,7 +26,7 @@ mod tables;
 
 const LEAST: &str = "no plan loses fewer<";
 
-const HELP: &str = "What would help";
+const HELP: &str = "What may help";
 
 // One store of size 4 gets 3, 3 and 4 blocks, and sends 2 and 2: 3 and 4 stand in it, then 6 come to stand, of which 2
 // are lost. In a scale of 32 for 4 blocks that is 24, 32 and 32; 8, 16 and 32 are left.
@@ -43,9 +43,9 @@ pub(crate) static SHOWN: [&str; 15] = [
     "<text class='s' x='172' y='188'>4, channel 0</text>",
     "<text class='r' x='476' y='174'>2 lost</text>",
     "<text class='w' x='16' y='328'>10 &#8722; 4 &#8722; 4 &#8722; 0 = 2: at least that many blocks are lost, whatever is dumped.</text>",
-    "<text class='w' x='16' y='388'>In steps 1&#8211;2, a wider window.</text>",
+    "<text class='w' x='16' y='388'>In steps 1&#8211;2, and only there, a wider window.</text>",
     "<text class='w' x='16' y='408'>No higher limit, and no other channel for a store.</text>",
-    "<text class='w' x='16' y='448'>Larger stores: SCI</text>",
+    "<text class='w' x='16' y='448'>Larger stores, and only these: SCI</text>",
 ];
 
 // 3 and 3 come to a store of 3 whose channel lets 1 leave in a step: 2 are lost.
@@ -77,6 +77,22 @@ static SCALED: [&str; 4] = [
     "<path class='g' d='M180 318V294H276V318M372 318V286H468V318'/>",
 ];
 
+const TWO_OF_SIZE_1: &str =
+    "[[store]]\nid = \"A\"\nsize = 1\ntype = \"bounded\"\nchannel = 0\n[[store]]\nid = \"B\"\nsize = 1\ntype = \"bounded\"\nchannel = 0\n";
+
+const MORE_IN_A: &str = "step,window,A,B\n1,0,11,6\n2,0,1,0\n";
+
+const NOTHING_LEAVES: &str =
+    "mmplan 1\nstores A B\ndump 1 0 0\ndump 2 0 0\nloss 16\nbound 0\nend\n";
+
+// A loses 10 and then 1, B loses 5. In one scale of 10 for 10 blocks that is 10, 1 and 5.
+static ONE_SCALE: [&str; 4] = [
+    "<path class='l' d='M180 160V150H276V159H372V160'/>",
+    "<text class='r' x='380' y='174'>11 lost</text>",
+    "<path class='l' d='M180 208V203H276V208V208'/>",
+    "<text class='r' x='380' y='222'>5 lost</text>",
+];
+
 // The chart of a setup, a forecast and a plan has these lines.
 fn is_charted(rt: &impl Abort, alloc: Global, texts: (&str, &str, &str), lines: &[&str]) {
     let (setup, forecast, plan) = texts;
@@ -96,6 +112,8 @@ fn charts_have_these_lines(rt: HostRuntime) {
         (THREE_SIZES, ONE_COMES, OVER_THE_LIMIT),
         &SCALED,
     );
+    let two = (TWO_OF_SIZE_1, MORE_IN_A, NOTHING_LEAVES);
+    is_charted(&rt, alloc, two, &ONE_SCALE);
 }
 
 // Plans that differ from the best one in a line or two, and the headline then.
@@ -126,10 +144,17 @@ static FORGED: [(&str, &str); 6] = [
     ),
 ];
 
-// The chart of the plan has this headline, and does not say that no plan loses less or what would help.
+// The styles of these headlines, in red.
+static RED: [&str; 2] = [
+    ".m{font-size:15px;font-weight:bold;fill:#c4161c}",
+    ".a{font-size:20px;font-weight:bold;fill:#c4161c}",
+];
+
+// The chart of the plan has this headline, and does not say that no plan loses less or what may help.
 fn is_told(rt: &impl Abort, alloc: Global, plan: &str, headline: &str) {
     let chart = chart_of(rt, alloc, SCI, THREE_STEPS, plan);
     has_lines(rt, chart.as_str(), &[headline]);
+    has_texts(rt, chart.as_str(), &RED);
     let says_more = chart.contains(LEAST) || chart.contains(HELP);
     assert!(rt; !says_more, "for {plan}");
 }

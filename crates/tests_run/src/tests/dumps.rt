@@ -2,7 +2,7 @@
 ghost use Rattle.std.specs.Prelude.{◌≢◌, ◌+◌, ◌<◌, ◌≤◌, length, All, AllPairs, vec_len};
 ghost use Rattle.mm_base.specs.declared.limits.TheConstants.{MAX_STORES};
 
-use crate::tests::links::new_links;
+use crate::tests::links::{has_sent, new_links};
 use crate::tests::samples::{NAMES, is_named, stores_with};
 use mm_desk::Held;
 use mm_dump::{Dumped, Link, MemoryLink, Order, OrderBroken, TakenPacket};
@@ -215,6 +215,32 @@ static CASES: [Case; 7] = [
 fn steps_of_dump_workers(rt: HostRuntime) {
     for case in &CASES {
         tried(&rt, rt.alloc(), case);
+    }
+}
+
+// A step without orders over three stores.
+fn nothing_dumped<R: Threads + Wait + Sync + Abort>(
+    rt: &R,
+    alloc: Global,
+    stores: &mut Vec<Held>,
+    links: &mut [MemoryLink],
+) {
+    let done = dumped(rt, alloc, &[0, 0, 0], stores, links);
+    assert!(rt; (done.broken, done.spent) == (None, 0), "nothing is done");
+}
+
+// The same step again and again, over links of which each fails at a send of its own, if it is asked for one.
+#[test]
+fn steps_without_orders_change_nothing(rt: HostRuntime) {
+    let alloc = rt.alloc();
+    let mut stores = stores_with(&rt, alloc, &[3, 0, 4]);
+    let mut links = new_links(&rt, alloc, &[None, Some(0), Some(1), Some(2)]);
+    for _ in 0..1000 {
+        nothing_dumped(&rt, alloc, &mut stores, &mut links);
+    }
+    have(&rt, &stores, &[(3, 0), (0, 0), (4, 0)]);
+    for link in &links {
+        has_sent(&rt, "without orders", link, 0, 0);
     }
 }
 

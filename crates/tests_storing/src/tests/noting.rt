@@ -110,40 +110,73 @@ fn setup_of<R: Abort + AllocGlobal>(rt: &R, routes: usize) -> String {
     text
 }
 
-// What lines begin with, and ends of the digits of a packet, some of them too short.
+// What lines begin with, how many of the digits of a report type they have, and what follows all of these.
 static FRONTS: [&str; 8] = [
     "1 2 ", "8 256 ", "1 2 ", "3 0 ", "01 2 ", "9 2 ", "1 257 ", "1 ",
 ];
 
+static DIGITS: [usize; 8] = [18, 18, 18, 17, 18, 18, 18, 16];
+
+// Services of which no route is, with one digit that is another or both.
+static SERVICES: [usize; 4] = [0x13, 0x02, 0xF3, 0x40];
+
 static ENDS: [&str; 6] = ["0000", "", "0", " ", "\r", "00000000000000000000000000"];
 
-// Pushes a line with a packet of a report type, which is seldom beyond those of the routes, and seldom spelled otherwise.
-fn push_line<R: Abort + AllocGlobal>(rt: &R, text: &mut String, routes: usize, state: &mut u64) {
+// Pushes a line with a packet of a report type. Five in so many lines are of a type beyond those of the routes, or have too few digits for
+// a service; some have too few for a subtype, and few are spelled otherwise.
+fn push_line<R: Abort + AllocGlobal>(
+    rt: &R,
+    text: &mut String,
+    routes: usize,
+    among: usize,
+    state: &mut u64,
+) {
     let alloc = rt.alloc();
     let route = next(state, routes);
     let (mut apid, mut service, mut subtype) = (route / 4, 3, route % 4);
-    match next(state, 200) {
+    let mut digits = DIGITS.get(next(state, 8)).copied().unwrap_or(18);
+    match next(state, among) {
         0 => apid = next(state, 2048),
-        1 => service = next(state, 256),
+        1 => service = SERVICES.get(next(state, 4)).copied().unwrap_or(0),
         2 => subtype = next(state, 256),
         3 => subtype = next(state, 16),
+        4 => digits = next(state, 16),
         _ => {}
     }
     let kind = if next(state, 9) == 0 { 0x1800 } else { 0x0800 };
     let front = FRONTS.get(next(state, 8)).copied().unwrap_or("1 2 ");
-    let end = ENDS.get(next(state, 6)).copied().unwrap_or("0000");
     let first = kind + apid % 2048;
-    let line = format!(in alloc;
-        "{front}{first:04x}C000000E20{service:02x}{subtype:02X}{end}\n"
-    ).expect(rt, "memory");
-    let cut = if next(state, 30) == 0 {
+    let line = format!(in alloc; "{front}{first:04x}C000000E20{service:02x}{subtype:02X}").expect(
+        rt, "memory",
+    );
+    let bad = if next(state, 30) == 0 {
         next(state, line.len())
     } else {
-        0
+        line.len()
     };
-    for (place, letter) in line.as_str().chars().enumerate() {
-        let letter = if place + 1 == cut { 'G' } else { letter };
+    let cut = front.len().saturating_add(digits);
+    for (place, letter) in line.as_str().chars().take(cut).enumerate() {
+        let letter = if place == bad { 'G' } else { letter };
         text.push(letter).expect(rt, "memory");
+    }
+    if digits == 18 {
+        let end = ENDS.get(next(state, 6)).copied().unwrap_or("0000");
+        text.push_str(end).expect(rt, "memory");
+    }
+    text.push('\n').expect(rt, "memory");
+}
+
+// Pushes so many lines.
+fn push_lines<R: Abort + AllocGlobal>(
+    rt: &R,
+    text: &mut String,
+    routes: usize,
+    lines: usize,
+    among: usize,
+    state: &mut u64,
+) {
+    for _ in 0..lines {
+        push_line(rt, text, routes, among, state);
     }
 }
 
@@ -173,16 +206,33 @@ fn is_as_plain<R: Abort + AllocGlobal>(rt: &R, setup: &str, sources: &[u8]) {
     assert!(rt; is_same, "{said:?} for {plain:?}");
 }
 
+// How many lines the sources have, and among how many of them five are strange. Where none is, a route takes each report type; of many
+// routes there are then more types than are remembered, and strange lines follow.
+const NONE: usize = 1 << 40;
+
+static SIZES: [(usize, usize); 11] = [
+    (0, 5),
+    (1, 5),
+    (9, 20),
+    (40, 50),
+    (40, 50),
+    (40, 50),
+    (40, 50),
+    (40, NONE),
+    (300, 200),
+    (300, NONE),
+    (700, NONE),
+];
+
 #[test]
 fn packets_that_no_route_takes_are_noted_as_by_a_plain_form(rt: HostRuntime) {
     let mut state = 1;
     for routes in [1, 2, 4, 60, 64, 65, 200, 256] {
         let setup = setup_of(&rt, routes);
-        for lines in [0, 1, 2, 40, 300, 300, 300, 300, 700, 700, 700, 700] {
+        for (lines, among) in &SIZES {
             let mut text = String::new(rt.alloc());
-            for _ in 0..lines {
-                push_line(&rt, &mut text, routes, &mut state);
-            }
+            push_lines(&rt, &mut text, routes, *lines, *among, &mut state);
+            push_lines(&rt, &mut text, routes, *lines / 20, 5, &mut state);
             is_as_plain(&rt, setup.as_str(), text.as_bytes());
         }
     }

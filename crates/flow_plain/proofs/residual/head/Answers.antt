@@ -1,6 +1,6 @@
 use Rattle.std.proofs.Common.{ap, ◌∙◌}
-use Rattle.flow_plain.specs.Residual.{tail}
-use Rattle.flow_plain.proofs.Entries.{twin_ends}
+use Rattle.mm_flow.specs.Residual.{tail}
+use Rattle.mm_flow.proofs.Entries.{twin_ends}
 use Rattle.flow_plain.proofs.residual.head.Goals as goal
 
 pub returns-clause-node : goal.returns-clause-node

@@ -1,7 +1,7 @@
 use Rattle.std.proofs.Common.{◌≡◌, ◌-◌, ◌+◌, ◌≤◌, length, slice_index, slice_set, ap, arith}
 use Rattle.std.proofs.lemmas.List.{get_or-set_same, get_or-set_other}
-use Rattle.flow_plain.proofs.Entries.{forward_fits, residual-backward}
-use Rattle.flow_plain.proofs.Pushes.{pushed_forward, pushed_backward}
+use Rattle.mm_flow.proofs.Entries.{forward_fits, residual-backward}
+use Rattle.mm_flow.proofs.Pushes.{pushed_forward, pushed_backward}
 use Rattle.flow_plain.proofs.residual.push.Goals as goal
 
 pub overflow_add-flow : goal.overflow_add-flow

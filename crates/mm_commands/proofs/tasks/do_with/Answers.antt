@@ -10,7 +10,7 @@ returns-in-Ok-clause-prints g c =
     let before = g.W.Write.contents c.args.out.now in
     let after = g.W.Write.contents c.give.new.out in
     answer-prints (λ status. Refuses old new c.args.task status before after) old old new c.args.task c.in-Ok.answer before after c.give.result
-    refl c.give.ensures.given c.give.ensures.status c.in-Ok.ensures.output (c.in-Ok.ensures.answers old c.requires.held)
+    refl c.give.ensures.given c.give.ensures.others c.give.ensures.status c.in-Ok.ensures.output (c.in-Ok.ensures.answers old c.requires.held)
 
 pub returns-in-Ok-clause-status : goal.returns-in-Ok-clause-status
 returns-in-Ok-clause-status g c =

@@ -48,7 +48,7 @@ loop-step-init g c =
           done_first g.S.Source.gives g.L.Link.sent g.L.Link.failed (run_input g.S.Source.gives q plan base memory c.args.sources.now)
           (run_state c.args.stores.now c.args.sources.now c.args.links.now) c.args.buffers.report refl c.requires.may.report;
       ready = all_ready q c.args.stores.now.items c.requires.may.held begun.stores_ready begun.none_unknown c.requires.may.sound;
-      far = λ limits. far_first g.S.Source.gives c.args.sources.now c.args.stores.now.items base begun.early limits;
+      far = λ limits. far_first g.S.Source.gives (length q.windows) c.args.sources.now c.args.stores.now.items base begun.early limits;
       room = c.requires.may.orders;
     }
 
@@ -64,14 +64,14 @@ loop-step-preserved g c =
     record {
       done =
           done_at g.S.Source.gives g.L.Link.sent g.L.Link.failed (input g at) c.args.sources.now c.args.links.now (take c.stores.result c.places_of-all.result) before.footing
-          c.runs_lose_as_planned.ensures.each t before.first before.last (standing g at) new
+          c.runs_lose_as_planned.ensures.each c.runs_lose_no_packet_uncounted.ensures.law t before.first before.last (standing g at) new
           c.loop-step.buffers.report c.report_step.new.buffers.report c.loop-step.invariant.done c.in_default.ensures.ok c.in_default.ensures.row;
       ready = c.in_default.ensures.ready;
       far = λ limits.
           subst (λ (b : ℕ). AllFar b c.report_step.new.stores.items) (bound_more t before.first)
           (far_after g.S.Source.gives g.L.Link.sent g.L.Link.failed c.step_runs_keep_stores.ensures.law (context g at) _ (standing g at) new before.may.carry.early
           c.loop-step.invariant.ready c.in_default.ensures.ok (bound_at (t - 1)) (omega (arith, before.sources_many, before.begun.counts.few_sources))
-          (still_few g.S.Source.gives t c.args.sources.now c.loop-step.sources before.same (limits t).few) before.early (c.loop-step.invariant.far limits));
+          (still_few g.S.Source.gives t c.args.sources.now c.loop-step.sources before.same (limits.few t before.first before.last)) before.early (c.loop-step.invariant.far limits));
       room = omega (arith, c.loop-step.invariant.room, c.in_default.ensures.capacity);
     }
 
@@ -120,4 +120,4 @@ returns-in-Err-clause-far g c = λ limits.
     let t = c.loop-step.step in
     c.in-Err.ensures.far
     (takes_all g.S.Source.gives (context g at) c.loop-step.stores.items c.loop-step.sources (bound_at (t - 1)) (bound_within t _ before.last before.is.steps.at_most)
-    c.loop-step.invariant.ready (c.loop-step.invariant.far limits) before.early (still_few g.S.Source.gives t c.args.sources.now c.loop-step.sources before.same (limits t).few))
+    c.loop-step.invariant.ready (c.loop-step.invariant.far limits) before.early (still_few g.S.Source.gives t c.args.sources.now c.loop-step.sources before.same (limits.few t before.first before.last)))

@@ -1,4 +1,4 @@
-use Rattle.std.proofs.Common.{◌-◌, ◌≤◌, vec_capacity}
+use Rattle.std.proofs.Common.{◌-◌, ◌≤◌, length, vec_capacity}
 use Rattle.mm_base.specs.declared.limits.TheConstants.{MAX_STORES}
 use Rattle.mm_exec.specs.RunInput.{run_input}
 use Rattle.mm_exec.specs.Step.{AreReady, run_state}
@@ -14,6 +14,6 @@ invariant-loop-step g l = record {
       (run_input g.S.Source.gives l.run.problem.now l.run.plan.now l.run.base (record { stores = l.fn.stores.items; routes = l.run.control.now }) l.fn.sources)
       l.fn.sources l.fn.links (l.step - 1) (run_state l.stores l.sources l.links) l.buffers.report;
   ready : AreReady l.stores.items;
-  far : AreWithinLimits g.S.Source.gives l.fn.stores.items l.fn.sources → AllFar (bound_at (l.step - 1)) l.stores.items;
+  far : AreWithinLimits g.S.Source.gives (length l.run.problem.now.windows) l.fn.stores.items l.fn.sources → AllFar (bound_at (l.step - 1)) l.stores.items;
   room : MAX_STORES ≤ vec_capacity l.buffers.orders;
 }

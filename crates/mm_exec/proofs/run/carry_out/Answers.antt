@@ -76,5 +76,5 @@ returns-in-Err-clause-halted g c =
 pub returns-in-Err-clause-far : goal.returns-in-Err-clause-far
 returns-in-Err-clause-far g c = λ limits.
     c.in-Err.ensures.far
-    (subst (AreWithinLimits g.S.Source.gives c.lift-stores.result.items) (sym c.deref_mut.ensures.value)
-    (subst (λ (held : List Held). AreWithinLimits g.S.Source.gives held c.args.sources.items) (sym c.lift-stores.ensures.stores) limits))
+    (subst (AreWithinLimits g.S.Source.gives (length c.args.problem.now.windows) c.lift-stores.result.items) (sym c.deref_mut.ensures.value)
+    (subst (λ (held : List Held). AreWithinLimits g.S.Source.gives (length c.args.problem.now.windows) held c.args.sources.items) (sym c.lift-stores.ensures.stores) limits))

@@ -1,6 +1,6 @@
 use Rattle.std.proofs.Common.{◌≡◌, length, take, drop, ◌∷◌, ap, true, false, arith}
-use Rattle.mm_memory.specs.Routing.{leads_to, lead_to_any, passed}
-use Rattle.mm_memory.proofs.RoutingLemmas.{after_first, tally_first, first_leads, all_passed, none_passed, after_more, tally_more}
+use Rattle.mm_memory.specs.Routing.{leads_to, passed}
+use Rattle.mm_memory.proofs.RoutingLemmas.{after_first, tally_first, first_leads, none_passed, after_more, tally_more}
 use Rattle.mm_memory.proofs.recording.+offer_from_first.Goals as goal
 
 pub returns-then-next-rest-clause-stores : goal.returns-then-next-rest-clause-stores
@@ -8,7 +8,7 @@ returns-then-next-rest-clause-stores t c =
     let first = c.in-Some.first.now in
     let rest = c.in-Some.rest.now in
     let leads : leads_to c.args.rows.now first.id ≡ true = first_leads c.args.rows.now first rest (rw c.in-Some.ensures.cases.0 at c.requires.first) in
-    let none : lead_to_any c.args.rows.now rest ≡ false = all_passed c.args.rows.now rest cc in
+    let none : passed c.args.rows.now rest ≡ length rest = cc in
     after_first c.args.now c.args.rows.now c.args.packet first c.offer_one.new.held rest c.args.stores.now c.in-Some.ensures.cases.0 leads none c.offer_one.ensures.store
 
 pub returns-then-next-rest-clause-tally : goal.returns-then-next-rest-clause-tally
@@ -16,7 +16,7 @@ returns-then-next-rest-clause-tally t c =
     let first = c.in-Some.first.now in
     let rest = c.in-Some.rest.now in
     let leads : leads_to c.args.rows.now first.id ≡ true = first_leads c.args.rows.now first rest (rw c.in-Some.ensures.cases.0 at c.requires.first) in
-    let none : lead_to_any c.args.rows.now rest ≡ false = all_passed c.args.rows.now rest cc in
+    let none : passed c.args.rows.now rest ≡ length rest = cc in
     tally_first c.args.now c.args.rows.now c.args.packet first rest c.args.stores.now c.offer_one.result c.in-Some.ensures.cases.0 leads none c.offer_one.ensures.tally
 
 pub offer_from_first-requires : goal.offer_from_first-requires

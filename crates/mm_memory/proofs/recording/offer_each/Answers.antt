@@ -1,16 +1,16 @@
-use Rattle.std.proofs.Common.{◌≡◌, take, drop, false, sym, ◌∙◌}
-use Rattle.mm_memory.specs.Routing.{lead_to_any, passed}
-use Rattle.mm_memory.proofs.RoutingLemmas.{after_none, tally_none, all_passed, none_passed, after_passed, tally_passed}
+use Rattle.std.proofs.Common.{◌≡◌, length, take, drop, sym, ◌∙◌}
+use Rattle.mm_memory.specs.Routing.{passed}
+use Rattle.mm_memory.proofs.RoutingLemmas.{after_none, tally_none, none_passed, after_passed, tally_passed}
 use Rattle.mm_memory.proofs.recording.offer_each.Goals as goal
 
 pub returns-then-first-stores-clause-stores : goal.returns-then-first-stores-clause-stores
 returns-then-first-stores-clause-stores c =
-    let none : lead_to_any c.args.rows.now c.args.stores.now ≡ false = all_passed c.args.rows.now c.args.stores.now cc in
+    let none : passed c.args.rows.now c.args.stores.now ≡ length c.args.stores.now = cc in
     sym (after_none c.args.now c.args.rows.now c.args.packet c.args.stores.now none)
 
 pub returns-then-first-stores-clause-tally : goal.returns-then-first-stores-clause-tally
 returns-then-first-stores-clause-tally c =
-    let none : lead_to_any c.args.rows.now c.args.stores.now ≡ false = all_passed c.args.rows.now c.args.stores.now cc in
+    let none : passed c.args.rows.now c.args.stores.now ≡ length c.args.stores.now = cc in
     c.nothing.ensures ∙ sym (tally_none c.args.now c.args.rows.now c.args.packet c.args.stores.now none)
 
 pub offer_from_first-requires-clause-first : goal.offer_from_first-requires-clause-first

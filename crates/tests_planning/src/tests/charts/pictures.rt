@@ -1,43 +1,39 @@
 //! The numbers and the verdict of a picture, and how it is shown.
 ghost use Rattle.mm_chart.specs.Series.{IsSeries};
-ghost use Rattle.std.specs.Prelude.{◌≡◌, length};
 
 use crate::tests::charts::SHOWN;
 use crate::tests::charts::samples::has_lines;
 use crate::tests::samples::{FIRST_RUN, SCI, THREE_STEPS};
-use mm_chart::{Picture, Series, draw};
+use mm_chart::{Column, Picture, Series, draw};
 use mm_cut::{Parts, Verdict, read_sheet};
 use mm_plan::simulate;
 use mm_problem::{Problem, read_problem};
 use std::alloc::Global;
 use std::process::Abort;
 
-// Of each series the number of the first step and of the last, the sum, the largest number, and what is drawn in full
-// height.
-static NUMBERS: [(Series, [u64; 5]); 13] = [
-    (Series::WindowCounts, [1, 0, 2, 1, 1]),
-    (Series::CountedWindow, [2, 0, 4, 2, 1]),
-    (Series::Window, [2, 0, 4, 2, 2]),
-    (Series::Used, [2, 0, 4, 2, 2]),
-    (Series::ChannelCounts(0), [0, 0, 0, 0, 1]),
-    (Series::Sent(0), [2, 0, 4, 2, 0]),
-    (Series::LimitsCount, [0, 0, 0, 0, 1]),
-    (Series::Inner(0), [1, 0, 2, 1, 1]),
-    (Series::Last(0), [0, 1, 1, 1, 1]),
-    (Series::Written(0), [3, 4, 11, 4, 4]),
-    (Series::Left(0), [1, 4, 7, 4, 4]),
-    (Series::Lost(0), [0, 2, 2, 2, 2]),
-    (Series::Arrivals(0), [3, 4, 10, 4, 4]),
+// Of each series the number of the first step and of the last, the sum and the largest number.
+static NUMBERS: [(Series, [u64; 4]); 12] = [
+    (Series::WindowCounts, [1, 0, 2, 1]),
+    (Series::CountedWindow, [2, 0, 4, 2]),
+    (Series::Window, [2, 0, 4, 2]),
+    (Series::Used, [2, 0, 4, 2]),
+    (Series::ChannelCounts(0), [0, 0, 0, 0]),
+    (Series::Sent(0), [2, 0, 4, 2]),
+    (Series::LimitsCount, [0, 0, 0, 0]),
+    (Series::Inner(0), [1, 0, 2, 1]),
+    (Series::Last(0), [0, 1, 1, 1]),
+    (Series::Written(0), [3, 4, 11, 4]),
+    (Series::Left(0), [1, 4, 7, 4]),
+    (Series::Lost(0), [0, 2, 2, 2]),
 ];
 
 // These numbers of a picture with three steps.
-fn numbers_of(picture: &Picture, series: Series) -> [u64; 5]
-    requires series { IsSeries picture.now series }
-    requires steps { 3 ≡ length picture.now.problem.windows }
+fn numbers_of(picture: &Picture, series: Series) -> [u64; 4]
+    requires { IsSeries picture.now series }
 {
-    let (first, last) = (picture.amount(series, 1), picture.amount(series, 3));
-    let (total, most) = (picture.total(series), picture.most(series));
-    [first, last, total, most, picture.whole(series)]
+    let column = Column::new(picture, series);
+    let (first, last) = (column.amount_at(1), column.amount_at(3));
+    [first, last, column.total(), column.most()]
 }
 
 const PARTS: Parts = Parts {

@@ -46,8 +46,8 @@ static LARGE: [&str; 9] = [
     "<path class='l' d='M180 1120V1110H183H186",
     "<text class='k' x='898' y='96'>240</text>",
     "<text class='w' x='16' y='1288'>4,096,000,016 &#8722; 16 &#8722; 0 &#8722; 0 = 4,096,000,000: at least that many blocks are lost, whatever is dumped.</text>",
-    "<text class='w' x='16' y='1348'>In steps 1&#8211;255, a wider window.</text>",
-    "<text class='w' x='16' y='1408'>Larger stores: WIDE-_1 WIDE-_2 WIDE-_3 WIDE-_4 WIDE-_5 WIDE-_6 WIDE-_7 WIDE-_8</text>",
+    "<text class='w' x='16' y='1348'>In steps 1&#8211;255, and only there, a wider window.</text>",
+    "<text class='w' x='16' y='1408'>Larger stores, and only these: WIDE-_1 WIDE-_2 WIDE-_3 WIDE-_4 WIDE-_5 WIDE-_6 WIDE-_7 WIDE-_8</text>",
     "<text class='w' x='32' y='1428'> WIDE-_9 WIDE-_10 WIDE-_11 WIDE-_12 WIDE-_13 WIDE-_14 WIDE-_15 WIDE-_16</text>",
 ];
 

@@ -147,44 +147,8 @@ fn made_arcs(
     arcs
 }
 
-// The network of so many nodes with these arcs, for the earlier solvers.
-fn built_earlier(
-    rt: &impl Abort,
-    alloc: Global,
-    nodes: u32,
-    arcs: &[ArcRow],
-) -> flow_plain::Network {
-    let mut network = flow_plain::Network::new(alloc);
-    for _ in 0..nodes {
-        assert!(rt; network.node_count() < flow_plain::MAX_NODES as usize);
-        network.add_node().expect(rt, "a node");
-    }
-    for (from, to, capacity) in arcs {
-        let nodes = network.node_count();
-        let has_ends = (*from as usize) < nodes && (*to as usize) < nodes;
-        let has_room = network.arc_count() < flow_plain::MAX_ARCS as usize;
-        assert!(rt; has_ends && has_room && capacity.unwrap_or(0) <= flow_plain::MAX_CAPACITY);
-        network.add_arc(*from, *to, *capacity).expect(rt, "an arc");
-    }
-    network
-}
-
 /// What a solver answers.
 type Answer = Result<Solved, Fault>;
-
-// What an earlier solver answers.
-fn answer_of(earlier: Result<flow_plain::Solved, flow_plain::Fault>) -> Answer {
-    match earlier {
-        Ok(solved) => Ok(Solved {
-            flow: solved.flow,
-            side: solved.side,
-            value: solved.value,
-        }),
-        Err(flow_plain::Fault::NoMemory) => Err(Fault::NoMemory),
-        Err(flow_plain::Fault::Unbounded) => Err(Fault::Unbounded),
-        Err(flow_plain::Fault::SameEnds) => Err(Fault::SameEnds),
-    }
-}
 
 // Whether two answers are the same solution, or the same refusal.
 fn are_alike(first: &Answer, second: &Answer) -> bool {
@@ -236,23 +200,21 @@ fn are_as_before(
     rt: &impl Abort,
     alloc: Global,
     name: &str,
-    networks: (&Network, &flow_plain::Network),
+    network: &Network,
     ends: (u32, u32),
     tally: &mut Tally,
 ) {
-    let (network, earlier) = networks;
     let (source, sink) = ends;
     let nodes = network.node_count();
-    assert!(rt; nodes == earlier.node_count());
     assert!(rt; (source as usize) < nodes && (sink as usize) < nodes);
     let by_levels = solve(alloc, network, source, sink);
     let by_paths = solve_paths(alloc, network, source, sink);
-    let before = answer_of(flow_plain::solve(alloc, earlier, source, sink));
+    let before = flow_plain::solve(alloc, network, source, sink);
     assert!(rt;
         are_alike(&by_levels, &before),
         "{name}, {nodes} nodes, by levels"
     );
-    let before = answer_of(flow_plain::paths::solve_paths(alloc, earlier, source, sink));
+    let before = flow_plain::paths::solve_paths(alloc, network, source, sink);
     assert!(rt;
         are_alike(&by_paths, &before),
         "{name}, {nodes} nodes, by paths"
@@ -272,11 +234,9 @@ fn is_as_before(
     let nodes = next_below(state, 59) + 2;
     let arcs = made_arcs(rt, alloc, form, capacities, nodes, state);
     let network = built(rt, alloc, nodes, &arcs);
-    let earlier = built_earlier(rt, alloc, nodes, &arcs);
-    let networks = (&network, &earlier);
-    are_as_before(rt, alloc, form.name, networks, (0, nodes - 1), tally);
+    are_as_before(rt, alloc, form.name, &network, (0, nodes - 1), tally);
     let any = (next_below(state, nodes), next_below(state, nodes));
-    are_as_before(rt, alloc, form.name, networks, any, tally);
+    are_as_before(rt, alloc, form.name, &network, any, tally);
 }
 
 #[test]

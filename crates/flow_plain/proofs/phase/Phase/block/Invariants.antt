@@ -1,11 +1,9 @@
 use Rattle.std.proofs.Common.{◌-◌, ◌<◌}
 use Rattle.flow_plain.specs.declared.limits.TheConstants.{MAX_VALUE}
-use Rattle.flow_plain.specs.Task.{SameTask}
 use Rattle.flow_plain.proofs.phase.Phase.block.Given as goal
 
 abbrev pub invariant-loop-self : goal.invariant-loop-self
 invariant-loop-self l = record {
-  task : SameTask l.fn.self.tables l.self.tables;
   more : l.fn.self.tables.value < l.self.tables.value;
 }
 

@@ -1,12 +1,11 @@
 use Rattle.std.proofs.Common.{◌≡◌, ◌≢◌, ℕ, slice_index, ap, sym, ◌∙◌, subst, arith}
-use Rattle.flow_plain.specs.Graph.{Graph}
-use Rattle.flow_plain.specs.Residual.{entries, head}
+use Rattle.mm_flow.specs.Graph.{Graph}
+use Rattle.mm_flow.specs.Residual.{entries, head}
 use Rattle.flow_plain.specs.Marks.{level}
 use Rattle.flow_plain.specs.Levels.{IsAhead, HasLead}
 use Rattle.flow_plain.specs.Task.{Reaches}
 use Rattle.flow_plain.specs.Phase.{LeadsFrom}
 use Rattle.flow_plain.proofs.Leading.{lead_known, lead_read, lead-le, lead_same}
-use Rattle.flow_plain.proofs.Working.{same_further}
 use Rattle.flow_plain.proofs.phase.Phase.follow.Goals as goal
 use Rattle.flow_plain.proofs.phase.Phase.follow.Goals.{After-index, After-head-at}
 
@@ -57,7 +56,6 @@ loop-at-preserved c =
     let ahead = ahead_is (goal.at.loop-at-preserved c).After-index (omega arith) in
     let back = sym (node_is (goal.at.loop-at-preserved c).After-head-at) in
     record {
-      task = same_further c.args.self.now.tables t u invariant.task run.task;
       value = run.value ∙ invariant.value;
       leads = subst (λ (n : ℕ). HasLead u.network.now.graph (slice_index u.flow.items) u.search.marks.items p.next.items p.ahead.items u.sink n) back (lead_same t u p.next.items p.ahead.items (head t.network.now.graph e) run.task run.kept run.levels ahead.1);
       path = subst (λ (n : ℕ). Reaches u n) back run.path;

@@ -1,12 +1,11 @@
 use Rattle.std.proofs.Common.{◌≡◌, ◌-◌}
 use Rattle.flow_plain.specs.Marks.{level}
-use Rattle.flow_plain.specs.Task.{SameTask, Reaches}
+use Rattle.flow_plain.specs.Task.{Reaches}
 use Rattle.flow_plain.specs.Phase.{LeadsFrom}
 use Rattle.flow_plain.proofs.phase.Phase.follow.Given as goal
 
 abbrev pub invariant-loop-at : goal.invariant-loop-at
 invariant-loop-at l = record {
-  task : SameTask l.fn.self.tables l.self.tables;
   value : l.self.tables.value ≡ l.fn.self.tables.value;
   leads : LeadsFrom l.self l.at;
   path : Reaches l.self.tables l.at;

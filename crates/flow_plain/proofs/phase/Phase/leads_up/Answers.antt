@@ -2,9 +2,9 @@ use Rattle.std.proofs.Common.{List, ℕ, slice_index, ap, arith}
 use Rattle.std.proofs.lemmas.Bool.{ltb-true}
 use Rattle.std.proofs.lemmas.List.{get_or_read}
 use Rattle.flow_plain.specs.declared.search.Mark.{Mark}
-use Rattle.flow_plain.specs.Residual.{residual}
+use Rattle.mm_flow.specs.Residual.{residual}
 use Rattle.flow_plain.specs.Marks.{no_mark, level}
-use Rattle.flow_plain.proofs.Entries.{twin_ends}
+use Rattle.mm_flow.proofs.Entries.{twin_ends}
 use Rattle.flow_plain.proofs.phase.Phase.leads_up.Goals as goal
 
 pub returns-then-below-height : goal.returns-then-below-height

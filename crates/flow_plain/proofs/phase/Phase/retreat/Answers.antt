@@ -1,6 +1,6 @@
 use Rattle.std.proofs.Common.{◌≡◌, ◌<◌, ◌-◌, slice_index, slice_set, ap, sym, ◌∙◌, subst, ℕ, arith}
 use Rattle.std.proofs.lemmas.List.{get_or_read}
-use Rattle.flow_plain.specs.Residual.{entries, tail, head}
+use Rattle.mm_flow.specs.Residual.{entries, tail, head}
 use Rattle.flow_plain.specs.Levels.{IsAhead, IsCursors, HasLead}
 use Rattle.flow_plain.specs.Phase.{LeadsFrom}
 use Rattle.flow_plain.proofs.LevelPaths.{cursor_own, cursors_put, cursors_sum, cursor_before}

@@ -1,10 +1,6 @@
 use Rattle.std.proofs.Common.{◌-◌}
 use Rattle.flow_plain.specs.declared.limits.TheConstants.{MAX_VALUE}
-use Rattle.flow_plain.specs.Task.{SameTask}
 use Rattle.flow_plain.proofs.phase.Phase.run.Given as goal
-
-abbrev pub invariant-loop-self : goal.invariant-loop-self
-invariant-loop-self l = SameTask l.fn.self.tables l.self.tables
 
 abbrev pub decreases-loop-self : goal.decreases-loop-self
 decreases-loop-self l = MAX_VALUE - l.self.tables.value

@@ -1,9 +1,9 @@
 use Rattle.std.proofs.Common.{◌≡◌, ℕ, ◌-◌, slice_index, slice_set, ap, sym, ◌∙◌, subst, arith}
 use Rattle.std.proofs.lemmas.List.{length-set}
-use Rattle.flow_plain.specs.Residual.{tail, head}
+use Rattle.mm_flow.specs.Residual.{tail, head}
 use Rattle.flow_plain.specs.Marks.{level}
 use Rattle.flow_plain.specs.Levels.{IsCursors, IsUp}
-use Rattle.flow_plain.proofs.Entries.{twin_ends}
+use Rattle.mm_flow.proofs.Entries.{twin_ends}
 use Rattle.flow_plain.proofs.LevelPaths.{cursors_put}
 use Rattle.flow_plain.proofs.Leading.{lead_known, lead_moved, lead_longer}
 use Rattle.flow_plain.proofs.phase.Phase.step_back.Goals as goal

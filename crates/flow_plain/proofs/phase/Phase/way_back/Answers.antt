@@ -1,12 +1,12 @@
 use Rattle.std.proofs.Common.{◌≡◌, ◌-◌, ◌<◌, slice_index, ap, sym, ◌∙◌, arith}
 use Rattle.std.proofs.lemmas.List.{get_or_read}
 use Rattle.flow_plain.specs.declared.search.Mark.{Mark}
-use Rattle.flow_plain.specs.Residual.{entries}
+use Rattle.mm_flow.specs.Residual.{entries}
 use Rattle.flow_plain.specs.Marks.{no_mark, level}
 use Rattle.flow_plain.proofs.LevelPaths.{cursor_before}
 use Rattle.flow_plain.proofs.Visiting.{next_smaller}
 use Rattle.flow_plain.proofs.phase.Phase.way_back.Goals as goal
-use Rattle.flow_plain.proofs.phase.Phase.way_back.Goals.{After-index, After-index-cursor, After-index-cursor-in-loop-cursor}
+use Rattle.flow_plain.proofs.phase.Phase.way_back.Goals.{After-index, After-index-cursor-in-loop-cursor}
 
 -- the node's own level
 height_is : (c : After-index) → c.index.result.now.level ≡ level c.args.self.now.tables.search.marks.items c.args.at

@@ -1,5 +1,5 @@
 use Rattle.std.proofs.Common.{◌≡◌, ℕ, ◌+◌, ◌<◌, ◌≤◌, slice_index}
-use Rattle.flow_plain.specs.Residual.{entries, tail}
+use Rattle.mm_flow.specs.Residual.{entries, tail}
 use Rattle.flow_plain.proofs.phase.Phase.way_back.Given as goal
 
 abbrev pub invariant-loop-cursor : goal.invariant-loop-cursor

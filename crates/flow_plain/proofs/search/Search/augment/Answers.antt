@@ -3,10 +3,11 @@ use Rattle.std.proofs.lemmas.List.{get_or_read}
 use Rattle.flow_plain.specs.declared.search.Mark.{Mark}
 use Rattle.flow_plain.specs.Marks.{no_mark, mark, level, HasMark, IsReached}
 use Rattle.flow_plain.specs.Levels.{HasPath}
-use Rattle.flow_plain.specs.Residual.{place, tail}
-use Rattle.flow_plain.specs.Balance.{IsBalancedAt}
+use Rattle.mm_flow.specs.Residual.{place, tail}
+use Rattle.mm_flow.specs.Balance.{IsBalancedAt}
 use Rattle.flow_plain.proofs.Visiting.{marked_lt}
-use Rattle.flow_plain.proofs.Augmenting.{IsReady, followed_ready, followed_next, untouched_start, balanced_start, balanced_next, balanced_end}
+use Rattle.mm_flow.proofs.Augmenting.{balanced_start, balanced_next, balanced_end}
+use Rattle.flow_plain.proofs.Augmenting.{IsReady, followed_ready, followed_next, untouched_start}
 use Rattle.flow_plain.proofs.LevelPaths.{path_marked, path_back}
 use Rattle.flow_plain.proofs.search.Search.augment.Goals as goal
 use Rattle.flow_plain.proofs.search.Search.augment.Goals.{After-index, After-index-in-loop-at}

@@ -1,5 +1,5 @@
 use Rattle.std.proofs.Common.{ℕ, slice_index}
-use Rattle.flow_plain.specs.Balance.{IsBalanced, IsBalancedAt}
+use Rattle.mm_flow.specs.Balance.{IsBalanced, IsBalancedAt}
 use Rattle.flow_plain.specs.Marks.{level}
 use Rattle.flow_plain.specs.Levels.{HasPath}
 use Rattle.flow_plain.proofs.Augmenting.{IsFollowed}

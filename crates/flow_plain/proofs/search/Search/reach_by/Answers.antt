@@ -1,7 +1,7 @@
 use Rattle.std.proofs.Common.{◌≡◌, ◌≢◌, ℕ, suc, slice_index, slice_set, ap, sym, ◌∙◌, refl, arith}
 use Rattle.std.proofs.lemmas.List.{get_or_read, get_or-set_same, get_or-set_other}
 use Rattle.flow_plain.specs.declared.search.Mark.{Mark}
-use Rattle.flow_plain.specs.Residual.{tail, head}
+use Rattle.mm_flow.specs.Residual.{tail, head}
 use Rattle.flow_plain.specs.Marks.{no_mark, mark}
 use Rattle.flow_plain.proofs.LevelPaths.{path_taken}
 use Rattle.flow_plain.proofs.Marking.{IsReached-from}

@@ -1,7 +1,7 @@
 use Rattle.std.proofs.Common.{◌≡◌, ℕ, ◌-◌, ◌<◌, slice_index, ap, sym, ◌∙◌, arith, inl, inr}
 use Rattle.std.proofs.lemmas.List.{get_or_read}
 use Rattle.std.proofs.lemmas.Bool.{cases_eq, cases_lt}
-use Rattle.flow_plain.specs.Residual.{entries, head, residual}
+use Rattle.mm_flow.specs.Residual.{entries, head, residual}
 use Rattle.flow_plain.specs.Marks.{level}
 use Rattle.flow_plain.proofs.Visiting.{marked_lt, goes_on_same, goes_on_further, first_own, first_most, next_own, next_smaller, next_most, search_next}
 use Rattle.flow_plain.proofs.search.Search.visit.Goals as goal

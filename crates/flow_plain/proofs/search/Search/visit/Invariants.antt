@@ -1,5 +1,5 @@
 use Rattle.std.proofs.Common.{◌≡◌, ℕ, ◌+◌, ◌<◌, ◌≤◌, slice_index}
-use Rattle.flow_plain.specs.Residual.{entries, tail, head, residual}
+use Rattle.mm_flow.specs.Residual.{entries, tail, head, residual}
 use Rattle.flow_plain.specs.Marks.{IsSearching, GoesOn, HasMark}
 use Rattle.flow_plain.proofs.search.Search.visit.Given as goal
 

@@ -1,10 +1,8 @@
 use Rattle.std.proofs.Common.{◌≡◌, ℕ, List, slice_index, subst, sym, ap, arith}
-use Rattle.std.proofs.lemmas.Bool.{ltb-true, ltb-false}
+use Rattle.std.proofs.lemmas.Bool.{ltb-true}
 use Rattle.std.proofs.lemmas.List.{get_or_read}
 use Rattle.flow_plain.specs.declared.search.Mark.{Mark}
-use Rattle.flow_plain.specs.Flow.{IsFlow}
 use Rattle.flow_plain.specs.Marks.{no_mark, level, IsSearched}
-use Rattle.flow_plain.proofs.Augmenting.{augmented_flow}
 use Rattle.flow_plain.proofs.LevelPaths.{marking_levelled, marked_path}
 use Rattle.flow_plain.proofs.Working.{work_marked}
 use Rattle.flow_plain.proofs.tables.Tables.search_anew.Goals as goal
@@ -37,15 +35,3 @@ returns-clause-way c = λ reached.
     let next = c.run.new.self in
     let level = level_is (goal.at.returns-clause-way c).After-index in
     marked_path t.network.now.graph (slice_index t.flow.items) next.source 1 next.marks.items t.sink (searched_there (goal.at.returns-clause-way c).After-run).marking (omega (arith, level, ltb-true 0 c.index.result.now.level reached))
-
-pub returns-clause-over : goal.returns-clause-over
-returns-clause-over c = λ missed.
-    let t = c.args.self.now in
-    let next = c.run.new.self in
-    let level = level_is (goal.at.returns-clause-over c).After-index in
-    record {
-      arcs = t.at_work.arcs;
-      is_flow = subst (λ (s : ℕ). IsFlow t.network.now.graph s t.sink (slice_index t.flow.items) t.value) (sym c.run.ensures.source) (augmented_flow t.network.now.graph t.search.source t.sink (slice_index t.flow.items) t.value t.at_work.ends t.at_work.augmented);
-      searched = searched_there (goal.at.returns-clause-over c).After-run;
-      ended = λ has. omega (arith, level, has, ltb-false 0 c.index.result.now.level missed);
-    }

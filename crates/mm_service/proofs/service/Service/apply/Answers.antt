@@ -14,4 +14,4 @@ tell_answers-requires c =
 pub wait_for_all-requires-clause-room : goal.wait_for_all-requires-clause-room
 wait_for_all-requires-clause-room c =
     let few = few_reports c.in_ok-asked.asked.request c.args.now c.self.inside.memory c.in_ok-asked.ensures.spelled.0 in
-    omega (arith, ap length c.in_ok-answers.ensures.reports, few, c.in_ok-reserve.ensures.ok, c.in_ok-reserve.ensures.len)
+    omega (arith, ap length c.in_ok-answers.ensures.reports, few, c.in_ok-make_room.ensures.room)

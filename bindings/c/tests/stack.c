@@ -1,0 +1,229 @@
+/* Measures the stack that each call takes, on a stack of its own that is filled first: `stack FOLDER ..`. Each folder has a setup, a
+ * forecast and a plan; setups that are nested as deeply as they may be, and deeper, come to them. Prints the most that each call took, in
+ * bytes, and fails where that is more than the header says. */
+#include <rudlayog.h>
+#include <stdio.h>
+#include <stdlib.h>
+#include <string.h>
+#include <ucontext.h>
+
+#define STACK 1048576
+#define ROOM 1048576
+#define TEXT(text) (const uint8_t *)(text), strlen(text)
+#define GIVEN(text) (text).octets, (text).length
+
+struct text {
+    uint8_t octets[ROOM];
+    size_t length;
+};
+
+static struct text setup, forecast, plan;
+static struct mm_memory memory, other;
+static struct mm_answer answer;
+static uint8_t stack[STACK], out[ROOM];
+
+static const char memory_setup[] = "[[store]]\nid = \"HK\"\nsize = 9\ntype = \"circular\"\nchannel = 1\n"
+                                   "[[route]]\napid = 100\nservice = 3\nsubtype = 25\nstore = \"HK\"\n";
+static const char requests[] = "1864C0000004200F120007\n1864C005000D200F01000701484B202020202020\n";
+static const uint8_t packet[] = {0x08, 100, 0xC0, 0, 0, 14, 0x20, 3, 25, 0, 0, 0, 0, 0, 0, 0, 0, 0, 0, 0, 0};
+static const struct mm_refused cell = {MM_REFUSAL_CELL, MM_CELL, 2, 3, 0, 0};
+
+static void nothing(void) {}
+
+static void call_plan(void) { mm_plan(GIVEN(setup), GIVEN(forecast), out, ROOM, &answer); }
+
+static void call_check(void) {
+    struct mm_verdict verdict;
+    mm_check(GIVEN(setup), GIVEN(forecast), GIVEN(plan), out, ROOM, &verdict, &answer);
+}
+
+static void call_chart(void) { mm_chart(GIVEN(setup), GIVEN(forecast), GIVEN(plan), out, ROOM, &answer); }
+
+static void call_table(void) { mm_table(GIVEN(setup), GIVEN(forecast), GIVEN(plan), out, ROOM, &answer); }
+
+static void call_read(void) {
+    uint32_t outcome;
+    mm_read(TEXT(requests), out, ROOM, &outcome, &answer);
+}
+
+static void call_ask(void) {
+    uint32_t outcome;
+    mm_ask(TEXT(memory_setup), TEXT(requests), out, ROOM, &outcome, &answer);
+}
+
+static void call_ask_of_setup(void) {
+    uint32_t outcome;
+    mm_ask(GIVEN(setup), TEXT(requests), out, ROOM, &outcome, &answer);
+}
+
+static void call_words(void) { mm_words(&cell, out, ROOM, &answer); }
+
+static void call_hint(void) {
+    static const struct mm_refused refused = {MM_REFUSAL_SETUP_FIELD, MM_KEY, 1, 0, 0, 9};
+    mm_hint(GIVEN(setup), GIVEN(forecast), GIVEN(plan), &refused, out, ROOM, &answer);
+}
+
+static void call_version(void) { mm_version(out, ROOM, &answer); }
+
+static void call_open(void) { mm_memory_open(&memory, TEXT(memory_setup), &answer); }
+
+static void call_open_of_setup(void) {
+    mm_memory_open(&other, GIVEN(setup), &answer);
+    mm_memory_close(&other);
+}
+
+static void call_record(void) {
+    struct mm_tally tally;
+    mm_memory_record(&memory, 1, packet, sizeof packet, &tally, &answer);
+}
+
+static void call_offer(void) {
+    struct mm_fate fate;
+    mm_memory_offer(&memory, TEXT("HK"), 1, packet, sizeof packet, &fate, &answer);
+}
+
+/* A request of each subtype with an instruction of HK, and those without one. */
+static void call_apply(void) {
+    static const struct {
+        uint8_t subtype, length, fields[16];
+    } asked[] = {
+        {2, 0, {0}},           {3, 4, {0, 1, 3, 26}},
+        {5, 0, {0}},           {4, 4, {0, 1, 3, 26}},
+        {25, 4, {0, 0, 0, 8}}, {27, 0, {0}},
+        {26, 0, {0}},          {28, 1, {2}},
+        {21, 0, {0}},          {20, 6, {0, 0, 0, 9, 0, 1}},
+        {1, 0, {0}},           {3, 4, {0, 100, 3, 25}},
+        {11, 8, {0}},          {12, 0, {0}},
+        {18, 0, {0}},          {22, 0, {0}},
+        {9, 16, {[8] = 255}},  {17, 0, {0}},
+        {9, 16, {[8] = 255}},
+    };
+    for (size_t k = 0; k < sizeof asked / sizeof asked[0]; k++) {
+        uint8_t request[64] = {0x18, 100, 0xC0, 0, 0, 0, 0x20, 15, asked[k].subtype, 0, 7, 1, 'H', 'K', ' ', ' ', ' ', ' ', ' ', ' '};
+        const size_t length = asked[k].subtype == 18 || asked[k].subtype == 22 ? 11 : 20u + asked[k].length;
+        memcpy(request + 20, asked[k].fields, asked[k].length);
+        request[5] = (uint8_t)(length - 7);
+        mm_memory_apply(&memory, 3, request, length, out, ROOM, &answer);
+    }
+}
+
+static void call_report(void) {
+    do {
+        mm_memory_report(&memory, out, ROOM, &answer);
+    } while (answer.status == MM_WRITTEN);
+}
+
+static void call_next(void) {
+    uint64_t time;
+    mm_memory_next(&memory, TEXT("HK"), out, ROOM, &time, &answer);
+}
+
+static void call_state(void) {
+    struct mm_state state;
+    mm_memory_state(&memory, TEXT("HK"), &state, &answer);
+}
+
+static void call_waiting(void) {
+    uint64_t reports;
+    mm_memory_waiting(&memory, &reports, &answer);
+}
+
+static void call_close(void) { mm_memory_close(&memory); }
+
+static struct {
+    const char *name;
+    void (*call)(void);
+    size_t told, most; /* what the header says, and the most that was met */
+} calls[] = {
+    {"mm_plan", call_plan, MM_PLAN_STACK, 0},
+    {"mm_check", call_check, MM_CHECK_STACK, 0},
+    {"mm_chart", call_chart, MM_CHART_STACK, 0},
+    {"mm_table", call_table, MM_TABLE_STACK, 0},
+    {"mm_read", call_read, MM_READ_STACK, 0},
+    {"mm_ask", call_ask, MM_ASK_STACK, 0},
+    {"mm_ask", call_ask_of_setup, MM_ASK_STACK, 0},
+    {"mm_words", call_words, MM_WORDS_STACK, 0},
+    {"mm_hint", call_hint, MM_HINT_STACK, 0},
+    {"mm_version", call_version, MM_VERSION_STACK, 0},
+    {"mm_memory_open", call_open, MM_OPEN_STACK, 0},
+    {"mm_memory_open", call_open_of_setup, MM_OPEN_STACK, 0},
+    {"mm_memory_apply", call_apply, MM_MEMORY_STACK, 0},
+    {"mm_memory_record", call_record, MM_MEMORY_STACK, 0},
+    {"mm_memory_offer", call_offer, MM_MEMORY_STACK, 0},
+    {"mm_memory_next", call_next, MM_MEMORY_STACK, 0},
+    {"mm_memory_state", call_state, MM_MEMORY_STACK, 0},
+    {"mm_memory_waiting", call_waiting, MM_MEMORY_STACK, 0},
+    {"mm_memory_report", call_report, MM_MEMORY_STACK, 0},
+    {"mm_memory_close", call_close, MM_MEMORY_STACK, 0},
+};
+enum { CALLS = sizeof calls / sizeof calls[0] };
+
+/* How many bytes of its stack a call takes. */
+static size_t taken(void (*call)(void)) {
+    static ucontext_t inner, outer;
+    size_t free = 0;
+    memset(stack, 0xA5, STACK);
+    getcontext(&inner);
+    inner.uc_stack.ss_sp = stack;
+    inner.uc_stack.ss_size = STACK;
+    inner.uc_link = &outer;
+    makecontext(&inner, call, 0);
+    swapcontext(&outer, &inner);
+    while (free < STACK && stack[free] == 0xA5) {
+        free++;
+    }
+    return STACK - free;
+}
+
+static int read_text(struct text *text, const char *folder, const char *name) {
+    char path[4096];
+    FILE *file;
+    snprintf(path, sizeof path, "%s/%s", folder, name);
+    if ((file = fopen(path, "rb")) == NULL) {
+        printf("not read: %s\n", path);
+        return 1;
+    }
+    text->length = fread(text->octets, 1, ROOM, file);
+    fclose(file);
+    return 0;
+}
+
+/* A setup with this piece again and again. */
+static void nest(const char *first, const char *piece) {
+    const size_t step = strlen(piece);
+    setup.length = strlen(first);
+    memcpy(setup.octets, first, setup.length);
+    while (setup.length + step <= 4096) {
+        memcpy(setup.octets + setup.length, piece, step);
+        setup.length += step;
+    }
+}
+
+static void measure(size_t rest) {
+    for (size_t c = 0; c < CALLS; c++) {
+        const size_t now = taken(calls[c].call) - rest;
+        calls[c].most = now > calls[c].most ? now : calls[c].most;
+    }
+}
+
+int main(int count, char **folders) {
+    static const char *const nested[][2] = {{"a=", "{a="}, {"a=", "["}, {"a=", "[{a="}, {"a", ".a"}, {"[a", ".a"}, {"[[a", ".a"}};
+    const size_t rest = taken(nothing);
+    int failed = 0;
+    for (int k = 1; k < count; k++) {
+        if (read_text(&setup, folders[k], "setup.toml") || read_text(&forecast, folders[k], "forecast.csv") ||
+            read_text(&plan, folders[k], "plan.txt")) {
+            return 2;
+        }
+        measure(rest);
+    }
+    for (size_t k = 0; k < sizeof nested / sizeof nested[0]; k++) {
+        nest(nested[k][0], nested[k][1]);
+        measure(rest);
+    }
+    for (size_t c = 0; c < CALLS; c++) {
+        printf("stack: %s took %zu bytes, and %zu are told\n", calls[c].name, calls[c].most, calls[c].told);
+        failed |= calls[c].most == 0 || calls[c].most > calls[c].told;
+    }
+    return failed;
+}

@@ -1,0 +1,43 @@
+#!/usr/bin/env python3
+"""A program that uses the package with types. `mypy --strict` must find nothing in it; it runs too."""
+
+from collections.abc import Mapping
+
+from rudlayog import Cut, Forecast, ForecastLike, Limit, Memory, Plan, Refusal, Route, Setup, SetupLike, Store, Tally, ask, chart, check, plan
+
+TELEMETRY = bytes([0x08, 1, 0xC0, 0, 0, 14, 0x20, 3, 25]) + bytes(12)
+
+
+def least(setup: SetupLike, forecasts: list[ForecastLike]) -> int:
+    """The least loss of several forecasts, of any kind."""
+    return min(plan(setup, forecast).loss for forecast in forecasts)
+
+
+def planned() -> tuple[int, Mapping[str, tuple[int, ...]]]:
+    """What a plan says, of data of several types."""
+    setup = Setup.of([Store("SCI", 4), Store("HK", 3, "circular", 1)], [Route(1, 3, 25, "HK")], [Limit(1, 2)])
+    columns = {"step": [2, 1], "window": [3, 2], "SCI": [2, 5], "HK": [0, 1]}
+    rows = [{"step": 1, "window": 2, "SCI": 5, "HK": 1}, {"step": 2, "window": 3, "SCI": 2, "HK": 0}]
+    forecast = Forecast.of([2, 3], {"SCI": [5, 2], "HK": [1, 0]})
+    made = plan(setup, forecast)
+    assert made == plan(bytes(setup), columns) == plan(setup.text(), rows) == plan(setup.to_dict(), forecast.text())
+    assert least(setup, [forecast, columns, rows, forecast.text(), forecast.having(windows=[9, 9])]) == least(bytes(setup), [forecast.having([9, 9])])
+    assert made == Plan.of(made.to_dict(), made.loss, Cut(made.cut.stretches, made.cut.by_channels, made.cut.bound))
+    assert check(setup, forecast, made) and check(setup, forecast, made.to_dict()).loss == made.loss
+    assert chart(setup, forecast, bytes(made)).svg == made._repr_svg_()
+    return made.loss, made.by_store
+
+
+def recorded() -> tuple[Tally, list[bytes]]:
+    """What a memory tells."""
+    with Memory([{"id": "HK", "size": 2}]) as memory:
+        try:
+            memory.next("HK")
+        except Refusal as refusal:
+            assert refusal.name == "Idle" and refusal.row is None
+        return memory.record(7, bytearray(TELEMETRY)), list(memory.reports())
+
+
+if __name__ == "__main__":
+    assert planned()[0] >= 0 and recorded() == (Tally(0, 0, 0), [])
+    assert ask("[[store]]\nid = 'HK'\nsize = 2\ntype = 'bounded'\nchannel = 0\n", [b"\x18"]).all_done is False

@@ -1,0 +1,68 @@
+-- What is told of a store of a memory, and of the reports that wait, by the definitions of `mm_service`.
+use Rattle.std.specs.Prelude.{◌≡◌, ◌⊎◌, ℕ, List, length, Bool, if◌then◌else◌, Option, Some, None, Ok, Err}
+use Rattle.mm_base.specs.declared.kind.Kind.{Kind}
+use Rattle.mm_base.specs.declared.kind.Kind.TheVariants.{Circular, Bounded}
+use Rattle.mm_desk.specs.declared.state.Retrieval.{Retrieval}
+use Rattle.mm_service.specs.declared.showing.Shown.{Shown}
+use Rattle.mm_service.specs.Serving.{Serving}
+use Rattle.mm_service.specs.Showing.{shown_of}
+use Rattle.mm_told.specs.declared.answer.Answer.{Answer}
+use Rattle.mm_told.specs.declared.answer.Status.TheVariants.{Written}
+use Rattle.mm_c.specs.Serving.{ended, IsRefused}
+use Rattle.mm_c.specs.declared.showing.StoreTold.{StoreTold}
+
+-- the code of a kind
+abbrev pub code_of_kind : Kind → ℕ
+code_of_kind Circular = 1
+code_of_kind Bounded = 2
+
+-- the code of a switch
+abbrev pub code_of_switch : Bool → ℕ
+code_of_switch on = if on then 1 else 0
+
+-- what is told where there is no store
+abbrev pub no_store : StoreTold
+no_store = record {
+  kind = 0;
+  size = 0;
+  held = 0;
+  storage = 0;
+  retrieval = 0;
+  offered = 0;
+  lost = 0;
+  deleted = 0;
+  oldest = 0;
+  newest = 0;
+  from = 0;
+  to = 0;
+  after = 0;
+}
+
+-- the same with the retrieval that is on
+abbrev pub with_retrieval : StoreTold → Option Retrieval → StoreTold
+with_retrieval told (Some on) = record told { retrieval = 1; from = on.from; to = on.to; after = on.after }
+with_retrieval told None = told
+
+-- what is told of a store
+abbrev pub store_told : Shown → StoreTold
+store_told s = with_retrieval (record no_store {
+  kind = code_of_kind s.kind;
+  size = s.size;
+  held = s.held;
+  storage = code_of_switch s.storage;
+  offered = s.offered;
+  lost = s.lost;
+  deleted = s.deleted;
+  oldest = s.oldest;
+  newest = s.newest;
+}) s.retrieval
+
+-- what a store holds and has lost is told and nothing has changed, or the call is refused
+abbrev pub ShowsStore : List ℕ → StoreTold → Answer → Serving → Serving → Type 0
+ShowsStore id told answer s t =
+    ((shown : Shown) × (shown_of id s ≡ Ok shown) × (t ≡ s) × (told ≡ store_told shown) × (answer ≡ ended Written))
+    ⊎ (IsRefused (λ fault. shown_of id s ≡ Err fault) s t answer × (told ≡ no_store))
+
+-- how many reports wait is told, and nothing has changed
+abbrev pub ShowsWaiting : ℕ → Answer → Serving → Serving → Type 0
+ShowsWaiting told answer s t = (t ≡ s) × (told ≡ length s.waiting) × (answer ≡ ended Written)

@@ -1,0 +1,156 @@
+//! What a store of a memory holds and has lost, and how many reports wait.
+ghost use Rattle.std.specs.Prelude.{◌≡◌};
+ghost use Rattle.mm_c.specs.Serving.{OnOpen};
+ghost use Rattle.mm_c.specs.Showing.{code_of_kind, code_of_switch, no_store, with_retrieval, store_told, ShowsStore, ShowsWaiting};
+
+use crate::handle::MemoryHandle;
+use crate::memory::{ended, refused};
+use mm_base::Kind;
+use mm_desk::Retrieval;
+use mm_service::Shown;
+use mm_told::{Answer, Status};
+use std::alloc::Global;
+
+/// What a packet store holds and has lost. A switch is 1 where it is on. Where no retrieval is on, its three times are 0.
+#[repr(C)]
+#[derive(Clone, Copy)]
+pub struct StoreTold {
+    pub kind: u32,
+    pub size: u32,
+    pub held: u32,
+    pub storage: u32,
+    pub retrieval: u32,
+    pub offered: u64,
+    pub lost: u64,
+    pub deleted: u64,
+    pub oldest: u64,
+    pub newest: u64,
+    pub from: u64,
+    pub to: u64,
+    pub after: u64,
+}
+
+// The code of a kind. 0 is that of none.
+fn code_of_kind(kind: Kind) -> u32
+    ensures { result ≡ code_of_kind kind }
+{
+    match kind {
+        Kind::Circular => 1,
+        Kind::Bounded => 2,
+    }
+}
+
+// The code of a switch.
+fn code_of_switch(on: bool) -> u32
+    ensures { result ≡ code_of_switch on }
+{
+    if on { 1 } else { 0 }
+}
+
+impl StoreTold {
+    // What is told where there is no store.
+    fn nothing() -> StoreTold
+        ensures { result ≡ no_store }
+    {
+        StoreTold {
+            kind: 0,
+            size: 0,
+            held: 0,
+            storage: 0,
+            retrieval: 0,
+            offered: 0,
+            lost: 0,
+            deleted: 0,
+            oldest: 0,
+            newest: 0,
+            from: 0,
+            to: 0,
+            after: 0,
+        }
+    }
+
+    // The same with this retrieval.
+    fn with_retrieval(self, retrieval: Option<Retrieval>) -> StoreTold
+        ensures { result ≡ with_retrieval self retrieval }
+    {
+        match retrieval {
+            Some(on) => StoreTold {
+                retrieval: 1,
+                from: on.from,
+                to: on.to,
+                after: on.after,
+                ..self
+            },
+            None => self,
+        }
+    }
+
+    // What is told of a store.
+    fn of(shown: Shown) -> StoreTold
+        ensures { result ≡ store_told shown }
+    {
+        let told = StoreTold {
+            kind: code_of_kind(shown.kind),
+            size: shown.size,
+            held: shown.held,
+            storage: code_of_switch(shown.storage),
+            offered: shown.offered,
+            lost: shown.lost,
+            deleted: shown.deleted,
+            oldest: shown.oldest,
+            newest: shown.newest,
+            ..StoreTold::nothing()
+        };
+        told.with_retrieval(shown.retrieval)
+    }
+}
+
+/// Tells what the store with an identifier holds and has lost, as `Service::show` of `mm_service` does.
+#[unsafe(no_mangle)]
+pub extern "C" fn mm_memory_state(
+    alloc: Global,
+    memory: &mut MemoryHandle,
+    id: &[u8],
+    state: &mut StoreTold,
+    answer: &mut Answer,
+)
+    ensures shown { OnOpen (ShowsStore id.now state.new answer.new) (state.new ≡ no_store)
+        memory.old.loose.service memory.new.loose.service answer.new }
+{
+    *state = StoreTold::nothing();
+    if !memory.is_open {
+        *answer = ended(Status::Closed);
+        return;
+    }
+    let service = memory.take(alloc);
+    match service.show(id) {
+        Ok(shown) => {
+            *state = StoreTold::of(shown);
+            *answer = ended(Status::Written);
+        }
+        Err(fault) => *answer = refused(fault),
+    }
+    memory.put(service);
+}
+
+/// Tells how many reports wait, as `Service::waiting` of `mm_service` does.
+#[unsafe(no_mangle)]
+pub extern "C" fn mm_memory_waiting(
+    alloc: Global,
+    memory: &mut MemoryHandle,
+    reports: &mut u64,
+    answer: &mut Answer,
+)
+    ensures shown { OnOpen (ShowsWaiting reports.new answer.new) (reports.new ≡ 0)
+        memory.old.loose.service memory.new.loose.service answer.new }
+{
+    *reports = 0;
+    if !memory.is_open {
+        *answer = ended(Status::Closed);
+        return;
+    }
+    let service = memory.take(alloc);
+    *reports = service.waiting() as u64;
+    *answer = ended(Status::Written);
+    memory.put(service);
+}

@@ -1,0 +1,274 @@
+-- What becomes of packets: one event first, then any list of them.
+use Rattle.std.proofs.Common.{◌≡◌, ℕ, ◌+◌, ◌<◌, Bool, true, false, ltb, leb, cond, List, [], ◌∷◌, ◌++◌, length, filter, All, Contains, refl, sym, ap, ◌∙◌, arith, length-append, append_assoc, subst}
+use Rattle.std.specs.Prelude.{Option, Some, None, Result, ◌==◌, ◌||◌, not, is_some, IfSome, IsPermutation}
+use Rattle.std.specs.List.{find}
+use Rattle.std.proofs.lemmas.Bool.{or_parts, and_parts, both_ways, cond_both, ltb-true}
+use Rattle.std.proofs.lemmas.Bool.Decides.{nat_tests}
+use Rattle.std.proofs.lemmas.List.Sums.{length-filter}
+use Rattle.std.proofs.lemmas.List.{append-nil, map-append, length-map}
+use Rattle.std.proofs.lemmas.List.Sorted.{IsPermutation-refl, IsPermutation-sym, IsPermutation-trans, IsPermutation-to_front, IsPermutation-append_left, IsPermutation-append_right, IsPermutation-append_comm, IsPermutation-filter_both, IsPermutation-map, All-permutation}
+use Rattle.std.proofs.lemmas.List.Elements.{All-nil, All-cons, All-head, All-tail, All-append, All-weaker, All-contains_itself}
+use Rattle.mm_base.proofs.Pairs.{All-front, All-back, AllPairs-append}
+use Rattle.mm_base.specs.declared.kind.Kind.{Kind}
+use Rattle.mm_base.specs.declared.kind.Kind.TheVariants.{Circular, Bounded}
+use Rattle.mm_packet.specs.Packet.{SpacePacket}
+use Rattle.mm_store.specs.declared.stored.Stored.{Stored}
+use Rattle.mm_store.specs.declared.put.Put.{Put}
+use Rattle.mm_store.specs.Content.{Store, clock_end, IsRising, is_in, put_full, put_timed, first_in, kept_after, count_up_to}
+use Rattle.mm_store.specs.Laws.{handed_back}
+use Rattle.mm_desk.specs.declared.event.Event.{Event}
+use Rattle.mm_desk.specs.declared.event.Event.TheVariants.{Offer, Begin, Next, Abort, Delete, Enable, Disable}
+use Rattle.mm_desk.specs.declared.fault.Fault.{Fault}
+use Rattle.mm_desk.specs.declared.reply.Offered.{Offered}
+use Rattle.mm_desk.specs.declared.reply.Returned.{Returned}
+use Rattle.mm_desk.specs.declared.state.Retrieval.{Retrieval}
+use Rattle.mm_desk.specs.Fates.{packets_of, accepted, left_out, found_in, taken, given_up, deleted, given, over, known, IsConserved, BeginsNone}
+use Rattle.mm_desk.specs.Machine.{State, answer_of, after_put, offer, begin, give, next_of, abort, delete, step}
+
+-- what a put keeps and gives up is what was held and the new packet
+record Puts (s : Store) (packet : SpacePacket) (done : Put × Store) : Type 0 where
+  packets : IsPermutation (packets_of s.content ++ packet ∷ []) (packets_of done.1.content ++ left_out (answer_of done.0))
+  is_taken : accepted packet (answer_of done.0) ≡ packet ∷ []
+  lost : handed_back done.0 ≡ length (left_out (answer_of done.0))
+
+-- the new packet stands at the end
+appended : (held : List Stored) (new : Stored) → packets_of (held ++ new ∷ []) ≡ packets_of held ++ new.packet ∷ []
+appended held new = map-append (λ (p : Stored). p.packet) held (new ∷ [])
+
+by_full : (kind : Kind) (held : List Stored) (s : Store) (new : Stored) → s.content ≡ held → Puts s new.packet (put_full kind held s new)
+by_full Circular (oldest ∷ later) s new is = record {
+  packets = rw (is, appended later new) (IsPermutation-sym _ _ (IsPermutation-to_front (packets_of later ++ new.packet ∷ []) oldest.packet));
+  is_taken = refl;
+  lost = refl;
+}
+by_full Circular [] s new is = record { packets = IsPermutation-refl _; is_taken = refl; lost = refl }
+by_full Bounded held s new is = record { packets = IsPermutation-refl _; is_taken = refl; lost = refl }
+
+by_put : (s : Store) (new : Stored) → Puts s new.packet (put_timed s new)
+by_put s new =
+    cond_both (ltb (length s.content) s.size) _ _ (Puts s new.packet)
+    (λ free. record {
+      packets = rw (append-nil (packets_of (s.content ++ new ∷ [])), appended s.content new) (IsPermutation-refl _);
+      is_taken = refl;
+      lost = refl;
+    })
+    (λ full. by_full s.kind s.content s new refl)
+
+-- what one event does: what was held and what it takes is what it deletes, what is held then, and what it gives up
+record Moves (s t : State) (took gone left : List SpacePacket) : Type 0 where
+  packets : IsPermutation (packets_of s.store.content ++ took) (gone ++ packets_of t.store.content ++ left)
+  lost : t.lost ≡ s.lost + length left
+  deleted : t.deleted ≡ s.deleted + length gone
+
+-- nothing is taken, deleted or given up
+stays : (s t : State) → t.store.content ≡ s.store.content → t.lost ≡ s.lost → t.deleted ≡ s.deleted → Moves s t [] [] []
+stays s t same lost gone = record { packets = rw same (IsPermutation-refl _); lost = omega (arith, lost); deleted = omega (arith, gone) }
+
+-- two choices by one test
+cond_two : {X Y : Type 0} (P : X → Y → Type 0) (b : Bool) (x y : X) (u v : Y) → P x u → P y v → P (cond b x y) (cond b u v)
+cond_two P true x y u v first second = first
+cond_two P false x y u v first second = second
+
+-- what an answer to an offer and the state after it tell
+abbrev ByOffer : State → SpacePacket → Result Offered Returned × State → Type 0
+ByOffer s packet r = Moves s r.1 (accepted packet r.0) [] (left_out r.0)
+
+module _ (s : State) where
+  put_in : (packet : SpacePacket) (done : Put × Store) → Puts s.store packet done → ByOffer s packet (answer_of done.0, after_put s done)
+  put_in packet done puts = record {
+    packets = rw puts.is_taken puts.packets;
+    lost = omega (arith, puts.lost);
+    deleted = omega arith;
+  }
+
+  by_offer : (now : ℕ) (packet : SpacePacket) → ByOffer s packet (offer s now packet)
+  by_offer now packet =
+      cond_both (not s.storage) _ _ (ByOffer s packet) (λ off. stays s s refl refl refl)
+      (λ on. cond_both ((s.store.last == clock_end) || (s.offered == clock_end)) _ _ (ByOffer s packet) (λ late. stays s s refl refl refl)
+      (λ early. cond_both (s.store.last == clock_end) _ _ (λ done. ByOffer s packet (answer_of done.0, after_put s done))
+      (λ late. absurd (both_ways _ (or_parts (s.store.last == clock_end) (s.offered == clock_end) early).0 late))
+      (λ free. put_in packet _ (by_put s.store _))))
+
+  -- the packets up to a limit and those after it are all
+  parted : (limit : ℕ) (held : List Stored) → IsPermutation (packets_of held ++ []) (packets_of (filter (λ p. leb p.time limit) held) ++ packets_of (kept_after limit held) ++ [])
+  parted limit held =
+      let both = IsPermutation-filter_both (λ (p : Stored). leb p.time limit) (λ (p : Stored). ltb limit p.time) (λ p. grind (arith, nat_tests)) held in
+      let mapped = IsPermutation-map (λ (p : Stored). p.packet) _ _ both in
+      let split = map-append (λ (p : Stored). p.packet) (filter (λ p. leb p.time limit) held) (kept_after limit held) in
+      subst (λ l. IsPermutation l (packets_of (filter (λ p. leb p.time limit) held) ++ packets_of (kept_after limit held) ++ [])) (sym (append-nil (packets_of held)))
+      (subst (IsPermutation (packets_of held)) (split ∙ sym (append-nil _)) mapped)
+
+  -- as many packets are deleted as are counted
+  counted : (limit : ℕ) (held : List Stored) → count_up_to limit held ≡ length (packets_of (filter (λ p. leb p.time limit) held))
+  counted limit held = sym (length-filter (λ (p : Stored). leb p.time limit) held) ∙ sym (length-map (filter (λ (p : Stored). leb p.time limit) held) (λ (p : Stored). p.packet))
+
+  by_delete : (limit : ℕ) → Moves s (delete s limit).1 [] (deleted s (Delete limit)) []
+  by_delete limit =
+      cond_two (λ (r : Result ℕ Fault × State) (gone : List SpacePacket). Moves s r.1 [] gone []) (is_some s.retrieval) _ _ _ _ (stays s s refl refl refl)
+      (record { packets = parted limit s.store.content; lost = omega arith; deleted = omega (arith, counted limit s.store.content) })
+
+  by_give : (r : Retrieval) (found : Option Stored) → Moves s (give s r found).1 [] [] []
+  by_give r (Some p) = stays s _ refl refl refl
+  by_give r None = stays s _ refl refl refl
+
+  by_next : (retrieval : Option Retrieval) → Moves s (next_of s retrieval).1 [] [] []
+  by_next (Some r) = by_give r (first_in r.from r.to r.after s.store.content)
+  by_next None = stays s s refl refl refl
+
+  by_begin : (from to : ℕ) → Moves s (begin s from to).1 [] [] []
+  by_begin from to =
+      cond_both (is_some s.retrieval) _ _ (λ (r : Result (Unit {0}) Fault × State). Moves s r.1 [] [] []) (λ busy. stays s s refl refl refl)
+      (λ idle. cond_both (ltb to from) _ _ (λ (r : Result (Unit {0}) Fault × State). Moves s r.1 [] [] []) (λ bad. stays s s refl refl refl) (λ good. stays s _ refl refl refl))
+
+  by_abort : Moves s (abort s).1 [] [] []
+  by_abort = cond_both (is_some s.retrieval) _ _ (λ (r : Result (Unit {0}) Fault × State). Moves s r.1 [] [] []) (λ on. stays s _ refl refl refl) (λ idle. stays s s refl refl refl)
+
+  by_event : (e : Event) → Moves s (step s e).1 (taken s e) (deleted s e) (given_up s e)
+  by_event (Offer now packet) = by_offer now packet
+  by_event (Begin from to) = by_begin from to
+  by_event Next = by_next s.retrieval
+  by_event Abort = by_abort
+  by_event (Delete limit) = by_delete limit
+  by_event Enable = stays s _ refl refl refl
+  by_event Disable = stays s _ refl refl refl
+
+-- two moves after one another
+module _ {X : Type 0} (held took gone kept left more deleted last out : List X) where
+  pub joined : IsPermutation (held ++ took) (gone ++ kept ++ left) → IsPermutation (kept ++ more) (deleted ++ last ++ out)
+      → IsPermutation (held ++ (took ++ more)) (gone ++ deleted ++ last ++ (left ++ out))
+  joined first second =
+      let widened : IsPermutation (held ++ (took ++ more)) (gone ++ (kept ++ (left ++ more))) =
+      subst (λ l. IsPermutation l (gone ++ (kept ++ (left ++ more)))) (append_assoc held took more)
+      (subst (IsPermutation (held ++ took ++ more)) (append_assoc (gone ++ kept) left more ∙ append_assoc gone kept (left ++ more)) (IsPermutation-append_left more _ _ first)) in
+      let turned : IsPermutation (gone ++ (kept ++ (left ++ more))) (gone ++ (kept ++ more ++ left)) =
+      subst (λ l. IsPermutation (gone ++ (kept ++ (left ++ more))) (gone ++ l)) (sym (append_assoc kept more left))
+      (IsPermutation-append_right gone _ _ (IsPermutation-append_right kept _ _ (IsPermutation-append_comm left more))) in
+      let moved : IsPermutation (gone ++ (kept ++ more ++ left)) (gone ++ (deleted ++ last ++ (out ++ left))) =
+      subst (λ l. IsPermutation (gone ++ (kept ++ more ++ left)) (gone ++ l)) (append_assoc (deleted ++ last) out left)
+      (IsPermutation-append_right gone _ _ (IsPermutation-append_left left _ _ second)) in
+      let back : IsPermutation (gone ++ (deleted ++ last ++ (out ++ left))) (gone ++ deleted ++ last ++ (left ++ out)) =
+      subst (IsPermutation (gone ++ (deleted ++ last ++ (out ++ left)))) (sym (append_assoc gone (deleted ++ last) (left ++ out)) ∙ ap (λ l. l ++ (left ++ out)) (sym (append_assoc gone deleted last)))
+      (IsPermutation-append_right gone _ _ (IsPermutation-append_right (deleted ++ last) _ _ (IsPermutation-append_comm out left))) in
+      IsPermutation-trans _ _ _ widened (IsPermutation-trans _ _ _ turned (IsPermutation-trans _ _ _ moved back))
+
+pub conserved : (s : State) (es : List Event) → IsConserved s es
+conserved s [] = record { packets = IsPermutation-refl _; lost = omega arith; deleted = omega arith }
+conserved s (e ∷ es) =
+    let here = by_event s e in
+    let rest = conserved (step s e).1 es in
+    record {
+      packets = joined (packets_of s.store.content) (taken s e) (deleted s e) (packets_of (step s e).1.store.content) (given_up s e) _ _ _ _ here.packets rest.packets;
+      lost = omega (arith, here.lost, rest.lost, length-append (given_up s e) (over given_up (step s e).1 es));
+      deleted = omega (arith, here.deleted, rest.deleted, length-append (deleted s e) (over deleted (step s e).1 es));
+    }
+
+-- what is found passes the test, and has what all have
+find-has : (P : Stored → Type 0) (test : Stored → Bool) (xs : List Stored) → All P xs → IfSome (find test xs) (λ p. (test p ≡ true) × P p)
+find-has P test [] all = tt
+find-has P test (x ∷ xs) all =
+    cond_both (test x) _ _ (λ found. IfSome found (λ p. (test p ≡ true) × P p)) (λ yes. (yes, All-head P x xs all)) (λ no. find-has P test xs (All-tail P x xs all))
+
+module _ (pool : List SpacePacket) where
+  abbrev IsIn : Stored → Type 0
+  IsIn p = Contains pool p.packet
+
+  -- the packets of a list are in the pool, and so are those of its pairs
+  pairs_in : (held : List Stored) → All (Contains pool) (packets_of held) → All IsIn held
+  pairs_in [] all = All-nil IsIn
+  pairs_in (p ∷ held) all =
+      All-cons IsIn p held (All-head (Contains pool) p.packet (packets_of held) all) (pairs_in held (All-tail (Contains pool) p.packet (packets_of held) all))
+
+  give_in : (s : State) (r : Retrieval) (found : Option Stored) → IfSome found (λ p. (is_in r.from r.to r.after p ≡ true) × IsIn p) → All IsIn (found_in (give s r found).0)
+  give_in s r (Some p) has = All-cons IsIn p [] has.1 (All-nil IsIn)
+  give_in s r None has = All-nil IsIn
+
+  next_in : (s : State) (retrieval : Option Retrieval) → All IsIn s.store.content → All IsIn (found_in (next_of s retrieval).0)
+  next_in s (Some r) held = give_in s r _ (find-has IsIn (is_in r.from r.to r.after) s.store.content held)
+  next_in s None held = All-nil IsIn
+
+  -- what an event gives is in the pool where all that is held is
+  given_in : (s : State) (e : Event) → All (Contains pool) (packets_of s.store.content) → All IsIn (given s e)
+  given_in s Next held = next_in s s.retrieval (pairs_in s.store.content held)
+  given_in s (Offer now packet) held = All-nil IsIn
+  given_in s (Begin from to) held = All-nil IsIn
+  given_in s Abort held = All-nil IsIn
+  given_in s (Delete limit) held = All-nil IsIn
+  given_in s Enable held = All-nil IsIn
+  given_in s Disable held = All-nil IsIn
+
+  all_given_in : (s : State) (es : List Event) → All (Contains pool) (packets_of s.store.content) → All (Contains pool) (over taken s es) → All IsIn (over given s es)
+  all_given_in s [] held came = All-nil IsIn
+  all_given_in s (e ∷ es) held came =
+      let next = (step s e).1 in
+      let all = All-append (Contains pool) (packets_of s.store.content) (taken s e) held (All-front (Contains pool) (taken s e) (over taken next es) came) in
+      let moved = All-permutation (Contains pool) _ _ (by_event s e).packets all in
+      let then = All-back (Contains pool) (deleted s e) (packets_of next.store.content) (All-front (Contains pool) (deleted s e ++ packets_of next.store.content) (given_up s e) moved) in
+      All-append IsIn (given s e) (over given next es) (given_in s e held) (all_given_in next es then (All-back (Contains pool) (taken s e) (over taken next es) came))
+
+pub gives_known : (s : State) (es : List Event) → All (λ p. Contains (known s es) p.packet) (over given s es)
+gives_known s es =
+    let all = All-contains_itself (known s es) in
+    all_given_in (known s es) s es (All-front (Contains (known s es)) (packets_of s.store.content) (over taken s es) all) (All-back (Contains (known s es)) (packets_of s.store.content) (over taken s es) all)
+
+-- a packet that the retrieval may still give is later than the one that it gave last
+abbrev Above : Option Retrieval → Stored → Type 0
+Above (Some r) p = r.after < p.time
+Above None p = ⊥
+
+-- what an event that begins no retrieval gives is above what was given before, and below all that may be given later
+record Gives (s t : State) (gave : List Stored) : Type 0 where
+  above : All (Above s.retrieval) gave
+  below : (later : Stored) → Above t.retrieval later → All (λ p. p.time < later.time) gave
+  still : (later : Stored) → Above t.retrieval later → Above s.retrieval later
+  rising : IsRising gave
+
+-- nothing is given, and the retrieval stays or ends
+gives_none : (s t : State) → ((later : Stored) → Above t.retrieval later → Above s.retrieval later) → Gives s t []
+gives_none s t still = record { above = All-nil _; below = λ later above. All-nil _; still = still; rising = λ i j d before within. absurd (omega arith) }
+
+by_found : (s : State) (r : Retrieval) (found : Option Stored) → s.retrieval ≡ Some r → IfSome found (λ p. (is_in r.from r.to r.after p ≡ true) × Unit {0}) → Gives s (give s r found).1 (found_in (give s r found).0)
+by_found s r (Some p) on has =
+    let later_one : r.after < p.time = ltb-true r.after p.time (and_parts _ _ has.0).1 in
+    record {
+      above = rw on (All-cons (λ (q : Stored). r.after < q.time) p [] later_one (All-nil _));
+      below = λ later above. All-cons (λ (q : Stored). q.time < later.time) p [] above (All-nil _);
+      still = λ later above. rw on (omega (arith, later_one, above));
+      rising = λ i j d before within. absurd (omega arith);
+    }
+by_found s r None on has = gives_none s _ (λ later above. absurd above)
+
+by_retrieval : (s : State) (retrieval : Option Retrieval) → s.retrieval ≡ retrieval → Gives s (next_of s retrieval).1 (found_in (next_of s retrieval).0)
+by_retrieval s (Some r) on = by_found s r _ on (find-has (λ p. Unit {0}) (is_in r.from r.to r.after) s.store.content (λ k d within. tt))
+by_retrieval s None off = gives_none s s (λ later above. above)
+
+keeps_retrieval : (s : State) (now : ℕ) (packet : SpacePacket) → (offer s now packet).1.retrieval ≡ s.retrieval
+keeps_retrieval s now packet =
+    cond_both (not s.storage) _ _ (λ (r : Result Offered Returned × State). r.1.retrieval ≡ s.retrieval) (λ off. refl)
+    (λ on. cond_both ((s.store.last == clock_end) || (s.offered == clock_end)) _ _ (λ (r : Result Offered Returned × State). r.1.retrieval ≡ s.retrieval) (λ late. refl) (λ early. refl))
+
+by_calls : (s : State) (e : Event) → BeginsNone e → Gives s (step s e).1 (given s e)
+by_calls s (Offer now packet) none = gives_none s _ (λ later above. subst (λ r. Above r later) (keeps_retrieval s now packet) above)
+by_calls s (Begin from to) none = absurd none
+by_calls s Next none = by_retrieval s s.retrieval refl
+by_calls s Abort none =
+    cond_both (is_some s.retrieval) _ _ (λ (r : Result (Unit {0}) Fault × State). Gives s r.1 []) (λ on. gives_none s _ (λ later above. absurd above)) (λ off. gives_none s s (λ later above. above))
+by_calls s (Delete limit) none =
+    cond_both (is_some s.retrieval) _ _ (λ (r : Result ℕ Fault × State). Gives s r.1 []) (λ on. gives_none s s (λ later above. above)) (λ off. gives_none s _ (λ later above. above))
+by_calls s Enable none = gives_none s _ (λ later above. above)
+by_calls s Disable none = gives_none s _ (λ later above. above)
+
+-- what all events give rises, above what was given before
+rises : (s : State) (es : List Event) → All BeginsNone es → IsRising (over given s es) × All (Above s.retrieval) (over given s es)
+rises s [] none = (λ i j d before within. absurd (omega arith), All-nil _)
+rises s (e ∷ es) none =
+    let here = by_calls s e (All-head BeginsNone e es none) in
+    let rest = rises (step s e).1 es (All-tail BeginsNone e es none) in
+    let gave = given s e in
+    let later = over given (step s e).1 es in (
+      AllPairs-append (λ p q. p.time < q.time) gave later here.rising rest.0
+          (λ k d within. λ j other inside. here.below _ (rest.1 j other inside) k d within),
+      All-append (Above s.retrieval) gave later here.above (All-weaker (Above (step s e).1.retrieval) (Above s.retrieval) here.still later rest.1),
+    )
+
+pub gives_in_order : (s : State) (es : List Event) → All BeginsNone es → IsRising (over given s es)
+gives_in_order s es none = (rises s es none).0

@@ -1,0 +1,219 @@
+-- What became of the packets of a run: a log of offers, the log's seats, a step run, and then one step after another.
+use Rattle.std.proofs.Common.{◌≡◌, ◌≢◌, ◌⊎◌, inl, inr, ℕ, zero, suc, ◌+◌, ◌-◌, ◌<◌, ◌≤◌, ◌==◌, Bool, true, false, cond, eqb, List, [], ◌∷◌, ◌++◌, length, get_or, filter, All, refl, sym, ap, subst, ◌∙◌, arith, length-append, append_assoc}
+use Rattle.std.specs.Prelude.{Ok, Err, flat_map, slice_index_or, IsPermutation}
+use Rattle.std.proofs.lemmas.Bool.{cases_lt, eq-eqb, ne_eqb}
+use Rattle.std.proofs.lemmas.List.{append-nil, map-append, get_or_append_left}
+use Rattle.std.proofs.lemmas.List.Elements.{All-head, All-tail}
+use Rattle.std.proofs.lemmas.List.Sorted.{IsPermutation-refl, IsPermutation-sym, IsPermutation-trans, IsPermutation-append_left, IsPermutation-append_right, IsPermutation-append_comm}
+use Rattle.mm_packet.specs.Packet.{SpacePacket}
+use Rattle.mm_problem.specs.Dumping.{Dumping}
+use Rattle.mm_plan.specs.Volumes.{Amounts}
+use Rattle.mm_store.specs.declared.stored.Stored.{Stored}
+use Rattle.mm_store.specs.Content.{IsRising}
+use Rattle.mm_desk.specs.declared.entry.Entry.{Entry}
+use Rattle.mm_desk.specs.declared.event.Event.{Event}
+use Rattle.mm_desk.specs.declared.event.Event.TheVariants.{Offer, Begin, Next, Abort, Delete, Enable, Disable}
+use Rattle.mm_desk.specs.declared.reply.Offered.{Offered}
+use Rattle.mm_desk.specs.declared.reply.Reply.{Reply}
+use Rattle.mm_desk.specs.declared.reply.Reply.TheVariants as reply
+use Rattle.mm_desk.specs.Fates.{packets_of, accepted, taken, given_up, deleted, after, over, IsConserved, ConservePackets}
+use Rattle.mm_desk.specs.Laws.{ReplaysKeepStates, OffersLeave, OrdersDumpTheOldest}
+use Rattle.mm_desk.specs.Machine.{State, IsState, offer, step}
+use Rattle.mm_desk.specs.Offers.{IsTaken, AreTaken, asked, IsShuffleOfEvents}
+use Rattle.mm_desk.specs.Orders.{Dumps}
+use Rattle.mm_desk.specs.Runs.{replay, IsLegal, IsRun}
+use Rattle.mm_desk.specs.Shuffles.{AreBelow, part}
+use Rattle.mm_desk.proofs.FateLemmas.{joined}
+use Rattle.mm_exec.specs.Accounts.{packet_in, packets_in, packets_offered, over_steps, IsAccounted}
+use Rattle.mm_exec.specs.Laws.{IsRunOf}
+use Rattle.mm_exec.specs.StepRuns.{IsDumpOf, IsStepRun, AreTimed}
+use Rattle.mm_exec.proofs.Replays.{IsLegal-parts, replay-append, timed_log}
+use Rattle.mm_exec.proofs.Stepping.{Stands, stands}
+
+-- what an offer that is taken takes and deletes
+record TakesAlone (s : State) (event : Event) : Type 0 where
+  takes : taken s event ≡ packet_in event
+  deletes : deleted s event ≡ []
+
+-- the packet that a reply to its offer takes
+abbrev takes_by : SpacePacket → Reply → List SpacePacket
+takes_by packet (reply.Offered answer) = accepted packet answer
+takes_by packet other = []
+
+by_event : (s : State) (event : Event) (answer : Reply) → IsTaken event answer → answer ≡ (step s event).0 → TakesAlone s event
+by_event s (Offer now packet) (reply.Offered (Ok offered)) taken is = record { takes = sym (ap (takes_by packet) is); deletes = refl }
+by_event s (Offer now packet) (reply.Offered (Err back)) taken is = absurd taken
+by_event s (Offer now packet) (reply.Done done) taken is = absurd taken
+by_event s (Offer now packet) (reply.Given given) taken is = absurd taken
+by_event s (Offer now packet) (reply.Deleted count) taken is = absurd taken
+by_event s (Begin from to) answer taken is = absurd taken
+by_event s Next answer taken is = absurd taken
+by_event s Abort answer taken is = absurd taken
+by_event s (Delete limit) answer taken is = absurd taken
+by_event s Enable answer taken is = absurd taken
+by_event s Disable answer taken is = absurd taken
+
+-- what a legal log of offers that are taken does
+record Takes (s : State) (log : List Entry) : Type 0 where
+  takes : over taken s (asked log) ≡ packets_in (asked log)
+  deletes : over deleted s (asked log) ≡ []
+  leaves : after s (asked log) ≡ replay s log
+
+takes_all : (s : State) (log : List Entry) → IsLegal s log → AreTaken log → Takes s log
+takes_all s [] legal all = record { takes = refl; deletes = refl; leaves = refl }
+takes_all s (e ∷ es) legal all =
+    let here = by_event s e.event e.reply (All-head (λ (x : Entry). IsTaken x.event x.reply) e es all) legal.0 in
+    let rest = takes_all (step s e.event).1 es legal.1 (All-tail (λ (x : Entry). IsTaken x.event x.reply) e es all) in
+    record {
+      takes = ap (λ l. l ++ over taken (step s e.event).1 (asked es)) here.takes ∙ ap (λ l. packet_in e.event ++ l) rest.takes;
+      deletes = ap (λ l. l ++ over deleted (step s e.event).1 (asked es)) here.deletes ∙ rest.deletes;
+      leaves = rest.leaves;
+    }
+
+-- the lists of these many seats, one after another
+abbrev over_seats : {X : Type 0} → (ℕ → List X) → ℕ → List X
+over_seats each zero = []
+over_seats each (suc n) = over_seats each n ++ each n
+
+-- the same from the first seat on
+over_seats-first : {X : Type 0} (each : ℕ → List X) (n : ℕ) → over_seats each (suc n) ≡ each 0 ++ over_seats (λ k. each (suc k)) n
+over_seats-first each zero = sym (append-nil (each 0))
+over_seats-first each (suc n) =
+    ap (λ l. l ++ each (suc n)) (over_seats-first each n) ∙ append_assoc (each 0) (over_seats (λ k. each (suc k)) n) (each (suc n))
+
+-- what is made of each list, one after another, as by the seats
+by_seats : {X Y : Type 0} (make : List X → List Y) (lists : List (List X)) → over_seats (λ k. make (get_or lists k [])) (length lists) ≡ flat_map make lists
+by_seats make [] = refl
+by_seats make (x ∷ xs) = over_seats-first (λ k. make (get_or (x ∷ xs) k [])) (length xs) ∙ ap (λ l. make x ++ l) (by_seats make xs)
+
+-- lists that are alike below a number
+over_seats-same : {X : Type 0} (f g : ℕ → List X) (n : ℕ) → ((k : ℕ) → k < n → f k ≡ g k) → over_seats f n ≡ over_seats g n
+over_seats-same f g zero same = refl
+over_seats-same f g (suc n) same =
+    ap (λ l. l ++ f n) (over_seats-same f g n (λ k within. same k (omega arith))) ∙ ap (λ l. over_seats g n ++ l) (same n (omega arith))
+
+module _ {X : Type 0} (f g : ℕ → List X) (x : List X) (j : ℕ) (here : f j ≡ x ++ g j) (others : (k : ℕ) → k ≢ j → f k ≡ g k) where
+  -- what one seat has more stands first
+  more_at : (n : ℕ) → j < n → IsPermutation (over_seats f n) (x ++ over_seats g n)
+  more_at zero within = absurd (omega arith)
+  more_at (suc n) within = by_place (more_at n) (cases_lt j n)
+    where
+      by_place : (j < n → IsPermutation (over_seats f n) (x ++ over_seats g n)) → (j < n) ⊎ (n ≤ j) → IsPermutation (over_seats f n ++ f n) (x ++ (over_seats g n ++ g n))
+      by_place earlier (inl before) =
+          subst (λ l. IsPermutation (over_seats f n ++ l) (x ++ (over_seats g n ++ g n))) (sym (others n (λ same. omega (arith, same))))
+          (subst (IsPermutation (over_seats f n ++ g n)) (append_assoc x (over_seats g n) (g n)) (IsPermutation-append_left (g n) _ _ (earlier before)))
+      by_place earlier (inr last) =
+          let at : n ≡ j = omega arith in
+          let front : over_seats f n ≡ over_seats g n = over_seats-same f g n (λ k early. others k (λ same. omega (arith, same))) in
+          let back : f n ≡ x ++ g n = ap f at ∙ here ∙ ap (λ k. x ++ g k) (sym at) in
+          let whole : over_seats f n ++ f n ≡ over_seats g n ++ x ++ g n = ap (λ l. l ++ f n) front ∙ ap (λ l. over_seats g n ++ l) back ∙ sym (append_assoc (over_seats g n) x (g n)) in
+          subst (λ l. IsPermutation l (x ++ (over_seats g n ++ g n))) (sym whole)
+          (subst (IsPermutation (over_seats g n ++ x ++ g n)) (append_assoc x (over_seats g n) (g n))
+          (IsPermutation-append_left (g n) _ _ (IsPermutation-append_comm (over_seats g n) x)))
+
+-- what the seats of a log asked, seat by seat
+parted : (n : ℕ) (log : List Entry) → AreBelow n log → IsPermutation (packets_in (asked log)) (over_seats (λ k. packets_in (asked (part k log))) n)
+parted n [] below = subst (IsPermutation []) (sym (nothing n)) (IsPermutation-refl [])
+  where
+    nothing : (n : ℕ) → over_seats (λ k. packets_in (asked (part k []))) n ≡ []
+    nothing zero = refl
+    nothing (suc n) = ap (λ l. l ++ []) (nothing n)
+parted n (e ∷ es) below =
+    let within : e.seat < n = All-head (λ (x : Entry). x.seat < n) e es below in
+    let rest = parted n es (All-tail (λ (x : Entry). x.seat < n) e es below) in
+    let here : packets_in (asked (part e.seat (e ∷ es))) ≡ packet_in e.event ++ packets_in (asked (part e.seat es)) = rw (eq-eqb e.seat e.seat refl) refl in
+    let others = λ (k : ℕ) (other : k ≢ e.seat). not_mine k other in
+    IsPermutation-trans _ _ _ (IsPermutation-append_right (packet_in e.event) _ _ rest)
+    (IsPermutation-sym _ _ (more_at (λ k. packets_in (asked (part k (e ∷ es)))) (λ k. packets_in (asked (part k es))) (packet_in e.event) e.seat here others n within))
+  where
+    not_mine : (k : ℕ) → k ≢ e.seat → packets_in (asked (part k (e ∷ es))) ≡ packets_in (asked (part k es))
+    not_mine k other = rw (ne_eqb e.seat k (λ same. other (sym same))) refl
+
+-- a log that is a shuffle of offers asks what they ask
+shuffled_packets : (offers : List (List Event)) (log : List Entry) → IsShuffleOfEvents offers log → IsPermutation (packets_offered offers) (packets_in (asked log))
+shuffled_packets offers log shuffle =
+    let seats = over_seats-same (λ k. packets_in (asked (part k log))) (λ k. packets_in (get_or offers k [])) (length offers) (λ k within. ap packets_in (shuffle.parts k within)) in
+    subst (λ l. IsPermutation l (packets_in (asked log))) (seats ∙ by_seats packets_in offers) (IsPermutation-sym _ _ (parted (length offers) log shuffle.below))
+
+-- what a step run does with packets
+record StepAccounts (s t : State) (came : List SpacePacket) (gave : List Stored) : Type 0 where
+  lost : List SpacePacket
+  packets : IsPermutation (packets_of s.store.content ++ came) (packets_of gave ++ packets_of t.store.content ++ lost)
+  counted : t.lost ≡ s.lost + length lost
+  rising : IsRising gave
+
+module _ (conserve : ConservePackets) (leave : OffersLeave) (keep : ReplaysKeepStates) (dump : OrdersDumpTheOldest) where
+  -- what a dump gives is what stood first
+  record Gives (mid t : State) (gave : List Stored) : Type 0 where
+    content : mid.store.content ≡ gave ++ t.store.content
+    lost : t.lost ≡ mid.lost
+
+  dump_gives : (mid t : State) (wanted : ℕ) (gave : List Stored) (calls : List Entry) → IsState mid → IsDumpOf wanted gave calls → IsRun mid calls t → Gives mid t gave
+  dump_gives mid t wanted gave calls sound is run = by_wanted (cases_lt 0 wanted)
+    where
+      by_wanted : (0 < wanted) ⊎ (wanted ≤ 0) → Gives mid t gave
+      by_wanted (inl some) =
+          let order = is.whole (omega arith) in
+          let dumps : Dumps mid t wanted gave = dump mid t order.0 wanted gave calls sound order.1 run in
+          record { content = dumps.oldest; lost = ap (λ (u : State). u.lost) dumps.others }
+      by_wanted (inr none) =
+          let zero_wanted : wanted ≡ 0 = omega arith in
+          let nothing = is.none zero_wanted in
+          let same : t ≡ mid = run.leaves ∙ ap (replay mid) nothing.1 in
+          record { content = ap (λ (u : State). u.store.content) (sym same) ∙ ap (λ l. l ++ t.store.content) (sym nothing.0); lost = ap (λ (u : State). u.lost) same }
+
+  -- times rise in the front of a list in which they rise
+  rising_front : (gave rest : List Stored) → IsRising (gave ++ rest) → IsRising gave
+  rising_front gave rest all i j d before within =
+      let long = length-append gave rest in
+      let pair = all i j d before (omega arith) in
+      subst (λ (p : Stored). p.time < (get_or gave j d).time) (front i (omega arith)) (subst (λ (q : Stored). (get_or (gave ++ rest) i d).time < q.time) (front j within) pair)
+    where
+      front : (k : ℕ) → k < length gave → get_or (gave ++ rest) k d ≡ get_or gave k d
+      front k inside = get_or_append_left gave rest d k inside
+
+  step_accounts : (s t : State) (offers : List (List Event)) (wanted : ℕ) (gave : List Stored) → IsState s → AreTimed offers
+      → IsStepRun offers wanted gave s t → StepAccounts s t (packets_offered offers) gave
+  step_accounts s t offers wanted gave sound timed is =
+      let mid = replay s is.recorded in
+      let legal = IsLegal-parts s is.recorded is.dumped is.run.legal in
+      let second : IsRun mid is.dumped t = record { legal = legal.1; leaves = is.run.leaves ∙ replay-append s is.recorded is.dumped } in
+      let takes = takes_all s is.recorded legal.0 is.taken in
+      let log = conserve s (asked is.recorded) in
+      let stood : IsState mid = keep s is.recorded sound (timed_log offers is.recorded is.shuffle timed) in
+      let gives = dump_gives mid t wanted gave is.dumped stood is.dump second in
+      let left = over given_up s (asked is.recorded) in
+      let held : IsPermutation (packets_of s.store.content ++ packets_in (asked is.recorded)) (packets_of mid.store.content ++ left) =
+      subst (λ l. IsPermutation (packets_of s.store.content ++ l) (packets_of mid.store.content ++ left)) takes.takes
+      (subst (λ (u : State). IsPermutation (packets_of s.store.content ++ over taken s (asked is.recorded)) (packets_of u.store.content ++ left)) takes.leaves
+      (subst (λ l. IsPermutation (packets_of s.store.content ++ over taken s (asked is.recorded)) (l ++ packets_of (after s (asked is.recorded)).store.content ++ left)) takes.deletes log.packets)) in
+      let split : packets_of mid.store.content ≡ packets_of gave ++ packets_of t.store.content =
+      ap packets_of gives.content ∙ map-append (λ (p : Stored). p.packet) gave t.store.content in
+      record {
+        lost = left;
+        packets = subst (λ l. IsPermutation (packets_of s.store.content ++ packets_offered offers) (l ++ left)) split
+            (IsPermutation-trans _ _ _ (IsPermutation-append_right (packets_of s.store.content) _ _ (shuffled_packets offers is.recorded is.shuffle)) held);
+        counted = gives.lost ∙ ap (λ (u : State). u.lost) (sym takes.leaves) ∙ log.lost;
+        rising = rising_front gave t.store.content (subst IsRising gives.content stood.store.rising);
+      }
+
+  pub accounted : (q : Dumping) (x : Amounts) (steps : ℕ) (offers : ℕ → ℕ → List (List Event)) (gave : ℕ → ℕ → List Stored) (states : ℕ → ℕ → State)
+      → IsRunOf q x steps offers gave states → (s n : ℕ) → s < length q.rows → n ≤ steps → IsAccounted n (offers s) (gave s) (states s)
+  accounted q x steps offers gave states is s zero store within =
+      record { lost = []; packets = IsPermutation-refl _; counted = omega arith; rising = λ t first last. absurd (omega arith) }
+  accounted q x steps offers gave states is s (suc n) store within =
+      let before = accounted q x steps offers gave states is s n store (omega arith) in
+      let stood = stands leave keep dump q x steps offers gave states is s n store (omega arith) in
+      let back : suc n - 1 ≡ n = omega arith in
+      let run = subst (λ (m : ℕ). IsStepRun (offers s (suc n)) (x s (suc n)) (gave s (suc n)) (states s m) (states s (suc n))) back (is.runs s (suc n) store (omega arith) within) in
+      let here = step_accounts (states s n) (states s (suc n)) (offers s (suc n)) (x s (suc n)) (gave s (suc n)) stood.sound (is.timed s (suc n) store (omega arith) within) run in
+      record {
+        lost = before.lost ++ here.lost;
+        packets = joined (packets_of (states s 0).store.content) _ _ (packets_of (states s n).store.content) _ _ _ _ _ before.packets here.packets;
+        counted = omega (arith, before.counted, here.counted, length-append before.lost here.lost);
+        rising = λ t first last. by_step before.rising here.rising t first (cases_lt t (suc n)) last;
+      }
+    where
+      by_step : ((t : ℕ) → 1 ≤ t → t ≤ n → IsRising (gave s t)) → IsRising (gave s (suc n)) → (t : ℕ) → 1 ≤ t → (t < suc n) ⊎ (suc n ≤ t) → t ≤ suc n → IsRising (gave s t)
+      by_step early here t first (inl before) last = early t first (omega arith)
+      by_step early here t first (inr at) last = let same : suc n ≡ t = omega arith in subst (λ (m : ℕ). IsRising (gave s m)) same here

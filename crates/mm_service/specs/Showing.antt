@@ -1,0 +1,31 @@
+-- What a store of the memory is shown to hold and to have lost.
+use Rattle.std.specs.Prelude.{ℕ, List, length, Result, Ok}
+use Rattle.mm_base.specs.Reading.{◌>>=◌}
+use Rattle.mm_store.specs.Content.{oldest, newest}
+use Rattle.mm_desk.specs.Machine.{State}
+use Rattle.mm_service.specs.declared.fault.Fault.{Fault}
+use Rattle.mm_service.specs.declared.showing.Shown.{Shown}
+use Rattle.mm_service.specs.Reading.{id_tested}
+use Rattle.mm_service.specs.Serving.{Serving, state_named}
+
+-- what a state shows
+abbrev pub shown : State → Shown
+shown s = record {
+  kind = s.store.kind;
+  size = s.store.size;
+  held = length s.store.content;
+  offered = s.offered;
+  lost = s.lost;
+  deleted = s.deleted;
+  storage = s.storage;
+  retrieval = s.retrieval;
+  oldest = oldest s.store.content;
+  newest = newest s.store.content;
+}
+
+-- what the store with this identifier shows, or the first test that fails
+abbrev pub shown_of : List ℕ → Serving → Result Shown Fault
+shown_of id s = do
+  field ← id_tested id
+  state ← state_named field s
+  Ok (shown state)

@@ -1,0 +1,70 @@
+//! What a store of the memory holds and has lost, and how many reports wait.
+ghost use Rattle.std.specs.Prelude.{◌≡◌, length};
+ghost use Rattle.mm_service.specs.Showing.{shown};
+
+use crate::fault::Fault;
+use crate::reading::id_of;
+use crate::service::Service;
+use mm_base::Kind;
+use mm_desk::{Retrieval, StoreState};
+use mm_store::PacketStore;
+
+/// What a packet store holds and has lost: its kind, its size in blocks and how many packets it holds; how many were offered and not refused,
+/// lost, and deleted; whether storage is on, and the retrieval that is on; the storage times of its oldest and its newest packet, in ticks,
+/// both 0 where it is empty.
+#[derive(Clone, Copy)]
+pub struct Shown {
+    pub kind: Kind,
+    pub size: u32,
+    pub held: u32,
+    pub offered: u64,
+    pub lost: u64,
+    pub deleted: u64,
+    pub storage: bool,
+    pub retrieval: Option<Retrieval>,
+    pub oldest: u64,
+    pub newest: u64,
+}
+
+impl Shown {
+    // What a state shows.
+    fn of(state: &StoreState) -> Shown
+        ensures { result ≡ shown state.now }
+    {
+        let store = state.store();
+        Shown {
+            kind: store.kind(),
+            size: store.size(),
+            held: store.len(),
+            offered: state.offered(),
+            lost: state.lost(),
+            deleted: state.deleted(),
+            storage: state.storage(),
+            retrieval: state.retrieval(),
+            oldest: store.oldest(),
+            newest: store.newest(),
+        }
+    }
+}
+
+impl Service {
+    ghost use Rattle.mm_service.specs.Showing.{shown_of};
+
+    /// What the store with this identifier holds and has lost.
+    pub fn show(&self, id: &[u8]) -> Result<Shown, Fault>
+        ensures shown { result ≡ shown_of id.now self.now }
+    {
+        let id = id_of(id)?;
+        match self.memory.state(&id) {
+            Some(state) => Ok(Shown::of(state)),
+            None => Err(Fault::NoSuchStore),
+        }
+    }
+
+    /// How many reports wait.
+    pub fn waiting(&self) -> usize
+        ensures waiting { result ≡ length self.now.waiting }
+    {
+        self.waiting.len()
+    }
+}
