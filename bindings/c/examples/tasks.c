@@ -1,13 +1,13 @@
 /* A recorder task and a dump task of a flight program, over one memory: `tasks [PACKETS]`, 1,000,000 packets if omitted. An instrument puts
- * packets into a ring; the recorder task takes them out and records them; the dump task asks for a retrieval of all that is stored, sends
- * the packets, and deletes what was sent. No two calls on the handle are made at once: the recorder holds the lock for one call at a time,
- * the dump task for up to 64 packets.
+ * packets into a ring; the recorder task takes them out and records them; the dump task waits until something was recorded, asks for a
+ * retrieval of all that is stored, sends the packets, and deletes what was sent. No two calls on the handle are made at once: the recorder
+ * holds the lock for one call at a time, the dump task for up to 64 packets. A task that has nothing to do waits; none spins.
  *
  * The store is bounded: what does not fit is lost, and what was sent stays until it is deleted. So each packet is sent once, in order, or
  * it is lost. */
 #include <pthread.h>
 #include <rudlayog.h>
-#include <sched.h>
+#include <semaphore.h>
 #include <stdatomic.h>
 #include <stdio.h>
 #include <stdlib.h>
@@ -25,14 +25,15 @@ static const char setup[] = "[[store]]\nid = \"SCI\"\nsize = 65536\ntype = \"bou
 static const uint8_t retrieve[] = {0x18, 100, 0xC0, 0, 0, 29, 0x20, 15, 9, 0, 7, 1, 'S', 'C', 'I', ' ', ' ', ' ', ' ', ' '};
 static const uint8_t delete_up_to[] = {0x18, 100, 0xC0, 0, 0, 21, 0x20, 15, 11, 0, 7, 1, 'S', 'C', 'I', ' ', ' ', ' ', ' ', ' '};
 
-/* The ring between the instrument, which puts, and the recorder task, which takes. */
+/* The ring between the instrument, which puts, and the recorder task, which takes: how many slots are free, and how many hold a packet. */
 static uint8_t ring[SLOTS][LENGTH];
-static atomic_size_t put, taken;
+static sem_t unused, filled;
 
+/* The lock is that of the memory, and of how many packets were recorded; the dump task waits for more of them. */
 static struct mm_memory memory = MM_MEMORY_CLOSED;
 static pthread_mutex_t lock = PTHREAD_MUTEX_INITIALIZER;
-static atomic_bool is_recorded;
-static size_t packets = 1000000, lost, sent;
+static pthread_cond_t more = PTHREAD_COND_INITIALIZER;
+static size_t packets = 1000000, recorded, lost, sent;
 static atomic_int failed;
 
 static void fail(const char *what, const struct mm_answer *answer) {
@@ -43,40 +44,55 @@ static void fail(const char *what, const struct mm_answer *answer) {
     failed = 1;
 }
 
+/* Waits until there is one, and takes it; a signal does not end the wait. */
+static void wait_for(sem_t *one) {
+    while (sem_wait(one) != 0) {
+    }
+}
+
 /* The instrument: telemetry of APID 1, service 3, subtype 25, with its number as data. */
 static void *measure(void *none) {
-    for (size_t k = 0; k < packets && !failed; k++) {
+    for (size_t k = 0; k < packets; k++) {
         uint8_t packet[LENGTH] = {0x08, 1, 0xC0, 0, 0, LENGTH - 7, 0x20, 3, 25};
         for (size_t octet = 0; octet < 4; octet++) {
             packet[COUNT_AT + octet] = (uint8_t)(k >> (24 - 8 * octet));
         }
-        while (k - taken == SLOTS && !failed) {
-            sched_yield();
-        }
+        wait_for(&unused);
         memcpy(ring[k % SLOTS], packet, LENGTH);
-        put = k + 1;
+        sem_post(&filled);
     }
     return none;
 }
 
 static void *record(void *none) {
-    for (size_t k = 0; k < packets && !failed; k++) {
+    for (size_t k = 0; k < packets; k++) {
         struct mm_tally tally;
         struct mm_answer answer;
-        while (put == k && !failed) {
-            sched_yield();
-        }
+        wait_for(&filled);
         pthread_mutex_lock(&lock);
         mm_memory_record(&memory, k, ring[k % SLOTS], LENGTH, &tally, &answer);
+        recorded = k + 1;
+        pthread_cond_signal(&more);
         pthread_mutex_unlock(&lock);
-        taken = k + 1;
+        sem_post(&unused);
         if (answer.status != MM_WRITTEN || tally.refused != 0) {
             fail("record", &answer);
         }
         lost += tally.lost;
     }
-    is_recorded = true;
     return none;
+}
+
+/* Waits until more packets were recorded than these, and gives how many. */
+static size_t recorded_beyond(size_t count) {
+    size_t now;
+    pthread_mutex_lock(&lock);
+    while (recorded == count) {
+        pthread_cond_wait(&more, &lock);
+    }
+    now = recorded;
+    pthread_mutex_unlock(&lock);
+    return now;
 }
 
 /* Applies a telecommand whose times, from the octet 20 on, are 0 but for the last. */
@@ -133,14 +149,12 @@ static uint64_t send_all(void) {
 }
 
 static void *dump(void *none) {
-    bool is_last;
-    do {
-        uint64_t last;
-        is_last = is_recorded;
+    size_t seen = 0;
+    while (seen < packets && !failed) {
+        seen = recorded_beyond(seen);
         apply(retrieve, 36, UINT64_MAX);
-        last = send_all();
-        apply(delete_up_to, 28, last);
-    } while (!is_last && !failed);
+        apply(delete_up_to, 28, send_all());
+    }
     return none;
 }
 
@@ -157,6 +171,8 @@ int main(int count, char **words) {
         fail("open", &answer);
         return 1;
     }
+    sem_init(&unused, 0, SLOTS);
+    sem_init(&filled, 0, 0);
     clock_gettime(CLOCK_MONOTONIC, &begin);
     for (size_t k = 0; k < 3; k++) {
         if (pthread_create(&threads[k], NULL, tasks[k], NULL) != 0) {

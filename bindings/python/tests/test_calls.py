@@ -10,13 +10,13 @@ import os
 import pickle
 import re
 import shutil
-import signal
 import tempfile
 import typing
 import unittest
 from pathlib import Path
 
 import rudlayog
+from interrupting import interrupted_by
 from rudlayog import Cut, Forecast, Plan, Refusal, Replies, Setup, Store, Stretch, _library, ask, chart, check, plan, read, table
 
 EXAMPLES = Path(__file__).resolve().parents[3] / "examples"
@@ -265,18 +265,10 @@ class Buffers(unittest.TestCase):
         self.assertEqual(len(set(wanted)), 3)
         wrong, handled = [], []
 
-        def handle(*_):
-            handled.append(bytes(plan(*given[2])) == wanted[2])
-
-        earlier = signal.signal(signal.SIGALRM, handle)
-        signal.setitimer(signal.ITIMER_REAL, 0.0005, 0.0005)
-        try:
+        with interrupted_by(lambda: handled.append(bytes(plan(*given[2])) == wanted[2])):
             for turn in range(HANDLED_PLANS):
                 if bytes(plan(*given[turn % 2])) != wanted[turn % 2]:
                     wrong.append(turn)
-        finally:
-            signal.setitimer(signal.ITIMER_REAL, 0)
-            signal.signal(signal.SIGALRM, earlier)
         self.assertEqual((wrong, all(handled)), ([], True))
         self.assertTrue(handled)
 

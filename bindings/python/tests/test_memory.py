@@ -3,10 +3,10 @@ stands in docs/PACKETS.md and in the pages of the examples."""
 
 import ctypes
 import pickle
-import signal
 import unittest
 from pathlib import Path
 
+from interrupting import interrupted_by
 from rudlayog import Fate, Memory, Refusal, Retrieval, Route, Setup, Store, StoreState, Tally, _library
 
 REQUESTS = Path(__file__).resolve().parents[3] / "examples" / "requests"
@@ -128,17 +128,8 @@ class Memories(unittest.TestCase):
         # A handler finds the memory between two calls of its thread, and neither waits for the other.
         with Memory(Setup.of([Store("HK", size=4, type="circular")], routes=[Route(1, 3, 25, "HK")])) as memory:
             handled = []
-
-            def handle(*_):
-                handled.append(memory.record(0, telemetry(1)))
-
-            earlier = signal.signal(signal.SIGALRM, handle)
-            signal.setitimer(signal.ITIMER_REAL, 0.0005, 0.0005)
-            try:
+            with interrupted_by(lambda: handled.append(memory.record(0, telemetry(1)))):
                 recorded = [memory.record(0, telemetry(1)) for _ in range(20_000)]
-            finally:
-                signal.setitimer(signal.ITIMER_REAL, 0)
-                signal.signal(signal.SIGALRM, earlier)
             self.assertTrue(handled)
             # Four packets found room, and each other one overwrote the oldest.
             self.assertEqual(sum(tally.lost for tally in recorded + handled), len(recorded) + len(handled) - 4)
