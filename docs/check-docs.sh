@@ -15,7 +15,7 @@
 #   names one, and there are at most as many as the gate has time for;
 # - each must-fail edit changes a function that the program or the library for C runs: docs/reached;
 # - each name in code style in docs/TOUR.md, docs/READING.md and docs/LAYERS.md stands in some source;
-# - docs/DEFINITIONS.md and docs/TESTS.md are what docs/definitions makes of the sources;
+# - each definition that a clause of a public function or docs/PROMISES.md names has words: docs/definitions;
 # - each function of a picture of docs/TOUR.md stands in the file that stands beside it;
 # - each refusal of mm_base's table has one row in the tables of refusals of docs/FORMATS.md, with its number, its name and the
 #   words of mm_told, and what `check` finds has a row with its words; docs/CONTRIBUTING.md, 'Where each refusal is met' names a test for
@@ -303,15 +303,9 @@ check_reached() {
   while IFS= read -r line; do fail "$line"; done <"$work/unreached"
 }
 
-# The pages that docs/definitions makes.
-check_made_pages() {
-  local page
-  mkdir "$work/made"
-  "$top/docs/definitions" "$work/made" 2>"$work/errors" || fail "$(head -n 1 "$work/errors")"
-  for page in DEFINITIONS TESTS; do
-    [ ! -f "$work/made/$page.md" ] || diff -u "$top/docs/$page.md" "$work/made/$page.md" >"$work/differs" ||
-      { fail "docs/$page.md is not what the sources say: docs/definitions makes it"; head -n 20 "$work/differs"; }
-  done
+# The words of the contracts have their meanings.
+check_definitions() {
+  "$top/docs/definitions" >/dev/null 2>"$work/errors" || fail "$(tail -n 1 "$work/errors")"
 }
 
 # The pictures of docs/TOUR.md: a function, and beside it its file below crates/.
@@ -423,7 +417,7 @@ check_page_names
 check_promises
 check_edits
 check_reached
-check_made_pages
+check_definitions
 check_tour
 check_refusals
 check_findings
