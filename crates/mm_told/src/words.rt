@@ -146,7 +146,7 @@ fn advice(refusal: Refusal) -> &'static str
         Refusal::NoSuchRoute => "list the store's rows with subtype 5",
         Refusal::TableFull => "delete a row with subtype 4 first",
         Refusal::NotSt15 => "address the storage service",
-        Refusal::UnknownSubtype => "look up the subtypes in docs/FORMATS.md",
+        Refusal::UnknownSubtype => "look up the subtypes in docs/PACKETS.md",
         Refusal::CountMismatch => {
             "count the instructions, and compare the length of the data with their width"
         }
