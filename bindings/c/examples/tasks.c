@@ -30,16 +30,16 @@ static uint8_t ring[SLOTS][LENGTH];
 static sem_t unused, filled;
 
 /* The lock is that of the memory, and of how many packets were recorded; the dump task waits for more of them. */
-static struct mm_memory memory = MM_MEMORY_CLOSED;
+static struct rudlayog_memory memory = RUDLAYOG_MEMORY_CLOSED;
 static pthread_mutex_t lock = PTHREAD_MUTEX_INITIALIZER;
 static pthread_cond_t more = PTHREAD_COND_INITIALIZER;
 static size_t packets = 1000000, recorded, lost, sent;
 static atomic_int failed;
 
-static void fail(const char *what, const struct mm_answer *answer) {
-    uint8_t words[MM_WORDS_ROOM];
-    struct mm_answer told;
-    mm_words(&answer->refused, words, sizeof words, &told);
+static void fail(const char *what, const struct rudlayog_answer *answer) {
+    uint8_t words[RUDLAYOG_WORDS_ROOM];
+    struct rudlayog_answer told;
+    rudlayog_words(&answer->refused, words, sizeof words, &told);
     fprintf(stderr, "%s: status %u, %.*s\n", what, answer->status, (int)told.length, (const char *)words);
     failed = 1;
 }
@@ -66,16 +66,16 @@ static void *measure(void *none) {
 
 static void *record(void *none) {
     for (size_t k = 0; k < packets; k++) {
-        struct mm_tally tally;
-        struct mm_answer answer;
+        struct rudlayog_tally tally;
+        struct rudlayog_answer answer;
         wait_for(&filled);
         pthread_mutex_lock(&lock);
-        mm_memory_record(&memory, k, ring[k % SLOTS], LENGTH, &tally, &answer);
+        rudlayog_memory_record(&memory, k, ring[k % SLOTS], LENGTH, &tally, &answer);
         recorded = k + 1;
         pthread_cond_signal(&more);
         pthread_mutex_unlock(&lock);
         sem_post(&unused);
-        if (answer.status != MM_WRITTEN || tally.refused != 0) {
+        if (answer.status != RUDLAYOG_WRITTEN || tally.refused != 0) {
             fail("record", &answer);
         }
         lost += tally.lost;
@@ -97,22 +97,22 @@ static size_t recorded_beyond(size_t count) {
 
 /* Applies a telecommand whose times, from the octet 20 on, are 0 but for the last. */
 static void apply(const uint8_t *head, size_t length, uint64_t last) {
-    uint8_t request[36] = {0}, each[MM_INSTRUCTIONS];
-    struct mm_answer answer;
+    uint8_t request[36] = {0}, each[RUDLAYOG_INSTRUCTIONS];
+    struct rudlayog_answer answer;
     memcpy(request, head, 20);
     for (size_t octet = 0; octet < 8; octet++) {
         request[length - 1 - octet] = (uint8_t)(last >> (8 * octet));
     }
     pthread_mutex_lock(&lock);
-    mm_memory_apply(&memory, 0, request, length, each, sizeof each, &answer);
+    rudlayog_memory_apply(&memory, 0, request, length, each, sizeof each, &answer);
     pthread_mutex_unlock(&lock);
-    if (answer.status != MM_WRITTEN || each[0] != MM_DONE) {
+    if (answer.status != RUDLAYOG_WRITTEN || each[0] != RUDLAYOG_DONE) {
         fail("apply", &answer);
     }
 }
 
 /* Sends a packet: here it is looked at, whether the numbers rise. */
-static void send_packet(const uint8_t *packet, const struct mm_answer *answer) {
+static void send_packet(const uint8_t *packet, const struct rudlayog_answer *answer) {
     static int64_t number_before = -1;
     int64_t number = 0;
     for (size_t octet = 0; octet < 4; octet++) {
@@ -128,21 +128,21 @@ static void send_packet(const uint8_t *packet, const struct mm_answer *answer) {
 /* Sends all that a retrieval gives. Gives the time of the last packet, or 0. */
 static uint64_t send_all(void) {
     uint64_t last = 0, time;
-    uint8_t out[MM_BLOCK];
-    struct mm_answer answer;
+    uint8_t out[RUDLAYOG_BLOCK];
+    struct rudlayog_answer answer;
     do {
         pthread_mutex_lock(&lock);
         for (int k = 0; k < BATCH; k++) {
-            mm_memory_next(&memory, TEXT("SCI"), out, sizeof out, &time, &answer);
-            if (answer.status != MM_WRITTEN) {
+            rudlayog_memory_next(&memory, TEXT("SCI"), out, sizeof out, &time, &answer);
+            if (answer.status != RUDLAYOG_WRITTEN) {
                 break;
             }
             last = time;
             send_packet(out, &answer);
         }
         pthread_mutex_unlock(&lock);
-    } while (answer.status == MM_WRITTEN);
-    if (answer.status != MM_END) {
+    } while (answer.status == RUDLAYOG_WRITTEN);
+    if (answer.status != RUDLAYOG_END) {
         fail("next", &answer);
     }
     return last;
@@ -161,13 +161,13 @@ static void *dump(void *none) {
 int main(int count, char **words) {
     void *(*const tasks[])(void *) = {measure, record, dump};
     pthread_t threads[3];
-    struct mm_answer answer;
+    struct rudlayog_answer answer;
     struct timespec begin, end;
     if (count > 1) {
         packets = strtoul(words[1], NULL, 10);
     }
-    mm_memory_open(&memory, TEXT(setup), &answer);
-    if (answer.status != MM_WRITTEN) {
+    rudlayog_memory_open(&memory, TEXT(setup), &answer);
+    if (answer.status != RUDLAYOG_WRITTEN) {
         fail("open", &answer);
         return 1;
     }
@@ -184,7 +184,7 @@ int main(int count, char **words) {
         pthread_join(threads[k], NULL);
     }
     clock_gettime(CLOCK_MONOTONIC, &end);
-    mm_memory_close(&memory);
+    rudlayog_memory_close(&memory);
     printf("%zu packets: %zu sent, %zu lost\n", packets, sent, lost);
     fprintf(stderr, "%.2f s\n", (double)(end.tv_sec - begin.tv_sec) + (double)(end.tv_nsec - begin.tv_nsec) / 1e9);
     return failed || sent + lost != packets;

@@ -22,38 +22,39 @@ struct text {
 /* What a call needs, and what it leaves. Packets that are read stand in the place of the setup. */
 struct call {
     struct text setup, second, plan;
-    struct mm_verdict verdict;
+    struct rudlayog_verdict verdict;
     uint32_t outcome;
-    struct mm_answer answer;
+    struct rudlayog_answer answer;
 };
 
 typedef void act(struct call *call, uint8_t *out, size_t room);
 
 static void plan(struct call *call, uint8_t *out, size_t room) {
-    mm_plan(call->setup.octets, call->setup.length, call->second.octets, call->second.length, out, room, &call->answer);
+    rudlayog_plan(call->setup.octets, call->setup.length, call->second.octets, call->second.length, out, room, &call->answer);
 }
 
 static void check(struct call *call, uint8_t *out, size_t room) {
-    mm_check(call->setup.octets, call->setup.length, call->second.octets, call->second.length, call->plan.octets, call->plan.length, out,
-             room, &call->verdict, &call->answer);
+    rudlayog_check(call->setup.octets, call->setup.length, call->second.octets, call->second.length, call->plan.octets, call->plan.length,
+                   out, room, &call->verdict, &call->answer);
 }
 
 static void chart(struct call *call, uint8_t *out, size_t room) {
-    mm_chart(call->setup.octets, call->setup.length, call->second.octets, call->second.length, call->plan.octets, call->plan.length, out,
-             room, &call->answer);
+    rudlayog_chart(call->setup.octets, call->setup.length, call->second.octets, call->second.length, call->plan.octets, call->plan.length,
+                   out, room, &call->answer);
 }
 
 static void table(struct call *call, uint8_t *out, size_t room) {
-    mm_table(call->setup.octets, call->setup.length, call->second.octets, call->second.length, call->plan.octets, call->plan.length, out,
-             room, &call->answer);
+    rudlayog_table(call->setup.octets, call->setup.length, call->second.octets, call->second.length, call->plan.octets, call->plan.length,
+                   out, room, &call->answer);
 }
 
 static void read_packets(struct call *call, uint8_t *out, size_t room) {
-    mm_read(call->setup.octets, call->setup.length, out, room, &call->outcome, &call->answer);
+    rudlayog_read(call->setup.octets, call->setup.length, out, room, &call->outcome, &call->answer);
 }
 
 static void ask(struct call *call, uint8_t *out, size_t room) {
-    mm_ask(call->setup.octets, call->setup.length, call->second.octets, call->second.length, out, room, &call->outcome, &call->answer);
+    rudlayog_ask(call->setup.octets, call->setup.length, call->second.octets, call->second.length, out, room, &call->outcome,
+                 &call->answer);
 }
 
 /* A command, with the number of its files and a first guess of the room that its text needs. */
@@ -65,8 +66,12 @@ struct command {
 };
 
 static const struct command commands[] = {
-    {"plan", 2, MM_PLAN_ROOM, plan}, {"check", 3, MM_LINE_ROOM, check}, {"chart", 3, 131072, chart}, {"table", 3, 131072, table},
-    {"ask", 2, 4096, ask},           {"read", 1, 4096, read_packets},
+    {"plan", 2, RUDLAYOG_PLAN_ROOM, plan},
+    {"check", 3, RUDLAYOG_LINE_ROOM, check},
+    {"chart", 3, 131072, chart},
+    {"table", 3, 131072, table},
+    {"ask", 2, 4096, ask},
+    {"read", 1, 4096, read_packets},
 };
 
 /* Reads a file whole; the octets are null where that fails. */
@@ -104,7 +109,7 @@ static uint8_t *make(const struct command *command, struct call *call) {
         return NULL;
     }
     command->act(call, out, room);
-    if (call->answer.status == MM_TOO_SMALL) {
+    if (call->answer.status == RUDLAYOG_TOO_SMALL) {
         free(out);
         room = call->answer.length;
         out = malloc(room);
@@ -124,25 +129,25 @@ static const uint8_t *octets_of(const struct text *text) {
 
 /* Prints what is found in the texts that are refused, if more can be said of them. */
 static void print_hint(const struct call *call) {
-    uint8_t hint[MM_HINT_ROOM];
-    struct mm_answer said;
-    mm_hint(octets_of(&call->setup), call->setup.length, octets_of(&call->second), call->second.length, octets_of(&call->plan),
-            call->plan.length, &call->answer.refused, hint, sizeof hint, &said);
-    if (said.status == MM_WRITTEN && said.length > 0) {
+    uint8_t hint[RUDLAYOG_HINT_ROOM];
+    struct rudlayog_answer said;
+    rudlayog_hint(octets_of(&call->setup), call->setup.length, octets_of(&call->second), call->second.length, octets_of(&call->plan),
+                  call->plan.length, &call->answer.refused, hint, sizeof hint, &said);
+    if (said.status == RUDLAYOG_WRITTEN && said.length > 0) {
         fprintf(stderr, "hint: %.*s\n", (int)said.length, (const char *)hint);
     }
 }
 
 /* Prints the text or the refusal. */
 static int print(const struct call *call, const uint8_t *out) {
-    uint8_t words[MM_WORDS_ROOM];
-    struct mm_answer said;
-    if (call->answer.status == MM_WRITTEN) {
+    uint8_t words[RUDLAYOG_WORDS_ROOM];
+    struct rudlayog_answer said;
+    if (call->answer.status == RUDLAYOG_WRITTEN) {
         fwrite(out, 1, call->answer.length, stdout);
-        return call->verdict.kind > MM_LEAST || call->outcome == MM_SOME_REFUSED;
+        return call->verdict.kind > RUDLAYOG_LEAST || call->outcome == RUDLAYOG_SOME_REFUSED;
     }
-    mm_words(&call->answer.refused, words, sizeof words, &said);
-    if (said.status == MM_WRITTEN) {
+    rudlayog_words(&call->answer.refused, words, sizeof words, &said);
+    if (said.status == RUDLAYOG_WRITTEN) {
         fprintf(stderr, "%.*s\n", (int)said.length, (const char *)words);
     } else {
         fprintf(stderr, "refused %u\n", (unsigned)call->answer.refused.number);

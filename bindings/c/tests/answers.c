@@ -45,12 +45,12 @@ static const char forecast[] = "step,window,SCI\n1,2,5\n2,3,3\n";
 static const char bad_forecast[] = "step,window,SCI\n1,2,x\n";
 static const char hint[] = "the cell is \"x\" in line 2 of the file, whose header is line 1";
 static const char requests[] = "1864C0000004200F120007\n";
-static const struct mm_refused cell = {MM_REFUSAL_CELL, MM_CELL, 2, 3, 0, 0};
+static const struct rudlayog_refused cell = {RUDLAYOG_REFUSAL_CELL, RUDLAYOG_CELL, 2, 3, 0, 0};
 static const uint8_t packet[] = {0x08, 1, 0xC0, 0, 0, 14, 0x20, 3, 25, 0, 0, 0, 0, 0, 0, 0, 0, 0, 0, 0, 0};
 static const uint8_t status_request[] = {0x18, 100, 0xC0, 0, 0, 4, 0x20, 15, 18, 0, 7};
 static uint8_t plan[ROOM];
 static size_t plan_length;
-static struct mm_verdict verdict;
+static struct rudlayog_verdict verdict;
 static uint32_t outcome;
 static int failed;
 
@@ -71,93 +71,96 @@ static int is_all(const void *octets, size_t length, uint8_t octet) {
     return 1;
 }
 
-typedef void make(uint8_t *out, size_t room, struct mm_answer *answer);
+typedef void make(uint8_t *out, size_t room, struct rudlayog_answer *answer);
 
-static void make_plan(uint8_t *out, size_t room, struct mm_answer *answer) { mm_plan(TEXT(setup), TEXT(forecast), out, room, answer); }
-
-static void make_no_plan(uint8_t *out, size_t room, struct mm_answer *answer) {
-    mm_plan(TEXT(setup), TEXT(bad_forecast), out, room, answer);
+static void make_plan(uint8_t *out, size_t room, struct rudlayog_answer *answer) {
+    rudlayog_plan(TEXT(setup), TEXT(forecast), out, room, answer);
 }
 
-static void make_check(uint8_t *out, size_t room, struct mm_answer *answer) {
+static void make_no_plan(uint8_t *out, size_t room, struct rudlayog_answer *answer) {
+    rudlayog_plan(TEXT(setup), TEXT(bad_forecast), out, room, answer);
+}
+
+static void make_check(uint8_t *out, size_t room, struct rudlayog_answer *answer) {
     memset(&verdict, 0xA5, sizeof verdict);
-    mm_check(TEXT(setup), TEXT(forecast), plan, plan_length, out, room, &verdict, answer);
-    expect(verdict.kind == MM_LEAST && verdict.place == 0 && verdict.loss == 2 && verdict.bound == 0, "mm_check", "another verdict");
+    rudlayog_check(TEXT(setup), TEXT(forecast), plan, plan_length, out, room, &verdict, answer);
+    expect(verdict.kind == RUDLAYOG_LEAST && verdict.place == 0 && verdict.loss == 2 && verdict.bound == 0, "rudlayog_check",
+           "another verdict");
 }
 
-static void make_no_check(uint8_t *out, size_t room, struct mm_answer *answer) {
+static void make_no_check(uint8_t *out, size_t room, struct rudlayog_answer *answer) {
     memset(&verdict, 0xA5, sizeof verdict);
-    mm_check(TEXT(setup), TEXT(bad_forecast), plan, plan_length, out, room, &verdict, answer);
-    expect(is_all(&verdict, sizeof verdict, 0), "mm_check", "a verdict where it is refused");
+    rudlayog_check(TEXT(setup), TEXT(bad_forecast), plan, plan_length, out, room, &verdict, answer);
+    expect(is_all(&verdict, sizeof verdict, 0), "rudlayog_check", "a verdict where it is refused");
 }
 
-static void make_chart(uint8_t *out, size_t room, struct mm_answer *answer) {
-    mm_chart(TEXT(setup), TEXT(forecast), plan, plan_length, out, room, answer);
+static void make_chart(uint8_t *out, size_t room, struct rudlayog_answer *answer) {
+    rudlayog_chart(TEXT(setup), TEXT(forecast), plan, plan_length, out, room, answer);
 }
 
-static void make_table(uint8_t *out, size_t room, struct mm_answer *answer) {
-    mm_table(TEXT(setup), TEXT(forecast), plan, plan_length, out, room, answer);
+static void make_table(uint8_t *out, size_t room, struct rudlayog_answer *answer) {
+    rudlayog_table(TEXT(setup), TEXT(forecast), plan, plan_length, out, room, answer);
 }
 
-static void make_read(uint8_t *out, size_t room, struct mm_answer *answer) {
+static void make_read(uint8_t *out, size_t room, struct rudlayog_answer *answer) {
     outcome = 99;
-    mm_read(TEXT(requests), out, room, &outcome, answer);
-    expect(outcome == MM_ALL_DONE, "mm_read", "another outcome");
+    rudlayog_read(TEXT(requests), out, room, &outcome, answer);
+    expect(outcome == RUDLAYOG_ALL_DONE, "rudlayog_read", "another outcome");
 }
 
-static void make_ask(uint8_t *out, size_t room, struct mm_answer *answer) {
+static void make_ask(uint8_t *out, size_t room, struct rudlayog_answer *answer) {
     outcome = 99;
-    mm_ask(TEXT(setup), TEXT(requests), out, room, &outcome, answer);
-    expect(outcome == MM_ALL_DONE, "mm_ask", "another outcome");
+    rudlayog_ask(TEXT(setup), TEXT(requests), out, room, &outcome, answer);
+    expect(outcome == RUDLAYOG_ALL_DONE, "rudlayog_ask", "another outcome");
 }
 
-static void make_no_ask(uint8_t *out, size_t room, struct mm_answer *answer) {
+static void make_no_ask(uint8_t *out, size_t room, struct rudlayog_answer *answer) {
     outcome = 99;
-    mm_ask(TEXT(requests), TEXT(requests), out, room, &outcome, answer);
-    expect(outcome == MM_NO_OUTCOME, "mm_ask", "an outcome where it is refused");
+    rudlayog_ask(TEXT(requests), TEXT(requests), out, room, &outcome, answer);
+    expect(outcome == RUDLAYOG_NO_OUTCOME, "rudlayog_ask", "an outcome where it is refused");
 }
 
-static void make_words(uint8_t *out, size_t room, struct mm_answer *answer) { mm_words(&cell, out, room, answer); }
+static void make_words(uint8_t *out, size_t room, struct rudlayog_answer *answer) { rudlayog_words(&cell, out, room, answer); }
 
-static void make_hint(uint8_t *out, size_t room, struct mm_answer *answer) {
-    static const struct mm_refused first = {MM_REFUSAL_CELL, MM_CELL, 1, 3, 0, 0};
-    mm_hint(TEXT(setup), TEXT(bad_forecast), (const uint8_t *)"", 0, &first, out, room, answer);
+static void make_hint(uint8_t *out, size_t room, struct rudlayog_answer *answer) {
+    static const struct rudlayog_refused first = {RUDLAYOG_REFUSAL_CELL, RUDLAYOG_CELL, 1, 3, 0, 0};
+    rudlayog_hint(TEXT(setup), TEXT(bad_forecast), (const uint8_t *)"", 0, &first, out, room, answer);
 }
 
-static void make_no_words(uint8_t *out, size_t room, struct mm_answer *answer) {
-    static const struct mm_refused none = {99, MM_WHOLE, 0, 0, 0, 0};
-    mm_words(&none, out, room, answer);
-    expect(answer->status == MM_WRITTEN && answer->length == 0, "mm_words", "words of no refusal");
+static void make_no_words(uint8_t *out, size_t room, struct rudlayog_answer *answer) {
+    static const struct rudlayog_refused none = {99, RUDLAYOG_WHOLE, 0, 0, 0, 0};
+    rudlayog_words(&none, out, room, answer);
+    expect(answer->status == RUDLAYOG_WRITTEN && answer->length == 0, "rudlayog_words", "words of no refusal");
 }
 
-static void make_version(uint8_t *out, size_t room, struct mm_answer *answer) { mm_version(out, room, answer); }
+static void make_version(uint8_t *out, size_t room, struct rudlayog_answer *answer) { rudlayog_version(out, room, answer); }
 
 static const struct {
     const char *name;
     make *call;
     uint32_t refusal;
 } texts[] = {
-    {"mm_plan", make_plan, 0},   {"mm_plan of a bad cell", make_no_plan, MM_REFUSAL_CELL},
-    {"mm_check", make_check, 0}, {"mm_check of a bad cell", make_no_check, MM_REFUSAL_CELL},
-    {"mm_chart", make_chart, 0}, {"mm_ask of no setup", make_no_ask, MM_REFUSAL_SETUP_TEXT},
-    {"mm_ask", make_ask, 0},     {"mm_table", make_table, 0},
-    {"mm_read", make_read, 0},   {"mm_words", make_words, 0},
-    {"mm_hint", make_hint, 0},   {"mm_version", make_version, 0},
+    {"rudlayog_plan", make_plan, 0},   {"rudlayog_plan of a bad cell", make_no_plan, RUDLAYOG_REFUSAL_CELL},
+    {"rudlayog_check", make_check, 0}, {"rudlayog_check of a bad cell", make_no_check, RUDLAYOG_REFUSAL_CELL},
+    {"rudlayog_chart", make_chart, 0}, {"rudlayog_ask of no setup", make_no_ask, RUDLAYOG_REFUSAL_SETUP_TEXT},
+    {"rudlayog_ask", make_ask, 0},     {"rudlayog_table", make_table, 0},
+    {"rudlayog_read", make_read, 0},   {"rudlayog_words", make_words, 0},
+    {"rudlayog_hint", make_hint, 0},   {"rudlayog_version", make_version, 0},
 };
 
 /* A call on texts, with each room around the length of its text, and with a null buffer. */
 static void try_text(const char *name, make *call, uint32_t refusal) {
     static uint8_t out[ROOM], text[ROOM];
-    struct mm_answer asked, answer;
+    struct rudlayog_answer asked, answer;
     memset(&asked, 0xA5, sizeof asked);
     call(NULL, 0, &asked);
-    expect(asked.status == MM_TOO_SMALL || refusal != 0, name, "another status with a null buffer");
+    expect(asked.status == RUDLAYOG_TOO_SMALL || refusal != 0, name, "another status with a null buffer");
     expect(asked.refused.number == refusal && (asked.length == 0) == (refusal != 0), name, "another answer with a null buffer");
     call(text, ROOM, &answer);
     for (int more = -1; more <= 1; more++) {
         const size_t room = asked.length + (size_t)more;
         const size_t written = refusal != 0 || more < 0 ? 0 : asked.length;
-        const uint32_t status = refusal != 0 ? MM_REFUSED : more < 0 ? MM_TOO_SMALL : MM_WRITTEN;
+        const uint32_t status = refusal != 0 ? RUDLAYOG_REFUSED : more < 0 ? RUDLAYOG_TOO_SMALL : RUDLAYOG_WRITTEN;
         if (room < ROOM) {
             memset(&answer, 0xA5, sizeof answer);
             memset(out, 0xA5, ROOM);
@@ -170,147 +173,152 @@ static void try_text(const char *name, make *call, uint32_t refusal) {
 }
 
 /* The calls on a closed handle: each tells so, and writes nothing else. */
-static void try_closed(struct mm_memory *memory, const char *name) {
-    uint8_t out[MM_BLOCK];
-    struct mm_answer answers[7];
-    struct mm_fate fate;
-    struct mm_tally tally;
-    struct mm_state state;
+static void try_closed(struct rudlayog_memory *memory, const char *name) {
+    uint8_t out[RUDLAYOG_BLOCK];
+    struct rudlayog_answer answers[7];
+    struct rudlayog_fate fate;
+    struct rudlayog_tally tally;
+    struct rudlayog_state state;
     uint64_t time = 7, reports = 7;
     memset(out, 0xA5, sizeof out);
     memset(&fate, 0xA5, sizeof fate);
     memset(&tally, 0xA5, sizeof tally);
-    mm_memory_offer(memory, TEXT("SCI"), 1, packet, sizeof packet, &fate, &answers[0]);
-    mm_memory_record(memory, 1, packet, sizeof packet, &tally, &answers[1]);
-    mm_memory_apply(memory, 1, status_request, sizeof status_request, out, sizeof out, &answers[2]);
-    mm_memory_report(memory, out, sizeof out, &answers[3]);
-    mm_memory_next(memory, TEXT("SCI"), out, sizeof out, &time, &answers[4]);
+    rudlayog_memory_offer(memory, TEXT("SCI"), 1, packet, sizeof packet, &fate, &answers[0]);
+    rudlayog_memory_record(memory, 1, packet, sizeof packet, &tally, &answers[1]);
+    rudlayog_memory_apply(memory, 1, status_request, sizeof status_request, out, sizeof out, &answers[2]);
+    rudlayog_memory_report(memory, out, sizeof out, &answers[3]);
+    rudlayog_memory_next(memory, TEXT("SCI"), out, sizeof out, &time, &answers[4]);
     memset(&state, 0xA5, sizeof state);
-    mm_memory_state(memory, TEXT("SCI"), &state, &answers[5]);
-    mm_memory_waiting(memory, &reports, &answers[6]);
+    rudlayog_memory_state(memory, TEXT("SCI"), &state, &answers[5]);
+    rudlayog_memory_waiting(memory, &reports, &answers[6]);
     for (size_t k = 0; k < 7; k++) {
-        expect(answers[k].status == MM_CLOSED && answers[k].length == 0, name, "a closed handle is not told");
+        expect(answers[k].status == RUDLAYOG_CLOSED && answers[k].length == 0, name, "a closed handle is not told");
     }
-    expect(fate.kind == MM_NO_FATE && fate.time == 0 && is_all(&tally, sizeof tally, 0) && time == 0, name, "another value");
-    expect(state.kind == MM_NO_STORE && state.offered == 0 && state.after == 0 && reports == 0, name, "another state");
+    expect(fate.kind == RUDLAYOG_NO_FATE && fate.time == 0 && is_all(&tally, sizeof tally, 0) && time == 0, name, "another value");
+    expect(state.kind == RUDLAYOG_NO_STORE && state.offered == 0 && state.after == 0 && reports == 0, name, "another state");
     expect(is_all(out, sizeof out, 0xA5), name, "octets are written");
-    mm_memory_close(memory);
+    rudlayog_memory_close(memory);
 }
 
-static void open_memory(struct mm_memory *memory, const char *text) {
-    struct mm_answer answer;
-    mm_memory_open(memory, TEXT(text), &answer);
-    expect(answer.status == MM_WRITTEN && answer.length == 0, "mm_memory_open", "another answer");
-    mm_memory_open(memory, TEXT(text), &answer);
-    expect(answer.status == MM_OPEN && answer.length == 0, "mm_memory_open", "an open handle is not told");
+static void open_memory(struct rudlayog_memory *memory, const char *text) {
+    struct rudlayog_answer answer;
+    rudlayog_memory_open(memory, TEXT(text), &answer);
+    expect(answer.status == RUDLAYOG_WRITTEN && answer.length == 0, "rudlayog_memory_open", "another answer");
+    rudlayog_memory_open(memory, TEXT(text), &answer);
+    expect(answer.status == RUDLAYOG_OPEN && answer.length == 0, "rudlayog_memory_open", "an open handle is not told");
 }
 
 /* The calls on an open handle that are refused or too small. */
-static void try_open(struct mm_memory *memory) {
-    uint8_t out[MM_BLOCK];
-    struct mm_answer answer;
-    struct mm_fate fate;
-    struct mm_tally tally;
+static void try_open(struct rudlayog_memory *memory) {
+    uint8_t out[RUDLAYOG_BLOCK];
+    struct rudlayog_answer answer;
+    struct rudlayog_fate fate;
+    struct rudlayog_tally tally;
     uint64_t time = 7;
     memset(out, 0xA5, sizeof out);
     memset(&fate, 0xA5, sizeof fate);
     memset(&tally, 0xA5, sizeof tally);
-    mm_memory_offer(memory, TEXT("sci"), 1, packet, sizeof packet, &fate, &answer);
-    expect(answer.status == MM_REFUSED && answer.refused.number == MM_REFUSAL_BAD_ID, "mm_memory_offer", "another answer");
-    expect(fate.kind == MM_NO_FATE && fate.time == 0, "mm_memory_offer", "a fate where it is refused");
-    mm_memory_record(memory, 1, packet, sizeof packet - 1, &tally, &answer);
-    expect(answer.status == MM_REFUSED && answer.refused.number == MM_REFUSAL_SHORT, "mm_memory_record", "another answer");
-    expect(is_all(&tally, sizeof tally, 0), "mm_memory_record", "a tally where it is refused");
-    mm_memory_next(memory, TEXT("SCI"), NULL, 0, &time, &answer);
-    expect(answer.status == MM_TOO_SMALL && answer.length == MM_BLOCK && time == 0, "mm_memory_next", "another answer with a null buffer");
-    time = 7;
-    mm_memory_next(memory, TEXT("SCI"), out, sizeof out, &time, &answer);
-    expect(answer.status == MM_REFUSED && answer.refused.number == MM_REFUSAL_NO_RETRIEVAL && time == 0, "mm_memory_next",
+    rudlayog_memory_offer(memory, TEXT("sci"), 1, packet, sizeof packet, &fate, &answer);
+    expect(answer.status == RUDLAYOG_REFUSED && answer.refused.number == RUDLAYOG_REFUSAL_BAD_ID, "rudlayog_memory_offer",
            "another answer");
-    mm_memory_apply(memory, 1, status_request, sizeof status_request, NULL, 0, &answer);
-    expect(answer.status == MM_TOO_SMALL && answer.length == MM_INSTRUCTIONS, "mm_memory_apply", "another answer with a null buffer");
-    mm_memory_report(memory, NULL, 0, &answer);
-    expect(answer.status == MM_END && answer.length == 0, "mm_memory_report", "another answer where none waits");
-    mm_memory_apply(memory, 1, status_request, sizeof status_request, out, sizeof out, &answer);
-    expect(answer.status == MM_WRITTEN && answer.length == 0, "mm_memory_apply", "another answer");
-    mm_memory_report(memory, NULL, 0, &answer);
-    expect(answer.status == MM_TOO_SMALL && answer.length == 32, "mm_memory_report", "another answer with a null buffer");
+    expect(fate.kind == RUDLAYOG_NO_FATE && fate.time == 0, "rudlayog_memory_offer", "a fate where it is refused");
+    rudlayog_memory_record(memory, 1, packet, sizeof packet - 1, &tally, &answer);
+    expect(answer.status == RUDLAYOG_REFUSED && answer.refused.number == RUDLAYOG_REFUSAL_SHORT, "rudlayog_memory_record",
+           "another answer");
+    expect(is_all(&tally, sizeof tally, 0), "rudlayog_memory_record", "a tally where it is refused");
+    rudlayog_memory_next(memory, TEXT("SCI"), NULL, 0, &time, &answer);
+    expect(answer.status == RUDLAYOG_TOO_SMALL && answer.length == RUDLAYOG_BLOCK && time == 0, "rudlayog_memory_next",
+           "another answer with a null buffer");
+    time = 7;
+    rudlayog_memory_next(memory, TEXT("SCI"), out, sizeof out, &time, &answer);
+    expect(answer.status == RUDLAYOG_REFUSED && answer.refused.number == RUDLAYOG_REFUSAL_NO_RETRIEVAL && time == 0, "rudlayog_memory_next",
+           "another answer");
+    rudlayog_memory_apply(memory, 1, status_request, sizeof status_request, NULL, 0, &answer);
+    expect(answer.status == RUDLAYOG_TOO_SMALL && answer.length == RUDLAYOG_INSTRUCTIONS, "rudlayog_memory_apply",
+           "another answer with a null buffer");
+    rudlayog_memory_report(memory, NULL, 0, &answer);
+    expect(answer.status == RUDLAYOG_END && answer.length == 0, "rudlayog_memory_report", "another answer where none waits");
+    rudlayog_memory_apply(memory, 1, status_request, sizeof status_request, out, sizeof out, &answer);
+    expect(answer.status == RUDLAYOG_WRITTEN && answer.length == 0, "rudlayog_memory_apply", "another answer");
+    rudlayog_memory_report(memory, NULL, 0, &answer);
+    expect(answer.status == RUDLAYOG_TOO_SMALL && answer.length == 32, "rudlayog_memory_report", "another answer with a null buffer");
     expect(is_all(out, sizeof out, 0xA5), "a memory", "octets are written");
-    mm_memory_report(memory, out, sizeof out, &answer);
-    expect(answer.status == MM_WRITTEN && answer.length == 32 && is_all(out + 32, sizeof out - 32, 0xA5), "mm_memory_report",
+    rudlayog_memory_report(memory, out, sizeof out, &answer);
+    expect(answer.status == RUDLAYOG_WRITTEN && answer.length == 32 && is_all(out + 32, sizeof out - 32, 0xA5), "rudlayog_memory_report",
            "another text");
 }
 
-static struct mm_state state_of(struct mm_memory *memory, const char *id, uint32_t status) {
-    struct mm_state state;
-    struct mm_answer answer;
+static struct rudlayog_state state_of(struct rudlayog_memory *memory, const char *id, uint32_t status) {
+    struct rudlayog_state state;
+    struct rudlayog_answer answer;
     memset(&state, 0xA5, sizeof state);
-    mm_memory_state(memory, TEXT(id), &state, &answer);
-    expect(answer.status == status && answer.length == 0, "mm_memory_state", "another status");
+    rudlayog_memory_state(memory, TEXT(id), &state, &answer);
+    expect(answer.status == status && answer.length == 0, "rudlayog_memory_state", "another status");
     return state;
 }
 
-static uint64_t waiting(struct mm_memory *memory) {
+static uint64_t waiting(struct rudlayog_memory *memory) {
     uint64_t reports = 99;
-    struct mm_answer answer;
-    mm_memory_waiting(memory, &reports, &answer);
-    expect(answer.status == MM_WRITTEN && answer.length == 0, "mm_memory_waiting", "another status");
+    struct rudlayog_answer answer;
+    rudlayog_memory_waiting(memory, &reports, &answer);
+    expect(answer.status == RUDLAYOG_WRITTEN && answer.length == 0, "rudlayog_memory_waiting", "another status");
     return reports;
 }
 
 /* The state of a store of four blocks to which five packets are offered, of which one is given and three are deleted. */
-static void try_state(struct mm_memory *memory) {
+static void try_state(struct rudlayog_memory *memory) {
     static const uint8_t retrieval[36] = {0x18, 100, 0xC0, 0,   0,   29,  0x20, 15,  9,   0,        7,
                                           1,    'S', 'C',  'I', ' ', ' ', ' ',  ' ', ' ', [27] = 2, [35] = 9};
     static const uint8_t abort[20] = {0x18, 100, 0xC0, 0, 0, 13, 0x20, 15, 17, 0, 7, 1, 'S', 'C', 'I', ' ', ' ', ' ', ' ', ' '};
     static const uint8_t delete_3[28] = {0x18, 100, 0xC0, 0,   0,   21,  0x20, 15,  11,  0,       7,
                                          1,    'S', 'C',  'I', ' ', ' ', ' ',  ' ', ' ', [27] = 3};
-    struct mm_state state = state_of(memory, "SCI", MM_WRITTEN);
-    struct mm_answer answer;
-    struct mm_fate fate;
+    struct rudlayog_state state = state_of(memory, "SCI", RUDLAYOG_WRITTEN);
+    struct rudlayog_answer answer;
+    struct rudlayog_fate fate;
     uint64_t time;
-    uint8_t out[MM_BLOCK];
-    expect(state.kind == MM_BOUNDED && state.size == 4 && state.held == 0 && state.storage == 1 && state.retrieval == 0, "mm_memory_state",
-           "of an empty store");
+    uint8_t out[RUDLAYOG_BLOCK];
+    expect(state.kind == RUDLAYOG_BOUNDED && state.size == 4 && state.held == 0 && state.storage == 1 && state.retrieval == 0,
+           "rudlayog_memory_state", "of an empty store");
     expect(state.offered == 0 && state.oldest == 0 && state.newest == 0 && state.from == 0 && state.to == 0 && state.after == 0,
-           "mm_memory_state", "of an empty store");
+           "rudlayog_memory_state", "of an empty store");
     for (uint64_t now = 1; now <= 5; now++) {
-        mm_memory_offer(memory, TEXT("SCI"), now, packet, sizeof packet, &fate, &answer);
+        rudlayog_memory_offer(memory, TEXT("SCI"), now, packet, sizeof packet, &fate, &answer);
     }
-    mm_memory_apply(memory, 6, retrieval, sizeof retrieval, out, sizeof out, &answer);
-    mm_memory_next(memory, TEXT("SCI"), out, sizeof out, &time, &answer);
-    state = state_of(memory, "SCI", MM_WRITTEN);
-    expect(state.held == 4 && state.offered == 5 && state.lost == 1 && state.deleted == 0, "mm_memory_state", "of a full store");
-    expect(state.oldest == 1 && state.newest == 4, "mm_memory_state", "other times");
-    expect(state.retrieval == 1 && state.from == 2 && state.to == 9 && state.after == 2, "mm_memory_state", "another retrieval");
-    mm_memory_apply(memory, 7, abort, sizeof abort, out, sizeof out, &answer);
-    mm_memory_apply(memory, 8, delete_3, sizeof delete_3, out, sizeof out, &answer);
-    state = state_of(memory, "SCI", MM_WRITTEN);
-    expect(state.held == 1 && state.offered == 5 && state.lost == 1 && state.deleted == 3, "mm_memory_state", "after a deletion");
-    expect(state.oldest == 4 && state.newest == 4 && state.retrieval == 0 && state.to == 0, "mm_memory_state", "after a deletion");
-    state = state_of(memory, "HK", MM_REFUSED);
-    expect(state.kind == MM_NO_STORE && state.size == 0 && state.offered == 0, "mm_memory_state", "of no store");
-    expect(waiting(memory) == 0, "mm_memory_waiting", "another number");
-    mm_memory_apply(memory, 9, status_request, sizeof status_request, out, sizeof out, &answer);
-    mm_memory_apply(memory, 9, status_request, sizeof status_request, out, sizeof out, &answer);
-    expect(waiting(memory) == 2, "mm_memory_waiting", "another number");
-    mm_memory_report(memory, out, sizeof out, &answer);
-    expect(waiting(memory) == 1, "mm_memory_waiting", "another number");
+    rudlayog_memory_apply(memory, 6, retrieval, sizeof retrieval, out, sizeof out, &answer);
+    rudlayog_memory_next(memory, TEXT("SCI"), out, sizeof out, &time, &answer);
+    state = state_of(memory, "SCI", RUDLAYOG_WRITTEN);
+    expect(state.held == 4 && state.offered == 5 && state.lost == 1 && state.deleted == 0, "rudlayog_memory_state", "of a full store");
+    expect(state.oldest == 1 && state.newest == 4, "rudlayog_memory_state", "other times");
+    expect(state.retrieval == 1 && state.from == 2 && state.to == 9 && state.after == 2, "rudlayog_memory_state", "another retrieval");
+    rudlayog_memory_apply(memory, 7, abort, sizeof abort, out, sizeof out, &answer);
+    rudlayog_memory_apply(memory, 8, delete_3, sizeof delete_3, out, sizeof out, &answer);
+    state = state_of(memory, "SCI", RUDLAYOG_WRITTEN);
+    expect(state.held == 1 && state.offered == 5 && state.lost == 1 && state.deleted == 3, "rudlayog_memory_state", "after a deletion");
+    expect(state.oldest == 4 && state.newest == 4 && state.retrieval == 0 && state.to == 0, "rudlayog_memory_state", "after a deletion");
+    state = state_of(memory, "HK", RUDLAYOG_REFUSED);
+    expect(state.kind == RUDLAYOG_NO_STORE && state.size == 0 && state.offered == 0, "rudlayog_memory_state", "of no store");
+    expect(waiting(memory) == 0, "rudlayog_memory_waiting", "another number");
+    rudlayog_memory_apply(memory, 9, status_request, sizeof status_request, out, sizeof out, &answer);
+    rudlayog_memory_apply(memory, 9, status_request, sizeof status_request, out, sizeof out, &answer);
+    expect(waiting(memory) == 2, "rudlayog_memory_waiting", "another number");
+    rudlayog_memory_report(memory, out, sizeof out, &answer);
+    expect(waiting(memory) == 1, "rudlayog_memory_waiting", "another number");
 }
 
 /* Applies a request of 255 times the same instruction that many times; gives the bytes that each report takes that waits then. */
-static size_t taken(struct mm_memory *memory, uint8_t subtype, size_t times, size_t reports) {
+static size_t taken(struct rudlayog_memory *memory, uint8_t subtype, size_t times, size_t reports) {
     uint8_t request[12 + 255 * 8] = {0x18,    100, 0xC0, 0,  (sizeof request - 7) >> 8, (sizeof request - 7) & 255, 0x20, 15,
                                      subtype, 0,   7,    255};
-    uint8_t each[MM_INSTRUCTIONS];
-    struct mm_answer answer;
+    uint8_t each[RUDLAYOG_INSTRUCTIONS];
+    struct rudlayog_answer answer;
     const size_t before = held;
     for (size_t k = 0; k < 255; k++) {
         memcpy(request + 12 + 8 * k, "SCI     ", 8);
     }
     for (size_t k = 0; k < times; k++) {
-        mm_memory_apply(memory, 1, request, sizeof request, each, sizeof each, &answer);
-        expect(answer.status == MM_WRITTEN && answer.length == 255 && is_all(each, 255, MM_DONE), "mm_memory_apply", "a request of 255");
+        rudlayog_memory_apply(memory, 1, request, sizeof request, each, sizeof each, &answer);
+        expect(answer.status == RUDLAYOG_WRITTEN && answer.length == 255 && is_all(each, 255, RUDLAYOG_DONE), "rudlayog_memory_apply",
+               "a request of 255");
     }
     return (held - before) / (times * reports);
 }
@@ -318,7 +326,7 @@ static size_t taken(struct mm_memory *memory, uint8_t subtype, size_t times, siz
 /* What a report takes that waits: a summary of 255 entries, and a storage control of 256 rows. */
 static void measure_waiting(void) {
     static char text[65536];
-    struct mm_memory summaries = MM_MEMORY_CLOSED, controls = MM_MEMORY_CLOSED;
+    struct rudlayog_memory summaries = RUDLAYOG_MEMORY_CLOSED, controls = RUDLAYOG_MEMORY_CLOSED;
     size_t length = sizeof setup - 1, summary, control;
     memcpy(text, setup, length);
     for (int k = 0; k < 256; k++) {
@@ -329,33 +337,33 @@ static void measure_waiting(void) {
     summary = taken(&summaries, 12, 1000, 1);
     control = taken(&controls, 5, 10, 255);
     printf("answers: a report that waits takes %zu bytes (255 entries), %zu bytes (256 rows); %d are told\n", summary, control,
-           MM_REPORT_MEMORY);
-    expect(summary <= MM_REPORT_MEMORY && control <= MM_REPORT_MEMORY, "a report", "it takes more than is told");
-    mm_memory_close(&summaries);
-    mm_memory_close(&controls);
+           RUDLAYOG_REPORT_MEMORY);
+    expect(summary <= RUDLAYOG_REPORT_MEMORY && control <= RUDLAYOG_REPORT_MEMORY, "a report", "it takes more than is told");
+    rudlayog_memory_close(&summaries);
+    rudlayog_memory_close(&controls);
 }
 
 int main(void) {
-    struct mm_memory memory;
-    struct mm_answer answer;
-    uint8_t version[MM_VERSION_ROOM];
+    struct rudlayog_memory memory;
+    struct rudlayog_answer answer;
+    uint8_t version[RUDLAYOG_VERSION_ROOM];
     make_plan(plan, ROOM, &answer);
     plan_length = answer.length;
     for (size_t k = 0; k < sizeof texts / sizeof texts[0]; k++) {
         try_text(texts[k].name, texts[k].call, texts[k].refusal);
     }
-    mm_version(version, sizeof version, &answer);
-    expect(answer.length == strlen(MM_VERSION) && memcmp(version, MM_VERSION, answer.length) == 0, "mm_version",
+    rudlayog_version(version, sizeof version, &answer);
+    expect(answer.length == strlen(RUDLAYOG_VERSION) && memcmp(version, RUDLAYOG_VERSION, answer.length) == 0, "rudlayog_version",
            "another than the header's");
     make_no_words(NULL, 0, &answer);
     make_hint(plan, ROOM, &answer);
-    expect(answer.length == strlen(hint) && memcmp(plan, hint, answer.length) == 0, "mm_hint", "another hint");
+    expect(answer.length == strlen(hint) && memcmp(plan, hint, answer.length) == 0, "rudlayog_hint", "another hint");
     memset(&memory, 0, sizeof memory);
     try_closed(&memory, "a handle of octets 0");
     open_memory(&memory, setup);
     try_open(&memory);
     try_state(&memory);
-    mm_memory_close(&memory);
+    rudlayog_memory_close(&memory);
     try_closed(&memory, "a handle that was closed");
     measure_waiting();
     expect(held == 0, "all calls", "a block stays allocated");

@@ -60,64 +60,66 @@ static const char bad_forecast[] = "step,window,SCI,HK\n1,2,5,1\n2,3,x,2\n";
 static const char requests[] = "1864C000000620\n1864C0000006200F16000000\n";
 static uint8_t plan[ROOM];
 static size_t plan_length;
-static const struct mm_refused cell = {31, MM_CELL, 2, 3, 0, 0};
+static const struct rudlayog_refused cell = {31, RUDLAYOG_CELL, 2, 3, 0, 0};
 
 #define TEXT(text) (const uint8_t *)(text), strlen(text)
 
-static void make_plan(uint8_t *out, struct mm_answer *answer) { mm_plan(TEXT(setup), TEXT(forecast), out, ROOM, answer); }
+static void make_plan(uint8_t *out, struct rudlayog_answer *answer) { rudlayog_plan(TEXT(setup), TEXT(forecast), out, ROOM, answer); }
 
-static void make_no_plan(uint8_t *out, struct mm_answer *answer) { mm_plan(TEXT(setup), TEXT(bad_forecast), out, ROOM, answer); }
+static void make_no_plan(uint8_t *out, struct rudlayog_answer *answer) {
+    rudlayog_plan(TEXT(setup), TEXT(bad_forecast), out, ROOM, answer);
+}
 
-static void make_check(uint8_t *out, struct mm_answer *answer) {
-    struct mm_verdict verdict;
-    mm_check(TEXT(setup), TEXT(forecast), plan, plan_length, out, ROOM, &verdict, answer);
-    if ((answer->status == MM_WRITTEN) != (verdict.kind == MM_LEAST)) {
+static void make_check(uint8_t *out, struct rudlayog_answer *answer) {
+    struct rudlayog_verdict verdict;
+    rudlayog_check(TEXT(setup), TEXT(forecast), plan, plan_length, out, ROOM, &verdict, answer);
+    if ((answer->status == RUDLAYOG_WRITTEN) != (verdict.kind == RUDLAYOG_LEAST)) {
         answer->status = 99;
     }
 }
 
-static void make_chart(uint8_t *out, struct mm_answer *answer) {
-    mm_chart(TEXT(setup), TEXT(forecast), plan, plan_length, out, ROOM, answer);
+static void make_chart(uint8_t *out, struct rudlayog_answer *answer) {
+    rudlayog_chart(TEXT(setup), TEXT(forecast), plan, plan_length, out, ROOM, answer);
 }
 
-static void make_table(uint8_t *out, struct mm_answer *answer) {
-    mm_table(TEXT(setup), TEXT(forecast), plan, plan_length, out, ROOM, answer);
+static void make_table(uint8_t *out, struct rudlayog_answer *answer) {
+    rudlayog_table(TEXT(setup), TEXT(forecast), plan, plan_length, out, ROOM, answer);
 }
 
-static void make_read(uint8_t *out, struct mm_answer *answer) {
+static void make_read(uint8_t *out, struct rudlayog_answer *answer) {
     uint32_t outcome;
-    mm_read(TEXT(requests), out, ROOM, &outcome, answer);
-    if ((answer->status == MM_WRITTEN) != (outcome != MM_NO_OUTCOME)) {
+    rudlayog_read(TEXT(requests), out, ROOM, &outcome, answer);
+    if ((answer->status == RUDLAYOG_WRITTEN) != (outcome != RUDLAYOG_NO_OUTCOME)) {
         answer->status = 99;
     }
 }
 
-static void make_ask(uint8_t *out, struct mm_answer *answer) {
+static void make_ask(uint8_t *out, struct rudlayog_answer *answer) {
     uint32_t outcome;
-    mm_ask(TEXT(setup), TEXT(requests), out, ROOM, &outcome, answer);
-    if ((answer->status == MM_WRITTEN) != (outcome != MM_NO_OUTCOME)) {
+    rudlayog_ask(TEXT(setup), TEXT(requests), out, ROOM, &outcome, answer);
+    if ((answer->status == RUDLAYOG_WRITTEN) != (outcome != RUDLAYOG_NO_OUTCOME)) {
         answer->status = 99;
     }
 }
 
-static void make_words(uint8_t *out, struct mm_answer *answer) { mm_words(&cell, out, ROOM, answer); }
+static void make_words(uint8_t *out, struct rudlayog_answer *answer) { rudlayog_words(&cell, out, ROOM, answer); }
 
-static void make_hint(uint8_t *out, struct mm_answer *answer) {
-    mm_hint(TEXT(setup), TEXT(bad_forecast), (const uint8_t *)"", 0, &cell, out, ROOM, answer);
+static void make_hint(uint8_t *out, struct rudlayog_answer *answer) {
+    rudlayog_hint(TEXT(setup), TEXT(bad_forecast), (const uint8_t *)"", 0, &cell, out, ROOM, answer);
 }
 
 struct part {
     const char *name;
-    void (*make)(uint8_t *out, struct mm_answer *answer);
+    void (*make)(uint8_t *out, struct rudlayog_answer *answer);
     uint32_t status; /* with ample memory */
 };
 
 static const struct part parts[] = {
-    {"mm_plan", make_plan, MM_WRITTEN},   {"mm_plan of a bad cell", make_no_plan, MM_REFUSED},
-    {"mm_check", make_check, MM_WRITTEN}, {"mm_chart", make_chart, MM_WRITTEN},
-    {"mm_table", make_table, MM_WRITTEN}, {"mm_read", make_read, MM_WRITTEN},
-    {"mm_ask", make_ask, MM_WRITTEN},     {"mm_words", make_words, MM_WRITTEN},
-    {"mm_hint", make_hint, MM_WRITTEN},
+    {"rudlayog_plan", make_plan, RUDLAYOG_WRITTEN},   {"rudlayog_plan of a bad cell", make_no_plan, RUDLAYOG_REFUSED},
+    {"rudlayog_check", make_check, RUDLAYOG_WRITTEN}, {"rudlayog_chart", make_chart, RUDLAYOG_WRITTEN},
+    {"rudlayog_table", make_table, RUDLAYOG_WRITTEN}, {"rudlayog_read", make_read, RUDLAYOG_WRITTEN},
+    {"rudlayog_ask", make_ask, RUDLAYOG_WRITTEN},     {"rudlayog_words", make_words, RUDLAYOG_WRITTEN},
+    {"rudlayog_hint", make_hint, RUDLAYOG_WRITTEN},
 };
 
 static int fail(const struct part *part, const char *what) {
@@ -128,8 +130,8 @@ static int fail(const struct part *part, const char *what) {
 /* Refuses each allocation of a part in turn. */
 static int sweep(const struct part *part) {
     static uint8_t ample[ROOM], out[ROOM], blank[ROOM];
-    const struct mm_refused no_memory = {0};
-    struct mm_answer first, answer;
+    const struct rudlayog_refused no_memory = {0};
+    struct rudlayog_answer first, answer;
     long all, told = 0;
 
     memset(blank, 0xA5, ROOM);
@@ -137,7 +139,7 @@ static int sweep(const struct part *part) {
     asked = refused = 0;
     part->make(ample, &first);
     all = asked;
-    if (first.status != part->status || (part->status == MM_REFUSED && memcmp(&first.refused, &cell, sizeof cell) != 0)) {
+    if (first.status != part->status || (part->status == RUDLAYOG_REFUSED && memcmp(&first.refused, &cell, sizeof cell) != 0)) {
         return fail(part, "not as wanted");
     }
     for (refused = 1; refused <= all; refused++) {
@@ -147,13 +149,13 @@ static int sweep(const struct part *part) {
         if (held != 0) {
             return fail(part, "a block stays allocated");
         }
-        if (answer.status == MM_REFUSED && memcmp(&answer.refused, &no_memory, sizeof no_memory) == 0) {
+        if (answer.status == RUDLAYOG_REFUSED && memcmp(&answer.refused, &no_memory, sizeof no_memory) == 0) {
             told++;
             if (answer.length != 0 || memcmp(out, blank, ROOM) != 0) {
                 return fail(part, "the buffer is not as it was");
             }
         } else if (memcmp(&answer, &first, sizeof answer) != 0 || memcmp(out, ample, ROOM) != 0) {
-            if (strcmp(part->name, "mm_ask") != 0 || answer.status != MM_WRITTEN) {
+            if (strcmp(part->name, "rudlayog_ask") != 0 || answer.status != RUDLAYOG_WRITTEN) {
                 return fail(part, "another answer");
             }
         }
@@ -165,13 +167,13 @@ static int sweep(const struct part *part) {
 
 /* A memory, and what its last call left. */
 struct life {
-    struct mm_memory memory;
-    struct mm_answer answer;
-    struct mm_fate fate;
-    struct mm_tally tally;
-    struct mm_state state;
+    struct rudlayog_memory memory;
+    struct rudlayog_answer answer;
+    struct rudlayog_fate fate;
+    struct rudlayog_tally tally;
+    struct rudlayog_state state;
     uint64_t time, reports;
-    uint8_t each[MM_INSTRUCTIONS], out[MM_BLOCK];
+    uint8_t each[RUDLAYOG_INSTRUCTIONS], out[RUDLAYOG_BLOCK];
 };
 
 /* A request with one instruction, or with none where there is no identifier. */
@@ -196,39 +198,39 @@ static void apply(struct life *l, const struct request *request) {
         length = 20 + request->length;
     }
     packet[5] = (uint8_t)(length - 7);
-    mm_memory_apply(&l->memory, 3, packet, length, l->each, sizeof l->each, &l->answer);
+    rudlayog_memory_apply(&l->memory, 3, packet, length, l->each, sizeof l->each, &l->answer);
 }
 
 static void life_open(struct life *l, const struct request *request) {
     (void)request;
-    mm_memory_open(&l->memory, TEXT(setup), &l->answer);
+    rudlayog_memory_open(&l->memory, TEXT(setup), &l->answer);
 }
 
 static void life_record(struct life *l, const struct request *request) {
     (void)request;
-    mm_memory_record(&l->memory, 1, housekeeping, sizeof housekeeping, &l->tally, &l->answer);
+    rudlayog_memory_record(&l->memory, 1, housekeeping, sizeof housekeeping, &l->tally, &l->answer);
 }
 
 static void life_offer(struct life *l, const struct request *request) {
-    mm_memory_offer(&l->memory, TEXT(request->id), 2, housekeeping, sizeof housekeeping, &l->fate, &l->answer);
+    rudlayog_memory_offer(&l->memory, TEXT(request->id), 2, housekeeping, sizeof housekeeping, &l->fate, &l->answer);
 }
 
 static void life_report(struct life *l, const struct request *request) {
     (void)request;
-    mm_memory_report(&l->memory, l->out, sizeof l->out, &l->answer);
+    rudlayog_memory_report(&l->memory, l->out, sizeof l->out, &l->answer);
 }
 
 static void life_state(struct life *l, const struct request *request) {
-    mm_memory_state(&l->memory, TEXT(request->id), &l->state, &l->answer);
+    rudlayog_memory_state(&l->memory, TEXT(request->id), &l->state, &l->answer);
 }
 
 static void life_waiting(struct life *l, const struct request *request) {
     (void)request;
-    mm_memory_waiting(&l->memory, &l->reports, &l->answer);
+    rudlayog_memory_waiting(&l->memory, &l->reports, &l->answer);
 }
 
 static void life_next(struct life *l, const struct request *request) {
-    mm_memory_next(&l->memory, TEXT(request->id), l->out, sizeof l->out, &l->time, &l->answer);
+    rudlayog_memory_next(&l->memory, TEXT(request->id), l->out, sizeof l->out, &l->time, &l->answer);
 }
 
 #define ALL_TIMES 0, 0, 0, 0, 0, 0, 0, 0, 0, 0, 0, 0, 0, 0, 0, 255
@@ -238,10 +240,10 @@ static void life_next(struct life *l, const struct request *request) {
             0, "HK", 0, { 0 }                                                                                                              \
         }                                                                                                                                  \
     }
-#define REPORT CALL(life_report, MM_WRITTEN)
+#define REPORT CALL(life_report, RUDLAYOG_WRITTEN)
 #define ASK(...)                                                                                                                           \
     {                                                                                                                                      \
-        apply, MM_WRITTEN, { __VA_ARGS__ }                                                                                                 \
+        apply, RUDLAYOG_WRITTEN, { __VA_ARGS__ }                                                                                           \
     }
 
 /* Each call on a handle, and each subtype of a request, with the reports on it. */
@@ -250,18 +252,18 @@ static const struct {
     uint32_t status; /* with ample memory */
     struct request request;
 } calls[] = {
-    CALL(life_open, MM_WRITTEN),
-    CALL(life_record, MM_WRITTEN),
-    CALL(life_offer, MM_WRITTEN),
+    CALL(life_open, RUDLAYOG_WRITTEN),
+    CALL(life_record, RUDLAYOG_WRITTEN),
+    CALL(life_offer, RUDLAYOG_WRITTEN),
     ASK(12, "HK", 0, {0}),
-    CALL(life_state, MM_WRITTEN),
-    CALL(life_waiting, MM_WRITTEN),
+    CALL(life_state, RUDLAYOG_WRITTEN),
+    CALL(life_waiting, RUDLAYOG_WRITTEN),
     REPORT,
-    CALL(life_report, MM_END),
+    CALL(life_report, RUDLAYOG_END),
     ASK(9, "HK", 16, {ALL_TIMES}),
-    CALL(life_next, MM_WRITTEN),
-    CALL(life_next, MM_WRITTEN),
-    CALL(life_next, MM_END),
+    CALL(life_next, RUDLAYOG_WRITTEN),
+    CALL(life_next, RUDLAYOG_WRITTEN),
+    CALL(life_next, RUDLAYOG_END),
     ASK(9, "HK", 16, {ALL_TIMES}),
     ASK(17, "HK", 0, {0}),
     ASK(2, "HK", 0, {0}),
@@ -272,7 +274,7 @@ static const struct {
     ASK(4, "SCI", 4, {0, 100, 3, 26}),
     ASK(20, "CAM", 6, {0, 0, 1, 0, 0, 1}),
     ASK(1, "CAM", 0, {0}),
-    {life_offer, MM_WRITTEN, {0, "CAM", 0, {0}}},
+    {life_offer, RUDLAYOG_WRITTEN, {0, "CAM", 0, {0}}},
     ASK(2, "CAM", 0, {0}),
     ASK(25, "CAM", 4, {0, 0, 2, 0}),
     ASK(27, "CAM", 0, {0}),
@@ -288,7 +290,7 @@ static const struct {
     REPORT,
     ASK(22, NULL, 0, {0}),
     REPORT,
-    CALL(life_report, MM_END),
+    CALL(life_report, RUDLAYOG_END),
 };
 enum { CALLS = sizeof calls / sizeof calls[0] };
 
@@ -299,8 +301,9 @@ static int fail_life(size_t call, const char *what) {
 
 /* Whether a call tells out of memory: as a whole, or of its instruction. */
 static int is_out_of_memory(const struct life *life, int is_request) {
-    return (life->answer.status == MM_REFUSED && life->answer.refused.number == MM_REFUSAL_NO_MEMORY) ||
-           (is_request && life->answer.status == MM_WRITTEN && life->answer.length == 1 && life->each[0] == MM_REFUSAL_NO_MEMORY);
+    return (life->answer.status == RUDLAYOG_REFUSED && life->answer.refused.number == RUDLAYOG_REFUSAL_NO_MEMORY) ||
+           (is_request && life->answer.status == RUDLAYOG_WRITTEN && life->answer.length == 1 &&
+            life->each[0] == RUDLAYOG_REFUSAL_NO_MEMORY);
 }
 
 /* Makes a call, and a second time where it tells out of memory. A request is carried out then. */
@@ -314,7 +317,8 @@ static int make_call(struct life *life, size_t k, long *told) {
     if (life->answer.status != calls[k].status) {
         return fail_life(k, "another status");
     }
-    if (is_request && (life->answer.length != (calls[k].request.id != NULL) || (life->answer.length == 1 && life->each[0] != MM_DONE))) {
+    if (is_request &&
+        (life->answer.length != (calls[k].request.id != NULL) || (life->answer.length == 1 && life->each[0] != RUDLAYOG_DONE))) {
         return fail_life(k, "the request is not carried out");
     }
     return 0;
@@ -336,7 +340,7 @@ static int live(struct life lives[CALLS], int is_first, long *told) {
             return fail_life(k, "another answer");
         }
     }
-    mm_memory_close(&life.memory);
+    rudlayog_memory_close(&life.memory);
     return held == 0 ? 0 : fail_life(CALLS, "a block stays allocated");
 }
 
@@ -364,7 +368,7 @@ static long change_kind(struct life *life, uint8_t subtype) {
     const struct request change = {subtype, "SCI", 0, {0}};
     asked = 0;
     apply(life, &change);
-    return life->answer.status == MM_WRITTEN && life->each[0] == MM_DONE ? asked : -1;
+    return life->answer.status == RUDLAYOG_WRITTEN && life->each[0] == RUDLAYOG_DONE ? asked : -1;
 }
 
 /* SCI is bounded, becomes circular, and bounded again: a ring is one block of memory, and a table of blocks with its two lists three. */
@@ -377,7 +381,7 @@ static int sweep_kinds(void) {
     same = change_kind(&life, 27);
     ring = change_kind(&life, 26) - same;
     table = change_kind(&life, 27) - same;
-    mm_memory_close(&life.memory);
+    rudlayog_memory_close(&life.memory);
     printf("changes of kind: %ld allocation for a ring, %ld for a table\n", ring, table);
     return ring != 1 || table != 3;
 }
@@ -389,16 +393,16 @@ static int ask_twice_take_one(struct life *life, long *told) {
     static const struct request summary = {12, "HK", 0, {0}};
     for (int k = 0; k < 2; k++) {
         apply(life, &summary);
-        if (life->answer.status == MM_REFUSED && life->answer.refused.number == 0) {
+        if (life->answer.status == RUDLAYOG_REFUSED && life->answer.refused.number == 0) {
             ++*told;
             apply(life, &summary);
         }
-        if (life->answer.status != MM_WRITTEN) {
+        if (life->answer.status != RUDLAYOG_WRITTEN) {
             return 1;
         }
     }
     life_report(life, NULL);
-    return life->answer.status != MM_WRITTEN;
+    return life->answer.status != RUDLAYOG_WRITTEN;
 }
 
 /* Lives all rounds, and then takes the reports that are left. */
@@ -416,9 +420,9 @@ static int live_rounds(long *told) {
     do {
         life_report(&life, NULL);
         taken++;
-    } while (life.answer.status == MM_WRITTEN);
-    mm_memory_close(&life.memory);
-    return taken == ROUNDS && life.answer.status == MM_END ? 0 : fail_life(taken, "other reports were left");
+    } while (life.answer.status == RUDLAYOG_WRITTEN);
+    rudlayog_memory_close(&life.memory);
+    return taken == ROUNDS && life.answer.status == RUDLAYOG_END ? 0 : fail_life(taken, "other reports were left");
 }
 
 /* Room for 255 reports more is asked for by each request: 255 places by the first, 510 by the second, and 1,020 where 256 reports wait.
@@ -440,7 +444,7 @@ static int sweep_rounds(void) {
 }
 
 int main(void) {
-    struct mm_answer answer;
+    struct rudlayog_answer answer;
     int status = 0;
     make_plan(plan, &answer);
     plan_length = answer.length;

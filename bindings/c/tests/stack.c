@@ -18,68 +18,68 @@ struct text {
 };
 
 static struct text setup, forecast, plan;
-static struct mm_memory memory, other;
-static struct mm_answer answer;
+static struct rudlayog_memory memory, other;
+static struct rudlayog_answer answer;
 static uint8_t stack[STACK], out[ROOM];
 
 static const char memory_setup[] = "[[store]]\nid = \"HK\"\nsize = 9\ntype = \"circular\"\nchannel = 1\n"
                                    "[[route]]\napid = 100\nservice = 3\nsubtype = 25\nstore = \"HK\"\n";
 static const char requests[] = "1864C0000004200F120007\n1864C005000D200F01000701484B202020202020\n";
 static const uint8_t packet[] = {0x08, 100, 0xC0, 0, 0, 14, 0x20, 3, 25, 0, 0, 0, 0, 0, 0, 0, 0, 0, 0, 0, 0};
-static const struct mm_refused cell = {MM_REFUSAL_CELL, MM_CELL, 2, 3, 0, 0};
+static const struct rudlayog_refused cell = {RUDLAYOG_REFUSAL_CELL, RUDLAYOG_CELL, 2, 3, 0, 0};
 
 static void nothing(void) {}
 
-static void call_plan(void) { mm_plan(GIVEN(setup), GIVEN(forecast), out, ROOM, &answer); }
+static void call_plan(void) { rudlayog_plan(GIVEN(setup), GIVEN(forecast), out, ROOM, &answer); }
 
 static void call_check(void) {
-    struct mm_verdict verdict;
-    mm_check(GIVEN(setup), GIVEN(forecast), GIVEN(plan), out, ROOM, &verdict, &answer);
+    struct rudlayog_verdict verdict;
+    rudlayog_check(GIVEN(setup), GIVEN(forecast), GIVEN(plan), out, ROOM, &verdict, &answer);
 }
 
-static void call_chart(void) { mm_chart(GIVEN(setup), GIVEN(forecast), GIVEN(plan), out, ROOM, &answer); }
+static void call_chart(void) { rudlayog_chart(GIVEN(setup), GIVEN(forecast), GIVEN(plan), out, ROOM, &answer); }
 
-static void call_table(void) { mm_table(GIVEN(setup), GIVEN(forecast), GIVEN(plan), out, ROOM, &answer); }
+static void call_table(void) { rudlayog_table(GIVEN(setup), GIVEN(forecast), GIVEN(plan), out, ROOM, &answer); }
 
 static void call_read(void) {
     uint32_t outcome;
-    mm_read(TEXT(requests), out, ROOM, &outcome, &answer);
+    rudlayog_read(TEXT(requests), out, ROOM, &outcome, &answer);
 }
 
 static void call_ask(void) {
     uint32_t outcome;
-    mm_ask(TEXT(memory_setup), TEXT(requests), out, ROOM, &outcome, &answer);
+    rudlayog_ask(TEXT(memory_setup), TEXT(requests), out, ROOM, &outcome, &answer);
 }
 
 static void call_ask_of_setup(void) {
     uint32_t outcome;
-    mm_ask(GIVEN(setup), TEXT(requests), out, ROOM, &outcome, &answer);
+    rudlayog_ask(GIVEN(setup), TEXT(requests), out, ROOM, &outcome, &answer);
 }
 
-static void call_words(void) { mm_words(&cell, out, ROOM, &answer); }
+static void call_words(void) { rudlayog_words(&cell, out, ROOM, &answer); }
 
 static void call_hint(void) {
-    static const struct mm_refused refused = {MM_REFUSAL_SETUP_FIELD, MM_KEY, 1, 0, 0, 9};
-    mm_hint(GIVEN(setup), GIVEN(forecast), GIVEN(plan), &refused, out, ROOM, &answer);
+    static const struct rudlayog_refused refused = {RUDLAYOG_REFUSAL_SETUP_FIELD, RUDLAYOG_KEY, 1, 0, 0, 9};
+    rudlayog_hint(GIVEN(setup), GIVEN(forecast), GIVEN(plan), &refused, out, ROOM, &answer);
 }
 
-static void call_version(void) { mm_version(out, ROOM, &answer); }
+static void call_version(void) { rudlayog_version(out, ROOM, &answer); }
 
-static void call_open(void) { mm_memory_open(&memory, TEXT(memory_setup), &answer); }
+static void call_open(void) { rudlayog_memory_open(&memory, TEXT(memory_setup), &answer); }
 
 static void call_open_of_setup(void) {
-    mm_memory_open(&other, GIVEN(setup), &answer);
-    mm_memory_close(&other);
+    rudlayog_memory_open(&other, GIVEN(setup), &answer);
+    rudlayog_memory_close(&other);
 }
 
 static void call_record(void) {
-    struct mm_tally tally;
-    mm_memory_record(&memory, 1, packet, sizeof packet, &tally, &answer);
+    struct rudlayog_tally tally;
+    rudlayog_memory_record(&memory, 1, packet, sizeof packet, &tally, &answer);
 }
 
 static void call_offer(void) {
-    struct mm_fate fate;
-    mm_memory_offer(&memory, TEXT("HK"), 1, packet, sizeof packet, &fate, &answer);
+    struct rudlayog_fate fate;
+    rudlayog_memory_offer(&memory, TEXT("HK"), 1, packet, sizeof packet, &fate, &answer);
 }
 
 /* A request of each subtype with an instruction of HK, and those without one. */
@@ -103,58 +103,58 @@ static void call_apply(void) {
         const size_t length = asked[k].subtype == 18 || asked[k].subtype == 22 ? 11 : 20u + asked[k].length;
         memcpy(request + 20, asked[k].fields, asked[k].length);
         request[5] = (uint8_t)(length - 7);
-        mm_memory_apply(&memory, 3, request, length, out, ROOM, &answer);
+        rudlayog_memory_apply(&memory, 3, request, length, out, ROOM, &answer);
     }
 }
 
 static void call_report(void) {
     do {
-        mm_memory_report(&memory, out, ROOM, &answer);
-    } while (answer.status == MM_WRITTEN);
+        rudlayog_memory_report(&memory, out, ROOM, &answer);
+    } while (answer.status == RUDLAYOG_WRITTEN);
 }
 
 static void call_next(void) {
     uint64_t time;
-    mm_memory_next(&memory, TEXT("HK"), out, ROOM, &time, &answer);
+    rudlayog_memory_next(&memory, TEXT("HK"), out, ROOM, &time, &answer);
 }
 
 static void call_state(void) {
-    struct mm_state state;
-    mm_memory_state(&memory, TEXT("HK"), &state, &answer);
+    struct rudlayog_state state;
+    rudlayog_memory_state(&memory, TEXT("HK"), &state, &answer);
 }
 
 static void call_waiting(void) {
     uint64_t reports;
-    mm_memory_waiting(&memory, &reports, &answer);
+    rudlayog_memory_waiting(&memory, &reports, &answer);
 }
 
-static void call_close(void) { mm_memory_close(&memory); }
+static void call_close(void) { rudlayog_memory_close(&memory); }
 
 static struct {
     const char *name;
     void (*call)(void);
     size_t told, most; /* what the header says, and the most that was met */
 } calls[] = {
-    {"mm_plan", call_plan, MM_PLAN_STACK, 0},
-    {"mm_check", call_check, MM_CHECK_STACK, 0},
-    {"mm_chart", call_chart, MM_CHART_STACK, 0},
-    {"mm_table", call_table, MM_TABLE_STACK, 0},
-    {"mm_read", call_read, MM_READ_STACK, 0},
-    {"mm_ask", call_ask, MM_ASK_STACK, 0},
-    {"mm_ask", call_ask_of_setup, MM_ASK_STACK, 0},
-    {"mm_words", call_words, MM_WORDS_STACK, 0},
-    {"mm_hint", call_hint, MM_HINT_STACK, 0},
-    {"mm_version", call_version, MM_VERSION_STACK, 0},
-    {"mm_memory_open", call_open, MM_OPEN_STACK, 0},
-    {"mm_memory_open", call_open_of_setup, MM_OPEN_STACK, 0},
-    {"mm_memory_apply", call_apply, MM_MEMORY_STACK, 0},
-    {"mm_memory_record", call_record, MM_MEMORY_STACK, 0},
-    {"mm_memory_offer", call_offer, MM_MEMORY_STACK, 0},
-    {"mm_memory_next", call_next, MM_MEMORY_STACK, 0},
-    {"mm_memory_state", call_state, MM_MEMORY_STACK, 0},
-    {"mm_memory_waiting", call_waiting, MM_MEMORY_STACK, 0},
-    {"mm_memory_report", call_report, MM_MEMORY_STACK, 0},
-    {"mm_memory_close", call_close, MM_MEMORY_STACK, 0},
+    {"rudlayog_plan", call_plan, RUDLAYOG_PLAN_STACK, 0},
+    {"rudlayog_check", call_check, RUDLAYOG_CHECK_STACK, 0},
+    {"rudlayog_chart", call_chart, RUDLAYOG_CHART_STACK, 0},
+    {"rudlayog_table", call_table, RUDLAYOG_TABLE_STACK, 0},
+    {"rudlayog_read", call_read, RUDLAYOG_READ_STACK, 0},
+    {"rudlayog_ask", call_ask, RUDLAYOG_ASK_STACK, 0},
+    {"rudlayog_ask", call_ask_of_setup, RUDLAYOG_ASK_STACK, 0},
+    {"rudlayog_words", call_words, RUDLAYOG_WORDS_STACK, 0},
+    {"rudlayog_hint", call_hint, RUDLAYOG_HINT_STACK, 0},
+    {"rudlayog_version", call_version, RUDLAYOG_VERSION_STACK, 0},
+    {"rudlayog_memory_open", call_open, RUDLAYOG_OPEN_STACK, 0},
+    {"rudlayog_memory_open", call_open_of_setup, RUDLAYOG_OPEN_STACK, 0},
+    {"rudlayog_memory_apply", call_apply, RUDLAYOG_MEMORY_STACK, 0},
+    {"rudlayog_memory_record", call_record, RUDLAYOG_MEMORY_STACK, 0},
+    {"rudlayog_memory_offer", call_offer, RUDLAYOG_MEMORY_STACK, 0},
+    {"rudlayog_memory_next", call_next, RUDLAYOG_MEMORY_STACK, 0},
+    {"rudlayog_memory_state", call_state, RUDLAYOG_MEMORY_STACK, 0},
+    {"rudlayog_memory_waiting", call_waiting, RUDLAYOG_MEMORY_STACK, 0},
+    {"rudlayog_memory_report", call_report, RUDLAYOG_MEMORY_STACK, 0},
+    {"rudlayog_memory_close", call_close, RUDLAYOG_MEMORY_STACK, 0},
 };
 enum { CALLS = sizeof calls / sizeof calls[0] };
 

@@ -11,14 +11,14 @@ from ._data import whole
 from .refusals import Refusal
 
 WRITTEN, TOO_SMALL, REFUSED, CLOSED, OPEN, END = range(6)
-ROW = 2  # MM_ROW
-NO_MEMORY, SHORT, HEADER, STEP_NUMBER, PLAN_TEXT, HEX_LINE = 0, 1, 30, 32, 34, 49  # MM_REFUSAL_NO_MEMORY and so on
-PLAN_ROOM = 204800  # MM_PLAN_ROOM
-LINE_ROOM = 64  # MM_LINE_ROOM
-INSTRUCTIONS = 255  # MM_INSTRUCTIONS
-BLOCK = 1024  # MM_BLOCK
-PACKET = 65542  # MM_PACKET
-DONE = 255  # MM_DONE
+ROW = 2  # RUDLAYOG_ROW
+NO_MEMORY, SHORT, HEADER, STEP_NUMBER, PLAN_TEXT, HEX_LINE = 0, 1, 30, 32, 34, 49  # RUDLAYOG_REFUSAL_NO_MEMORY and so on
+PLAN_ROOM = 204800  # RUDLAYOG_PLAN_ROOM
+LINE_ROOM = 64  # RUDLAYOG_LINE_ROOM
+INSTRUCTIONS = 255  # RUDLAYOG_INSTRUCTIONS
+BLOCK = 1024  # RUDLAYOG_BLOCK
+PACKET = 65542  # RUDLAYOG_PACKET
+DONE = 255  # RUDLAYOG_DONE
 
 _octets = ctypes.c_char_p
 _size = ctypes.c_size_t
@@ -26,7 +26,7 @@ _buffer = ctypes.c_void_p
 
 
 class RefusedAt(ctypes.Structure):
-    """struct mm_refused"""
+    """struct rudlayog_refused"""
 
     _fields_ = [
         ("number", ctypes.c_uint32),
@@ -39,31 +39,31 @@ class RefusedAt(ctypes.Structure):
 
 
 class Answer(ctypes.Structure):
-    """struct mm_answer"""
+    """struct rudlayog_answer"""
 
     _fields_ = [("status", ctypes.c_uint32), ("refused", RefusedAt), ("length", _size)]
 
 
 class VerdictTold(ctypes.Structure):
-    """struct mm_verdict"""
+    """struct rudlayog_verdict"""
 
     _fields_ = [("kind", ctypes.c_uint32), ("place", ctypes.c_uint32), ("loss", ctypes.c_uint64), ("bound", ctypes.c_int64)]
 
 
 class Handle(ctypes.Structure):
-    """struct mm_memory"""
+    """struct rudlayog_memory"""
 
     _fields_ = [("at", ctypes.c_void_p), ("is_open", ctypes.c_bool)]
 
 
 class FateTold(ctypes.Structure):
-    """struct mm_fate"""
+    """struct rudlayog_fate"""
 
     _fields_ = [("kind", ctypes.c_uint32), ("time", ctypes.c_uint64)]
 
 
 class StateTold(ctypes.Structure):
-    """struct mm_state"""
+    """struct rudlayog_state"""
 
     _fields_ = [
         *((name, ctypes.c_uint32) for name in ("kind", "size", "held", "storage", "retrieval")),
@@ -72,7 +72,7 @@ class StateTold(ctypes.Structure):
 
 
 class TallyTold(ctypes.Structure):
-    """struct mm_tally"""
+    """struct rudlayog_tally"""
 
     _fields_ = [("kept", ctypes.c_uint32), ("lost", ctypes.c_uint32), ("refused", ctypes.c_uint32)]
 
@@ -103,29 +103,29 @@ def _call(name: str, *types: object) -> Callable[..., None]:
 
 _text = (_octets, _size)
 _out = (_buffer, _size)
-mm_plan = _call("mm_plan", *_text, *_text, *_out)
-mm_check = _call("mm_check", *_text, *_text, *_text, *_out, ctypes.POINTER(VerdictTold))
-mm_chart = _call("mm_chart", *_text, *_text, *_text, *_out)
-mm_table = _call("mm_table", *_text, *_text, *_text, *_out)
-mm_ask = _call("mm_ask", *_text, *_text, *_out, ctypes.POINTER(ctypes.c_uint32))
-mm_read = _call("mm_read", *_text, *_out, ctypes.POINTER(ctypes.c_uint32))
-mm_hint = _call("mm_hint", *_text, *_text, *_text, ctypes.POINTER(RefusedAt), *_out)
-mm_words = _call("mm_words", ctypes.POINTER(RefusedAt), *_out)
-mm_version = _call("mm_version", *_out)
+rudlayog_plan = _call("rudlayog_plan", *_text, *_text, *_out)
+rudlayog_check = _call("rudlayog_check", *_text, *_text, *_text, *_out, ctypes.POINTER(VerdictTold))
+rudlayog_chart = _call("rudlayog_chart", *_text, *_text, *_text, *_out)
+rudlayog_table = _call("rudlayog_table", *_text, *_text, *_text, *_out)
+rudlayog_ask = _call("rudlayog_ask", *_text, *_text, *_out, ctypes.POINTER(ctypes.c_uint32))
+rudlayog_read = _call("rudlayog_read", *_text, *_out, ctypes.POINTER(ctypes.c_uint32))
+rudlayog_hint = _call("rudlayog_hint", *_text, *_text, *_text, ctypes.POINTER(RefusedAt), *_out)
+rudlayog_words = _call("rudlayog_words", ctypes.POINTER(RefusedAt), *_out)
+rudlayog_version = _call("rudlayog_version", *_out)
 
 _handle = ctypes.POINTER(Handle)
 _moment = ctypes.c_uint64
-mm_memory_open = _call("mm_memory_open", _handle, *_text)
-mm_memory_offer = _call("mm_memory_offer", _handle, *_text, _moment, *_text, ctypes.POINTER(FateTold))
-mm_memory_record = _call("mm_memory_record", _handle, _moment, *_text, ctypes.POINTER(TallyTold))
-mm_memory_apply = _call("mm_memory_apply", _handle, _moment, *_text, *_out)
-mm_memory_report = _call("mm_memory_report", _handle, *_out)
-mm_memory_next = _call("mm_memory_next", _handle, *_text, *_out, ctypes.POINTER(ctypes.c_uint64))
-mm_memory_state = _call("mm_memory_state", _handle, *_text, ctypes.POINTER(StateTold))
-mm_memory_waiting = _call("mm_memory_waiting", _handle, ctypes.POINTER(ctypes.c_uint64))
-mm_memory_close = _calls.mm_memory_close
-mm_memory_close.restype = None
-mm_memory_close.argtypes = [_handle]
+rudlayog_memory_open = _call("rudlayog_memory_open", _handle, *_text)
+rudlayog_memory_offer = _call("rudlayog_memory_offer", _handle, *_text, _moment, *_text, ctypes.POINTER(FateTold))
+rudlayog_memory_record = _call("rudlayog_memory_record", _handle, _moment, *_text, ctypes.POINTER(TallyTold))
+rudlayog_memory_apply = _call("rudlayog_memory_apply", _handle, _moment, *_text, *_out)
+rudlayog_memory_report = _call("rudlayog_memory_report", _handle, *_out)
+rudlayog_memory_next = _call("rudlayog_memory_next", _handle, *_text, *_out, ctypes.POINTER(ctypes.c_uint64))
+rudlayog_memory_state = _call("rudlayog_memory_state", _handle, *_text, ctypes.POINTER(StateTold))
+rudlayog_memory_waiting = _call("rudlayog_memory_waiting", _handle, ctypes.POINTER(ctypes.c_uint64))
+rudlayog_memory_close = _calls.rudlayog_memory_close
+rudlayog_memory_close.restype = None
+rudlayog_memory_close.argtypes = [_handle]
 
 # Buffers that no call uses. A call takes one out, and no two have the same: not in threads, and not where a signal handler makes a call
 # while another one has not ended.
@@ -157,7 +157,7 @@ def told(call: Callable[..., None], *given: object, texts: tuple[bytes, ...] = (
 
 
 def _words(refused: RefusedAt) -> str:
-    return told(mm_words, refused).decode("ascii")
+    return told(rudlayog_words, refused).decode("ascii")
 
 
 def refusal_of(refused: RefusedAt, found: str | None = None) -> Refusal:
@@ -167,7 +167,7 @@ def refusal_of(refused: RefusedAt, found: str | None = None) -> Refusal:
 
 def refusal_in(refused: RefusedAt, *texts: bytes) -> Refusal:
     """The refusal that is told of these texts, a setup, a forecast and a plan, with the hint on what is found in them."""
-    found = told(mm_hint, refused, texts=(*texts, b"", b"", b"")[:3]) if texts and refused.number != NO_MEMORY else b""
+    found = told(rudlayog_hint, refused, texts=(*texts, b"", b"", b"")[:3]) if texts and refused.number != NO_MEMORY else b""
     return refusal_of(refused, found.decode("ascii") or None)
 
 
@@ -176,7 +176,7 @@ def accept(*texts: bytes) -> None:
     accepts the library refuses the empty text that it reads next."""
     setup, forecast, plan = (*texts, b"", b"")[:3]
     room, verdict, answer = ctypes.create_string_buffer(LINE_ROOM), VerdictTold(), Answer()
-    mm_check(setup, len(setup), forecast, len(forecast), plan, len(plan), room, len(room), verdict, answer)
+    rudlayog_check(setup, len(setup), forecast, len(forecast), plan, len(plan), room, len(room), verdict, answer)
     if answer.status == REFUSED and answer.refused.number != {1: HEADER, 2: PLAN_TEXT}.get(len(texts)):
         raise refusal_in(answer.refused, *texts)
 

@@ -92,13 +92,13 @@ def plan(setup: SetupLike, forecast: ForecastLike) -> Plan:
     A setup is a text (octets, a str of several lines, or a path), a `Setup`, a dict of its tables, or a table of stores. A forecast is a
     text, a `Forecast`, or a table: dicts with `window` and the stores, a dict of columns, or a data frame. Raises `Refusal`."""
     problem = texts(setup=setup, forecast=forecast)
-    return Plan._made(_library.told(_library.mm_plan, texts=problem), problem)
+    return Plan._made(_library.told(_library.rudlayog_plan, texts=problem), problem)
 
 
 def check(setup: SetupLike, forecast: ForecastLike, plan: PlanLike) -> Verdict:
     """The verdict on a plan, whoever made it: a text, a `Plan`, or a table of dumps. Raises `Refusal`."""
     given, told = texts(setup=setup, forecast=forecast, plan=plan), _library.VerdictTold()
-    line = _library.told(_library.mm_check, texts=given, more=(told,)).decode("ascii").rstrip("\n")
+    line = _library.told(_library.rudlayog_check, texts=given, more=(told,)).decode("ascii").rstrip("\n")
     kind = KINDS[told.kind]
     return Verdict(
         kind,
@@ -112,18 +112,18 @@ def check(setup: SetupLike, forecast: ForecastLike, plan: PlanLike) -> Verdict:
 
 def chart(setup: SetupLike, forecast: ForecastLike, plan: PlanLike) -> Chart:
     """The chart of a plan. Raises `Refusal`."""
-    return Chart(_library.told(_library.mm_chart, texts=texts(setup=setup, forecast=forecast, plan=plan)).decode("utf-8"))
+    return Chart(_library.told(_library.rudlayog_chart, texts=texts(setup=setup, forecast=forecast, plan=plan)).decode("utf-8"))
 
 
 def table(setup: SetupLike, forecast: ForecastLike, plan: PlanLike) -> PlanTable:
     """The table of a plan: what each step does to each store. Raises `Refusal`."""
-    return PlanTable(_library.told(_library.mm_table, texts=texts(setup=setup, forecast=forecast, plan=plan)).decode("ascii"))
+    return PlanTable(_library.told(_library.rudlayog_table, texts=texts(setup=setup, forecast=forecast, plan=plan)).decode("ascii"))
 
 
 def read(packets: Text | Iterable[Packet]) -> Replies:
     """What requests and reports are, in words: packets, or a text with one in hexadecimal digits a line, as that of `Replies`."""
     outcome = ctypes.c_uint32()
-    text = _library.told(_library.mm_read, texts=(request_octets(packets),), more=(outcome,))
+    text = _library.told(_library.rudlayog_read, texts=(request_octets(packets),), more=(outcome,))
     return Replies(outcome.value == 1, text.decode("ascii"))
 
 
@@ -131,13 +131,13 @@ def ask(setup: SetupLike, requests: Text | Iterable[Packet]) -> Replies:
     """The lines that answer telecommands of the storage service: a text with one in hexadecimal digits a line, or the packets. Raises
     `Refusal` where the setup is refused; a line that is refused is told in the replies."""
     outcome = ctypes.c_uint32()
-    text = _library.told(_library.mm_ask, texts=(*texts(setup=setup), request_octets(requests)), more=(outcome,))
+    text = _library.told(_library.rudlayog_ask, texts=(*texts(setup=setup), request_octets(requests)), more=(outcome,))
     return Replies(outcome.value == 1, text.decode("ascii"))
 
 
 def version() -> str:
     """The version of the library."""
-    return _library.told(_library.mm_version).decode("ascii")
+    return _library.told(_library.rudlayog_version).decode("ascii")
 
 
 _KINDS: dict[str, tuple[type, Callable[[Any], bytes]]] = {

@@ -82,7 +82,7 @@ class Memory:
         # A signal handler runs between two calls of its thread, and may find the lock held by it.
         self._lock = threading.RLock()
         (text,) = texts(setup=setup)
-        self._tell(_library.mm_memory_open, text, len(text), setup=text)
+        self._tell(_library.rudlayog_memory_open, text, len(text), setup=text)
 
     def _tell(self, call: Callable[..., None], *given: object, setup: bytes = b"", packet: bytes = b"") -> _library.Answer:
         """The answer to a call, which was given this setup or this packet."""
@@ -98,28 +98,28 @@ class Memory:
     def offer(self, store: str, now: SupportsIndex, packet: Packet) -> Fate:
         """Offers a packet to the store of this identifier."""
         name, ticks, octets, told = _id_octets(store), _library.moment(now, "now"), packet_octets(packet), _library.FateTold()
-        self._tell(_library.mm_memory_offer, name, len(name), ticks, octets, len(octets), told, packet=octets)
+        self._tell(_library.rudlayog_memory_offer, name, len(name), ticks, octets, len(octets), told, packet=octets)
         kind = FATES[told.kind]
         return Fate(kind, None if kind == "lost" else told.time)
 
     def record(self, now: SupportsIndex, packet: Packet) -> Tally:
         """Offers a packet to each store that its report type is routed to."""
         ticks, octets, told = _library.moment(now, "now"), packet_octets(packet), _library.TallyTold()
-        self._tell(_library.mm_memory_record, ticks, octets, len(octets), told, packet=octets)
+        self._tell(_library.rudlayog_memory_record, ticks, octets, len(octets), told, packet=octets)
         return Tally(told.kept, told.lost, told.refused)
 
     def apply(self, now: SupportsIndex, request: Packet) -> tuple[Refusal | None, ...]:
         """Applies a telecommand of the storage service. There is one answer for each of its instructions, in order: `None` where it is carried
         out, and else why it is refused. The reports on the request wait for `reports`."""
         ticks, octets, each = _library.moment(now, "now"), packet_octets(request, "request"), (ctypes.c_uint8 * _library.INSTRUCTIONS)()
-        answer = self._tell(_library.mm_memory_apply, ticks, octets, len(octets), each, len(each), packet=octets)
+        answer = self._tell(_library.rudlayog_memory_apply, ticks, octets, len(octets), each, len(each), packet=octets)
         return tuple(_refusal(code) for code in each[: answer.length])
 
     def reports(self) -> Iterator[bytes]:
         """The packets of the reports that wait, the oldest first. A packet that was given waits no more."""
         room = ctypes.create_string_buffer(_library.PACKET)
         while True:
-            answer = self._tell(_library.mm_memory_report, room, len(room))
+            answer = self._tell(_library.rudlayog_memory_report, room, len(room))
             if answer.status == _library.END:
                 return
             yield ctypes.string_at(room, answer.length)
@@ -129,7 +129,7 @@ class Memory:
         is over then."""
         name, time = _id_octets(store), ctypes.c_uint64()
         room = ctypes.create_string_buffer(_library.BLOCK)
-        answer = self._tell(_library.mm_memory_next, name, len(name), room, len(room), time)
+        answer = self._tell(_library.rudlayog_memory_next, name, len(name), room, len(room), time)
         return None if answer.status == _library.END else (time.value, ctypes.string_at(room, answer.length))
 
     def retrieved(self, store: str) -> Iterator[tuple[int, bytes]]:
@@ -141,7 +141,7 @@ class Memory:
     def state(self, store: str) -> StoreState:
         """What the store of this identifier holds and has lost."""
         name, told = _id_octets(store), _library.StateTold()
-        self._tell(_library.mm_memory_state, name, len(name), told)
+        self._tell(_library.rudlayog_memory_state, name, len(name), told)
         return StoreState(
             STORE_KINDS[told.kind],
             told.size,
@@ -158,13 +158,13 @@ class Memory:
     def waiting(self) -> int:
         """How many reports wait."""
         told = ctypes.c_uint64()
-        self._tell(_library.mm_memory_waiting, told)
+        self._tell(_library.rudlayog_memory_waiting, told)
         return told.value
 
     def close(self) -> None:
         """Closes the memory, and frees what it held. It may be closed again."""
         with self._lock:
-            _library.mm_memory_close(self._handle)
+            _library.rudlayog_memory_close(self._handle)
 
     def __enter__(self) -> Memory:
         return self

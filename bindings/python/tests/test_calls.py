@@ -183,11 +183,11 @@ class Refusing(unittest.TestCase):
 
     def test_words_of_every_refusal(self):
         for number in range(54):
-            words = _library.told(_library.mm_words, _library.RefusedAt(number=number)).decode()
+            words = _library.told(_library.rudlayog_words, _library.RefusedAt(number=number)).decode()
             self.assertTrue(words.startswith(f"{number} "), words)
-        self.assertEqual(_library.told(_library.mm_words, _library.RefusedAt(number=54)), b"")
-        self.assertEqual(_library.told(_library.mm_words, _library.RefusedAt(number=1, place=6)), b"")
-        self.assertEqual(_library.told(_library.mm_words, _library.RefusedAt(number=1, place=5, name=20)), b"")
+        self.assertEqual(_library.told(_library.rudlayog_words, _library.RefusedAt(number=54)), b"")
+        self.assertEqual(_library.told(_library.rudlayog_words, _library.RefusedAt(number=1, place=6)), b"")
+        self.assertEqual(_library.told(_library.rudlayog_words, _library.RefusedAt(number=1, place=5, name=20)), b"")
 
 
 class Asking(unittest.TestCase):
@@ -226,7 +226,7 @@ class Buffers(unittest.TestCase):
     def call(self, room):
         setup, forecast = SETUP.encode(), FORECAST.encode()
         out, answer = ctypes.create_string_buffer(b"\xa5" * 1024, 1024), _library.Answer()
-        _library.mm_plan(setup, len(setup), forecast, len(forecast), out, room, answer)
+        _library.rudlayog_plan(setup, len(setup), forecast, len(forecast), out, room, answer)
         return out.raw, answer
 
     def test_exactly_those_octets_or_none(self):
@@ -242,7 +242,7 @@ class Buffers(unittest.TestCase):
     def test_a_text_longer_than_the_buffer(self):
         setup, forecast = SETUP.encode(), FORECAST.encode()
         _library._rooms[:] = [ctypes.create_string_buffer(16)]
-        text = _library.told(_library.mm_plan, setup, len(setup), forecast, len(forecast))
+        text = _library.told(_library.rudlayog_plan, setup, len(setup), forecast, len(forecast))
         self.assertEqual(text, bytes(plan(SETUP, FORECAST)))
 
     def test_many_stores_and_steps(self):
@@ -274,7 +274,7 @@ class Buffers(unittest.TestCase):
 
     def test_constants_of_the_header(self):
         header = (Path(__file__).resolve().parents[2] / "c" / "rudlayog.h").read_text()
-        told = {name: int(value) for name, value in re.findall(r"\bMM_(\w+) = (\d+)", header)}
+        told = {name: int(value) for name, value in re.findall(r"\bRUDLAYOG_(\w+) = (\d+)", header)}
         for name in ("WRITTEN", "TOO_SMALL", "REFUSED", "CLOSED", "OPEN", "END", "PLAN_ROOM", "LINE_ROOM", "INSTRUCTIONS", "BLOCK", "PACKET", "DONE", "ROW"):
             self.assertEqual(getattr(_library, name), told[name], name)
         for name in ("NO_MEMORY", "SHORT", "HEADER", "STEP_NUMBER", "PLAN_TEXT", "HEX_LINE"):
@@ -284,7 +284,7 @@ class Buffers(unittest.TestCase):
         for number in range(54):
             for place in range(6):
                 refused = _library.RefusedAt(number=number, place=place, name=6, **far)
-                self.assertLessEqual(len(_library.told(_library.mm_words, refused)), told["WORDS_ROOM"])
+                self.assertLessEqual(len(_library.told(_library.rudlayog_words, refused)), told["WORDS_ROOM"])
 
     def test_version(self):
         self.assertEqual(rudlayog.version(), rudlayog.__version__)

@@ -31,7 +31,7 @@ def least_times(*calls: Callable[[], object]) -> list[float]:
 def c_call(setup: bytes, forecast: bytes) -> Callable[[], object]:
     """The call in C."""
     room, answer = ctypes.create_string_buffer(_library.PLAN_ROOM), _library.Answer()
-    return lambda: _library.mm_plan(setup, len(setup), forecast, len(forecast), room, len(room), answer)
+    return lambda: _library.rudlayog_plan(setup, len(setup), forecast, len(forecast), room, len(room), answer)
 
 
 def windows_of(base: Forecast, variant: int) -> list[int]:

@@ -20,7 +20,7 @@ fn code_of_outcome(outcome: Outcome) -> u32
 /// The lines that answer requests to the memory of a setup, as `ask_bytes` of `mm_ask` gives them; and in `outcome` 1 where all was
 /// done that they asked, 2 where something was refused, and 0 where the call is refused.
 #[unsafe(no_mangle)]
-pub extern "C" fn mm_ask(
+pub extern "C" fn rudlayog_ask(
     alloc: Global,
     setup: &[u8],
     requests: &[u8],
@@ -45,7 +45,7 @@ pub extern "C" fn mm_ask(
 /// What the packets of a text are, in words, as `read_bytes` of `mm_ask` says it; and in `outcome` 1 where no line was refused, 2 where one
 /// was, and 0 where the call is refused, out of memory.
 #[unsafe(no_mangle)]
-pub extern "C" fn mm_read(
+pub extern "C" fn rudlayog_read(
     alloc: Global,
     packets: &[u8],
     out: &mut [u8],

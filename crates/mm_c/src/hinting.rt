@@ -26,7 +26,7 @@ fn found_in(alloc: Global, texts: Texts<'_>, refused: &RefusedAt) -> Result<Vec<
 /// What is found in a setup, a forecast and a plan text of which a call was refused so: the hint that the program prints, in one line without
 /// its end. There is no octet where no more can be said. A text that the call did not have is empty.
 #[unsafe(no_mangle)]
-pub extern "C" fn mm_hint(
+pub extern "C" fn rudlayog_hint(
     alloc: Global,
     setup: &[u8],
     forecast: &[u8],

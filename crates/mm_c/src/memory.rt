@@ -104,7 +104,7 @@ fn opened(alloc: Global, setup: &[u8]) -> Result<Box<Service>, mm_problem::Fault
 
 /// Opens a closed handle: it then holds the memory of a setup. An open one stays as it is.
 #[unsafe(no_mangle)]
-pub extern "C" fn mm_memory_open(
+pub extern "C" fn rudlayog_memory_open(
     alloc: Global,
     memory: &mut MemoryHandle,
     setup: &[u8],
@@ -127,7 +127,7 @@ pub extern "C" fn mm_memory_open(
 
 /// Offers a packet at a moment, in ticks, to the store with an identifier, as `Service::offer` of `mm_service` does.
 #[unsafe(no_mangle)]
-pub extern "C" fn mm_memory_offer(
+pub extern "C" fn rudlayog_memory_offer(
     alloc: Global,
     memory: &mut MemoryHandle,
     id: &[u8],
@@ -157,7 +157,7 @@ pub extern "C" fn mm_memory_offer(
 
 /// Offers a packet at a moment, in ticks, to each store that its report type is routed to, as `Service::record` of `mm_service` does.
 #[unsafe(no_mangle)]
-pub extern "C" fn mm_memory_record(
+pub extern "C" fn rudlayog_memory_record(
     alloc: Global,
     memory: &mut MemoryHandle,
     now: u64,
@@ -187,7 +187,7 @@ pub extern "C" fn mm_memory_record(
 /// Applies a request at a moment, in ticks, as `Service::apply` of `mm_service` does. A buffer of `INSTRUCTIONS` octets has room for the codes
 /// of each request's answers; with less nothing is done.
 #[unsafe(no_mangle)]
-pub extern "C" fn mm_memory_apply(
+pub extern "C" fn rudlayog_memory_apply(
     alloc: Global,
     memory: &mut MemoryHandle,
     now: u64,
@@ -216,7 +216,7 @@ pub extern "C" fn mm_memory_apply(
 
 /// Gives the report that waits longest, as `Service::report` of `mm_service` does.
 #[unsafe(no_mangle)]
-pub extern "C" fn mm_memory_report(
+pub extern "C" fn rudlayog_memory_report(
     alloc: Global,
     memory: &mut MemoryHandle,
     out: &mut [u8],
@@ -242,7 +242,7 @@ pub extern "C" fn mm_memory_report(
 /// Gives the next packet of the retrieval from the store with an identifier, as `Service::next` of `mm_service` does. A buffer of `BLOCK`
 /// octets has room for each packet; with less nothing is done.
 #[unsafe(no_mangle)]
-pub extern "C" fn mm_memory_next(
+pub extern "C" fn rudlayog_memory_next(
     alloc: Global,
     memory: &mut MemoryHandle,
     id: &[u8],
@@ -276,7 +276,7 @@ pub extern "C" fn mm_memory_next(
 
 /// Closes a handle, and frees what it held. A closed one stays closed.
 #[unsafe(no_mangle)]
-pub extern "C" fn mm_memory_close(alloc: Global, memory: &mut MemoryHandle)
+pub extern "C" fn rudlayog_memory_close(alloc: Global, memory: &mut MemoryHandle)
     ensures closed { memory.new.loose.service ≡ None }
 {
     if memory.is_open {

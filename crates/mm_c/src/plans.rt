@@ -28,7 +28,7 @@ fn plan_told(alloc: Global, setup: &[u8], forecast: &[u8], out: &mut [u8]) -> An
 /// `out`, if there is room for all of it; otherwise `out` stays as it was, and so it does where the call is refused. `PLAN_ROOM` octets
 /// are never too few.
 #[unsafe(no_mangle)]
-pub extern "C" fn mm_plan(
+pub extern "C" fn rudlayog_plan(
     alloc: Global,
     setup: &[u8],
     forecast: &[u8],
@@ -44,7 +44,7 @@ pub extern "C" fn mm_plan(
 /// The verdict on a plan text for a setup and a forecast, as `check_bytes` of `mm_cut` gives it: in `verdict`, and as its line in
 /// `out`. Where the call is refused each field of `verdict` is 0.
 #[unsafe(no_mangle)]
-pub extern "C" fn mm_check(
+pub extern "C" fn rudlayog_check(
     alloc: Global,
     setup: &[u8],
     forecast: &[u8],
@@ -71,7 +71,7 @@ pub extern "C" fn mm_check(
 /// The chart of a plan text for a setup and a forecast, as `chart_bytes` of `mm_chart` draws it: a document of Scalable Vector Graphics
 /// (SVG) 1.1 by itself.
 #[unsafe(no_mangle)]
-pub extern "C" fn mm_chart(
+pub extern "C" fn rudlayog_chart(
     alloc: Global,
     setup: &[u8],
     forecast: &[u8],
@@ -91,7 +91,7 @@ pub extern "C" fn mm_chart(
 /// The table of a plan text for a setup and a forecast, as `table_bytes` of `mm_chart` makes it: comma separated values, which say what each
 /// step does to each store.
 #[unsafe(no_mangle)]
-pub extern "C" fn mm_table(
+pub extern "C" fn rudlayog_table(
     alloc: Global,
     setup: &[u8],
     forecast: &[u8],

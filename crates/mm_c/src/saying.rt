@@ -7,12 +7,17 @@ use mm_told::{Answer, Reason, RefusedAt, tell_text, words_of};
 use std::alloc::Global;
 
 /// The version of the library: that of its calls and of the texts that they take and give.
-pub const VERSION: &[u8] = b"0.3.0";
+pub const VERSION: &[u8] = b"0.4.0";
 
 /// The words of a refusal for people, in one line without its end: its number, its name and its fields, what was expected, and what to
 /// do. There is no octet where no refusal has these codes.
 #[unsafe(no_mangle)]
-pub extern "C" fn mm_words(alloc: Global, refused: &RefusedAt, out: &mut [u8], answer: &mut Answer)
+pub extern "C" fn rudlayog_words(
+    alloc: Global,
+    refused: &RefusedAt,
+    out: &mut [u8],
+    answer: &mut Answer,
+)
     ensures told { Tells (SaysTold refused.now) IsNoMemory out.old out.new answer.new }
 {
     *answer = match words_of(alloc, refused) {
@@ -23,7 +28,7 @@ pub extern "C" fn mm_words(alloc: Global, refused: &RefusedAt, out: &mut [u8], a
 
 /// The version of the library.
 #[unsafe(no_mangle)]
-pub extern "C" fn mm_version(out: &mut [u8], answer: &mut Answer)
+pub extern "C" fn rudlayog_version(out: &mut [u8], answer: &mut Answer)
     ensures told { TellsText VERSION.now out.old out.new answer.new }
 {
     *answer = tell_text(VERSION, out);

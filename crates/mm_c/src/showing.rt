@@ -107,7 +107,7 @@ impl StoreTold {
 
 /// Tells what the store with an identifier holds and has lost, as `Service::show` of `mm_service` does.
 #[unsafe(no_mangle)]
-pub extern "C" fn mm_memory_state(
+pub extern "C" fn rudlayog_memory_state(
     alloc: Global,
     memory: &mut MemoryHandle,
     id: &[u8],
@@ -135,7 +135,7 @@ pub extern "C" fn mm_memory_state(
 
 /// Tells how many reports wait, as `Service::waiting` of `mm_service` does.
 #[unsafe(no_mangle)]
-pub extern "C" fn mm_memory_waiting(
+pub extern "C" fn rudlayog_memory_waiting(
     alloc: Global,
     memory: &mut MemoryHandle,
     reports: &mut u64,

@@ -76,7 +76,7 @@ fn version_unwritten<R: Abort + AllocGlobal + Threads + Wait + Sync>(rt: &R) {
 
 fn tells_version<R: Abort + AllocGlobal + Threads + Wait + Sync>(rt: &R, line: &str) {
     let answer = told(rt, &[line]);
-    let version = "mm_tool 0.3.0\nrattle-kit-";
+    let version = "mm_tool 0.4.0\nrattle-kit-";
     let is_version = answer.out.as_str().starts_with(version);
     let is_quiet = answer.status == 0 && answer.err.is_empty();
     holds(rt, line, &answer, is_version && is_quiet);

@@ -1,5 +1,5 @@
 -- `put` gives the handle what the parts owned.
-use Rattle.std.proofs.Common.{◌≡◌, List, [], ◌∷◌, ◌++◌, refl, sym, ap, ◌∙◌, Option, Some, None}
+use Rattle.std.proofs.Common.{◌≡◌, List, [], ◌∷◌, ◌++◌, refl, Option, Some, None}
 use Rattle.std.proofs.raw_atomic.Walks.{proved_at}
 use base.Logic.{SProp}
 use base.Fraction.{full_share}
@@ -8,7 +8,7 @@ use mir.Val.{Val, vptr, vunit, vstruct, vcons, vnil}
 use prog.Wp.{WpFn}
 use contract.Monad.{fact}
 use contract.Running.{tables}
-use types.Kit.{‵, raw, ◌⊛◌, prop, ◌$◌, ◌∵◌, !, qed, done, move, keep, split, join, fsplit, fsplit3, fjoin, rewrite, regoal, suffices, frame, group, feq_i}
+use types.Kit.{‵, raw, ◌⊛◌, prop, ◌$◌, ◌∵◌, !, qed, done, move, keep, split, join, fsplit, fsplit3, rewrite, regoal, suffices, frame, group, feq_i}
 use types.Run.{enter, of_opd, unit_lit, stop, fld, returns, assigns}
 use types.ByLocal.{alloc_all, pass_all, free_all, look_at, get, get_in, through, sets}
 use types.Part.{whole, sub, store_in}

@@ -1,5 +1,5 @@
 use Rattle.mm_c.proofs.Small.{not_applied}
-use Rattle.mm_c.proofs.memory.mm_memory_apply.Goals as goal
+use Rattle.mm_c.proofs.memory.rudlayog_memory_apply.Goals as goal
 
 pub returns-then-each-lt-INSTRUCTIONS : goal.returns-then-each-lt-INSTRUCTIONS
 returns-then-each-lt-INSTRUCTIONS c =
