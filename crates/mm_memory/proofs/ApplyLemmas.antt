@@ -1,6 +1,6 @@
 -- What changes of the list of stores leave, and the outcomes that they have.
 use Rattle.std.proofs.Common.{◌≡◌, ◌≢◌, inl, inr, ℕ, zero, suc, ◌+◌, ◌<◌, Bool, true, false, cond, not, List, [], ◌∷◌, ◌++◌, length, get_or, take, refl, sym, subst, ap, ◌∙◌, arith}
-use Rattle.std.specs.Prelude.{if◌then◌else◌, slice_get, Option, Some, None, Err, AllPairs}
+use Rattle.std.specs.Prelude.{if◌then◌else◌, map, slice_get, Option, Some, None, Err, AllPairs}
 use Rattle.std.specs.List.{find}
 use Rattle.std.proofs.Math.ListN.{set}
 use Rattle.std.proofs.lemmas.Bool.{false≢true}
@@ -14,6 +14,7 @@ use Rattle.mm_base.specs.declared.rows.RouteRow.{RouteRow}
 use Rattle.mm_memory.specs.declared.answer.Answer.{Answer}
 use Rattle.mm_memory.specs.declared.fault.Fault.TheVariants.{NoMemory}
 use Rattle.mm_desk.specs.declared.held.Held.{Held}
+use Rattle.mm_memory.specs.Accounts.{applies, Turn, AreTurns, calls_of, after_turns}
 use Rattle.mm_memory.specs.Acting.{Outcome}
 use Rattle.mm_memory.specs.Applying.{ComesUnlessNoMemory, Applies, AppliesEach, changed, without, outcome_told}
 use Rattle.mm_memory.specs.Instruction.{Parsed}
@@ -87,3 +88,12 @@ applies_one_more is k d m next left answers more answer outcome inside grown tol
     let Q : List Parsed → Type 0 = λ l. AppliesEach l m (answers ++ answer ∷ []) left in
     let R : List Answer → Type 0 = λ a. AppliesEach (take (k + 1) is) m a left in
     subst R (sym grown) (subst Q (sym (take_more is k d inside)) (AppliesEach-push (take k is) i m next left answers answer before (subst P (sym told) one)))
+
+-- a request that is applied is a call for each of its instructions
+pub requested : (is : List Parsed) (m n : Holdings) (answers : List Answer) → AppliesEach is m answers n → (turns : List Turn) × (calls_of turns ≡ map applies is) × AreTurns m turns × (n ≡ after_turns m turns)
+requested [] m n [] same = ([], refl, tt, same)
+requested [] m n (answer ∷ answers) each = absurd each
+requested (i ∷ is) m n [] each = absurd each
+requested (i ∷ is) m n (answer ∷ answers) each =
+    let rest = requested is each.0 n answers each.2 in
+    (record { call = applies i; left = each.0 } ∷ rest.0, ap (λ calls. applies i ∷ calls) rest.1, ((outcome_told answer, each.1), rest.2), rest.3)

@@ -6,3 +6,6 @@ pub mod LawLemmas
 pub mod LendingLemmas
 pub mod RecordLemmas
 pub mod RoutingLemmas
+pub mod TurnLemmas
+pub mod AccountLemmas
+pub mod GivenLemmas

@@ -11,3 +11,4 @@ pub mod Laws
 pub mod Tallies
 pub mod Recording
 pub mod Routing
+pub mod Accounts
