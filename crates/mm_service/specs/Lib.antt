@@ -10,3 +10,4 @@ pub mod Answering
 pub mod Applying
 pub mod Reporting
 pub mod Showing
+pub mod Accounts
