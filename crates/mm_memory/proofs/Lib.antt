@@ -9,3 +9,4 @@ pub mod RoutingLemmas
 pub mod TurnLemmas
 pub mod AccountLemmas
 pub mod GivenLemmas
+pub mod TextLemmas

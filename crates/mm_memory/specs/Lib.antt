@@ -1,6 +1,7 @@
 pub use Rattle.mm_control.specs.Routes
 pub use Rattle.mm_desk.specs.Machine
 pub mod Holdings
+pub mod Naming
 pub mod Lending
 pub mod Fault
 pub mod Instruction

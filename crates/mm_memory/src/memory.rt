@@ -3,7 +3,7 @@ ghost use Rattle.std.specs.Prelude.{◌≡◌, [], Some, IfOk, slice_get};
 ghost use Rattle.std.specs.Option.{option_copied, option_copied_mut, option_map};
 ghost use Rattle.mm_memory.specs.Holdings.{AreHeld, memory_of, store_of, state_of};
 
-use crate::places::{place_of, store_of};
+use crate::places::{place_named, place_of, store_of};
 use crate::setup::{control_of, stores_of};
 use mm_base::{NoMemory, StoreId};
 use mm_control::ControlTable;
@@ -32,8 +32,10 @@ impl Model for Memory {
 
 impl Memory {
     ghost use Rattle.std.specs.Borrow.{sem};
+    ghost use Rattle.mm_base.specs.Id.{field_of};
     ghost use Rattle.mm_desk.specs.Machine.{State};
     ghost use Rattle.mm_memory.specs.Lending.{LendsState, with_state};
+    ghost use Rattle.mm_memory.specs.Naming.{state_of_text};
 
     /// The memory of a setup: its stores in order, empty, with their storage on, and its routes.
     pub fn of_setup(alloc: Global, setup: &Setup) -> Result<Memory, NoMemory>
@@ -61,6 +63,18 @@ impl Memory {
         ensures same { (s : State) → state_of id.now self.old ≡ Some s → with_state id.now self.old s ≡ self.old }
     {
         let place = place_of(&self.stores, id)?;
+        let held = self.stores.get_mut(place)?;
+        Some(&mut held.state)
+    }
+
+    /// The state of the store whose identifier has this text, to be changed; none where no identifier or no store has it.
+    pub fn named_mut(&mut self, text: &[u8]) -> Option<&mut StoreState>
+        ensures* lends { sem 𝓛 (LendsState self.entry (field_of text.now) result) }
+        ensures state { option_copied_mut result ≡ state_of_text text.now self.old }
+        // The memory is as it was where the state is left as it was.
+        ensures same { (s : State) → state_of_text text.now self.old ≡ Some s → with_state (field_of text.now) self.old s ≡ self.old }
+    {
+        let place = place_named(&self.stores, text)?;
         let held = self.stores.get_mut(place)?;
         Some(&mut held.state)
     }

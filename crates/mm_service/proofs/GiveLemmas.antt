@@ -1,15 +1,20 @@
 -- What a call for the next packet of a retrieval gives and leaves.
-use Rattle.std.proofs.Common.{◌≡◌, ℕ, List, refl, sym, subst, ap, ◌∙◌}
-use Rattle.std.specs.Prelude.{Option, Some, None, Result, Ok, Err, OnErr}
+use Rattle.std.proofs.Common.{◌≡◌, ℕ, Bool, true, false, List, refl, sym, subst, ap, ◌∙◌}
+use Rattle.std.specs.Prelude.{Option, Some, None, Result, Ok, Err, OnErr, if◌then◌else◌}
+use Rattle.std.specs.Option.{option_map}
+use Rattle.std.proofs.lemmas.Option.{none-some}
+use Rattle.mm_base.specs.Id.{is_id_text, field_of}
 use Rattle.mm_base.specs.Reading.{◌>>=◌}
 use Rattle.mm_store.specs.declared.stored.Stored.{Stored}
 use Rattle.mm_desk.specs.Machine.{State, next}
-use Rattle.mm_memory.specs.Holdings.{state_of}
+use Rattle.mm_desk.specs.declared.held.Held.{Held}
+use Rattle.mm_memory.specs.Holdings.{Holdings, state_of, store_of}
+use Rattle.mm_memory.specs.Naming.{state_of_text}
 use Rattle.mm_service.specs.declared.fault.Fault.{Fault}
-use Rattle.mm_service.specs.declared.fault.Fault.TheVariants.{NoSuchStore}
+use Rattle.mm_service.specs.declared.fault.Fault.TheVariants.{BadId, NoSuchStore}
 use Rattle.mm_service.specs.declared.giving.Given.{Given}
 use Rattle.mm_service.specs.Giving.{Tells, next_of, first_of, Leaves, GivesNext, given_of}
-use Rattle.mm_service.specs.Reading.{id_tested}
+use Rattle.mm_service.specs.Reading.{id_tested, missing}
 use Rattle.mm_service.specs.Serving.{Serving, state_named, with_store}
 
 -- what is given, and the service that is left
@@ -58,3 +63,27 @@ gives_unnamed id field s old is_field is_none =
       tells = subst (λ (x : Both). Tells (first_of x) (Err NoSuchStore) old old) (sym whole) (refl, refl);
       leaves = subst (λ (x : Both). Leaves x s s) (sym whole) refl;
     }
+
+-- the state of the store that a text names, where the text passes this test
+abbrev by_test : List ℕ → Holdings → Bool → Option State
+by_test text memory t = option_map (λ (h : Held). h.state) (if t then store_of (field_of text) memory.stores else None)
+
+-- a text that names a store is an identifier's, and the store is the one with its field
+pub named_state : (text : List ℕ) (memory : Holdings) (state : State) → state_of_text text memory ≡ Some state → (id_tested text ≡ Ok (field_of text)) × (state_of (field_of text) memory ≡ Some state)
+named_state text memory state = tested (is_id_text text) refl where
+  tested : (t : Bool) → is_id_text text ≡ t → by_test text memory t ≡ Some state → (id_tested text ≡ Ok (field_of text)) × (state_of (field_of text) memory ≡ Some state)
+  tested true e found = (rw e refl, found)
+  tested false e found = absurd (none-some state found)
+
+-- no store is named by the text
+pub gives_missing : (id : List ℕ) (s : Serving) (old : List ℕ) → state_of_text id s.memory ≡ None → GivesNext id (Err (missing id)) s s old old
+gives_missing id s old = tested (is_id_text id) refl where
+  tested : (t : Bool) → is_id_text id ≡ t → by_test id s.memory t ≡ None → GivesNext id (Err (if t then NoSuchStore else BadId)) s s old old
+  tested true e none = gives_unnamed id (field_of id) s old (rw e refl) none
+  tested false e none =
+      let refused : id_tested id ≡ Err BadId = rw e refl in
+      let whole : next_of id s ≡ Err BadId = ap (λ (x : Result (List ℕ) Fault). x >>= from_field s) refused in
+      record {
+        tells = subst (λ (x : Both). Tells (first_of x) (Err BadId) old old) (sym whole) (refl, refl);
+        leaves = subst (λ (x : Both). Leaves x s s) (sym whole) refl;
+      }

@@ -8,12 +8,16 @@ use Rattle.mm_packet.specs.declared.block.TheConstants.{BLOCK}
 use Rattle.mm_ask.specs.Line.{packet_alone, request_alone}
 use Rattle.mm_ask.specs.declared.fault.LineFault.{LineFault}
 use Rattle.mm_service.specs.declared.fault.Fault.{Fault}
-use Rattle.mm_service.specs.declared.fault.Fault.TheVariants.{BadId, TooLong}
+use Rattle.mm_service.specs.declared.fault.Fault.TheVariants.{BadId, NoSuchStore, TooLong}
 use Rattle.mm_service.specs.Fault.{of_octets}
 
 -- the identifier that a text is, padded to eight octets
 abbrev pub id_tested : List ℕ → Result (List ℕ) Fault
 id_tested text = if is_id_text text then Ok (field_of text) else Err BadId
+
+-- why no store has an identifier with this text
+abbrev pub missing : List ℕ → Fault
+missing text = if is_id_text text then NoSuchStore else BadId
 
 -- what octets say, or their fault as one of a call
 abbrev pub said : {A : Type 0} → Result A LineFault → Result A Fault

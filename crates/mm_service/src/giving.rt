@@ -5,7 +5,7 @@ ghost use Rattle.mm_desk.specs.Machine.{next};
 ghost use Rattle.mm_service.specs.Giving.{Tells, GivesNext, given_of};
 
 use crate::fault::Fault;
-use crate::reading::id_of;
+use crate::reading::missing;
 use crate::service::Service;
 use mm_desk::StoreState;
 
@@ -43,10 +43,9 @@ impl Service {
         requires room { BLOCK ≤ length out.old }
         ensures given { GivesNext id.now result self.old self.new out.old out.new }
     {
-        let id = id_of(id)?;
-        match self.memory.state_mut(&id) {
+        match self.memory.named_mut(id) {
             Some(state) => give(state, out),
-            None => Err(Fault::NoSuchStore),
+            None => Err(missing(id)),
         }
     }
 }

@@ -3,7 +3,7 @@ ghost use Rattle.std.specs.Prelude.{◌≡◌, IfOk};
 ghost use Rattle.mm_base.specs.Reading.{Gives};
 ghost use Rattle.mm_st15.specs.Request.{IsRequest, SpellsRequest};
 ghost use Rattle.mm_service.specs.declared.fault.Fault.TheVariants.{NoMemory};
-ghost use Rattle.mm_service.specs.Reading.{id_tested, block_of, request_of};
+ghost use Rattle.mm_service.specs.Reading.{id_tested, missing, block_of, request_of};
 
 use crate::fault::Fault;
 use mm_ask::{Asked, packet_alone, request_alone};
@@ -18,6 +18,16 @@ pub(crate) fn id_of(text: &[u8]) -> Result<StoreId, Fault>
     match StoreId::of_text(text) {
         Ok(id) => Ok(id),
         Err(_) => Err(Fault::BadId),
+    }
+}
+
+// Why no store has an identifier with this text.
+pub(crate) fn missing(text: &[u8]) -> Fault
+    ensures { result ≡ missing text.now }
+{
+    match id_of(text) {
+        Ok(_) => Fault::NoSuchStore,
+        Err(fault) => fault,
     }
 }
 

@@ -173,3 +173,28 @@ fn offers_that_are_refused(rt: HostRuntime) {
         refuses(&rt, rt.alloc(), &mut service, id, packet, text);
     }
 }
+
+// Texts that are the identifier of no store, and what is shown of the refusal of a call for the next packet from there.
+static NAMES_OF_NO_STORE: [(&[u8], &str); 9] = [
+    (b"", "15 BadId"),
+    (b" ", "15 BadId"),
+    (b"sci", "15 BadId"),
+    (b"SCI ", "15 BadId"),
+    (b"SCI     ", "15 BadId"),
+    (b" SCI", "15 BadId"),
+    (b"SCIENCE-1", "15 BadId"),
+    (b"SC", "23 NoSuchStore"),
+    (b"SCIENCE1", "23 NoSuchStore"),
+];
+
+#[test]
+fn next_packets_of_no_store(rt: HostRuntime) {
+    let mut service = opened(&rt, rt.alloc());
+    does(&rt, rt.alloc(), &mut service, &RETRIEVE, 1);
+    for (name, text) in &NAMES_OF_NO_STORE {
+        let mut buffer = [9; BLOCK];
+        let fault = service.next(name, &mut buffer).expect_err(&rt, text);
+        is_shown(&rt, rt.alloc(), &fault, text);
+        holds(&rt, &buffer, b"");
+    }
+}
