@@ -1,5 +1,5 @@
 //! A packet that is recorded: each store that its report type is routed to is offered it.
-ghost use Rattle.std.specs.Prelude.{◌≡◌, ◌≤◌, ◌<◌, length, Some, IfOk, OnOk, OnErr};
+ghost use Rattle.std.specs.Prelude.{◌≡◌, ◌≤◌, ◌<◌, length, Some, IsTrue, IfOk, OnOk, OnErr};
 ghost use Rattle.mm_base.specs.declared.limits.TheConstants.{MAX_STORES};
 ghost use Rattle.mm_memory.specs.Recording.{after_offer, tally_in, after_offers, tally_over, after_record, tally_after};
 ghost use Rattle.mm_memory.specs.Routing.{rows_for, leads_to, packet_along, passed};
@@ -22,11 +22,18 @@ fn rows_for<'a>(control: &'a ControlTable, packet: &Packet) -> &'a [RouteRow]
     control.rows_for(packet.apid(), packet.service(), packet.subtype())
 }
 
-// Whether one of the rows leads to the store with an identifier.
-fn leads_to(rows: &[RouteRow], id: &StoreId) -> bool
+// Whether the row at this place, if there is one, leads to the store with an identifier.
+fn leads_at(rows: &[RouteRow], place: usize, id: &StoreId) -> bool
+    ensures { IsTrue result → IsTrue (leads_to rows.now id.now) }
+{
+    place < rows.len() && rows[place].store == *id
+}
+
+// Whether one of the rows leads to the store with an identifier. The row at `near` is looked at first.
+fn leads_to(rows: &[RouteRow], near: usize, id: &StoreId) -> bool
     ensures { result ≡ leads_to rows.now id.now }
 {
-    rows.iter().any(|row| row.store == *id)
+    leads_at(rows, near, id) || rows.iter().any(|row| row.store == *id)
 }
 
 // Offers a packet to a store.
@@ -40,23 +47,24 @@ fn offer_one(held: &mut Held, now: u64, packet: BlockPacket) -> Tally
     Tally::of(held.state.offer(now, packet))
 }
 
-// How many stores stand before the first to which one of the rows leads.
-fn passed(rows: &[RouteRow], stores: &[Held]) -> usize
+// How many stores stand before the first to which one of the rows leads. It is the row at `near` where rows and stores stand in one order.
+fn passed(rows: &[RouteRow], near: usize, stores: &[Held]) -> usize
     ensures passed { result ≡ passed rows.now stores.now }
     ensures within { result ≤ length stores.now }
 {
     stores
         .iter()
-        .position(|held| leads_to(rows, &held.id))
+        .position(|held| leads_to(rows, near, &held.id))
         .unwrap_or(stores.len())
 }
 
 // Offers a packet to each of the stores to which one of the rows leads; the first is one. It takes the packet itself, and the others
-// take copies, which are all made before the first offer.
+// take copies, which are all made before the first offer. The row at `near` leads to the first where rows and stores stand in one order.
 fn offer_from_first(
     alloc: Global,
     stores: &mut [Held],
     rows: &[RouteRow],
+    near: usize,
     now: u64,
     packet: BlockPacket,
 ) -> Result<Tally, NoMemory>
@@ -73,12 +81,13 @@ fn offer_from_first(
     let Some((first, rest)) = stores.split_first_mut() else {
         unreachable!()
     };
-    let next = passed(rows, rest);
+    let next_row = near.wrapping_add(1);
+    let next = passed(rows, next_row, rest);
     if next == rest.len() {
         return Ok(offer_one(first, now, packet));
     }
     let (_passed, others) = rest.split_at_mut(next);
-    let more = offer_from_first(alloc, others, rows, now, packet.copy(alloc)?)?;
+    let more = offer_from_first(alloc, others, rows, next_row, now, packet.copy(alloc)?)?;
     let one = offer_one(first, now, packet);
     Ok(Tally {
         kept: one.kept + more.kept,
@@ -100,12 +109,12 @@ fn offer_each(
     ensures tally { IfOk result (λ tally. tally ≡ tally_over now (packet_along rows.now packet) stores.old) }
     ensures err { OnErr result (stores.new ≡ stores.old) }
 {
-    let first = passed(rows, stores);
+    let first = passed(rows, 0, stores);
     if first == stores.len() {
         return Ok(Tally::nothing());
     }
     let (_passed, others) = stores.split_at_mut(first);
-    let tally = offer_from_first(alloc, others, rows, now, packet)?;
+    let tally = offer_from_first(alloc, others, rows, 0, now, packet)?;
     Ok(tally)
 }
 
@@ -124,7 +133,7 @@ impl Memory {
         ensures err { OnErr result (self.new ≡ self.old) }
     {
         let rows = rows_for(&self.control, packet.packet());
-        if passed(rows, &self.stores) == self.stores.len() {
+        if passed(rows, 0, &self.stores) == self.stores.len() {
             return Ok(Tally::nothing());
         }
         let packet = packet.copy(alloc)?;

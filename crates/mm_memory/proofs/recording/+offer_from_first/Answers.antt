@@ -1,4 +1,4 @@
-use Rattle.std.proofs.Common.{◌≡◌, length, take, drop, ◌∷◌, ap, true, false, arith}
+use Rattle.std.proofs.Common.{◌≡◌, length, take, drop, ◌∷◌, ap, true, arith}
 use Rattle.mm_memory.specs.Routing.{leads_to, passed}
 use Rattle.mm_memory.proofs.RoutingLemmas.{after_first, tally_first, first_leads, none_passed, after_more, tally_more}
 use Rattle.mm_memory.proofs.recording.+offer_from_first.Goals as goal
