@@ -17,7 +17,7 @@ use Rattle.mm_plan.specs.Sheet.{SheetRows, IsSheet, Line, title_line, stores_lin
 use Rattle.mm_plan.specs.Reading.{DraftRows, start, may_follow, after, run}
 use Rattle.mm_plan.proofs.Lines.{IsLine}
 use Rattle.mm_plan.proofs.Drafts.{dumps_of, upto_loss, upto_counts, so_far, IsRows, IsAt, IsBlank, IsUncut, IsPlanned, IsWhole, IsAdded, added}
-use Rattle.mm_plan.proofs.Runs.{lines_so_far, run_start}
+use Rattle.mm_plan.proofs.Runs.{eq_of, lines_so_far, run_start}
 
 -- a sheet that begins with the lines so far
 pub record Leads (d : DraftRows) : Type 0 where
@@ -29,12 +29,11 @@ pub record Leads (d : DraftRows) : Type 0 where
 -- the draft of a whole sheet is the sheet's
 pub whole_is_sheet : (b : Bool) (s : SheetRows) → IsRows s → IsWhole b s → IsSheet s
 whole_is_sheet b s rows at = record {
-  stores = rows.dumps.stores;
   steps = rows.dumps.steps;
   cut = rows.listed.cut;
   counts = rows.listed.counts;
   same_stores = rows.dumps.same_stores;
-  plan = record { has_store = omega (arith, at.has_store, rows.dumps.same_stores); has_step = at.has_step; table = rows.dumps.table; each = rows.dumps.each_amount };
+  plan = record { has_store = omega (arith, at.has_store, rows.dumps.same_stores); few = omega (arith, rows.dumps.stores, rows.dumps.same_stores); has_step = at.has_step; table = rows.dumps.table; each = rows.dumps.each_amount };
   each_store = rows.dumps.each_store;
   each_stretch = rows.listed.each_stretch;
   each_count = rows.listed.each_count;
@@ -120,10 +119,6 @@ leads_dumped b s rows at may = leads_more (at_stage ToDumps b s) (loss_line 0) (
 -- a number that is not above 0
 no_steps : (k : ℕ) → nat_lt 0 k ≡ false → k ≡ 0
 no_steps k none = grind (arith, nat_tests)
-
--- equal numbers pass the test
-eq_of : (m n : ℕ) → m ≡ n → (m == n) ≡ true
-eq_of m n e = grind (arith, nat_tests)
 
 -- by a dump line of zeros, where there is none
 leads_dumps : (b : Bool) (s : SheetRows) → IsRows s → IsUncut s → Leads (at_stage ToDumps b s)

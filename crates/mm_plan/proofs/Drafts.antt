@@ -104,7 +104,7 @@ pub record IsAdded (stage : Stage) (b : Bool) (s : SheetRows) (x : Line) : Type 
 -- ---- lists of lines
 
 -- a list of no elements
-no_elements : {A : Type 0} (xs : List A) → length xs ≡ 0 → xs ≡ []
+pub no_elements : {A : Type 0} (xs : List A) → length xs ≡ 0 → xs ≡ []
 no_elements [] e = refl
 no_elements (x ∷ xs) e = absurd (omega arith)
 

@@ -2,12 +2,10 @@ pub mod Steps
 pub mod Options
 pub mod IdTexts
 pub mod NumberTexts
-pub mod NumberWords
 pub mod Spelled
 pub mod Lines
 pub mod Drafts
 pub mod Runs
-pub mod SheetTexts
 pub mod Completions
 pub mod Texts
 pub mod Shapes

@@ -98,7 +98,6 @@ answers_alike g P f answers = record { at = returns_each g P f answers }
 -- a sheet is one in another order too
 pub ordered_is_sheet : (s : SheetRows) (ds : List Stretch) (ts : List ℕ) → AreOrdered s.stores s.cut ds → AreRising s.by_channels ts → IsSheet s → IsSheet (record s { cut = ds; by_channels = ts })
 ordered_is_sheet s ds ts cut counts h = record {
-  stores = h.stores;
   steps = h.steps;
   cut = omega (arith, h.cut, length_permutation s.cut ds cut.same);
   counts = omega (arith, h.counts, length_permutation s.by_channels ts counts.same);

@@ -15,7 +15,7 @@ use Rattle.mm_plan.specs.Sheet.{SheetRows, IsSheet, IsWritten, Line, title_line,
 use Rattle.mm_plan.specs.Reading.{DraftRows, no_rows, start, may_follow, after, add_line, take_line, run, read_line}
 use Rattle.mm_plan.proofs.Options.{none_is_some, cond_then}
 use Rattle.mm_plan.proofs.Lines.{IsLine, read_line-line_text, read_line_some}
-use Rattle.mm_plan.proofs.Drafts.{so_far, IsRows, IsAt, IsAdded, added}
+use Rattle.mm_plan.proofs.Drafts.{no_elements, so_far, IsRows, IsAt, IsAdded, added}
 
 -- the draft with these lines more
 abbrev pub go : DraftRows → List Line → Option DraftRows
@@ -46,23 +46,14 @@ run-line_texts d (x ∷ xs) h =
 abbrev dumping : Bool → SheetRows → ℕ → List ℕ → DraftRows
 dumping b s k amounts = record { stage = ToDumps; second = b; rows = record s { plan = record { stores = s.plan.stores; steps = k; amounts = amounts } } }
 
--- a number equals itself
-eq_itself : (n : ℕ) → (n == n) ≡ true
-eq_itself n = grind (arith, nat_tests)
-
 -- equal numbers pass the test
-eq_of : (m n : ℕ) → m ≡ n → (m == n) ≡ true
+pub eq_of : (m n : ℕ) → m ≡ n → (m == n) ≡ true
 eq_of m n e = grind (arith, nat_tests)
 
 -- the next dump line may come
 dump_may : (k n : ℕ) (xs : List ℕ) (stores : List (List ℕ)) → length xs ≡ n → n ≡ length stores → ((k == k) && (length xs == length stores)) ≡ true
 dump_may k n xs stores width same =
-    ap (λ b. b && (length xs == length stores)) (eq_itself k) ∙ eq_of (length xs) (length stores) (width ∙ same)
-
--- a list of no elements
-no_elements : {A : Type 0} (xs : List A) → length xs ≡ 0 → xs ≡ []
-no_elements [] e = refl
-no_elements (x ∷ xs) e = absurd (omega arith)
+    ap (λ b. b && (length xs == length stores)) (eq_of k k refl) ∙ eq_of (length xs) (length stores) (width ∙ same)
 
 -- the dump lines add their amounts
 go-dump_lines : (b : Bool) (s : SheetRows) (k m : ℕ) (amounts xs : List ℕ) (more : List Line) → s.plan.stores ≡ length s.stores → length xs ≡ m * s.plan.stores → go (dumping b s k amounts) (dump_lines s.plan.stores (k + 1) m xs ++ more) ≡ go (dumping b s (k + m) (amounts ++ xs)) more
@@ -115,7 +106,7 @@ go-count_lines s ds earlier (t ∷ ts) more few =
 abbrev pub whole : SheetRows → DraftRows
 whole s = record { stage = Done; second = has_counts s; rows = s }
 
--- counts, bound and end, in the form that the title says
+-- the first form has no counts
 not_first : (n : ℕ) → false ≡ nat_lt 0 (suc n) → ⊥
 not_first n e = grind (arith, nat_tests)
 
@@ -179,7 +170,7 @@ dump_lines_are n t (suc k) xs few steps size h =
 -- the lines of a sheet are within their ranges
 pub lines_are : (s : SheetRows) → IsSheet s → All IsLine (lines_of s)
 lines_are s h =
-    let few : s.plan.stores ≤ MAX_STORES = omega (arith, h.stores, h.same_stores) in
+    let few : length s.stores ≤ MAX_STORES = omega (arith, h.plan.few, h.same_stores) in
     let dumps = dump_lines s.plan.stores 1 s.plan.steps s.plan.amounts in
     let ending = bound_line s.bound ∷ end_line ∷ [] in
     let counted = map count_line s.by_channels ++ ending in
@@ -187,11 +178,11 @@ lines_are s h =
     let all_end : All IsLine ending = All-cons IsLine (bound_line s.bound) (end_line ∷ []) h.bound (All-cons IsLine end_line [] tt (All-nil IsLine)) in
     let all_counted : All IsLine counted = All-append IsLine (map count_line s.by_channels) ending (All-map IsLine count_line s.by_channels h.each_count) all_end in
     let all_cut : All IsLine cut = All-append IsLine (map stretch_line s.cut) counted (All-map IsLine stretch_line s.cut h.each_stretch) all_counted in
-    let all_dumps : All IsLine dumps = dump_lines_are s.plan.stores 1 s.plan.steps s.plan.amounts few (omega (arith, h.steps)) h.plan.table h.plan.each in
+    let all_dumps : All IsLine dumps = dump_lines_are s.plan.stores 1 s.plan.steps s.plan.amounts h.plan.few (omega (arith, h.steps)) h.plan.table h.plan.each in
     let all_rows : All IsLine (dumps ++ (loss_line s.loss ∷ cut)) = All-append IsLine dumps (loss_line s.loss ∷ cut) all_dumps (All-cons IsLine (loss_line s.loss) cut h.loss all_cut) in
     subst (All IsLine) (sym (lines_right s))
     (All-cons IsLine (title_line (has_counts s)) (stores_line s.stores ∷ (dumps ++ (loss_line s.loss ∷ cut))) tt
-    (All-cons IsLine (stores_line s.stores) (dumps ++ (loss_line s.loss ∷ cut)) (h.stores, h.each_store) all_rows))
+    (All-cons IsLine (stores_line s.stores) (dumps ++ (loss_line s.loss ∷ cut)) (few, h.each_store) all_rows))
 
 -- the texts of a sheet's lines run to its end
 pub run-sheet : (s : SheetRows) → IsSheet s → run start (map line_text (lines_of s)) ≡ Some (whole s)

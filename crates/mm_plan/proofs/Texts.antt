@@ -2,7 +2,7 @@
 use Rattle.std.proofs.Common.{◌≡◌, ℕ, zero, suc, ◌+◌, ◌-◌, ◌≤◌, Bool, false, ◌==◌, List, [], ◌∷◌, ◌++◌, length, map, take, drop, Option, Some, None, refl, sym, ap, ◌∙◌, subst, arith, length-append, length-drop, length-take}
 use Rattle.std.specs.Prelude.{All, option_and_then}
 use Rattle.std.specs.List.{join_with_byte}
-use Rattle.std.proofs.lemmas.List.{take-append-drop, take-append-le, take_all}
+use Rattle.std.proofs.lemmas.List.{append_cancel_right, take-append-drop, take-append-le, take_all}
 use Rattle.std.proofs.lemmas.List.Elements.{All-nil, All-cons, All-append, All-map, All-weaker}
 use Rattle.std.proofs.lemmas.List.Splits.{join_with_byte-slice_split, length-slice_split}
 use Rattle.std.proofs.lemmas.Option.{same_Some}
@@ -100,6 +100,13 @@ text_lines-sheet_text s h =
     let last : All (Lacks 10) ([] ∷ []) = All-cons (Lacks 10) [] [] (All-nil (λ b. (b == 10) ≡ false)) (All-nil (Lacks 10)) in
     slice_split-join 10 (map line_text (lines_of s) ++ [] ∷ []) (omega (arith, length-append (map line_text (lines_of s)) ([] ∷ [])))
     (All-append (Lacks 10) (map line_text (lines_of s)) ([] ∷ []) lacking last)
+
+-- sheets of one text are one sheet
+pub one_sheet : (s r : SheetRows) → IsSheet s → IsSheet r → sheet_text s ≡ sheet_text r → s ≡ r
+one_sheet s r is_s is_r same =
+    let split = sym (text_lines-sheet_text s is_s) ∙ ap text_lines same ∙ text_lines-sheet_text r is_r in
+    let lines = append_cancel_right (map line_text (lines_of s)) (map line_text (lines_of r)) ([] ∷ []) split in
+    ap (λ d. d.rows) (same_Some (whole s) (whole r) (sym (run-sheet s is_s) ∙ ap (run start) lines ∙ run-sheet r is_r))
 
 -- its first lines begin a sheet
 front_begins : (s : SheetRows) → IsSheet s → (k : ℕ) → Begins (take k (map line_text (lines_of s)))

@@ -3,7 +3,7 @@ use Rattle.std.specs.Prelude.{◌≡◌, ◌≢◌, ℕ, zero, suc, ◌+◌, ◌
 use Rattle.std.specs.Fmt.{signed_decimal}
 use Rattle.std.specs.Int.{w64}
 use Rattle.std.specs.List.{join_with_byte}
-use Rattle.mm_base.specs.declared.limits.TheConstants.{MAX_STORES, MAX_STEPS}
+use Rattle.mm_base.specs.declared.limits.TheConstants.{MAX_STEPS}
 use Rattle.mm_problem.specs.Dumping.{Dumping}
 use Rattle.mm_base.specs.Characters.{line_feed, space}
 use Rattle.mm_base.specs.Id.{IsIdField, id_text}
@@ -81,7 +81,6 @@ pub record IsWritten (d : Stretch) : Type 0 where
 
 -- a sheet within the limits of the text
 pub record IsSheet (s : SheetRows) : Type 0 where
-  pub stores : length s.stores ≤ MAX_STORES
   pub steps : s.plan.steps ≤ MAX_STEPS
   pub cut : length s.cut ≤ MAX_STRETCHES
   pub counts : length s.by_channels ≤ MAX_COUNTS

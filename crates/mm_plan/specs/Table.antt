@@ -1,7 +1,7 @@
 -- A table of amounts: a row for each step, in it a place for each store.
 use Rattle.std.specs.Prelude.{◌≡◌, ◌≢◌, ℕ, ◌*◌, ◌<◌, ◌≤◌, List, length, All}
 use Rattle.mm_base.specs.Grid.{cell}
-use Rattle.mm_base.specs.declared.limits.TheConstants.{MAX_BLOCKS}
+use Rattle.mm_base.specs.declared.limits.TheConstants.{MAX_STORES, MAX_BLOCKS}
 use Rattle.mm_problem.specs.Dumping.{Dumping}
 
 pub record Table : Type 0 where
@@ -16,6 +16,7 @@ amount x s t = cell x.stores x.amounts s t
 
 pub record IsTable (x : Table) : Type 0 where
   pub has_store : 1 ≤ x.stores
+  pub few : x.stores ≤ MAX_STORES
   pub has_step : 1 ≤ x.steps
   pub table : length x.amounts ≡ x.steps * x.stores
   pub each : All (λ n. n ≤ MAX_BLOCKS) x.amounts

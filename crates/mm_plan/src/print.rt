@@ -9,7 +9,6 @@ ghost use Rattle.mm_plan.specs.Printing.{place_of, stretch_key, AreOrdered, AreR
 
 use crate::plan::Plan;
 use crate::stretch::Stretch;
-use itoa::write_digits;
 use mm_base::numbers::{push_number, write_number};
 use mm_base::{MAX_STORES, StoreId};
 use std::alloc::{AllocError, Global};
@@ -25,17 +24,16 @@ fn push_word(text: &mut Vec<u8>, word: &[u8]) -> Pushed
     Ok(())
 }
 
-// A space and the digits of any number have room in as many octets.
-const NUMBER_WORD: usize = 24;
+// A space and the digits of a number of 32 bits have room in as many octets.
+const NUMBER_ROOM: usize = 11;
 
-// The digits are written at the end of spaces, of which the last goes with them.
-fn push_number_word(text: &mut Vec<u8>, number: u64) -> Pushed
+// A number with the space before it, in one piece.
+fn push_number_word(text: &mut Vec<u8>, number: u32) -> Pushed
     ensures { OnOk result (text.new.items ≡ text.old.items ++ space ∷ decimal number) }
 {
-    let mut word = [b' '; NUMBER_WORD];
-    let first = write_digits(number, &mut word, NUMBER_WORD);
-    text.extend_from_slice(&word[first - 1..])?;
-    Ok(())
+    let mut word = [b' '; NUMBER_ROOM];
+    let first = write_number(&mut word, NUMBER_ROOM, b' ', number);
+    text.extend_from_slice(&word[first..])
 }
 
 #[tactic(auto, using(std::proofs::Common::append_assoc), unfolding(crate::specs::Printing::ended, crate::specs::Sheet::line_text))]
@@ -70,17 +68,6 @@ fn push_stores(text: &mut Vec<u8>, ids: &[StoreId]) -> Pushed
     Ok(())
 }
 
-fn push_amounts(text: &mut Vec<u8>, amounts: &[u32]) -> Pushed
-    ensures { OnOk result (text.new.items ≡ text.old.items ++ spaced (map decimal amounts.now)) }
-{
-    let mut rest = amounts;
-    while let [amount, after @ ..] = rest {
-        push_number_word(text, u64::from(*amount))?;
-        rest = after;
-    }
-    Ok(())
-}
-
 // Writes a space and the digits of a number for each of several so that they end at a place, and answers where they start.
 fn write_amounts(octets: &mut [u8], end: usize, amounts: &[u32]) -> usize
     requires room { 11 * length amounts.now ≤ end }
@@ -101,7 +88,7 @@ fn write_amounts(octets: &mut [u8], end: usize, amounts: &[u32]) -> usize
 // A step and the amounts of all stores have room in as many octets, with a line feed.
 const DUMP_ROOM: usize = 11 * (MAX_STORES + 1) + 1;
 
-// The words of a dump line after its keyword, in one piece up to its line feed.
+// The words of a dump line after its keyword, written from the last to the first, and its line feed.
 #[tactic(auto, using(std::proofs::Common::append_assoc))]
 fn push_row(text: &mut Vec<u8>, step: u32, amounts: &[u32]) -> Pushed
     requires { length amounts.now ≤ MAX_STORES }
@@ -114,32 +101,18 @@ fn push_row(text: &mut Vec<u8>, step: u32, amounts: &[u32]) -> Pushed
     text.extend_from_slice(&octets[first..])
 }
 
-// The same of any number of stores. No plan has more than MAX_STORES, but the type does not say so.
-#[tactic(auto, using(std::proofs::Common::append_assoc))]
-fn push_words(text: &mut Vec<u8>, step: u32, amounts: &[u32]) -> Pushed
-    ensures { OnOk result (text.new.items ≡ text.old.items
-        ++ space ∷ decimal step ++ spaced (map decimal amounts.now) ++ line_feed ∷ []) }
-{
-    push_number_word(text, u64::from(step))?;
-    push_amounts(text, amounts)?;
-    text.push(b'\n')?;
-    Ok(())
-}
-
 fn push_dump(text: &mut Vec<u8>, step: u32, amounts: &[u32]) -> Pushed
+    requires { length amounts.now ≤ MAX_STORES }
     ensures { OnOk result (text.new.items ≡ text.old.items ++ ended (dump_line step amounts.now)) }
 {
     text.extend_from_slice(b"dump")?;
-    if amounts.len() <= MAX_STORES {
-        push_row(text, step, amounts)
-    } else {
-        push_words(text, step, amounts)
-    }
+    push_row(text, step, amounts)
 }
 
 // A line for each step, with the amounts of as many stores.
 fn push_dumps(text: &mut Vec<u8>, stores: usize, steps: u32, amounts: &[u32]) -> Pushed
-    requires { length amounts.now ≡ steps * stores }
+    requires size { length amounts.now ≡ steps * stores }
+    requires few { stores ≤ MAX_STORES }
     ensures { OnOk result (text.new.items ≡ text.old.items ++ all_ended (dump_lines stores 1 steps amounts.now)) }
 {
     let mut rest = amounts;
@@ -162,8 +135,8 @@ fn push_plan(text: &mut Vec<u8>, plan: &Plan) -> Pushed
 fn push_loss(text: &mut Vec<u8>, loss: u64) -> Pushed
     ensures { OnOk result (text.new.items ≡ text.old.items ++ ended (loss_line loss)) }
 {
-    text.extend_from_slice(b"loss")?;
-    push_number_word(text, loss)?;
+    text.extend_from_slice(b"loss ")?;
+    push_number(text, loss)?;
     text.push(b'\n')?;
     Ok(())
 }
@@ -174,8 +147,8 @@ fn push_stretch(text: &mut Vec<u8>, stretch: Stretch) -> Pushed
 {
     text.extend_from_slice(b"stretch")?;
     push_word(text, stretch.store.text())?;
-    push_number_word(text, u64::from(stretch.first))?;
-    push_number_word(text, u64::from(stretch.last))?;
+    push_number_word(text, stretch.first)?;
+    push_number_word(text, stretch.last)?;
     text.push(b'\n')?;
     Ok(())
 }
@@ -196,7 +169,7 @@ fn push_count(text: &mut Vec<u8>, step: u32) -> Pushed
     ensures { OnOk result (text.new.items ≡ text.old.items ++ ended (count_line step)) }
 {
     text.extend_from_slice(b"count")?;
-    push_number_word(text, u64::from(step))?;
+    push_number_word(text, step)?;
     text.extend_from_slice(b" channels\n")?;
     Ok(())
 }
@@ -216,8 +189,7 @@ fn push_counts(text: &mut Vec<u8>, steps: &[u32]) -> Pushed
 fn push_bound(text: &mut Vec<u8>, bound: i64) -> Pushed
     ensures { OnOk result (text.new.items ≡ text.old.items ++ ended (bound_line bound)) }
 {
-    text.extend_from_slice(b"bound")?;
-    text.push(b' ')?;
+    text.extend_from_slice(b"bound ")?;
     if bound < 0 {
         text.push(b'-')?;
     }

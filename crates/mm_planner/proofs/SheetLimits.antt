@@ -51,7 +51,6 @@ planned_is_sheet cuts_are_few q s is shaped shape table ids cut most tight =
     let few = cuts_are_few q s.cut s.by_channels is cut in
     let named : All IsIdField (map (λ r. r.id) q.rows) = subst (All IsIdField) shaped.stores ids in
     record {
-      stores = omega (arith, stores, is.stores.at_most);
       steps = omega (arith, shaped.steps, few_steps);
       cut = omega (arith, few.0);
       counts = omega (arith, few_steps, few.1);

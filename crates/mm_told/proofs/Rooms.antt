@@ -186,9 +186,6 @@ title-cost : (b : Bool) (ids : List (List ℕ)) → length ids ≤ MAX_STORES �
 unfolding cost total
 title-cost b ids few each = omega (arith, title-most b, stores-most ids few each)
 
-few-stores : (s : SheetRows) → IsSheet s → s.plan.stores ≤ MAX_STORES
-few-stores s sheet = omega (arith, sheet.stores, sheet.same_stores)
-
 few-steps : (s : SheetRows) → IsSheet s → 1 + s.plan.steps ≤ MAX_STEPS + 1
 few-steps s sheet = omega (arith, sheet.steps)
 
@@ -206,9 +203,9 @@ plan_text_fits s sheet =
     let whole : length (sheet_text s) ≤ cost (lines_of s) + 1 = sheet-cost s in
     let costs : cost (lines_of s) ≡ cost title + cost dumps + cost loss + cost stretches + cost counts + cost bound + cost last =
     costs-add title dumps loss stretches counts bound last in
-    let titles : cost title ≤ 160 = title-cost (has_counts s) s.stores sheet.stores sheet.each_store in
+    let titles : cost title ≤ 160 = title-cost (has_counts s) s.stores (omega (arith, sheet.plan.few, sheet.same_stores)) sheet.each_store in
     let rows : cost dumps ≤ s.plan.steps * 137 =
-    dumps-most s.plan.stores 1 s.plan.steps s.plan.amounts (few-stores s sheet) (few-steps s sheet) sheet.plan.each in
+    dumps-most s.plan.stores 1 s.plan.steps s.plan.amounts sheet.plan.few (few-steps s sheet) sheet.plan.each in
     let losses : cost loss ≤ 26 = one-cost (loss_line s.loss) 25 (loss-most s.loss sheet.loss) in
     let cuts : cost stretches ≤ length s.cut * 39 =
     each-most stretch_line IsWritten 39 (λ d written. omega (arith, stretch-most d written)) s.cut sheet.each_stretch in

@@ -1,4 +1,4 @@
-use Rattle.mm_plan.proofs.SheetTexts.{one_sheet}
+use Rattle.mm_plan.proofs.Texts.{one_sheet}
 use Rattle.mm_plan.proofs.laws.one_text_one_sheet.Goals as goal
 
 pub returns : goal.returns
