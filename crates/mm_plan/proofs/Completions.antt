@@ -10,7 +10,6 @@ use Rattle.std.proofs.lemmas.List.Sums.{AllPass-from_list_all}
 use Rattle.mm_base.specs.declared.limits.TheConstants.{MAX_BLOCKS}
 use Rattle.mm_base.specs.Id.{is_id_char, IsIdField, field_of}
 use Rattle.mm_base.proofs.IdFields.{field_of-IsIdField}
-use Rattle.mm_plan.specs.declared.stretch.TheConstants.{MAX_COUNTS}
 use Rattle.mm_plan.specs.declared.draft.Stage.{Stage}
 use Rattle.mm_plan.specs.declared.draft.Stage.TheVariants.{ToTitle, ToStores, ToDumps, ToCut, ToEnd, Done}
 use Rattle.mm_plan.specs.Sheet.{SheetRows, IsSheet, Line, title_line, stores_line, dump_line, loss_line, stretch_line, count_line, bound_line, end_line, dump_lines, has_counts, lines_of, line_text, Begins}
@@ -75,14 +74,10 @@ leads_done b s rows at = record {
 leads_end : (b : Bool) (s : SheetRows) → IsRows s → IsWhole b s → Leads (at_stage ToEnd b s)
 leads_end b s rows at = leads_more (at_stage ToEnd b s) end_line tt rows at refl (λ more. leads_done b s more.rows more.at)
 
--- a first form has no counts
-no_counts : (n : ℕ) → false ≡ nat_lt 0 n → (n == 0) ≡ true
-no_counts n form = grind (arith, nat_tests)
-
 -- the bound may come where the form is kept
 bound_may : (b : Bool) (s : SheetRows) (z : ℤ) → b ≡ has_counts s → may_follow ToCut b s (bound_line z) ≡ true
 bound_may true s z form = sym form
-bound_may false s z form = no_counts (length s.by_channels) form
+bound_may false s z form = grind (arith, nat_tests, form)
 
 -- the bound 0 fits
 zero_fits : FitsSigned w64 (pos 0)
@@ -92,10 +87,6 @@ zero_fits = record { sfits = omega arith }
 leads_formed : (b : Bool) (s : SheetRows) → IsRows s → IsPlanned b s → b ≡ has_counts s → Leads (at_stage ToCut b s)
 leads_formed b s rows at form =
     leads_more (at_stage ToCut b s) (bound_line (pos 0)) zero_fits rows at (bound_may b s (pos 0) form) (λ more. leads_end b (record s { bound = pos 0 }) more.rows more.at)
-
--- where there is no count one may come
-count_may : (n : ℕ) → nat_lt 0 n ≡ false → nat_lt n MAX_COUNTS ≡ true
-count_may n none = grind (arith, nat_tests)
 
 -- one more is some
 has_more : (n : ℕ) → true ≡ nat_lt 0 (n + 1)
@@ -107,7 +98,7 @@ leads_cut false s rows at = leads_formed false s rows at (ap (λ ts. nat_lt 0 (l
 leads_cut true s rows at = elim (cases_Bool (has_counts s)) [
   | inl some ↦ leads_formed true s rows at (sym some)
   | inr none ↦
-      leads_more (at_stage ToCut true s) (count_line 0) (omega arith) rows at (count_may (length s.by_channels) none)
+      leads_more (at_stage ToCut true s) (count_line 0) (omega arith) rows at (grind (arith, nat_tests, none))
       (λ more. leads_formed true (record s { by_channels = s.by_channels ++ 0 ∷ [] }) more.rows more.at
       (has_more (length s.by_channels) ∙ ap (nat_lt 0) (sym (length-append s.by_channels (0 ∷ [])))))
 ]
@@ -116,16 +107,12 @@ leads_cut true s rows at = elim (cases_Bool (has_counts s)) [
 leads_dumped : (b : Bool) (s : SheetRows) → IsRows s → IsUncut s → nat_lt 0 s.plan.steps ≡ true → Leads (at_stage ToDumps b s)
 leads_dumped b s rows at may = leads_more (at_stage ToDumps b s) (loss_line 0) (omega arith) rows at may (λ more. leads_cut b (record s { loss = 0 }) more.rows more.at)
 
--- a number that is not above 0
-no_steps : (k : ℕ) → nat_lt 0 k ≡ false → k ≡ 0
-no_steps k none = grind (arith, nat_tests)
-
 -- by a dump line of zeros, where there is none
 leads_dumps : (b : Bool) (s : SheetRows) → IsRows s → IsUncut s → Leads (at_stage ToDumps b s)
 leads_dumps b s rows at = elim (cases_Bool (nat_lt 0 s.plan.steps)) [
   | inl some ↦ leads_dumped b s rows at some
   | inr none ↦
-      let blank : s.plan.steps ≡ 0 = no_steps s.plan.steps none in
+      let blank : s.plan.steps ≡ 0 = grind (arith, nat_tests, none) in
       let row = replicate (length s.stores) 0 in
       let width : length row ≡ length s.stores = length-replicate {A = ℕ} (length s.stores) 0 in
       leads_more (at_stage ToDumps b s) (dump_line (s.plan.steps + 1) row)

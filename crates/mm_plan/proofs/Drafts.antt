@@ -4,7 +4,7 @@ use Rattle.std.specs.Prelude.{All, nat_lt, ◌&&◌, ◌^◌, FitsSigned}
 use Rattle.std.specs.Int.{w64}
 use Rattle.std.proofs.lemmas.Bool.{and_parts, false≢true}
 use Rattle.std.proofs.lemmas.Bool.Decides.{nat_tests}
-use Rattle.std.proofs.lemmas.List.{take_all, map-append, take-append-le, drop-append-le}
+use Rattle.std.proofs.lemmas.List.{nil_from_length, take_all, map-append, take-append-le, drop-append-le}
 use Rattle.std.proofs.lemmas.List.Elements.{All-append, All-push}
 use Rattle.mm_base.specs.declared.limits.TheConstants.{MAX_STORES, MAX_STEPS, MAX_BLOCKS}
 use Rattle.mm_base.specs.Id.{IsIdField}
@@ -103,15 +103,10 @@ pub record IsAdded (stage : Stage) (b : Bool) (s : SheetRows) (x : Line) : Type 
 
 -- ---- lists of lines
 
--- a list of no elements
-pub no_elements : {A : Type 0} (xs : List A) → length xs ≡ 0 → xs ≡ []
-no_elements [] e = refl
-no_elements (x ∷ xs) e = absurd (omega arith)
-
 -- one step's line more
 pub dump_lines-push : (n t k : ℕ) (xs row : List ℕ) → length xs ≡ k * n → length row ≡ n → dump_lines n t (suc k) (xs ++ row) ≡ dump_lines n t k xs ++ dump_line (t + k) row ∷ []
 dump_lines-push n t zero xs row size width =
-    let empty : xs ≡ [] = no_elements xs (omega arith) in
+    let empty : xs ≡ [] = nil_from_length xs (omega arith) in
     let here : t ≡ t + 0 = omega arith in
     ap (λ ys. dump_line t (take n (ys ++ row)) ∷ []) empty
     ∙ ap (λ ys. dump_line t ys ∷ []) (take_all n row (omega arith))
@@ -238,7 +233,7 @@ stretch_follows : (s : SheetRows) → (nat_lt (length s.cut) MAX_STRETCHES && (l
 stretch_follows s may =
     let p = and_parts (nat_lt (length s.cut) MAX_STRETCHES) (length s.by_channels == 0) may in
     let none : length s.by_channels ≡ 0 = grind (arith, nat_tests, p.1) in
-    (grind (arith, nat_tests, p.0), no_elements s.by_channels none)
+    (grind (arith, nat_tests, p.0), nil_from_length s.by_channels none)
 
 -- a stretch line adds just itself
 added_stretch : (b : Bool) (s : SheetRows) (d : Stretch) → IsLine (stretch_line d) → IsRows s → IsPlanned b s → (nat_lt (length s.cut) MAX_STRETCHES && (length s.by_channels == 0)) ≡ true → IsAdded ToCut b s (stretch_line d)

@@ -5,7 +5,7 @@ use Rattle.std.specs.Option.{option_map}
 use Rattle.std.specs.Int.{w64}
 use Rattle.std.specs.List.{slice_split, join_with_byte}
 use Rattle.std.specs.Str.{bytes_eq}
-use Rattle.std.proofs.lemmas.Bool.Decides.{nat_tests}
+use Rattle.mm_base.proofs.IdFields.{Decides-nat_le}
 use Rattle.std.proofs.lemmas.List.{length-map, take_all}
 use Rattle.std.proofs.lemmas.List.Elements.{All-from_recursion, All-nil, All-cons, All-head, All-tail, All-map, All-weaker}
 use Rattle.std.proofs.lemmas.List.Splits.{join_with_byte-slice_split}
@@ -105,14 +105,10 @@ read_each-map read text P back earlier (x ∷ xs) h =
     ∙ read_each-map read text P back (earlier ++ x ∷ []) xs (All-tail P x xs h)
     ∙ ap Some (append_assoc earlier (x ∷ []) xs)
 
--- few enough pass the test
-within_passes : (n : ℕ) → n ≤ MAX_STORES → nat_le n MAX_STORES ≡ true
-within_passes n few = grind (arith, nat_tests)
-
 -- a printed row is read
 read_row-map : {A : Type 0} (read : List ℕ → Option A) (text : A → List ℕ) (P : A → Type 0) → ((x : A) → P x → read (text x) ≡ Some x) → (xs : List A) → length xs ≤ MAX_STORES → All P xs → read_row read (map text xs) ≡ Some xs
 read_row-map read text P back xs few h =
-    let fits : nat_le (length (map text xs)) MAX_STORES ≡ true = rw (length-map xs text) (within_passes (length xs) few) in
+    let fits : nat_le (length (map text xs)) MAX_STORES ≡ true = rw (length-map xs text) ((Decides-nat_le (length xs) MAX_STORES).1 few) in
     ap (λ b. cond b (read_each read [] (map text xs)) None) fits ∙ read_each-map read text P back [] xs h
 
 -- the words of a line are read as the line
@@ -170,17 +166,13 @@ pub record IsRow {A : Type 0} (text : A → List ℕ) (P : A → Type 0) (ws : L
   pub words : ws ≡ map text xs
   pub each : All P xs
 
--- what passes the test is few enough
-passes_within : (n : ℕ) → nat_le n MAX_STORES ≡ true → n ≤ MAX_STORES
-passes_within n e = grind (arith, nat_tests)
-
 -- a row that was read was printed
 read_row_some : {A : Type 0} (read : List ℕ → Option A) (text : A → List ℕ) (P : A → Type 0) → ((w : List ℕ) (x : A) → read w ≡ Some x → (w ≡ text x) × P x) → (ws : List (List ℕ)) (xs : List A) → read_row read ws ≡ Some xs → IsRow text P ws xs
 read_row_some read text P inverse ws xs e =
     let p = cond_then (nat_le (length ws) MAX_STORES) (read_each read [] ws) xs e in
     let all : AreRead text P [] ws xs = read_each_some read text P inverse [] ws xs p.1 in
     let words : ws ≡ map text xs = all.words ∙ ap (map text) (sym all.result) in
-    let few : length ws ≤ MAX_STORES = passes_within (length ws) p.0 in
+    let few : length ws ≤ MAX_STORES = (Decides-nat_le (length ws) MAX_STORES).0 p.0 in
     record {
       few = subst (λ n. n ≤ MAX_STORES) (ap length words ∙ length-map xs text) few;
       words = words;

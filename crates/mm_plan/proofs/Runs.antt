@@ -3,7 +3,7 @@ use Rattle.std.proofs.Common.{◌≡◌, ℕ, zero, suc, ◌+◌, ◌*◌, ◌<�
 use Rattle.std.specs.Prelude.{All, nat_lt, ◌&&◌, ◌^◌, option_and_then}
 use Rattle.std.proofs.lemmas.Bool.{false≢true}
 use Rattle.std.proofs.lemmas.Bool.Decides.{nat_tests}
-use Rattle.std.proofs.lemmas.List.{take-append-drop, length-take-le}
+use Rattle.std.proofs.lemmas.List.{nil_from_length, take-append-drop, length-take-le}
 use Rattle.std.proofs.lemmas.List.Elements.{All-nil, All-cons, All-head, All-tail, All-append, All-take, All-drop, All-map}
 use Rattle.std.proofs.lemmas.Option.{same_Some, option_and_then_some}
 use Rattle.mm_base.specs.declared.limits.TheConstants.{MAX_STORES, MAX_STEPS, MAX_BLOCKS}
@@ -15,7 +15,7 @@ use Rattle.mm_plan.specs.Sheet.{SheetRows, IsSheet, IsWritten, Line, title_line,
 use Rattle.mm_plan.specs.Reading.{DraftRows, no_rows, start, may_follow, after, add_line, take_line, run, read_line}
 use Rattle.mm_plan.proofs.Options.{none_is_some, cond_then}
 use Rattle.mm_plan.proofs.Lines.{IsLine, read_line-line_text, read_line_some}
-use Rattle.mm_plan.proofs.Drafts.{no_elements, so_far, IsRows, IsAt, IsAdded, added}
+use Rattle.mm_plan.proofs.Drafts.{so_far, IsRows, IsAt, IsAdded, added}
 
 -- the draft with these lines more
 abbrev pub go : DraftRows → List Line → Option DraftRows
@@ -58,7 +58,7 @@ dump_may k n xs stores width same =
 -- the dump lines add their amounts
 go-dump_lines : (b : Bool) (s : SheetRows) (k m : ℕ) (amounts xs : List ℕ) (more : List Line) → s.plan.stores ≡ length s.stores → length xs ≡ m * s.plan.stores → go (dumping b s k amounts) (dump_lines s.plan.stores (k + 1) m xs ++ more) ≡ go (dumping b s (k + m) (amounts ++ xs)) more
 go-dump_lines b s k zero amounts xs more same size =
-    let empty : xs ≡ [] = no_elements xs (omega (arith, size)) in
+    let empty : xs ≡ [] = nil_from_length xs (omega (arith, size)) in
     let steps : k ≡ k + 0 = omega arith in
     ap (λ j. go (dumping b s j amounts) more) steps
     ∙ ap (λ ys. go (dumping b s (k + 0) ys) more) (sym (append-nil amounts))
@@ -78,37 +78,25 @@ go-dump_lines b s k (suc m) amounts xs more same size =
 abbrev cutting : Bool → SheetRows → List Stretch → List ℕ → DraftRows
 cutting b s ds ts = record { stage = ToCut; second = b; rows = record s { cut = ds; by_channels = ts } }
 
--- a stretch may come where there are few
-stretch_may : (n : ℕ) → n < MAX_STRETCHES → (nat_lt n MAX_STRETCHES && (0 == 0)) ≡ true
-stretch_may n few = grind (arith, nat_tests)
-
 -- the stretch lines add their stretches
 go-stretch_lines : (b : Bool) (s : SheetRows) (earlier ds : List Stretch) (more : List Line) → length earlier + length ds ≤ MAX_STRETCHES → go (cutting b s earlier []) (map stretch_line ds ++ more) ≡ go (cutting b s (earlier ++ ds) []) more
 go-stretch_lines b s earlier [] more few = ap (λ es. go (cutting b s es []) more) (sym (append-nil earlier))
 go-stretch_lines b s earlier (d ∷ ds) more few =
-    go_may (cutting b s earlier []) (stretch_line d) (map stretch_line ds ++ more) (stretch_may (length earlier) (omega (arith, few)))
+    go_may (cutting b s earlier []) (stretch_line d) (map stretch_line ds ++ more) (grind (arith, nat_tests, few))
     ∙ go-stretch_lines b s (earlier ++ d ∷ []) ds more (omega (arith, few, length-append earlier (d ∷ [])))
     ∙ ap (λ es. go (cutting b s es []) more) (append_assoc earlier (d ∷ []) ds)
-
--- a count may come where there are few
-count_may : (n : ℕ) → n < MAX_COUNTS → nat_lt n MAX_COUNTS ≡ true
-count_may n few = grind (arith, nat_tests)
 
 -- the count lines add their steps
 go-count_lines : (s : SheetRows) (ds : List Stretch) (earlier ts : List ℕ) (more : List Line) → length earlier + length ts ≤ MAX_COUNTS → go (cutting true s ds earlier) (map count_line ts ++ more) ≡ go (cutting true s ds (earlier ++ ts)) more
 go-count_lines s ds earlier [] more few = ap (λ es. go (cutting true s ds es) more) (sym (append-nil earlier))
 go-count_lines s ds earlier (t ∷ ts) more few =
-    go_may (cutting true s ds earlier) (count_line t) (map count_line ts ++ more) (count_may (length earlier) (omega (arith, few)))
+    go_may (cutting true s ds earlier) (count_line t) (map count_line ts ++ more) (grind (arith, nat_tests, few))
     ∙ go-count_lines s ds (earlier ++ t ∷ []) ts more (omega (arith, few, length-append earlier (t ∷ [])))
     ∙ ap (λ es. go (cutting true s ds es) more) (append_assoc earlier (t ∷ []) ts)
 
 -- the draft of a whole sheet
 abbrev pub whole : SheetRows → DraftRows
 whole s = record { stage = Done; second = has_counts s; rows = s }
-
--- the first form has no counts
-not_first : (n : ℕ) → false ≡ nat_lt 0 (suc n) → ⊥
-not_first n e = grind (arith, nat_tests)
 
 -- counts, bound and end, in the form that the title says
 go_ending : (s : SheetRows) (b : Bool) (ds : List Stretch) (ts : List ℕ) (z : ℤ) → b ≡ nat_lt 0 (length ts) → length ts ≤ MAX_COUNTS → go (cutting b s ds []) (map count_line ts ++ (bound_line z ∷ end_line ∷ [])) ≡ Some (record { stage = Done; second = b; rows = record s { cut = ds; by_channels = ts; bound = z } })
@@ -118,7 +106,7 @@ go_ending s false ds [] z form few = refl
 go_ending s true ds (t ∷ ts) z form few =
     go-count_lines s ds [] (t ∷ ts) (bound_line z ∷ end_line ∷ []) (omega (arith, few))
     ∙ go_may (cutting true s ds (t ∷ ts)) (bound_line z) (end_line ∷ []) (sym form)
-go_ending s false ds (t ∷ ts) z form few = absurd (not_first (length ts) form)
+go_ending s false ds (t ∷ ts) z form few = absurd (grind (arith, nat_tests, form))
 
 -- the lines of a sheet, from the first on
 lines_right : (s : SheetRows) → lines_of s ≡ title_line (has_counts s) ∷ stores_line s.stores ∷ (dump_lines s.plan.stores 1 s.plan.steps s.plan.amounts ++ (loss_line s.loss ∷ (map stretch_line s.cut ++ (map count_line s.by_channels ++ (bound_line s.bound ∷ end_line ∷ [])))))

@@ -2,7 +2,7 @@
 use Rattle.std.proofs.Common.{◌≡◌, ℕ, zero, suc, ◌+◌, ◌-◌, ◌≤◌, Bool, false, ◌==◌, List, [], ◌∷◌, ◌++◌, length, map, take, drop, Option, Some, None, refl, sym, ap, ◌∙◌, subst, arith, length-append, length-drop, length-take}
 use Rattle.std.specs.Prelude.{All, option_and_then}
 use Rattle.std.specs.List.{join_with_byte}
-use Rattle.std.proofs.lemmas.List.{append_cancel_right, take-append-drop, take-append-le, take_all}
+use Rattle.std.proofs.lemmas.List.{append_cancel_right, drop-drop, drop_at, take-append-drop, take-append-le, take_all}
 use Rattle.std.proofs.lemmas.List.Elements.{All-nil, All-cons, All-append, All-map, All-weaker}
 use Rattle.std.proofs.lemmas.List.Splits.{join_with_byte-slice_split, length-slice_split}
 use Rattle.std.proofs.lemmas.Option.{same_Some}
@@ -35,12 +35,6 @@ take_at : {A : Type 0} (k : ℕ) (ls : List A) (l : A) (ms : List A) → drop k 
 take_at zero ls l ms e = ap (take 1) e
 take_at (suc k) [] l ms e = absurd (cc)
 take_at (suc k) (x ∷ ls) l ms e = ap (λ ys. x ∷ ys) (take_at k ls l ms e)
-
--- the elements after a place
-drop_at : {A : Type 0} (k : ℕ) (ls : List A) (l : A) (ms : List A) → drop k ls ≡ l ∷ ms → drop (suc k) ls ≡ ms
-drop_at zero ls l ms e = ap (drop 1) e
-drop_at (suc k) [] l ms e = absurd (cc)
-drop_at (suc k) (x ∷ ls) l ms e = drop_at k ls l ms e
 
 -- a text has a line
 some_lines : (text : List ℕ) → 1 ≤ length (text_lines text)
@@ -77,11 +71,11 @@ next_run text d rest line front after h e =
 pub read_on : (text : List ℕ) (d e : DraftRows) (rest : List ℕ) (line : ℕ) (front after : List ℕ) → IsReadTo text d rest line → text_lines rest ≡ front ∷ text_lines after → take_line d front ≡ Some e → IsReadTo text e after (line + 1)
 read_on text d e rest line front after h split taken =
     let back : line ≡ line + 1 - 1 = omega arith in
-    let here : suc (line - 1) ≡ line + 1 - 1 = omega (arith, h.first) in
+    let here : line - 1 + 1 ≡ line + 1 - 1 = omega (arith, h.first) in
     record {
       first = omega arith;
       taken = ap (λ k. run start (take k (text_lines text))) (sym back) ∙ next_run text d rest line front after h split ∙ taken;
-      left = ap (λ k. drop k (text_lines text)) (sym here) ∙ drop_at (line - 1) (text_lines text) front (text_lines after) (h.left ∙ split);
+      left = ap (λ k. drop k (text_lines text)) (sym here) ∙ sym (drop-drop 1 (line - 1) (text_lines text)) ∙ ap (drop 1) (h.left ∙ split);
     }
 
 -- only so many lines are taken
@@ -130,11 +124,6 @@ bad_line text d rest line front after h split bad =
           none (subst Begins (sym (ap (take line) lines ∙ take-append-le line (map line_text (lines_of s)) ([] ∷ []) within)) (front_begins s is line));
     }
 
--- what follows a list
-drop_front : {A : Type 0} (xs ys : List A) → drop (length xs) (xs ++ ys) ≡ ys
-drop_front [] ys = refl
-drop_front (x ∷ xs) ys = drop_front xs ys
-
 -- where the text ends and is a sheet's, the whole sheet was read
 pub whole_at_end : (text : List ℕ) (d : DraftRows) (rest : List ℕ) (line : ℕ) (s : SheetRows) → IsReadTo text d rest line → text_lines rest ≡ rest ∷ [] → IsSheet s → text ≡ sheet_text s → (d ≡ whole s) × (rest ≡ [])
 whole_at_end text d rest line s h last is e =
@@ -144,7 +133,7 @@ whole_at_end text d rest line s h last is e =
     let count = place_is (line - 1) ls rest [] (h.left ∙ last) in
     let size : line - 1 ≡ length ms = omega (arith, count, ap length lines, length-append ms ([] ∷ [])) in
     let all : take (line - 1) ls ≡ ms = ap (take (line - 1)) lines ∙ take-append-le (line - 1) ms ([] ∷ []) (omega (arith, size)) ∙ take_all (line - 1) ms (omega (arith, size)) in
-    let ends : rest ∷ [] ≡ [] ∷ [] = sym (h.left ∙ last) ∙ ap (drop (line - 1)) lines ∙ ap (λ k. drop k (ms ++ [] ∷ [])) size ∙ drop_front ms ([] ∷ []) in
+    let ends : rest ∷ [] ≡ [] ∷ [] = sym (h.left ∙ last) ∙ ap (drop (line - 1)) lines ∙ drop_at ms ([] ∷ []) (line - 1) (sym size) in
     (same_Some d (whole s) (sym h.taken ∙ ap (run start) all ∙ run-sheet s is), cc)
 
 -- a text that ends too early is bad where it ends
