@@ -1,4 +1,2 @@
-pub mod Alike
+pub mod Sides
 pub mod Tried
-pub mod Nothing
-pub mod LeastCuts

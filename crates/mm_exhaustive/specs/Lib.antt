@@ -1,3 +1,2 @@
-pub mod Agreement
-pub mod Best
-pub mod LeastCut
+pub mod Cuts
+pub mod Plans

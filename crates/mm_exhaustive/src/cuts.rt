@@ -1,6 +1,7 @@
-//! The least capacity of a cut by trying every side, a plain program to compare the solver with.
-ghost use Rattle.std.specs.Prelude.{◌≡◌, ◌<◌, ◌≤◌, ◌&&◌, not, if◌then◌else◌, length};
-ghost use Rattle.mm_exhaustive.specs.LeastCut.{IsLeastCut, IsLeastOver, IsCutCapacity, least_of};
+//! Cuts of little capacity, looked for by trying every side, a plain program to compare the solver with.
+ghost use Rattle.std.specs.Prelude.{◌≡◌, ◌<◌, ◌≤◌, ◌&&◌, not, if◌then◌else◌, length, IfSome, IfNone, IsSomeAnd};
+ghost use Rattle.mm_exhaustive.specs.Cuts.{IsCutBelow, NoCutBelow, IsCutCapacity};
+ghost use Rattle.mm_flow.specs.Cut.{Side, IsCut, capacity_of};
 ghost use Rattle.mm_flow.specs.Solution.{side_of};
 
 use mm_flow::{Arc, Network};
@@ -8,54 +9,58 @@ use mm_flow::{Arc, Network};
 /// The most nodes of a network whose sides are tried one by one.
 pub const MAX_TRIED: usize = 10;
 
-/// The least capacity of the cuts between the source and the sink. `None` where there is no cut: an unlimited arc
-/// leaves each set of nodes with the source and without the sink.
+/// A cut between the source and the sink of less capacity than this, or any cut where no number is given: the nodes on the source's
+/// side. `None` where there is no such cut: an unlimited arc leaves each set of nodes with the source and without the sink, or the
+/// capacities are not less.
 #[must_use]
-pub fn least_cut(network: &Network, source: u32, sink: u32) -> Option<u64>
+pub fn cut_below(
+    network: &Network,
+    source: u32,
+    sink: u32,
+    most: Option<u64>,
+) -> Option<[bool; MAX_TRIED]>
     requires few { network.now.graph.nodes ≤ MAX_TRIED }
     requires source { source < network.now.graph.nodes }
     requires sink { sink < network.now.graph.nodes }
-    ensures least { IsLeastCut network.now.graph source sink result }
+    ensures found { IfSome result (λ side. IsCutBelow network.now.graph source sink (side_of side) most) }
+    ensures none { IfNone result ((cut : Side) → IsCut network.now.graph source sink cut
+        → IsSomeAnd most (λ c. c ≤ capacity_of network.now.graph cut)) }
 {
-    least_over(network, source, sink, [false; MAX_TRIED], 0)
+    below_from(network, source, sink, [false; MAX_TRIED], 0, most)
 }
 
-// The least capacity of the cuts that agree with a side at the nodes below one.
-fn least_over(
+// The same among the cuts that agree with a side at the nodes below one.
+fn below_from(
     network: &Network,
     source: u32,
     sink: u32,
     side: [bool; MAX_TRIED],
     node: usize,
-) -> Option<u64>
+    most: Option<u64>,
+) -> Option<[bool; MAX_TRIED]>
     requires few { network.now.graph.nodes ≤ MAX_TRIED }
     requires source { source < network.now.graph.nodes }
     requires sink { sink < network.now.graph.nodes }
     requires node { node ≤ network.now.graph.nodes }
-    ensures least { IsLeastOver network.now.graph source sink (side_of side) node result }
+    ensures found { IfSome result (λ side. IsCutBelow network.now.graph source sink (side_of side) most) }
+    ensures none { IfNone result (NoCutBelow network.now.graph source sink (side_of side) node most) }
 {
     if node == network.node_count() {
-        return cut_capacity(network, source, sink, &side);
+        return match (cut_capacity(network, source, sink, &side), most) {
+            (None, _) => None,
+            (Some(capacity), Some(most)) if most <= capacity => None,
+            _ => Some(side),
+        };
     }
     let mut inside = side;
     inside[node] = true;
+    let found = below_from(network, source, sink, inside, node + 1, most);
+    if found.is_some() {
+        return found;
+    }
     let mut outside = side;
     outside[node] = false;
-    least_of(
-        least_over(network, source, sink, inside, node + 1),
-        least_over(network, source, sink, outside, node + 1),
-    )
-}
-
-// The smaller of two numbers that may be missing.
-fn least_of(one: Option<u64>, other: Option<u64>) -> Option<u64>
-    ensures { result ≡ least_of one other }
-{
-    match (one, other) {
-        (None, other) => other,
-        (Some(one), None) => Some(one),
-        (Some(one), Some(other)) => Some(one.min(other)),
-    }
+    below_from(network, source, sink, outside, node + 1, most)
 }
 
 // The capacity of a side, or `None` where it is no cut.

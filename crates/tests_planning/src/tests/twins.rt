@@ -1,7 +1,7 @@
 //! The planner beside the slow twin that tries every plan, on tiny problems.
 use crate::tests::samples::{filled, joined, problem_of};
 use mm_cut::{Verdict, verify};
-use mm_exhaustive::least_plan;
+use mm_exhaustive::plan_below;
 use mm_plan::{NoMemory, fits, loss_of};
 use mm_planner::{Planned, plan, plan_by_flow};
 use mm_problem::Problem;
@@ -75,17 +75,14 @@ fn planned_loss(rt: &impl Abort, alloc: Global, problem: &Problem) -> u64 {
     loss
 }
 
-// The least loss by the plain planner, whose plan fits and loses that.
-fn tried_loss(rt: &impl Abort, alloc: Global, problem: &Problem) -> u64 {
-    let (tried, least) = least_plan(alloc, problem).expect(rt, "memory");
-    assert!(rt; (fits(problem, &tried), loss_of(problem, &tried)) == (Ok(()), least));
-    least
-}
-
-// The least loss by the plain planner, which each path of the planner finds too.
+// The loss that each path of the planner finds: of all plans one that fits loses that, and none loses less.
 fn least_loss(rt: &impl Abort, alloc: Global, problem: &Problem) -> u64 {
-    let least = tried_loss(rt, alloc, problem);
-    assert!(rt; planned_loss(rt, alloc, problem) == least);
+    let least = planned_loss(rt, alloc, problem);
+    let less = plan_below(alloc, problem, least).expect(rt, "memory");
+    let more = plan_below(alloc, problem, least.saturating_add(1)).expect(rt, "memory");
+    let found = more.expect(rt, "a plan that loses least");
+    assert!(rt; (fits(problem, &found), loss_of(problem, &found)) == (Ok(()), least));
+    assert!(rt; less.is_none(), "a plan loses less than {least}");
     least
 }
 

@@ -1,6 +1,6 @@
 use Rattle.std.proofs.Common.{arith}
 use Rattle.mm_flow.specs.Solution.{side_of}
-use Rattle.mm_exhaustive.proofs.LeastCuts.{counted_none, counted_more, counted_all}
+use Rattle.mm_exhaustive.proofs.Sides.{counted_none, counted_more, counted_all}
 use Rattle.mm_exhaustive.proofs.cuts.cut_capacity.Goals as goal
 
 pub loop-number-init : goal.loop-number-init

@@ -1,5 +1,5 @@
 use Rattle.mm_flow.specs.Solution.{side_of}
-use Rattle.mm_exhaustive.proofs.LeastCuts.{IsCounted}
+use Rattle.mm_exhaustive.proofs.Sides.{IsCounted}
 use Rattle.mm_exhaustive.proofs.cuts.cut_capacity.Given as goal
 
 abbrev pub invariant-loop-number : goal.invariant-loop-number

@@ -1,9 +1,8 @@
-use Rattle.std.proofs.Common.{◌+◌, ◌-◌, ◌*◌, ◌≤◌, length}
+use Rattle.std.proofs.Common.{◌+◌, ◌-◌, ◌*◌, length}
 use Rattle.mm_base.specs.declared.limits.TheConstants.{MAX_STORES}
 use Rattle.mm_plan.specs.Table.{amount, HasShape}
-use Rattle.mm_exhaustive.specs.Agreement.{AgreesBefore}
-use Rattle.mm_exhaustive.specs.Best.{IsFitting}
-use Rattle.mm_exhaustive.proofs.Tried.{IsLeastBelow}
+use Rattle.mm_exhaustive.specs.Plans.{AgreesBefore}
+use Rattle.mm_exhaustive.proofs.Tried.{NoneUpTo}
 use Rattle.mm_exhaustive.proofs.trying.+try_from.Given as goal
 
 -- the places that are left, with one more for each step
@@ -12,9 +11,7 @@ decreases-try_from l = (length l.problem.now.windows + 1 - l.step) * (MAX_STORES
 
 abbrev pub invariant-loop-blocks : goal.invariant-loop-blocks
 invariant-loop-blocks l = record {
-  best : IsFitting l.problem l.best;
-  no_more : l.best.loss ≤ l.fn.best.loss;
   shape : HasShape l.problem l.plan;
   same : AgreesBefore l.problem (amount l.fn.plan) (amount l.plan) l.step l.store;
-  tried : IsLeastBelow l.problem (amount l.fn.plan) l.step l.store l.blocks l.best.loss;
+  tried : NoneUpTo l.problem (amount l.fn.plan) l.step l.store l.blocks l.most;
 }

@@ -3,16 +3,21 @@ ghost use Rattle.std.specs.Prelude.{◌<◌};
 
 use crate::tests::flows::{ArcRow, built, same_value};
 use crate::tests::samples::next_below;
-use mm_exhaustive::{MAX_TRIED, least_cut};
+use mm_exhaustive::{MAX_TRIED, cut_below};
 use std::alloc::Global;
 use std::process::Abort;
 
-// The least capacity of a cut between node 0 and node 1, which is the value that both solvers answer.
+// The least capacity of a cut between node 0 and node 1, which is the value that both solvers answer: of all cuts one has that, and none
+// has less.
 fn least_capacity(rt: &impl Abort, alloc: Global, nodes: u32, arcs: &[ArcRow]) -> Option<u64> {
     let network = built(rt, alloc, nodes, arcs);
     assert!(rt; network.node_count() > 1 && network.node_count() <= MAX_TRIED);
-    let least = least_cut(&network, 0, 1);
-    assert!(rt; same_value(rt, alloc, &network, 0, 1) == least);
+    let least = same_value(rt, alloc, &network, 0, 1);
+    assert!(rt; cut_below(&network, 0, 1, least).is_none());
+    if let Some(least) = least {
+        let more = Some(least.saturating_add(1));
+        assert!(rt; cut_below(&network, 0, 1, more).is_some());
+    }
     least
 }
 
