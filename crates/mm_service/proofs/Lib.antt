@@ -6,3 +6,5 @@ pub mod ReportLemmas
 pub mod HeaderLemmas
 pub mod SpellingLemmas
 pub mod CallLemmas
+pub mod ReceivedLemmas
+pub mod RequestingLemmas

@@ -11,3 +11,8 @@ pub mod Applying
 pub mod Reporting
 pub mod Showing
 pub mod Accounts
+pub mod InstructionFields
+pub mod FieldsFault
+pub mod Requesting
+pub mod EntryFields
+pub mod Received

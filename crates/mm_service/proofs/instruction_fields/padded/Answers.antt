@@ -1,0 +1,11 @@
+use Rattle.std.proofs.Common.{ap, ◌∙◌, arith}
+use Rattle.std.proofs.Math.ListN.{set}
+use Rattle.mm_service.specs.InstructionFields.{spaced}
+use Rattle.mm_service.proofs.AnswerLemmas.{one_more}
+use Rattle.mm_service.proofs.instruction_fields.padded.Goals as goal
+
+pub loop-index-preserved : goal.loop-index-preserved
+loop-index-preserved c =
+    let l = c.loop-index in
+    ap (set l.field l.index) c.spaced.ensures
+    ∙ one_more spaced c.args.id c.args.id l.field l.index 0 (omega arith) (omega arith) l.invariant
