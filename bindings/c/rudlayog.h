@@ -6,7 +6,8 @@
  * checked by nobody:
  *
  * - No pointer is null, also where a length is 0; each leads to as many octets, or to one value, as the call says. One exception, which is
- *   tested and not proved: where `room` or `each_room` is 0 the buffer may be null. So a call with `NULL, 0` asks how long the text is.
+ *   tested and not proved: where `room`, `each_room` or `entries_room` is 0 the buffer may be null, and so may `instructions` where their
+ *   `count` is 0. So a call with `NULL, 0` asks how long the text is.
  * - What a call writes (`out`, `answer`, `verdict`, `outcome`, `memory` and the like) overlaps nothing else that is given to the call.
  * - Octets that are given to be read do not change during the call.
  * - `malloc`, `realloc` and `free` are of one allocator, and `malloc` aligns to each power of two up to 16 that divides the size.
@@ -19,9 +20,9 @@
  * threads at once.
  *
  * Whatever it answers, a call writes its `answer` whole, and each value beside it (`verdict`, `outcome`, `fate`, `tally`, `time`, `state`,
- * `reports`), which is all 0 but where the call says another. It writes into its buffer only where it tells `RUDLAYOG_WRITTEN`, and then
- * only the `answer.length` octets of the text. A call on a handle that tells another status has changed nothing, but that the retrieval is
- * over where rudlayog_memory_next tells `RUDLAYOG_END`. */
+ * `reports`, `report`), which is all 0 but where the call says another. It writes into its buffer only where it tells `RUDLAYOG_WRITTEN`,
+ * and then only the `answer.length` octets of the text, or the first `answer.length` entries. A call on a handle that tells another status
+ * has changed nothing, but that the retrieval is over where rudlayog_memory_next tells `RUDLAYOG_END`. */
 #ifndef RUDLAYOG_H
 #define RUDLAYOG_H
 
@@ -61,14 +62,16 @@ enum rudlayog_place {
 
 /* Rooms that do for most texts. A call whose text is longer says how long it is, and is made again. */
 enum {
-    RUDLAYOG_PLAN_ROOM = 204800, /* for a plan text */
-    RUDLAYOG_LINE_ROOM = 64,     /* for the line of a verdict */
-    RUDLAYOG_WORDS_ROOM = 512,   /* for the words of a refusal */
-    RUDLAYOG_HINT_ROOM = 1024,   /* for a hint */
-    RUDLAYOG_VERSION_ROOM = 16,  /* for the version */
-    RUDLAYOG_INSTRUCTIONS = 255, /* for the answers to a request */
-    RUDLAYOG_BLOCK = 1024,       /* for a packet that is stored */
-    RUDLAYOG_PACKET = 65542      /* for any packet, so for each report */
+    RUDLAYOG_PLAN_ROOM = 204800,  /* for a plan text */
+    RUDLAYOG_LINE_ROOM = 64,      /* for the line of a verdict */
+    RUDLAYOG_WORDS_ROOM = 512,    /* for the words of a refusal */
+    RUDLAYOG_HINT_ROOM = 1024,    /* for a hint */
+    RUDLAYOG_VERSION_ROOM = 16,   /* for the version */
+    RUDLAYOG_INSTRUCTIONS = 255,  /* for the answers to a request */
+    RUDLAYOG_BLOCK = 1024,        /* for a packet that is stored */
+    RUDLAYOG_REQUEST_ROOM = 6132, /* for the telecommand of any request */
+    RUDLAYOG_PACKET = 65542,      /* for any packet, so for each report */
+    RUDLAYOG_ROWS = 16377         /* for the entries of any report, in entries */
 };
 
 /* Bytes of stack that do for a call, with the allocator of glibc. bindings/c/tests/stack.c measures less, also with setups that are nested
@@ -83,8 +86,9 @@ enum {
     RUDLAYOG_WORDS_STACK = 4096,
     RUDLAYOG_HINT_STACK = 114688,
     RUDLAYOG_VERSION_STACK = 1024,
-    RUDLAYOG_OPEN_STACK = 49152, /* for rudlayog_memory_open */
-    RUDLAYOG_MEMORY_STACK = 4096 /* for each other call on a memory */
+    RUDLAYOG_FIELDS_STACK = 4096, /* for rudlayog_request_write and rudlayog_report_read */
+    RUDLAYOG_OPEN_STACK = 49152,  /* for rudlayog_memory_open */
+    RUDLAYOG_MEMORY_STACK = 4096  /* for each other call on a memory */
 };
 
 /* Bytes of memory that do for a report that waits, measured by bindings/c/tests/answers.c with the allocator of glibc. */
@@ -254,6 +258,91 @@ struct rudlayog_tally {
  * success. */
 enum { RUDLAYOG_DONE = 255 };
 
+/* What a request asks, by its message subtype (docs/PACKETS.md, 'Requests of the storage service'). Beside it stand the fields that its
+ * instructions have after `id`. */
+enum rudlayog_request_subtype {
+    RUDLAYOG_ENABLE_STORAGE = 1,
+    RUDLAYOG_DISABLE_STORAGE = 2,
+    RUDLAYOG_ADD_REPORT_TYPES = 3,    /* apid, service, subtype */
+    RUDLAYOG_DELETE_REPORT_TYPES = 4, /* apid, service, subtype */
+    RUDLAYOG_REPORT_CONTROL = 5,
+    RUDLAYOG_START_RETRIEVAL = 9, /* from, to */
+    RUDLAYOG_DELETE_CONTENT = 11, /* to */
+    RUDLAYOG_SUMMARISE_CONTENT = 12,
+    RUDLAYOG_ABORT_RETRIEVAL = 17,
+    RUDLAYOG_REPORT_STATUS = 18, /* no instruction */
+    RUDLAYOG_CREATE_STORES = 20, /* size, type, channel */
+    RUDLAYOG_DELETE_STORES = 21,
+    RUDLAYOG_REPORT_CONFIGURATION = 22, /* no instruction */
+    RUDLAYOG_RESIZE_STORES = 25,        /* size */
+    RUDLAYOG_CHANGE_TO_CIRCULAR = 26,
+    RUDLAYOG_CHANGE_TO_BOUNDED = 27,
+    RUDLAYOG_CHANGE_CHANNEL = 28 /* channel */
+};
+
+/* What a report tells, by its message subtype (docs/PACKETS.md, 'Reports of the storage service'). Beside it stand the fields that its
+ * entries have. */
+enum rudlayog_report_subtype {
+    RUDLAYOG_NO_REPORT = 0,      /* the call is refused */
+    RUDLAYOG_CONTROL = 6,        /* apid, service, subtype; the report has the identifier of their store */
+    RUDLAYOG_SUMMARIES = 13,     /* id, oldest, newest, held */
+    RUDLAYOG_STATUSES = 19,      /* id, storage, retrieval */
+    RUDLAYOG_CONFIGURATIONS = 23 /* id, size, type, channel */
+};
+
+/* The type of a store in packets. */
+enum rudlayog_packet_type { RUDLAYOG_TYPE_CIRCULAR = 0, RUDLAYOG_TYPE_BOUNDED = 1 };
+
+/* The fields of a request. */
+struct rudlayog_request {
+    uint16_t apid;           /* the application process identifier of the storage service, 0 to 2046 */
+    uint16_t count;          /* the packet sequence count, 0 to 16383 */
+    uint16_t source;         /* the source identifier */
+    uint8_t acknowledgement; /* the acknowledgement flags, 0 to 15 */
+    uint8_t subtype;         /* of enum rudlayog_request_subtype */
+};
+
+/* An instruction of a request. Fields that the instructions of the request do not have are not read. */
+struct rudlayog_instruction {
+    uint8_t id[8];   /* the identifier of the store, as "SCI": octets 0 after it stand for the spaces of a packet */
+    uint64_t from;   /* the first storage time of a retrieval, in ticks */
+    uint64_t to;     /* the last storage time of a retrieval, or of the content that is deleted, in ticks */
+    uint32_t size;   /* the size of the store, in blocks */
+    uint16_t apid;   /* the application process identifier of a report type */
+    uint8_t service; /* the service type of a report type */
+    uint8_t subtype; /* the message subtype of a report type */
+    uint8_t type;    /* of enum rudlayog_packet_type */
+    uint8_t channel; /* the virtual channel of the store */
+};
+
+/* The fields of a report. */
+struct rudlayog_report {
+    uint64_t moment;      /* the moment of the request that the report answers, in ticks */
+    uint8_t id[8];        /* RUDLAYOG_CONTROL: the identifier of the store, with spaces after it; elsewhere all 0 */
+    uint16_t apid;        /* the application process identifier */
+    uint16_t count;       /* the packet sequence count */
+    uint16_t counter;     /* the message type counter */
+    uint16_t destination; /* the destination identifier */
+    uint8_t reference;    /* the time reference status */
+    uint8_t subtype;      /* of enum rudlayog_report_subtype */
+};
+
+/* An entry of a report. Fields that the entries of the report do not have are 0. */
+struct rudlayog_entry {
+    uint8_t id[8];     /* the identifier of the store, with spaces after it */
+    uint64_t oldest;   /* the storage time of its oldest packet, in ticks; 0 where it is empty */
+    uint64_t newest;   /* the storage time of its newest packet, in ticks; 0 where it is empty */
+    uint32_t held;     /* how many packets it holds */
+    uint32_t size;     /* its size, in blocks */
+    uint16_t apid;     /* the application process identifier of a report type */
+    uint8_t service;   /* the service type of a report type */
+    uint8_t subtype;   /* the message subtype of a report type */
+    uint8_t storage;   /* 1 where its storage is on, 0 where it is off */
+    uint8_t retrieval; /* 1 where a retrieval is on, 0 where none is */
+    uint8_t type;      /* of enum rudlayog_packet_type */
+    uint8_t channel;   /* its virtual channel */
+};
+
 RUDLAYOG_SAME(sizeof(struct rudlayog_refused) == 32);
 RUDLAYOG_SAME(offsetof(struct rudlayog_refused, number) == 0 && offsetof(struct rudlayog_refused, place) == 4);
 RUDLAYOG_SAME(offsetof(struct rudlayog_refused, row) == 8 && offsetof(struct rudlayog_refused, column) == 12);
@@ -275,6 +364,14 @@ RUDLAYOG_SAME(offsetof(struct rudlayog_state, retrieval) == 16 && offsetof(struc
 RUDLAYOG_SAME(sizeof(struct rudlayog_tally) == 12);
 RUDLAYOG_SAME(offsetof(struct rudlayog_tally, kept) == 0 && offsetof(struct rudlayog_tally, lost) == 4 &&
               offsetof(struct rudlayog_tally, refused) == 8);
+
+RUDLAYOG_SAME(sizeof(struct rudlayog_request) == 8 && offsetof(struct rudlayog_request, subtype) == 7);
+RUDLAYOG_SAME(sizeof(struct rudlayog_instruction) == 40 && offsetof(struct rudlayog_instruction, to) == 16);
+RUDLAYOG_SAME(offsetof(struct rudlayog_instruction, apid) == 28 && offsetof(struct rudlayog_instruction, channel) == 33);
+RUDLAYOG_SAME(sizeof(struct rudlayog_report) == 32 && offsetof(struct rudlayog_report, apid) == 16);
+RUDLAYOG_SAME(offsetof(struct rudlayog_report, reference) == 24 && offsetof(struct rudlayog_report, subtype) == 25);
+RUDLAYOG_SAME(sizeof(struct rudlayog_entry) == 40 && offsetof(struct rudlayog_entry, newest) == 16);
+RUDLAYOG_SAME(offsetof(struct rudlayog_entry, apid) == 32 && offsetof(struct rudlayog_entry, channel) == 39);
 
 /* The text of a dump plan that loses least for a setup and a forecast, with the cut that shows it. Stack: `RUDLAYOG_PLAN_STACK`.
  *
@@ -333,6 +430,26 @@ void rudlayog_hint(const uint8_t *setup, size_t setup_length, const uint8_t *for
  *
  * `RUDLAYOG_WRITTEN`, `RUDLAYOG_TOO_SMALL` (not where `room` is `RUDLAYOG_VERSION_ROOM` or more). */
 void rudlayog_version(uint8_t *out, size_t room, struct rudlayog_answer *answer);
+
+/* Writes the octets of the telecommand of a request with `count` instructions. A value of an instruction is not tested: a memory refuses
+ * the instruction that has one that is not allowed, where it is carried out. Stack: `RUDLAYOG_FIELDS_STACK`.
+ *
+ * `RUDLAYOG_WRITTEN`, `RUDLAYOG_TOO_SMALL` (not where `room` is `RUDLAYOG_REQUEST_ROOM` or more). `RUDLAYOG_REFUSED`, in this order:
+ * `RUDLAYOG_REFUSAL_IDLE_PACKET`, the APID is above 2046; `RUDLAYOG_REFUSAL_LIMIT`, the sequence count is above 16383 or the flags are
+ * above 15; `RUDLAYOG_REFUSAL_UNKNOWN_SUBTYPE`; `RUDLAYOG_REFUSAL_COUNT_MISMATCH`, `count` is not 1 to 255, or not 0 in a request without
+ * instructions. Or out of memory, `RUDLAYOG_REFUSAL_NO_MEMORY`. */
+void rudlayog_request_write(const struct rudlayog_request *request, const struct rudlayog_instruction *instructions, size_t count,
+                            uint8_t *out, size_t room, struct rudlayog_answer *answer);
+
+/* Reads the report of a packet, with nothing after it: its fields, and those of its entries in order. `answer.length` is the number of
+ * entries, up to 255, or up to `RUDLAYOG_ROWS` in `RUDLAYOG_CONTROL`; `entries_room` is the number that `entries` has room for. Stack:
+ * `RUDLAYOG_FIELDS_STACK`.
+ *
+ * `RUDLAYOG_WRITTEN`: `report` has the fields, and the first `answer.length` of `entries` are its entries. `RUDLAYOG_TOO_SMALL`: `report`
+ * has the fields, and `entries` is as it was. `RUDLAYOG_REFUSED`: the octets are no packet, there are more than the packet has, it is no
+ * report, or out of memory; `report` is all 0. */
+void rudlayog_report_read(const uint8_t *packet, size_t packet_length, struct rudlayog_report *report, struct rudlayog_entry *entries,
+                          size_t entries_room, struct rudlayog_answer *answer);
 
 /* A memory with its storage service. Moments and storage times are in ticks; an identifier is its text, as `SCI`; a packet is its octets,
  * with nothing after them: octets after it are refused, `RUDLAYOG_REFUSAL_HEX_LINE`. Each call but rudlayog_memory_open tells

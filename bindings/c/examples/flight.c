@@ -1,5 +1,5 @@
 /* A memory in flight: packets are recorded by the routes of a setup, ground asks for a retrieval and a report by telecommand, and the
- * packets of both are given one by one. */
+ * packets of both are given one by one. Telecommands are made of their fields, and the report is read into its fields. */
 #include <rudlayog.h>
 #include <stdio.h>
 #include <string.h>
@@ -13,10 +13,8 @@ static const char setup[] = "[[store]]\nid = \"SCI\"\nsize = 4\ntype = \"bounded
 /* Telemetry of APID 1, service 3, subtype 25: housekeeping, with the sequence count in its fourth octet and no data. */
 static uint8_t housekeeping[] = {0x08, 1, 0xC0, 0, 0, 14, 0x20, 3, 25, 0, 0, 0, 0, 0, 0, 0, 0, 0, 0, 0, 0};
 
-/* TC[15,9] starts a retrieval from HK of all times up to 255; TC[15,12] asks for a summary of it. Both stand with their identifier. */
-static const uint8_t retrieval[] = {0x18, 100, 0xC0, 0, 0, 29, 0x20, 15, 9, 0, 7, 1, 'H', 'K', ' ', ' ', ' ', ' ',
-                                    ' ',  ' ', 0,    0, 0, 0,  0,    0,  0, 0, 0, 0, 0,   0,   0,   0,   0,   255};
-static const uint8_t summary[] = {0x18, 100, 0xC0, 1, 0, 13, 0x20, 15, 12, 0, 7, 1, 'H', 'K', ' ', ' ', ' ', ' ', ' ', ' '};
+/* All times of HK up to 255. A summary reads the identifier alone. */
+static const struct rudlayog_instruction of_hk = {.id = "HK", .from = 0, .to = 255};
 
 static int complain(const char *what, const struct rudlayog_answer *answer) {
     uint8_t words[1024];
@@ -42,12 +40,35 @@ static int record(struct rudlayog_memory *memory, uint64_t now) {
     return 0;
 }
 
-static int apply(struct rudlayog_memory *memory, uint64_t now, const uint8_t *request, size_t length) {
-    uint8_t each[RUDLAYOG_INSTRUCTIONS];
+/* Makes the telecommand of a request with one instruction, and applies it. */
+static int apply(struct rudlayog_memory *memory, uint64_t now, uint8_t subtype, const struct rudlayog_instruction *instruction) {
+    const struct rudlayog_request request = {.apid = 100, .source = 7, .subtype = subtype};
+    uint8_t packet[RUDLAYOG_REQUEST_ROOM], each[RUDLAYOG_INSTRUCTIONS];
     struct rudlayog_answer answer;
-    rudlayog_memory_apply(memory, now, request, length, each, sizeof each, &answer);
+    rudlayog_request_write(&request, instruction, 1, packet, sizeof packet, &answer);
+    if (answer.status != RUDLAYOG_WRITTEN) {
+        return complain("request", &answer);
+    }
+    rudlayog_memory_apply(memory, now, packet, answer.length, each, sizeof each, &answer);
     if (answer.status != RUDLAYOG_WRITTEN || answer.length != 1 || each[0] != RUDLAYOG_DONE) {
         return complain("apply", &answer);
+    }
+    return 0;
+}
+
+/* Reads a report, and prints its entries: the stores with what they hold. */
+static int show(const uint8_t *packet, size_t length) {
+    struct rudlayog_report report;
+    struct rudlayog_entry entries[4];
+    struct rudlayog_answer answer;
+    rudlayog_report_read(packet, length, &report, entries, sizeof entries / sizeof entries[0], &answer);
+    if (answer.status != RUDLAYOG_WRITTEN) {
+        return complain("report", &answer);
+    }
+    printf("TM[15,%u] of the moment %llu\n", report.subtype, (unsigned long long)report.moment);
+    for (size_t k = 0; k < answer.length; k++) {
+        printf("%.8s holds %u packets, of the times %llu to %llu\n", (const char *)entries[k].id, entries[k].held,
+               (unsigned long long)entries[k].oldest, (unsigned long long)entries[k].newest);
     }
     return 0;
 }
@@ -67,14 +88,16 @@ static int fly(struct rudlayog_memory *memory) {
     if (answer.status != RUDLAYOG_WRITTEN || fate.kind != RUDLAYOG_KEPT) {
         return complain("offer", &answer);
     }
-    if (apply(memory, 5, summary, sizeof summary) || apply(memory, 6, retrieval, sizeof retrieval)) {
+    if (apply(memory, 5, RUDLAYOG_SUMMARISE_CONTENT, &of_hk) || apply(memory, 6, RUDLAYOG_START_RETRIEVAL, &of_hk)) {
         return 1;
     }
     rudlayog_memory_report(memory, out, 10, &answer);
     printf("a report of %zu octets waits\n", answer.length);
     for (rudlayog_memory_report(memory, out, sizeof out, &answer); answer.status == RUDLAYOG_WRITTEN;
          rudlayog_memory_report(memory, out, sizeof out, &answer)) {
-        printf("TM[%u,%u]\n", out[7], out[8]);
+        if (show(out, answer.length)) {
+            return 1;
+        }
     }
     if (answer.status != RUDLAYOG_END) {
         return complain("report", &answer);

@@ -128,6 +128,28 @@ static void call_waiting(void) {
     rudlayog_memory_waiting(&memory, &reports, &answer);
 }
 
+/* Each subtype with as many instructions as a request has. */
+static void call_request_write(void) {
+    static const struct rudlayog_instruction instructions[255];
+    for (unsigned subtype = 0; subtype < 32; subtype++) {
+        const struct rudlayog_request request = {.apid = 1, .subtype = (uint8_t)subtype};
+        const size_t most = subtype == RUDLAYOG_REPORT_STATUS || subtype == RUDLAYOG_REPORT_CONFIGURATION ? 0 : 255;
+        rudlayog_request_write(&request, instructions, most, out, ROOM, &answer);
+    }
+}
+
+/* Each subtype with one entry. */
+static void call_report_read(void) {
+    static const struct { uint8_t subtype, length, data[32]; } told[] = {{6, 14, {[9] = 1}}, {13, 29, {1}}, {19, 11, {1}}, {23, 15, {1}}};
+    static struct rudlayog_entry entries[4];
+    struct rudlayog_report report;
+    for (size_t k = 0; k < sizeof told / sizeof told[0]; k++) {
+        uint8_t octets[64] = {0x08, 1, 0xC0, 0, 0, (uint8_t)(14 + told[k].length), 0x20, 15, told[k].subtype};
+        memcpy(octets + 21, told[k].data, told[k].length);
+        rudlayog_report_read(octets, 21u + told[k].length, &report, entries, 4, &answer);
+    }
+}
+
 static void call_close(void) { rudlayog_memory_close(&memory); }
 
 static struct {
@@ -145,6 +167,8 @@ static struct {
     {"rudlayog_words", call_words, RUDLAYOG_WORDS_STACK, 0},
     {"rudlayog_hint", call_hint, RUDLAYOG_HINT_STACK, 0},
     {"rudlayog_version", call_version, RUDLAYOG_VERSION_STACK, 0},
+    {"rudlayog_request_write", call_request_write, RUDLAYOG_FIELDS_STACK, 0},
+    {"rudlayog_report_read", call_report_read, RUDLAYOG_FIELDS_STACK, 0},
     {"rudlayog_memory_open", call_open, RUDLAYOG_OPEN_STACK, 0},
     {"rudlayog_memory_open", call_open_of_setup, RUDLAYOG_OPEN_STACK, 0},
     {"rudlayog_memory_apply", call_apply, RUDLAYOG_MEMORY_STACK, 0},

@@ -2,3 +2,4 @@ pub mod Telling
 pub mod Owning
 pub mod Serving
 pub mod Showing
+pub mod Fields
