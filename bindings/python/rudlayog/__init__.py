@@ -21,6 +21,8 @@ from .forecasts import Forecast, ForecastLike
 from .memory import Fate, Memory, Retrieval, StoreState, Tally
 from .plans import Cut, Plan, PlanLike, Stretch
 from .refusals import Refusal
+from .reports import Report
+from .requests import Request
 from .setups import Limit, Route, Setup, SetupLike, Store
 
 __all__ = [
@@ -36,6 +38,8 @@ __all__ = [
     "PlanTable",
     "Refusal",
     "Replies",
+    "Report",
+    "Request",
     "Retrieval",
     "Route",
     "Setup",

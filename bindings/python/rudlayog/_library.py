@@ -77,6 +77,51 @@ class TallyTold(ctypes.Structure):
     _fields_ = [("kept", ctypes.c_uint32), ("lost", ctypes.c_uint32), ("refused", ctypes.c_uint32)]
 
 
+class RequestFields(ctypes.Structure):
+    """struct rudlayog_request"""
+
+    _fields_ = [
+        *((name, ctypes.c_uint16) for name in ("apid", "count", "source")),
+        *((name, ctypes.c_uint8) for name in ("acknowledgement", "subtype")),
+    ]
+
+
+class InstructionFields(ctypes.Structure):
+    """struct rudlayog_instruction"""
+
+    _fields_ = [
+        ("id", ctypes.c_char * 8),
+        ("first", ctypes.c_uint64),
+        ("last", ctypes.c_uint64),
+        ("size", ctypes.c_uint32),
+        ("apid", ctypes.c_uint16),
+        *((name, ctypes.c_uint8) for name in ("service", "subtype", "type", "channel")),
+    ]
+
+
+class ReportFields(ctypes.Structure):
+    """struct rudlayog_report"""
+
+    _fields_ = [
+        ("moment", ctypes.c_uint64),
+        ("id", ctypes.c_uint8 * 8),
+        *((name, ctypes.c_uint16) for name in ("apid", "count", "counter", "destination")),
+        *((name, ctypes.c_uint8) for name in ("reference", "subtype")),
+    ]
+
+
+class EntryFields(ctypes.Structure):
+    """struct rudlayog_entry"""
+
+    _fields_ = [
+        ("id", ctypes.c_uint8 * 8),
+        *((name, ctypes.c_uint64) for name in ("oldest", "newest")),
+        *((name, ctypes.c_uint32) for name in ("held", "size")),
+        ("apid", ctypes.c_uint16),
+        *((name, ctypes.c_uint8) for name in ("service", "subtype", "storage", "retrieval", "type", "channel")),
+    ]
+
+
 def _found() -> Path:
     """The file of the library: that of RUDLAYOG_LIBRARY, or the one in the package, or the one that bindings/c has built."""
     named = os.environ.get("RUDLAYOG_LIBRARY")
@@ -112,6 +157,9 @@ rudlayog_read = _call("rudlayog_read", *_text, *_out, ctypes.POINTER(ctypes.c_ui
 rudlayog_hint = _call("rudlayog_hint", *_text, *_text, *_text, ctypes.POINTER(RefusedAt), *_out)
 rudlayog_words = _call("rudlayog_words", ctypes.POINTER(RefusedAt), *_out)
 rudlayog_version = _call("rudlayog_version", *_out)
+
+rudlayog_request_write = _call("rudlayog_request_write", ctypes.POINTER(RequestFields), ctypes.POINTER(InstructionFields), _size, *_out)
+rudlayog_report_read = _call("rudlayog_report_read", *_text, ctypes.POINTER(ReportFields), ctypes.POINTER(EntryFields), _size)
 
 _handle = ctypes.POINTER(Handle)
 _moment = ctypes.c_uint64
@@ -181,15 +229,28 @@ def accept(*texts: bytes) -> None:
         raise refusal_in(answer.refused, *texts)
 
 
-def moment(given: object, name: str) -> int:
-    """A moment in ticks, which the library takes in 64 bits."""
+def number(given: object, name: str, bits: int) -> int:
+    """A number that the library takes in this many bits."""
     try:
-        now = whole(given, name)
+        value = whole(given, name)
     except ValueError:
-        now = -1
-    if not 0 <= now < 2**64:
-        raise ValueError(f"{name} is {given!r}, and a whole number from 0 to 2^64 - 1 is expected")
-    return now
+        value = -1
+    if not 0 <= value < 2**bits:
+        most = f"2^{bits} - 1" if bits > 32 else str(2**bits - 1)
+        raise ValueError(f"{name} is {given!r}, and a whole number from 0 to {most} is expected")
+    return value
+
+
+def moment(given: object, name: str) -> int:
+    """A moment in ticks."""
+    return number(given, name, 64)
+
+
+def length_found(refused: RefusedAt, packet: bytes) -> str | None:
+    """What was found where a packet is refused for its length."""
+    if refused.number not in (SHORT, HEX_LINE) or len(packet) < 6:
+        return None
+    return f"{len(packet)} octets, and the packet data length says {int.from_bytes(packet[4:6], 'big') + 7}"
 
 
 _NO_MEMORY = _words(RefusedAt())

@@ -13,6 +13,8 @@ from . import _library
 from ._data import Packet, packet_octets
 from .calls import texts
 from .refusals import Refusal
+from .reports import AnyReport, Report
+from .requests import Request
 from .setups import SetupLike
 
 FATES = ("", "kept", "kept over", "lost")
@@ -92,7 +94,7 @@ class Memory:
         if answer.status == _library.CLOSED:
             raise ValueError("the memory is closed")
         if answer.status == _library.REFUSED:
-            raise _library.refusal_in(answer.refused, setup) if setup else _library.refusal_of(answer.refused, _length_found(answer.refused, packet))
+            raise _library.refusal_in(answer.refused, setup) if setup else _library.refusal_of(answer.refused, _library.length_found(answer.refused, packet))
         return answer
 
     def offer(self, store: str, now: SupportsIndex, packet: Packet) -> Fate:
@@ -108,10 +110,11 @@ class Memory:
         self._tell(_library.rudlayog_memory_record, ticks, octets, len(octets), told, packet=octets)
         return Tally(told.kept, told.lost, told.refused)
 
-    def apply(self, now: SupportsIndex, request: Packet) -> tuple[Refusal | None, ...]:
-        """Applies a telecommand of the storage service. There is one answer for each of its instructions, in order: `None` where it is carried
+    def apply(self, now: SupportsIndex, request: Packet | Request) -> tuple[Refusal | None, ...]:
+        """Applies a telecommand of the storage service: its octets, or a `Request`. There is one answer for each of its instructions, in order: `None` where it is carried
         out, and else why it is refused. The reports on the request wait for `reports`."""
-        ticks, octets, each = _library.moment(now, "now"), packet_octets(request, "request"), (ctypes.c_uint8 * _library.INSTRUCTIONS)()
+        ticks, each = _library.moment(now, "now"), (ctypes.c_uint8 * _library.INSTRUCTIONS)()
+        octets = bytes(request) if isinstance(request, Request) else packet_octets(request, "request")
         answer = self._tell(_library.rudlayog_memory_apply, ticks, octets, len(octets), each, len(each), packet=octets)
         return tuple(_refusal(code) for code in each[: answer.length])
 
@@ -123,6 +126,10 @@ class Memory:
             if answer.status == _library.END:
                 return
             yield ctypes.string_at(room, answer.length)
+
+    def read_reports(self) -> Iterator[AnyReport]:
+        """The reports that wait, the oldest first, read into their fields. One that was given waits no more."""
+        yield from map(Report.read, self.reports())
 
     def next(self, store: str) -> tuple[int, bytes] | None:
         """The next packet of the retrieval from the store of this identifier, after its storage time; `None` at the end of the retrieval, which
@@ -184,13 +191,6 @@ def _id_octets(store: str) -> bytes:
     if not isinstance(store, str):
         raise TypeError(f"store is {store!r}, and not the identifier of a store")
     return store.encode("utf-8")
-
-
-def _length_found(refused: _library.RefusedAt, packet: bytes) -> str | None:
-    """What was found where a packet is refused for its length."""
-    if refused.number not in (_library.SHORT, _library.HEX_LINE) or len(packet) < 6:
-        return None
-    return f"{len(packet)} octets, and the packet data length says {int.from_bytes(packet[4:6], 'big') + 7}"
 
 
 def _refusal(code: int) -> Refusal | None:

@@ -329,6 +329,8 @@ def page_tests(page):
 def load_tests(_loader, tests, _pattern):
     tests.addTests(doctest.DocTestSuite(rudlayog))
     tests.addTests(doctest.DocTestSuite(rudlayog.memory))
+    tests.addTests(doctest.DocTestSuite(rudlayog.reports))
+    tests.addTests(doctest.DocTestSuite(rudlayog.requests))
     tests.addTests(page_tests(Path(__file__).resolve().parents[1] / "README.md"))
     return tests
 

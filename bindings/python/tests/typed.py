@@ -4,6 +4,8 @@
 from collections.abc import Mapping
 
 from rudlayog import Cut, Forecast, ForecastLike, Limit, Memory, Plan, Refusal, Route, Setup, SetupLike, Store, Tally, ask, chart, check, plan
+from rudlayog.reports import Summaries
+from rudlayog.requests import StartRetrieval, SummariseContent, TimeRange
 
 TELEMETRY = bytes([0x08, 1, 0xC0, 0, 0, 14, 0x20, 3, 25]) + bytes(12)
 
@@ -38,6 +40,18 @@ def recorded() -> tuple[Tally, list[bytes]]:
         return memory.record(7, bytearray(TELEMETRY)), list(memory.reports())
 
 
+def asked(stores: tuple[str, ...]) -> tuple[bytes, tuple[int, ...]]:
+    """What a request and the report on it say."""
+    request = SummariseContent(stores, apid=100, acknowledgement=9)
+    with Memory([{"id": store, "size": 2} for store in stores]) as memory:
+        memory.apply(7, request)
+        memory.apply(8, bytes(StartRetrieval((TimeRange(stores[0], 1, 2),), apid=request.apid)))
+        for report in memory.read_reports():
+            if isinstance(report, Summaries):
+                return bytes(request), tuple(entry.held for entry in report.entries)
+    raise ValueError("no summary")
+
+
 if __name__ == "__main__":
-    assert planned()[0] >= 0 and recorded() == (Tally(0, 0, 0), [])
+    assert planned()[0] >= 0 and recorded() == (Tally(0, 0, 0), []) and asked(("SCI", "HK"))[1] == (0, 0)
     assert ask("[[store]]\nid = 'HK'\nsize = 2\ntype = 'bounded'\nchannel = 0\n", [b"\x18"]).all_done is False
