@@ -1,5 +1,6 @@
 //! Tests of mm_memory, mm_ask and mm_service.
 
+mod fields;
 mod lines;
 mod memories;
 mod reads;
