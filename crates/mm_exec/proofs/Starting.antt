@@ -229,6 +229,7 @@ done_first gives sent failed m now report stores is = record {
   };
   accounted = λ s store. record { lost = []; packets = IsPermutation-refl _; counted = omega arith; rising = λ t first last. absurd (omega arith) };
   report_is = is;
+  rows = ap (λ (r : Reported). r.steps) is;
   counted =
       subst (λ (held : List Held). AreByCounters m held report.steps) (sym stores)
       (subst (λ (r : Reported). AreByCounters m m.memory.stores r.steps) (sym is) (record {

@@ -35,7 +35,7 @@ use Rattle.mm_exec.specs.Laws.{IsRunOf, RunsLoseAsPlanned, RunsLoseNoPacketUncou
 use Rattle.mm_exec.specs.Places.{ArePlaces, AreApart}
 use Rattle.mm_exec.specs.RunInput.{RunInput, step_of, offered, as_came, place_in_memory, store_state, step_orders}
 use Rattle.mm_record.specs.Counters.{counters_of}
-use Rattle.mm_exec.specs.Numbers.{counts_from, planned_counts, rows_of, row_from, orders_of, counted, AreByCounters}
+use Rattle.mm_exec.specs.Numbers.{counts_from, planned_counts, rows_of, row_from, rows_by_counters, orders_of, counted, AreByCounters}
 use Rattle.mm_exec.specs.Step.{RunState, StepDone}
 use Rattle.mm_exec.specs.Steps.{AreStepRuns, SourcesGave, LinksSent, StepsDone, sent_in}
 use Rattle.mm_exec.proofs.Coming.{came_at, timed_offers, map_range_same}
@@ -349,6 +349,26 @@ module _ {S L : Type 0} (gives : S → ℕ → List SpacePacket) (sent : L → L
           ap (map row) (range_with_len_more 1 k (suc k) (omega arith)) ∙ map-append row (range_with_len 1 k) (suc k ∷ []) in
           ap (λ (r : List StepCounts). rows_of m.problem (as_came m) m.amounts k ++ r ∷ []) row_is ∙ sym more
 
+      -- the rows so far and that of the step are those of the counters
+      rows_counted : report.steps ++ row_from m.problem (suc k) places before.stores after.stores n ∷ [] ≡ rows_by_counters m stores_after (suc k)
+      rows_counted =
+          let row = λ (held : ℕ → List Held) (t : ℕ).
+              map (λ s. counts_from m.problem s t (counters_of (store_state m (held (t - 1)) s)) (store_state m (held t) s)) (stores m.problem) in
+          let more : rows_by_counters m stores_after (suc k) ≡ map (row stores_after) (range_with_len 1 k) ++ row stores_after (suc k) ∷ [] =
+          ap (map (row stores_after)) (range_with_len_more 1 k (suc k) (omega arith)) ∙ map-append (row stores_after) (range_with_len 1 k) (suc k ∷ []) in
+          let earlier : map (row stores_after) (range_with_len 1 k) ≡ rows_by_counters m done.stores k =
+          map_range_same (row stores_after) (row done.stores) 1 k
+          (λ t from to.
+          ap (λ (held : List Held). map (λ s. counts_from m.problem s t (counters_of (store_state m held s)) (store_state m (stores_after t) s)) (stores m.problem)) (at_old (t - 1) (omega arith))
+          ∙ ap (λ (held : List Held). map (λ s. counts_from m.problem s t (counters_of (store_state m (done.stores (t - 1)) s)) (store_state m held s)) (stores m.problem)) (at_old t (omega arith))) in
+          let last : row_from m.problem (suc k) places before.stores after.stores n ≡ row stores_after (suc k) =
+          map_range_same _ _ 0 n
+          (λ s from to.
+          ap (λ (u : State). counts_from m.problem s (suc k) (counters_of u) (opening_at (states_of after.stores) (slice_index places s))) (state_before s (omega arith))
+          ∙ ap (λ (u : State). counts_from m.problem s (suc k) (counters_of (store_state m (stores_after (suc k - 1)) s)) u) (state_after s (omega arith))) in
+          ap (λ (rows : List (List StepCounts)). rows ++ row_from m.problem (suc k) places before.stores after.stores n ∷ []) (done.rows ∙ sym earlier)
+          ∙ ap (λ (r : List StepCounts). map (row stores_after) (range_with_len 1 k) ++ r ∷ []) last ∙ sym more
+
       -- the counters of each store rise
       planned_at : (s : ℕ) → s < n → AsPlanned (as_came m) m.amounts s (suc k) (store_state m before.stores s) (store_state m after.stores s)
       planned_at s store =
@@ -388,5 +408,6 @@ module _ {S L : Type 0} (gives : S → ℕ → List SpacePacket) (sent : L → L
         report_is =
             is ∙ ap (λ (r : Reported). record r { steps = r.steps ++ row_from m.problem (suc k) places before.stores after.stores n ∷ [] }) done.report_is
             ∙ ap (λ (rows : List (List StepCounts)). record { ids = map (λ r. r.id) m.problem.rows; most = length m.problem.windows; steps = rows }) rows_more;
+        rows = ap (λ (r : Reported). r.steps) is ∙ rows_counted;
         counted = subst (λ (r : Reported). AreByCounters m after.stores r.steps) (sym is) counted_on;
       }

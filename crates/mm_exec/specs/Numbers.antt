@@ -58,6 +58,12 @@ row_from q t places before after n =
     map (λ s. counts_from q s t (counters_of (opening_at (states_of before) (slice_index places s))) (opening_at (states_of after) (slice_index places s)))
     (range_with_len 0 n)
 
+-- the rows of the first steps, each by its stores' counters before the step and their states after it
+abbrev pub rows_by_counters : RunInput → (ℕ → List Held) → ℕ → List (List StepCounts)
+rows_by_counters m held steps =
+    map (λ t. map (λ s. counts_from m.problem s t (counters_of (store_state m (held (t - 1)) s)) (store_state m (held t) s)) (stores m.problem))
+    (range_with_len 1 steps)
+
 -- the orders of a step, for stores at these places: one where packets are to leave, in the problem's order
 abbrev pub orders_of : Amounts → List ℕ → ℕ → ℕ → List Order
 orders_of x places t n =

@@ -14,7 +14,7 @@ use Rattle.mm_exec.specs.StepRuns.{IsStepRun}
 use Rattle.mm_exec.specs.Accounts.{IsAccounted}
 use Rattle.mm_exec.specs.AsPlanned.{AtEach}
 use Rattle.mm_exec.specs.RunInput.{RunInput, offered, as_came, place_in_memory, store_state, step_orders}
-use Rattle.mm_exec.specs.Numbers.{report_of, AreByCounters}
+use Rattle.mm_exec.specs.Numbers.{report_of, rows_by_counters, AreByCounters}
 use Rattle.mm_exec.specs.Step.{RunState}
 
 -- the stores after each of the first steps: those of the memory before the first, and then in each step and store a step run leads from
@@ -49,7 +49,7 @@ abbrev pub sent_amounts : RunInput → (ℕ → ℕ → List Stored) → Amounts
 sent_amounts m gave s t = length (gave (place_in_memory m s) t)
 
 -- the first steps of a run are carried out: the stores, the sources and the links are as they leave them, and the report has the numbers
--- of the plan, with what came in place of the forecast, and those of the stores' counters
+-- of the plan, with what came in place of the forecast, which are those of the stores' counters, row by row and in all
 pub record StepsDone {S L : Type 0} (gives : S → ℕ → List SpacePacket) (sent : L → List Sent) (failed : L → ℕ) (m : RunInput) (sources : List S) (links : List L)
     (steps : ℕ) (after : RunState S L) (report : Reported) : Type 0 where
   -- the stores after each step, and what each order was given
@@ -63,4 +63,5 @@ pub record StepsDone {S L : Type 0} (gives : S → ℕ → List SpacePacket) (se
   pub accounted : (s : ℕ) → s < length m.problem.rows
       → IsAccounted steps (offered m s) (gave (place_in_memory m s)) (λ t. store_state m (stores t) s)
   pub report_is : report ≡ report_of m.problem (as_came m) m.amounts steps
+  pub rows : report.steps ≡ rows_by_counters m stores steps
   pub counted : AreByCounters m after.stores report.steps
