@@ -13,12 +13,12 @@ use Rattle.mm_memory.specs.Laws.{ids_of}
 use Rattle.mm_dump.specs.Courses.{Course, sent_by}
 use Rattle.mm_dump.specs.Sending.{Sent, all_sent}
 use Rattle.mm_report.specs.declared.cause.Cause.TheVariants.{LinkFailed}
-use Rattle.mm_exec.specs.Readiness.{RunStart}
+use Rattle.mm_exec.specs.Readiness.{RunStart, Stops}
 use Rattle.mm_exec.specs.declared.run_end.Halted.{Halted}
 use Rattle.mm_exec.specs.RunInput.{RunInput}
+use Rattle.mm_exec.specs.RunState.{RunState}
 use Rattle.mm_exec.specs.Step.{IsCauseIn}
-use Rattle.mm_exec.specs.Course.{IsRefusal}
-use Rattle.mm_exec.specs.Ending.{IsHalted, IsHaltedIn}
+use Rattle.mm_exec.specs.Ending.{over_memory, IsHaltedIn, IsRefusal, IsStopped, stop_of, IsHalted}
 use Rattle.callers.specs.Again.{GoesOutAgain, sent_over}
 use Rattle.callers.specs.declared.ends.Burst.{Burst}
 use Rattle.callers.specs.declared.ends.Downlink.{Downlink}
@@ -37,9 +37,14 @@ last_sent ids course early last of =
     ∙ ap (λ (xs : List Sent). sent_by ids (map course early) ++ xs) (append-nil (one (course last)) ∙ ap (λ (k : ℕ). all_sent (id_at ids k) (course last).sent) of)
 
 module _ (gives : Burst → ℕ → List SpacePacket) (m : RunInput) (plan : Table) (sources : List Burst) (links : List Downlink) (memory : Holdings) (halted : Halted Burst Downlink) where
-  in_step : (at step : ℕ) → halted.cause ≡ LinkFailed step → IsHaltedIn gives sent_over failed_of m plan sources links memory at halted → GoesOutAgain links halted.links.items memory
+  -- what the run left
+  abbrev left : RunState Burst Downlink
+  left = over_memory memory halted.sources.items halted.links.items
+
+  in_step : (at step : ℕ) → halted.cause ≡ LinkFailed step → IsHaltedIn gives sent_over failed_of m plan (over_memory m.memory sources links) at left (stop_of halted)
+      → GoesOutAgain links halted.links.items memory
   in_step at step is_link was =
-      let same : step ≡ at = subst (IsCauseIn at) is_link was.stopped.cause_is in
+      let same : step ≡ at = subst (IsCauseIn at) is_link was.stopped_is.cause_is in
       let failed = was.failed_link (is_link ∙ ap LinkFailed same) in
       let l = failed.links.some.0 in
       let broke = failed.links.some.2 in
@@ -48,13 +53,13 @@ module _ (gives : Burst → ℕ → List SpacePacket) (m : RunInput) (plan : Tab
       let old = slice_index_or (map sent_over was.before.links) l [] in
       let ids_in = map-map (λ (label : List ℕ × ℕ). label.0) (λ (h : Held). (h.id, h.channel)) in
       let ids : ids_of was.before.stores ≡ ids_of memory.stores =
-      sym (ids_in was.before.stores) ∙ ap (map (λ (label : List ℕ × ℕ). label.0)) (sym was.stopped.labels) ∙ ids_in memory.stores in
+      sym (ids_in was.before.stores) ∙ ap (map (λ (label : List ℕ × ℕ). label.0)) (sym was.stopped_is.labels) ∙ ids_in memory.stores in
       let many : length was.before.links ≡ length links =
-      sym (length-map was.before.links failed_of) ∙ ap length was.done.links_are.no_failure ∙ length-map links failed_of in
+      sym (length-map was.before.links failed_of) ∙ ap length was.ran.done.links_are.no_failure ∙ length-map links failed_of in
       record {
         link = l;
         within = omega (arith, failed.links.some.1, many);
-        failures = broke.failures ∙ ap (λ (xs : List ℕ). slice_index_or xs l 0 + 1) was.done.links_are.no_failure;
+        failures = broke.failures ∙ ap (λ (xs : List ℕ). slice_index_or xs l 0 + 1) was.ran.done.links_are.no_failure;
         store = broke.last;
         earlier = old ++ sent_by (ids_of was.before.stores) (map course broke.early);
         again = (course broke.last).sent;
@@ -71,8 +76,12 @@ module _ (gives : Burst → ℕ → List SpacePacket) (m : RunInput) (plan : Tab
       }
 
   no_refusal : (o : RunStart) (step : ℕ) → halted.cause ≡ LinkFailed step → IsRefusal o halted.cause → GoesOutAgain links halted.links.items memory
-  no_refusal o step is_link refused = let none = subst (IsRefusal o) is_link refused in absurd none
+  no_refusal o step is_link (inl stops) = let none = subst (Stops o) is_link stops in absurd none
+  no_refusal o step is_link (inr lacking) = let other = lacking.0 in absurd (cc (other, is_link))
 
   pub goes_again : (step : ℕ) → halted.cause ≡ LinkFailed step → IsHalted gives sent_over failed_of m plan sources links memory halted → GoesOutAgain links halted.links.items memory
-  goes_again step is_link (inl was) = in_step was.0 step is_link was.1
-  goes_again step is_link (inr never) = no_refusal _ step is_link never.1
+  goes_again step is_link halts = by_end halts.1
+    where
+      by_end : IsStopped gives sent_over failed_of m plan (over_memory m.memory sources links) left (stop_of halted) → GoesOutAgain links halted.links.items memory
+      by_end (inl was) = in_step was.0 step is_link was.1
+      by_end (inr never) = no_refusal _ step is_link never.1

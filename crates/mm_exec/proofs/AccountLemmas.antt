@@ -1,6 +1,6 @@
 -- What became of the packets of a run: a log of offers, the log's seats, a step run, and then one step after another.
-use Rattle.std.proofs.Common.{◌≡◌, ◌≢◌, ◌⊎◌, inl, inr, ℕ, zero, suc, ◌+◌, ◌-◌, ◌<◌, ◌≤◌, ◌==◌, Bool, true, false, cond, eqb, List, [], ◌∷◌, ◌++◌, length, get_or, filter, All, refl, sym, ap, subst, ◌∙◌, arith, length-append, append_assoc}
-use Rattle.std.specs.Prelude.{Ok, Err, flat_map, slice_index_or, IsPermutation}
+use Rattle.std.proofs.Common.{◌≡◌, ◌≢◌, ◌⊎◌, inl, inr, ℕ, zero, suc, ◌+◌, ◌-◌, ◌<◌, ◌≤◌, List, [], ◌∷◌, ◌++◌, length, get_or, refl, sym, ap, subst, ◌∙◌, arith, length-append, append_assoc}
+use Rattle.std.specs.Prelude.{Ok, Err, flat_map, IsPermutation}
 use Rattle.std.proofs.lemmas.Bool.{cases_lt, eq-eqb, ne_eqb}
 use Rattle.std.proofs.lemmas.List.{append-nil, map-append, get_or_append_left}
 use Rattle.std.proofs.lemmas.List.Elements.{All-head, All-tail}
@@ -13,22 +13,21 @@ use Rattle.mm_store.specs.Content.{IsRising}
 use Rattle.mm_desk.specs.declared.entry.Entry.{Entry}
 use Rattle.mm_desk.specs.declared.event.Event.{Event}
 use Rattle.mm_desk.specs.declared.event.Event.TheVariants.{Offer, Begin, Next, Abort, Delete, Enable, Disable}
-use Rattle.mm_desk.specs.declared.reply.Offered.{Offered}
 use Rattle.mm_desk.specs.declared.reply.Reply.{Reply}
 use Rattle.mm_desk.specs.declared.reply.Reply.TheVariants as reply
-use Rattle.mm_desk.specs.Fates.{packets_of, accepted, taken, given_up, deleted, after, over, IsConserved, ConservePackets}
+use Rattle.mm_desk.specs.Fates.{packets_of, accepted, taken, given_up, deleted, after, over, ConservePackets}
 use Rattle.mm_desk.specs.Laws.{ReplaysKeepStates, OffersLeave, OrdersDumpTheOldest}
-use Rattle.mm_desk.specs.Machine.{State, IsState, offer, step}
+use Rattle.mm_desk.specs.Machine.{State, IsState, step}
 use Rattle.mm_desk.specs.Offers.{IsTaken, AreTaken, asked, IsShuffleOfEvents}
 use Rattle.mm_desk.specs.Orders.{Dumps}
 use Rattle.mm_desk.specs.Runs.{replay, IsLegal, IsRun}
 use Rattle.mm_desk.specs.Shuffles.{AreBelow, part}
 use Rattle.mm_desk.proofs.FateLemmas.{joined}
-use Rattle.mm_exec.specs.Accounts.{packet_in, packets_in, packets_offered, over_steps, IsAccounted}
+use Rattle.mm_exec.specs.Accounts.{packet_in, packets_in, packets_offered, IsAccounted}
 use Rattle.mm_exec.specs.Laws.{IsRunOf}
 use Rattle.mm_exec.specs.StepRuns.{IsDumpOf, IsStepRun, AreTimed}
 use Rattle.mm_exec.proofs.Replays.{IsLegal-parts, replay-append, timed_log}
-use Rattle.mm_exec.proofs.Stepping.{Stands, stands}
+use Rattle.mm_exec.proofs.Stepping.{stands}
 
 -- what an offer that is taken takes and deletes
 record TakesAlone (s : State) (event : Event) : Type 0 where

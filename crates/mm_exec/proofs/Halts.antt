@@ -5,7 +5,6 @@ use Rattle.std.specs.List.{AllZip}
 use Rattle.std.proofs.lemmas.Bool.{cases_lt}
 use Rattle.std.proofs.lemmas.List.{length-map, append-nil}
 use Rattle.std.proofs.lemmas.List.Elements.{All-nil}
-use Rattle.mm_base.specs.declared.rows.RouteRow.{RouteRow}
 use Rattle.mm_packet.specs.Packet.{SpacePacket}
 use Rattle.mm_desk.specs.declared.entry.Entry.{Entry}
 use Rattle.mm_desk.specs.declared.event.Event.{Event}
@@ -22,7 +21,7 @@ use Rattle.mm_record.specs.Recorded.{recording}
 use Rattle.mm_record.specs.Steps.{given_in, HasRecorded}
 use Rattle.mm_dump.specs.declared.order.Order.{Order}
 use Rattle.mm_dump.specs.declared.order.OrderBroken.{OrderBroken}
-use Rattle.mm_dump.specs.declared.order.OrderBroken.TheVariants as broken
+use Rattle.mm_dump.specs.declared.order.OrderBroken.TheVariants as worst
 use Rattle.mm_dump.specs.Laws.{BrokenOrdersChangeNothing}
 use Rattle.mm_dump.specs.Sending.{Sent}
 use Rattle.mm_dump.specs.Courses.{Course}
@@ -30,12 +29,15 @@ use Rattle.mm_dump.specs.Dumped.{times, wanted, HasTried, AllSettled}
 use Rattle.mm_report.specs.declared.cause.Cause.{Cause}
 use Rattle.mm_report.specs.declared.cause.Cause.TheVariants.{LinkFailed}
 use Rattle.mm_exec.proofs.Replays.{IsRun-append}
+use Rattle.mm_base.specs.declared.rows.RouteRow.{RouteRow}
 use Rattle.mm_exec.specs.Failure.{FailedLink}
 use Rattle.mm_exec.specs.Halts.{AreOneOrder, AreFirstOffers, IsByOneLog, BrokenStepsAreLogs}
 use Rattle.mm_memory.specs.Laws.{ids_of}
-use Rattle.mm_exec.specs.Step.{RunState, AreReady, OutOfMemory, RecordersBroke, OrdersBroke, RecordingBroke, DumpBroke, StepBroke, dump_cause}
+use Rattle.mm_exec.specs.RunState.{RunState}
+use Rattle.mm_exec.specs.declared.step.StepBroken.{StepBroken}
+use Rattle.mm_exec.specs.Step.{StepRecorded, OutOfMemory, OrdersBroke, OrderingBroke, StepBroke, dump_cause}
 use Rattle.mm_exec.proofs.Failing.{links_failed}
-use Rattle.mm_exec.proofs.Parts.{as_many, same_ids}
+use Rattle.mm_exec.proofs.Parts.{as_many, same_ids, by_how}
 use Rattle.mm_exec.proofs.Firsts.{none_first, none_listed, all_first, first_turns}
 use Rattle.mm_exec.proofs.StoresReady.{state_holds}
 
@@ -46,9 +48,9 @@ no_link step (Some fault.NoMemory) is = absurd (cc is)
 no_link step (Some why) is = absurd (cc is)
 
 -- where the cause is a link, a link was the worst for which orders broke
-link_failed : (step : ℕ) (why : OrderBroken) → dump_cause step why ≡ LinkFailed step → why ≡ broken.LinkFailed
-link_failed step broken.LinkFailed is = refl
-link_failed step broken.NoMemory is = absurd (cc is)
+link_failed : (step : ℕ) (why : OrderBroken) → dump_cause step why ≡ LinkFailed step → why ≡ worst.LinkFailed
+link_failed step worst.LinkFailed is = refl
+link_failed step worst.NoMemory is = absurd (cc is)
 
 -- a store that was left alone
 left_alone : (e : RecordingContext) (gives : List (List SpacePacket)) (orders : List Order) (k : ℕ) (s : State) → IsByOneLog e gives orders k s s
@@ -97,93 +99,71 @@ then_nothing e gives orders k s t firsts are log run shuffle = record {
 }
 
 module _ {S L : Type 0} (gives : S → ℕ → List SpacePacket) (sent : L → List Sent) (failed : L → ℕ) (step now : ℕ) (routes : List RouteRow) (orders : List Order)
-    (before after : RunState S L) (cause : Cause) (spent : ℕ) (labels : labels_of after.stores ≡ labels_of before.stores) (k : ℕ) (within : k < length before.stores) where
+    (before after : RunState S L) (stop : StepBroken) (k : ℕ) (within : k < length before.stores) where
   abbrev e : RecordingContext
   e = recording step now routes before.stores
 
   abbrev came : List (List SpacePacket)
   came = given_in gives step before.sources
 
-  abbrev old : State
-  old = opening_at (states_of before.stores) k
+  abbrev state_in : RunState S L → State
+  state_in x = opening_at (states_of x.stores) k
 
-  abbrev new : State
-  new = opening_at (states_of after.stores) k
+  inside : (x : RunState S L) → labels_of x.stores ≡ labels_of before.stores → k < length (states_of x.stores)
+  inside x same = omega (arith, within, as_many x.stores before.stores same, length-map x.stores (λ (h : Held). h.state))
 
-  inside : (held : List Held) → labels_of held ≡ labels_of before.stores → k < length (states_of held)
-  inside held same = omega (arith, within, as_many held before.stores same, length-map held (λ (h : Held). h.state))
-
-  -- the state of a store among those that are others
-  same_held : (P : State → Type 0) (xs ys : List Held) → ys ≡ xs → P (opening_at (states_of xs) k) → P (opening_at (states_of ys) k)
-  same_held P xs ys same holds = subst (λ (held : List Held). P (opening_at (states_of held) k)) (sym same) holds
-
-  -- broken off while it was recorded
-  by_recorders : RecordingBroke gives e before after cause spent → IsByOneLog e came orders k old new
-  by_recorders broke = by_how broke.how
-    where
-      by_how : OutOfMemory e.step before.stores before.sources after.stores after.sources cause spent
-          ⊎ RecordersBroke gives e before.stores before.sources after.stores after.sources cause spent → IsByOneLog e came orders k old new
-      by_how (inl lack) = same_held (IsByOneLog e came orders k old) before.stores after.stores lack.stores_same (left_alone e came orders k old)
-      by_how (inr broke) =
-          let went = broke.records.went k (inside after.stores labels) in
-          then_nothing e came orders k old new (map (λ run. run.offered k) broke.records.runs)
-          (first_turns gives e before.sources after.sources broke.records.runs k broke.records.are_runs (omega (arith, within, length-map before.stores (λ (h : Held). h.id))))
-          went.log went.run went.shuffle
-
-  -- broken off while orders were carried out
-  by_orders : DumpBroke gives sent failed e orders before after cause spent → IsByOneLog e came orders k old new
-  by_orders dumping = by_how dumping.how
-    where
-      first : HasRecorded e came k old (opening_at (states_of dumping.mid) k)
-      first = dumping.recorded.stores_are k (inside dumping.mid dumping.recorded.labels)
-
-      by_how : OutOfMemory e.step dumping.mid before.links after.stores after.links cause spent
-          ⊎ OrdersBroke sent failed e.step orders dumping.mid before.links after.stores after.links cause spent → IsByOneLog e came orders k old new
-      by_how (inl lack) =
-          same_held (IsByOneLog e came orders k old) dumping.mid after.stores lack.stores_same
-          (then_nothing e came orders k old (opening_at (states_of dumping.mid) k) (map (offers e k) came) (all_first e k came) first.log first.run first.shuffle)
-      by_how (inr broke) =
-          then_tried e came orders k old (opening_at (states_of dumping.mid) k) new first (sum_by (times k) broke.settled.places) (broke.settled.course k)
-          (broke.settled.stores k (inside after.stores labels)) (broke.settled.amounts k)
-
-  pub one_log : StepBroke gives sent failed e orders before after cause spent → IsByOneLog e came orders k old new
-  one_log (inl recording) = by_recorders recording
-  one_log (inr dumping) = by_orders dumping
+  one_log : labels_of after.stores ≡ labels_of before.stores → StepBroke gives sent failed e orders before after stop → IsByOneLog e came orders k (state_in before) (state_in after)
+  one_log labels =
+      by_how gives sent failed e orders before after stop (λ (x : RunState S L). IsByOneLog e came orders k (state_in before) (state_in x)) (left_alone e came orders k (state_in before))
+      (λ broke.
+      let went = broke.records.went k (inside after labels) in
+      then_nothing e came orders k (state_in before) (state_in after) (map (λ run. run.offered k) broke.records.runs)
+      (first_turns gives e before.sources after.sources broke.records.runs k broke.records.are_runs (omega (arith, within, length-map before.stores (λ (h : Held). h.id))))
+      went.log went.run went.shuffle)
+      (λ mid recorded.
+      let first = recorded.stores_are k (inside mid recorded.labels) in
+      then_nothing e came orders k (state_in before) (state_in mid) (map (offers e k) came) (all_first e k came) first.log first.run first.shuffle)
+      (λ mid recorded broke.
+      then_tried e came orders k (state_in before) (state_in mid) (state_in after) (recorded.stores_are k (inside mid recorded.labels)) (sum_by (times k) broke.settled.places)
+      (broke.settled.course k) (broke.settled.stores k (inside after (broke.labels ∙ recorded.labels))) (broke.settled.amounts k))
 
 -- the law
 pub steps_are_logs : {S L : Type 0} (gives : S → ℕ → List SpacePacket) (sent : L → List Sent) (failed : L → ℕ) → BrokenStepsAreLogs gives sent failed
-steps_are_logs gives sent failed step now routes orders before after cause spent broke labels k within =
-    one_log gives sent failed step now routes orders before after cause spent labels k within broke
+steps_are_logs gives sent failed step now routes orders before after stop broke labels k within =
+    one_log gives sent failed step now routes orders before after stop k within labels broke
 
 -- a step that a failed link halted
-pub failed_link : {S L : Type 0} (gives : S → ℕ → List SpacePacket) (sent : L → List Sent) (failed : L → ℕ) (e : RecordingContext) (orders : List Order)
-    (before after : RunState S L) (cause : Cause) (spent : ℕ) → BrokenOrdersChangeNothing → ids_of before.stores ≡ e.ids → AreReady before.stores
-    → All (λ o. o.place < length before.stores) orders → StepBroke gives sent failed e orders before after cause spent → cause ≡ LinkFailed e.step
-    → FailedLink gives sent failed e orders before after
-failed_link {S = S} {L = L} gives sent failed e orders before after cause spent changes ids ready there (inl recording) is_link = by_how recording.how
-  where
-    by_how : OutOfMemory e.step before.stores before.sources after.stores after.sources cause spent
-        ⊎ RecordersBroke gives e before.stores before.sources after.stores after.sources cause spent → FailedLink gives sent failed e orders before after
-    by_how (inl lack) = let bad = lack.cause_is in absurd (cc (bad, is_link))
-    by_how (inr broke) = absurd (no_link e.step broke.why (broke.cause_is ∙ ap (λ (c : Cause). Some c) is_link))
-failed_link {S = S} {L = L} gives sent failed e orders before after cause spent changes ids ready there (inr dumping) is_link = by_how dumping.how
-  where
-    by_how : OutOfMemory e.step dumping.mid before.links after.stores after.links cause spent
-        ⊎ OrdersBroke sent failed e.step orders dumping.mid before.links after.stores after.links cause spent → FailedLink gives sent failed e orders before after
-    by_how (inl lack) = let bad = lack.cause_is in absurd (cc (bad, is_link))
-    by_how (inr broke) =
-        let worst : broke.why ≡ broken.LinkFailed = link_failed e.step broke.why (sym broke.cause_is ∙ is_link) in
-        let here = subst (λ (w : OrderBroken). AllSettled sent failed (ids_of dumping.mid) orders (Some w) (states_of dumping.mid) (states_of after.stores) before.links after.links) worst broke.settled in
-        let settled = subst (λ (names : List (List ℕ)). AllSettled sent failed names orders (Some broken.LinkFailed) (states_of dumping.mid) (states_of after.stores) before.links after.links)
-        (same_ids dumping.mid before.stores dumping.recorded.labels ∙ ids) here in
-        let many : length after.stores ≡ length dumping.mid = as_many after.stores dumping.mid broke.labels in
-        let all : length after.stores ≡ length before.stores = many ∙ as_many dumping.mid before.stores dumping.recorded.labels in
-        let counted = length-map after.stores (λ (h : Held). h.state) in
-        record {
-          mid = dumping.mid;
-          recorded = dumping.recorded;
-          links =
-              links_failed sent failed e.ids orders (states_of dumping.mid) (states_of after.stores) before.links after.links changes
-              (subst (λ (n : ℕ). All (λ (o : Order). o.place < n) orders) (sym (counted ∙ all)) there)
-              (λ k within. state_holds IsState dumping.mid dumping.recorded.sound k (omega (arith, within, counted, many))) settled;
-        }
+module _ {S L : Type 0} (gives : S → ℕ → List SpacePacket) (sent : L → List Sent) (failed : L → ℕ) (e : RecordingContext) (orders : List Order)
+    (before after : RunState S L) (stop : StepBroken) (changes : BrokenOrdersChangeNothing) (ids : ids_of before.stores ≡ e.ids)
+    (there : All (λ o. o.place < length before.stores) orders) (is_link : stop.cause ≡ LinkFailed e.step) where
+  not_lacking : (x : RunState S L) → OutOfMemory e.step x after stop → ⊥
+  not_lacking x lack = let bad = ap (λ (b : StepBroken). b.cause) lack.broken_is in cc (bad, is_link)
+
+  by_orders : (mid : RunState S L) → StepRecorded gives e before mid → OrdersBroke sent failed e.step orders mid after stop → FailedLink gives sent failed e orders before after
+  by_orders mid recorded broke =
+      let worst_is : broke.why ≡ worst.LinkFailed = link_failed e.step broke.why (sym broke.cause_is ∙ is_link) in
+      let here = subst (λ (w : OrderBroken). AllSettled sent failed (ids_of mid.stores) orders (Some w) (states_of mid.stores) (states_of after.stores) mid.links after.links) worst_is broke.settled in
+      let named = subst (λ (names : List (List ℕ)). AllSettled sent failed names orders (Some worst.LinkFailed) (states_of mid.stores) (states_of after.stores) mid.links after.links)
+      (same_ids mid.stores before.stores recorded.labels ∙ ids) here in
+      let settled = subst (λ (olds : List L). AllSettled sent failed e.ids orders (Some worst.LinkFailed) (states_of mid.stores) (states_of after.stores) olds after.links) recorded.links named in
+      let many : length after.stores ≡ length mid.stores = as_many after.stores mid.stores broke.labels in
+      let all : length after.stores ≡ length before.stores = many ∙ as_many mid.stores before.stores recorded.labels in
+      let counted = length-map after.stores (λ (h : Held). h.state) in
+      record {
+        mid = mid;
+        recorded = recorded;
+        sources = broke.sources;
+        links =
+            links_failed sent failed e.ids orders (states_of mid.stores) (states_of after.stores) before.links after.links changes
+            (subst (λ (n : ℕ). All (λ (o : Order). o.place < n) orders) (sym (counted ∙ all)) there)
+            (λ k within. state_holds IsState mid.stores recorded.sound k (omega (arith, within, counted, many))) settled;
+      }
+
+  pub failed_link : StepBroke gives sent failed e orders before after stop → FailedLink gives sent failed e orders before after
+  failed_link (inl (inl lack)) = absurd (not_lacking before lack)
+  failed_link (inl (inr broke)) = absurd (no_link e.step broke.why (broke.cause_is ∙ ap (λ (c : Cause). Some c) is_link))
+  failed_link (inr dumping) = by_dump dumping.how
+    where
+      by_dump : OrderingBroke sent failed e.step orders dumping.mid after stop → FailedLink gives sent failed e orders before after
+      by_dump (inl lack) = absurd (not_lacking dumping.mid lack)
+      by_dump (inr broke) = by_orders dumping.mid dumping.recorded broke

@@ -1,5 +1,5 @@
 -- The parts of a step.
-use Rattle.std.proofs.Common.{◌≡◌, ◌⊎◌, inl, inr, ℕ, suc, ◌<◌, List, [], ◌∷◌, ◌++◌, length, map, All, refl, sym, ap, subst, ◌∙◌, arith}
+use Rattle.std.proofs.Common.{◌≡◌, ◌≢◌, inl, inr, ℕ, suc, ◌<◌, List, [], ◌∷◌, ◌++◌, length, map, All, refl, sym, ap, subst, ◌∙◌, arith}
 use Rattle.std.specs.Prelude.{Option, Some, None, Result, Ok, Err, OnOk, IfErr}
 use Rattle.std.specs.List.{AllZip}
 use Rattle.std.proofs.lemmas.List.{length-map, append-nil}
@@ -16,13 +16,15 @@ use Rattle.mm_record.specs.Recorded.{RecordingContext}
 use Rattle.mm_record.specs.Steps.{given_in, RecorderRun, AreRecorderRuns}
 use Rattle.mm_dump.specs.declared.order.Order.{Order}
 use Rattle.mm_dump.specs.declared.order.OrderBroken.{OrderBroken}
-use Rattle.mm_dump.specs.declared.order.OrderBroken.TheVariants as broken
+use Rattle.mm_dump.specs.declared.order.OrderBroken.TheVariants as worst
 use Rattle.mm_dump.specs.Sending.{Sent}
 use Rattle.mm_dump.specs.Dumped.{AllTook}
 use Rattle.mm_report.specs.declared.cause.Cause.{Cause}
 use Rattle.mm_exec.specs.Laws.{HalvesMakeStepRuns}
 use Rattle.mm_memory.specs.Laws.{ids_of}
-use Rattle.mm_exec.specs.Step.{RunState, StepRecorded, StepDumped, StepDone, KeepsRest, IsCauseIn, dump_cause, OutOfMemory, RecordersBroke, OrdersBroke, StepBroke, StepStopped}
+use Rattle.mm_exec.specs.RunState.{RunState}
+use Rattle.mm_exec.specs.declared.step.StepBroken.{StepBroken}
+use Rattle.mm_exec.specs.Step.{StepRecorded, StepDumped, StepDone, KeepsRest, IsCauseIn, dump_cause, OutOfMemory, RecordersBroke, OrdersBroke, OrderingBroke, StepBroke, StepStopped}
 
 -- what holds in any case holds where a call answers Ok
 pub on_ok : {A E : Type 0} (P : Type 0) (r : Result A E) → P → OnOk r P
@@ -82,21 +84,24 @@ cause_recorded step (Some other) cause is = subst (IsCauseIn step) (same_Some _ 
 
 -- so is that of orders
 cause_dumped : (step : ℕ) (why : OrderBroken) → IsCauseIn step (dump_cause step why)
-cause_dumped step broken.LinkFailed = refl
+cause_dumped step worst.LinkFailed = refl
 cause_dumped step why = refl
+
+-- and that there was no memory
+cause_lacking : {S L : Type 0} (step : ℕ) (before after : RunState S L) (stop : StepBroken) → OutOfMemory step before after stop → IsCauseIn step stop.cause
+cause_lacking step before after stop lack = subst (λ (b : StepBroken). IsCauseIn step b.cause) (sym lack.broken_is) refl
 
 -- a step that is recorded and then dumped
 pub both_parts : {S L : Type 0} (gives : S → ℕ → List SpacePacket) (sent : L → List Sent) (failed : L → ℕ) (e : RecordingContext) (orders : List Order)
-    (before after : RunState S L) (mid : List Held) → HalvesMakeStepRuns → ids_of before.stores ≡ e.ids
-    → StepRecorded gives e before.stores before.sources mid after.sources → StepDumped sent failed orders mid before.links after.stores after.links
+    (before mid after : RunState S L) → HalvesMakeStepRuns → ids_of before.stores ≡ e.ids → StepRecorded gives e before mid → StepDumped sent failed orders mid after
     → StepDone gives sent failed e orders before after
-both_parts gives sent failed e orders before after mid halves ids recorded dumped =
-    let many : length after.stores ≡ length mid = as_many after.stores mid dumped.labels in
+both_parts {S = S} {L = L} gives sent failed e orders before mid after halves ids recorded dumped =
+    let many : length after.stores ≡ length mid.stores = as_many after.stores mid.stores dumped.labels in
     record {
       labels = dumped.labels ∙ recorded.labels;
       gave = dumped.dumped.gave;
       runs = λ k within.
-          let here : k < length (states_of mid) = omega (arith, many, length-map mid (λ (h : Held). h.state)) in
+          let here : k < length (states_of mid.stores) = omega (arith, many, length-map mid.stores (λ (h : Held). h.state)) in
           let there : k < length (states_of after.stores) = omega (arith, length-map after.stores (λ (h : Held). h.state)) in
           let first = recorded.stores_are k here in
           let second = dumped.dumped.stores k there in
@@ -104,51 +109,68 @@ both_parts gives sent failed e orders before after mid halves ids recorded dumpe
       places = dumped.dumped.places;
       once = dumped.dumped.once;
       links =
-          subst (λ (ids : List (List ℕ)). AllTook sent failed ids dumped.dumped.gave dumped.dumped.places before.links after.links)
-          (same_ids mid before.stores recorded.labels ∙ ids) dumped.dumped.links;
-      nothing_left = recorded.nothing_left;
-      others = recorded.others;
+          subst (λ (olds : List L). AllTook sent failed e.ids dumped.dumped.gave dumped.dumped.places olds after.links) recorded.links
+          (subst (λ (ids : List (List ℕ)). AllTook sent failed ids dumped.dumped.gave dumped.dumped.places mid.links after.links)
+          (same_ids mid.stores before.stores recorded.labels ∙ ids) dumped.dumped.links);
+      nothing_left = subst (All (λ (s : S). gives s e.step ≡ [])) (sym dumped.sources) recorded.nothing_left;
+      others = λ t other. ap (given_in gives t) dumped.sources ∙ recorded.others t other;
     }
 
--- sources whose step is recorded keep the rest
-keep_recorded : {S : Type 0} (gives : S → ℕ → List SpacePacket) (e : RecordingContext) (stores : List Held) (sources : List S) (mid : List Held) (left : List S)
-    → StepRecorded gives e stores sources mid left → AllZip (KeepsRest gives e.step) sources left
-keep_recorded gives e stores sources mid left recorded =
-    let many : length left ≡ length sources = as_many_sources gives (suc e.step) sources left (recorded.others (suc e.step) (λ same. omega (arith, same))) in
-    keep_none gives e.step sources left many recorded.nothing_left
+module _ {S L : Type 0} (gives : S → ℕ → List SpacePacket) (sent : L → List Sent) (failed : L → ℕ) (e : RecordingContext) (orders : List Order) (before after : RunState S L)
+    (stop : StepBroken) where
+  -- what holds of a step that was broken off, by how it was
+  pub by_how : (P : RunState S L → Type 0) → P before → (RecordersBroke gives e before after stop → P after) → ((mid : RunState S L) → StepRecorded gives e before mid → P mid)
+      → ((mid : RunState S L) → StepRecorded gives e before mid → OrdersBroke sent failed e.step orders mid after stop → P after)
+      → StepBroke gives sent failed e orders before after stop → P after
+  by_how P none early recorded broken (inl (inl lack)) = subst P (sym lack.same) none
+  by_how P none early recorded broken (inl (inr broke)) = early broke
+  by_how P none early recorded broken (inr dumping) = by_dump dumping.how
+    where
+      by_dump : OrderingBroke sent failed e.step orders dumping.mid after stop → P after
+      by_dump (inl lack) = subst P (sym lack.same) (recorded dumping.mid dumping.recorded)
+      by_dump (inr broke) = broken dumping.mid dumping.recorded broke
 
--- what a step that was broken off leaves
-pub stopped_of : {S L : Type 0} (gives : S → ℕ → List SpacePacket) (sent : L → List Sent) (failed : L → ℕ) (e : RecordingContext) (orders : List Order)
-    (before after : RunState S L) (cause : Cause) (spent : ℕ) → StepBroke gives sent failed e orders before after cause spent → StepStopped gives e.step before after cause
-stopped_of {S = S} {L = L} gives sent failed e orders before after cause spent (inl recording) = by_how recording.how
-  where
-    by_how : OutOfMemory e.step before.stores before.sources after.stores after.sources cause spent
-        ⊎ RecordersBroke gives e before.stores before.sources after.stores after.sources cause spent → StepStopped gives e.step before after cause
-    by_how (inl lack) = record {
-      cause_is = subst (IsCauseIn e.step) (sym lack.cause_is) refl;
-      labels = ap labels_of lack.stores_same;
-      keep = subst (AllZip (KeepsRest gives e.step) before.sources) (sym lack.same) (keep_same gives e.step before.sources);
-      others = λ t other. ap (given_in gives t) lack.same;
-    }
-    by_how (inr broke) = record {
-      cause_is = cause_recorded e.step broke.why cause broke.cause_is;
-      labels = broke.records.labels;
-      keep = keep_turns gives e before.sources after.sources broke.records.runs broke.records.are_runs;
-      others = broke.records.others;
-    }
-stopped_of {S = S} {L = L} gives sent failed e orders before after cause spent (inr dumping) = by_how dumping.how
-  where
-    by_how : OutOfMemory e.step dumping.mid before.links after.stores after.links cause spent
-        ⊎ OrdersBroke sent failed e.step orders dumping.mid before.links after.stores after.links cause spent → StepStopped gives e.step before after cause
-    by_how (inl lack) = record {
-      cause_is = subst (IsCauseIn e.step) (sym lack.cause_is) refl;
-      labels = ap labels_of lack.stores_same ∙ dumping.recorded.labels;
-      keep = keep_recorded gives e before.stores before.sources dumping.mid after.sources dumping.recorded;
-      others = dumping.recorded.others;
-    }
-    by_how (inr broke) = record {
-      cause_is = subst (IsCauseIn e.step) (sym broke.cause_is) (cause_dumped e.step broke.why);
-      labels = broke.labels ∙ dumping.recorded.labels;
-      keep = keep_recorded gives e before.stores before.sources dumping.mid after.sources dumping.recorded;
-      others = dumping.recorded.others;
-    }
+  -- its cause is one of the step
+  cause_is : StepBroke gives sent failed e orders before after stop → IsCauseIn e.step stop.cause
+  cause_is (inl (inl lack)) = cause_lacking e.step before after stop lack
+  cause_is (inl (inr broke)) = cause_recorded e.step broke.why stop.cause broke.cause_is
+  cause_is (inr dumping) = by_dump dumping.how
+    where
+      by_dump : OrderingBroke sent failed e.step orders dumping.mid after stop → IsCauseIn e.step stop.cause
+      by_dump (inl lack) = cause_lacking e.step dumping.mid after stop lack
+      by_dump (inr broke) = subst (IsCauseIn e.step) (sym broke.cause_is) (cause_dumped e.step broke.why)
+
+  -- what a step leaves, but for the cause
+  record Leaves (left : RunState S L) : Type 0 where
+    labels : labels_of left.stores ≡ labels_of before.stores
+    keep : AllZip (KeepsRest gives e.step) before.sources left.sources
+    others : (t : ℕ) → t ≢ e.step → given_in gives t left.sources ≡ given_in gives t before.sources
+
+  -- a step whose sources have nothing left
+  leaves_recorded : (mid : RunState S L) → StepRecorded gives e before mid → Leaves mid
+  leaves_recorded mid recorded =
+      let many : length mid.sources ≡ length before.sources =
+      as_many_sources gives (suc e.step) before.sources mid.sources (recorded.others (suc e.step) (λ same. omega (arith, same))) in
+      record {
+        labels = recorded.labels;
+        keep = keep_none gives e.step before.sources mid.sources many recorded.nothing_left;
+        others = recorded.others;
+      }
+
+  -- what a step that was broken off leaves
+  pub stopped_of : StepBroke gives sent failed e orders before after stop → StepStopped gives e.step before after stop.cause
+  stopped_of how =
+      let left = by_how Leaves (record { labels = refl; keep = keep_same gives e.step before.sources; others = λ t other. refl })
+      (λ broke. record {
+        labels = broke.records.labels;
+        keep = keep_turns gives e before.sources after.sources broke.records.runs broke.records.are_runs;
+        others = broke.records.others;
+      }) leaves_recorded
+      (λ mid recorded broke.
+      let was = leaves_recorded mid recorded in
+      record {
+        labels = broke.labels ∙ was.labels;
+        keep = subst (AllZip (KeepsRest gives e.step) before.sources) (sym broke.sources) was.keep;
+        others = λ t other. ap (given_in gives t) broke.sources ∙ was.others t other;
+      }) how in
+      record { cause_is = cause_is how; labels = left.labels; keep = left.keep; others = left.others }

@@ -15,40 +15,45 @@ use Rattle.mm_base.specs.declared.limits.TheConstants.{MAX_STEPS, MAX_STORES}
 use Rattle.mm_base.specs.declared.rows.StoreRow.{StoreRow}
 use Rattle.mm_packet.specs.Packet.{SpacePacket}
 use Rattle.mm_problem.specs.Dumping.{Dumping, IsDumping, row, no_row, place}
-use Rattle.mm_plan.specs.Fit.{Fits}
-use Rattle.mm_plan.specs.Table.{Table, amount, HasShape}
+use Rattle.mm_plan.specs.Table.{amount}
 use Rattle.mm_desk.specs.declared.held.Held.{Held}
 use Rattle.mm_desk.specs.declared.state.Retrieval.{Retrieval}
 use Rattle.mm_desk.specs.Machine.{State, IsState}
 use Rattle.mm_desk.specs.Runs.{opening_at, blank}
 use Rattle.mm_shared.specs.Stores.{labels_of, states_of, AreNamed}
-use Rattle.mm_memory.specs.Holdings.{Holdings, AreHeld, has_id, store_of}
+use Rattle.mm_memory.specs.Holdings.{AreHeld, has_id, store_of}
+use Rattle.mm_memory.specs.Laws.{ids_of}
 use Rattle.mm_record.specs.Causes.{is_clock_late, is_late}
-use Rattle.mm_record.specs.Recorded.{recording}
-use Rattle.mm_record.specs.Steps.{given_in, latest}
+use Rattle.mm_record.specs.Steps.{given_in, latest, AreFew, TakesAll}
+use Rattle.mm_dump.specs.declared.order.Order.{Order}
+use Rattle.mm_dump.specs.Laws.{BrokenOrdersChangeNothing}
 use Rattle.mm_dump.specs.Sending.{Sent}
 use Rattle.mm_report.specs.declared.cause.TheConstants.{LATEST_START}
 use Rattle.mm_report.specs.Report.{Reported}
+use Rattle.mm_exec.specs.declared.course.RunContext.{RunContext}
 use Rattle.mm_exec.specs.declared.requirement.Requirement.{Requirement}
 use Rattle.mm_exec.specs.declared.requirement.Requirement.TheVariants.{Ready, Size, Opening}
-use Rattle.mm_exec.specs.Readiness.{RunStart, run_start, MayBegin, AllMeet, NoneUnknown, is_unknown, meets, meets_at, AreCounts}
-use Rattle.mm_exec.proofs.Replays.{All-unmapped}
-use Rattle.mm_exec.specs.Laws.{RunsLoseAsPlanned, RunsLoseNoPacketUncounted}
-use Rattle.mm_exec.specs.AsPlanned.{IsReady}
 use Rattle.mm_exec.specs.declared.room.RunBuffers.{RunBuffers}
+use Rattle.mm_exec.specs.declared.step.StepBroken.{StepBroken}
+use Rattle.mm_exec.specs.Readiness.{AllMeet, NoneUnknown, is_unknown, meets, meets_at}
+use Rattle.mm_exec.specs.Laws.{RunsLoseAsPlanned, RunsLoseNoPacketUncounted, StepRunsKeepStores}
+use Rattle.mm_exec.specs.AsPlanned.{IsReady}
 use Rattle.mm_exec.specs.Places.{IsPlaceOf, ArePlaces}
-use Rattle.mm_exec.specs.RunInput.{RunInput, run_input}
+use Rattle.mm_exec.specs.RunInput.{RunInput, recording_in, step_orders}
+use Rattle.mm_exec.specs.RunState.{RunState}
 use Rattle.mm_exec.specs.Numbers.{row_from, orders_of, AreByCounters}
-use Rattle.mm_memory.specs.Laws.{ids_of}
-use Rattle.mm_exec.specs.Step.{RunState, AreReady, StepDone}
+use Rattle.mm_exec.specs.Step.{AreReady, StepDone, StepBroke}
 use Rattle.mm_exec.specs.Steps.{StepsDone}
-use Rattle.mm_exec.specs.Course.{MayReport, MayRun, AreWithinLimits}
+use Rattle.mm_exec.specs.Course.{given_to, recording_at, orders_at, MayReport, StepReported, StepUnreported, MayRun, AreWithinLimits}
+use Rattle.mm_exec.specs.Ending.{HasRun, IsHaltedIn}
+use Rattle.mm_exec.proofs.Replays.{All-unmapped}
 use Rattle.mm_exec.proofs.Counters.{counted_first}
-use Rattle.mm_exec.proofs.Ordered.{may_order, wanted_in_all}
+use Rattle.mm_exec.proofs.Halts.{failed_link}
+use Rattle.mm_exec.proofs.Ordered.{may_order, wanted_in_all, orders_are}
 use Rattle.mm_exec.proofs.StepMore.{Footing, done_on}
-use Rattle.mm_exec.proofs.Parts.{as_many, same_ids, as_many_sources}
+use Rattle.mm_exec.proofs.Parts.{as_many, same_ids, as_many_sources, stopped_of}
 use Rattle.mm_exec.proofs.Placing.{no_held, places_differ, places_cut}
-use Rattle.mm_exec.proofs.StoresReady.{AllFar, state_holds}
+use Rattle.mm_exec.proofs.StoresReady.{AllFar, state_holds, far_after, takes_all}
 
 -- the moment before the first step is early, and so is the last storage time of each store
 pub record IsEarly (stores : List Held) (base : ℕ) : Type 0 where
@@ -62,33 +67,10 @@ none_late (h ∷ hs) none =
     All-cons (λ (h : Held). h.state.store.last ≤ LATEST_START) h hs (ltb-false LATEST_START h.state.store.last both.0) (none_late hs both.1)
 
 -- it is so where the clock is not too late
-early_by : (stores : List Held) (base : ℕ) → is_clock_late stores base ≡ false → IsEarly stores base
+pub early_by : (stores : List Held) (base : ℕ) → is_clock_late stores base ≡ false → IsEarly stores base
 early_by stores base in_time =
     let both = or_parts (is_late base) (list_any (λ h. is_late h.state.store.last) stores) in_time in
     record { first = ltb-false LATEST_START base both.0; last_times = none_late stores both.1 }
-
--- what the tests before a run have shown
-pub record Begun (o : RunStart) : Type 0 where
-  pub shape : HasShape o.problem o.plan
-  pub stores_ready : AllMeet Ready o.problem o.stores
-  pub none_unknown : NoneUnknown o.problem o.stores
-  pub sizes : AllMeet Size o.problem o.stores
-  pub openings : AllMeet Opening o.problem o.stores
-  pub early : IsEarly o.stores o.base
-  pub fits : Fits o.problem (amount o.plan)
-  pub counts : AreCounts o.sources o.links
-
-pub begun_of : (o : RunStart) → MayBegin o → Begun o
-begun_of o begins = record {
-  shape = begins.0.0.0.0.0.0.0;
-  stores_ready = begins.0.0.0.0.0.0.1;
-  none_unknown = begins.0.0.0.0.0.0.2;
-  sizes = begins.0.0.0.0.0.1;
-  openings = begins.0.0.0.0.1;
-  early = early_by o.stores o.base begins.0.0.1;
-  fits = begins.0.1;
-  counts = begins.1;
-}
 
 -- the store at its place meets what the store with its identifier meets
 meets_there : (requirement : Requirement) (q : Dumping) (stores : List Held) (s place : ℕ) → IsPlaceOf (row q s).id stores place → meets_at requirement q stores s ≡ true
@@ -170,41 +152,6 @@ all_ready q stores held stores_ready known sound = record {
         let is : store_of id stores ≡ Some h = find_at (has_id id) stores ∙ ap (λ (j : ℕ). slice_get stores j) at ∙ slice_get-get_or stores k no_held inside in
         let meets_it : meets Ready (row q found.0) (Some h) ≡ true = subst (λ (o : Option Held). meets Ready (row q found.0) o ≡ true) is (stores_ready found.0 found.1) in
         standing_gives h.state.storage h.state.retrieval meets_it
-
--- what holds through a run that may begin
-pub footing_of : {S : Type 0} (gives : S → ℕ → List SpacePacket) (q : Dumping) (plan : Table) (base : ℕ) (memory : Holdings) (sources : List S) (places : List ℕ)
-    → IsDumping q → AllMeet Size q memory.stores → AllMeet Opening q memory.stores → IsEarly memory.stores base
-    → ArePlaces q memory.stores (length q.rows) places → All (λ h. IsState h.state) memory.stores
-    → Footing gives (run_input gives q plan base memory sources) sources places
-footing_of gives q plan base memory sources places is sizes openings early stand_there sound = record {
-  gives_are = refl;
-  stand_at = stand_there;
-  apart = places_differ q memory.stores places is.stores stand_there;
-  ready = λ s store.
-      let place = stand_there s store in
-      subst (λ (k : ℕ). IsReady q s (opening_at (states_of memory.stores) k)) place.is
-      (ready_of q memory.stores s (slice_index places s) place (sizes s store) (openings s store) (state_holds IsState memory.stores sound (slice_index places s) place.within));
-  early = by_clock base (length q.windows) early.first is.steps.at_most;
-}
-  where
-    by_clock : (b t : ℕ) → b ≤ LATEST_START → t ≤ MAX_STEPS → b + t < 2 ^ 64
-    by_clock b t first few = omega arith
-
--- the same, where the stores were read, and the places cut down to those of the problem's stores
-pub footing_here : {S : Type 0} (gives : S → ℕ → List SpacePacket) (q : Dumping) (plan : Table) (base : ℕ) (memory : Holdings) (sources : List S) (links : ℕ) (all : List ℕ)
-    {many : ℕ} {held : List Held} → IsDumping q → MayBegin (run_start q plan memory.stores base (length sources) links) → All (λ h. IsState h.state) memory.stores
-    → held ≡ memory.stores → ArePlaces q held (length q.rows) all → many ≡ length q.rows
-    → Footing gives (run_input gives q plan base memory sources) sources (take many all)
-footing_here gives q plan base memory sources links all is begins sound read there cut =
-    let begun = begun_of (run_start q plan memory.stores base (length sources) links) begins in
-    let places = subst (λ (xs : List Held). ArePlaces q xs (length q.rows) all) read there in
-    subst (λ (n : ℕ). Footing gives (run_input gives q plan base memory sources) sources (take n all)) (sym cut)
-    (footing_of gives q plan base memory sources (take (length q.rows) all) is begun.sizes begun.openings begun.early
-    (places_cut q memory.stores (length q.rows) all places) sound)
-
--- there is a place for each store of the problem
-pub places_many : (n many : ℕ) (all : List ℕ) → many ≡ n → n ≤ MAX_STORES → length all ≡ MAX_STORES → length (take many all) ≡ n
-places_many n many all cut few sixteen = length-take-le many all (omega (arith, cut, few, sixteen)) ∙ cut
 
 -- before its first step a run has done nothing
 pub done_first : {S L : Type 0} (gives : S → ℕ → List SpacePacket) (sent : L → List Sent) (failed : L → ℕ) (m : RunInput) (now : RunState S L) (report : Reported)
@@ -293,60 +240,6 @@ still_room failed links links_left same room =
     All-unmapped (λ (n : ℕ). n < 2 ^ 64 - 1) failed links_left
     (subst (All (λ (n : ℕ). n < 2 ^ 64 - 1)) (sym same) (All-map (λ (n : ℕ). n < 2 ^ 64 - 1) failed links room))
 
--- a step carried out after those before it
-pub done_at : {S L : Type 0} (gives : S → ℕ → List SpacePacket) (sent : L → List Sent) (failed : L → ℕ) (m : RunInput) (sources : List S) (links : List L) (places : List ℕ)
-    → Footing gives m sources places → RunsLoseAsPlanned → RunsLoseNoPacketUncounted → (t : ℕ) → 1 ≤ t → t ≤ length m.problem.windows → (before after : RunState S L) (report new : Reported)
-    → StepsDone gives sent failed m sources links (t - 1) before report
-    → StepDone gives sent failed (recording t (m.base + t) m.memory.routes before.stores) (orders_of m.amounts places t (length m.problem.rows)) before after
-    → new ≡ record report { steps = report.steps ++ row_from m.problem t places before.stores after.stores (length m.problem.rows) ∷ [] }
-    → StepsDone gives sent failed m sources links (t + 1 - 1) after new
-done_at gives sent failed m sources links places footing law counts t first last before after report new done stepped is =
-    let same : t ≡ suc (t - 1) = omega arith in
-    let then : suc (t - 1) ≡ t + 1 - 1 = omega arith in
-    let step = subst (λ (u : ℕ). StepDone gives sent failed (recording u (m.base + u) m.memory.routes before.stores) (orders_of m.amounts places u (length m.problem.rows)) before after) same stepped in
-    let row = subst (λ (u : ℕ). new ≡ record report { steps = report.steps ++ row_from m.problem u places before.stores after.stores (length m.problem.rows) ∷ [] }) same is in
-    subst (λ (u : ℕ). StepsDone gives sent failed m sources links u after new) then
-    (done_on gives sent failed m sources links places footing (t - 1) before after report done step law counts (omega arith) new row)
-
--- the next step may be carried out and reported
-pub may_report : {S L : Type 0} (gives : S → ℕ → List SpacePacket) (sent : L → List Sent) (failed : L → ℕ) (q : Dumping) (plan : Table) (base : ℕ) (memory : Holdings)
-    (sources : List S) (links : List L) (places : List ℕ) (t : ℕ) (now : RunState S L) (buffers : RunBuffers)
-    → IsDumping q → Begun (run_start q plan memory.stores base (length sources) (length links)) → AreHeld memory.stores → All (λ l. failed l < 2 ^ 64 - 1) links
-    → Footing gives (run_input gives q plan base memory sources) sources places → length places ≡ length q.rows → 1 ≤ t → t ≤ length q.windows
-    → StepsDone gives sent failed (run_input gives q plan base memory sources) sources links (t - 1) now buffers.report → AreReady now.stores
-    → MAX_STORES ≤ vec_capacity buffers.orders → MayReport failed q plan base places t buffers now
-may_report gives sent failed q plan base memory sources links places t now buffers is begun held room footing all first last done ready orders =
-    let hand = in_hand gives sent failed (run_input gives q plan base memory sources) sources links (t - 1) now buffers.report done in
-    let within : (s : ℕ) → s < length q.rows → slice_index places s < length now.stores = λ s store. rw hand.stores (footing.stand_at s store).within in
-    record {
-      shape = begun.shape;
-      first = first;
-      last = last;
-      few = omega (arith, all, is.stores.at_most);
-      all = all;
-      within = All-from_get_or (λ (place : ℕ). place < length now.stores) places 0 (λ k inside. within k (omega (arith, inside, all)));
-      carry = record {
-        record_may = record {
-          few = omega (arith, hand.stores, held.at_most);
-          named = still_named memory.stores now.stores held hand.ids;
-          many = omega (arith, hand.sources_many, begun.counts.few_sources);
-        };
-        ready = ready;
-        some_link = omega (arith, hand.links_many, begun.counts.some_link);
-        few_links = omega (arith, hand.links_many, begun.counts.few_links);
-        links = still_room failed links now.links hand.failures room;
-        orders_may = may_order (amount plan) places t (length q.rows) (length now.stores) is.stores.at_most within footing.apart;
-        early = by_step base t (length q.windows) footing.early last;
-      };
-      fit = rw (wanted_in_all (amount plan) places t (length q.rows)) (begun.fits t first (omega arith)).windowed;
-      orders = orders;
-      ids = hand.report_ids;
-      room = omega (arith, hand.report_steps, hand.report_most, first, last);
-    }
-  where
-    by_step : (b t n : ℕ) → b + n < 2 ^ 64 → t ≤ n → b + t < 2 ^ 64
-    by_step b t n early last = omega arith
-
 -- counts after some steps: each store was offered, and has its last storage time, at most this far
 abbrev pub bound_at : ℕ → ℕ
 bound_at steps = 2 ^ 63 + (steps + 1) * 2 ^ 20
@@ -376,38 +269,165 @@ still_few gives t sources left same few =
     All-unmapped (λ (ps : List SpacePacket). length ps ≤ 65535) (λ s. gives s t) left
     (subst (All (λ (ps : List SpacePacket). length ps ≤ 65535)) (sym same) (All-map (λ (ps : List SpacePacket). length ps ≤ 65535) (λ s. gives s t) sources few))
 
--- a run before one of its steps: its tests have passed, its stores stand at these places, and the step may be carried out and reported
-pub record BeforeStep {S L : Type 0} (gives : S → ℕ → List SpacePacket) (failed : L → ℕ) (q : Dumping) (plan : Table) (base : ℕ) (memory : Holdings)
-    (sources : List S) (links : List L) (places : List ℕ) (t : ℕ) (now : RunState S L) (buffers : RunBuffers) : Type 0 where
-  pub is : IsDumping q
-  pub begun : Begun (run_start q plan memory.stores base (length sources) (length links))
-  pub footing : Footing gives (run_input gives q plan base memory sources) sources places
-  pub first : 1 ≤ t
-  pub last : t ≤ length q.windows
-  pub may : MayReport failed q plan base places t buffers now
-  pub sources_many : length now.sources ≡ length sources
-  pub same : given_in gives t now.sources ≡ given_in gives t sources
-  pub early : base + t ≤ bound_at (t - 1)
+-- a run whose steps may be carried out, and which stands so before one of them: its stores stand at these places
+module _ {S L : Type 0} (gives : S → ℕ → List SpacePacket) (sent : L → List Sent) (failed : L → ℕ) (run : RunContext) (places : List ℕ) (t : ℕ) (first : RunState S L) where
+  abbrev pub q : Dumping
+  q = run.problem.now
 
-pub before_step : {S L : Type 0} (gives : S → ℕ → List SpacePacket) (sent : L → List Sent) (failed : L → ℕ) (q : Dumping) (plan : Table) (base : ℕ) (memory : Holdings)
-    (sources : List S) (links : List L) (all : List ℕ) (t : ℕ) (now : RunState S L) (buffers : RunBuffers) {start : RunBuffers} {held : List Held} {many ends : ℕ}
-    → MayRun failed q plan base start (record { stores = memory.stores; sources = sources; links = links }) → IsDumping q → held ≡ memory.stores
-    → ArePlaces q held (length q.rows) all → length all ≡ MAX_STORES → many ≡ length q.rows → 1 ≤ t → t < ends + 1 → ends ≡ length q.windows
-    → StepsDone gives sent failed (run_input gives q plan base memory sources) sources links (t - 1) now buffers.report → AreReady now.stores
-    → MAX_STORES ≤ vec_capacity buffers.orders → BeforeStep gives failed q plan base memory sources links (take many all) t now buffers
-before_step gives sent failed q plan base memory sources links all t now buffers may is read there sixteen cut first inside ends done ready room =
-    let begun = begun_of (run_start q plan memory.stores base (length sources) (length links)) may.begins in
-    let footing = footing_here gives q plan base memory sources (length links) all is may.begins may.sound read there cut in
-    let places = places_many (length q.rows) _ all cut is.stores.at_most sixteen in
-    let last : t ≤ length q.windows = omega (arith, inside, ends) in
-    record {
-      is = is;
-      begun = begun;
-      footing = footing;
-      first = first;
-      last = last;
-      may = may_report gives sent failed q plan base memory sources links _ t now buffers is begun may.held may.links footing places first last done ready room;
-      sources_many = (in_hand gives sent failed (run_input gives q plan base memory sources) sources links (t - 1) now buffers.report done).sources_many;
-      same = done.sources_are.others t (λ from to. absurd (omega (arith, first, to)));
-      early = early_at base t (length q.windows) begun.early.first last is.steps.at_most;
-    }
+  abbrev pub input : RunInput
+  input = given_to gives run first
+
+  -- what holds before each step
+  pub record Underway (now : RunState S L) (buffers : RunBuffers) : Type 0 where
+    pub is : IsDumping q
+    pub from_one : 1 ≤ t
+    pub last : t ≤ length q.windows
+    pub ran : HasRun gives sent failed input run.plan.now first (t - 1) now buffers.report
+    pub footing : Footing gives input first.sources places
+    pub hand : InHand failed input first.sources first.links (t - 1) now buffers.report
+    pub may : MayReport failed run places t buffers now
+
+  -- the places cut down to those of the problem's stores
+  footing_here : {start : RunBuffers} → MayRun failed run start first → IsDumping q → {held : List Held} (all : List ℕ) {many : ℕ} → held ≡ first.stores
+      → ArePlaces q held (length q.rows) all → many ≡ length q.rows → places ≡ take many all → Footing gives input first.sources places
+  footing_here may is all read there cut are =
+      let cut_here : places ≡ take (length q.rows) all = are ∙ ap (λ (n : ℕ). take n all) cut in
+      let stand_all = places_cut q first.stores (length q.rows) all (subst (λ (xs : List Held). ArePlaces q xs (length q.rows) all) read there) in
+      let stand : ArePlaces q first.stores (length q.rows) places = subst (ArePlaces q first.stores (length q.rows)) (sym cut_here) stand_all in
+      let early = early_by first.stores run.base (may.begins.in_time (omega arith)) in
+      record {
+        gives_are = refl;
+        stand_at = stand;
+        apart = places_differ q first.stores places is.stores stand;
+        ready = λ s store.
+            let place = stand s store in
+            subst (λ (k : ℕ). IsReady q s (opening_at (states_of first.stores) k)) place.is
+            (ready_of q first.stores s (slice_index places s) place (may.begins.sizes (omega arith) s store) (may.begins.openings (omega arith) s store)
+            (state_holds IsState first.stores may.sound (slice_index places s) place.within));
+        early = by_clock run.base (length q.windows) early.first is.steps.at_most;
+      }
+    where
+      by_clock : (b s : ℕ) → b ≤ LATEST_START → s ≤ MAX_STEPS → b + s < 2 ^ 64
+      by_clock b s first few = omega arith
+
+  -- the next step may be carried out and reported
+  may_report : {start : RunBuffers} (now : RunState S L) (buffers : RunBuffers) → MayRun failed run start first → IsDumping q
+      → HasRun gives sent failed input run.plan.now first (t - 1) now buffers.report → InHand failed input first.sources first.links (t - 1) now buffers.report
+      → Footing gives input first.sources places → length places ≡ length q.rows → 1 ≤ t → t ≤ length q.windows
+      → MAX_STORES ≤ vec_capacity buffers.orders → MayReport failed run places t buffers now
+  may_report now buffers may is ran hand footing all from_one last orders =
+      let within : (s : ℕ) → s < length q.rows → slice_index places s < length now.stores = λ s store. rw hand.stores (footing.stand_at s store).within in
+      let counts = may.begins.counts (omega arith) in
+      record {
+        shape = may.begins.shape (omega arith);
+        first = from_one;
+        last = last;
+        few = omega (arith, all, is.stores.at_most);
+        all = all;
+        within = All-from_get_or (λ (place : ℕ). place < length now.stores) places 0 (λ k inside. within k (omega (arith, inside, all)));
+        carry = record {
+          record_may = record {
+            few = omega (arith, hand.stores, may.held.at_most);
+            named = still_named first.stores now.stores may.held hand.ids;
+            many = omega (arith, hand.sources_many, counts.few_sources);
+          };
+          ready = ran.ready;
+          some_link = omega (arith, hand.links_many, counts.some_link);
+          few_links = omega (arith, hand.links_many, counts.few_links);
+          links = still_room failed first.links now.links hand.failures may.links;
+          orders_may = may_order (amount run.plan.now) places t (length q.rows) (length now.stores) is.stores.at_most within footing.apart;
+          early = by_step run.base t (length q.windows) footing.early last;
+        };
+        fit = rw (wanted_in_all (amount run.plan.now) places t (length q.rows)) (may.begins.fits (omega arith) t from_one (omega arith)).windowed;
+        orders = orders;
+        ids = hand.report_ids;
+        room = omega (arith, hand.report_steps, hand.report_most, from_one, last);
+      }
+    where
+      by_step : (b s n : ℕ) → b + n < 2 ^ 64 → s ≤ n → b + s < 2 ^ 64
+      by_step b s n early last = omega arith
+
+  pub underway : {start : RunBuffers} (now : RunState S L) (buffers : RunBuffers) → MayRun failed run start first → IsDumping q → {held : List Held} (all : List ℕ)
+      {many ends : ℕ} → held ≡ first.stores → ArePlaces q held (length q.rows) all → length all ≡ MAX_STORES → many ≡ length q.rows → places ≡ take many all
+      → 1 ≤ t → t < ends + 1 → ends ≡ length q.windows
+      → HasRun gives sent failed input run.plan.now first (t - 1) now buffers.report → MAX_STORES ≤ vec_capacity buffers.orders → Underway now buffers
+  underway now buffers may is all read there sixteen cut are from_one inside ends ran room =
+      let footing = footing_here may is all read there cut are in
+      let last : t ≤ length q.windows = omega (arith, inside, ends) in
+      let hand = in_hand gives sent failed input first.sources first.links (t - 1) now buffers.report ran.done in
+      let many : length places ≡ length q.rows = ap length are ∙ length-take-le _ all (omega (arith, cut, is.stores.at_most, sixteen)) ∙ cut in
+      record {
+        is = is;
+        from_one = from_one;
+        last = last;
+        ran = ran;
+        footing = footing;
+        hand = hand;
+        may = may_report now buffers may is ran hand footing many from_one last room;
+      }
+
+  module _ (now : RunState S L) (buffers : RunBuffers) (here : Underway now buffers) where
+    -- the orders of the step, by their stores' places in the memory
+    pub orders_here : orders_at run places t ≡ step_orders input t
+    orders_here = orders_are input places t (λ s store. (here.footing.stand_at s store).is)
+
+    -- one step more
+    pub ran_on : RunsLoseAsPlanned → RunsLoseNoPacketUncounted → (after : RunState S L) (left : RunBuffers)
+        → StepReported gives sent failed run places t now after buffers left → AreReady after.stores
+        → HasRun gives sent failed input run.plan.now first (t + 1 - 1) after left.report
+    ran_on law counts after left stepped ready =
+        let same : t ≡ suc (t - 1) = omega (arith, here.from_one) in
+        let then : suc (t - 1) ≡ t + 1 - 1 = omega (arith, here.from_one) in
+        let step = subst (λ (u : ℕ). StepDone gives sent failed (recording_in input u now.stores) (orders_of input.amounts places u (length q.rows)) now after) same stepped.done in
+        let row = subst (λ (u : ℕ). left.report
+        ≡ record buffers.report { steps = buffers.report.steps ++ row_from q u places now.stores after.stores (length q.rows) ∷ [] }) same stepped.row in
+        record {
+          began = here.ran.began;
+          done =
+              subst (λ (u : ℕ). StepsDone gives sent failed input first.sources first.links u after left.report) then
+              (done_on gives sent failed input first.sources first.links places here.footing (t - 1) now after buffers.report here.ran.done step law counts
+              (omega (arith, here.last, same)) left.report row);
+          ready = ready;
+        }
+
+    -- the step was broken off
+    pub halted_in : BrokenOrdersChangeNothing → (after : RunState S L) (left : RunBuffers) (broken : StepBroken)
+        → StepUnreported gives sent failed run places t now after buffers left broken → AreReady after.stores
+        → IsHaltedIn gives sent failed input run.plan.now first t after (record { broken = broken; report = left.report })
+    halted_in changes after left broken stepped ready =
+        let how = subst (λ (orders : List Order). StepBroke gives sent failed (recording_in input t now.stores) orders now after broken) orders_here stepped.how in
+        let stopped = stopped_of gives sent failed (recording_in input t now.stores) (step_orders input t) now after broken how in
+        record {
+          from_one = here.from_one;
+          last = here.last;
+          before = now;
+          ran = subst (λ (r : Reported). HasRun gives sent failed input run.plan.now first (t - 1) now r) (sym stepped.unreported) here.ran;
+          labels = stopped.labels ∙ here.hand.labels;
+          ready = ready;
+          stopped_is = stopped;
+          within = stepped.within;
+          how = how;
+          failed_link = λ is_link.
+              failed_link gives sent failed (recording_in input t now.stores) (step_orders input t) now after broken changes refl
+              (subst (All (λ (o : Order). o.place < length now.stores)) orders_here here.may.carry.orders_may.places) is_link how;
+        }
+
+    -- counts that are far from their end stay so, and each store takes what comes
+    module _ (limits : AreWithinLimits gives (length q.windows) first.stores first.sources) (far : AllFar (bound_at (t - 1)) now.stores) where
+      few_here : AreFew gives t now.sources
+      few_here =
+          still_few gives t first.sources now.sources (here.ran.done.sources_are.others t (λ from to. absurd (omega (arith, here.from_one, to)))) (limits.few t here.from_one here.last)
+
+      early_here : run.base + t ≤ bound_at (t - 1)
+      early_here = early_at run.base t (length q.windows) (early_by first.stores run.base (here.ran.began.in_time (omega arith))).first here.last here.is.steps.at_most
+
+      pub takes_here : TakesAll gives (recording_at run t now.stores) now.stores now.sources
+      takes_here =
+          takes_all gives (recording_at run t now.stores) now.stores now.sources (bound_at (t - 1)) (bound_within t _ here.last here.is.steps.at_most) here.ran.ready far early_here few_here
+
+      pub far_on : StepRunsKeepStores → (after : RunState S L) → StepDone gives sent failed (recording_at run t now.stores) (orders_at run places t) now after
+          → AllFar (bound_at (t + 1 - 1)) after.stores
+      far_on law after done =
+          subst (λ (b : ℕ). AllFar b after.stores) (bound_more t here.from_one)
+          (far_after gives sent failed law (recording_at run t now.stores) (orders_at run places t) now after here.may.carry.early here.ran.ready done (bound_at (t - 1))
+          (omega (arith, here.hand.sources_many, (here.ran.began.counts (omega arith)).few_sources)) few_here early_here far)

@@ -36,7 +36,8 @@ use Rattle.mm_exec.specs.Places.{ArePlaces, AreApart}
 use Rattle.mm_exec.specs.RunInput.{RunInput, step_of, offered, as_came, place_in_memory, store_state, step_orders}
 use Rattle.mm_record.specs.Counters.{counters_of}
 use Rattle.mm_exec.specs.Numbers.{counts_from, planned_counts, rows_of, row_from, rows_by_counters, orders_of, counted, AreByCounters}
-use Rattle.mm_exec.specs.Step.{RunState, StepDone}
+use Rattle.mm_exec.specs.RunState.{RunState}
+use Rattle.mm_exec.specs.Step.{StepDone}
 use Rattle.mm_exec.specs.Steps.{AreStepRuns, SourcesGave, LinksSent, StepsDone, sent_in}
 use Rattle.mm_exec.proofs.Coming.{came_at, timed_offers, map_range_same}
 use Rattle.mm_exec.proofs.Counters.{counted_more}
@@ -102,6 +103,16 @@ flat_map_range_more f k =
 -- what a counter rose by
 less_of : (after before rose : ℕ) → after ≡ before + rose → after - before ≡ rose
 less_of after before rose same = omega arith
+
+-- what holds of each of the first steps holds of one more
+one_more : (P : ℕ → Type 0) (k : ℕ) → ((t : ℕ) → t ≤ k → P t) → P (suc k) → (t : ℕ) → t ≤ suc k → P t
+one_more P k earlier now t last = by_order (cases_lt t (suc k))
+  where
+    by_order : (t < suc k) ⊎ (suc k ≤ t) → P t
+    by_order (inl before) = earlier t (omega arith)
+    by_order (inr after) =
+        let same : suc k ≡ t = omega arith in
+        subst P same now
 
 -- what holds through a whole run: what the sources gave as it began, where the stores stand, that they are ready, and that the clock has
 -- room
@@ -177,9 +188,11 @@ module _ {S L : Type 0} (gives : S → ℕ → List SpacePacket) (sent : L → L
         ∙ given_offers gives e (step_of m (suc k)) (slice_index places s) s (suc k) refl refl (id_here s store) sources
         ∙ ap (λ gs. map (λ g. offers (step_of m (suc k)) s (g (suc k))) gs) (sym footing.gives_are)
 
-    -- the step run of a store
-    step_run : (s : ℕ) → s < n
-        → IsStepRun (offered m s (suc k)) (m.amounts s (suc k)) (gave_after (place_in_memory m s) (suc k)) (store_state m (stores_after (suc k - 1)) s) (store_state m (stores_after (suc k)) s)
+    -- a store went by a step run in a step, this one or an earlier one
+    abbrev RunAt : ℕ → ℕ → Type 0
+    RunAt s t = IsStepRun (offered m s t) (m.amounts s t) (gave_after (place_in_memory m s) t) (store_state m (stores_after (t - 1)) s) (store_state m (stores_after t) s)
+
+    step_run : (s : ℕ) → s < n → RunAt s (suc k)
     step_run s store =
         let p = slice_index places s in
         let many : length after.stores ≡ length m.memory.stores = as_many after.stores m.memory.stores (stepped.labels ∙ labels_before) in
@@ -194,51 +207,35 @@ module _ {S L : Type 0} (gives : S → ℕ → List SpacePacket) (sent : L → L
     gave_old : (j t : ℕ) → t ≢ suc k → gave_after j t ≡ done.gave j t
     gave_old j t other = ap (λ (b : Bool). cond b (stepped.gave j) (done.gave j t)) (ne_eqb t (suc k) other)
 
-    -- each step, this one or an earlier one
-    each_run : (s t : ℕ) → s < n → 1 ≤ t → t ≤ suc k
-        → IsStepRun (offered m s t) (m.amounts s t) (gave_after (place_in_memory m s) t) (store_state m (stores_after (t - 1)) s) (store_state m (stores_after t) s)
-    each_run s t store first last = by_step (cases_lt t (suc k))
-      where
-        by_step : (t < suc k) ⊎ (suc k ≤ t)
-            → IsStepRun (offered m s t) (m.amounts s t) (gave_after (place_in_memory m s) t) (store_state m (stores_after (t - 1)) s) (store_state m (stores_after t) s)
-        by_step (inl earlier) =
-            run_as _ _ _ _ _ _ _ _ _ _ refl refl (sym (gave_old (place_in_memory m s) t (λ same. omega (arith, same))))
-            (ap (λ (held : List Held). store_state m held s) (sym (at_old (t - 1) (omega arith))))
-            (ap (λ (held : List Held). store_state m held s) (sym (at_old t (omega arith))))
-            (done.runs.runs s t store first (omega arith))
-        by_step (inr now) =
-            let same : suc k ≡ t = omega arith in
-            subst (λ (u : ℕ). IsStepRun (offered m s u) (m.amounts s u) (gave_after (place_in_memory m s) u) (store_state m (stores_after (u - 1)) s) (store_state m (stores_after u) s)) same
-            (step_run s store)
+    each_run : (s t : ℕ) → s < n → 1 ≤ t → t ≤ suc k → RunAt s t
+    each_run s t store first last =
+        one_more (λ u. 1 ≤ u → RunAt s u) k
+        (λ u last first.
+        run_as _ _ _ _ _ _ _ _ _ _ refl refl (sym (gave_old (place_in_memory m s) u (λ same. omega (arith, same))))
+        (ap (λ (held : List Held). store_state m held s) (sym (at_old (u - 1) (omega arith)))) (ap (λ (held : List Held). store_state m held s) (sym (at_old u last)))
+        (done.runs.runs s u store first last))
+        (λ first. step_run s store) t last first
 
     -- the stores went by one step more
     ran_on : AreStepRuns m (suc k) stores_after gave_after
     ran_on = record {
       first = at_old 0 (omega arith) ∙ done.runs.first;
-      labels = λ t last. each_label t last (cases_lt t (suc k));
+      labels =
+          one_more (λ u. labels_of (stores_after u) ≡ labels_of m.memory.stores) k (λ u last. ap labels_of (at_old u last) ∙ done.runs.labels u last)
+          (ap labels_of at_new ∙ stepped.labels ∙ labels_before);
       runs = each_run;
     }
-      where
-        each_label : (t : ℕ) → t ≤ suc k → (t < suc k) ⊎ (suc k ≤ t) → labels_of (stores_after t) ≡ labels_of m.memory.stores
-        each_label t last (inl earlier) = ap labels_of (at_old t (omega arith)) ∙ done.runs.labels t (omega arith)
-        each_label t last (inr now) =
-            let same : t ≡ suc k = omega arith in
-            ap (λ (u : ℕ). labels_of (stores_after u)) same ∙ ap labels_of at_new ∙ stepped.labels ∙ labels_before
 
     -- the sources gave one step more
     given_on : SourcesGave gives (suc k) sources after.sources
     given_on = record {
-      nothing_left = λ t first last. each_none t first last (cases_lt t (suc k));
+      nothing_left = λ t first last.
+          one_more (λ u. 1 ≤ u → All (λ s. gives s u ≡ []) after.sources) k
+          (λ u last first. none_same gives u before.sources after.sources (stepped.others u (λ same. omega (arith, same))) (done.sources_are.nothing_left u first last))
+          (λ first. stepped.nothing_left) t last first;
       others = λ t outside.
           stepped.others t (λ same. outside (omega (arith, same)) (omega (arith, same))) ∙ done.sources_are.others t (λ first last. outside first (omega arith));
     }
-      where
-        each_none : (t : ℕ) → 1 ≤ t → t ≤ suc k → (t < suc k) ⊎ (suc k ≤ t) → All (λ s. gives s t ≡ []) after.sources
-        each_none t first last (inl earlier) =
-            none_same gives t before.sources after.sources (stepped.others t (λ same. omega (arith, same))) (done.sources_are.nothing_left t first (omega arith))
-        each_none t first last (inr now) =
-            let same : suc k ≡ t = omega arith in
-            subst (λ (u : ℕ). All (λ s. gives s u ≡ []) after.sources) same stepped.nothing_left
 
     -- what a link sent in a step, this one or an earlier one
     abbrev pieces : ℕ → ℕ → List Sent
@@ -272,8 +269,15 @@ module _ {S L : Type 0} (gives : S → ℕ → List SpacePacket) (sent : L → L
     sent_on : LinksSent sent failed m (suc k) gave_after links after.links
     sent_on = record {
       took = took_after;
-      once = λ j t first last. each_once j t first last (cases_lt t (suc k));
-      links = λ t first last. each_link t first last (cases_lt t (suc k));
+      once = λ j t first last.
+          one_more (λ u. 1 ≤ u → sum_by (times j) (took_after u) ≡ times j (places_of (step_orders m u))) k
+          (λ u last first. ap (sum_by (times j)) (took_old u last) ∙ done.links_are.once j u first last)
+          (λ first.
+          ap (sum_by (times j)) took_new ∙ stepped.once j
+          ∙ ap (λ (os : List Order). times j (places_of os)) (orders_are m places (suc k) (λ s store. (footing.stand_at s store).is))) t last first;
+      links = λ t first last.
+          one_more (λ u. 1 ≤ u → length (took_after u) ≡ length links) k (λ u last first. ap length (took_old u last) ∙ done.links_are.links u first last)
+          (λ first. ap length took_new ∙ took_now.many ∙ links_many) t last first;
       lists = λ l within.
           let inside : l < length before.links = omega (arith, links_many) in
           let now = took_now.lists l inside in
@@ -285,28 +289,14 @@ module _ {S L : Type 0} (gives : S → ℕ → List SpacePacket) (sent : L → L
           ∙ ap (λ xs. xs ++ flat_map (λ j. all_sent (id_at (map (λ h. h.id) m.memory.stores) j) (stepped.gave j)) (slice_index_or stepped.places l [])) (done.links_are.lists l within)
           ∙ append_assoc (slice_index_or (map sent links) l []) (flat_map (old_pieces l) (range_with_len 1 k)) _
           ∙ ap (λ xs. slice_index_or (map sent links) l [] ++ xs) (sym all);
-      no_failure =
-          took_now.failures ∙ done.links_are.no_failure;
+      no_failure = took_now.failures ∙ done.links_are.no_failure;
     }
       where
-        each_once : (j t : ℕ) → 1 ≤ t → t ≤ suc k → (t < suc k) ⊎ (suc k ≤ t) → sum_by (times j) (took_after t) ≡ times j (places_of (step_orders m t))
-        each_once j t first last (inl earlier) =
-            ap (sum_by (times j)) (extend-other (suc k) stepped.places done.links_are.took t (λ same. omega (arith, same)))
-            ∙ done.links_are.once j t first (omega arith)
-        each_once j t first last (inr now) =
-            let same : suc k ≡ t = omega arith in
-            let here : sum_by (times j) (took_after (suc k)) ≡ times j (places_of (step_orders m (suc k))) =
-            ap (sum_by (times j)) (extend-here (suc k) stepped.places done.links_are.took) ∙ stepped.once j
-            ∙ ap (λ (os : List Order). times j (places_of os)) (orders_are m places (suc k) (λ s store. (footing.stand_at s store).is)) in
-            subst (λ (u : ℕ). sum_by (times j) (took_after u) ≡ times j (places_of (step_orders m u))) same here
+        took_new : took_after (suc k) ≡ stepped.places
+        took_new = extend-here (suc k) stepped.places done.links_are.took
 
-        each_link : (t : ℕ) → 1 ≤ t → t ≤ suc k → (t < suc k) ⊎ (suc k ≤ t) → length (took_after t) ≡ length links
-        each_link t first last (inl earlier) =
-            ap length (extend-other (suc k) stepped.places done.links_are.took t (λ same. omega (arith, same))) ∙ done.links_are.links t first (omega arith)
-        each_link t first last (inr now) =
-            let same : t ≡ suc k = omega arith in
-            ap (λ (u : ℕ). length (took_after u)) same ∙ ap length (extend-here (suc k) stepped.places done.links_are.took)
-            ∙ took_now.many ∙ links_many
+        took_old : (t : ℕ) → t ≤ k → took_after t ≡ done.links_are.took t
+        took_old t last = extend-other (suc k) stepped.places done.links_are.took t (λ same. omega (arith, same))
 
     module _ (law : RunsLoseAsPlanned) (counts : RunsLoseNoPacketUncounted) (within : suc k ≤ length m.problem.windows) where
       -- the steps so far are a run of the plan, with what came in place of the forecast
@@ -322,14 +312,20 @@ module _ {S L : Type 0} (gives : S → ℕ → List SpacePacket) (sent : L → L
         came = λ s t store first last. came_at m s t store first (omega arith);
       }
 
+      -- the counters of each store rise as the plan says
+      planned_at : (s : ℕ) → s < n → AsPlanned (as_came m) m.amounts s (suc k) (store_state m before.stores s) (store_state m after.stores s)
+      planned_at s store =
+          let raw = law (as_came m) m.amounts (suc k) (offered m) (λ s t. gave_after (place_in_memory m s) t) (λ s t. store_state m (stores_after t) s) run_of s (suc k) store (omega arith) (omega arith) in
+          let first = subst (λ (held : List Held). AsPlanned (as_came m) m.amounts s (suc k) (store_state m held s) (store_state m (stores_after (suc k)) s)) at_last raw in
+          subst (λ (held : List Held). AsPlanned (as_came m) m.amounts s (suc k) (store_state m before.stores s) (store_state m held s)) at_new first
+
       -- what the step brings to a store is what the plan says
       counts_are : (s : ℕ) → s < n
           → counts_from m.problem s (suc k) (counters_of (opening_at (states_of before.stores) (slice_index places s))) (opening_at (states_of after.stores) (slice_index places s))
           ≡ planned_counts m.problem (as_came m) m.amounts s (suc k)
       counts_are s store =
-          let raw = law (as_came m) m.amounts (suc k) (offered m) (λ s t. gave_after (place_in_memory m s) t) (λ s t. store_state m (stores_after t) s) run_of s (suc k) store (omega arith) (omega arith) in
-          let first = subst (λ (u : State). AsPlanned (as_came m) m.amounts s (suc k) u (store_state m (stores_after (suc k)) s)) (sym (state_before s store)) raw in
-          let planned = subst (λ (u : State). AsPlanned (as_came m) m.amounts s (suc k) (opening_at (states_of before.stores) (slice_index places s)) u) (sym (state_after s store)) first in
+          let planned = subst (λ (j : ℕ). AsPlanned (as_came m) m.amounts s (suc k) (opening_at (states_of before.stores) j) (opening_at (states_of after.stores) j))
+          (sym (footing.stand_at s store).is) (planned_at s store) in
           let arrived = less_of _ _ _ planned.takes in
           let lost_is = less_of _ _ _ planned.loses in
           let dumped = less_of _ _ _ planned.dumps in
@@ -353,7 +349,7 @@ module _ {S L : Type 0} (gives : S → ℕ → List SpacePacket) (sent : L → L
       rows_counted : report.steps ++ row_from m.problem (suc k) places before.stores after.stores n ∷ [] ≡ rows_by_counters m stores_after (suc k)
       rows_counted =
           let row = λ (held : ℕ → List Held) (t : ℕ).
-              map (λ s. counts_from m.problem s t (counters_of (store_state m (held (t - 1)) s)) (store_state m (held t) s)) (stores m.problem) in
+          map (λ s. counts_from m.problem s t (counters_of (store_state m (held (t - 1)) s)) (store_state m (held t) s)) (stores m.problem) in
           let more : rows_by_counters m stores_after (suc k) ≡ map (row stores_after) (range_with_len 1 k) ++ row stores_after (suc k) ∷ [] =
           ap (map (row stores_after)) (range_with_len_more 1 k (suc k) (omega arith)) ∙ map-append (row stores_after) (range_with_len 1 k) (suc k ∷ []) in
           let earlier : map (row stores_after) (range_with_len 1 k) ≡ rows_by_counters m done.stores k =
@@ -369,13 +365,7 @@ module _ {S L : Type 0} (gives : S → ℕ → List SpacePacket) (sent : L → L
           ap (λ (rows : List (List StepCounts)). rows ++ row_from m.problem (suc k) places before.stores after.stores n ∷ []) (done.rows ∙ sym earlier)
           ∙ ap (λ (r : List StepCounts). map (row stores_after) (range_with_len 1 k) ++ r ∷ []) last ∙ sym more
 
-      -- the counters of each store rise
-      planned_at : (s : ℕ) → s < n → AsPlanned (as_came m) m.amounts s (suc k) (store_state m before.stores s) (store_state m after.stores s)
-      planned_at s store =
-          let raw = law (as_came m) m.amounts (suc k) (offered m) (λ s t. gave_after (place_in_memory m s) t) (λ s t. store_state m (stores_after t) s) run_of s (suc k) store (omega arith) (omega arith) in
-          let first = subst (λ (held : List Held). AsPlanned (as_came m) m.amounts s (suc k) (store_state m held s) (store_state m (stores_after (suc k)) s)) at_last raw in
-          subst (λ (held : List Held). AsPlanned (as_came m) m.amounts s (suc k) (store_state m before.stores s) (store_state m held s)) at_new first
-
+      -- so do the totals
       counted_on : AreByCounters m after.stores (report.steps ++ row_from m.problem (suc k) places before.stores after.stores n ∷ [])
       counted_on =
           let stands = λ (s : ℕ) (store : s < n). (footing.stand_at s store).is in

@@ -1,5 +1,5 @@
 -- Stores that are ready, and counts that are far from their end, from step to step.
-use Rattle.std.proofs.Common.{◌≡◌, ◌⊎◌, inl, inr, ℕ, ◌+◌, ◌*◌, ◌<◌, ◌≤◌, ◌^◌, List, [], ◌∷◌, ◌++◌, length, map, get_or, All, refl, sym, ap, subst, ◌∙◌, arith}
+use Rattle.std.proofs.Common.{◌≡◌, ◌⊎◌, inl, inr, ℕ, ◌+◌, ◌*◌, ◌<◌, ◌≤◌, ◌^◌, List, [], ◌∷◌, ◌++◌, length, map, get_or, All, refl, sym, ap, subst, ◌∙◌, ◌-◌, arith}
 use Rattle.std.specs.Prelude.{IsTrue, Option, Some, None, Result, not, ◌==◌, ◌||◌, filter}
 use Rattle.std.specs.List.{AllZip}
 use Rattle.std.proofs.lemmas.Bool.{cases_lt, cond_both}
@@ -31,15 +31,16 @@ use Rattle.mm_dump.specs.Courses.{Course, EndedAs}
 use Rattle.mm_dump.specs.Dumped.{HasTried, MayDump}
 use Rattle.mm_dump.specs.Laws.{BrokenOrdersChangeNothing}
 use Rattle.mm_dump.specs.Sending.{Sent}
-use Rattle.mm_report.specs.declared.cause.Cause.{Cause}
 use Rattle.mm_exec.specs.Laws.{StepRunsKeepStores}
 use Rattle.mm_exec.specs.StepRuns.{IsBy, AreBy, KeepsStore}
 use Rattle.mm_exec.proofs.Offers.{by_offer}
 use Rattle.mm_exec.proofs.Replays.{shuffled}
 use Rattle.mm_exec.specs.Halts.{AreFirstOffers}
-use Rattle.mm_exec.specs.Step.{RunState, AreReady, MayCarry, StepRecorded, StepDone, OutOfMemory, RecordersBroke, OrdersBroke, StepBroke}
+use Rattle.mm_exec.specs.Step.{AreReady, MayCarry, StepRecorded, StepDone, OrdersBroke, StepBroke}
+use Rattle.mm_exec.specs.RunState.{RunState}
+use Rattle.mm_exec.specs.declared.step.StepBroken.{StepBroken}
 use Rattle.mm_exec.proofs.Firsts.{first_turns}
-use Rattle.mm_exec.proofs.Parts.{as_many}
+use Rattle.mm_exec.proofs.Parts.{as_many, by_how}
 
 -- the state at a place is that of the store there
 state_there : (held : List Held) (k : ℕ) (d : Held) → k < length held → opening_at (states_of held) k ≡ (get_or held k d).state
@@ -104,13 +105,12 @@ ready_kept stores left many sound at ready = record {
 }
 
 -- stores that have recorded are ready
-pub ready_recorded : {S : Type 0} (gives : S → ℕ → List SpacePacket) (e : RecordingContext) (stores : List Held) (sources : List S) (mid : List Held) (left : List S)
-    → AreReady stores → StepRecorded gives e stores sources mid left → AreReady mid
-ready_recorded gives e stores sources mid left ready recorded =
-    ready_kept stores mid (as_many mid stores recorded.labels) recorded.sound
+pub ready_recorded : {S L : Type 0} (gives : S → ℕ → List SpacePacket) (e : RecordingContext) (before mid : RunState S L) → AreReady before.stores → StepRecorded gives e before mid → AreReady mid.stores
+ready_recorded gives e before mid ready recorded =
+    ready_kept before.stores mid.stores (as_many mid.stores before.stores recorded.labels) recorded.sound
     (λ k within.
-    let has = recorded.stores_are k (omega (arith, within, length-map mid (λ (h : Held). h.state))) in
-    run_keeps e.now (map (offers e k) (given_in gives e.step sources)) has.log _ _ has.run has.shuffle (all_by e k (given_in gives e.step sources))) ready
+    let has = recorded.stores_are k (omega (arith, within, length-map mid.stores (λ (h : Held). h.state))) in
+    run_keeps e.now (map (offers e k) (given_in gives e.step before.sources)) has.log _ _ has.run has.shuffle (all_by e k (given_in gives e.step before.sources))) ready
 
 -- the first of the offers of sources are offers at the moment
 firsts_by : (e : RecordingContext) (k : ℕ) (gives : List (List SpacePacket)) (firsts : List (List Event)) → AllZip (AreFirstOffers e k) gives firsts → AreBy e.now firsts
@@ -153,53 +153,41 @@ tried_keeps dump changes k s t taken c sound tried = by_count (cases_lt 0 taken)
         record { storage = ap (λ (u : State). u.storage) same; retrieval = ap (λ (u : State). u.retrieval) same }
 
 -- stores of a dump of which orders broke are ready
-ready_broken : {L : Type 0} (sent : L → List Sent) (failed : L → ℕ) (step : ℕ) (orders : List Order) (stores left : List Held) (links links_left : List L)
-    (cause : Cause) (spent : ℕ) → OrdersDumpTheOldest → BrokenOrdersChangeNothing → AreReady stores
-    → OrdersBroke sent failed step orders stores links left links_left cause spent → AreReady left
-ready_broken sent failed step orders stores left links links_left cause spent dump changes ready broke =
-    let many = as_many left stores broke.labels in
-    ready_kept stores left many broke.sound
+ready_broken : {S L : Type 0} (sent : L → List Sent) (failed : L → ℕ) (step : ℕ) (orders : List Order) (mid after : RunState S L) (stop : StepBroken)
+    → OrdersDumpTheOldest → BrokenOrdersChangeNothing → AreReady mid.stores → OrdersBroke sent failed step orders mid after stop → AreReady after.stores
+ready_broken sent failed step orders mid after stop dump changes ready broke =
+    let many = as_many after.stores mid.stores broke.labels in
+    ready_kept mid.stores after.stores many broke.sound
     (λ k within.
-    tried_keeps dump changes k _ _ _ (broke.settled.course k) (state_holds IsState stores ready.sound k (omega (arith, within, many)))
-    (broke.settled.stores k (omega (arith, within, length-map left (λ (h : Held). h.state))))) ready
+    tried_keeps dump changes k _ _ _ (broke.settled.course k) (state_holds IsState mid.stores ready.sound k (omega (arith, within, many)))
+    (broke.settled.stores k (omega (arith, within, length-map after.stores (λ (h : Held). h.state))))) ready
 
 -- stores of a step that was broken off are ready for more
 pub ready_left : {S L : Type 0} (gives : S → ℕ → List SpacePacket) (sent : L → List Sent) (failed : L → ℕ) (e : RecordingContext) (orders : List Order)
-    (before after : RunState S L) (cause : Cause) (spent : ℕ) → OrdersDumpTheOldest → BrokenOrdersChangeNothing → ids_of before.stores ≡ e.ids → AreReady before.stores
-    → StepBroke gives sent failed e orders before after cause spent → AreReady after.stores
-ready_left {S = S} {L = L} gives sent failed e orders before after cause spent dump changes ids ready (inl recording) = by_how recording.how
-  where
-    by_how : OutOfMemory e.step before.stores before.sources after.stores after.sources cause spent
-        ⊎ RecordersBroke gives e before.stores before.sources after.stores after.sources cause spent → AreReady after.stores
-    by_how (inl lack) = subst AreReady (sym lack.stores_same) ready
-    by_how (inr broke) =
-        ready_stopped gives e before.stores after.stores before.sources after.sources broke.why
-        (ap length (sym ids) ∙ length-map before.stores (λ (h : Held). h.id)) ready broke.records
-ready_left {S = S} {L = L} gives sent failed e orders before after cause spent dump changes ids ready (inr dumping) = by_how dumping.how
-  where
-    stands : AreReady dumping.mid
-    stands = ready_recorded gives e before.stores before.sources dumping.mid after.sources ready dumping.recorded
-
-    by_how : OutOfMemory e.step dumping.mid before.links after.stores after.links cause spent
-        ⊎ OrdersBroke sent failed e.step orders dumping.mid before.links after.stores after.links cause spent → AreReady after.stores
-    by_how (inl lack) = subst AreReady (sym lack.stores_same) stands
-    by_how (inr broke) = ready_broken sent failed e.step orders dumping.mid after.stores before.links after.links cause spent dump changes stands broke
+    (before after : RunState S L) (stop : StepBroken) → OrdersDumpTheOldest → BrokenOrdersChangeNothing → ids_of before.stores ≡ e.ids → AreReady before.stores
+    → StepBroke gives sent failed e orders before after stop → AreReady after.stores
+ready_left {S = S} {L = L} gives sent failed e orders before after stop dump changes ids ready =
+    by_how gives sent failed e orders before after stop (λ (x : RunState S L). AreReady x.stores) ready
+    (λ broke.
+    ready_stopped gives e before.stores after.stores before.sources after.sources broke.why (ap length (sym ids) ∙ length-map before.stores (λ (h : Held). h.id)) ready broke.records)
+    (λ mid recorded. ready_recorded gives e before mid ready recorded)
+    (λ mid recorded broke. ready_broken sent failed e.step orders mid after stop dump changes (ready_recorded gives e before mid ready recorded) broke)
 
 -- a step's dump may be carried out after what came is recorded
-pub may_dump : {S L : Type 0} (failed : L → ℕ) (moment : ℕ) (orders : List Order) (before : RunState S L) (mid : List Held) → MayCarry failed moment orders before
-    → length mid ≡ length before.stores → AreReady mid → MayDump failed orders mid before.links
-may_dump failed moment orders before mid may many ready =
+pub may_dump : {S L : Type 0} (failed : L → ℕ) (moment : ℕ) (orders : List Order) (before mid : RunState S L) → MayCarry failed moment orders before
+    → length mid.stores ≡ length before.stores → mid.links ≡ before.links → AreReady mid.stores → MayDump failed orders mid.stores mid.links
+may_dump failed moment orders before mid may many links ready =
     let there = subst (λ (n : ℕ). All (λ (o : Order). o.place < n) orders) (sym many) may.orders_may.places in
     record {
-      lowest = may.some_link;
-      highest = may.few_links;
+      lowest = omega (arith, ap length links, may.some_link);
+      highest = omega (arith, ap length links, may.few_links);
       few = omega (arith, many, may.record_may.few);
       few_orders = may.orders_may.few;
       places = there;
       amounts = may.orders_may.some;
       distinct = may.orders_may.apart;
-      idle = λ i d inside. state_holds (λ (s : State). s.retrieval ≡ None) mid ready.idle (get_or orders i d).place (there i d inside);
-      room = may.links;
+      idle = λ i d inside. state_holds (λ (s : State). s.retrieval ≡ None) mid.stores ready.idle (get_or orders i d).place (there i d inside);
+      room = subst (All (λ l. failed l < 2 ^ 64 - 1)) (sym links) may.links;
     }
 
 -- a store that was offered at most this many packets, and whose last storage time is no later

@@ -1,74 +1,93 @@
 -- How a run ends: carried out, or halted.
-use Rattle.std.specs.Prelude.{◌≡◌, ℕ, ◌+◌, ◌-◌, ◌≤◌, ◌⊎◌, List, [], length}
+use Rattle.std.specs.Prelude.{◌≡◌, ℕ, ◌-◌, ◌≤◌, ◌⊎◌, List, [], length}
 use Rattle.mm_packet.specs.Packet.{SpacePacket}
 use Rattle.mm_problem.specs.Dumping.{window}
 use Rattle.mm_plan.specs.Table.{Table}
 use Rattle.mm_plan.specs.Volumes.{loss}
 use Rattle.mm_shared.specs.Stores.{labels_of}
 use Rattle.mm_memory.specs.Holdings.{Holdings}
-use Rattle.mm_record.specs.Recorded.{recording}
 use Rattle.mm_dump.specs.Sending.{Sent}
-use Rattle.mm_report.specs.declared.cause.Cause.TheVariants.{LinkFailed}
-use Rattle.mm_report.specs.Report.{totals_of}
-use Rattle.mm_exec.specs.Readiness.{run_start, MayBegin}
+use Rattle.mm_report.specs.declared.cause.Cause.{Cause}
+use Rattle.mm_report.specs.declared.cause.Cause.TheVariants.{NoMemory, LinkFailed}
+use Rattle.mm_report.specs.Report.{Reported, totals_of}
+use Rattle.mm_exec.specs.Readiness.{RunStart, run_start, MayBegin, Stops}
+use Rattle.mm_exec.specs.declared.course.RunStopped.{RunStopped}
 use Rattle.mm_exec.specs.declared.run_end.RunEnd.{RunEnd}
 use Rattle.mm_exec.specs.declared.run_end.Halted.{Halted}
-use Rattle.mm_exec.specs.RunInput.{RunInput, as_came, step_orders}
-use Rattle.mm_exec.specs.Step.{RunState, AreReady, StepStopped, StepBroke}
+use Rattle.mm_exec.specs.RunInput.{RunInput, recording_in, as_came, step_orders}
+use Rattle.mm_exec.specs.RunState.{RunState}
+use Rattle.mm_exec.specs.Step.{AreReady, StepStopped, StepBroke}
 use Rattle.mm_exec.specs.Steps.{StepsDone}
-use Rattle.mm_exec.specs.Course.{IsRefusal}
 use Rattle.mm_exec.specs.Failure.{FailedLink}
+
+-- what a run holds whose stores are those of a memory
+abbrev pub over_memory : {S L : Type 0} → Holdings → List S → List L → RunState S L
+over_memory memory sources links = record { stores = memory.stores; sources = sources; links = links }
+
+-- what a run would begin with
+abbrev pub run_start_of : {S L : Type 0} → RunInput → Table → RunState S L → RunStart
+run_start_of m plan first = run_start m.problem plan m.memory.stores m.base (length first.sources) (length first.links)
+
+-- where a run stands after its first steps: the tests before it passed, the steps are carried out, the report is theirs, and the stores
+-- are sound and ready for more
+pub record HasRun {S L : Type 0} (gives : S → ℕ → List SpacePacket) (sent : L → List Sent) (failed : L → ℕ) (m : RunInput) (plan : Table) (first : RunState S L)
+    (steps : ℕ) (now : RunState S L) (report : Reported) : Type 0 where
+  pub began : MayBegin (run_start_of m plan first)
+  pub done : StepsDone gives sent failed m first.sources first.links steps now report
+  pub ready : AreReady now.stores
 
 -- the tests before a run passed, and the plan was carried out, and left this memory, whose stores are sound and ready for more. The lost
 -- packets of the report are as many as the plan loses of what came
 pub record IsCarriedOut {S L : Type 0} (gives : S → ℕ → List SpacePacket) (sent : L → List Sent) (failed : L → ℕ) (m : RunInput) (plan : Table) (sources : List S)
     (links : List L) (memory : Holdings) (ended : RunEnd S L) : Type 0 where
-  pub began : MayBegin (run_start m.problem plan m.memory.stores m.base (length sources) (length links))
   pub routes : memory.routes ≡ m.memory.routes
-  pub done : StepsDone gives sent failed m sources links (length m.problem.windows)
-      (record { stores = memory.stores; sources = ended.sources.items; links = ended.links.items }) ended.report
-  pub ready : AreReady memory.stores
+  pub ran : HasRun gives sent failed m plan (over_memory m.memory sources links) (length m.problem.windows)
+      (over_memory memory ended.sources.items ended.links.items) ended.report
   pub total_lost : (totals_of ended.report.steps).lost ≡ loss (as_came m) m.amounts
 
--- nothing was done
-pub record IsUntouched {S L : Type 0} (m : RunInput) (sources : List S) (links : List L) (memory : Holdings) (halted : Halted S L) : Type 0 where
-  pub memory_is : memory ≡ m.memory
-  pub sources_are : halted.sources.items ≡ sources
-  pub links_are : halted.links.items ≡ links
-  pub report_is : halted.report.steps ≡ []
-  pub spent_is : halted.spent ≡ 0
-
--- what a halted run left
-abbrev pub state_left : {S L : Type 0} → Holdings → Halted S L → RunState S L
-state_left memory halted = record { stores = memory.stores; sources = halted.sources.items; links = halted.links.items }
-
--- the tests before a run passed, and the run was halted in a step: those before it are carried out, and the report is theirs. The memory
--- has its stores in their order, each sound and ready for more, and its routes; each source keeps the rest of what it gave in the step, and no more was spent
--- in it than its window
-pub record IsHaltedIn {S L : Type 0} (gives : S → ℕ → List SpacePacket) (sent : L → List Sent) (failed : L → ℕ) (m : RunInput) (plan : Table) (sources : List S)
-    (links : List L) (memory : Holdings) (step : ℕ) (halted : Halted S L) : Type 0 where
-  pub began : MayBegin (run_start m.problem plan m.memory.stores m.base (length sources) (length links))
-  pub first : 1 ≤ step
+-- the tests before a run passed, and it was halted in a step: those before it are carried out, and the report is theirs. The stores are
+-- left in their order, each sound and ready for more; each source keeps the rest of what it gave in the step, and no more was spent in it
+-- than its window
+pub record IsHaltedIn {S L : Type 0} (gives : S → ℕ → List SpacePacket) (sent : L → List Sent) (failed : L → ℕ) (m : RunInput) (plan : Table) (first : RunState S L)
+    (step : ℕ) (left : RunState S L) (stopped : RunStopped) : Type 0 where
+  pub from_one : 1 ≤ step
   pub last : step ≤ length m.problem.windows
-  -- what the step began with, and the report of the steps before it
+  -- what the step began with
   pub before : RunState S L
-  pub done : StepsDone gives sent failed m sources links (step - 1) before halted.report
-  -- the memory, the sources and the window
-  pub labels : labels_of memory.stores ≡ labels_of m.memory.stores
-  pub routes : memory.routes ≡ m.memory.routes
-  pub ready : AreReady memory.stores
-  pub stopped : StepStopped gives step before (state_left memory halted) halted.cause
-  pub within : halted.spent ≤ window m.problem step
+  pub ran : HasRun gives sent failed m plan first (step - 1) before stopped.report
+  -- the stores, the sources and the window
+  pub labels : labels_of left.stores ≡ labels_of m.memory.stores
+  pub ready : AreReady left.stores
+  pub stopped_is : StepStopped gives step before left stopped.broken.cause
+  pub within : stopped.broken.spent ≤ window m.problem step
   -- how the step was broken off: what the recorders and the dump workers did, and why; and what each link did where one failed
-  pub how : StepBroke gives sent failed (recording step (m.base + step) m.memory.routes before.stores) (step_orders m step)
-      before (state_left memory halted) halted.cause halted.spent
-  pub failed_link : halted.cause ≡ LinkFailed step → FailedLink gives sent failed (recording step (m.base + step) m.memory.routes before.stores)
-      (step_orders m step) before (state_left memory halted)
+  pub how : StepBroke gives sent failed (recording_in m step before.stores) (step_orders m step) before left stopped.broken
+  pub failed_link : stopped.broken.cause ≡ LinkFailed step
+      → FailedLink gives sent failed (recording_in m step before.stores) (step_orders m step) before left
 
--- how a run was halted: in a step, for a cause in that step; or before the first, with nothing done, where the test of the cause is the
--- first to fail, or all passed and there was no memory
+-- nothing was done
+pub record IsUntouched {S L : Type 0} (first left : RunState S L) (stopped : RunStopped) : Type 0 where
+  pub same : left ≡ first
+  pub report_is : stopped.report.steps ≡ []
+  pub spent_is : stopped.broken.spent ≡ 0
+
+-- a cause before the first step: its test is the first that fails, or all tests passed and there was no memory
+abbrev pub IsRefusal : RunStart → Cause → Type 0
+IsRefusal o cause = Stops o cause ⊎ ((cause ≡ NoMemory 0) × MayBegin o)
+
+-- how a run ended that was not carried out: in a step, or before the first
+abbrev pub IsStopped : {S L : Type 0} → (S → ℕ → List SpacePacket) → (L → List Sent) → (L → ℕ) → RunInput → Table → RunState S L → RunState S L → RunStopped → Type 0
+IsStopped gives sent failed m plan first left stopped =
+    ((step : ℕ) × IsHaltedIn gives sent failed m plan first step left stopped)
+    ⊎ (IsUntouched first left stopped × IsRefusal (run_start_of m plan first) stopped.broken.cause)
+
+-- why a run was halted, and the report of its steps
+abbrev pub stop_of : {S L : Type 0} → Halted S L → RunStopped
+stop_of halted = record { broken = record { cause = halted.cause; spent = halted.spent }; report = halted.report }
+
+-- how a run was halted, which left this memory, with its routes: in a step, for a cause in that step; or before the first, with nothing
+-- done, where the test of the cause is the first to fail, or all passed and there was no memory
 abbrev pub IsHalted : {S L : Type 0} → (S → ℕ → List SpacePacket) → (L → List Sent) → (L → ℕ) → RunInput → Table → List S → List L → Holdings → Halted S L → Type 0
 IsHalted gives sent failed m plan sources links memory halted =
-    ((step : ℕ) × IsHaltedIn gives sent failed m plan sources links memory step halted)
-    ⊎ (IsUntouched m sources links memory halted
-    × IsRefusal (run_start m.problem plan m.memory.stores m.base (length sources) (length links)) halted.cause)
+    (memory.routes ≡ m.memory.routes)
+    × IsStopped gives sent failed m plan (over_memory m.memory sources links) (over_memory memory halted.sources.items halted.links.items) (stop_of halted)

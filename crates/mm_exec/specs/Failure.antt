@@ -2,7 +2,6 @@
 use Rattle.std.specs.Prelude.{◌≡◌, ◌⊎◌, ℕ, ◌+◌, ◌<◌, List, [], ◌∷◌, ◌++◌, length, map, slice_index_or, All, Some}
 use Rattle.mm_packet.specs.Packet.{SpacePacket}
 use Rattle.mm_store.specs.declared.stored.Stored.{Stored}
-use Rattle.mm_desk.specs.declared.held.Held.{Held}
 use Rattle.mm_desk.specs.Machine.{State}
 use Rattle.mm_desk.specs.Runs.{opening_at}
 use Rattle.mm_dump.specs.declared.order.Order.{Order}
@@ -12,7 +11,8 @@ use Rattle.mm_dump.specs.Courses.{Course, IsWhole, IsBroken, sent_by}
 use Rattle.mm_dump.specs.Dumped.{AllSettled}
 use Rattle.mm_shared.specs.Stores.{states_of}
 use Rattle.mm_record.specs.Recorded.{RecordingContext}
-use Rattle.mm_exec.specs.Step.{RunState, StepRecorded}
+use Rattle.mm_exec.specs.RunState.{RunState}
+use Rattle.mm_exec.specs.Step.{StepRecorded}
 
 -- a link carried out whole orders of the stores at these places, and none of its sends failed
 pub record NoneBroke (course : ℕ → Course) (places : List ℕ) (before after : ℕ) : Type 0 where
@@ -53,6 +53,7 @@ pub record LinksFailed {L : Type 0} (sent : L → List Sent) (failed : L → ℕ
 -- a step that a failed link halted: all that came is recorded, nothing of it is left in the sources, and this is what the links carried out
 pub record FailedLink {S L : Type 0} (gives : S → ℕ → List SpacePacket) (sent : L → List Sent) (failed : L → ℕ) (e : RecordingContext) (orders : List Order)
     (before after : RunState S L) : Type 0 where
-  pub mid : List Held
-  pub recorded : StepRecorded gives e before.stores before.sources mid after.sources
-  pub links : LinksFailed sent failed e.ids orders (states_of mid) (states_of after.stores) before.links after.links
+  pub mid : RunState S L
+  pub recorded : StepRecorded gives e before mid
+  pub sources : after.sources ≡ mid.sources
+  pub links : LinksFailed sent failed e.ids orders (states_of mid.stores) (states_of after.stores) before.links after.links

@@ -16,7 +16,7 @@ use Rattle.mm_exec.specs.AsPlanned.{AtEach}
 use Rattle.mm_exec.specs.declared.run_end.Flown.{Flown}
 use Rattle.mm_exec.specs.declared.run_end.FlyHalted.{FlyHalted}
 use Rattle.mm_exec.specs.RunInput.{RunInput, run_input, came}
-use Rattle.mm_exec.specs.Ending.{IsCarriedOut, IsHalted}
+use Rattle.mm_exec.specs.Ending.{over_memory, IsCarriedOut, IsUntouched, stop_of, IsHalted}
 
 -- what came is what was forecast, in each store and step
 abbrev pub AsForecast : RunInput → Type 0
@@ -52,8 +52,5 @@ pub record FliesNot {S L : Type 0} (gives : S → ℕ → List SpacePacket) (sen
 pub record HasNoPlan {S L : Type 0} (before : Holdings) (sources : List S) (links : List L) (after : Holdings) (ended : FlyHalted S L) : Type 0 where
   pub sheet_is : ended.sheet.items ≡ []
   pub cause_is : ended.halted.cause ≡ NoMemory 0
-  pub memory_is : after ≡ before
-  pub sources_are : ended.halted.sources.items ≡ sources
-  pub links_are : ended.halted.links.items ≡ links
-  pub report_is : ended.halted.report.steps ≡ []
-  pub spent_is : ended.halted.spent ≡ 0
+  pub routes : after.routes ≡ before.routes
+  pub untouched : IsUntouched (over_memory before sources links) (over_memory after ended.halted.sources.items ended.halted.links.items) (stop_of ended.halted)

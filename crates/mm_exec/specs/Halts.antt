@@ -17,8 +17,9 @@ use Rattle.mm_dump.specs.declared.order.Order.{Order}
 use Rattle.mm_dump.specs.Sending.{Sent}
 use Rattle.mm_dump.specs.Courses.{Course, IsCourse}
 use Rattle.mm_dump.specs.Dumped.{wanted}
-use Rattle.mm_report.specs.declared.cause.Cause.{Cause}
-use Rattle.mm_exec.specs.Step.{RunState, StepBroke}
+use Rattle.mm_exec.specs.RunState.{RunState}
+use Rattle.mm_exec.specs.declared.step.StepBroken.{StepBroken}
+use Rattle.mm_exec.specs.Step.{StepBroke}
 
 -- it is the order for the store at a place: it wants as much as all these orders want of that store
 pub record IsOrderFor (orders : List Order) (k : ℕ) (c : Course) : Type 0 where
@@ -50,7 +51,7 @@ AtEachStore went before after = (k : ℕ) → k < length before → went k (open
 
 -- where a step was broken off, each store went by one log
 abbrev pub BrokenStepsAreLogs : {S L : Type 0} → (S → ℕ → List SpacePacket) → (L → List Sent) → (L → ℕ) → Type 0
-BrokenStepsAreLogs {S} {L} gives sent failed = (step now : ℕ) (routes : List RouteRow) (orders : List Order) (before after : RunState S L) (cause : Cause) (spent : ℕ)
-    → StepBroke gives sent failed (recording step now routes before.stores) orders before after cause spent
+BrokenStepsAreLogs {S} {L} gives sent failed = (step now : ℕ) (routes : List RouteRow) (orders : List Order) (before after : RunState S L) (broken : StepBroken)
+    → StepBroke gives sent failed (recording step now routes before.stores) orders before after broken
     → labels_of after.stores ≡ labels_of before.stores
     → AtEachStore (IsByOneLog (recording step now routes before.stores) (given_in gives step before.sources) orders) before.stores after.stores

@@ -8,6 +8,7 @@ pub mod Readiness
 pub mod Places
 pub mod RunInput
 pub mod Numbers
+pub mod RunState
 pub mod Step
 pub mod Steps
 pub mod Course

@@ -8,7 +8,7 @@ use Rattle.mm_desk.specs.declared.held.Held.{Held}
 use Rattle.mm_memory.specs.Holdings.{store_of}
 use Rattle.mm_record.specs.Causes.{is_ready, is_clock_late}
 use Rattle.mm_report.specs.declared.cause.Cause.{Cause}
-use Rattle.mm_report.specs.declared.cause.Cause.TheVariants.{PlanShape, NotReady, SizeDiffers, OpeningDiffers, ChannelDiffers, ClockTooLate, PlanDoesNotFit, Counts, NoMemory, LinkFailed, LogMismatch}
+use Rattle.mm_report.specs.declared.cause.Cause.TheVariants.{PlanShape, NotReady, SizeDiffers, OpeningDiffers, ChannelDiffers, ClockTooLate, PlanDoesNotFit, Counts}
 use Rattle.mm_exec.specs.declared.requirement.Requirement.{Requirement}
 use Rattle.mm_exec.specs.declared.requirement.Requirement.TheVariants.{Ready, Size, Opening, Channel}
 use Rattle.mm_report.specs.declared.cause.TheConstants.{MAX_SOURCES}
@@ -82,42 +82,30 @@ abbrev pub run_start : Dumping → Table → List Held → ℕ → ℕ → ℕ �
 run_start problem plan stores base sources links =
     record { problem = problem; plan = plan; stores = stores; base = base; sources = sources; links = links }
 
--- what holds where all tests up to one of them pass, in their order
-abbrev pub Shaped : RunStart → Type 0
-Shaped o = HasShape o.problem o.plan
-
-abbrev pub AllReady : RunStart → Type 0
-AllReady o = Shaped o × AllMeet Ready o.problem o.stores × NoneUnknown o.problem o.stores
-
-abbrev pub AllSized : RunStart → Type 0
-AllSized o = AllReady o × AllMeet Size o.problem o.stores
-
-abbrev pub AllOpen : RunStart → Type 0
-AllOpen o = AllSized o × AllMeet Opening o.problem o.stores
-
-abbrev pub AllOnChannels : RunStart → Type 0
-AllOnChannels o = AllOpen o × (HasLimit o.problem → AllMeet Channel o.problem o.stores)
-
-abbrev pub InTime : RunStart → Type 0
-InTime o = AllOnChannels o × (is_clock_late o.stores o.base ≡ false)
-
-abbrev pub Fitting : RunStart → Type 0
-Fitting o = InTime o × Fits o.problem (amount o.plan)
+-- of the tests before a run, in their order, the first this many pass
+pub record Passed (many : ℕ) (o : RunStart) : Type 0 where
+  pub shape : 1 ≤ many → HasShape o.problem o.plan
+  pub ready : 2 ≤ many → AllMeet Ready o.problem o.stores
+  pub known : 2 ≤ many → NoneUnknown o.problem o.stores
+  pub sizes : 3 ≤ many → AllMeet Size o.problem o.stores
+  pub openings : 4 ≤ many → AllMeet Opening o.problem o.stores
+  pub channels : 5 ≤ many → HasLimit o.problem → AllMeet Channel o.problem o.stores
+  pub in_time : 6 ≤ many → is_clock_late o.stores o.base ≡ false
+  pub fits : 7 ≤ many → Fits o.problem (amount o.plan)
+  pub counts : 8 ≤ many → AreCounts o.sources o.links
 
 -- all tests pass
 abbrev pub MayBegin : RunStart → Type 0
-MayBegin o = Fitting o × AreCounts o.sources o.links
+MayBegin o = Passed 8 o
 
 -- the test of a cause is the first that fails
 abbrev pub Stops : RunStart → Cause → Type 0
-Stops o PlanShape = ¬ Shaped o
-Stops o (NotReady id) = Shaped o × (IsFirstMismatch Ready o.problem o.stores id ⊎ (AllMeet Ready o.problem o.stores × IsFirstUnknown o.problem o.stores id))
-Stops o (SizeDiffers id) = AllReady o × IsFirstMismatch Size o.problem o.stores id
-Stops o (OpeningDiffers id) = AllSized o × IsFirstMismatch Opening o.problem o.stores id
-Stops o (ChannelDiffers id) = AllOpen o × HasLimit o.problem × IsFirstMismatch Channel o.problem o.stores id
-Stops o ClockTooLate = AllOnChannels o × (is_clock_late o.stores o.base ≡ true)
-Stops o (PlanDoesNotFit step) = InTime o × IsFirstMisfit o.problem (amount o.plan) step
-Stops o Counts = Fitting o × (¬ AreCounts o.sources o.links)
-Stops o (NoMemory step) = ⊥
-Stops o (LinkFailed step) = ⊥
-Stops o (LogMismatch step) = ⊥
+Stops o PlanShape = ¬ HasShape o.problem o.plan
+Stops o (NotReady id) = Passed 1 o × (IsFirstMismatch Ready o.problem o.stores id ⊎ (AllMeet Ready o.problem o.stores × IsFirstUnknown o.problem o.stores id))
+Stops o (SizeDiffers id) = Passed 2 o × IsFirstMismatch Size o.problem o.stores id
+Stops o (OpeningDiffers id) = Passed 3 o × IsFirstMismatch Opening o.problem o.stores id
+Stops o (ChannelDiffers id) = Passed 4 o × HasLimit o.problem × IsFirstMismatch Channel o.problem o.stores id
+Stops o ClockTooLate = Passed 5 o × (is_clock_late o.stores o.base ≡ true)
+Stops o (PlanDoesNotFit step) = Passed 6 o × IsFirstMisfit o.problem (amount o.plan) step
+Stops o Counts = Passed 7 o × (¬ AreCounts o.sources o.links)
+Stops o cause = ⊥

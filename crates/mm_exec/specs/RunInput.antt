@@ -12,7 +12,7 @@ use Rattle.mm_desk.specs.Offers.{count_of}
 use Rattle.mm_desk.specs.Runs.{opening_at}
 use Rattle.mm_shared.specs.Stores.{states_of}
 use Rattle.mm_memory.specs.Holdings.{Holdings, has_id}
-use Rattle.mm_record.specs.Recorded.{RecordingContext, offers}
+use Rattle.mm_record.specs.Recorded.{RecordingContext, recording, offers}
 use Rattle.mm_dump.specs.declared.order.Order.{Order}
 
 -- what a run is given: the problem, the plan's amounts, the moment before the first step, the memory, and what each source gives in
@@ -27,6 +27,10 @@ pub record RunInput : Type 0 where
 -- what the recorders of a step share, over the stores of the problem
 abbrev pub step_of : RunInput → ℕ → RecordingContext
 step_of m t = record { step = t; now = m.base + t; routes = m.memory.routes; ids = map (λ r. r.id) m.problem.rows }
+
+-- what they share over the stores of a memory
+abbrev pub recording_in : RunInput → ℕ → List Held → RecordingContext
+recording_in m t stores = recording t (m.base + t) m.memory.routes stores
 
 -- the offers to a store in a step: for each source, those of the packets that it gives
 abbrev pub offered : RunInput → ℕ → ℕ → List (List Event)

@@ -1,6 +1,5 @@
 -- One step of a run: recorded, and then dumped.
-use Rattle.std.specs.Prelude.{◌≡◌, ◌≢◌, ◌⊎◌, ℕ, ◌+◌, ◌-◌, ◌<◌, ◌≤◌, ◌^◌, IsTrue, List, [], ◌++◌, length, map, sum_by, All, AllPairs, Vec, Option, Some, None}
-use Rattle.std.specs.Global.{Global}
+use Rattle.std.specs.Prelude.{◌≡◌, ◌≢◌, ◌⊎◌, ℕ, ◌+◌, ◌-◌, ◌<◌, ◌≤◌, ◌^◌, IsTrue, List, [], ◌++◌, length, map, sum_by, All, AllPairs, Option, Some, None}
 use Rattle.std.specs.List.{AllZip}
 use Rattle.mm_base.specs.declared.limits.TheConstants.{MAX_STORES}
 use Rattle.mm_packet.specs.Packet.{SpacePacket}
@@ -17,21 +16,14 @@ use Rattle.mm_record.specs.Causes.{cause_in}
 use Rattle.mm_record.specs.Steps.{given_in, AllRecorded, Records}
 use Rattle.mm_dump.specs.declared.order.Order.{Order}
 use Rattle.mm_dump.specs.declared.order.OrderBroken.{OrderBroken}
-use Rattle.mm_dump.specs.declared.order.OrderBroken.TheVariants as broken
+use Rattle.mm_dump.specs.declared.order.OrderBroken.TheVariants as worst
 use Rattle.mm_dump.specs.Sending.{Sent}
 use Rattle.mm_dump.specs.Dumped.{wanted, times, places_of, AllTook, AllDumped, AllSettled, AllKept, used_by}
 use Rattle.mm_exec.specs.StepRuns.{IsStepRun}
+use Rattle.mm_exec.specs.RunState.{RunState}
+use Rattle.mm_exec.specs.declared.step.StepBroken.{StepBroken}
 use Rattle.mm_report.specs.declared.cause.Cause.{Cause}
 use Rattle.mm_report.specs.declared.cause.Cause.TheVariants.{NoMemory, LinkFailed, LogMismatch}
-
--- the stores, the sources and the links of a run
-pub record RunState (S L : Type 0) : Type 0 where
-  pub stores : List Held
-  pub sources : List S
-  pub links : List L
-
-abbrev pub run_state : {S L : Type 0} → Vec Held Global → List S → List L → RunState S L
-run_state stores sources links = record { stores = stores.items; sources = sources; links = links }
 
 -- each store is sound, its storage is on and no retrieval is
 pub record AreReady (stores : List Held) : Type 0 where
@@ -47,15 +39,15 @@ pub record AreOrders (stores : ℕ) (orders : List Order) : Type 0 where
   pub apart : AllPairs (λ a b. a.place ≢ b.place) orders
 
 -- a step may be recorded: there are few stores, with identifiers of their own, and few sources
-pub record MayRecord {S : Type 0} (stores : List Held) (sources : List S) : Type 0 where
-  pub few : length stores ≤ MAX_STORES
-  pub named : AreNamed (ids_of stores)
-  pub many : length sources ≤ MAX_SEATS
+pub record MayRecord {S L : Type 0} (now : RunState S L) : Type 0 where
+  pub few : length now.stores ≤ MAX_STORES
+  pub named : AreNamed (ids_of now.stores)
+  pub many : length now.sources ≤ MAX_SEATS
 
 -- a step at this moment may be carried out: it may be recorded, its stores are ready, there are links, not too many, and each may fail
 -- once more
 pub record MayCarry {S L : Type 0} (failed : L → ℕ) (moment : ℕ) (orders : List Order) (now : RunState S L) : Type 0 where
-  pub record_may : MayRecord now.stores now.sources
+  pub record_may : MayRecord now
   pub ready : AreReady now.stores
   pub some_link : 1 ≤ length now.links
   pub few_links : length now.links ≤ MAX_SEATS
@@ -64,19 +56,19 @@ pub record MayCarry {S L : Type 0} (failed : L → ℕ) (moment : ℕ) (orders :
   pub early : moment < 2 ^ 64
 
 -- what came in a step is recorded in each store, which is sound, and nothing of it is left in the sources
-pub record StepRecorded {S : Type 0} (gives : S → ℕ → List SpacePacket) (e : RecordingContext) (stores : List Held) (sources : List S)
-    (stores_left : List Held) (sources_left : List S) : Type 0 where
-  pub labels : labels_of stores_left ≡ labels_of stores
-  pub sound : All (λ h. IsState h.state) stores_left
-  pub stores_are : AllRecorded e (given_in gives e.step sources) (states_of stores) (states_of stores_left)
-  pub nothing_left : All (λ s. gives s e.step ≡ []) sources_left
-  pub others : (t : ℕ) → t ≢ e.step → given_in gives t sources_left ≡ given_in gives t sources
+pub record StepRecorded {S L : Type 0} (gives : S → ℕ → List SpacePacket) (e : RecordingContext) (before after : RunState S L) : Type 0 where
+  pub labels : labels_of after.stores ≡ labels_of before.stores
+  pub sound : All (λ h. IsState h.state) after.stores
+  pub stores_are : AllRecorded e (given_in gives e.step before.sources) (states_of before.stores) (states_of after.stores)
+  pub nothing_left : All (λ s. gives s e.step ≡ []) after.sources
+  pub others : (t : ℕ) → t ≢ e.step → given_in gives t after.sources ≡ given_in gives t before.sources
+  pub links : after.links ≡ before.links
 
 -- the orders of a step are carried out
-pub record StepDumped {L : Type 0} (sent : L → List Sent) (failed : L → ℕ) (orders : List Order) (stores : List Held) (links : List L)
-    (stores_left : List Held) (links_left : List L) : Type 0 where
-  pub labels : labels_of stores_left ≡ labels_of stores
-  pub dumped : AllDumped sent failed (ids_of stores) orders (states_of stores) (states_of stores_left) links links_left
+pub record StepDumped {S L : Type 0} (sent : L → List Sent) (failed : L → ℕ) (orders : List Order) (before after : RunState S L) : Type 0 where
+  pub labels : labels_of after.stores ≡ labels_of before.stores
+  pub dumped : AllDumped sent failed (ids_of before.stores) orders (states_of before.stores) (states_of after.stores) before.links after.links
+  pub sources : after.sources ≡ before.sources
 
 -- in a step each store went by a step run: the offers of what the sources gave, and then its order, where it has one. Each order was
 -- one link's, once, and the links sent what the orders were given; nothing is left in the sources for the step
@@ -93,55 +85,55 @@ pub record StepDone {S L : Type 0} (gives : S → ℕ → List SpacePacket) (sen
   pub others : (t : ℕ) → t ≢ e.step → given_in gives t after.sources ≡ given_in gives t before.sources
 
 -- there was no memory to begin, and nothing was done
-pub record OutOfMemory {X : Type 0} (step : ℕ) (stores : List Held) (before : List X) (stores_left : List Held) (after : List X) (cause : Cause) (spent : ℕ) : Type 0 where
-  pub stores_same : stores_left ≡ stores
+pub record OutOfMemory {S L : Type 0} (step : ℕ) (before after : RunState S L) (broken : StepBroken) : Type 0 where
   pub same : after ≡ before
-  pub spent_is : spent ≡ 0
-  pub cause_is : cause ≡ NoMemory step
+  pub broken_is : broken ≡ record { cause = NoMemory step; spent = 0 }
 
--- recorders stopped early: this is what they left, and the cause is theirs
-pub record RecordersBroke {S : Type 0} (gives : S → ℕ → List SpacePacket) (e : RecordingContext) (stores : List Held) (sources : List S)
-    (stores_left : List Held) (sources_left : List S) (cause : Cause) (spent : ℕ) : Type 0 where
+-- recorders stopped early: this is what they left, and the cause is theirs. The links are as they were
+pub record RecordersBroke {S L : Type 0} (gives : S → ℕ → List SpacePacket) (e : RecordingContext) (before after : RunState S L) (broken : StepBroken) : Type 0 where
   pub why : Option Fault
-  pub records : Records gives e stores stores_left sources sources_left why
-  pub spent_is : spent ≡ 0
-  pub cause_is : cause_in e.step why ≡ Some cause
+  pub records : Records gives e before.stores after.stores before.sources after.sources why
+  pub links : after.links ≡ before.links
+  pub spent_is : broken.spent ≡ 0
+  pub cause_is : cause_in e.step why ≡ Some broken.cause
 
 -- the cause of a step of which this is the worst order that broke
 abbrev pub dump_cause : ℕ → OrderBroken → Cause
-dump_cause step broken.LinkFailed = LinkFailed step
-dump_cause step broken.NoMemory = NoMemory step
+dump_cause step worst.LinkFailed = LinkFailed step
+dump_cause step worst.NoMemory = NoMemory step
 
 -- orders broke: which course each order took, what each link sent and how often it failed, how much was spent in all, that no link lost
--- what it had sent before, and the cause is that of the worst
-pub record OrdersBroke {L : Type 0} (sent : L → List Sent) (failed : L → ℕ) (step : ℕ) (orders : List Order) (stores : List Held) (links : List L)
-    (stores_left : List Held) (links_left : List L) (cause : Cause) (spent : ℕ) : Type 0 where
-  pub labels : labels_of stores_left ≡ labels_of stores
-  pub sound : All (λ h. IsState h.state) stores_left
+-- what it had sent before, and the cause is that of the worst. The sources are as they were
+pub record OrdersBroke {S L : Type 0} (sent : L → List Sent) (failed : L → ℕ) (step : ℕ) (orders : List Order) (before after : RunState S L)
+    (broken : StepBroken) : Type 0 where
+  pub labels : labels_of after.stores ≡ labels_of before.stores
+  pub sound : All (λ h. IsState h.state) after.stores
   pub why : OrderBroken
-  pub settled : AllSettled sent failed (ids_of stores) orders (Some why) (states_of stores) (states_of stores_left) links links_left
-  pub spent_is : used_by sent failed links_left ≡ used_by sent failed links + spent
-  pub kept : AllKept sent failed links links_left
-  pub cause_is : cause ≡ dump_cause step why
+  pub settled : AllSettled sent failed (ids_of before.stores) orders (Some why) (states_of before.stores) (states_of after.stores) before.links after.links
+  pub sources : after.sources ≡ before.sources
+  pub spent_is : used_by sent failed after.links ≡ used_by sent failed before.links + broken.spent
+  pub kept : AllKept sent failed before.links after.links
+  pub cause_is : broken.cause ≡ dump_cause step why
 
--- a step was broken off while it was recorded: the links are as they were
-pub record RecordingBroke {S L : Type 0} (gives : S → ℕ → List SpacePacket) (e : RecordingContext) (before after : RunState S L) (cause : Cause) (spent : ℕ) : Type 0 where
-  pub links : after.links ≡ before.links
-  pub how : OutOfMemory e.step before.stores before.sources after.stores after.sources cause spent
-      ⊎ RecordersBroke gives e before.stores before.sources after.stores after.sources cause spent
+-- a step was broken off while it was recorded
+abbrev pub RecordingBroke : {S L : Type 0} → (S → ℕ → List SpacePacket) → RecordingContext → RunState S L → RunState S L → StepBroken → Type 0
+RecordingBroke gives e before after broken = OutOfMemory e.step before after broken ⊎ RecordersBroke gives e before after broken
 
--- a step was broken off after what came was recorded, which left these stores
+-- a step was broken off while its orders were carried out
+abbrev pub OrderingBroke : {S L : Type 0} → (L → List Sent) → (L → ℕ) → ℕ → List Order → RunState S L → RunState S L → StepBroken → Type 0
+OrderingBroke sent failed step orders before after broken = OutOfMemory step before after broken ⊎ OrdersBroke sent failed step orders before after broken
+
+-- a step was broken off after what came was recorded, which left the stores and the sources so
 pub record DumpBroke {S L : Type 0} (gives : S → ℕ → List SpacePacket) (sent : L → List Sent) (failed : L → ℕ) (e : RecordingContext) (orders : List Order)
-    (before after : RunState S L) (cause : Cause) (spent : ℕ) : Type 0 where
-  pub mid : List Held
-  pub recorded : StepRecorded gives e before.stores before.sources mid after.sources
-  pub how : OutOfMemory e.step mid before.links after.stores after.links cause spent
-      ⊎ OrdersBroke sent failed e.step orders mid before.links after.stores after.links cause spent
+    (before after : RunState S L) (broken : StepBroken) : Type 0 where
+  pub mid : RunState S L
+  pub recorded : StepRecorded gives e before mid
+  pub how : OrderingBroke sent failed e.step orders mid after broken
 
 -- how a step was broken off
-abbrev pub StepBroke : {S L : Type 0} → (S → ℕ → List SpacePacket) → (L → List Sent) → (L → ℕ) → RecordingContext → List Order → RunState S L → RunState S L → Cause → ℕ → Type 0
-StepBroke gives sent failed e orders before after cause spent =
-    RecordingBroke gives e before after cause spent ⊎ DumpBroke gives sent failed e orders before after cause spent
+abbrev pub StepBroke : {S L : Type 0} → (S → ℕ → List SpacePacket) → (L → List Sent) → (L → ℕ) → RecordingContext → List Order → RunState S L → RunState S L → StepBroken → Type 0
+StepBroke gives sent failed e orders before after broken =
+    RecordingBroke gives e before after broken ⊎ DumpBroke gives sent failed e orders before after broken
 
 -- a source keeps the rest of what it gave in a step
 abbrev pub KeepsRest : {S : Type 0} → (S → ℕ → List SpacePacket) → ℕ → S → S → Type 0

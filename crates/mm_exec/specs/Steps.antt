@@ -15,7 +15,7 @@ use Rattle.mm_exec.specs.Accounts.{IsAccounted}
 use Rattle.mm_exec.specs.AsPlanned.{AtEach}
 use Rattle.mm_exec.specs.RunInput.{RunInput, offered, as_came, place_in_memory, store_state, step_orders}
 use Rattle.mm_exec.specs.Numbers.{report_of, rows_by_counters, AreByCounters}
-use Rattle.mm_exec.specs.Step.{RunState}
+use Rattle.mm_exec.specs.RunState.{RunState}
 
 -- the stores after each of the first steps: those of the memory before the first, and then in each step and store a step run leads from
 -- the state that the step before left to the next. What an order was given stands by its store's place in the memory, and its step

@@ -12,6 +12,7 @@ mod requirement;
 mod room;
 mod run;
 mod run_end;
+mod run_parts;
 mod step;
 mod step_counts;
 

@@ -1,19 +1,17 @@
 //! The run of a dump plan.
-ghost use Rattle.std.specs.Prelude.{◌≡◌, ◌-◌, ◌<◌, ◌^◌, [], All, length, IfOk, IfErr, OnOk};
+ghost use Rattle.std.specs.Prelude.{◌≡◌, ◌-◌, ◌<◌, ◌^◌, [], All, length, IfOk, IfErr};
 ghost use Rattle.mm_memory.specs.Holdings.{AreHeld};
 ghost use Rattle.mm_exec.specs.RunInput.{run_input};
-ghost use Rattle.mm_exec.specs.Step.{run_state, NeverRefused};
-ghost use Rattle.mm_exec.specs.Course.{RunDone, IsEnded, run_start_of, AreWithinLimits};
-ghost use Rattle.mm_exec.specs.Ending.{IsCarriedOut, IsHalted};
-ghost use Rattle.mm_exec.specs.Readiness.{MayBegin};
+ghost use Rattle.mm_exec.specs.Step.{NeverRefused};
+ghost use Rattle.mm_exec.specs.Course.{given_to, AreWithinLimits};
+ghost use Rattle.mm_exec.specs.Ending.{HasRun, IsCarriedOut, IsStopped, IsHalted};
 
-use crate::course::{RunContext, RunStopped, carry_steps};
+use crate::course::{RunContext, RunStopped};
 use crate::readiness::ready;
 use crate::room::reserve_run;
 use crate::run_end::{Halted, RunEnd};
+use crate::run_parts::RunParts;
 use crate::step::StepBroken;
-use mm_desk::Held;
-use mm_dump::laws::broken_orders_change_nothing;
 use mm_dump::{Link, read_states};
 use mm_memory::Memory;
 use mm_memory::laws::identifiers_decide_what_is_restored;
@@ -36,46 +34,40 @@ fn never_began(alloc: Global, cause: Cause) -> RunStopped
     }
 }
 
-// Carries out a plan, where a run may begin and there is memory for it.
-fn carry_plan<S: Source + Send, L: Link + Send, R: Threads + Wait + Sync>(
-    rt: &R,
-    alloc: Global,
-    run: &RunContext<'_>,
-    stores: &mut Vec<Held>,
-    sources: &mut [S],
-    links: &mut [L],
-) -> Result<Report, RunStopped>
-    requires held { AreHeld stores.old.items }
-    requires links { All (λ l. L.failed l < 2 ^ 64 - 1) links.old }
-    ensures done { IfOk result (RunDone S.gives L.sent L.failed
-        (run_input S.gives run.now.problem.now run.now.plan.now run.now.base (record { stores = stores.old.items; routes = run.now.control.now }) sources.old)
-        (run_state stores.old sources.old links.old) (run_state stores.new sources.new links.new)) }
-    ensures began { OnOk result (MayBegin (run_start_of
-        (run_input S.gives run.now.problem.now run.now.plan.now run.now.base (record { stores = stores.old.items; routes = run.now.control.now }) sources.old)
-        run.now.plan.now (run_state stores.old sources.old links.old))) }
-    ensures ended { IfErr result (IsEnded S.gives L.sent L.failed
-        (run_input S.gives run.now.problem.now run.now.plan.now run.now.base (record { stores = stores.old.items; routes = run.now.control.now }) sources.old)
-        run.now.plan.now (run_state stores.old sources.old links.old) (run_state stores.new sources.new links.new)) }
-    ensures far { AreWithinLimits S.gives (length run.now.problem.now.windows) stores.old.items sources.old
-        → IfErr result (λ stopped. NeverRefused stopped.broken.cause) }
-{
-    let many_sources = sources.len();
-    let many_links = links.len();
-    if let Err(cause) = ready(
-        run.problem,
-        run.plan,
-        stores,
-        run.base,
-        many_sources,
-        many_links,
-    ) {
-        return Err(never_began(alloc, cause));
+impl<S: Source + Send + Drop, L: Link + Send + Drop> RunParts<S, L> {
+    // Carries out a plan, where a run may begin and there is memory for it.
+    fn carry_plan<R: Threads + Wait + Sync>(
+        &mut self,
+        rt: &R,
+        alloc: Global,
+        run: &RunContext<'_>,
+    ) -> Result<Report, RunStopped>
+        requires held { AreHeld self.old.stores }
+        requires links { All (λ l. L.failed l < 2 ^ 64 - 1) self.old.links }
+        ensures done { IfOk result (HasRun S.gives L.sent L.failed (given_to S.gives run.now self.old) run.now.plan.now self.old
+            (length run.now.problem.now.windows) self.new) }
+        ensures stopped { IfErr result (IsStopped S.gives L.sent L.failed (given_to S.gives run.now self.old) run.now.plan.now self.old self.new) }
+        ensures far { AreWithinLimits S.gives (length run.now.problem.now.windows) self.old.stores self.old.sources
+            → IfErr result (λ stopped. NeverRefused stopped.broken.cause) }
+    {
+        let sources = self.sources_len();
+        let links = self.links_len();
+        if let Err(cause) = ready(
+            run.problem,
+            run.plan,
+            self.stores(),
+            run.base,
+            sources,
+            links,
+        ) {
+            return Err(never_began(alloc, cause));
+        }
+        read_states(self.stores());
+        let Ok(buffers) = reserve_run(alloc, run.problem) else {
+            return Err(never_began(alloc, Cause::NoMemory { step: 0 }));
+        };
+        self.carry_steps(rt, alloc, run, buffers)
     }
-    read_states(stores);
-    let Ok(buffers) = reserve_run(alloc, run.problem) else {
-        return Err(never_began(alloc, Cause::NoMemory { step: 0 }));
-    };
-    carry_steps(rt, alloc, run, buffers, stores, sources, links)
 }
 
 /// Carries out a plan over a memory: in each step from 1 what the sources give is recorded, at the moment of the step, which is that
@@ -101,17 +93,23 @@ pub fn carry_out<S: Source + Send + Drop, L: Link + Send + Drop, R: Threads + Wa
         → IfErr result (λ halted. NeverRefused halted.cause) }
 {
     identifiers_decide_what_is_restored();
-    broken_orders_change_nothing();
-    let mut sources = sources;
-    let mut links = links;
-    let mut stores = memory.lift();
+    let mut parts = RunParts {
+        stores: memory.lift(),
+        sources,
+        links,
+    };
     let run = RunContext {
         control: memory.control(),
         problem,
         plan,
         base,
     };
-    let ended = carry_plan(rt, alloc, &run, &mut stores, &mut sources, &mut links);
+    let ended = parts.carry_plan(rt, alloc, &run);
+    let RunParts {
+        stores,
+        sources,
+        links,
+    } = parts;
     memory.restore(stores);
     match ended {
         Ok(report) => Ok(RunEnd {

@@ -1,12 +1,15 @@
 //! One step of a run: what comes is recorded, and then dumped.
-ghost use Rattle.std.specs.Prelude.{◌≡◌, ◌⊎◌, ◌≤◌, OnOk, IfErr};
-ghost use Rattle.mm_exec.specs.Step.{run_state, AreReady, MayCarry, MayRecord, StepRecorded, StepDumped, StepDone, StepBroke, OutOfMemory, RecordersBroke, OrdersBroke, NeverRefused, dump_cause};
+ghost use Rattle.std.specs.Prelude.{◌≡◌, ◌≤◌, None, Some, OnOk, IfErr, IfSome};
+ghost use Rattle.mm_exec.specs.Step.{AreReady, MayCarry, MayRecord, StepRecorded, StepDumped, StepDone, RecordingBroke, OrderingBroke, StepBroke, NeverRefused, dump_cause};
+ghost use Rattle.mm_desk.specs.declared.fault.Fault.TheVariants.{NoMemory};
+ghost use Rattle.mm_record.specs.Causes.{cause_in};
 ghost use Rattle.mm_record.specs.Steps.{TakesAll};
 ghost use Rattle.mm_record.specs.Recorded.{recording};
 ghost use Rattle.mm_dump.specs.Dumped.{MayDump, amount_of};
 
 use crate::laws::{halves_make_step_runs, step_runs_keep_stores};
-use mm_desk::Held;
+use crate::run_parts::RunParts;
+use mm_desk::Fault;
 use mm_desk::laws::{any_order_loses_alike, orders_dump_the_oldest};
 use mm_dump::laws::broken_orders_change_nothing;
 use mm_dump::{Dumped, Link, Order, OrderBroken, dump};
@@ -33,6 +36,18 @@ fn out_of_memory(step: u32) -> StepBroken
     }
 }
 
+// How a step goes on whose recorders stopped early for this reason, or did not.
+fn recorders_end(step: u32, why: Option<Fault>) -> Result<(), StepBroken>
+    ensures ok { OnOk result (why ≡ None) }
+    ensures how { IfErr result (λ broken. (broken.spent ≡ 0) × (cause_in step why ≡ Some broken.cause)) }
+    ensures far { IfSome why (λ fault. fault ≡ NoMemory) → IfErr result (λ broken. NeverRefused broken.cause) }
+{
+    match cause_in(step, why) {
+        None => Ok(()),
+        Some(cause) => Err(StepBroken { cause, spent: 0 }),
+    }
+}
+
 // Why dump workers of which this is the worst broken order end a run.
 fn dumpers_cause(step: u32, worst: OrderBroken) -> Cause
     ensures { result ≡ dump_cause step worst }
@@ -43,88 +58,77 @@ fn dumpers_cause(step: u32, worst: OrderBroken) -> Cause
     }
 }
 
-// Records what comes in a step.
-fn record_part<S: Source + Send, R: Threads + Wait + Sync>(
-    rt: &R,
-    alloc: Global,
-    step: &RecordingStep<'_>,
-    stores: &mut Vec<Held>,
-    sources: &mut [S],
-) -> Result<(), StepBroken>
-    requires may { MayRecord stores.old.items sources.old }
-    ensures ok { OnOk result (StepRecorded S.gives (recording step.entry.now.step step.entry.now.now step.entry.now.control.now stores.old.items)
-        stores.old.items sources.old stores.new.items sources.new) }
-    ensures how { IfErr result (λ broken. OutOfMemory step.entry.now.step stores.old.items sources.old stores.new.items sources.new broken.cause broken.spent
-        ⊎ RecordersBroke S.gives (recording step.entry.now.step step.entry.now.now step.entry.now.control.now stores.old.items)
-        stores.old.items sources.old stores.new.items sources.new broken.cause broken.spent) }
-    ensures far { TakesAll S.gives (recording step.entry.now.step step.entry.now.now step.entry.now.control.now stores.old.items) stores.old.items sources.old
-        → IfErr result (λ broken. NeverRefused broken.cause) }
-{
-    match record(rt, alloc, step, stores, sources) {
-        Ok(why) => match cause_in(step.step, why) {
-            None => Ok(()),
-            Some(cause) => Err(StepBroken { cause, spent: 0 }),
-        },
-        Err(_) => Err(out_of_memory(step.step)),
+impl<S: Source + Send + Drop, L: Link + Send + Drop> RunParts<S, L> {
+    // Records what comes in a step.
+    fn record<R: Threads + Wait + Sync>(
+        &mut self,
+        rt: &R,
+        alloc: Global,
+        step: &RecordingStep<'_>,
+    ) -> Result<(), StepBroken>
+        requires may { MayRecord self.old }
+        ensures ok { OnOk result (StepRecorded S.gives (recording step.entry.now.step step.entry.now.now step.entry.now.control.now self.old.stores) self.old self.new) }
+        ensures how { IfErr result (RecordingBroke S.gives (recording step.entry.now.step step.entry.now.now step.entry.now.control.now self.old.stores) self.old self.new) }
+        ensures far { TakesAll S.gives (recording step.entry.now.step step.entry.now.now step.entry.now.control.now self.old.stores) self.old.stores self.old.sources
+            → IfErr result (λ broken. NeverRefused broken.cause) }
+    {
+        match record(rt, alloc, step, &mut self.stores, &mut self.sources) {
+            Ok(why) => recorders_end(step.step, why),
+            Err(_) => Err(out_of_memory(step.step)),
+        }
     }
-}
 
-// Carries out the orders of a step.
-fn dump_part<L: Link + Send, R: Threads + Wait + Sync>(
-    rt: &R,
-    alloc: Global,
-    step: u32,
-    orders: &[Order],
-    stores: &mut Vec<Held>,
-    links: &mut [L],
-) -> Result<(), StepBroken>
-    requires may { MayDump L.failed orders.now stores.old.items links.old }
-    ensures ok { OnOk result (StepDumped L.sent L.failed orders.now stores.old.items links.old stores.new.items links.new) }
-    ensures how { IfErr result (λ broken. OutOfMemory step stores.old.items links.old stores.new.items links.new broken.cause broken.spent
-        ⊎ OrdersBroke L.sent L.failed step orders.now stores.old.items links.old stores.new.items links.new broken.cause broken.spent) }
-    ensures within { IfErr result (λ broken. broken.spent ≤ amount_of orders.now) }
-{
-    match dump(rt, alloc, orders, stores, links) {
-        Ok(Dumped { broken: None, .. }) => Ok(()),
-        Ok(
-            Dumped {
-                broken: Some(worst),
+    // Carries out the orders of a step.
+    fn dump<R: Threads + Wait + Sync>(
+        &mut self,
+        rt: &R,
+        alloc: Global,
+        step: u32,
+        orders: &[Order],
+    ) -> Result<(), StepBroken>
+        requires may { MayDump L.failed orders.now self.old.stores self.old.links }
+        ensures ok { OnOk result (StepDumped L.sent L.failed orders.now self.old self.new) }
+        ensures how { IfErr result (OrderingBroke L.sent L.failed step orders.now self.old self.new) }
+        ensures within { IfErr result (λ broken. broken.spent ≤ amount_of orders.now) }
+    {
+        match dump(rt, alloc, orders, &mut self.stores, &mut self.links) {
+            Ok(Dumped { broken: None, .. }) => Ok(()),
+            Ok(
+                Dumped {
+                    broken: Some(worst),
+                    spent,
+                },
+            ) => Err(StepBroken {
+                cause: dumpers_cause(step, worst),
                 spent,
-            },
-        ) => Err(StepBroken {
-            cause: dumpers_cause(step, worst),
-            spent,
-        }),
-        Err(_) => Err(out_of_memory(step)),
+            }),
+            Err(_) => Err(out_of_memory(step)),
+        }
     }
-}
 
-// Carries out one step: records what comes, and then carries out its orders.
-pub(crate) fn carry_step<S: Source + Send, L: Link + Send, R: Threads + Wait + Sync>(
-    rt: &R,
-    alloc: Global,
-    step: &RecordingStep<'_>,
-    orders: &[Order],
-    stores: &mut Vec<Held>,
-    sources: &mut [S],
-    links: &mut [L],
-) -> Result<(), StepBroken>
-    requires may { MayCarry L.failed step.now.now orders.now (run_state stores.old sources.old links.old) }
-    ensures ok { OnOk result (StepDone S.gives L.sent L.failed (recording step.entry.now.step step.entry.now.now step.entry.now.control.now stores.old.items) orders.now
-        (run_state stores.old sources.old links.old) (run_state stores.new sources.new links.new)) }
-    ensures how { IfErr result (λ broken. StepBroke S.gives L.sent L.failed (recording step.entry.now.step step.entry.now.now step.entry.now.control.now stores.old.items) orders.now
-        (run_state stores.old sources.old links.old) (run_state stores.new sources.new links.new) broken.cause broken.spent) }
-    ensures within { IfErr result (λ broken. broken.spent ≤ amount_of orders.now) }
-    ensures far { TakesAll S.gives (recording step.entry.now.step step.entry.now.now step.entry.now.control.now stores.old.items) stores.old.items sources.old
-        → IfErr result (λ broken. NeverRefused broken.cause) }
-    // In any case the stores are sound and ready for more.
-    ensures ready { AreReady stores.new.items }
-{
-    any_order_loses_alike();
-    broken_orders_change_nothing();
-    halves_make_step_runs();
-    orders_dump_the_oldest();
-    step_runs_keep_stores();
-    record_part(rt, alloc, step, stores, sources)?;
-    dump_part(rt, alloc, step.step, orders, stores, links)
+    // Carries out one step: records what comes, and then carries out its orders.
+    pub(crate) fn carry_step<R: Threads + Wait + Sync>(
+        &mut self,
+        rt: &R,
+        alloc: Global,
+        step: &RecordingStep<'_>,
+        orders: &[Order],
+    ) -> Result<(), StepBroken>
+        requires may { MayCarry L.failed step.now.now orders.now self.old }
+        ensures ok { OnOk result (StepDone S.gives L.sent L.failed (recording step.entry.now.step step.entry.now.now step.entry.now.control.now self.old.stores) orders.now self.old self.new) }
+        ensures how { IfErr result (StepBroke S.gives L.sent L.failed (recording step.entry.now.step step.entry.now.now step.entry.now.control.now self.old.stores) orders.now self.old self.new) }
+        ensures within { IfErr result (λ broken. broken.spent ≤ amount_of orders.now) }
+        ensures far { TakesAll S.gives (recording step.entry.now.step step.entry.now.now step.entry.now.control.now self.old.stores) self.old.stores self.old.sources
+            → IfErr result (λ broken. NeverRefused broken.cause) }
+        // In any case the stores are sound and ready for more.
+        ensures ready { AreReady self.new.stores }
+    {
+        any_order_loses_alike();
+        broken_orders_change_nothing();
+        halves_make_step_runs();
+        orders_dump_the_oldest();
+        step_runs_keep_stores();
+        self.record(rt, alloc, step)?;
+        self.dump(rt, alloc, step.step, orders)
+    }
 }
