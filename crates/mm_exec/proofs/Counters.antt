@@ -1,11 +1,11 @@
--- What the stores' counters rise by over the steps of a run, beside the totals of the report.
-use Rattle.std.proofs.Common.{◌≡◌, ℕ, ◌+◌, ◌-◌, ◌<◌, ◌≤◌, List, [], ◌∷◌, ◌++◌, length, sym, ap, ◌∙◌, arith}
+-- What the stores' counters rise by over a step and over a run, beside the rows of the report and their totals.
+use Rattle.std.proofs.Common.{◌≡◌, ℕ, ◌+◌, ◌-◌, ◌<◌, ◌≤◌, List, [], ◌∷◌, ◌++◌, length, sym, ap, ◌∙◌, arith, take}
 use Rattle.std.specs.Prelude.{sum_by, slice_index}
 use Rattle.std.specs.List.{range_with_len}
 use Rattle.std.proofs.lemmas.List.Sums.{sum_by-append}
 use Rattle.mm_base.proofs.Sums.{sum_by-add, sum_by-map}
 use Rattle.mm_base.proofs.RangeSums.{sum_by_range_same}
-use Rattle.mm_problem.specs.Dumping.{stores}
+use Rattle.mm_problem.specs.Dumping.{stores, Dumping}
 use Rattle.mm_desk.specs.declared.held.Held.{Held}
 use Rattle.mm_desk.specs.Machine.{State}
 use Rattle.mm_desk.specs.Runs.{opening_at}
@@ -13,7 +13,28 @@ use Rattle.mm_shared.specs.Stores.{states_of}
 use Rattle.mm_report.specs.declared.counts.StepCounts.{StepCounts}
 use Rattle.mm_exec.specs.RunInput.{RunInput, place_in_memory, store_state}
 use Rattle.mm_record.specs.Counters.{counters_of}
-use Rattle.mm_exec.specs.Numbers.{counts_from, row_from, counted}
+use Rattle.mm_exec.specs.Numbers.{counts_from, row_from, counted, AreCounters, AreStepCounts}
+use Rattle.std.proofs.lemmas.List.{same_lists, length-take-le, get_or-take}
+use Rattle.std.proofs.lemmas.List.FromFn.{get_or-map-range_with_len, length-map-range_with_len}
+use Rattle.mm_record.specs.declared.counters.Counters.{Counters}
+
+-- counters of nothing
+abbrev no_counters : Counters
+no_counters = record { offered = 0; lost = 0; deleted = 0 }
+
+-- the first counts are the row
+pub row_taken : (q : Dumping) (t : ℕ) (places : List ℕ) (before after : List Held) (counters : List Counters) (counts : List StepCounts) (n : ℕ)
+    → AreCounters before places n counters → AreStepCounts q t after places counters n counts → n ≤ length counts
+    → take n counts ≡ row_from q t places before after n
+row_taken q t places before after counters counts n counted told fits =
+    let one : ℕ → StepCounts = λ s. counts_from q s t (counters_of (opening_at (states_of before) (slice_index places s))) (opening_at (states_of after) (slice_index places s)) in
+    let many : length (take n counts) ≡ n = length-take-le n counts fits in
+    same_lists _ _ (many ∙ sym (length-map-range_with_len one 0 n))
+    (λ k d within.
+    let inside : k < n = omega (arith, many) in
+    get_or-take n counts k d inside ∙ told k d no_counters inside
+    ∙ ap (λ (m : Counters). counts_from q k t m (opening_at (states_of after) (slice_index places k))) (counted k no_counters inside)
+    ∙ sym (get_or-map-range_with_len one 0 n k k d inside (omega arith)))
 
 -- sums whose terms rise, rise by the sum of what the terms rise by
 sums_rise : (f g : ℕ → ℕ) (n : ℕ) → ((s : ℕ) → s < n → f s ≤ g s)

@@ -11,13 +11,25 @@ use Rattle.mm_dump.specs.Broken.{aborted}
 use Rattle.mm_desk.proofs.Logs.{given_oldest}
 use Rattle.mm_dump.specs.declared.order.Order.{Order}
 use Rattle.mm_dump.specs.declared.order.OrderBroken.{OrderBroken}
-use Rattle.mm_dump.specs.declared.order.OrderBroken.TheVariants as broken
 use Rattle.mm_dump.specs.Laws.{BrokenOrdersChangeNothing}
 use Rattle.mm_dump.specs.Sending.{Sent}
 use Rattle.mm_dump.specs.Courses.{Course, EndedAs, IsWhole, IsBroken, IsCourse, worse, worst_of, failed_by, sent_by}
 use Rattle.mm_dump.specs.Dumped.{times, places_of, AllTried, AllSettled}
 use Rattle.mm_exec.specs.Failure.{NoneBroke, LastBroke, LinksFailed}
-use Rattle.mm_exec.proofs.Mild.{IsMild, mild_both}
+use Rattle.mm_dump.specs.declared.order.OrderBroken.TheVariants as broken
+
+-- what an order broke for was at worst a link
+abbrev pub IsMild : Option OrderBroken → Type 0
+IsMild None = Unit {0}
+IsMild (Some broken.LinkFailed) = Unit {0}
+IsMild (Some broken.NoMemory) = ⊥
+
+-- where the worse of two causes is no worse than that, neither is
+pub mild_both : (a b : Option OrderBroken) → IsMild (worse a b) → IsMild a × IsMild b
+mild_both None b mild = (tt, mild)
+mild_both (Some broken.NoMemory) b mild = absurd mild
+mild_both (Some broken.LinkFailed) None mild = (tt, tt)
+mild_both (Some broken.LinkFailed) (Some why) mild = (tt, mild)
 
 -- the causes for which orders of some stores broke
 abbrev whys : (ℕ → Course) → List ℕ → List (Option OrderBroken)

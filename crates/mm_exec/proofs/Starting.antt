@@ -22,7 +22,6 @@ use Rattle.mm_desk.specs.Machine.{State, IsState}
 use Rattle.mm_desk.specs.Runs.{opening_at, blank}
 use Rattle.mm_shared.specs.Stores.{labels_of, states_of, AreNamed}
 use Rattle.mm_memory.specs.Holdings.{AreHeld, has_id, store_of}
-use Rattle.mm_memory.specs.Laws.{ids_of}
 use Rattle.mm_record.specs.Causes.{is_clock_late, is_late}
 use Rattle.mm_record.specs.Steps.{given_in, latest, AreFew, TakesAll}
 use Rattle.mm_dump.specs.declared.order.Order.{Order}
@@ -186,34 +185,6 @@ done_first gives sent failed m now report stores is = record {
       }));
 }
 
--- what is known of the stores, the sources and the links after some steps
-pub record InHand {S L : Type 0} (failed : L → ℕ) (m : RunInput) (sources : List S) (links : List L) (steps : ℕ) (now : RunState S L) (report : Reported) : Type 0 where
-  pub stores : length now.stores ≡ length m.memory.stores
-  pub ids : ids_of now.stores ≡ ids_of m.memory.stores
-  pub labels : labels_of now.stores ≡ labels_of m.memory.stores
-  pub sources_many : length now.sources ≡ length sources
-  pub links_many : length now.links ≡ length links
-  pub failures : map failed now.links ≡ map failed links
-  pub report_ids : length report.ids ≡ length m.problem.rows
-  pub report_steps : length report.steps ≡ steps
-  pub report_most : report.most ≡ length m.problem.windows
-
-pub in_hand : {S L : Type 0} (gives : S → ℕ → List SpacePacket) (sent : L → List Sent) (failed : L → ℕ) (m : RunInput) (sources : List S) (links : List L) (steps : ℕ)
-    (now : RunState S L) (report : Reported) → StepsDone gives sent failed m sources links steps now report → InHand failed m sources links steps now report
-in_hand gives sent failed m sources links steps now report done =
-    let labels : labels_of now.stores ≡ labels_of m.memory.stores = ap labels_of done.stores_are ∙ done.runs.labels steps (omega arith) in
-    record {
-      stores = as_many now.stores m.memory.stores labels;
-      ids = same_ids now.stores m.memory.stores labels;
-      labels = labels;
-      sources_many = as_many_sources gives 0 sources now.sources (done.sources_are.others 0 (λ first last. absurd (omega arith)));
-      links_many = sym (length-map now.links failed) ∙ ap length done.links_are.no_failure ∙ length-map links failed;
-      failures = done.links_are.no_failure;
-      report_ids = ap (λ (r : Reported). length r.ids) done.report_is ∙ length-map m.problem.rows (λ r. r.id);
-      report_steps = ap (λ (r : Reported). length r.steps) done.report_is ∙ length-map-range_with_len _ 1 steps;
-      report_most = ap (λ (r : Reported). r.most) done.report_is;
-    }
-
 -- no two stores of a memory have one identifier
 named_ids : (stores : List Held) → AreHeld stores → AreNamed (map (λ h. h.id) stores)
 named_ids stores held i j d before within =
@@ -269,7 +240,7 @@ still_few gives t sources left same few =
     All-unmapped (λ (ps : List SpacePacket). length ps ≤ 65535) (λ s. gives s t) left
     (subst (All (λ (ps : List SpacePacket). length ps ≤ 65535)) (sym same) (All-map (λ (ps : List SpacePacket). length ps ≤ 65535) (λ s. gives s t) sources few))
 
--- a run whose steps may be carried out, and which stands so before one of them: its stores stand at these places
+-- a run before one of its steps, whose stores stand at these places
 module _ {S L : Type 0} (gives : S → ℕ → List SpacePacket) (sent : L → List Sent) (failed : L → ℕ) (run : RunContext) (places : List ℕ) (t : ℕ) (first : RunState S L) where
   abbrev pub q : Dumping
   q = run.problem.now
@@ -277,94 +248,99 @@ module _ {S L : Type 0} (gives : S → ℕ → List SpacePacket) (sent : L → L
   abbrev pub input : RunInput
   input = given_to gives run first
 
-  -- what holds before each step
+  -- what is known of it
   pub record Underway (now : RunState S L) (buffers : RunBuffers) : Type 0 where
     pub is : IsDumping q
     pub from_one : 1 ≤ t
     pub last : t ≤ length q.windows
     pub ran : HasRun gives sent failed input run.plan.now first (t - 1) now buffers.report
     pub footing : Footing gives input first.sources places
-    pub hand : InHand failed input first.sources first.links (t - 1) now buffers.report
+    pub labels : labels_of now.stores ≡ labels_of first.stores
+    pub sources_many : length now.sources ≡ length first.sources
     pub may : MayReport failed run places t buffers now
 
-  -- the places cut down to those of the problem's stores
-  footing_here : {start : RunBuffers} → MayRun failed run start first → IsDumping q → {held : List Held} (all : List ℕ) {many : ℕ} → held ≡ first.stores
-      → ArePlaces q held (length q.rows) all → many ≡ length q.rows → places ≡ take many all → Footing gives input first.sources places
-  footing_here may is all read there cut are =
-      let cut_here : places ≡ take (length q.rows) all = are ∙ ap (λ (n : ℕ). take n all) cut in
-      let stand_all = places_cut q first.stores (length q.rows) all (subst (λ (xs : List Held). ArePlaces q xs (length q.rows) all) read there) in
-      let stand : ArePlaces q first.stores (length q.rows) places = subst (ArePlaces q first.stores (length q.rows)) (sym cut_here) stand_all in
-      let early = early_by first.stores run.base (may.begins.in_time (omega arith)) in
-      record {
-        gives_are = refl;
-        stand_at = stand;
-        apart = places_differ q first.stores places is.stores stand;
-        ready = λ s store.
-            let place = stand s store in
-            subst (λ (k : ℕ). IsReady q s (opening_at (states_of first.stores) k)) place.is
-            (ready_of q first.stores s (slice_index places s) place (may.begins.sizes (omega arith) s store) (may.begins.openings (omega arith) s store)
-            (state_holds IsState first.stores may.sound (slice_index places s) place.within));
-        early = by_clock run.base (length q.windows) early.first is.steps.at_most;
-      }
-    where
-      by_clock : (b s : ℕ) → b ≤ LATEST_START → s ≤ MAX_STEPS → b + s < 2 ^ 64
-      by_clock b s first few = omega arith
+  module _ {start : RunBuffers} (may : MayRun failed run start first) (is : IsDumping q) (now : RunState S L) (buffers : RunBuffers)
+      (ran : HasRun gives sent failed input run.plan.now first (t - 1) now buffers.report) where
+    -- what holds through the whole run
+    footing_of : ArePlaces q first.stores (length q.rows) places → Footing gives input first.sources places
+    footing_of stand = record {
+      gives_are = refl;
+      stand_at = stand;
+      apart = places_differ q first.stores places is.stores stand;
+      ready = λ s store.
+          let place = stand s store in
+          subst (λ (k : ℕ). IsReady q s (opening_at (states_of first.stores) k)) place.is
+          (ready_of q first.stores s (slice_index places s) place (may.begins.sizes (omega arith) s store) (may.begins.openings (omega arith) s store)
+          (state_holds IsState first.stores may.sound (slice_index places s) place.within));
+      early = by_clock run.base (length q.windows) (early_by first.stores run.base (may.begins.in_time (omega arith))).first is.steps.at_most;
+    }
+      where
+        by_clock : (b s : ℕ) → b ≤ LATEST_START → s ≤ MAX_STEPS → b + s < 2 ^ 64
+        by_clock b s first few = omega arith
 
-  -- the next step may be carried out and reported
-  may_report : {start : RunBuffers} (now : RunState S L) (buffers : RunBuffers) → MayRun failed run start first → IsDumping q
-      → HasRun gives sent failed input run.plan.now first (t - 1) now buffers.report → InHand failed input first.sources first.links (t - 1) now buffers.report
-      → Footing gives input first.sources places → length places ≡ length q.rows → 1 ≤ t → t ≤ length q.windows
-      → MAX_STORES ≤ vec_capacity buffers.orders → MayReport failed run places t buffers now
-  may_report now buffers may is ran hand footing all from_one last orders =
-      let within : (s : ℕ) → s < length q.rows → slice_index places s < length now.stores = λ s store. rw hand.stores (footing.stand_at s store).within in
-      let counts = may.begins.counts (omega arith) in
-      record {
-        shape = may.begins.shape (omega arith);
-        first = from_one;
-        last = last;
-        few = omega (arith, all, is.stores.at_most);
-        all = all;
-        within = All-from_get_or (λ (place : ℕ). place < length now.stores) places 0 (λ k inside. within k (omega (arith, inside, all)));
-        carry = record {
-          record_may = record {
-            few = omega (arith, hand.stores, may.held.at_most);
-            named = still_named first.stores now.stores may.held hand.ids;
-            many = omega (arith, hand.sources_many, counts.few_sources);
+    labels : labels_of now.stores ≡ labels_of first.stores
+    labels = ap labels_of ran.done.stores_are ∙ ran.done.runs.labels (t - 1) (omega arith)
+
+    sources_many : length now.sources ≡ length first.sources
+    sources_many = as_many_sources gives 0 first.sources now.sources (ran.done.sources_are.others 0 (λ first last. absurd (omega arith)))
+
+    -- the step may be carried out and reported
+    may_report : Footing gives input first.sources places → length places ≡ length q.rows → 1 ≤ t → t ≤ length q.windows → MAX_STORES ≤ vec_capacity buffers.orders
+        → MayReport failed run places t buffers now
+    may_report footing all from_one last orders =
+        let many = as_many now.stores first.stores labels in
+        let within : (s : ℕ) → s < length q.rows → slice_index places s < length now.stores = λ s store. rw many (footing.stand_at s store).within in
+        let counts = may.begins.counts (omega arith) in
+        let failures = ran.done.links_are.no_failure in
+        let links_many : length now.links ≡ length first.links = sym (length-map now.links failed) ∙ ap length failures ∙ length-map first.links failed in
+        let steps_many = ap (λ (r : Reported). length r.steps) ran.done.report_is ∙ length-map-range_with_len _ 1 (t - 1) in
+        record {
+          shape = may.begins.shape (omega arith);
+          first = from_one;
+          last = last;
+          few = omega (arith, all, is.stores.at_most);
+          all = all;
+          within = All-from_get_or (λ (place : ℕ). place < length now.stores) places 0 (λ k inside. within k (omega (arith, inside, all)));
+          carry = record {
+            record_may = record {
+              few = omega (arith, many, may.held.at_most);
+              named = still_named first.stores now.stores may.held (same_ids now.stores first.stores labels);
+              many = omega (arith, sources_many, counts.few_sources);
+            };
+            ready = ran.ready;
+            some_link = omega (arith, links_many, counts.some_link);
+            few_links = omega (arith, links_many, counts.few_links);
+            links = still_room failed first.links now.links failures may.links;
+            orders_may = may_order (amount run.plan.now) places t (length q.rows) (length now.stores) is.stores.at_most within footing.apart;
+            early = by_step run.base t (length q.windows) footing.early last;
           };
-          ready = ran.ready;
-          some_link = omega (arith, hand.links_many, counts.some_link);
-          few_links = omega (arith, hand.links_many, counts.few_links);
-          links = still_room failed first.links now.links hand.failures may.links;
-          orders_may = may_order (amount run.plan.now) places t (length q.rows) (length now.stores) is.stores.at_most within footing.apart;
-          early = by_step run.base t (length q.windows) footing.early last;
-        };
-        fit = rw (wanted_in_all (amount run.plan.now) places t (length q.rows)) (may.begins.fits (omega arith) t from_one (omega arith)).windowed;
-        orders = orders;
-        ids = hand.report_ids;
-        room = omega (arith, hand.report_steps, hand.report_most, from_one, last);
-      }
-    where
-      by_step : (b s n : ℕ) → b + n < 2 ^ 64 → s ≤ n → b + s < 2 ^ 64
-      by_step b s n early last = omega arith
+          fit = rw (wanted_in_all (amount run.plan.now) places t (length q.rows)) (may.begins.fits (omega arith) t from_one (omega arith)).windowed;
+          orders = orders;
+          ids = ap (λ (r : Reported). length r.ids) ran.done.report_is ∙ length-map q.rows (λ r. r.id);
+          room = omega (arith, steps_many, ap (λ (r : Reported). r.most) ran.done.report_is, from_one, last);
+        }
+      where
+        by_step : (b s n : ℕ) → b + n < 2 ^ 64 → s ≤ n → b + s < 2 ^ 64
+        by_step b s n early last = omega arith
 
-  pub underway : {start : RunBuffers} (now : RunState S L) (buffers : RunBuffers) → MayRun failed run start first → IsDumping q → {held : List Held} (all : List ℕ)
-      {many ends : ℕ} → held ≡ first.stores → ArePlaces q held (length q.rows) all → length all ≡ MAX_STORES → many ≡ length q.rows → places ≡ take many all
-      → 1 ≤ t → t < ends + 1 → ends ≡ length q.windows
-      → HasRun gives sent failed input run.plan.now first (t - 1) now buffers.report → MAX_STORES ≤ vec_capacity buffers.orders → Underway now buffers
-  underway now buffers may is all read there sixteen cut are from_one inside ends ran room =
-      let footing = footing_here may is all read there cut are in
-      let last : t ≤ length q.windows = omega (arith, inside, ends) in
-      let hand = in_hand gives sent failed input first.sources first.links (t - 1) now buffers.report ran.done in
-      let many : length places ≡ length q.rows = ap length are ∙ length-take-le _ all (omega (arith, cut, is.stores.at_most, sixteen)) ∙ cut in
-      record {
-        is = is;
-        from_one = from_one;
-        last = last;
-        ran = ran;
-        footing = footing;
-        hand = hand;
-        may = may_report now buffers may is ran hand footing many from_one last room;
-      }
+    pub underway : {held : List Held} (all : List ℕ) {many ends : ℕ} → held ≡ first.stores → ArePlaces q held (length q.rows) all → length all ≡ MAX_STORES
+        → many ≡ length q.rows → places ≡ take many all → 1 ≤ t → t < ends + 1 → ends ≡ length q.windows → MAX_STORES ≤ vec_capacity buffers.orders → Underway now buffers
+    underway all read there sixteen cut are from_one inside ends room =
+        let cut_here : places ≡ take (length q.rows) all = are ∙ ap (λ (n : ℕ). take n all) cut in
+        let stand = places_cut q first.stores (length q.rows) all (subst (λ (xs : List Held). ArePlaces q xs (length q.rows) all) read there) in
+        let footing = footing_of (subst (ArePlaces q first.stores (length q.rows)) (sym cut_here) stand) in
+        let last : t ≤ length q.windows = omega (arith, inside, ends) in
+        let many : length places ≡ length q.rows = ap length are ∙ length-take-le _ all (omega (arith, cut, is.stores.at_most, sixteen)) ∙ cut in
+        record {
+          is = is;
+          from_one = from_one;
+          last = last;
+          ran = ran;
+          footing = footing;
+          labels = labels;
+          sources_many = sources_many;
+          may = may_report footing many from_one last room;
+        }
 
   module _ (now : RunState S L) (buffers : RunBuffers) (here : Underway now buffers) where
     -- the orders of the step, by their stores' places in the memory
@@ -402,7 +378,7 @@ module _ {S L : Type 0} (gives : S → ℕ → List SpacePacket) (sent : L → L
           last = here.last;
           before = now;
           ran = subst (λ (r : Reported). HasRun gives sent failed input run.plan.now first (t - 1) now r) (sym stepped.unreported) here.ran;
-          labels = stopped.labels ∙ here.hand.labels;
+          labels = stopped.labels ∙ here.labels;
           ready = ready;
           stopped_is = stopped;
           within = stepped.within;
@@ -430,4 +406,4 @@ module _ {S L : Type 0} (gives : S → ℕ → List SpacePacket) (sent : L → L
       far_on law after done =
           subst (λ (b : ℕ). AllFar b after.stores) (bound_more t here.from_one)
           (far_after gives sent failed law (recording_at run t now.stores) (orders_at run places t) now after here.may.carry.early here.ran.ready done (bound_at (t - 1))
-          (omega (arith, here.hand.sources_many, (here.ran.began.counts (omega arith)).few_sources)) few_here early_here far)
+          (omega (arith, here.sources_many, (here.ran.began.counts (omega arith)).few_sources)) few_here early_here far)

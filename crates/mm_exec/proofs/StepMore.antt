@@ -17,11 +17,9 @@ use Rattle.mm_desk.specs.declared.event.Event.TheVariants.{Offer}
 use Rattle.mm_desk.specs.declared.held.Held.{Held}
 use Rattle.mm_desk.specs.Machine.{State}
 use Rattle.mm_desk.specs.Runs.{opening_at}
-use Rattle.mm_shared.specs.Stores.{labels_of, states_of}
-use Rattle.mm_shared.specs.Stores.{id_at}
+use Rattle.mm_shared.specs.Stores.{labels_of, states_of, id_at}
 use Rattle.mm_memory.specs.Recording.{is_routed}
-use Rattle.mm_record.specs.Recorded.{RecordingContext, offers}
-use Rattle.mm_record.specs.Recorded.{recording}
+use Rattle.mm_record.specs.Recorded.{RecordingContext, offers, recording}
 use Rattle.mm_record.specs.Steps.{given_in}
 use Rattle.mm_dump.specs.declared.order.Order.{Order}
 use Rattle.mm_dump.specs.Sending.{Sent, all_sent}
@@ -44,7 +42,34 @@ use Rattle.mm_exec.proofs.Counters.{counted_more}
 use Rattle.mm_exec.proofs.Ordered.{wanted_is, orders_are}
 use Rattle.mm_exec.proofs.Parts.{as_many, same_ids}
 use Rattle.mm_exec.proofs.Placing.{id_there}
-use Rattle.mm_exec.proofs.Sending.{Took, took_of}
+
+module _ {L : Type 0} (sent : L → List Sent) (failed : L → ℕ) (ids : List (List ℕ)) (gave : ℕ → List Stored) where
+  -- each link sent what the orders at its places were given
+  abbrev pub SentLists : List (List ℕ) → List L → List L → Type 0
+  SentLists places olds news = (l : ℕ) → l < length olds
+      → slice_index_or (map sent news) l [] ≡ slice_index_or (map sent olds) l [] ++ flat_map (λ k. all_sent (id_at ids k) (gave k)) (slice_index_or places l [])
+
+  one_more : (p : List ℕ) (ps : List (List ℕ)) (o n : L) (os ns : List L) → sent n ≡ sent o ++ flat_map (λ k. all_sent (id_at ids k) (gave k)) p → SentLists ps os ns
+      → SentLists (p ∷ ps) (o ∷ os) (n ∷ ns)
+  one_more p ps o n os ns one rest zero within = one
+  one_more p ps o n os ns one rest (suc l) within = rest l (omega arith)
+
+  -- each link has its places, sent this, and no send failed
+  pub record Took (places : List (List ℕ)) (olds news : List L) : Type 0 where
+    pub many : length places ≡ length olds
+    pub lists : SentLists places olds news
+    pub failures : map failed news ≡ map failed olds
+
+  pub took_of : (places : List (List ℕ)) (olds news : List L) → AllTook sent failed ids gave places olds news → Took places olds news
+  unfolding AllTook
+  took_of [] [] [] took = record { many = refl; lists = λ l within. absurd (omega arith); failures = refl }
+  took_of [] [] (n ∷ ns) took = absurd took
+  took_of [] (o ∷ os) ns took = absurd took
+  took_of (p ∷ ps) [] ns took = absurd took
+  took_of (p ∷ ps) (o ∷ os) [] took = absurd took
+  took_of (p ∷ ps) (o ∷ os) (n ∷ ns) took =
+      let rest = took_of ps os ns took.2 in
+      record { many = ap suc rest.many; lists = one_more p ps o n os ns took.0 rest.lists; failures = λ i. took.1 i ∷ rest.failures i }
 
 -- a function that is changed at one number
 abbrev extend : {X : Type 0} → ℕ → X → (ℕ → X) → ℕ → X
@@ -100,13 +125,17 @@ flat_map_range_more f k =
     ap (flat_map f) (range_with_len_more 1 k (suc k) (omega arith)) ∙ flat_map-append f (range_with_len 1 k) (suc k ∷ [])
     ∙ ap (λ xs. flat_map f (range_with_len 1 k) ++ xs) (append-nil (f (suc k)))
 
+-- a list over a range with one number more
+map_range_more : {X : Type 0} (f : ℕ → X) (k : ℕ) → map f (range_with_len 1 (suc k)) ≡ map f (range_with_len 1 k) ++ f (suc k) ∷ []
+map_range_more f k = ap (map f) (range_with_len_more 1 k (suc k) (omega arith)) ∙ map-append f (range_with_len 1 k) (suc k ∷ [])
+
 -- what a counter rose by
 less_of : (after before rose : ℕ) → after ≡ before + rose → after - before ≡ rose
 less_of after before rose same = omega arith
 
 -- what holds of each of the first steps holds of one more
-one_more : (P : ℕ → Type 0) (k : ℕ) → ((t : ℕ) → t ≤ k → P t) → P (suc k) → (t : ℕ) → t ≤ suc k → P t
-one_more P k earlier now t last = by_order (cases_lt t (suc k))
+with_next : (P : ℕ → Type 0) (k : ℕ) → ((t : ℕ) → t ≤ k → P t) → P (suc k) → (t : ℕ) → t ≤ suc k → P t
+with_next P k earlier now t last = by_order (cases_lt t (suc k))
   where
     by_order : (t < suc k) ⊎ (suc k ≤ t) → P t
     by_order (inl before) = earlier t (omega arith)
@@ -209,7 +238,7 @@ module _ {S L : Type 0} (gives : S → ℕ → List SpacePacket) (sent : L → L
 
     each_run : (s t : ℕ) → s < n → 1 ≤ t → t ≤ suc k → RunAt s t
     each_run s t store first last =
-        one_more (λ u. 1 ≤ u → RunAt s u) k
+        with_next (λ u. 1 ≤ u → RunAt s u) k
         (λ u last first.
         run_as _ _ _ _ _ _ _ _ _ _ refl refl (sym (gave_old (place_in_memory m s) u (λ same. omega (arith, same))))
         (ap (λ (held : List Held). store_state m held s) (sym (at_old (u - 1) (omega arith)))) (ap (λ (held : List Held). store_state m held s) (sym (at_old u last)))
@@ -221,7 +250,7 @@ module _ {S L : Type 0} (gives : S → ℕ → List SpacePacket) (sent : L → L
     ran_on = record {
       first = at_old 0 (omega arith) ∙ done.runs.first;
       labels =
-          one_more (λ u. labels_of (stores_after u) ≡ labels_of m.memory.stores) k (λ u last. ap labels_of (at_old u last) ∙ done.runs.labels u last)
+          with_next (λ u. labels_of (stores_after u) ≡ labels_of m.memory.stores) k (λ u last. ap labels_of (at_old u last) ∙ done.runs.labels u last)
           (ap labels_of at_new ∙ stepped.labels ∙ labels_before);
       runs = each_run;
     }
@@ -230,7 +259,7 @@ module _ {S L : Type 0} (gives : S → ℕ → List SpacePacket) (sent : L → L
     given_on : SourcesGave gives (suc k) sources after.sources
     given_on = record {
       nothing_left = λ t first last.
-          one_more (λ u. 1 ≤ u → All (λ s. gives s u ≡ []) after.sources) k
+          with_next (λ u. 1 ≤ u → All (λ s. gives s u ≡ []) after.sources) k
           (λ u last first. none_same gives u before.sources after.sources (stepped.others u (λ same. omega (arith, same))) (done.sources_are.nothing_left u first last))
           (λ first. stepped.nothing_left) t last first;
       others = λ t outside.
@@ -270,13 +299,13 @@ module _ {S L : Type 0} (gives : S → ℕ → List SpacePacket) (sent : L → L
     sent_on = record {
       took = took_after;
       once = λ j t first last.
-          one_more (λ u. 1 ≤ u → sum_by (times j) (took_after u) ≡ times j (places_of (step_orders m u))) k
+          with_next (λ u. 1 ≤ u → sum_by (times j) (took_after u) ≡ times j (places_of (step_orders m u))) k
           (λ u last first. ap (sum_by (times j)) (took_old u last) ∙ done.links_are.once j u first last)
           (λ first.
           ap (sum_by (times j)) took_new ∙ stepped.once j
           ∙ ap (λ (os : List Order). times j (places_of os)) (orders_are m places (suc k) (λ s store. (footing.stand_at s store).is))) t last first;
       links = λ t first last.
-          one_more (λ u. 1 ≤ u → length (took_after u) ≡ length links) k (λ u last first. ap length (took_old u last) ∙ done.links_are.links u first last)
+          with_next (λ u. 1 ≤ u → length (took_after u) ≡ length links) k (λ u last first. ap length (took_old u last) ∙ done.links_are.links u first last)
           (λ first. ap length took_new ∙ took_now.many ∙ links_many) t last first;
       lists = λ l within.
           let inside : l < length before.links = omega (arith, links_many) in
@@ -341,17 +370,13 @@ module _ {S L : Type 0} (gives : S → ℕ → List SpacePacket) (sent : L → L
           ≡ rows_of m.problem (as_came m) m.amounts (suc k)
       rows_more =
           let row = λ (t : ℕ). map (λ s. planned_counts m.problem (as_came m) m.amounts s t) (stores m.problem) in
-          let more : rows_of m.problem (as_came m) m.amounts (suc k) ≡ rows_of m.problem (as_came m) m.amounts k ++ row (suc k) ∷ [] =
-          ap (map row) (range_with_len_more 1 k (suc k) (omega arith)) ∙ map-append row (range_with_len 1 k) (suc k ∷ []) in
-          ap (λ (r : List StepCounts). rows_of m.problem (as_came m) m.amounts k ++ r ∷ []) row_is ∙ sym more
+          ap (λ (r : List StepCounts). rows_of m.problem (as_came m) m.amounts k ++ r ∷ []) row_is ∙ sym (map_range_more row k)
 
       -- the rows so far and that of the step are those of the counters
       rows_counted : report.steps ++ row_from m.problem (suc k) places before.stores after.stores n ∷ [] ≡ rows_by_counters m stores_after (suc k)
       rows_counted =
           let row = λ (held : ℕ → List Held) (t : ℕ).
           map (λ s. counts_from m.problem s t (counters_of (store_state m (held (t - 1)) s)) (store_state m (held t) s)) (stores m.problem) in
-          let more : rows_by_counters m stores_after (suc k) ≡ map (row stores_after) (range_with_len 1 k) ++ row stores_after (suc k) ∷ [] =
-          ap (map (row stores_after)) (range_with_len_more 1 k (suc k) (omega arith)) ∙ map-append (row stores_after) (range_with_len 1 k) (suc k ∷ []) in
           let earlier : map (row stores_after) (range_with_len 1 k) ≡ rows_by_counters m done.stores k =
           map_range_same (row stores_after) (row done.stores) 1 k
           (λ t from to.
@@ -363,7 +388,8 @@ module _ {S L : Type 0} (gives : S → ℕ → List SpacePacket) (sent : L → L
           ap (λ (u : State). counts_from m.problem s (suc k) (counters_of u) (opening_at (states_of after.stores) (slice_index places s))) (state_before s (omega arith))
           ∙ ap (λ (u : State). counts_from m.problem s (suc k) (counters_of (store_state m (stores_after (suc k - 1)) s)) u) (state_after s (omega arith))) in
           ap (λ (rows : List (List StepCounts)). rows ++ row_from m.problem (suc k) places before.stores after.stores n ∷ []) (done.rows ∙ sym earlier)
-          ∙ ap (λ (r : List StepCounts). map (row stores_after) (range_with_len 1 k) ++ r ∷ []) last ∙ sym more
+          ∙ ap (λ (r : List StepCounts). map (row stores_after) (range_with_len 1 k) ++ r ∷ []) last
+          ∙ sym (map_range_more (row stores_after) k)
 
       -- so do the totals
       counted_on : AreByCounters m after.stores (report.steps ++ row_from m.problem (suc k) places before.stores after.stores n ∷ [])

@@ -1,18 +1,17 @@
--- What a step run leaves, and what a run over many steps does.
-use Rattle.std.proofs.Common.{◌≡◌, ◌⊎◌, inl, inr, ℕ, zero, suc, ◌+◌, ◌-◌, ◌<◌, ◌≤◌, ◌^◌, min, max, Bool, true, false, cond, ltb, List, [], ◌∷◌, ◌++◌, length, All, refl, sym, ap, subst, ◌∙◌, arith, length-append}
+-- What step runs do to the stores, step by step, and what the stores lose over all steps.
+use Rattle.std.proofs.Common.{◌≡◌, ◌⊎◌, inl, inr, ℕ, zero, suc, ◌+◌, ◌-◌, ◌<◌, ◌≤◌, ◌^◌, min, max, Bool, true, false, cond, ltb, List, [], ◌∷◌, ◌++◌, length, All, refl, sym, ap, subst, ◌∙◌, arith, length-append, add-one}
 use Rattle.std.specs.Prelude.{None, Ok, Some}
 use Rattle.std.proofs.lemmas.Bool.{cases_lt}
 use Rattle.std.proofs.lemmas.List.Elements.{All-nil, All-cons, All-head, All-tail, All-append, All-weaker}
 use Rattle.mm_base.proofs.Pairs.{All-front}
-use Rattle.mm_problem.specs.Dumping.{Dumping, size, arrivals}
-use Rattle.mm_plan.specs.Volumes.{Amounts, left, written, lost}
+use Rattle.mm_problem.specs.Dumping.{Dumping, size, arrivals, stores}
+use Rattle.mm_plan.specs.Volumes.{Amounts, left, written, lost, store_loss, loss}
 use Rattle.mm_plan.proofs.Steps.{left_step, left_start}
 use Rattle.mm_store.specs.declared.stored.Stored.{Stored}
 use Rattle.mm_store.specs.Content.{clock_end}
 use Rattle.mm_desk.specs.declared.entry.Entry.{Entry}
 use Rattle.mm_desk.specs.declared.event.Event.{Event}
 use Rattle.mm_desk.specs.declared.event.Event.TheVariants.{Next, Abort, Delete}
-use Rattle.mm_desk.specs.declared.reply.Reply.TheVariants as reply
 use Rattle.mm_desk.specs.Laws.{HasTimes, ReplaysKeepStates, OffersLeave, OrdersDumpTheOldest}
 use Rattle.mm_desk.specs.Machine.{State, IsState}
 use Rattle.mm_desk.specs.Offers.{Leaves, count_of}
@@ -20,11 +19,14 @@ use Rattle.mm_desk.specs.Orders.{begun, given, ended, last_time, removed, IsOrde
 use Rattle.mm_desk.specs.Runs.{IsRun, entry, replay}
 use Rattle.mm_desk.proofs.Logs.{count_of_shuffle}
 use Rattle.mm_exec.specs.StepRuns.{IsDumpOf, IsStepRun, AreTimed, IsBy}
-use Rattle.mm_exec.proofs.Offers.{by_offer}
+use Rattle.mm_exec.proofs.Times.{by_offer, log_last}
 use Rattle.mm_exec.specs.AsPlanned.{AtEach, AsPlanned}
 use Rattle.mm_exec.specs.Laws.{IsRunOf, StepRunsKeepStores}
 use Rattle.mm_exec.proofs.Replays.{IsLegal-parts, replay-append, shuffled, timed_log}
-use Rattle.mm_exec.proofs.Times.{log_last}
+use Rattle.std.specs.List.{sum_by, range_with_len}
+use Rattle.mm_base.proofs.RangeSums.{sum_by_range_more, sum_by_range_same}
+use Rattle.mm_base.proofs.Sums.{sum_by-add}
+use Rattle.mm_desk.specs.declared.reply.Reply.TheVariants as reply
 
 -- the time of the packet given last is no later than that of any
 last_time_within : (end time : ℕ) (gave : List Stored) → time ≤ end → All (λ p. p.time ≤ end) gave → last_time time gave ≤ end
@@ -239,3 +241,23 @@ module _ (leave : OffersLeave) (keep : ReplaysKeepStates) (dump : OrdersDumpTheO
   as_planned q x steps offers gave states is s t store first last =
       let stood = stands q x steps offers gave states is s (t - 1) store (omega arith) in
       (step_of q x steps offers gave states is s t store first last stood).1
+
+-- what one store loses up to a step
+up_to : (q : Dumping) (x : Amounts) (states : ℕ → ℕ → State) (steps : ℕ) → AtEach (length q.rows) steps (λ s t. AsPlanned q x s t (states s (t - 1)) (states s t))
+    → (s n : ℕ) → s < length q.rows → n ≤ steps → (states s n).lost ≡ (states s 0).lost + sum_by (lost q x s) (range_with_len 1 n)
+up_to q x states steps each s zero store within = omega arith
+up_to q x states steps each s (suc n) store within =
+    let before = up_to q x states steps each s n store (omega arith) in
+    let here = (each s (suc n) store (omega arith) within).loses in
+    let last : suc n - 1 ≡ n = omega arith in
+    let from : (states s (suc n - 1)).lost ≡ (states s n).lost = ap (λ (m : ℕ). (states s m).lost) last in
+    let more = rw add-one at (sum_by_range_more (lost q x s) 1 n (suc n) (omega arith)) in
+    omega (arith, before, here, from, more)
+
+-- what all stores lose over all steps is the plan's loss
+pub all_lost : (q : Dumping) (x : Amounts) (states : ℕ → ℕ → State) → AtEach (length q.rows) (length q.windows) (λ s t. AsPlanned q x s t (states s (t - 1)) (states s t))
+    → sum_by (λ s. (states s (length q.windows)).lost) (stores q) ≡ sum_by (λ s. (states s 0).lost) (stores q) + loss q x
+all_lost q x states each =
+    let by_store = sum_by_range_same (λ s. (states s (length q.windows)).lost) (λ s. (states s 0).lost + store_loss q x s) 0 (length q.rows)
+    (λ s from within. up_to q x states (length q.windows) each s (length q.windows) (omega arith) (omega arith)) in
+    by_store ∙ sum_by-add (λ (s : ℕ). (states s 0).lost) (store_loss q x) (stores q)

@@ -33,7 +33,7 @@ use Rattle.mm_dump.specs.Laws.{BrokenOrdersChangeNothing}
 use Rattle.mm_dump.specs.Sending.{Sent}
 use Rattle.mm_exec.specs.Laws.{StepRunsKeepStores}
 use Rattle.mm_exec.specs.StepRuns.{IsBy, AreBy, KeepsStore}
-use Rattle.mm_exec.proofs.Offers.{by_offer}
+use Rattle.mm_exec.proofs.Times.{by_offer}
 use Rattle.mm_exec.proofs.Replays.{shuffled}
 use Rattle.mm_exec.specs.Halts.{AreFirstOffers}
 use Rattle.mm_exec.specs.Step.{AreReady, MayCarry, StepRecorded, StepDone, OrdersBroke, StepBroke}

@@ -16,7 +16,11 @@ use Rattle.mm_desk.specs.declared.reply.Returned.{Returned}
 use Rattle.mm_desk.specs.Machine.{State, offer, step}
 use Rattle.mm_desk.specs.Runs.{replay}
 use Rattle.mm_exec.specs.StepRuns.{IsBy}
-use Rattle.mm_exec.proofs.Offers.{by_offer}
+use Rattle.mm_desk.specs.declared.event.Event.TheVariants.{Offer, Begin, Next, Abort, Delete, Enable, Disable}
+
+-- what holds of the offers by a moment holds of each such event
+pub by_offer : (P : Event → Type 0) (now : ℕ) → ((at : ℕ) (packet : SpacePacket) → at ≤ now → P (Offer at packet)) → (event : Event) → IsBy now event → P event
+by_offer P now offers = elim [ Offer at packet ↦ offers at packet | Begin from to ↦ λ by. absurd by | Next ↦ λ by. absurd by | Abort ↦ λ by. absurd by | Delete limit ↦ λ by. absurd by | Enable ↦ λ by. absurd by | Disable ↦ λ by. absurd by ]
 
 -- a put into a full store
 full_last : (kind : Kind) (held : List Stored) (s : Store) (new : Stored) (m : ℕ) → s.last ≤ m → new.time ≤ m → (put_full kind held s new).1.last ≤ m

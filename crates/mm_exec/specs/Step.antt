@@ -11,7 +11,8 @@ use Rattle.mm_desk.specs.Machine.{IsState}
 use Rattle.mm_desk.specs.Runs.{opening_at}
 use Rattle.mm_shared.specs.Stores.{labels_of, states_of, AreNamed}
 use Rattle.mm_memory.specs.Laws.{ids_of}
-use Rattle.mm_record.specs.Recorded.{RecordingContext, offers}
+use Rattle.mm_record.specs.Recorded.{RecordingContext, recording, offers}
+use Rattle.mm_record.specs.declared.step.RecordingStep.{RecordingStep}
 use Rattle.mm_record.specs.Causes.{cause_in}
 use Rattle.mm_record.specs.Steps.{given_in, AllRecorded, Records}
 use Rattle.mm_dump.specs.declared.order.Order.{Order}
@@ -54,6 +55,10 @@ pub record MayCarry {S L : Type 0} (failed : L → ℕ) (moment : ℕ) (orders :
   pub links : All (λ l. failed l < 2 ^ 64 - 1) now.links
   pub orders_may : AreOrders (length now.stores) orders
   pub early : moment < 2 ^ 64
+
+-- what the recorders of a step share, over these stores
+abbrev pub recording_by : RecordingStep → List Held → RecordingContext
+recording_by step stores = recording step.step step.now step.control.now stores
 
 -- what came in a step is recorded in each store, which is sound, and nothing of it is left in the sources
 pub record StepRecorded {S L : Type 0} (gives : S → ℕ → List SpacePacket) (e : RecordingContext) (before after : RunState S L) : Type 0 where

@@ -1,10 +1,9 @@
 //! One step of a run: what comes is recorded, and then dumped.
 ghost use Rattle.std.specs.Prelude.{◌≡◌, ◌≤◌, None, Some, OnOk, IfErr, IfSome};
-ghost use Rattle.mm_exec.specs.Step.{AreReady, MayCarry, MayRecord, StepRecorded, StepDumped, StepDone, RecordingBroke, OrderingBroke, StepBroke, NeverRefused, dump_cause};
+ghost use Rattle.mm_exec.specs.Step.{AreReady, MayCarry, MayRecord, recording_by, StepRecorded, StepDumped, StepDone, RecordingBroke, OrderingBroke, StepBroke, NeverRefused, dump_cause};
 ghost use Rattle.mm_desk.specs.declared.fault.Fault.TheVariants.{NoMemory};
 ghost use Rattle.mm_record.specs.Causes.{cause_in};
 ghost use Rattle.mm_record.specs.Steps.{TakesAll};
-ghost use Rattle.mm_record.specs.Recorded.{recording};
 ghost use Rattle.mm_dump.specs.Dumped.{MayDump, amount_of};
 
 use crate::laws::{halves_make_step_runs, step_runs_keep_stores};
@@ -67,9 +66,9 @@ impl<S: Source + Send + Drop, L: Link + Send + Drop> RunParts<S, L> {
         step: &RecordingStep<'_>,
     ) -> Result<(), StepBroken>
         requires may { MayRecord self.old }
-        ensures ok { OnOk result (StepRecorded S.gives (recording step.entry.now.step step.entry.now.now step.entry.now.control.now self.old.stores) self.old self.new) }
-        ensures how { IfErr result (RecordingBroke S.gives (recording step.entry.now.step step.entry.now.now step.entry.now.control.now self.old.stores) self.old self.new) }
-        ensures far { TakesAll S.gives (recording step.entry.now.step step.entry.now.now step.entry.now.control.now self.old.stores) self.old.stores self.old.sources
+        ensures ok { OnOk result (StepRecorded S.gives (recording_by step.entry.now self.old.stores) self.old self.new) }
+        ensures how { IfErr result (RecordingBroke S.gives (recording_by step.entry.now self.old.stores) self.old self.new) }
+        ensures far { TakesAll S.gives (recording_by step.entry.now self.old.stores) self.old.stores self.old.sources
             → IfErr result (λ broken. NeverRefused broken.cause) }
     {
         match record(rt, alloc, step, &mut self.stores, &mut self.sources) {
@@ -115,10 +114,10 @@ impl<S: Source + Send + Drop, L: Link + Send + Drop> RunParts<S, L> {
         orders: &[Order],
     ) -> Result<(), StepBroken>
         requires may { MayCarry L.failed step.now.now orders.now self.old }
-        ensures ok { OnOk result (StepDone S.gives L.sent L.failed (recording step.entry.now.step step.entry.now.now step.entry.now.control.now self.old.stores) orders.now self.old self.new) }
-        ensures how { IfErr result (StepBroke S.gives L.sent L.failed (recording step.entry.now.step step.entry.now.now step.entry.now.control.now self.old.stores) orders.now self.old self.new) }
+        ensures ok { OnOk result (StepDone S.gives L.sent L.failed (recording_by step.entry.now self.old.stores) orders.now self.old self.new) }
+        ensures how { IfErr result (StepBroke S.gives L.sent L.failed (recording_by step.entry.now self.old.stores) orders.now self.old self.new) }
         ensures within { IfErr result (λ broken. broken.spent ≤ amount_of orders.now) }
-        ensures far { TakesAll S.gives (recording step.entry.now.step step.entry.now.now step.entry.now.control.now self.old.stores) self.old.stores self.old.sources
+        ensures far { TakesAll S.gives (recording_by step.entry.now self.old.stores) self.old.stores self.old.sources
             → IfErr result (λ broken. NeverRefused broken.cause) }
         // In any case the stores are sound and ready for more.
         ensures ready { AreReady self.new.stores }

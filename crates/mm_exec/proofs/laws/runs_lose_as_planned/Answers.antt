@@ -1,5 +1,4 @@
-use Rattle.mm_exec.proofs.Stepping.{as_planned}
-use Rattle.mm_exec.proofs.Adding.{all_lost}
+use Rattle.mm_exec.proofs.Stepping.{as_planned, all_lost}
 use Rattle.mm_exec.proofs.laws.runs_lose_as_planned.Goals as goal
 use Rattle.std.proofs.Common.{length}
 

@@ -3,7 +3,7 @@ use Rattle.std.specs.Prelude.{slice_index}
 use Rattle.mm_dump.specs.declared.order.Order.{Order}
 use Rattle.mm_plan.specs.Table.{amount}
 use Rattle.mm_exec.specs.Numbers.{orders_of}
-use Rattle.mm_exec.proofs.Listing.{order_more, order_none}
+use Rattle.mm_exec.proofs.Ordered.{order_more, order_none}
 use Rattle.mm_exec.proofs.orders.list_orders.Goals as goal
 use Rattle.mm_exec.proofs.orders.list_orders.Goals.{then-amount-gt0, else-amount-gt0}
 

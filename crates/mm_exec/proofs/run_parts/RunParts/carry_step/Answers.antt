@@ -1,8 +1,8 @@
 use Rattle.std.proofs.Common.{inl, inr, refl}
 use Rattle.std.proofs.lemmas.Result.{IfErr-weaker, on_ok_weaker}
-use Rattle.mm_record.specs.Recorded.{RecordingContext, recording}
+use Rattle.mm_record.specs.Recorded.{RecordingContext}
 use Rattle.mm_exec.specs.declared.step.StepBroken.{StepBroken}
-use Rattle.mm_exec.specs.Step.{AreReady, StepDumped, StepDone, OrderingBroke, StepBroke}
+use Rattle.mm_exec.specs.Step.{AreReady, recording_by, StepDumped, StepDone, OrderingBroke, StepBroke}
 use Rattle.mm_exec.proofs.Parts.{as_many, both_parts, both_follow}
 use Rattle.mm_exec.proofs.StoresReady.{may_dump, ready_after, ready_left, ready_recorded}
 use Rattle.mm_exec.proofs.run_parts.RunParts.carry_step.Given as given
@@ -11,7 +11,7 @@ use Rattle.mm_exec.proofs.run_parts.RunParts.carry_step.Goals.{After-dump}
 
 -- what the recorders share
 abbrev context : (g : given.Over) (c : goal.After-dump g) → RecordingContext
-context g c = recording c.args.step.now.step c.args.step.now.now c.args.step.now.control.now c.args.self.now.stores
+context g c = recording_by c.args.step.now c.args.self.now.stores
 
 -- the dump, carried out or broken off, and the step that it makes with what was recorded
 abbrev Dumped : (g : given.Over) (c : goal.After-dump g) → Type 0
@@ -33,13 +33,13 @@ broke g c stop how = inr (record { mid = c.record.new.self; recorded = c.in_ok-r
 
 pub returns-in_err-record-clause-ready : goal.returns-in_err-record-clause-ready
 returns-in_err-record-clause-ready g c =
-    let e = recording c.args.step.now.step c.args.step.now.now c.args.step.now.control.now c.args.self.now.stores in
+    let e = recording_by c.args.step.now c.args.self.now.stores in
     ready_left g.S.Source.gives g.L.Link.sent g.L.Link.failed e c.args.orders.now c.args.self.now c.record.new.self c.in_err-record.field-0.0
     c.orders_dump_the_oldest.ensures.law c.broken_orders_change_nothing.ensures.law refl c.requires.may.ready (inl c.in_err-record.ensures.how)
 
 pub dump-requires-clause-may : goal.dump-requires-clause-may
 dump-requires-clause-may g c κs within =
-    let e = recording c.args.step.now.step c.args.step.now.now c.args.step.now.control.now c.args.self.now.stores in
+    let e = recording_by c.args.step.now c.args.self.now.stores in
     let recorded = c.in_ok-record.ensures.ok in
     may_dump g.L.Link.failed c.args.step.now.now c.args.orders.now c.args.self.now c.record.new.self c.requires.may
     (as_many c.record.new.self.stores c.args.self.now.stores recorded.labels) recorded.links

@@ -10,9 +10,9 @@ use Rattle.mm_exec.proofs.run_parts.RunParts.carry_steps.Goals.{In-loop-step}
 here : (g : given.Over) (c : goal.In-loop-step g)
     → Underway g.S.Source.gives g.L.Link.sent g.L.Link.failed c.args.run.now (take c.stores-2.result c.places_of-all.result) c.loop-step.step c.args.self.now c.loop-step.self c.loop-step.buffers
 here g c =
-    underway g.S.Source.gives g.L.Link.sent g.L.Link.failed c.args.run.now _ c.loop-step.step c.args.self.now c.loop-step.self c.loop-step.buffers c.requires.may
-    c.places_of-all.ensures.problem c.places_of-all.result c.stores.ensures c.places_of-all.ensures.places c.places_of-all.ensures.len c.stores-2.ensures.stores refl
-    c.loop-step.auto.step c.loop-step-test.true c.steps-step-end.ensures.steps c.loop-step.invariant.ran c.loop-step.invariant.room
+    underway g.S.Source.gives g.L.Link.sent g.L.Link.failed c.args.run.now _ c.loop-step.step c.args.self.now c.requires.may c.places_of-all.ensures.problem c.loop-step.self
+    c.loop-step.buffers c.loop-step.invariant.ran c.places_of-all.result c.stores.ensures c.places_of-all.ensures.places c.places_of-all.ensures.len c.stores-2.ensures.stores refl
+    c.loop-step.auto.step c.loop-step-test.true c.steps-step-end.ensures.steps c.loop-step.invariant.room
 
 pub loop-step-init : goal.loop-step-init
 loop-step-init g c =

@@ -7,7 +7,7 @@ use Rattle.mm_report.specs.declared.counts.StepCounts.{StepCounts}
 use Rattle.mm_exec.specs.Numbers.{row_from, orders_of, AreCounters, AreStepCounts}
 use Rattle.mm_exec.specs.Step.{StepDone}
 use Rattle.mm_exec.specs.Course.{orders_at}
-use Rattle.mm_exec.proofs.Rows.{row_taken}
+use Rattle.mm_exec.proofs.Counters.{row_taken}
 use Rattle.mm_exec.proofs.run_parts.RunParts.report_step.Given as given
 use Rattle.mm_exec.proofs.run_parts.RunParts.report_step.Goals as goal
 use Rattle.mm_exec.proofs.run_parts.RunParts.report_step.Goals.{After-carry_step}
