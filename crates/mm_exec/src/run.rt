@@ -50,15 +50,15 @@ impl<S: Source + Send + Drop, L: Link + Send + Drop> RunParts<S, L> {
         ensures far { AreWithinLimits S.gives (length run.now.problem.now.windows) self.old.stores self.old.sources
             → IfErr result (λ stopped. NeverRefused stopped.broken.cause) }
     {
-        let sources = self.sources_len();
-        let links = self.links_len();
+        let many_sources = self.sources_len();
+        let many_links = self.links_len();
         if let Err(cause) = ready(
             run.problem,
             run.plan,
             self.stores(),
             run.base,
-            sources,
-            links,
+            many_sources,
+            many_links,
         ) {
             return Err(never_began(alloc, cause));
         }

@@ -14,20 +14,20 @@ returns-in-Err-clause-stopped g c =
     let run = c.args.run.now in
     not_begun g.S.Source.gives g.L.Link.sent g.L.Link.failed (given_to g.S.Source.gives run c.args.self.now) run.plan.now c.args.self.now c.in-Err.cause c.never_began.result
     c.never_began.ensures.broken c.never_began.ensures.report
-    (inl (start_by (λ o. Stops o c.in-Err.cause) run.problem.now run.plan.now run.base c.stores.ensures c.sources_len-sources.ensures c.links_len-links.ensures c.in-Err.ensures.err))
+    (inl (start_by (λ o. Stops o c.in-Err.cause) run.problem.now run.plan.now run.base c.stores.ensures c.sources_len-many_sources.ensures c.links_len-many_links.ensures c.in-Err.ensures.err))
 
 pub returns-in_default-reserve_run-clause-stopped : goal.returns-in_default-reserve_run-clause-stopped
 returns-in_default-reserve_run-clause-stopped g c =
     let run = c.args.run.now in
     not_begun g.S.Source.gives g.L.Link.sent g.L.Link.failed (given_to g.S.Source.gives run c.args.self.now) run.plan.now c.args.self.now _
     c.never_began-in_default-reserve_run.result c.never_began-in_default-reserve_run.ensures.broken c.never_began-in_default-reserve_run.ensures.report
-    (inr (refl, start_by MayBegin run.problem.now run.plan.now run.base c.stores.ensures c.sources_len-sources.ensures c.links_len-links.ensures c.in_default.ensures.ok))
+    (inr (refl, start_by MayBegin run.problem.now run.plan.now run.base c.stores.ensures c.sources_len-many_sources.ensures c.links_len-many_links.ensures c.in_default.ensures.ok))
 
 pub carry_steps-requires-clause-may : goal.carry_steps-requires-clause-may
 carry_steps-requires-clause-may g c κs within =
     let run = c.args.run.now in
     record {
-      begins = start_by MayBegin run.problem.now run.plan.now run.base c.stores.ensures c.sources_len-sources.ensures c.links_len-links.ensures c.in_default.ensures.ok;
+      begins = start_by MayBegin run.problem.now run.plan.now run.base c.stores.ensures c.sources_len-many_sources.ensures c.links_len-many_links.ensures c.in_default.ensures.ok;
       held = c.requires.held;
       sound = subst (All (λ (h : Held). IsState h.state)) c.stores-2.ensures c.read_states.ensures;
       links = c.requires.links;
