@@ -473,8 +473,8 @@ void rudlayog_memory_record(struct rudlayog_memory *memory, uint64_t now, const 
                             struct rudlayog_tally *tally, struct rudlayog_answer *answer);
 
 /* Applies a telecommand of the storage service, whose reports then wait for rudlayog_memory_report. One that waits takes up to
- * `RUDLAYOG_REPORT_MEMORY` bytes until it is given or the handle is closed. A request has up to 255 reports, and nothing bounds how many
- * wait; rudlayog_memory_waiting counts them.
+ * `RUDLAYOG_REPORT_MEMORY` bytes until it is given or the handle is closed. A request has up to 255 reports. As many wait as memory holds,
+ * or as rudlayog_memory_bound lets; rudlayog_memory_waiting counts them.
  *
  * `RUDLAYOG_WRITTEN`: the first answer.length octets of `each` are the answers to its instructions, in order: `RUDLAYOG_DONE`, or the
  * number of a refusal. `RUDLAYOG_REFUSED`: the request is refused whole. `RUDLAYOG_TOO_SMALL`: `each_room` is below
@@ -507,6 +507,14 @@ void rudlayog_memory_state(struct rudlayog_memory *memory, const uint8_t *id, si
  *
  * `RUDLAYOG_WRITTEN`, with no text: `reports` is their number. */
 void rudlayog_memory_waiting(struct rudlayog_memory *memory, uint64_t *reports, struct rudlayog_answer *answer);
+
+/* Lets at most so many reports wait from now on. Before the first call as many wait as memory holds, and so they do with `UINT64_MAX`;
+ * those that wait already go on waiting. A request is then refused whole, as it is out of memory, where the bound is below the sum of how
+ * many wait and how many reports it has at most: one for each instruction of TC[15,5]; one for TC[15,12], TC[15,18] and TC[15,22]. A
+ * request of another subtype has none, and is not refused for the bound.
+ *
+ * `RUDLAYOG_WRITTEN`, with no text. */
+void rudlayog_memory_bound(struct rudlayog_memory *memory, uint64_t reports, struct rudlayog_answer *answer);
 
 /* Closes a handle, and frees what it held. A closed one stays closed. */
 void rudlayog_memory_close(struct rudlayog_memory *memory);

@@ -175,7 +175,7 @@ static void try_text(const char *name, make *call, uint32_t refusal) {
 /* The calls on a closed handle: each tells so, and writes nothing else. */
 static void try_closed(struct rudlayog_memory *memory, const char *name) {
     uint8_t out[RUDLAYOG_BLOCK];
-    struct rudlayog_answer answers[7];
+    struct rudlayog_answer answers[8];
     struct rudlayog_fate fate;
     struct rudlayog_tally tally;
     struct rudlayog_state state;
@@ -191,7 +191,8 @@ static void try_closed(struct rudlayog_memory *memory, const char *name) {
     memset(&state, 0xA5, sizeof state);
     rudlayog_memory_state(memory, TEXT("SCI"), &state, &answers[5]);
     rudlayog_memory_waiting(memory, &reports, &answers[6]);
-    for (size_t k = 0; k < 7; k++) {
+    rudlayog_memory_bound(memory, 0, &answers[7]);
+    for (size_t k = 0; k < 8; k++) {
         expect(answers[k].status == RUDLAYOG_CLOSED && answers[k].length == 0, name, "a closed handle is not told");
     }
     expect(fate.kind == RUDLAYOG_NO_FATE && fate.time == 0 && is_all(&tally, sizeof tally, 0) && time == 0, name, "another value");
@@ -305,6 +306,75 @@ static void try_state(struct rudlayog_memory *memory) {
     expect(waiting(memory) == 1, "rudlayog_memory_waiting", "another number");
 }
 
+static void bound(struct rudlayog_memory *memory, uint64_t reports) {
+    struct rudlayog_answer answer;
+    rudlayog_memory_bound(memory, reports, &answer);
+    expect(answer.status == RUDLAYOG_WRITTEN && answer.length == 0, "rudlayog_memory_bound", "another status");
+}
+
+/* Applies a request of this subtype with so many times the store SCI, or without instructions. It is done, or it is refused as out of
+ * memory is and has written nothing. */
+static int is_done(struct rudlayog_memory *memory, uint8_t subtype, uint8_t count) {
+    uint8_t request[12 + 3 * 8] = {0x18, 100, 0xC0, 0, 0, 0, 0x20, 15, subtype, 0, 7, count};
+    const size_t length = count == 0 ? 11 : 12u + count * 8u;
+    uint8_t each[RUDLAYOG_INSTRUCTIONS];
+    struct rudlayog_answer answer;
+    request[5] = (uint8_t)(length - 7);
+    for (size_t k = 0; k < count; k++) {
+        memcpy(request + 12 + 8 * k, "SCI     ", 8);
+    }
+    memset(each, 0xA5, sizeof each);
+    rudlayog_memory_apply(memory, 1, request, length, each, sizeof each, &answer);
+    if (answer.status == RUDLAYOG_WRITTEN) {
+        expect(answer.length == count && is_all(each, count, RUDLAYOG_DONE), "rudlayog_memory_apply", "other answers within the bound");
+        return 1;
+    }
+    expect(answer.status == RUDLAYOG_REFUSED && answer.refused.number == RUDLAYOG_REFUSAL_NO_MEMORY && answer.length == 0,
+           "rudlayog_memory_apply", "another refusal beyond the bound");
+    expect(is_all(each, sizeof each, 0xA5), "rudlayog_memory_apply", "octets are written beyond the bound");
+    return 0;
+}
+
+/* Gives a report, whose packet must have this sequence count. */
+static void give(struct rudlayog_memory *memory, uint8_t count) {
+    static uint8_t out[RUDLAYOG_PACKET];
+    struct rudlayog_answer answer;
+    rudlayog_memory_report(memory, out, sizeof out, &answer);
+    expect(answer.status == RUDLAYOG_WRITTEN && out[2] == 0xC0 && out[3] == count, "rudlayog_memory_report", "another count");
+}
+
+/* A bound on the reports that wait, with requests of three instructions and of one, and with those that have no report. */
+static void try_bound(void) {
+    struct rudlayog_memory memory = RUDLAYOG_MEMORY_CLOSED;
+    open_memory(&memory, setup);
+    bound(&memory, 2);
+    expect(!is_done(&memory, 5, 3), "rudlayog_memory_bound", "three reports, and two may wait");
+    expect(is_done(&memory, 5, 1) && is_done(&memory, 18, 0) && waiting(&memory) == 2, "rudlayog_memory_bound",
+           "two reports, and two may wait");
+    for (int subtype = 0; subtype < 4; subtype++) {
+        static const uint8_t reporting[] = {5, 12, 18, 22};
+        expect(!is_done(&memory, reporting[subtype], subtype < 2), "rudlayog_memory_bound", "a report beyond the bound");
+    }
+    expect(is_done(&memory, 2, 3) && state_of(&memory, "SCI", RUDLAYOG_WRITTEN).storage == 0, "rudlayog_memory_bound",
+           "a request without a report");
+    give(&memory, 0);
+    expect(!is_done(&memory, 5, 2) && is_done(&memory, 12, 3) && waiting(&memory) == 2, "rudlayog_memory_bound", "one more may wait");
+    bound(&memory, 5);
+    expect(is_done(&memory, 5, 3) && waiting(&memory) == 5 && !is_done(&memory, 22, 0), "rudlayog_memory_bound", "five may wait");
+    bound(&memory, 0);
+    expect(!is_done(&memory, 18, 0) && waiting(&memory) == 5, "rudlayog_memory_bound", "those that wait go on waiting");
+    for (uint8_t count = 1; count <= 5; count++) {
+        give(&memory, count);
+    }
+    expect(!is_done(&memory, 18, 0) && is_done(&memory, 1, 1) && waiting(&memory) == 0, "rudlayog_memory_bound", "none may wait");
+    bound(&memory, UINT64_MAX);
+    expect(is_done(&memory, 5, 3) && waiting(&memory) == 3, "rudlayog_memory_bound", "no bound");
+    rudlayog_memory_close(&memory);
+    open_memory(&memory, setup);
+    expect(is_done(&memory, 5, 3), "rudlayog_memory_bound", "a bound on a handle that is opened again");
+    rudlayog_memory_close(&memory);
+}
+
 /* Applies a request of 255 times the same instruction that many times; gives the bytes that each report takes that waits then. */
 static size_t taken(struct rudlayog_memory *memory, uint8_t subtype, size_t times, size_t reports) {
     uint8_t request[12 + 255 * 8] = {0x18,    100, 0xC0, 0,  (sizeof request - 7) >> 8, (sizeof request - 7) & 255, 0x20, 15,
@@ -365,6 +435,7 @@ int main(void) {
     try_state(&memory);
     rudlayog_memory_close(&memory);
     try_closed(&memory, "a handle that was closed");
+    try_bound();
     measure_waiting();
     expect(held == 0, "all calls", "a block stays allocated");
     return failed;

@@ -77,14 +77,20 @@ class Memory:
 
     Moments and times are in ticks, from 0 to 2^64 - 1; another one raises `ValueError`. Packets are their octets. A call that is refused
     raises `Refusal` and has changed nothing; a call on a closed memory raises `ValueError`. Calls of several threads wait for one another,
-    and a signal handler may make calls too."""
+    and a signal handler may make calls too.
 
-    def __init__(self, setup: SetupLike) -> None:
+    At most `most_waiting` reports wait, or as many as memory holds where none is given. A request that might let more wait is refused as one
+    out of memory: it has at most one report for each instruction (subtype 5), one on all (12, 18, 22), or none."""
+
+    def __init__(self, setup: SetupLike, *, most_waiting: SupportsIndex | None = None) -> None:
         self._handle = _library.Handle()
         # A signal handler runs between two calls of its thread, and may find the lock held by it.
         self._lock = threading.RLock()
         (text,) = texts(setup=setup)
+        bound = None if most_waiting is None else _library.number(most_waiting, "most_waiting", 64)
         self._tell(_library.rudlayog_memory_open, text, len(text), setup=text)
+        if bound is not None:
+            self._tell(_library.rudlayog_memory_bound, bound)
 
     def _tell(self, call: Callable[..., None], *given: object, setup: bytes = b"", packet: bytes = b"") -> _library.Answer:
         """The answer to a call, which was given this setup or this packet."""

@@ -72,6 +72,30 @@ class Memories(unittest.TestCase):
             self.assertEqual(memory.apply(10, telecommand(2, name("HK"))), (None,))
             self.assertEqual(memory.record(11, telemetry(6)), Tally(kept=0, lost=1, refused=1))
 
+    def test_a_bound_on_the_reports_that_wait(self):
+        one = name("SCI")
+        with Memory(SETUP, most_waiting=2) as memory:
+            self.assertEqual(self.refused(memory.apply, 1, telecommand(5, one, one, one)), "NoMemory")
+            self.assertEqual(memory.apply(1, telecommand(5, one, one)), (None, None))
+            for request in (telecommand(5, one), telecommand(12, one), telecommand(18), telecommand(22)):
+                self.assertEqual(self.refused(memory.apply, 1, request), "NoMemory")
+            # A request that has no report is carried out.
+            self.assertEqual(memory.apply(1, telecommand(2, one)), (None,))
+            self.assertFalse(memory.state("SCI").storage)
+            self.assertEqual(memory.waiting(), 2)
+            # The refused ones were not counted: the sequence counts of the packets go on (CCSDS 133.0-B, 4.1.3.4).
+            first = next(memory.reports())
+            self.assertEqual(memory.apply(1, telecommand(12, one, one)), (None, None))
+            self.assertEqual([packet[3] for packet in [first, *memory.reports()]], [0, 1, 2])
+        with Memory(SETUP, most_waiting=0) as memory:
+            self.assertEqual(self.refused(memory.apply, 1, telecommand(18)), "NoMemory")
+            self.assertEqual(memory.apply(1, telecommand(2, one)), (None,))
+        with Memory(SETUP) as memory:
+            self.assertEqual(memory.apply(1, telecommand(5, one, one, one)), (None, None, None))
+        for bound in (-1, 2**64, 1.5, "2"):
+            with self.assertRaisesRegex(ValueError, "^most_waiting is .*, and a whole number from 0 to 2\\^64 - 1 is expected$"):
+                Memory(SETUP, most_waiting=bound)
+
     def test_packets_in_any_holder(self):
         with Memory(SETUP) as memory:
             self.assertEqual(memory.record(5, bytearray(telemetry(1))).kept, 2)

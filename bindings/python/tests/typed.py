@@ -32,7 +32,7 @@ def planned() -> tuple[int, Mapping[str, tuple[int, ...]]]:
 
 def recorded() -> tuple[Tally, list[bytes]]:
     """What a memory tells."""
-    with Memory([{"id": "HK", "size": 2}]) as memory:
+    with Memory([{"id": "HK", "size": 2}], most_waiting=255) as memory:
         try:
             memory.next("HK")
         except Refusal as refusal:

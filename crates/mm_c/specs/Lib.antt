@@ -3,3 +3,4 @@ pub mod Owning
 pub mod Serving
 pub mod Showing
 pub mod Fields
+pub mod Bounding

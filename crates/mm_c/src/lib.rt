@@ -2,6 +2,7 @@
 #![tactic(auto)]
 
 pub mod asking;
+pub mod bounding;
 pub mod fields;
 pub mod handle;
 pub mod hinting;

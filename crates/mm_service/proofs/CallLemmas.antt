@@ -31,7 +31,7 @@ use Rattle.mm_service.specs.declared.giving.Given.{Given}
 use Rattle.mm_service.specs.declared.offering.Fate.{Fate}
 use Rattle.mm_service.specs.declared.reporting.Reported.{Reported}
 use Rattle.mm_service.specs.declared.reporting.Reported.TheVariants.{Written, TooSmall, End}
-use Rattle.mm_service.specs.Accounts.{Call, offer_call, record_call, apply_call, next_call, report_call, Turn, MayLeave, AreTurns, AreCallsOf, AreAccounted, brought, gave, in_calls, octets_held}
+use Rattle.mm_service.specs.Accounts.{Call, offer_call, record_call, apply_call, next_call, report_call, bound_call, Turn, MayLeave, AreTurns, AreCallsOf, AreAccounted, brought, gave, in_calls, octets_held}
 use Rattle.mm_service.specs.Giving.{Tells, TellsPacket, next_of, first_of, given_of, Leaves as LeavesNext}
 use Rattle.mm_service.specs.Offering.{fate_of}
 use Rattle.mm_service.specs.Reading.{id_tested, block_of}
@@ -203,6 +203,14 @@ made_of report_call s t is = record {
   are = refl;
   made = tt;
   left = report_memory s.waiting is.0 s t is.1 is.2 is.3;
+  keeps = λ k Q all. All-nil (Has Q);
+  gives = λ k Q all. All-nil Q;
+}
+made_of (bound_call bound) s t is = record {
+  turns = [];
+  are = refl;
+  made = tt;
+  left = ap (λ (x : Serving). x.memory) is;
   keeps = λ k Q all. All-nil (Has Q);
   gives = λ k Q all. All-nil Q;
 }

@@ -3,6 +3,7 @@ pub mod StoreLemmas
 pub mod GiveLemmas
 pub mod AnswerLemmas
 pub mod ReportLemmas
+pub mod BoundLemmas
 pub mod HeaderLemmas
 pub mod SpellingLemmas
 pub mod CallLemmas

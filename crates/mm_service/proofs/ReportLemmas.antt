@@ -17,7 +17,7 @@ length-cons_option : {Y : Type 0} (o : Option Y) (ys : List Y) → length (cons_
 length-cons_option None ys = omega arith
 length-cons_option (Some y) ys = omega arith
 
-length-filter_map : {X Y : Type 0} (f : X → Option Y) (xs : List X) → length (filter_map f xs) ≤ length xs
+pub length-filter_map : {X Y : Type 0} (f : X → Option Y) (xs : List X) → length (filter_map f xs) ≤ length xs
 length-filter_map f [] = omega arith
 length-filter_map f (x ∷ xs) =
     let one = length-cons_option (f x) (filter_map f xs) in

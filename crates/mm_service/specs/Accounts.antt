@@ -20,13 +20,15 @@ use Rattle.mm_service.specs.Reporting.{Reports}
 use Rattle.mm_service.specs.Serving.{Serving}
 
 -- a call on a service: octets are offered to the store with a name at a moment; they are recorded at a moment; the request that they are is
--- applied at a moment; the next packet of a retrieval from the store with a name is told and written into a buffer; a report is given
+-- applied at a moment; the next packet of a retrieval from the store with a name is told and written into a buffer; a report is given;
+-- the reports that wait are bounded
 pub data Call : Type 0 where
   offer_call : List ℕ → List ℕ → ℕ → Call
   record_call : List ℕ → ℕ → Call
   apply_call : List ℕ → ℕ → Call
   next_call : List ℕ → Option Given → List ℕ → Call
   report_call : Call
+  bound_call : Option ℕ → Call
 
 -- a call, and the service that it left; a call that is refused changes nothing, and is none of these
 pub record Turn : Type 0 where
@@ -44,6 +46,7 @@ MayLeave (record_call octets now) s t = AreOctets octets × (tally : Tally) × (
 MayLeave (apply_call octets now) s t = AreOctets octets × (count : ℕ) × (old : List ℕ) × (new : List ℕ) × Applies octets now s t count old new
 MayLeave (next_call id told new) s t = (old : List ℕ) × GivesNext id (Ok told) s t old new
 MayLeave report_call s t = (told : Reported) × (old : List ℕ) × (new : List ℕ) × Reports s.waiting told s t old new
+MayLeave (bound_call bound) s t = t ≡ record s { bound = bound }
 
 -- each call leaves what its contract says, from what the one before it left
 abbrev pub AreTurns : Serving → List Turn → Type 0
@@ -63,6 +66,7 @@ AreCallsOf (apply_call octets now) calls =
     (packet : SpacePacket) × (octets ≡ spelling packet) × (request : Request) × SpellsRequest packet request × (calls ≡ map applies (instructions_of request))
 AreCallsOf (next_call id told new) calls = calls ≡ asks (field_of id) Next ∷ []
 AreCallsOf report_call calls = calls ≡ []
+AreCallsOf (bound_call bound) calls = calls ≡ []
 
 -- turns of the memory, part by part those of the calls of the service
 abbrev pub AreOfCalls : List Turn → List MemoryTurn → Type 0

@@ -10,13 +10,14 @@ use Rattle.mm_memory.specs.Reports.{reports_on}
 use Rattle.mm_service.specs.declared.fault.Fault.{Fault}
 use Rattle.mm_service.specs.declared.fault.Fault.TheVariants.{NoMemory}
 use Rattle.mm_service.specs.Answering.{code_of_answer}
+use Rattle.mm_service.specs.Bounding.{KeepsBound}
 use Rattle.mm_service.specs.Queue.{queue_of, with_reports}
 use Rattle.mm_service.specs.Reading.{request_of}
 use Rattle.mm_service.specs.Serving.{Serving}
 use Rattle.mm_packet.specs.Buffer.{over}
 
 -- the request of the packet that the octets are is applied at a moment: each instruction is answered, in order, and the codes of the
--- answers are at the head of the buffer; the reports on the request wait after those that waited
+-- answers are at the head of the buffer; the reports on the request wait after those that waited, and keep the bound
 pub record Applies (octets : List ℕ) (now : ℕ) (s t : Serving) (count : ℕ) (old new : List ℕ) : Type 0 where
   pub asked : SpacePacket
   pub asks : request_of octets ≡ Ok asked
@@ -28,6 +29,8 @@ pub record Applies (octets : List ℕ) (now : ℕ) (s t : Serving) (count : ℕ)
   pub count_is : count ≡ length answers
   pub told : new ≡ over (map code_of_answer answers) old
   pub waits : queue_of t.counts t.waiting ≡ with_reports asked (reports_on request now s.memory) (queue_of s.counts s.waiting)
+  pub bounded : KeepsBound s t
+  pub bound : t.bound ≡ s.bound
 
 -- why a request is refused whole: the first test that the octets fail, out of memory aside
 abbrev pub RefusesRequest : List ℕ → Fault → Type 0

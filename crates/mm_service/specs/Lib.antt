@@ -6,6 +6,7 @@ pub mod Recording
 pub mod Giving
 pub mod Waiting
 pub mod Queue
+pub mod Bounding
 pub mod Answering
 pub mod Applying
 pub mod Reporting

@@ -11,15 +11,16 @@ use Rattle.mm_ask.specs.Counting.{Counts, no_counts}
 use Rattle.mm_service.specs.declared.fault.Fault.{Fault}
 use Rattle.mm_service.specs.declared.fault.Fault.TheVariants.{NoSuchStore}
 
--- the memory, how many reports there were, and the packets of those that wait, the oldest first
+-- the memory, how many reports there were, the packets of those that wait, the oldest first, and how many may wait, where that is bounded
 pub record Serving : Type 0 where
   pub memory : Holdings
   pub counts : Counts
   pub waiting : List SpacePacket
+  pub bound : Option ℕ
 
--- a service with this memory that begins
+-- a service with this memory that begins: no report was made, and as many may wait as memory holds
 abbrev pub opened : Holdings → Serving
-opened memory = record { memory = memory; counts = no_counts; waiting = [] }
+opened memory = record { memory = memory; counts = no_counts; waiting = []; bound = None }
 
 -- the service of a setup's memory, or the setup's fault
 abbrev pub opened_of : List ℕ → Result Serving SetupFault

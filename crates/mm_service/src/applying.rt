@@ -74,7 +74,7 @@ impl Service {
 
     /// Applies the request of the packet that the octets are, at a moment in ticks. The codes of the answers to its instructions, in order,
     /// are then at the head of a buffer with room for each request's, and their number is given; its reports wait after those that
-    /// waited. A refusal has changed nothing.
+    /// waited. Where they may not wait within the bound, the request is refused as out of memory is. A refusal has changed nothing.
     pub fn apply(
         &mut self,
         alloc: Global,
@@ -90,6 +90,7 @@ impl Service {
         ensures left { OnErr result (each.new ≡ each.old) }
     {
         let asked = request_of(alloc, packet)?;
+        self.admit(&asked.request)?;
         make_room(&mut self.waiting)?;
         let answers = self.memory.apply(alloc, now, &asked.request)?;
         tell_answers(&answers.each, each);

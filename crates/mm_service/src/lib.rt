@@ -4,6 +4,7 @@
 
 mod answers;
 mod applying;
+mod bounding;
 mod entry_fields;
 mod fault;
 mod giving;

@@ -1,4 +1,4 @@
-//! The service: a memory, the numbers of its reports, and those that wait.
+//! The service: a memory, the numbers of its reports, those that wait, and how many may wait.
 ghost use Rattle.std.specs.Prelude.{◌≡◌};
 ghost use Rattle.mm_base.specs.Reading.{Gives};
 ghost use Rattle.mm_problem.specs.declared.fault.Fault.TheVariants.{NoMemory};
@@ -11,12 +11,14 @@ use std::alloc::Global;
 use std::collections::VecDeque;
 use std::marker::Model;
 
-/// A mass memory with its storage service: the memory, how many reports there were, and the reports that wait to be given.
+/// A mass memory with its storage service: the memory, how many reports there were, the reports that wait to be given, and how many may wait,
+/// where that is bounded.
 #[derive(Drop)]
 pub struct Service {
     pub(crate) memory: Memory,
     pub(crate) counters: Counters,
     pub(crate) waiting: VecDeque<Waiting>,
+    pub(crate) bound: Option<usize>,
 }
 
 impl Model for Service {
@@ -24,13 +26,14 @@ impl Model for Service {
 
     ghost Value = { Serving };
 
-    ghost view = { λ s. record { memory = s.memory; counts = s.counters; waiting = s.waiting.items } };
+    ghost view = { λ s. record { memory = s.memory; counts = s.counters; waiting = s.waiting.items; bound = s.bound } };
 }
 
 impl Service {
     ghost use Rattle.mm_service.specs.Serving.{opened_of};
 
-    /// The service of a setup's memory, as `Memory::of_setup` of `mm_memory` makes it: no report was made, and none waits.
+    /// The service of a setup's memory, as `Memory::of_setup` of `mm_memory` makes it: no report was made, none waits, and
+    /// no bound is set on how many may wait.
     pub fn open(alloc: Global, setup: &[u8]) -> Result<Service, Fault>
         ensures opened { Gives NoMemory (λ service. service) result (opened_of setup.now) }
     {
@@ -40,6 +43,7 @@ impl Service {
                 memory,
                 counters: Counters::new(),
                 waiting: VecDeque::new(alloc),
+                bound: None,
             }),
             Err(_) => Err(Fault::NoMemory),
         }

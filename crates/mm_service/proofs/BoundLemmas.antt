@@ -1,0 +1,47 @@
+-- How many reports wait once a request is applied.
+use Rattle.std.proofs.Common.{◌≡◌, ◌⊎◌, inl, inr, ℕ, ◌+◌, ◌≤◌, List, [], ◌∷◌, ◌++◌, length, refl, ap, ◌∙◌, arith, Option, Some, None, length-append}
+use Rattle.mm_packet.specs.Packet.{SpacePacket}
+use Rattle.mm_st15.specs.declared.report.Report.{Report}
+use Rattle.mm_st15.specs.declared.request.Request.{Request}
+use Rattle.mm_st15.specs.declared.request.Request.TheVariants as request
+use Rattle.mm_memory.specs.Holdings.{Holdings}
+use Rattle.mm_memory.specs.Reports.{control_at, reports_on}
+use Rattle.mm_service.specs.Bounding.{IsWithin, most_reports, MayWait, KeepsBound}
+use Rattle.mm_service.specs.Queue.{Queue, queue_of, with_report, with_reports}
+use Rattle.mm_service.specs.Serving.{Serving}
+use Rattle.mm_service.proofs.ReportLemmas.{length-filter_map}
+
+-- each report waits
+waits_each : (asked : SpacePacket) (reports : List Report) (q : Queue) → length (with_reports asked reports q).waiting ≡ length q.waiting + length reports
+waits_each asked [] q = omega arith
+waits_each asked (report ∷ rest) q =
+    let next = with_report asked q report in
+    let more = waits_each asked rest next in
+    let one : length next.waiting ≡ length q.waiting + 1 = length-append q.waiting _ in
+    omega (arith, more, one)
+
+-- no request has more reports than the most
+few : (r : Request) (now : ℕ) (m : Holdings) → length (reports_on r now m) ≤ most_reports r
+few (request.ReportControl targets) now m = length-filter_map (control_at now m) targets
+few other now m = omega arith
+
+-- fewer are within the bound too
+fewer : (bound : Option ℕ) (few many : ℕ) → few ≤ many → IsWithin bound many → IsWithin bound few
+fewer None few many below within = tt
+fewer (Some bound) few many below within = omega (arith, below, within)
+
+none : {A : Type 0} (xs : List A) → length xs ≤ 0 → xs ≡ []
+none [] below = refl
+none (x ∷ xs) below = absurd (omega (arith, below))
+
+-- the reports of a request that may wait keep the bound
+pub keeps_bound : (asked : SpacePacket) (r : Request) (now : ℕ) (s t : Serving) → MayWait r s → queue_of t.counts t.waiting ≡ with_reports asked (reports_on r now s.memory) (queue_of s.counts s.waiting) → KeepsBound s t
+keeps_bound asked r now s t (inl no_report) waits =
+    let below = few r now s.memory in
+    let no_more = none (reports_on r now s.memory) (omega (arith, below, no_report)) in
+    inl (ap Queue.waiting waits ∙ ap (λ (reports : List Report). (with_reports asked reports (queue_of s.counts s.waiting)).waiting) no_more)
+keeps_bound asked r now s t (inr within) waits =
+    let below = few r now s.memory in
+    let many = waits_each asked (reports_on r now s.memory) (queue_of s.counts s.waiting) in
+    let are = ap (λ (q : Queue). length q.waiting) waits in
+    inr (fewer s.bound (length t.waiting) (length s.waiting + most_reports r) (omega (arith, are, many, below)) within)

@@ -1,0 +1,40 @@
+//! How many reports may wait.
+ghost use Rattle.std.specs.Prelude.{◌≡◌, OnOk, OnErr};
+ghost use Rattle.mm_service.specs.Bounding.{most_reports, MayWait};
+
+use crate::service::Service;
+use mm_base::NoMemory;
+use mm_st15::Request;
+
+// How many reports a request has at most.
+fn most_reports(request: &Request) -> usize
+    ensures { result ≡ most_reports request.now }
+{
+    match request {
+        Request::ReportControl(targets) => targets.as_slice().len(),
+        Request::SummariseContent(_) | Request::ReportStatus | Request::ReportConfiguration => 1,
+        _ => 0,
+    }
+}
+
+impl Service {
+    /// Lets at most so many reports wait from now on, or as many as memory holds. Those that wait already go on waiting.
+    pub fn bound_waiting(&mut self, bound: Option<usize>)
+        ensures bound { self.new ≡ record self.old { bound = bound } }
+    {
+        self.bound = bound;
+    }
+
+    // Is out of memory where the reports on a request may not wait.
+    pub(crate) fn admit(&self, request: &Request) -> Result<(), NoMemory>
+        ensures may { OnOk result (MayWait request.now self.now) }
+        ensures refused { OnErr result (MayWait request.now self.now → ⊥) }
+    {
+        match self.bound {
+            Some(bound) if most_reports(request) > bound.saturating_sub(self.waiting.len()) => {
+                Err(NoMemory)
+            }
+            _ => Ok(()),
+        }
+    }
+}
