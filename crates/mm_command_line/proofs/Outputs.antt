@@ -8,7 +8,7 @@ use Rattle.std.proofs.lemmas.List.{append-nil, length-append, length-map, map-ap
 use Rattle.std.proofs.lemmas.List.Elements.{All-cons, All-head, All-nil, All-tail, filter-append}
 use Rattle.std.proofs.lemmas.List.Folds.{list_any-append}
 use Rattle.clap.proofs.WalkLemmas.{list_any-map}
-use Rattle.mm_command_line.specs.Lines.{EndsWithOutput, IsCommandLine, IsFileName, IsSplit, IsTaskLine, before_dashes, command_words, flags_of, flight_spelling, gives_text, is_dashes, is_flag, output_flag, output_names, output_of, output_words, without_dashes}
+use Rattle.mm_command_line.specs.Lines.{EndsWithOutput, IsCommandLine, IsFileName, IsSplit, IsTaskLine, before_dashes, command_words, flags_of, flight_spelling, gives_text, is_dashes, is_flag, output_flag, output_names, output_of, output_words, plan_names, without_dashes}
 use Rattle.mm_command_line.specs.declared.task.Task.{Task}
 use Rattle.mm_command_line.specs.declared.task.Task.TheVariants.{Plan, Check, Chart, Table, Fly, Ask, Read}
 use Rattle.mm_command_line.proofs.Walking.{is_value}
@@ -78,48 +78,42 @@ names_undashed (name ∷ rest) all =
 
 -- ---- the words of a task
 
--- the first word of a command is no flag
-IsPlain : List Text → Type 0
-IsPlain words = (command : Text) × (words ≡ command ∷ drop 1 words) × (is_dashes command ≡ false) × (is_flag command ≡ false)
+named : (command : Text) (names : List Text) → starts_with nat_eq command (codes "-") ≡ false → All IsFileName names → All IsFileName (command ∷ names)
+named command names plain all = All-cons IsFileName command names (λ dashed. absurd (true≢false (sym dashed ∙ plain))) all
 
-plain_flight : (setup forecast sources links : Text) (plan : Option (Bor Text)) → IsPlain (flight_spelling setup forecast sources links plan)
-unfolding IsPlain
-plain_flight setup forecast sources links None = (codes "fly", refl, refl, refl)
-plain_flight setup forecast sources links (Some plan) = (codes "run", refl, refl, refl)
+named_flight : (setup forecast sources links : Text) (plan : Option (Bor Text)) → All IsFileName (drop 1 (flight_spelling setup forecast sources links plan))
+    → All IsFileName (flight_spelling setup forecast sources links plan)
+named_flight setup forecast sources links None names = named (codes "fly") (setup ∷ forecast ∷ sources ∷ links ∷ []) refl names
+named_flight setup forecast sources links (Some plan) names = named (codes "run") (setup ∷ forecast ∷ plan.now ∷ sources ∷ links ∷ []) refl names
 
-plain : (task : Task) → IsPlain (command_words task)
-unfolding IsPlain
-plain (Plan setup forecast output) = (codes "plan", refl, refl, refl)
-plain (Check files) = (codes "check", refl, refl, refl)
-plain (Chart files output) = (codes "chart", refl, refl, refl)
-plain (Table files output) = (codes "table", refl, refl, refl)
-plain (Fly f) = plain_flight f.setup.now f.forecast.now f.sources.now f.links.now f.plan
-plain (Ask setup requests) = (codes "ask", refl, refl, refl)
-plain (Read packets) = (codes "read", refl, refl, refl)
+-- where no file is spelled like a flag, no word of a command is
+no_flags : (task : Task) → All IsFileName (drop 1 (command_words task)) → All IsFileName (command_words task)
+no_flags (Plan setup forecast output) names = named (codes "plan") (setup.now ∷ forecast.now ∷ []) refl names
+no_flags (Check files) names = named (codes "check") (plan_names files) refl names
+no_flags (Chart files output) names = named (codes "chart") (plan_names files) refl names
+no_flags (Table files output) names = named (codes "table") (plan_names files) refl names
+no_flags (Fly f) names = named_flight f.setup.now f.forecast.now f.sources.now f.links.now f.plan names
+no_flags (Ask setup requests) names = named (codes "ask") (setup.now ∷ requests.now ∷ []) refl names
+no_flags (Read packets) names = named (codes "read") (packets.now ∷ []) refl names
 
--- no word of a command is `--`
-command_undashed : (words : List Text) → IsPlain words → All IsFileName (drop 1 words) → list_any is_dashes words ≡ false
-unfolding IsPlain
-command_undashed words (command, is, no_dashes, unflagged) names =
-    ap (list_any is_dashes) is ∙ ap₂ (λ b c. b || c) no_dashes (names_undashed (drop 1 words) names)
+pub line_names : (words : List Text) → IsCommandLine words → All IsFileName words
+line_names words line =
+    subst (All IsFileName) line.spelled (no_flags line.task (subst (λ ws. All IsFileName (drop 1 ws)) (sym line.spelled) line.names))
 
--- and none is that of an output
+-- and none is `--`
+pub line_whole : (words : List Text) → IsCommandLine words → without_dashes words ≡ words
+line_whole words line = (undashed words (names_undashed words (line_names words line))).0
+
+-- nor is one that of an output
 flag_is_no_name : IsFileName output_flag → ⊥
 flag_is_no_name name = true≢false (ap (λ word. bytes_eq word output_flag) (name refl))
 
-no_output : (words front : List Text) (name : Text) → IsPlain words → All IsFileName (drop 1 words) → words ≡ front ++ output_flag ∷ name ∷ [] → ⊥
-unfolding IsPlain chars
-no_output words [] name (command, is, no_dashes, unflagged) names ends =
-    true≢false (ap is_flag (same_head output_flag command _ _ (sym ends ∙ is)) ∙ unflagged)
-no_output words (first ∷ front) name (command, is, no_dashes, unflagged) names ends =
-    let later : All IsFileName (front ++ output_flag ∷ name ∷ []) = subst (All IsFileName) (ap (drop 1) ends) names in
-    flag_is_no_name (All-head IsFileName output_flag (name ∷ []) (All-back IsFileName front (output_flag ∷ name ∷ []) later))
+no_output : (words front : List Text) (name : Text) → All IsFileName words → words ≡ front ++ output_flag ∷ name ∷ [] → ⊥
+no_output words front name names ends =
+    flag_is_no_name (All-head IsFileName output_flag (name ∷ [])
+    (All-back IsFileName front (output_flag ∷ name ∷ []) (subst (All IsFileName) ends names)))
 
 -- ---- a line of a task, and its parts
-
-gives_flight : (setup forecast sources links : Text) (plan : Option (Bor Text)) → gives_text (flight_spelling setup forecast sources links plan) ≡ false
-gives_flight setup forecast sources links None = refl
-gives_flight setup forecast sources links (Some plan) = refl
 
 -- a task with an output gives a text
 pub gives : (task : Task) → is_some (output_of task) ≡ true → gives_text (command_words task) ≡ true
@@ -161,14 +155,14 @@ parts words front (Some name) (Some asked) line is split spelled names =
       named = ap is_some is;
     }
 parts words front (Some name) None line is split spelled names =
-    absurd (no_output (command_words line) front name.now (plain line) (All-front IsFileName (drop 1 (command_words line)) [] names)
+    absurd (no_output (command_words line) front name.now (no_flags line (All-front IsFileName (drop 1 (command_words line)) [] names))
     (sym (append-nil (command_words line)) ∙ spelled ∙ split.ends))
 parts words front None (Some asked) line is split spelled names =
     let named = All-front IsFileName (drop 1 (command_words line)) (asked.now ∷ []) names in
     absurd (split.1 (command_words line) asked.now (record {
       ends = sym spelled;
       name_is = All-head IsFileName asked.now [] (All-back IsFileName (drop 1 (command_words line)) (asked.now ∷ []) names);
-      undashed = command_undashed (command_words line) (plain line) named;
+      undashed = names_undashed (command_words line) (no_flags line named);
     }))
 parts words front None None line is split spelled names =
     let whole : command_words line ≡ front = sym (append-nil (command_words line)) ∙ spelled ∙ sym split.0 in

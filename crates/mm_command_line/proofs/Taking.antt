@@ -1,167 +1,161 @@
--- Words that spell a task are taken, and what is found for them spells that task.
-use Rattle.std.proofs.Common.{◌≡◌, ◌∙◌, ◌++◌, Bool, cond, true, false, true≢false, refl, sym, ap, subst, arith, append_assoc, drop, length, List, [], ◌∷◌, Option, Some, None, is_some, codes}
+-- Words that spell a command are taken.
+use Rattle.std.proofs.Common.{◌≡◌, ◌∙◌, ◌++◌, ◌&&◌, ℕ, zero, suc, Bool, cond, true, false, true≢false, refl, sym, ap, ap₂, subst, arith, drop, length, map, List, [], ◌∷◌, Option, Some, None, is_some, codes}
 use Rattle.std.specs.Borrow.{Bor}
-use Rattle.std.specs.List.{All, find}
-use Rattle.std.specs.Option.{option_and_then, option_map, unwrap_or}
+use Rattle.std.specs.List.{All, find, fold, list_all}
+use Rattle.std.specs.Option.{option_map, option_map_or, unwrap_or}
+use Rattle.std.specs.Prelude.{slice_get}
 use Rattle.std.specs.Str.{bytes_eq}
-use Rattle.std.proofs.lemmas.List.{append-nil}
-use Rattle.clap.specs.Walk.{Row, Text, answers_to, finished, nothing_held, walk_from}
-use Rattle.clap.specs.Simple.{App, HasMatchesOf, Shape, is_simple, subcommand_rows_of, built_leaf, inherited, label_of, subcommand_of}
-use Rattle.clap.specs.Takes.{takes}
-use Rattle.clap.specs.declared.parser.matches.ArgMatches.{ArgMatches}
-use Rattle.mm_command_line.specs.Commands.{Form, app_by, ask, chart, check, commands, fly, line_found, line_of, line_read, names_read, plan, read, run, table, tool}
-use Rattle.mm_command_line.specs.Lines.{IsFileName, IsCommandLine, flight_spelling, is_flag, command_words}
+use Rattle.clap.specs.Walk.{Names, Rule, Text, Walk, answers_to, finished, nothing_held, walk, walk_from, walked}
+use Rattle.clap.specs.Simple.{App, Shape, built, built_leaf, entered, inherited, label_of, names_of, rows_at}
+use Rattle.clap.specs.Takes.{default_passes, entered_passes, is_valid, level_passes, settle_passes, takes, turn_passes, walk_passes}
+use Rattle.clap.proofs.OnLiterals.{clap_on_literals}
+use Rattle.clap.proofs.WalkLemmas.{walk_stopped}
+use Rattle.mm_command_line.specs.Commands.{Entry, app_by, commands, tool}
+use Rattle.mm_command_line.specs.Lines.{IsCommandLine, IsFileName, command_words, flight_spelling, plan_names}
 use Rattle.mm_command_line.specs.declared.task.Task.{Task}
 use Rattle.mm_command_line.specs.declared.task.Task.TheVariants.{Plan, Check, Chart, Table, Fly, Ask, Read}
-use Rattle.mm_command_line.proofs.Entering.{IsMet, built_tool, meets, tool_enters, tool_simple, tool_takes}
-use Rattle.mm_command_line.proofs.Exact.{all_placed}
-use Rattle.mm_command_line.proofs.Walking.{end_of, level_passing, level_places, rows_placed}
+use Rattle.mm_command_line.proofs.Walking.{level_passing, level_places}
 
--- the words are taken, and are what is found
-pub record IsTaken (words : List Text) : Type 0 where
-  pub takes_all : takes tool words ≡ true
-  pub finds_all : line_found (subcommand_of tool words) ≡ Some words
+-- the program as the parser builds it
+abbrev built_tool : App
+built_tool = built tool
+
+abbrev rules : List Rule
+rules = built_tool.top.rules
+
+abbrev words_known : Names
+words_known = names_of built_tool
+
+abbrev start : Walk
+start = walk_from nothing_held
+
+-- the walk that met a command, and these words after it
+abbrev stopped_at : Text → List Text → Walk
+stopped_at word files = record start { stopped = Some (word, files) }
 
 -- a command as the parser builds it
-abbrev pub leaf : Form → Shape
-leaf form = built_leaf (inherited built_tool.top (app_by form).top)
+abbrev leaf : Entry → Shape
+leaf entry = built_leaf (inherited built_tool.top (app_by entry).top)
 
--- what is found for words that are put to the files of a command
-abbrev pub rows_found : Form → List Text → List Row
-rows_found form files = finished (leaf form).rules (end_of (leaf form) files)
+-- a word for each of these files
+abbrev words_for : (ℕ → Text) → List Text → List Text
+words_for word [] = []
+words_for word (id ∷ ids) = word 0 ∷ words_for (λ k. word (suc k)) ids
 
--- a command takes these words, and each is found for its file
-pub record Reads (form : Form) (words : List Text) : Type 0 where
-  pub passes : level_places (leaf form) words ≡ true
-  pub found : names_read form.1 (rows_found form words) ≡ Some words
+-- ---- each row of the table
 
--- after these words, for which files are there, with a word for each further file the command reads them; with fewer a file has no word, and
--- with more a word has no file
-abbrev pub Counts : Form → List Text → List Text → Type 0
-Counts form [] words = Reads form words × ((word : Text) (rest : List Text) → all_placed (leaf form).rules (walk_from nothing_held) (words ++ word ∷ rest) ≡ false)
-Counts form (id ∷ ids) words = (names_read form.1 (rows_found form words) ≡ None) × ((word : Text) → Counts form ids (words ++ word ∷ []))
+-- two functions give the same for each
+record Agree {A : Type 0} (f g : Entry → A) : Type 0 where
+  same : map f commands ≡ map g commands
 
--- a command reads as many words as it has files
-reads_all : (form : Form) (ids words names : List Text) → Counts form ids words → length names ≡ length ids → Reads form (words ++ names)
-reads_all form [] words [] counts same = subst (Reads form) (sym (append-nil words)) counts.0
-reads_all form [] words (word ∷ rest) counts same = absurd (omega (arith, same))
-reads_all form (id ∷ ids) words [] counts same = absurd (omega (arith, same))
-reads_all form (id ∷ ids) words (word ∷ rest) counts same =
-    subst (Reads form) (append_assoc words (word ∷ []) rest) (reads_all form ids (words ++ word ∷ []) rest (counts.1 word) (omega (arith, same)))
+stops_each : Agree (λ e. walked rules words_known start e.0) (λ e. stopped_at e.0 [])
+unfolding clap_on_literals
+stops_each = record { same = refl }
 
--- the program has the command, under a word that is no flag
-pub record IsCommandOf (form : Form) : Type 0 where
-  pub met : IsMet form.0
-  pub entered : find (λ (s : Shape). answers_to form.0 (label_of s)) built_tool.subs ≡ Some (leaf form)
-  pub known : find (λ (f : Form). bytes_eq f.0 form.0) commands ≡ Some form
-  pub plain : bytes_eq form.0 (codes "--") ≡ false
-  pub unflagged : is_flag form.0 ≡ false
-  pub counts : Counts form form.1 []
+passes_each : Agree (λ e. turn_passes built_tool.top words_known start e.0) (λ e. true)
+unfolding clap_on_literals
+passes_each = record { same = refl }
 
--- P of each of these commands
-abbrev pub Each : (Form → Type 0) → List Form → Type 0
-Each P [] = Unit {0}
-Each P (form ∷ forms) = P form × Each P forms
+enters_each : Agree (λ e. find (λ (s : Shape). answers_to e.0 (label_of s)) built_tool.subs) (λ e. Some (leaf e))
+enters_each = record { same = refl }
 
--- the files of each command; those of three commands are the same
-counts_plan : Counts plan plan.1 []
-counts_plan = (refl, λ a. (refl, λ b. (record { passes = refl; found = refl }, λ x rest. refl)))
+takes_each : (word : ℕ → Text) → Agree (λ e. level_places (leaf e) (words_for word e.1)) (λ e. true)
+takes_each word = record { same = refl }
 
-counts_run : Counts run run.1 []
-counts_run = (refl, λ a. (refl, λ b. (refl, λ c. (refl, λ d. (refl, λ f. (record { passes = refl; found = refl }, λ x rest. refl))))))
-
-counts_fly : Counts fly fly.1 []
-counts_fly = (refl, λ a. (refl, λ b. (refl, λ c. (refl, λ d. (record { passes = refl; found = refl }, λ x rest. refl)))))
-
-counts_ask : Counts ask ask.1 []
-counts_ask = (refl, λ a. (refl, λ b. (record { passes = refl; found = refl }, λ x rest. refl)))
-
-counts_read : Counts read read.1 []
-counts_read = (refl, λ a. (record { passes = refl; found = refl }, λ x rest. refl))
-
-counts_check : (word : Text) → Counts (word, check.1) check.1 []
-counts_check word = (refl, λ a. (refl, λ b. (refl, λ c. (record { passes = refl; found = refl }, λ x rest. refl))))
-
--- each command, in their order
-pub has_each : Each IsCommandOf commands
-has_each = (
-  record { met = meets.0; entered = refl; known = refl; plain = refl; unflagged = refl; counts = counts_plan },
-  (
-    record { met = meets.1; entered = refl; known = refl; plain = refl; unflagged = refl; counts = counts_check check.0 },
-    (
-      record { met = meets.2; entered = refl; known = refl; plain = refl; unflagged = refl; counts = counts_check chart.0 },
-      (
-        record { met = meets.6; entered = refl; known = refl; plain = refl; unflagged = refl; counts = counts_check table.0 },
-        (
-          record { met = meets.3; entered = refl; known = refl; plain = refl; unflagged = refl; counts = counts_run },
-          (
-            record { met = meets.4; entered = refl; known = refl; plain = refl; unflagged = refl; counts = counts_fly },
-            (
-              record { met = meets.5; entered = refl; known = refl; plain = refl; unflagged = refl; counts = counts_ask },
-              (
-                record { met = meets.7; entered = refl; known = refl; plain = refl; unflagged = refl; counts = counts_read },
-                tt,
-              ),
-            ),
-          ),
-        ),
-      ),
-    ),
-  ),
-)
-
--- what holds of each command holds of one that is found
-each_found : (P : Form → Type 0) (test : Form → Bool) (forms : List Form) (form : Form) → Each P forms → find test forms ≡ Some form → P form
-each_found P test [] form each found = absurd (true≢false (sym (ap is_some found)))
-each_found P test (first ∷ rest) form each found = go (test first) refl (λ found. each_found P test rest form each.1 found)
+-- and so they do for one that is found
+alike : {A : Type 0} (f g : Entry → A) (test : Entry → Bool) (rows : List Entry) (row : Entry) → map f rows ≡ map g rows → find test rows ≡ Some row → f row ≡ g row
+alike f g test [] row same found = absurd (true≢false (sym (ap is_some found)))
+alike f g test (first ∷ rest) row same found = go (test first) refl (alike f g test rest row (ap (drop 1) same))
   where
-    go : (b : Bool) → test first ≡ b → (find test rest ≡ Some form → P form) → P form
-    go true is later = subst P (ap (λ o. unwrap_or o first) (sym (ap (λ b. cond b (Some first) (find test rest)) is) ∙ found)) each.0
+    go : (b : Bool) → test first ≡ b → (find test rest ≡ Some row → f row ≡ g row) → f row ≡ g row
+    go true is later = subst (λ e. f e ≡ g e) (ap (λ o. unwrap_or o first) (sym (ap (λ b. cond b (Some first) (find test rest)) is) ∙ found))
+        (ap (λ l. unwrap_or (slice_get l 0) (f first)) same)
     go false is later = later (sym (ap (λ b. cond b (Some first) (find test rest)) is) ∙ found)
 
--- what is read of the rows of a command is its line
-pub line_known : (form : Form) (rows : List Row) → IsCommandOf form → line_read form.0 rows ≡ line_of form rows
-line_known form rows has = ap (option_and_then (λ f. line_of f rows)) has.known
+agree : {A : Type 0} (f g : Entry → A) (test : Entry → Bool) (entry : Entry) → Agree f g → find test commands ≡ Some entry → f entry ≡ g entry
+agree f g test entry each found = alike f g test commands entry each.same found
 
--- a line with a word for each file of a command is taken
-line_taken : (form : Form) (files : List Text) → All IsFileName files → find (λ (f : Form). bytes_eq f.0 form.0) commands ≡ Some form → length files ≡ length form.1
-    → IsTaken (form.0 ∷ files)
-line_taken form files names known same =
-    let has : IsCommandOf form = each_found IsCommandOf (λ f. bytes_eq f.0 form.0) commands form has_each known in
-    let reads : Reads form files = reads_all form form.1 [] files has.counts same in
-    record {
-      takes_all = tool_takes form.0 files (leaf form) has.met has.entered (level_passing (leaf form) files names ∙ reads.passes);
-      finds_all = ap line_found (tool_enters form.0 files (leaf form) has.met has.entered)
-          ∙ ap (line_read form.0) (rows_placed (leaf form) files names)
-          ∙ line_known form (rows_found form files) has
-          ∙ ap (option_map (λ names. form.0 ∷ names)) reads.found;
-    }
+-- ---- a line of a row
 
-taken_flight : (setup forecast sources links : Text) (plan : Option (Bor Text)) → All IsFileName (drop 1 (flight_spelling setup forecast sources links plan))
-    → IsTaken (flight_spelling setup forecast sources links plan)
-taken_flight setup forecast sources links None names = line_taken fly _ names refl refl
-taken_flight setup forecast sources links (Some by) names = line_taken run _ names refl refl
+word_at : List Text → ℕ → Text
+word_at [] k = []
+word_at (word ∷ rest) zero = word
+word_at (word ∷ rest) (suc k) = word_at rest k
 
-taken_task : (task : Task) → All IsFileName (drop 1 (command_words task)) → IsTaken (command_words task)
-taken_task (Plan setup forecast output) names = line_taken plan _ names refl refl
-taken_task (Check files) names = line_taken check _ names refl refl
-taken_task (Chart files output) names = line_taken chart _ names refl refl
-taken_task (Table files output) names = line_taken table _ names refl refl
-taken_task (Fly files) names = taken_flight files.setup.now files.forecast.now files.sources.now files.links.now files.plan names
-taken_task (Ask setup requests) names = line_taken ask _ names refl refl
-taken_task (Read packets) names = line_taken read _ names refl refl
+words_are : (words ids : List Text) → length words ≡ length ids → words_for (word_at words) ids ≡ words
+unfolding word_at
+words_are [] [] same = refl
+words_are [] (id ∷ ids) same = absurd (omega (arith, same))
+words_are (word ∷ rest) [] same = absurd (omega (arith, same))
+words_are (word ∷ rest) (id ∷ ids) same = ap (λ ws. word ∷ ws) (words_are rest ids (omega (arith, same)))
 
--- a line of a task is taken
-pub taken : (words : List Text) → IsCommandLine words → IsTaken words
-taken words line =
-    subst IsTaken line.spelled (taken_task line.task (subst (λ ws. All IsFileName (drop 1 ws)) (sym line.spelled) line.names))
+-- what follows the command passes at the program's level
+stopped_passes : (word : Text) (seen words : List Text) → walk_passes built_tool.top words_known (stopped_at word seen) words ≡ true
+unfolding walk_passes walked
+stopped_passes word seen [] = refl
+stopped_passes word seen (x ∷ xs) = stopped_passes word (seen ++ x ∷ []) xs
 
--- the task that is read of a parse of a line spells that line
-pub spells : (app : App) (words : List Text) (m : ArgMatches) (said : Option (List Text)) → app ≡ tool → HasMatchesOf app words m → said ≡ line_found (subcommand_rows_of m)
-    → IsCommandLine words → said ≡ Some words
-spells app words m said is matches found line =
-    found ∙ ap line_found ((matches (ap is_simple is ∙ tool_simple)).1 ∙ ap (λ a. subcommand_of a words) is) ∙ (taken words line).finds_all
+-- the row of a word
+abbrev by : Text → Entry → Bool
+by word entry = bytes_eq entry.0 word
 
--- and the parse is of words that the program takes
+module _ (test : Entry → Bool) (entry : Entry) (files : List Text) (known : find test commands ≡ Some entry) where
+  stops : walked rules words_known start entry.0 ≡ stopped_at entry.0 []
+  stops = agree _ _ test entry stops_each known
+
+  walk_is : walk rules words_known nothing_held (entry.0 ∷ files) ≡ stopped_at entry.0 files
+  walk_is = ap (λ w. fold (walked rules words_known) w files) stops ∙ sym (walk_stopped rules words_known start entry.0 [] files)
+
+  top_passes : walk_passes built_tool.top words_known start (entry.0 ∷ files) ≡ true
+  unfolding walk_passes
+  top_passes = ap₂ (λ b c. b && c) (agree _ _ test entry passes_each known)
+      (ap (λ w. walk_passes built_tool.top words_known w files) stops ∙ stopped_passes entry.0 [] files)
+
+  level_top : level_passes built_tool.top words_known nothing_held (entry.0 ∷ files) true ≡ true
+  level_top = ap₂ (λ passes (w : Walk). passes && (settle_passes rules built_tool.top.args_override_self w.held
+      && (list_all default_passes rules && is_valid built_tool.top (finished rules w.held) true))) top_passes walk_is
+
+  found : find (λ (s : Shape). answers_to entry.0 (label_of s)) built_tool.subs ≡ Some (leaf entry)
+  found = agree _ _ test entry enters_each known
+
+  -- the command takes a word for each of its files
+  leaf_takes : All IsFileName files → length files ≡ length entry.1 → level_passes (leaf entry) [] nothing_held files false ≡ true
+  leaf_takes names same = level_passing (leaf entry) files names ∙ ap (level_places (leaf entry)) (sym (words_are files entry.1 same))
+      ∙ agree _ _ test entry (takes_each (word_at files)) known
+
+  -- and so does the program
+  row_takes : All IsFileName files → length files ≡ length entry.1 → takes tool (entry.0 ∷ files) ≡ true
+  row_takes names same =
+      let enters : entered built_tool (Some (entry.0, files)) ≡ Some (rows_at (leaf entry) files) = ap (option_map (λ s. rows_at s files)) found in
+      let below : entered_passes built_tool (Some (entry.0, files)) ≡ true =
+      ap (λ o. option_map_or (λ s. level_passes s [] nothing_held files false) o true) found ∙ leaf_takes names same in
+      let at_stop : Option (Text × List Text) → Bool =
+      λ stop. entered_passes built_tool stop && level_passes built_tool.top words_known nothing_held (entry.0 ∷ files) (is_some (entered built_tool stop)) in
+      ap (λ (w : Walk). at_stop w.stopped) walk_is
+      ∙ ap₂ (λ b o. b && level_passes built_tool.top words_known nothing_held (entry.0 ∷ files) (is_some o)) below enters
+      ∙ level_top
+
+-- ---- the line of a task
+
+abbrev row : Text → Entry
+row word = unwrap_or (find (by word) commands) ([], [])
+
+takes_flight : (setup forecast sources links : Text) (plan : Option (Bor Text)) → All IsFileName (drop 1 (flight_spelling setup forecast sources links plan))
+    → takes tool (flight_spelling setup forecast sources links plan) ≡ true
+takes_flight setup forecast sources links None names = row_takes (by (codes "fly")) (row (codes "fly")) (setup ∷ forecast ∷ sources ∷ links ∷ []) refl names refl
+takes_flight setup forecast sources links (Some plan) names = row_takes (by (codes "run")) (row (codes "run")) (setup ∷ forecast ∷ plan.now ∷ sources ∷ links ∷ []) refl names refl
+
+takes_task : (task : Task) → All IsFileName (drop 1 (command_words task)) → takes tool (command_words task) ≡ true
+takes_task (Plan setup forecast output) names = row_takes (by (codes "plan")) (row (codes "plan")) (setup.now ∷ forecast.now ∷ []) refl names refl
+takes_task (Check files) names = row_takes (by (codes "check")) (row (codes "check")) (plan_names files) refl names refl
+takes_task (Chart files output) names = row_takes (by (codes "chart")) (row (codes "chart")) (plan_names files) refl names refl
+takes_task (Table files output) names = row_takes (by (codes "table")) (row (codes "table")) (plan_names files) refl names refl
+takes_task (Fly files) names = takes_flight files.setup.now files.forecast.now files.sources.now files.links.now files.plan names
+takes_task (Ask setup requests) names = row_takes (by (codes "ask")) (row (codes "ask")) (setup.now ∷ requests.now ∷ []) refl names refl
+takes_task (Read packets) names = row_takes (by (codes "read")) (row (codes "read")) (packets.now ∷ []) refl names refl
+
+-- the program takes the words of a command
 pub passes : (app : App) (words : List Text) → app ≡ tool → IsCommandLine words → takes app words ≡ true
-passes app words is line = ap (λ a. takes a words) is ∙ (taken words line).takes_all
+passes app words is line =
+    let names = subst (λ ws. All IsFileName (drop 1 ws)) (sym line.spelled) line.names in
+    ap (λ a. takes a words) is ∙ ap (takes tool) (sym line.spelled) ∙ takes_task line.task names

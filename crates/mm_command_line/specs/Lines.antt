@@ -89,6 +89,11 @@ before_dashes (word ∷ rest) = if bytes_eq word (codes "--") then [] else word 
 abbrev pub is_flag : List ℕ → Bool
 is_flag word = starts_with nat_eq word (codes "-") && nat_lt 1 (length (chars word))
 
+-- the line is the words without the first `--`, and no word before that is a flag
+pub record ArePlain (words line : List (List ℕ)) : Type 0 where
+  pub same : line ≡ without_dashes words
+  pub unflagged : list_any is_flag (before_dashes words) ≡ false
+
 -- the flags in the words of a task
 abbrev pub flags_of : Task → List (List ℕ)
 flags_of task = option_map_or (λ name. output_flag ∷ []) (output_of task) []

@@ -3,6 +3,7 @@
 
 mod chart;
 mod command;
+mod commands;
 mod flight;
 mod line;
 mod read;

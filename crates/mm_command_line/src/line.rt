@@ -1,136 +1,112 @@
 //! The words of a command line, read as a task.
-ghost use Rattle.std.specs.Prelude.{◌≡◌, ◌↔◌, ◌⊎◌, ℕ, List, [], ◌∷◌, IfErr, IfOk, IfNone, IfSome, IsTrue, false, map, option_map};
-ghost use Rattle.std.specs.List.{filter, list_any};
-ghost use Rattle.clap.specs.Words.{found_of, kind_of, rows_of, subcommand_rows_of};
+ghost use Rattle.std.specs.Prelude.{◌≡◌, ◌↔◌, ◌⊎◌, ℕ, List, [], ◌∷◌, IfErr, IfOk, IfNone, IfSome, IsTrue, false, map};
+ghost use Rattle.std.specs.List.{All, filter, list_any};
+ghost use Rattle.clap.specs.Words.{kind_of};
 ghost use Rattle.clap.specs.declared.error.kind.ErrorKind.TheVariants.{OutOfMemory};
-ghost use Rattle.mm_command_line.specs.Commands.{ask, chart, check, fly, line_found, line_of, line_read, names_read, plan, read, run, table};
-ghost use Rattle.mm_command_line.specs.Lines.{EndsWithOutput, IsCommandLine, IsFileName, IsSplit, IsTaskLine, before_dashes, command_words, flags_of, is_dashes, is_flag, plan_names, spelling, without_dashes};
+ghost use Rattle.mm_command_line.specs.Lines.{ArePlain, EndsWithOutput, IsCommandLine, IsFileName, IsSplit, IsTaskLine, before_dashes, command_words, flags_of, is_dashes, is_flag, spelling, without_dashes};
 
 use crate::command::tool_command;
 use crate::task::{FlightFiles, PlanFiles, Task};
 use clap::error::ErrorKind;
-use clap::{ArgMatches, Command, Error};
-use std::alloc::Global;
+use clap::{Command, Error};
+use std::alloc::{AllocError, Global};
 use std::convert::AsStr;
 
 /// The word before the name of an output.
 const OUTPUT: &str = "--output";
 
-// The words that were found for two files, by what help calls them.
-fn two<'a>(files: &ArgMatches<'a>, first: &str, second: &str) -> Option<(&'a str, &'a str)>
-    ensures names { option_map (λ names. names.0.now ∷ names.1.now ∷ []) result
-        ≡ names_read (first.now ∷ second.now ∷ []) (rows_of (found_of files.now)) }
+// The task that the words of a command ask for, without its output.
+fn task_of<'a>(words: &[&'a str]) -> Option<Task<'a>>
+    ensures spelled { IfSome result (λ task. command_words task ≡ map (λ word. word.now) words.now) }
+    ensures none { IfNone result ((task : Task) → command_words task ≡ map (λ word. word.now) words.now → ⊥) }
 {
-    Some((files.get_str(first)?, files.get_str(second)?))
-}
-
-fn plan_task<'a>(files: &ArgMatches<'a>) -> Option<Task<'a>>
-    ensures line { option_map command_words result ≡ line_of plan (rows_of (found_of files.now)) }
-{
-    let (setup, forecast) = two(files, "SETUP", "FORECAST")?;
-    Some(Task::Plan {
-        setup,
-        forecast,
-        output: None,
-    })
-}
-
-fn plan_files<'a>(files: &ArgMatches<'a>) -> Option<PlanFiles<'a>>
-    ensures line { option_map plan_names result ≡ names_read check.1 (rows_of (found_of files.now)) }
-{
-    let (setup, forecast) = two(files, "SETUP", "FORECAST")?;
-    let plan = files.get_str("PLAN")?;
-    Some(PlanFiles {
-        setup,
-        forecast,
-        plan,
-    })
-}
-
-fn chart_task<'a>(files: &ArgMatches<'a>) -> Option<Task<'a>>
-    ensures line { option_map command_words result ≡ line_of chart (rows_of (found_of files.now)) }
-{
-    Some(Task::Chart {
-        files: plan_files(files)?,
-        output: None,
-    })
-}
-
-fn table_task<'a>(files: &ArgMatches<'a>) -> Option<Task<'a>>
-    ensures line { option_map command_words result ≡ line_of table (rows_of (found_of files.now)) }
-{
-    Some(Task::Table {
-        files: plan_files(files)?,
-        output: None,
-    })
-}
-
-fn run_task<'a>(files: &ArgMatches<'a>) -> Option<Task<'a>>
-    ensures line { option_map command_words result ≡ line_of run (rows_of (found_of files.now)) }
-{
-    let names = plan_files(files)?;
-    let (sources, links) = two(files, "SOURCES", "LINKS")?;
-    Some(Task::Fly(FlightFiles {
-        setup: names.setup,
-        forecast: names.forecast,
-        plan: Some(names.plan),
-        sources,
-        links,
-    }))
-}
-
-fn fly_task<'a>(files: &ArgMatches<'a>) -> Option<Task<'a>>
-    ensures line { option_map command_words result ≡ line_of fly (rows_of (found_of files.now)) }
-{
-    let (setup, forecast) = two(files, "SETUP", "FORECAST")?;
-    let (sources, links) = two(files, "SOURCES", "LINKS")?;
-    Some(Task::Fly(FlightFiles {
-        setup,
-        forecast,
-        plan: None,
-        sources,
-        links,
-    }))
-}
-
-fn ask_task<'a>(files: &ArgMatches<'a>) -> Option<Task<'a>>
-    ensures line { option_map command_words result ≡ line_of ask (rows_of (found_of files.now)) }
-{
-    let (setup, requests) = two(files, "SETUP", "REQUESTS")?;
-    Some(Task::Ask { setup, requests })
-}
-
-fn read_task<'a>(files: &ArgMatches<'a>) -> Option<Task<'a>>
-    ensures line { option_map command_words result ≡ line_of read (rows_of (found_of files.now)) }
-{
-    let packets = files.get_str("PACKETS")?;
-    Some(Task::Read { packets })
-}
-
-// The task of a command, with the files that were found for it.
-fn task_of<'a>(command: &str, files: &ArgMatches<'a>) -> Option<Task<'a>>
-    ensures line { option_map command_words result ≡ line_read command.now (rows_of (found_of files.now)) }
-{
-    match command {
-        "plan" => plan_task(files),
-        "check" => Some(Task::Check(plan_files(files)?)),
-        "chart" => chart_task(files),
-        "table" => table_task(files),
-        "run" => run_task(files),
-        "fly" => fly_task(files),
-        "ask" => ask_task(files),
-        "read" => read_task(files),
+    match *words {
+        ["plan", setup, forecast] => Some(Task::Plan {
+            setup,
+            forecast,
+            output: None,
+        }),
+        ["check", setup, forecast, plan] => Some(Task::Check(PlanFiles {
+            setup,
+            forecast,
+            plan,
+        })),
+        ["chart", setup, forecast, plan] => Some(Task::Chart {
+            files: PlanFiles {
+                setup,
+                forecast,
+                plan,
+            },
+            output: None,
+        }),
+        ["table", setup, forecast, plan] => Some(Task::Table {
+            files: PlanFiles {
+                setup,
+                forecast,
+                plan,
+            },
+            output: None,
+        }),
+        ["run", setup, forecast, plan, sources, links] => Some(Task::Fly(FlightFiles {
+            setup,
+            forecast,
+            plan: Some(plan),
+            sources,
+            links,
+        })),
+        ["fly", setup, forecast, sources, links] => Some(Task::Fly(FlightFiles {
+            setup,
+            forecast,
+            plan: None,
+            sources,
+            links,
+        })),
+        ["ask", setup, requests] => Some(Task::Ask { setup, requests }),
+        ["read", packets] => Some(Task::Read { packets }),
         _ => None,
     }
 }
 
-// The task that the matches ask for; none where they are of no command of the program.
-fn task_in<'a>(matches: &ArgMatches<'a>) -> Option<Task<'a>>
-    ensures line { option_map command_words result ≡ line_found (subcommand_rows_of matches.now) }
+// Whether a word is no flag.
+fn is_file_name(word: &str) -> bool
+    ensures is { IsTrue result ↔ IsFileName word.now }
 {
-    match matches.subcommand() {
-        Some((command, files)) => task_of(command, files),
-        None => None,
+    !word.starts_with('-') || word == "-"
+}
+
+// The words without the first `--`; none where a flag stands before that.
+fn plain_words<'a, S: AsStr>(
+    alloc: Global,
+    words: &'a [S],
+) -> Result<Option<Vec<&'a str>>, AllocError>
+    ensures plain { IfOk result (λ plain. IfSome plain (λ plain. ArePlain (map S.text words.entry.now) (map (λ word. word.now) plain.items))) }
+    ensures flagged { IfOk result (λ plain. IfNone plain (All IsFileName (map S.text words.entry.now) → ⊥)) }
+{
+    let mut plain = Vec::new(alloc);
+    let mut after_dashes = false;
+    for word in words {
+        let word = word.as_str();
+        if after_dashes {
+            plain.push(word)?;
+        } else if word == "--" {
+            after_dashes = true;
+        } else if is_file_name(word) {
+            plain.push(word)?;
+        } else {
+            return Ok(None);
+        }
+    }
+    Ok(Some(plain))
+}
+
+// The task that words ask for which have no output, without the first `--`; none where a flag stands before that.
+fn read_words<'a, S: AsStr>(alloc: Global, words: &'a [S]) -> Result<Option<Task<'a>>, AllocError>
+    ensures spelled { IfOk result (λ task. IfSome task (λ task. ArePlain (map S.text words.entry.now) (command_words task))) }
+    ensures none { IfOk result (λ task. IfNone task (IsCommandLine (map S.text words.entry.now) → ⊥)) }
+{
+    match plain_words(alloc, words)? {
+        Some(words) => Ok(task_of(&words)),
+        None => Ok(None),
     }
 }
 
@@ -144,7 +120,7 @@ fn refusal(command: &mut Command<'_>, kind: ErrorKind, message: &str) -> Error
     }
 }
 
-// What words without an output ask for; the error has the text for the user.
+// What words without an output ask for. `clap` reads them, and what it refuses is no command; the error has the text for the user.
 fn parse_command<'a, S: AsStr>(alloc: Global, words: &'a [S]) -> Result<Task<'a>, Error>
     // Words that spell a command give its task and nothing else.
     ensures taken { IsCommandLine (map S.text words.entry.now)
@@ -158,8 +134,8 @@ fn parse_command<'a, S: AsStr>(alloc: Global, words: &'a [S]) -> Result<Task<'a>
     ensures unflagged { IfOk result (λ task. list_any is_flag (before_dashes (map S.text words.entry.now)) ≡ false) }
 {
     let mut command = tool_command(alloc)?;
-    let matches = command.try_get_matches_from_mut(words)?;
-    match task_in(&matches) {
+    command.try_get_matches_from_mut(words)?;
+    match read_words(alloc, words)? {
         Some(task) => Ok(task),
         None => Err(refusal(
             &mut command,
@@ -167,13 +143,6 @@ fn parse_command<'a, S: AsStr>(alloc: Global, words: &'a [S]) -> Result<Task<'a>
             "no such command",
         )),
     }
-}
-
-// Whether a word is no flag.
-fn is_file_name(word: &str) -> bool
-    ensures is { IsTrue result ↔ IsFileName word.now }
-{
-    !word.starts_with('-') || word == "-"
 }
 
 fn has_dashes<S: AsStr>(words: &[S]) -> bool

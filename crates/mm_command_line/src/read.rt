@@ -1,16 +1,8 @@
-//! The command `read`: packets of the storage service in words and numbers.
-ghost use Rattle.std.specs.Prelude.{IfOk};
-ghost use Rattle.mm_command_line.specs.Commands.{IsCommand, read};
+//! The help of the command `read`: packets of the storage service in words and numbers.
 
-use crate::command::file_command;
-use clap::Command;
-use std::alloc::{AllocError, Global};
+pub(crate) const ABOUT: &str = "Says in words what packets of the storage service hold";
 
-const ABOUT: &str = "Says in words what packets of the storage service hold";
-
-const PACKETS_HELP: &str = "The packets: one per line, in hexadecimal digits";
-
-const HELP: &str = "\
+pub(crate) const HELP: &str = "\
 Each line of PACKETS is a request or a report of service 15 in hexadecimal digits. Spaces between digits are
 passed over, and so are empty lines. A line `N report HEX` of `ask` is read as that report; the other lines
 of `ask` are printed as they stand. Prints for line N:
@@ -26,10 +18,3 @@ Examples:
   mm_tool ask setup.toml requests.hex > answers.txt; mm_tool read answers.txt
 
 The formats are described in docs/FORMATS.md. Exit status: 0 where each packet is read, 1 otherwise.";
-
-/// The command `read`, with its file.
-pub(crate) fn read_command<'a>(alloc: Global) -> Result<Command<'a>, AllocError>
-    ensures files { IfOk result (IsCommand read) }
-{
-    file_command(alloc, "read", ABOUT, HELP, "PACKETS", PACKETS_HELP)
-}

@@ -1,20 +1,20 @@
-use Rattle.std.proofs.Common.{refl}
-use Rattle.mm_command_line.specs.Commands.{ask, chart, check, fly, plan, read, run, table}
-use Rattle.mm_command_line.proofs.Reading.{differs}
+use Rattle.std.proofs.Common.{◌≡◌, ℕ, List, Bor, Option, Some, None, map, arith}
+use Rattle.mm_command_line.specs.Lines.{flight_spelling}
+use Rattle.mm_command_line.specs.declared.task.Task.TheVariants.{Plan, Check, Chart, Table, Fly, Ask, Read}
+use Rattle.mm_command_line.proofs.Plain.{count_is, first_is}
+use Rattle.mm_command_line.proofs.line.task_of.Goals.{In_default}
 use Rattle.mm_command_line.proofs.line.task_of.Goals as goal
 
-pub returns-in_default : goal.returns-in_default
-returns-in_default c =
-    let word = c.args.command.now in
-    record {
-      line = rw (
-        differs plan.0 word c.in_default.not-plan,
-        differs check.0 word c.in_default.not-check,
-        differs chart.0 word c.in_default.not-chart,
-        differs table.0 word c.in_default.not-table,
-        differs run.0 word c.in_default.not-run,
-        differs fly.0 word c.in_default.not-fly,
-        differs ask.0 word c.in_default.not-ask,
-        differs read.0 word c.in_default.not-read,
-      ) refl;
-    }
+no_flight : (c : In_default) (setup forecast sources links : List ℕ) (plan : Option (Bor (List ℕ)))
+    → flight_spelling setup forecast sources links plan ≡ map (λ word. word.now) c.args.words.now → ⊥
+no_flight c setup forecast sources links None is = grind (arith, count_is _ _ is, first_is _ _ is)
+no_flight c setup forecast sources links (Some plan) is = grind (arith, count_is _ _ is, first_is _ _ is)
+
+pub returns-in_default-clause-none : goal.returns-in_default-clause-none
+returns-in_default-clause-none c (Plan setup forecast output) is = grind (arith, count_is _ _ is, first_is _ _ is)
+returns-in_default-clause-none c (Check files) is = grind (arith, count_is _ _ is, first_is _ _ is)
+returns-in_default-clause-none c (Chart files output) is = grind (arith, count_is _ _ is, first_is _ _ is)
+returns-in_default-clause-none c (Table files output) is = grind (arith, count_is _ _ is, first_is _ _ is)
+returns-in_default-clause-none c (Fly files) is = no_flight c files.setup.now files.forecast.now files.sources.now files.links.now files.plan is
+returns-in_default-clause-none c (Ask setup requests) is = grind (arith, count_is _ _ is, first_is _ _ is)
+returns-in_default-clause-none c (Read packets) is = grind (arith, count_is _ _ is, first_is _ _ is)

@@ -1,0 +1,156 @@
+//! The commands of the program: a row for each, in the order in which help tells them.
+
+use crate::command::{File, Form};
+use crate::{chart, flight, read, table};
+
+const SETUP: File = File {
+    name: "SETUP",
+    help: "The packet stores, routes and limits of channels, in TOML",
+};
+
+const FORECAST: File = File {
+    name: "FORECAST",
+    help: "The windows and arrivals of each step, in CSV",
+};
+
+const PLAN: File = File {
+    name: "PLAN",
+    help: "The dump plan with its loss and its cut",
+};
+
+const FLOWN_PLAN: File = File {
+    name: "PLAN",
+    help: "The dump plan; its loss and its cut are not judged",
+};
+
+const SOURCES: File = File {
+    name: "SOURCES",
+    help: "The packets: lines `source step HEX`",
+};
+
+const LINKS: File = File {
+    name: "LINKS",
+    help: "The links: `links N`, then lines `fail LINK SEND`",
+};
+
+const REQUESTS: File = File {
+    name: "REQUESTS",
+    help: "The requests: a telecommand per line, in hexadecimal digits",
+};
+
+const PACKETS: File = File {
+    name: "PACKETS",
+    help: "The packets: one per line, in hexadecimal digits",
+};
+
+pub(crate) static COMMANDS: [Form; 8] = [
+    Form {
+        word: "plan",
+        about: PLAN_ABOUT,
+        help: PLAN_HELP,
+        files: &[SETUP, FORECAST],
+    },
+    Form {
+        word: "check",
+        about: CHECK_ABOUT,
+        help: CHECK_HELP,
+        files: &[SETUP, FORECAST, PLAN],
+    },
+    Form {
+        word: "chart",
+        about: chart::ABOUT,
+        help: chart::HELP,
+        files: &[SETUP, FORECAST, PLAN],
+    },
+    Form {
+        word: "table",
+        about: table::ABOUT,
+        help: table::HELP,
+        files: &[SETUP, FORECAST, PLAN],
+    },
+    Form {
+        word: "run",
+        about: flight::RUN_ABOUT,
+        help: flight::RUN_HELP,
+        files: &[SETUP, FORECAST, FLOWN_PLAN, SOURCES, LINKS],
+    },
+    Form {
+        word: "fly",
+        about: flight::FLY_ABOUT,
+        help: flight::FLY_HELP,
+        files: &[SETUP, FORECAST, SOURCES, LINKS],
+    },
+    Form {
+        word: "ask",
+        about: ASK_ABOUT,
+        help: ASK_HELP,
+        files: &[SETUP, REQUESTS],
+    },
+    Form {
+        word: "read",
+        about: read::ABOUT,
+        help: read::HELP,
+        files: &[PACKETS],
+    },
+];
+
+const PLAN_ABOUT: &str = "Plans the dumps so that the fewest blocks are lost";
+
+const PLAN_HELP: &str = "\
+Prints a plan text:
+  mmplan 1 or 2               the form; 2 has `count` lines
+  stores ID ..                the stores
+  dump T N ..                 how many blocks leave each store in step T
+  loss N                      how many blocks are lost
+  stretch ID I J              the cut: steps I to J of a store
+  count T channels            in step T of the cut the limits of channels count, and not the window
+  bound N                     no plan that fits loses fewer than N blocks; it is the loss
+  end
+or one line:
+  refused NUMBER NAME ..      a file was not read, or is not what it should be
+
+Option, after the files:
+  --output FILE               the plan text goes into FILE, whole or not at all, and is not printed; FILE is
+                              none of the files above
+
+Examples:
+  mm_tool plan setup.toml forecast.csv
+  mm_tool plan setup.toml forecast.csv --output plan.txt
+
+The formats are described in docs/FORMATS.md. Exit status: 0 for a plan text, 1 for a refusal.";
+
+const CHECK_ABOUT: &str = "Says whether the cut of a dump plan shows that it loses least";
+
+const CHECK_HELP: &str = "\
+Prints one line:
+  least N                     no plan that fits loses fewer than N blocks, and the cut shows it
+  does not fit, step T        step T dumps more than its window or a channel's limit
+  loss is N                   the plan loses N blocks, and not what its text says
+  bad stretch K               the K-th stretch is none of the problem's, or overlaps an earlier one
+  bad count K                 the K-th count cannot stand in this cut
+  bound is N                  the bound of the cut is N, and not what the text says
+  not shown, loss N bound M   the plan loses N, and the cut shows only that none loses fewer than M
+  refused NUMBER NAME ..      a file was not read, or is not what it should be
+
+Example:
+  mm_tool check setup.toml forecast.csv plan.txt
+
+The formats are described in docs/FORMATS.md. Exit status: 0 for `least`, 1 for any other line.";
+
+const ASK_ABOUT: &str = "Answers requests of the storage service in a memory of the setup";
+
+const ASK_HELP: &str = "\
+The memory begins with the stores of the setup, empty and with their storage on. Line n of REQUESTS is
+a telecommand of service 15, applied at the moment n; empty lines are passed over and counted. For each
+other line, the answers to its instructions and then its reports are printed:
+  N.K done                    instruction K of line N is carried out
+  N.K refused NUMBER NAME     instruction K is refused, and has changed nothing
+  N report HEX                a report, a telemetry packet in hexadecimal digits
+  N refused NUMBER NAME       line N is no request, and nothing of it is done
+or one line:
+  refused NUMBER NAME ..      a file was not read, or is not what it should be
+
+Example:
+  mm_tool ask setup.toml requests.hex
+
+The formats are described in docs/FORMATS.md. Exit status: 0 where nothing is refused, 1 otherwise.";
