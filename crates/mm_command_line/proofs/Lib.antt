@@ -1,6 +1,7 @@
 pub mod Building
 pub mod Walking
 pub mod Taking
+pub mod Finding
 pub mod Plain
 pub mod Outputs
 pub mod Versions

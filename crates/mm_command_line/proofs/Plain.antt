@@ -1,12 +1,12 @@
 -- Words without the first `--`, read one after another.
-use Rattle.std.proofs.Common.{◌≡◌, ◌∙◌, ◌++◌, ◌||◌, ◌+◌, ◌<◌, ℕ, zero, suc, arith, Bool, Bor, cond, true, false, refl, sym, ap, ap₂, map, drop, length, slice_index_or, List, [], ◌∷◌, Option, Some, None, IfSome, IfNone, append_assoc, subst}
+use Rattle.std.proofs.Common.{◌≡◌, ◌∙◌, ◌++◌, ◌||◌, ◌+◌, ◌<◌, ℕ, zero, suc, arith, Bool, Bor, cond, true, false, refl, sym, ap, ap₂, map, drop, length, slice_index_or, List, [], ◌∷◌, Option, Some, None, IfSome, append_assoc, subst}
 use Rattle.std.specs.List.{All, list_any}
 use Rattle.std.proofs.lemmas.List.{append-nil, length-map, map-append}
 use Rattle.std.proofs.lemmas.List.Elements.{All-head, All-tail}
 use Rattle.std.proofs.Math.Seq.{drop-cons}
-use Rattle.mm_command_line.specs.Lines.{ArePlain, IsCommandLine, IsFileName, command_words, before_dashes, is_dashes, is_flag, without_dashes}
+use Rattle.mm_command_line.specs.Lines.{ArePlain, IsFileName, command_words, before_dashes, is_dashes, is_flag, without_dashes}
 use Rattle.mm_command_line.specs.declared.task.Task.{Task}
-use Rattle.mm_command_line.proofs.Outputs.{line_whole, name_unflagged}
+use Rattle.mm_command_line.proofs.Outputs.{name_unflagged}
 
 abbrev Text : Type 0
 Text = List ℕ
@@ -70,15 +70,10 @@ pub all_read : (all read : List Text) (after_dashes : Bool) → AreRead all read
 all_read all read true so_far = record { same = sym (append-nil read) ∙ so_far.same; unflagged = sym so_far.flags }
 all_read all read false so_far = record { same = sym (append-nil read) ∙ so_far.same; unflagged = sym so_far.flags }
 
-module _ (words plain : List Text) (is : ArePlain words plain) where
-  -- the task that they ask for, or none
-  pub task_read : (task : Option Task) → IfSome task (λ task. command_words task ≡ plain) → IfSome task (λ task. ArePlain words (command_words task))
-  task_read None spelled = tt
-  task_read (Some task) spelled = subst (ArePlain words) (sym spelled) is
-
-  pub no_task_read : (task : Option Task) → IfNone task ((task : Task) → command_words task ≡ plain → ⊥) → IfNone task (IsCommandLine words → ⊥)
-  no_task_read None none = λ line. none line.task (line.spelled ∙ sym (line_whole words line) ∙ sym is.same)
-  no_task_read (Some task) none = tt
+-- the task that they ask for
+pub task_read : (words plain : List Text) → ArePlain words plain → (task : Option Task) → IfSome task (λ task. command_words task ≡ plain) → IfSome task (λ task. ArePlain words (command_words task))
+task_read words plain is None spelled = tt
+task_read words plain is (Some task) spelled = subst (ArePlain words) (sym spelled) is
 
 -- words that spell a line
 module _ (words : List (Bor Text)) (line : List Text) (is : line ≡ map (λ word. word.now) words) where

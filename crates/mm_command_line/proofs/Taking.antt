@@ -1,20 +1,21 @@
--- Words that spell a command are taken.
+-- Words that spell a command are taken, and are what is found.
 use Rattle.std.proofs.Common.{◌≡◌, ◌∙◌, ◌++◌, ◌&&◌, ℕ, zero, suc, Bool, cond, true, false, true≢false, refl, sym, ap, ap₂, subst, arith, drop, length, map, List, [], ◌∷◌, Option, Some, None, is_some, codes}
 use Rattle.std.specs.Borrow.{Bor}
 use Rattle.std.specs.List.{All, find, fold, list_all}
 use Rattle.std.specs.Option.{option_map, option_map_or, unwrap_or}
 use Rattle.std.specs.Prelude.{slice_get}
 use Rattle.std.specs.Str.{bytes_eq}
-use Rattle.clap.specs.Walk.{Names, Rule, Text, Walk, answers_to, finished, nothing_held, walk, walk_from, walked}
-use Rattle.clap.specs.Simple.{App, Shape, built, built_leaf, entered, inherited, label_of, names_of, rows_at}
+use Rattle.clap.specs.Walk.{Names, Row, Rule, Text, Walk, answers_to, finished, nothing_held, walk, walk_from, walked}
+use Rattle.clap.specs.Simple.{App, HasMatchesOf, Shape, built, built_leaf, entered, inherited, is_simple, label_of, names_of, rows_at, subcommand_of, subcommand_rows_of}
+use Rattle.clap.specs.declared.parser.matches.ArgMatches.{ArgMatches}
 use Rattle.clap.specs.Takes.{default_passes, entered_passes, is_valid, level_passes, settle_passes, takes, turn_passes, walk_passes}
 use Rattle.clap.proofs.OnLiterals.{clap_on_literals}
 use Rattle.clap.proofs.WalkLemmas.{walk_stopped}
-use Rattle.mm_command_line.specs.Commands.{Entry, app_by, commands, tool}
+use Rattle.mm_command_line.specs.Commands.{Entry, app_by, commands, line_found, tool}
 use Rattle.mm_command_line.specs.Lines.{IsCommandLine, IsFileName, command_words, flight_spelling, plan_names}
 use Rattle.mm_command_line.specs.declared.task.Task.{Task}
 use Rattle.mm_command_line.specs.declared.task.Task.TheVariants.{Plan, Check, Chart, Table, Fly, Ask, Read}
-use Rattle.mm_command_line.proofs.Walking.{level_passing, level_places}
+use Rattle.mm_command_line.proofs.Walking.{end_of, level_passing, level_places, rows_placed}
 
 -- the program as the parser builds it
 abbrev built_tool : App
@@ -61,6 +62,13 @@ enters_each = record { same = refl }
 
 takes_each : (word : ℕ → Text) → Agree (λ e. level_places (leaf e) (words_for word e.1)) (λ e. true)
 takes_each word = record { same = refl }
+
+-- what is found for these words of a command
+abbrev found_for : Entry → List Text → Text × List Row
+found_for e files = ((leaf e).name, finished (leaf e).rules (end_of (leaf e) files))
+
+finds_each : (word : ℕ → Text) → Agree (λ e. line_found (Some (found_for e (words_for word e.1)))) (λ e. Some (e.0 ∷ words_for word e.1))
+finds_each word = record { same = refl }
 
 -- and so they do for one that is found
 alike : {A : Type 0} (f g : Entry → A) (test : Entry → Bool) (rows : List Entry) (row : Entry) → map f rows ≡ map g rows → find test rows ≡ Some row → f row ≡ g row
@@ -123,10 +131,12 @@ module _ (test : Entry → Bool) (entry : Entry) (files : List Text) (known : fi
   leaf_takes names same = level_passing (leaf entry) files names ∙ ap (level_places (leaf entry)) (sym (words_are files entry.1 same))
       ∙ agree _ _ test entry (takes_each (word_at files)) known
 
+  enters : entered built_tool (Some (entry.0, files)) ≡ Some (rows_at (leaf entry) files)
+  enters = ap (option_map (λ s. rows_at s files)) found
+
   -- and so does the program
   row_takes : All IsFileName files → length files ≡ length entry.1 → takes tool (entry.0 ∷ files) ≡ true
   row_takes names same =
-      let enters : entered built_tool (Some (entry.0, files)) ≡ Some (rows_at (leaf entry) files) = ap (option_map (λ s. rows_at s files)) found in
       let below : entered_passes built_tool (Some (entry.0, files)) ≡ true =
       ap (λ o. option_map_or (λ s. level_passes s [] nothing_held files false) o true) found ∙ leaf_takes names same in
       let at_stop : Option (Text × List Text) → Bool =
@@ -135,27 +145,52 @@ module _ (test : Entry → Bool) (entry : Entry) (files : List Text) (known : fi
       ∙ ap₂ (λ b o. b && level_passes built_tool.top words_known nothing_held (entry.0 ∷ files) (is_some o)) below enters
       ∙ level_top
 
+  -- which finds each word of the line, those of the files by what help calls them
+  row_finds : All IsFileName files → length files ≡ length entry.1 → line_found (subcommand_of tool (entry.0 ∷ files)) ≡ Some (entry.0 ∷ files)
+  row_finds names same =
+      let word : ℕ → Text = word_at files in
+      ap (λ (w : Walk). line_found (entered built_tool w.stopped)) walk_is ∙ ap line_found enters
+      ∙ ap (λ rows. line_found (Some ((leaf entry).name, rows))) (rows_placed (leaf entry) files names)
+      ∙ ap (λ words. line_found (Some (found_for entry words))) (sym (words_are files entry.1 same))
+      ∙ agree _ _ test entry (finds_each word) known
+      ∙ ap (λ words. Some (entry.0 ∷ words)) (words_are files entry.1 same)
+
 -- ---- the line of a task
 
-abbrev row : Text → Entry
-row word = unwrap_or (find (by word) commands) ([], [])
+-- the program takes the words, and finds them
+pub record IsRead (words : List Text) : Type 0 where
+  pub taken : takes tool words ≡ true
+  pub found : line_found (subcommand_of tool words) ≡ Some words
 
-takes_flight : (setup forecast sources links : Text) (plan : Option (Bor Text)) → All IsFileName (drop 1 (flight_spelling setup forecast sources links plan))
-    → takes tool (flight_spelling setup forecast sources links plan) ≡ true
-takes_flight setup forecast sources links None names = row_takes (by (codes "fly")) (row (codes "fly")) (setup ∷ forecast ∷ sources ∷ links ∷ []) refl names refl
-takes_flight setup forecast sources links (Some plan) names = row_takes (by (codes "run")) (row (codes "run")) (setup ∷ forecast ∷ plan.now ∷ sources ∷ links ∷ []) refl names refl
+-- a line of the row of this word
+row_read : (word : Text) (files : List Text) → All IsFileName files → (entry : Entry) → find (by word) commands ≡ Some entry → length files ≡ length entry.1 → IsRead (entry.0 ∷ files)
+row_read word files names entry known same = record {
+  taken = row_takes (by word) entry files known names same;
+  found = row_finds (by word) entry files known names same;
+}
 
-takes_task : (task : Task) → All IsFileName (drop 1 (command_words task)) → takes tool (command_words task) ≡ true
-takes_task (Plan setup forecast output) names = row_takes (by (codes "plan")) (row (codes "plan")) (setup.now ∷ forecast.now ∷ []) refl names refl
-takes_task (Check files) names = row_takes (by (codes "check")) (row (codes "check")) (plan_names files) refl names refl
-takes_task (Chart files output) names = row_takes (by (codes "chart")) (row (codes "chart")) (plan_names files) refl names refl
-takes_task (Table files output) names = row_takes (by (codes "table")) (row (codes "table")) (plan_names files) refl names refl
-takes_task (Fly files) names = takes_flight files.setup.now files.forecast.now files.sources.now files.links.now files.plan names
-takes_task (Ask setup requests) names = row_takes (by (codes "ask")) (row (codes "ask")) (setup.now ∷ requests.now ∷ []) refl names refl
-takes_task (Read packets) names = row_takes (by (codes "read")) (row (codes "read")) (packets.now ∷ []) refl names refl
+read_flight : (setup forecast sources links : Text) (plan : Option (Bor Text)) → All IsFileName (drop 1 (flight_spelling setup forecast sources links plan))
+    → IsRead (flight_spelling setup forecast sources links plan)
+read_flight setup forecast sources links None names = row_read (codes "fly") (setup ∷ forecast ∷ sources ∷ links ∷ []) names _ refl refl
+read_flight setup forecast sources links (Some plan) names = row_read (codes "run") (setup ∷ forecast ∷ plan.now ∷ sources ∷ links ∷ []) names _ refl refl
+
+read_task : (task : Task) → All IsFileName (drop 1 (command_words task)) → IsRead (command_words task)
+read_task (Plan setup forecast output) names = row_read (codes "plan") (setup.now ∷ forecast.now ∷ []) names _ refl refl
+read_task (Check files) names = row_read (codes "check") (plan_names files) names _ refl refl
+read_task (Chart files output) names = row_read (codes "chart") (plan_names files) names _ refl refl
+read_task (Table files output) names = row_read (codes "table") (plan_names files) names _ refl refl
+read_task (Fly files) names = read_flight files.setup.now files.forecast.now files.sources.now files.links.now files.plan names
+read_task (Ask setup requests) names = row_read (codes "ask") (setup.now ∷ requests.now ∷ []) names _ refl refl
+read_task (Read packets) names = row_read (codes "read") (packets.now ∷ []) names _ refl refl
+
+line_read : (words : List Text) → IsCommandLine words → IsRead words
+line_read words line =
+    subst IsRead line.spelled (read_task line.task (subst (λ ws. All IsFileName (drop 1 ws)) (sym line.spelled) line.names))
 
 -- the program takes the words of a command
 pub passes : (app : App) (words : List Text) → app ≡ tool → IsCommandLine words → takes app words ≡ true
-passes app words is line =
-    let names = subst (λ ws. All IsFileName (drop 1 ws)) (sym line.spelled) line.names in
-    ap (λ a. takes a words) is ∙ ap (takes tool) (sym line.spelled) ∙ takes_task line.task names
+passes app words is line = ap (λ a. takes a words) is ∙ (line_read words line).taken
+
+-- and finds them in the matches
+pub finds : (app : App) (words : List Text) (m : ArgMatches) → app ≡ tool → HasMatchesOf app words m → IsCommandLine words → line_found (subcommand_rows_of m) ≡ Some words
+finds app words m is has line = ap line_found ((has (ap is_simple is)).1 ∙ ap (λ a. subcommand_of a words) is) ∙ (line_read words line).found

@@ -5,7 +5,7 @@ use Rattle.std.specs.Option.{option_map_or}
 use Rattle.std.specs.Str.{bytes_eq}
 use Rattle.std.proofs.lemmas.List.Elements.{All-head, All-tail}
 use Rattle.clap.specs.Lexer.{long_of, short_of}
-use Rattle.clap.specs.Walk.{Held, Rule, Step, Text, Waiting, Walk, after_step, arg_by_index, finished, idle, is_multiple, nothing_held, option, positional, to_positional, value, walk_from, walked, walked_from, word_met}
+use Rattle.clap.specs.Walk.{Held, Rule, Step, Text, Waiting, Walk, after_step, arg_by_index, finished, idle, is_multiple, nothing_held, option, positional, rows_after, to_positional, value, walk_from, walked, walked_from, word_met}
 use Rattle.clap.specs.Simple.{Shape}
 use Rattle.clap.specs.Takes.{default_passes, is_valid, level_passes, positional_passes, settle_passes, step_passes, turn_passes, walk_passes, word_passes}
 use Rattle.mm_command_line.specs.Lines.{IsFileName}
@@ -119,3 +119,7 @@ pub level_passing : (s : Shape) (words : List Text) → All IsFileName words →
 level_passing s words names =
     ap₂ (λ passes (w : Walk). passes && (settle_passes s.rules s.args_override_self w.held && (list_all default_passes s.rules && is_valid s (finished s.rules w.held) false)))
     (walk_passing s (walk_from nothing_held) words at_start names) (walk_places s.rules (walk_from nothing_held) words at_start names)
+
+-- and what is found then
+pub rows_placed : (s : Shape) (words : List Text) → All IsFileName words → rows_after s.rules [] words ≡ finished s.rules (end_of s words)
+rows_placed s words names = ap (λ (w : Walk). finished s.rules w.held) (walk_places s.rules (walk_from nothing_held) words at_start names)

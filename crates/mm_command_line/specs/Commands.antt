@@ -1,6 +1,7 @@
 -- The commands of the program, and what clap is told of them.
-use Rattle.std.specs.Prelude.{◌≡◌, List, [], ◌∷◌, Bool, true, false, codes, map, fold}
-use Rattle.clap.specs.Words.{App, Rule, Text, app_of, new_app, new_rule, with_rule, with_subcommand}
+use Rattle.std.specs.Prelude.{◌≡◌, List, [], ◌∷◌, Bool, Option, true, false, codes, filter_map, find, fold, map, option_and_then, option_map}
+use Rattle.std.specs.Str.{bytes_eq}
+use Rattle.clap.specs.Words.{App, Row, Rule, Text, app_of, first_of, new_app, new_rule, with_rule, with_subcommand}
 use Rattle.clap.specs.declared.builder.command.Command.{Command}
 use Rattle.clap.specs.declared.builder.command.Command.TheViews.{out-Command as fields_of}
 use Rattle.mm_command_line.specs.declared.command.File.{File}
@@ -60,3 +61,15 @@ with_command app entry = with_subcommand app (app_by entry).top
 -- the program with its commands
 abbrev pub tool : App
 tool = fold with_command bare commands
+
+-- the command that was found, and what was found for its files
+abbrev pub row_found : Option (Text × List Row) → Option (Entry × List Row)
+row_found = option_and_then (λ found. option_map (λ entry. (entry, found.1)) (find (λ (entry : Entry). bytes_eq entry.0 found.0) commands))
+
+-- the word of a command, and the name that was found for each of its files
+abbrev pub words_found : Entry → List Row → List Text
+words_found entry rows = entry.0 ∷ filter_map (λ id. first_of id rows) entry.1
+
+-- the words that were found
+abbrev pub line_found : Option (Text × List Row) → Option (List Text)
+line_found found = option_map (λ (row : Entry × List Row). words_found row.0 row.1) (row_found found)

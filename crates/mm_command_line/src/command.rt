@@ -1,5 +1,6 @@
 //! What `clap` is told of the commands.
-ghost use Rattle.std.specs.Prelude.{◌≡◌, IfOk, false, fold, map};
+ghost use Rattle.std.specs.Prelude.{◌≡◌, IfOk, false, find, fold, map, option_map};
+ghost use Rattle.std.specs.Str.{bytes_eq};
 ghost use Rattle.clap.specs.Words.{app_of, rule_of};
 ghost use Rattle.mm_command_line.specs.Commands.{IsCommand, bare, file_rule, entry_of, tool, with_command};
 
@@ -101,4 +102,11 @@ pub(crate) fn tool_command<'a>(alloc: Global) -> Result<Command<'a>, AllocError>
     ensures commands { IfOk result (λ c. app_of c ≡ tool) }
 {
     with_commands(alloc, bare_command(alloc)?, &COMMANDS)
+}
+
+/// The command of this word.
+pub(crate) fn form_of<'f>(forms: &'f [Form], word: &str) -> Option<&'f Form>
+    ensures row { option_map (λ form. entry_of form.now) result ≡ find (λ entry. bytes_eq entry.0 word.now) (map entry_of forms.now) }
+{
+    forms.iter().find(|form| form.word == word)
 }

@@ -1,14 +1,16 @@
 //! The words of a command line, read as a task.
-ghost use Rattle.std.specs.Prelude.{◌≡◌, ◌↔◌, ◌⊎◌, ℕ, List, [], ◌∷◌, IfErr, IfOk, IfNone, IfSome, IsTrue, false, map};
+ghost use Rattle.std.specs.Prelude.{◌≡◌, ◌↔◌, ◌⊎◌, ℕ, List, [], ◌∷◌, IfErr, IfOk, IfNone, IfSome, IsTrue, Some, false, map, option_map};
 ghost use Rattle.std.specs.List.{All, filter, list_any};
-ghost use Rattle.clap.specs.Words.{kind_of};
+ghost use Rattle.clap.specs.Words.{found_of, kind_of, rows_of, subcommand_rows_of};
 ghost use Rattle.clap.specs.declared.error.kind.ErrorKind.TheVariants.{OutOfMemory};
+ghost use Rattle.mm_command_line.specs.Commands.{entry_of, line_found, row_found, words_found};
 ghost use Rattle.mm_command_line.specs.Lines.{ArePlain, EndsWithOutput, IsCommandLine, IsFileName, IsSplit, IsTaskLine, before_dashes, command_words, flags_of, is_dashes, is_flag, spelling, without_dashes};
 
-use crate::command::tool_command;
+use crate::command::{Form, form_of, tool_command};
+use crate::commands::COMMANDS;
 use crate::task::{FlightFiles, PlanFiles, Task};
 use clap::error::ErrorKind;
-use clap::{Command, Error};
+use clap::{ArgMatches, Command, Error};
 use std::alloc::{AllocError, Global};
 use std::convert::AsStr;
 
@@ -99,14 +101,53 @@ fn plain_words<'a, S: AsStr>(
     Ok(Some(plain))
 }
 
-// The task that words ask for which have no output, without the first `--`; none where a flag stands before that.
-fn read_words<'a, S: AsStr>(alloc: Global, words: &'a [S]) -> Result<Option<Task<'a>>, AllocError>
-    ensures spelled { IfOk result (λ task. IfSome task (λ task. ArePlain (map S.text words.entry.now) (command_words task))) }
-    ensures none { IfOk result (λ task. IfNone task (IsCommandLine (map S.text words.entry.now) → ⊥)) }
+// The command that was found, and what was found for its files.
+fn command_in<'m, 'a>(matches: &'m ArgMatches<'a>) -> Option<(&'static Form, &'m ArgMatches<'a>)>
+    ensures row { option_map (λ row. (entry_of row.0.now, rows_of (found_of row.1.now))) result ≡ row_found (subcommand_rows_of matches.now) }
 {
-    match plain_words(alloc, words)? {
-        Some(words) => Ok(task_of(&words)),
-        None => Ok(None),
+    let (word, files) = matches.subcommand()?;
+    Some((form_of(&COMMANDS, word)?, files))
+}
+
+// The word of a command, and the names that were found for its files, in the order of its row.
+fn words_in<'a>(
+    alloc: Global,
+    form: &Form,
+    files: &ArgMatches<'a>,
+) -> Result<Vec<&'a str>, AllocError>
+    ensures words { IfOk result (λ words. map (λ word. word.now) words.items ≡ words_found (entry_of form.now) (rows_of (found_of files.now))) }
+{
+    let mut words = Vec::new(alloc);
+    words.push(form.word)?;
+    for file in form.files {
+        if let Some(name) = files.get_str(file.name) {
+            words.push(name)?;
+        }
+    }
+    Ok(words)
+}
+
+// The task that the matches ask for. They have to have the words that were given, but for the first `--`, and no flag stands before that.
+fn read_matches<'a, S: AsStr>(
+    alloc: Global,
+    words: &'a [S],
+    matches: &ArgMatches<'a>,
+) -> Result<Option<Task<'a>>, AllocError>
+    ensures spelled { IfOk result (λ task. IfSome task (λ task. ArePlain (map S.text words.entry.now) (command_words task))) }
+    ensures none { IfOk result (λ task. IfNone task (IsCommandLine (map S.text words.entry.now)
+        → line_found (subcommand_rows_of matches.now) ≡ Some (map S.text words.entry.now) → ⊥)) }
+{
+    let Some((form, files)) = command_in(matches) else {
+        return Ok(None);
+    };
+    let found = words_in(alloc, form, files)?;
+    let Some(given) = plain_words(alloc, words)? else {
+        return Ok(None);
+    };
+    if found == given {
+        Ok(task_of(&found))
+    } else {
+        Ok(None)
     }
 }
 
@@ -120,7 +161,7 @@ fn refusal(command: &mut Command<'_>, kind: ErrorKind, message: &str) -> Error
     }
 }
 
-// What words without an output ask for. `clap` reads them, and what it refuses is no command; the error has the text for the user.
+// What words without an output ask for: `clap` reads them. The error has the text for the user.
 fn parse_command<'a, S: AsStr>(alloc: Global, words: &'a [S]) -> Result<Task<'a>, Error>
     // Words that spell a command give its task and nothing else.
     ensures taken { IsCommandLine (map S.text words.entry.now)
@@ -134,8 +175,8 @@ fn parse_command<'a, S: AsStr>(alloc: Global, words: &'a [S]) -> Result<Task<'a>
     ensures unflagged { IfOk result (λ task. list_any is_flag (before_dashes (map S.text words.entry.now)) ≡ false) }
 {
     let mut command = tool_command(alloc)?;
-    command.try_get_matches_from_mut(words)?;
-    match read_words(alloc, words)? {
+    let matches = command.try_get_matches_from_mut(words)?;
+    match read_matches(alloc, words, &matches)? {
         Some(task) => Ok(task),
         None => Err(refusal(
             &mut command,
