@@ -1,5 +1,5 @@
 -- How many reports wait once a request is applied.
-use Rattle.std.proofs.Common.{◌≡◌, ◌⊎◌, inl, inr, ℕ, ◌+◌, ◌≤◌, List, [], ◌∷◌, ◌++◌, length, refl, ap, ◌∙◌, arith, Option, Some, None, length-append}
+use Rattle.std.proofs.Common.{◌≡◌, inl, inr, ℕ, ◌+◌, ◌≤◌, List, [], ◌∷◌, length, refl, ap, ◌∙◌, arith, Option, Some, None, length-append}
 use Rattle.mm_packet.specs.Packet.{SpacePacket}
 use Rattle.mm_st15.specs.declared.report.Report.{Report}
 use Rattle.mm_st15.specs.declared.request.Request.{Request}
