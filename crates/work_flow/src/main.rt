@@ -1,26 +1,35 @@
-//! A workload of the benchmark: networks of a caller's own, built and solved.
+//! Networks of a caller's own, built and solved: a workload, and single networks that `bench/flow` times.
 #![tactic(auto)]
 
 mod build;
 mod families;
 mod job;
 mod small;
+mod text;
+mod timed;
 
 use anyhow::Result;
 use job::networks;
 use small::small;
-use std::alloc::Global;
+use std::alloc::{AllocGlobal, Global};
+use std::io::Input;
+use std::time::Clock;
 use thiserror::Error;
 
 /// Words that ask for nothing.
 #[derive(Clone, Copy, Debug, Error)]
-#[error("the words are: networks SEED")]
-struct UnknownWords;
+#[error("the words are: networks SEED, or solve SOLVER FAMILY SIZE, or solve SOLVER text")]
+pub(crate) struct UnknownWords;
 
 // What the words ask for.
-fn said(alloc: Global, words: &[String]) -> Result<String> {
+fn said<R: Clock + Input + AllocGlobal>(
+    rt: &R,
+    alloc: Global,
+    words: &[String],
+) -> Result<String> {
     match words {
         [] => Ok(small(alloc)?),
+        [name, words @ ..] if name.as_str() == "solve" => timed::run(rt, alloc, words),
         [name, seed] if name.as_str() == "networks" => {
             let seed: u32 = seed.parse()?;
             let digest = networks(alloc, seed)?;
@@ -30,12 +39,13 @@ fn said(alloc: Global, words: &[String]) -> Result<String> {
     }
 }
 
-/// `networks SEED` solves networks that are made from the seed, and prints a digest of the answers. With no words a few tiny networks are
-/// solved, and their flows are printed.
+/// `networks SEED` solves networks that are made from the seed, and prints a digest of the answers. `solve` solves one network, and prints
+/// the value of a maximum flow and the milliseconds that the solver took. With no words a few tiny networks are solved, and their flows are
+/// printed.
 fn main(rt: HostRuntime) -> Result<()> {
     let alloc = rt.alloc();
     let words: Vec<String> = std::env::args(&rt)?.skip(1).collect(alloc)?;
-    let said = said(alloc, &words)?;
+    let said = said(&rt, alloc, &words)?;
     println!(rt; "{said}")?;
     Ok(())
 }

@@ -1,21 +1,30 @@
 //! Tiny networks whose greatest flow can be worked out by hand.
 
-use crate::build::{SINK, SOURCE, bare, limited, roomy, unlimited};
+use crate::build::{SINK, SOURCE, bare, limited, unlimited};
+use crate::text;
 use anyhow::Result;
 use mm_flow::paths::solve_paths;
 use mm_flow::{Fault, Network, Solved, solve};
 use std::alloc::Global;
 
 // Two ways to the sink, of which the second takes no more than 5: all that leaves the source arrives.
-fn two_ways(alloc: Global) -> Result<Network> {
-    let mut network = roomy(alloc, 4, 5)?;
-    limited(&mut network, SOURCE, 2, 7)?;
-    limited(&mut network, SOURCE, 3, 5)?;
-    limited(&mut network, 2, 3, 4)?;
-    unlimited(&mut network, 2, SINK)?;
-    limited(&mut network, 3, SINK, 5)?;
-    Ok(network)
-}
+const TWO_WAYS: &str = "4 5\n0 2 7\n0 3 5\n2 3 4\n2 1 -\n3 1 5\n";
+
+// Texts that are no networks.
+static REFUSED: [&str; 12] = [
+    "",
+    "1 0\n",
+    "65537 0\n",
+    "2 262145\n",
+    "2 1 \n0 1 5\n",
+    "2 1\n",
+    "2 1\n2 1 5\n",
+    "2 1\n0 2 5\n",
+    "2 2\n0 1 5\n0 1\n",
+    "2 1\n0 1 1099511627777\n",
+    "2 1\n0 1 -5\n",
+    "2 0\n0 1 5\n",
+];
 
 // A chain whose second arc is the narrowest.
 fn narrow(alloc: Global) -> Result<Network> {
@@ -55,10 +64,19 @@ fn push(alloc: Global, lines: &mut String, answer: Result<Solved, Fault>) -> Res
     Ok(())
 }
 
-/// What both solvers answer on each.
+// Adds a line that says why a text is no network.
+fn push_refusal(alloc: Global, lines: &mut String, text: &str) -> Result<()> {
+    match text::read(alloc, text) {
+        Ok(_) => lines.push_str("\na network")?,
+        Err(fault) => lines.push_str(format!(in alloc; "\n{fault}")?.as_str())?,
+    }
+    Ok(())
+}
+
+/// What both solvers answer on each, and why each of some texts is none.
 pub(crate) fn small(alloc: Global) -> Result<String> {
     let mut lines = String::new(alloc);
-    for network in [two_ways(alloc)?, narrow(alloc)?, unbounded(alloc)?] {
+    for network in [text::read(alloc, TWO_WAYS)?, narrow(alloc)?, unbounded(alloc)?] {
         if network.node_count() > SINK as usize {
             push(alloc, &mut lines, solve(alloc, &network, SOURCE, SINK))?;
             push(
@@ -67,6 +85,9 @@ pub(crate) fn small(alloc: Global) -> Result<String> {
                 solve_paths(alloc, &network, SOURCE, SINK),
             )?;
         }
+    }
+    for text in &REFUSED {
+        push_refusal(alloc, &mut lines, text)?;
     }
     Ok(lines)
 }

@@ -1,4 +1,5 @@
-//! The workload of a memory on board or in a simulator: packets are recorded, offered and retrieved, and requests are applied.
+//! The workload of a memory on board or in a simulator: packets are recorded, offered and retrieved, and requests are applied; and packet
+//! stores alone, which `bench/stores` times.
 #![tactic(auto)]
 
 mod answers;
@@ -6,16 +7,18 @@ mod packets;
 mod requests;
 mod rounds;
 mod setting;
+mod stores;
 
 use answers::Answers;
 use anyhow::Result;
 use setting::Setting;
 use std::alloc::Global;
+use std::time::Clock;
 use thiserror::Error;
 
 /// Words that are no workload.
 #[derive(Clone, Copy, Debug, Error)]
-#[error("the words are: memory SEED")]
+#[error("the words are: memory SEED, or stores FORM ROUNDS")]
 struct UnknownWorkload;
 
 // What is answered in these settings, one after another.
@@ -28,12 +31,14 @@ fn answered(alloc: Global, settings: &[Setting], seed: u64) -> Result<Answers> {
 }
 
 // What the words ask for.
-fn said(alloc: Global, words: &[String]) -> Result<String> {
+fn said(clock: &impl Clock, alloc: Global, words: &[String]) -> Result<String> {
     match words {
         [] => {
             let answers = answered(alloc, &[setting::SMALL], 1)?;
-            Ok(format!(in alloc; "{}", answers.counts)?)
+            let sums = stores::small(clock, alloc)?;
+            Ok(format!(in alloc; "{}\nstores{sums}", answers.counts)?)
         }
+        [name, words @ ..] if name.as_str() == "stores" => stores::run(clock, alloc, words),
         [name, seed] if name.as_str() == "memory" => {
             let answers = answered(alloc, &setting::MEMORIES, seed.as_str().parse()?)?;
             Ok(format!(in alloc; "{}", answers.digest)?)
@@ -42,11 +47,12 @@ fn said(alloc: Global, words: &[String]) -> Result<String> {
     }
 }
 
-/// With the words `memory SEED` the digest of all answers is printed, with no words what a small run counts.
+/// With the words `memory SEED` the digest of all answers is printed, with `stores FORM ROUNDS` the seconds of rounds on a store, and with no
+/// words what small runs count.
 fn main(rt: HostRuntime) -> Result<()> {
     let alloc = rt.alloc();
     let words: Vec<String> = std::env::args(&rt)?.skip(1).collect(alloc)?;
-    let said = said(alloc, &words)?;
+    let said = said(&rt, alloc, &words)?;
     println!(rt; "{said}")?;
     Ok(())
 }

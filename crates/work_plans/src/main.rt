@@ -1,8 +1,9 @@
-//! A workload of `bench/workloads.txt`: a study of many plans, made, checked, drawn and listed.
+//! A workload of `bench/workloads.txt`: a study of many plans, made, checked, drawn and listed; and how often a proposal is not enough.
 #![tactic(auto)]
 
 mod extent;
 mod families;
+mod propose;
 mod small;
 mod study;
 mod texts;
@@ -14,7 +15,7 @@ use thiserror::Error;
 
 /// Words that ask for nothing.
 #[derive(Clone, Copy, Debug, Error)]
-#[error("the words are study SEED")]
+#[error("the words are: study SEED, or propose COUNT SEED")]
 struct UnknownWords;
 
 // What the job of the words answers.
@@ -22,12 +23,15 @@ fn said(alloc: Global, words: &[String]) -> Result<String> {
     match words {
         [] => small::small(alloc),
         [job, seed] if job.as_str() == "study" => study::run(alloc, seed.parse()?),
+        [job, count, seed] if job.as_str() == "propose" => {
+            propose::counted(alloc, count.parse()?, seed.parse()?)
+        }
         _ => Err(UnknownWords.into()),
     }
 }
 
-/// With `study` and a seed a digest of all that is answered is printed. With no words a small run is made, and what it
-/// prints can be worked out by hand.
+/// With `study` and a seed a digest of all that is answered is printed, with `propose` how many proposals are not shown to lose least. With
+/// no words a small run is made, and what it prints can be worked out by hand.
 fn main(rt: HostRuntime) -> Result<()> {
     let alloc = rt.alloc();
     let words: Vec<String> = std::env::args(&rt)?.skip(1).collect(alloc)?;

@@ -1,5 +1,6 @@
 //! A small run, whose answers can be worked out by hand.
 
+use crate::propose;
 use crate::study::{Answers, study};
 use anyhow::Result;
 use mm_chart::table_bytes;
@@ -21,5 +22,6 @@ pub fn small(alloc: Global) -> Result<String> {
     text.extend_from_slice(&table_bytes(alloc, SETUP, FORECAST, &plan)?)?;
     let text = std::str::from_utf8(&text)?;
     let Answers { checked, least, .. } = study(alloc, 1, PROBLEMS)?;
-    Ok(format!(in alloc; "{text}{least} of {checked} plans are shown to lose least")?)
+    let proposed = propose::counted(alloc, PROBLEMS, 1)?;
+    Ok(format!(in alloc; "{text}{least} of {checked} plans are shown to lose least\n{proposed}")?)
 }

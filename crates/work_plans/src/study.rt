@@ -22,13 +22,13 @@ pub struct Answers {
 
 /// A problem as its two texts.
 #[derive(Drop)]
-struct Texts {
-    setup: Vec<u8>,
-    forecast: Vec<u8>,
+pub struct Texts {
+    pub setup: Vec<u8>,
+    pub forecast: Vec<u8>,
 }
 
-// The problem at this place.
-fn made(alloc: Global, numbers: &mut Numbers, place: u32) -> Result<Texts> {
+/// The problem at this place.
+pub fn made(alloc: Global, numbers: &mut Numbers, place: u32) -> Result<Texts> {
     let extent = Extent::new(numbers, place);
     let setup = setup(alloc, numbers, extent)?;
     let forecast = forecast(alloc, numbers, extent)?;

@@ -1,7 +1,7 @@
 //! Links that count octets, and keep nothing of a packet.
 
-use crate::exec::packets::HEADERS;
-use crate::exec::setting::Setting;
+use crate::packets::HEADERS;
+use crate::setting::Setting;
 use anyhow::Result;
 use callers::radio::{Modem, Radio};
 use mm_packet::Packet;

@@ -1,7 +1,7 @@
 //! The packets that sources give.
 ghost use Rattle.std.specs.Prelude.{◌≡◌, ◌<◌, ◌≤◌, ◌^◌, length, IfOk};
 
-use crate::exec::setting::Setting;
+use crate::setting::Setting;
 use anyhow::Result;
 use mm_packet::{BlockPacket, Header, Octets, Packet};
 use mm_record::Source;
@@ -34,7 +34,7 @@ pub struct Batch {
 
 impl Source for Batch {
     ghost use Rattle.std.specs.Prelude.{◌==◌, if◌then◌else◌, []};
-    ghost use Rattle.benches.specs.declared.exec.packets.TheConstants.{STEP};
+    ghost use Rattle.work_exec.specs.declared.packets.TheConstants.{STEP};
 
     ghost gives = { λ b t. if t == STEP then b.packets.items else [] };
 

@@ -31,7 +31,7 @@ fn measured(clock: &impl Clock, alloc: Global, form: Form, rounds: u32) -> Resul
 }
 
 /// The sum over what one round on each form of store reads.
-pub(crate) fn small(clock: &impl Clock, alloc: Global) -> Result<String> {
+pub fn small(clock: &impl Clock, alloc: Global) -> Result<String> {
     let mut sums = String::new(alloc);
     for form in Form::ALL {
         let sum = measured(clock, alloc, form, 1)?.sum;
@@ -41,7 +41,7 @@ pub(crate) fn small(clock: &impl Clock, alloc: Global) -> Result<String> {
 }
 
 /// The words are a form of store and a number of rounds.
-pub(crate) fn run(clock: &impl Clock, alloc: Global, words: &[String]) -> Result<String> {
+pub fn run(clock: &impl Clock, alloc: Global, words: &[String]) -> Result<String> {
     let [form, rounds] = words else {
         return Err(UnknownForm.into());
     };

@@ -1,8 +1,8 @@
 //! Steps of recorders and of dump workers, and the time that they take.
 
-use crate::exec::meter::{Meter, meters};
-use crate::exec::packets::{Batch, STEP, batches, silence};
-use crate::exec::setting::Setting;
+use crate::meter::{Meter, meters};
+use crate::packets::{Batch, STEP, batches, silence};
+use crate::setting::Setting;
 use anyhow::Result;
 use callers::radio::Radio;
 use mm_base::StoreId;

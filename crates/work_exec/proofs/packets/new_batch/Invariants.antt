@@ -1,5 +1,5 @@
 use Rattle.std.proofs.Common.{◌≡◌, length}
-use Rattle.benches.proofs.exec.packets.new_batch.Given as goal
+use Rattle.work_exec.proofs.packets.new_batch.Given as goal
 
 abbrev pub invariant-loop-number : goal.invariant-loop-number
 invariant-loop-number l = record {
