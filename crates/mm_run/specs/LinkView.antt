@@ -2,7 +2,7 @@
 use Rattle.std.specs.Prelude.{ℕ, ◌+◌, ◌==◌, Bool, List, [], length}
 use Rattle.std.specs.List.{list_any}
 use Rattle.mm_dump.specs.Sending.{Sent}
-use Rattle.mm_run.specs.declared.link.SentPacket.{SentPacket}
+use Rattle.mm_run.specs.declared.link.Note.{Note}
 
 -- which of its sends fail by the lines, counted from 1; what was sent over it; how many sends have failed
 pub record LinkView : Type 0 where
@@ -11,8 +11,8 @@ pub record LinkView : Type 0 where
   pub failed : ℕ
 
 -- a packet that was sent
-abbrev pub sent_of : SentPacket → Sent
-sent_of x = record { store = x.store; stored = x.stored }
+abbrev pub sent_of : Note → Sent
+sent_of n = record { store = n.store.value; stored = record { time = n.time.value; packet = n.packet.value } }
 
 -- nothing was sent, and no send fails
 abbrev pub new_link : LinkView

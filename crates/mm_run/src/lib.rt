@@ -18,7 +18,7 @@ mod texts;
 mod words;
 
 pub use fault::Fault;
-pub use link::{ScriptedLink, SentPacket};
+pub use link::ScriptedLink;
 pub use links::{Failing, MAX_SEND, MAX_WRITTEN, read_links};
 pub use mm_base::NoMemory;
 pub use mm_report::MAX_SOURCES;

@@ -1,5 +1,5 @@
 //! Links that fail where the lines say so.
-ghost use Rattle.std.specs.Prelude.{◌≡◌, ◌+◌, ◌==◌, ◌∷◌, ◌++◌, [], length, OnOk, OnErr};
+ghost use Rattle.std.specs.Prelude.{◌≡◌, ◌+◌, ◌-◌, ◌^◌, ◌<◌, ◌==◌, ◌∷◌, ◌++◌, [], length, is_err, IfOk, OnOk, OnErr};
 ghost use Rattle.std.specs.List.{list_any};
 ghost use Rattle.mm_run.specs.LinkView.{new_link, fails_next};
 ghost use Rattle.mm_dump.specs.Sending.{sent_at};
@@ -7,41 +7,43 @@ ghost use Rattle.mm_dump.specs.Sending.{sent_at};
 use mm_base::{NoMemory, StoreId};
 use mm_dump::{Link, SendFailed};
 use mm_packet::BlockPacket;
-use mm_store::Stored;
 use std::alloc::Global;
 use std::marker::Model;
+use std::snapshot::Snapshot;
 
-/// A packet that was sent: its store, and the packet with its storage time.
-#[derive(Debug, Drop)]
-pub struct SentPacket {
-    pub store: StoreId,
-    pub stored: Stored,
+// A packet that was sent, for contracts alone: it has no bytes, and neither has a list of such.
+#[derive(Drop)]
+struct Note {
+    store: Snapshot<StoreId>,
+    time: Snapshot<u64>,
+    packet: Snapshot<BlockPacket>,
 }
 
-/// A link that keeps what is sent over it, and fails where the lines of a text say so, or where memory for a packet
-/// is refused. Contracts see which of its sends fail by the lines, what was sent, and how many sends have failed.
+/// A link that fails at the sends of a text's lines, and keeps nothing of what is sent over it. Contracts see which of its
+/// sends fail by the lines, what was sent, and how many sends have failed.
 #[derive(Drop)]
 pub struct ScriptedLink {
-    alloc: Global,
     failing: Vec<u32>,
-    sent: Vec<SentPacket>,
+    notes: Vec<Note>,
     failed: u64,
 }
 
 impl Model for ScriptedLink {
-    ghost use Rattle.std.specs.Prelude.{map};
+    ghost use Rattle.std.specs.Prelude.{◌-◌, ◌^◌, ◌≤◌, map, vec_capacity};
     ghost use Rattle.mm_run.specs.LinkView.{LinkView, sent_of};
 
     ghost Value = { LinkView };
 
-    ghost view = { λ a. record { failing = a.failing.items; sent = map sent_of a.sent.items; failed = a.failed } };
+    ghost view = { λ a. record { failing = a.failing.items; sent = map sent_of a.notes.items; failed = a.failed } };
+
+    ghost invariant = { λ a. 2 ^ 64 - 1 ≤ vec_capacity a.notes };
 }
 
 // The number of the next send, after these that succeeded and this many that failed.
-fn next_number(sent: &[SentPacket], failed: u64) -> u128
-    ensures { result ≡ length sent.now + failed + 1 }
+fn next_number(sent: usize, failed: u64) -> u128
+    ensures { result ≡ sent + failed + 1 }
 {
-    sent.len() as u128 + u128::from(failed) + 1
+    sent as u128 + u128::from(failed) + 1
 }
 
 fn is_among(failing: &[u32], number: u128) -> bool
@@ -51,19 +53,15 @@ fn is_among(failing: &[u32], number: u128) -> bool
 }
 
 impl ScriptedLink {
-    ghost use Rattle.std.specs.Prelude.{map};
-    ghost use Rattle.mm_run.specs.LinkView.{sent_of};
-
     /// A link that does not fail.
-    pub(crate) fn new(alloc: Global) -> ScriptedLink
-        ensures { result ≡ new_link }
+    pub(crate) fn new(alloc: Global) -> Result<ScriptedLink, NoMemory>
+        ensures { IfOk result (λ link. link ≡ new_link) }
     {
-        ScriptedLink {
-            alloc,
+        Ok(ScriptedLink {
             failing: Vec::new(alloc),
-            sent: Vec::new(alloc),
+            notes: Vec::with_capacity(alloc, usize::MAX)?,
             failed: 0,
-        }
+        })
     }
 
     /// Lets the send of this number, counted from 1, fail.
@@ -74,30 +72,12 @@ impl ScriptedLink {
         Ok(())
     }
 
-    /// What was sent, in order.
-    pub fn sent(&self) -> &[SentPacket]
-        ensures sent { map sent_of result.now ≡ self.now.sent }
-    {
-        self.sent.as_slice()
-    }
-
     // Whether the next send fails by the lines.
     fn fails_next(&self) -> bool
         ensures { result ≡ fails_next self.now }
     {
-        let number = next_number(self.sent.as_slice(), self.failed);
+        let number = next_number(self.notes.len(), self.failed);
         is_among(self.failing.as_slice(), number)
-    }
-
-    // Keeps a copy of a packet that is sent.
-    fn keep(&mut self, store: StoreId, time: u64, packet: &BlockPacket) -> Result<(), NoMemory>
-        ensures kept { OnOk result (self.new ≡ record self.old { sent = self.old.sent ++ sent_at store time packet.now ∷ [] }) }
-        ensures err { OnErr result (self.new ≡ self.old) }
-    {
-        let packet = packet.copy(self.alloc)?;
-        let stored = Stored { time, packet };
-        self.sent.push(SentPacket { store, stored })?;
-        Ok(())
     }
 }
 
@@ -106,8 +86,18 @@ impl Link for ScriptedLink {
 
     ghost failed = { λ link. link.failed };
 
-    fn send(&mut self, store: &StoreId, time: u64, packet: &BlockPacket) -> Result<(), SendFailed> {
-        if !self.fails_next() && self.keep(*store, time, packet).is_ok() {
+    fn send(&mut self, store: &StoreId, time: u64, packet: &BlockPacket) -> Result<(), SendFailed>
+        requires room { self.old.failed < 2 ^ 64 - 1 }
+        ensures ok { OnOk result (self.new ≡ record self.old { sent = self.old.sent ++ sent_at store.now time packet.now ∷ [] }) }
+        ensures err { OnErr result (self.new ≡ record self.old { failed = self.old.failed + 1 }) }
+        ensures lines { length self.old.sent < 2 ^ 64 - 1 → is_err result ≡ fails_next self.old }
+    {
+        let note = Note {
+            store: Snapshot::of(store),
+            time: Snapshot::of(&time),
+            packet: Snapshot::of(packet),
+        };
+        if !self.fails_next() && self.notes.push(note).is_ok() {
             return Ok(());
         }
         self.failed += 1;

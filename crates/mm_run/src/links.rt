@@ -68,7 +68,7 @@ fn new_links(alloc: Global, count: u8) -> Result<Vec<ScriptedLink>, NoMemory>
 {
     let mut links = Vec::new(alloc);
     for _ in 0..count {
-        links.push(ScriptedLink::new(alloc))?;
+        links.push(ScriptedLink::new(alloc)?)?;
     }
     Ok(links)
 }

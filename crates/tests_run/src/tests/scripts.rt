@@ -4,7 +4,7 @@ use crate::tests::samples::id;
 use mm_dump::Link;
 use mm_packet::BlockPacket;
 use mm_record::Source;
-use mm_run::{ScriptFault, ScriptedLink, ScriptedSource, SentPacket, SourceFile, read_links};
+use mm_run::{ScriptFault, ScriptedLink, ScriptedSource, SourceFile, read_links};
 use std::alloc::Global;
 use std::process::Abort;
 use std::slice;
@@ -255,32 +255,6 @@ fn has_failed(rt: &impl Abort, links: &[ScriptedLink], link: usize, failures: u6
     assert!(rt; links[link].failures() == failures, "failures");
 }
 
-// What was sent has these times.
-fn are_times(rt: &impl Abort, sent: &[SentPacket], times: &[u64]) {
-    assert!(rt; sent.len() == times.len(), "as many packets");
-    for (item, time) in sent.iter().zip(times) {
-        assert!(rt; item.stored.time == *time, "its time");
-    }
-}
-
-// The last that was sent is this packet of the store SCI.
-fn is_last(rt: &impl Abort, sent: &[SentPacket], packet: &BlockPacket) {
-    let Some(last) = sent.last() else {
-        panic!(rt; "a packet");
-    };
-    assert!(rt; last.stored.packet.is(packet), "the packet");
-    assert!(rt; last.store.text() == b"SCI".as_slice(), "the store");
-}
-
-// The first link has sent packets at these times, the last of them this one.
-fn has_sent(rt: &impl Abort, links: &[ScriptedLink], times: &[u64], packet: &BlockPacket) {
-    let [link, ..] = links else {
-        panic!(rt; "a link");
-    };
-    are_times(rt, link.sent(), times);
-    is_last(rt, link.sent(), packet);
-}
-
 // The packet of the line `1 1 P0Q`.
 fn packet_of_a_line(rt: &impl Abort, alloc: Global) -> BlockPacket {
     let mut sources = sources_of(rt, alloc, "1 1 P0Q\n", &[], 1);
@@ -307,7 +281,6 @@ fn links_fail_at_the_sends_of_their_lines(rt: HostRuntime) {
     }
     has_failed(&rt, &links, 0, 2);
     has_failed(&rt, &links, 1, 1);
-    has_sent(&rt, &links, &[5, 8], &packet);
 }
 
 // Texts, and how many links each says, or the first line of it that is refused.
