@@ -8,9 +8,10 @@ use crate::counters::Counters;
 use crate::fault::LineFault;
 use crate::line::{Asked, request_of};
 use crate::lines::TakeLine;
+use crate::refusals::{Place, Refusals, Replies};
 use crate::telemetry::telemetry_octets;
 use crate::text::{push_answer_lines, push_refused_line, push_report_line};
-use mm_base::NoMemory;
+use mm_base::{NoMemory, Refused};
 use mm_memory::{Answer, Memory};
 use mm_packet::Packet;
 use mm_st15::Report;
@@ -33,6 +34,8 @@ pub(crate) struct Conversation {
     counters: Counters,
     text: Vec<u8>,
     outcome: Outcome,
+    // What is told beside the text, of which no contract speaks.
+    refused: Refusals,
 }
 
 impl Model for Conversation {
@@ -77,15 +80,26 @@ impl Conversation {
             counters: Counters::new(),
             text: Vec::new(alloc),
             outcome: Outcome::AllDone,
+            refused: Refusals::new(alloc),
         }
     }
 
     /// Its outcome and its text.
-    pub(crate) fn into_parts(self) -> (Outcome, Vec<u8>)
-        ensures outcome { result.0 ≡ self.outcome }
-        ensures text { result.1.items ≡ self.text }
+    pub(crate) fn into_replies(self) -> Replies
+        ensures outcome { result.outcome ≡ self.outcome }
+        ensures text { result.text.items ≡ self.text }
     {
-        (self.outcome, self.text)
+        let Conversation {
+            outcome,
+            text,
+            refused,
+            ..
+        } = self;
+        Replies {
+            outcome,
+            text,
+            refused,
+        }
     }
 
     // Says that a line is refused whole.
@@ -94,6 +108,7 @@ impl Conversation {
     {
         self.outcome = Outcome::SomeRefused;
         push_refused_line(&mut self.text, line, fault)?;
+        self.refused.add(Place::Line(line), fault.refusal())?;
         Ok(())
     }
 
@@ -139,6 +154,7 @@ impl Conversation {
     {
         self.outcome = self.outcome.after(answers);
         push_answer_lines(&mut self.text, line, answers)?;
+        self.refused.add_answers(line, answers)?;
         Ok(())
     }
 

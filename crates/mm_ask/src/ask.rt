@@ -5,8 +5,9 @@ ghost use Rattle.mm_ask.specs.Asking.{Answers, Converses, IsSetupFault};
 ghost use Rattle.mm_base.specs.Lines.{text_lines};
 ghost use Rattle.mm_memory.specs.Holdings.{memory_of};
 
-use crate::answering::{Conversation, Outcome};
+use crate::answering::Conversation;
 use crate::lines::take_lines;
+use crate::refusals::Replies;
 use mm_base::NoMemory;
 use mm_memory::Memory;
 use mm_problem::{Fault, Setup};
@@ -22,16 +23,16 @@ fn conversation_of(alloc: Global, setup: &Setup, requests: &[u8]) -> Result<Conv
     Ok(conversation)
 }
 
-/// The text that answers the requests, one a line, to the memory of the setup; and whether all was
-/// done that they asked. The moment of a request is its line's number. Otherwise the fault of the
-/// setup, or want of memory.
-pub fn ask_bytes(alloc: Global, setup: &[u8], requests: &[u8]) -> Result<(Outcome, Vec<u8>), Fault>
-    ensures answers { IfOk result (λ a. Answers setup.now requests.now a.0 a.1.items) }
+/// The text that answers the requests, one a line, to the memory of the setup; whether all was
+/// done that they asked, and what was refused. The moment of a request is its line's number.
+/// Otherwise the fault of the setup, or want of memory.
+pub fn ask_bytes(alloc: Global, setup: &[u8], requests: &[u8]) -> Result<Replies, Fault>
+    ensures answers { IfOk result (λ a. Answers setup.now requests.now a.outcome a.text.items) }
     ensures refused { IfErr result (IsSetupFault setup.now) }
 {
     let setup = Setup::read(alloc, setup)?;
     match conversation_of(alloc, &setup, requests) {
-        Ok(conversation) => Ok(conversation.into_parts()),
+        Ok(conversation) => Ok(conversation.into_replies()),
         Err(NoMemory) => Err(Fault::NoMemory),
     }
 }

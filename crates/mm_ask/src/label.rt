@@ -28,6 +28,15 @@ pub(crate) fn is_answer(line: &[u8]) -> bool
     }
 }
 
+/// The place and the number of the refusal in an answer of `ask`, where it says that something is refused.
+pub(crate) fn refused_in(answer: &[u8]) -> Option<(&[u8], u8)> {
+    let (place, rest) = cut_word(answer)?;
+    let (_, refusal) = cut_word(rest)?;
+    let (number, _) = cut_word(refusal)?;
+    let number = std::str::from_utf8(number).ok()?.parse().ok()?;
+    Some((place, number))
+}
+
 // The number and the digits of a line `N report DIGITS`.
 #[tactic(auto, unfolding(crate::specs::Label::reported))]
 fn reported(line: &[u8]) -> Option<(u64, &[u8])>

@@ -13,6 +13,7 @@ mod line;
 mod lines;
 mod packet_words;
 mod read;
+mod refusals;
 mod telemetry;
 mod text;
 
@@ -25,3 +26,4 @@ pub use mm_base::NoMemory;
 pub use mm_packet::SEQUENCE_COUNTS;
 pub use mm_problem::Fault;
 pub use read::read_bytes;
+pub use refusals::{MOST_KEPT, Place, Refusals, RefusedPlace, Replies};

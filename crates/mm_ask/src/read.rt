@@ -10,13 +10,14 @@ ghost use Rattle.mm_ask.specs.Reads.{Reads, without_spaces};
 
 use crate::answering::Outcome;
 use crate::fault::LineFault;
-use crate::label::{is_answer, labelled};
+use crate::label::{is_answer, labelled, refused_in};
 use crate::line::packet_of;
 use crate::lines::{TakeLine, take_lines};
 use crate::packet_words::{push_header_line, push_report, push_request};
+use crate::refusals::{Place, Refusals, Replies};
 use crate::text::push_refused_line;
-use mm_base::NoMemory;
 use mm_base::lines::cut_word;
+use mm_base::{NoMemory, Refused};
 use mm_packet::Packet;
 use mm_st15::{Report, Request};
 use std::alloc::{AllocError, Global};
@@ -27,6 +28,8 @@ use std::marker::Model;
 struct Reading {
     text: Vec<u8>,
     outcome: Outcome,
+    // What is told beside the text, of which no contract speaks.
+    refused: Refusals,
 }
 
 impl Model for Reading {
@@ -71,6 +74,7 @@ impl Reading {
         Reading {
             text: Vec::new(alloc),
             outcome: Outcome::AllDone,
+            refused: Refusals::new(alloc),
         }
     }
 
@@ -80,16 +84,18 @@ impl Reading {
     {
         self.outcome = Outcome::SomeRefused;
         push_refused_line(&mut self.text, number, fault)?;
+        self.refused.add(Place::Line(number), fault.refusal())?;
         Ok(())
     }
 
-    // Prints a line as it stands.
+    // Prints an answer of `ask` as it stands.
     #[tactic(auto, using(std::proofs::Common::append_assoc))]
-    fn repeat(&mut self, line: &[u8]) -> Result<(), NoMemory>
+    fn repeat(&mut self, alloc: Global, line: &[u8]) -> Result<(), NoMemory>
         ensures { OnOk result (self.new ≡ with_lines (line.now ++ line_feed ∷ []) self.old) }
     {
         self.text.extend_from_slice(line)?;
         self.text.push(b'\n')?;
+        self.refused.add_said(alloc, refused_in(line))?;
         Ok(())
     }
 
@@ -166,7 +172,7 @@ impl TakeLine for Reading {
 
     fn take(&mut self, alloc: Global, line: u64, octets: &[u8]) -> Result<(), NoMemory> {
         if is_answer(octets) {
-            self.repeat(octets)
+            self.repeat(alloc, octets)
         } else {
             let (number, digits) = labelled(line, octets);
             self.digits(alloc, number, digits)
@@ -175,11 +181,20 @@ impl TakeLine for Reading {
 }
 
 /// The text that says in words and numbers what packets are, one a line in hexadecimal digits, or after the words with
-/// which `ask` prints a report; and whether each was a packet of the storage service.
-pub fn read_bytes(alloc: Global, packets: &[u8]) -> Result<(Outcome, Vec<u8>), NoMemory>
-    ensures reads { IfOk result (λ r. Reads packets.now r.0 r.1.items) }
+/// which `ask` prints a report; whether each was a packet of the storage service, and what was refused.
+pub fn read_bytes(alloc: Global, packets: &[u8]) -> Result<Replies, NoMemory>
+    ensures reads { IfOk result (λ r. Reads packets.now r.outcome r.text.items) }
 {
     let mut reading = Reading::new(alloc);
     take_lines(alloc, &mut reading, packets)?;
-    Ok((reading.outcome, reading.text))
+    let Reading {
+        outcome,
+        text,
+        refused,
+    } = reading;
+    Ok(Replies {
+        outcome,
+        text,
+        refused,
+    })
 }

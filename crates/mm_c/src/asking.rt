@@ -31,9 +31,9 @@ pub extern "C" fn rudlayog_ask(
     ensures told { Tells (Replies setup.now requests.now outcome.new) (LeavesUnasked setup.now outcome.new) out.old out.new answer.new }
 {
     match ask_bytes(alloc, setup, requests) {
-        Ok((replied, lines)) => {
-            *outcome = code_of_outcome(replied);
-            *answer = tell_text(&lines, out);
+        Ok(replies) => {
+            *outcome = code_of_outcome(replies.outcome);
+            *answer = tell_text(&replies.text, out);
         }
         Err(fault) => {
             *outcome = 0;
@@ -55,9 +55,9 @@ pub extern "C" fn rudlayog_read(
     ensures told { Tells (IsInWords packets.now outcome.new) (LeavesUnread outcome.new) out.old out.new answer.new }
 {
     match read_bytes(alloc, packets) {
-        Ok((told, lines)) => {
-            *outcome = code_of_outcome(told);
-            *answer = tell_text(&lines, out);
+        Ok(replies) => {
+            *outcome = code_of_outcome(replies.outcome);
+            *answer = tell_text(&replies.text, out);
         }
         Err(_) => {
             *outcome = 0;

@@ -45,7 +45,8 @@ no-bad-reply replied.SomeRefused e = absurd (cc)
 
 no-bad-run : (o : Ended) → BadCommandLine ≡ status_of_run o → ⊥
 no-bad-run ended.CarriedOut e = absurd (cc)
-no-bad-run (ended.Stopped refusal) e = absurd (cc)
+no-bad-run ended.Unreported e = absurd (cc)
+no-bad-run (ended.Stopped cause) e = absurd (cc)
 
 -- what answers a task is no bad command line
 no-bad-answer : (contents : Contents) (task : Task) (text : List ℕ) → AnswersTask contents task BadCommandLine text → ⊥

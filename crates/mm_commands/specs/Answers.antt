@@ -103,7 +103,8 @@ pub record Says (status : Status) (text packets : List ℕ) : Type 0 where
 
 abbrev pub status_of_run : Ended → Status
 status_of_run ended.CarriedOut = Done
-status_of_run (ended.Stopped refusal) = Refused
+status_of_run ended.Unreported = Refused
+status_of_run (ended.Stopped cause) = Refused
 
 -- the file of the plan has these bytes, where one is named
 abbrev pub HoldsPlan : Contents → Option (Bor (List ℕ)) → Option (List ℕ) → Type 0
@@ -151,13 +152,13 @@ AnswersTask contents (Read packets) status text = Of contents packets.now (Says 
 -- the text of an answer, and the status
 abbrev pub text_in : Answer → List ℕ
 text_in (Text text output) = text.items
-text_in (Lines outcome lines) = lines.items
+text_in (Lines replies) = replies.text.items
 text_in (Line verdict line) = line.items
 text_in (Run printed) = text_of printed
 
 abbrev pub status_in : Answer → Status
 status_in (Text text output) = Done
-status_in (Lines outcome lines) = status_of_replies outcome
+status_in (Lines replies) = status_of_replies replies.outcome
 status_in (Line verdict line) = status_of verdict
 status_in (Run printed) = status_of_run printed.outcome
 

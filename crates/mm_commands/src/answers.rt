@@ -12,7 +12,7 @@ ghost use Rattle.mm_commands.specs.Refusing.{IsFlightFault, IsFaultOf};
 use crate::fault::Fault;
 use crate::status::Status;
 use crate::texts::TaskTexts;
-use mm_ask::{Outcome, ask_bytes, read_bytes};
+use mm_ask::{Outcome, Replies, ask_bytes, read_bytes};
 use mm_chart::{chart_bytes, table_bytes};
 use mm_command_line::{FlightFiles, Task};
 use mm_cut::{Verdict, check_bytes};
@@ -31,10 +31,7 @@ pub(crate) enum Answer<'a> {
         output: Option<&'a str>,
     },
     /// The lines that answer requests, or say what packets are.
-    Lines {
-        outcome: Outcome,
-        lines: Vec<u8>,
-    },
+    Lines(Replies),
     /// The line of a verdict.
     Line {
         verdict: Verdict,
@@ -71,11 +68,11 @@ impl Answer<'_> {
     {
         match self {
             Answer::Text { .. } => Status::Done,
-            Answer::Lines { outcome, .. } => status_of_replies(*outcome),
+            Answer::Lines(replies) => status_of_replies(replies.outcome),
             Answer::Line { verdict, .. } => status_of(*verdict),
             Answer::Run(printed) => match printed.outcome {
                 mm_run::Outcome::CarriedOut => Status::Done,
-                mm_run::Outcome::Stopped(_) => Status::Refused,
+                mm_run::Outcome::Unreported | mm_run::Outcome::Stopped(_) => Status::Refused,
             },
         }
     }
@@ -143,12 +140,12 @@ pub(crate) fn answer_to<'a, R: Threads + Wait + Sync>(
         }
         Task::Fly(files) => Ok(Answer::Run(carry_out(rt, alloc, files, texts)?)),
         Task::Ask { .. } => {
-            let (outcome, lines) = ask_bytes(alloc, &texts.setup, &texts.packets)?;
-            Ok(Answer::Lines { outcome, lines })
+            let replies = ask_bytes(alloc, &texts.setup, &texts.packets)?;
+            Ok(Answer::Lines(replies))
         }
         Task::Read { .. } => {
-            let (outcome, lines) = read_bytes(alloc, &texts.packets)?;
-            Ok(Answer::Lines { outcome, lines })
+            let replies = read_bytes(alloc, &texts.packets)?;
+            Ok(Answer::Lines(replies))
         }
     }
 }

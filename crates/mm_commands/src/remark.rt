@@ -5,25 +5,17 @@ use crate::answers::Answer;
 use crate::file_name::Shown;
 use crate::status::Status;
 use crate::texts::TaskTexts;
-use memchr::memmem;
-use mm_base::Refusal;
-use mm_base::lines::{cut_word, first_line};
+use mm_ask::{MOST_KEPT, Place, RefusedPlace, Replies};
+use mm_base::{Refusal, Refused};
 use mm_command_line::{Role, Task};
 use mm_cut::Verdict;
-use mm_run::Outcome;
+use mm_run::{Cause, Given, Outcome, Printed, Untaken};
 use mm_told::{
-    Hint, Reason, RequestHints, Spot, Texts, Words, fit_hint, hint_for, notes_on, opening_hint,
-    refusal_numbered,
+    EndsHint, Hint, RequestHints, Texts, Words, fit_hint, notes_on, opening_hint, refusal_numbered,
 };
 use std::alloc::Global;
 use std::fmt;
 use std::io::{self, Write};
-
-/// What stands in an answer before the number of a refusal.
-const REFUSED: &[u8] = b" refused ";
-
-/// How many lines are told of each refusal.
-const MOST_TOLD: u8 = 10;
 
 /// What is said of a plan text that stands in front of the other files.
 const PLAN_MISPLACED: &str =
@@ -61,89 +53,42 @@ impl fmt::Display for Remark<'_> {
     }
 }
 
-// The place in its file that a line of an answer tells as refused, and the refusal.
-#[derive(Clone, Copy)]
-struct Refused<'a> {
-    line: &'a str,
-    instruction: Option<&'a str>,
-    refusal: Refusal,
-}
-
-impl<'a> Refused<'a> {
-    // What a line of an answer refuses, as `3 refused 49 HexLine` and `3.1 refused 24 Exists` do.
-    fn of(answer: &'a [u8]) -> Option<Refused<'a>> {
-        let at = memmem::find(answer, REFUSED)?;
-        let (number, _) = cut_word(&answer[at + REFUSED.len()..])?;
-        let refusal = refusal_numbered(std::str::from_utf8(number).ok()?.parse().ok()?)?;
-        let place = std::str::from_utf8(&answer[..at]).ok()?;
-        Some(match place.split_once('.') {
-            Some((line, instruction)) => Refused {
-                line,
-                instruction: Some(instruction),
-                refusal,
-            },
-            None => Refused {
-                line: place,
-                instruction: None,
-                refusal,
-            },
-        })
-    }
-
-    // What is found in the line of the requests.
-    fn hint(&self, requests: &mut RequestHints<'_>) -> Option<Hint> {
-        requests.hint(self.refusal, self.line.parse().ok()?)
-    }
-}
-
-impl fmt::Display for Refused<'_> {
-    fn fmt<W: fmt::Write>(&self, f: &mut fmt::Formatter<W>) -> fmt::Result {
-        write!(f, "{}", self.line)?;
-        if let Some(instruction) = self.instruction {
-            write!(f, ", instruction {instruction}")?;
-        }
-        write!(f, ": {}", Words::of(self.refusal))
-    }
-}
-
-// What is said of a line that is refused: the file of the packets, what the numbers count there, and the place with the words.
+// What is said of a place that is refused: the file of the packets, what the numbers count there, and the place with the words.
 #[derive(Clone, Copy)]
 struct RefusedIn<'a> {
     file: &'a str,
     counted: &'static str,
-    refused: Refused<'a>,
+    place: &'a Place,
+    refusal: Refusal,
+}
+
+impl RefusedIn<'_> {
+    // What is found in the line of the requests.
+    fn hint(&self, requests: &mut RequestHints<'_>) -> Option<Hint> {
+        match *self.place {
+            Place::Line(line) | Place::Instruction { line, .. } => {
+                requests.hint(self.refusal, line)
+            }
+            Place::Said(_) => None,
+        }
+    }
 }
 
 impl fmt::Display for RefusedIn<'_> {
     fn fmt<W: fmt::Write>(&self, f: &mut fmt::Formatter<W>) -> fmt::Result {
-        write!(f, "{}, {} {}", Shown(self.file), self.counted, self.refused)
-    }
-}
-
-// How often each refusal was told, by its number, and how many more there were.
-#[derive(Drop)]
-struct Tally {
-    told: [u8; 256],
-    untold: u64,
-}
-
-impl Tally {
-    fn new() -> Tally {
-        Tally {
-            told: [0; 256],
-            untold: 0,
+        write!(f, "{}, {} ", Shown(self.file), self.counted)?;
+        match self.place {
+            Place::Line(line) => write!(f, "{line}")?,
+            Place::Instruction { line, number } => write!(f, "{line}, instruction {number}")?,
+            Place::Said(place) => {
+                let place = std::str::from_utf8(place).unwrap_or_default();
+                match place.split_once('.') {
+                    Some((line, number)) => write!(f, "{line}, instruction {number}")?,
+                    None => write!(f, "{place}")?,
+                }
+            }
         }
-    }
-
-    // Counts the refusal, and says whether it is one of the first `MOST_TOLD`.
-    fn count(&mut self, refusal: Refusal) -> bool {
-        let told = &mut self.told[usize::from(refusal.number())];
-        if *told < MOST_TOLD {
-            *told += 1;
-            return true;
-        }
-        self.untold = self.untold.saturating_add(1);
-        false
+        write!(f, ": {}", Words::of(self.refusal))
     }
 }
 
@@ -199,16 +144,24 @@ fn tell_hint<E: Write>(hint: Option<Hint>, err: &mut E) -> io::Result<()> {
     }
 }
 
-// Says why a run did not begin or was halted, of which `end` is the line.
+// Says why a run did not begin or was halted, or that there is no memory for its report.
 fn tell_stop<E: Write>(
     alloc: Global,
     task: Task<'_>,
-    refusal: Refusal,
-    end: &[u8],
+    printed: &Printed,
     texts: Texts<'_>,
     err: &mut E,
 ) -> io::Result<()> {
-    let hint = hint_of_run(alloc, refusal, end, texts);
+    let (refusal, hint) = match printed.outcome {
+        Outcome::CarriedOut => return Ok(()),
+        Outcome::Unreported => (Refusal::NoMemory, None),
+        Outcome::Stopped(cause) => {
+            (
+                cause.refusal(),
+                hint_of_run(alloc, cause, printed.given, texts),
+            )
+        }
+    };
     writeln!(err, "{}", Advice::of_run(task, refusal, hint.as_ref()))?;
     tell_hint(hint, err)
 }
@@ -230,36 +183,26 @@ fn tell_verdict<E: Write>(
     }
 }
 
-// What is found in the files of a run that did not begin, of which this is the line.
-fn hint_of_run(alloc: Global, refusal: Refusal, end: &[u8], texts: Texts<'_>) -> Option<Hint> {
-    let end = std::str::from_utf8(end).ok()?;
-    match refusal {
-        Refusal::OpeningDiffers => {
-            let (_, store) = end.split_once(" store ")?;
-            opening_hint(alloc, texts, store.trim_end())
+// What is found where a run that was given this did not begin.
+fn hint_of_run(alloc: Global, cause: Cause, given: Given, texts: Texts<'_>) -> Option<Hint> {
+    match cause {
+        Cause::OpeningDiffers { store } => {
+            opening_hint(alloc, texts.setup, store, given.opening)
         }
-        Refusal::PlanDoesNotFit => {
-            let (_, step) = end.split_once(" step ")?;
-            fit_hint(alloc, texts, step.trim_end().parse().ok()?)
-        }
-        _ => {
-            let spot = Spot::Whole;
-            hint_for(alloc, Reason { refusal, spot }, texts)
-        }
+        Cause::PlanDoesNotFit { step } => fit_hint(alloc, texts, step),
+        Cause::Counts => Some(Hint::Ends(EndsHint::of_counts(given.sources, given.links))),
+        _ => None,
     }
 }
 
-// Says what in the files of a task has no effect.
+// Says what in the setup of a task has no effect.
 fn tell_notes<E: Write>(
     alloc: Global,
     task: Task<'_>,
     texts: Texts<'_>,
     err: &mut E,
 ) -> io::Result<()> {
-    if packets_of(task).is_some() {
-        return Ok(());
-    }
-    let Ok(notes) = notes_on(alloc, task.file(Role::Links).is_some(), texts) else {
+    let Ok(notes) = notes_on(alloc, task.file(Role::Links).is_some(), texts.setup) else {
         return Ok(());
     };
     for note in &notes {
@@ -268,43 +211,70 @@ fn tell_notes<E: Write>(
     Ok(())
 }
 
-// Says what a line means that is refused, and what is found in it.
-fn tell_line<E: Write>(
+// Says which packets of a run go to no store.
+fn tell_untaken<E: Write>(untaken: Option<Untaken>, err: &mut E) -> io::Result<()> {
+    let Some(
+        Untaken {
+            line,
+            apid,
+            service,
+            subtype,
+        },
+    ) = untaken
+    else {
+        return Ok(());
+    };
+    writeln!(
+        err,
+        "note: no route takes APID {apid}, service {service}, subtype {subtype}, as line {line} of the sources has it; such packets go to no store"
+    )
+}
+
+// Says what is refused at a place, and what is found there.
+fn tell_place<E: Write>(
     told: RefusedIn<'_>,
     hints: &mut RequestHints<'_>,
     err: &mut E,
 ) -> io::Result<()> {
     writeln!(err, "{told}")?;
-    tell_hint(told.refused.hint(hints), err)
+    tell_hint(told.hint(hints), err)
 }
 
-// Says what the lines mean that are refused: of each refusal the first `MOST_TOLD`, and then how many more there are.
+// How many places are not kept of the refusals that there are.
+fn untold(counts: &[u64; 256]) -> u64 {
+    let mut untold: u64 = 0;
+    for (number, count) in counts.iter().enumerate() {
+        if refusal_numbered(number as u32).is_some() {
+            untold = untold.saturating_add(count.saturating_sub(MOST_KEPT));
+        }
+    }
+    untold
+}
+
+// Says what is refused: of each refusal the first places, and then how many more there are.
 fn tell_refused<E: Write>(
     task: Task<'_>,
     requests: &[u8],
-    lines: &[u8],
+    replies: &Replies,
     err: &mut E,
 ) -> io::Result<()> {
-    let (Some((file, counted)), Ok(_)) = (packets_of(task), std::str::from_utf8(lines)) else {
+    let (Some((file, counted)), Ok(_)) = (packets_of(task), std::str::from_utf8(&replies.text))
+    else {
         return Ok(());
     };
     let mut hints = RequestHints::new(requests);
-    let mut tally = Tally::new();
-    let mut rest = lines;
-    while let Some((line, after)) = first_line(rest) {
-        if let Some(refused) = Refused::of(line) {
-            if tally.count(refused.refusal) {
-                let told = RefusedIn {
-                    file,
-                    counted,
-                    refused,
-                };
-                tell_line(told, &mut hints, err)?;
-            }
+    for RefusedPlace { place, number } in &replies.refused.first {
+        if let Some(refusal) = refusal_numbered(u32::from(*number)) {
+            let told = RefusedIn {
+                file,
+                counted,
+                place,
+                refusal,
+            };
+            tell_place(told, &mut hints, err)?;
         }
-        rest = after;
     }
-    match tally.untold {
+    match untold(&replies.refused.counts) {
         0 => Ok(()),
         untold => writeln!(
             err,
@@ -325,25 +295,26 @@ pub(crate) fn tell_more<E: Write>(
 ) -> io::Result<()> {
     match answer {
         Answer::Text { .. } => {}
-        Answer::Lines { lines, .. } => {
+        Answer::Lines(replies) => {
             // A number that `read` prints need not be that of a line of its file.
             let requests = match task {
                 Task::Ask { .. } => texts.packets.as_slice(),
                 _ => &[],
             };
-            tell_refused(task, requests, lines, err)?;
+            return tell_refused(task, requests, replies, err);
         }
         Answer::Line { verdict, .. } => {
             tell_verdict(alloc, task, *verdict, texts.hinted(), err)?;
         }
         Answer::Run(printed) => {
-            if let Outcome::Stopped(refusal) = printed.outcome {
-                tell_stop(alloc, task, refusal, &printed.end, texts.hinted(), err)?;
-            }
+            tell_stop(alloc, task, printed, texts.hinted(), err)?;
         }
     }
     if matches!(answer.status(), Status::Done) {
         tell_notes(alloc, task, texts.hinted(), err)?;
+        if let Answer::Run(printed) = answer {
+            tell_untaken(printed.given.untaken, err)?;
+        }
     }
     Ok(())
 }

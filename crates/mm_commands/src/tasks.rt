@@ -118,7 +118,7 @@ fn print<W: Write>(answer: &Answer<'_>, out: &mut W) -> io::Result<()>
 {
     match answer {
         Answer::Text { text, .. } => out.write_all(text),
-        Answer::Lines { lines, .. } => out.write_all(lines),
+        Answer::Lines(replies) => out.write_all(&replies.text),
         Answer::Line { line, .. } => out.write_all(line),
         Answer::Run(printed) => {
             out.write_all(&printed.sheet)?;

@@ -1,11 +1,9 @@
 -- What a run prints.
 use Rattle.std.specs.Prelude.{◌≡◌, ◌⊎◌, ℕ, List, [], ◌++◌, Option, Some, None}
-use Rattle.mm_base.specs.declared.refusal.Refusal.TheVariants as refusal
-use Rattle.mm_report.specs.Cause.{refusal_of}
 use Rattle.mm_report.specs.Report.{Reported}
 use Rattle.mm_report.specs.Text.{report_text}
 use Rattle.mm_report.specs.declared.cause.Cause.{Cause}
-use Rattle.mm_run.specs.declared.printed.Outcome.TheVariants.{CarriedOut, Stopped}
+use Rattle.mm_run.specs.declared.printed.Outcome.TheVariants.{CarriedOut, Unreported, Stopped}
 use Rattle.mm_run.specs.declared.printed.Printed.{Printed}
 use Rattle.mm_run.specs.Ending.{step_of, end_line, lacking_line}
 
@@ -22,7 +20,7 @@ pub record TellsAll (sheet : List ℕ) (report : Reported) (p : Printed) : Type 
   pub sheet_is : p.sheet.items ≡ sheet
   pub end_is : p.end.items ≡ []
   pub report_is : ((p.report.items ≡ report_text report) × (p.outcome ≡ CarriedOut))
-      ⊎ ((p.report.items ≡ lacking_line) × (p.outcome ≡ Stopped refusal.NoMemory))
+      ⊎ ((p.report.items ≡ lacking_line) × (p.outcome ≡ Unreported))
 
 -- a run that was halted has its report printed, and one that did not begin has none
 abbrev pub TellsOf : Option ℕ → Reported → List ℕ → Type 0
@@ -34,4 +32,4 @@ pub record TellsEnd (sheet : List ℕ) (cause : Cause) (report : Reported) (p : 
   pub sheet_is : p.sheet.items ≡ sheet
   pub end_is : p.end.items ≡ end_line cause
   pub report_is : TellsOf (step_of cause) report p.report.items
-  pub outcome_is : p.outcome ≡ Stopped (refusal_of cause)
+  pub outcome_is : p.outcome ≡ Stopped cause

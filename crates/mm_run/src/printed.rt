@@ -3,7 +3,8 @@ ghost use Rattle.std.specs.Prelude.{◌≡◌, [], IfOk};
 ghost use Rattle.mm_report.specs.declared.cause.Cause.{Cause};
 
 use crate::ending::{push_end, push_lacking, step_of};
-use mm_base::{NoMemory, Refusal, Refused};
+use crate::untaken::Untaken;
+use mm_base::NoMemory;
 use mm_report::{Cause, Report};
 use std::alloc::Global;
 
@@ -11,11 +12,26 @@ use std::alloc::Global;
 #[derive(Clone, Copy, Debug, PartialEq, Eq)]
 pub enum Outcome {
     CarriedOut,
-    /// The run did not begin, or was halted, or there is no memory for the report.
-    Stopped(Refusal),
+    /// The run was carried out whole, and there is no memory for its report.
+    Unreported,
+    /// The run did not begin, or was halted.
+    Stopped(Cause),
 }
 
-/// What a run prints: three texts, one after the other.
+/// What a run was given: what people are told of it.
+#[derive(Clone, Copy, Debug, PartialEq, Eq)]
+pub struct Given {
+    /// How many sources there are.
+    pub sources: usize,
+    /// How many links there are.
+    pub links: usize,
+    /// How many packets of step 0 went to the store that does not hold its start volume, where that is the cause.
+    pub opening: u64,
+    /// The first packet that goes to no store, though it is telemetry.
+    pub untaken: Option<Untaken>,
+}
+
+/// What a run prints: three texts, one after the other. Beside them, how it ended and what it was given.
 #[derive(Debug, Drop)]
 pub struct Printed {
     /// The plan text, where the plan was made here.
@@ -25,6 +41,7 @@ pub struct Printed {
     /// The line on why the run did not begin or was halted, where one of these is so.
     pub end: Vec<u8>,
     pub outcome: Outcome,
+    pub given: Given,
 }
 
 /// Room for the lines that are printed where there is no memory any more.
@@ -58,6 +75,7 @@ impl Printed {
         sheet: Vec<u8>,
         reserved: ReservedLines,
         report: &Report,
+        given: Given,
     ) -> Result<Printed, NoMemory>
         requires empty { reserved.report.items ≡ [] }
         requires no_end { reserved.end.items ≡ [] }
@@ -73,6 +91,7 @@ impl Printed {
                 report,
                 end,
                 outcome: Outcome::CarriedOut,
+                given,
             }),
             Err(NoMemory) => {
                 push_lacking(&mut lacking)?;
@@ -80,7 +99,8 @@ impl Printed {
                     sheet,
                     report: lacking,
                     end,
-                    outcome: Outcome::Stopped(Refusal::NoMemory),
+                    outcome: Outcome::Unreported,
+                    given,
                 })
             }
         }
@@ -91,29 +111,31 @@ impl Printed {
         alloc: Global,
         sheet: Vec<u8>,
         reserved: ReservedLines,
-        cause: &Cause,
+        cause: Cause,
         report: &Report,
+        given: Given,
     ) -> Result<Printed, NoMemory>
         requires empty { reserved.report.items ≡ [] }
         requires no_end { reserved.end.items ≡ [] }
-        ensures { IfOk result (TellsEnd sheet.items cause.now report.now) }
+        ensures { IfOk result (TellsEnd sheet.items cause report.now) }
     {
         let ReservedLines {
             report: mut told,
             mut end,
         } = reserved;
-        if step_of(cause).is_some() {
+        if step_of(&cause).is_some() {
             match report.text(alloc) {
                 Ok(text) => told = text,
                 Err(NoMemory) => push_lacking(&mut told)?,
             }
         }
-        push_end(&mut end, cause)?;
+        push_end(&mut end, &cause)?;
         Ok(Printed {
             sheet,
             report: told,
             end,
-            outcome: Outcome::Stopped(cause.refusal()),
+            outcome: Outcome::Stopped(cause),
+            given,
         })
     }
 }

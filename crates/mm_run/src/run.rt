@@ -13,17 +13,19 @@ use crate::fault::Fault;
 use crate::laws::constants_are;
 use crate::link::ScriptedLink;
 use crate::opening::offer_all;
-use crate::printed::{Printed, ReservedLines};
+use crate::printed::{Given, Printed, ReservedLines};
 use crate::source::ScriptedSource;
 use crate::texts::{
     ProblemAndMemory, RunTexts, SourcesAndLinks, read_plan, read_problem_and_memory,
     read_sources_and_links,
 };
+use crate::untaken::Untaken;
 use mm_base::NoMemory;
 use mm_exec::{Flown, FlyHalted, FlyResult, Halted, carry_out, fly};
 use mm_memory::Memory;
 use mm_plan::Sheet;
 use mm_problem::Problem;
+use mm_report::Cause;
 use std::alloc::Global;
 use std::sync::Wait;
 use std::thread::Threads;
@@ -74,6 +76,17 @@ fn fly_plan<R: Threads + Wait + Sync>(
     }
 }
 
+// How many packets the store was offered that does not hold its start volume, where that is the cause.
+fn offered_for(memory: &Memory, cause: Cause) -> u64 {
+    let Cause::OpeningDiffers { store } = cause else {
+        return 0;
+    };
+    match memory.state(&store) {
+        Some(state) => state.offered(),
+        None => 0,
+    }
+}
+
 // Carries the plan out, and says what is printed of it.
 fn print_run<R: Threads + Wait + Sync>(
     rt: &R,
@@ -83,17 +96,25 @@ fn print_run<R: Threads + Wait + Sync>(
     sheet: Option<Sheet>,
     sources: Vec<ScriptedSource>,
     links: Vec<ScriptedLink>,
+    untaken: Option<Untaken>,
 ) -> Result<Printed, NoMemory>
     requires limits { AreWithinLimits gives (length problem.now.windows) memory.old.stores sources.items }
     requires unfailed { All (λ l. l.failed < 2 ^ 64 - 1) links.items }
     ensures { IfOk result (RunEnds sheet problem.now memory.old sources.items links.items) }
 {
     let reserved = ReservedLines::new(alloc)?;
+    let mut given = Given {
+        sources: sources.len(),
+        links: links.len(),
+        opening: 0,
+        untaken,
+    };
     match fly_plan(rt, alloc, memory, problem, sheet, sources, links) {
-        Ok(Flown { sheet, report, .. }) => Printed::whole(alloc, sheet, reserved, &report),
+        Ok(Flown { sheet, report, .. }) => Printed::whole(alloc, sheet, reserved, &report, given),
         Err(FlyHalted { sheet, halted }) => {
             let Halted { cause, report, .. } = halted;
-            Printed::stopped(alloc, sheet, reserved, &cause, &report)
+            given.opening = offered_for(memory, cause);
+            Printed::stopped(alloc, sheet, reserved, cause, &report, given)
         }
     }
 }
@@ -119,10 +140,20 @@ fn carry<R: Threads + Wait + Sync>(
         opening,
         sources,
         links,
+        untaken,
     } = sides;
     constants_are();
     offer_all(alloc, &mut memory, opening.as_slice())?;
-    print_run(rt, alloc, &mut memory, &problem, sheet, sources, links)
+    print_run(
+        rt,
+        alloc,
+        &mut memory,
+        &problem,
+        sheet,
+        sources,
+        links,
+        untaken,
+    )
 }
 
 /// What is printed of the run that the texts say: the packets of step 0 are offered at the moment 0, and then the plan is carried out, its
@@ -140,7 +171,7 @@ pub fn run_texts<R: Threads + Wait + Sync>(
 {
     let start = read_problem_and_memory(alloc, texts.setup, texts.forecast)?;
     let sheet = read_plan(alloc, &start.problem, plan)?;
-    let sides = read_sources_and_links(alloc, texts.sources, texts.links)?;
+    let sides = read_sources_and_links(alloc, &start.memory, texts.sources, texts.links)?;
     let printed = carry(rt, alloc, start, sheet, sides)?;
     Ok(printed)
 }

@@ -9,6 +9,7 @@ ghost use Rattle.mm_run.specs.Sources.{given, Says, AreFew, source_lines_of};
 use crate::script_fault::ScriptFault;
 use crate::source::{MAX_PACKETS, ScriptedSource};
 use crate::source_line::{SourceLine, source_line_at};
+use crate::untaken::Unrouted;
 use mm_base::NoMemory;
 use mm_base::lines::first_line;
 use mm_packet::BlockPacket;
@@ -89,6 +90,7 @@ impl Draft {
     ghost use Rattle.mm_run.specs.SourceLine.{IsSourceLine};
     ghost use Rattle.mm_run.specs.Sources.{with_source_line, with_line};
     ghost use Rattle.mm_run.specs.Drafts.{IsRead, Adds};
+    ghost use Rattle.mm_run.specs.declared.script_fault.ScriptFault.TheVariants.{SourcesText};
 
     fn new(alloc: Global) -> Draft
         ensures { IsRead [] result }
@@ -126,11 +128,19 @@ impl Draft {
         Ok(())
     }
 
-    // Adds a line, where it is what stands there.
-    fn take(&mut self, alloc: Global, bad: ScriptFault, line: &[u8]) -> Result<(), ScriptFault>
-        ensures { (earlier : List SourceLine) → IsRead earlier self.old → Adds (with_line bad earlier line.now) self.new result }
+    // Adds the line of this number, where it is what stands there.
+    fn take(
+        &mut self,
+        alloc: Global,
+        number: u64,
+        line: &[u8],
+        unrouted: &mut Unrouted<'_>,
+    ) -> Result<(), ScriptFault>
+        ensures { (earlier : List SourceLine) → IsRead earlier self.old → Adds (with_line (SourcesText number) earlier line.now) self.new result }
     {
+        let bad = ScriptFault::SourcesText { line: number };
         let source_line = source_line_at(alloc, bad, line)?;
+        unrouted.note(number, source_line.packet.packet());
         self.add(alloc, bad, source_line)
     }
 }
@@ -144,11 +154,24 @@ impl SourceFile {
         ensures few { IfOk result (λ read. AreFew read.sources.items) }
         ensures refused { IfRefused ScriptFault.NoMemory result (λ e. source_lines_of text.now ≡ Err e) }
     {
+        SourceFile::read_noting(alloc, text, &mut Unrouted::new(None))
+    }
+
+    /// `read`, which looks for the first packet that no route takes.
+    pub(crate) fn read_noting(
+        alloc: Global,
+        text: &[u8],
+        unrouted: &mut Unrouted<'_>,
+    ) -> Result<SourceFile, ScriptFault>
+        ensures found { IfOk result (λ read. Says text.now read.opening.items read.sources.items) }
+        ensures few { IfOk result (λ read. AreFew read.sources.items) }
+        ensures refused { IfRefused ScriptFault.NoMemory result (λ e. source_lines_of text.now ≡ Err e) }
+    {
         let mut draft = Draft::new(alloc);
         let mut rest = text;
         let mut line: u64 = 1;
         while let Some((front, after)) = first_line(rest) {
-            draft.take(alloc, ScriptFault::SourcesText { line }, front)?;
+            draft.take(alloc, line, front, unrouted)?;
             rest = after;
             line += 1;
         }

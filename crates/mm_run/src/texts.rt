@@ -14,6 +14,7 @@ use crate::links::read_links;
 use crate::script_fault::ScriptFault;
 use crate::source::ScriptedSource;
 use crate::sources::SourceFile;
+use crate::untaken::{Unrouted, Untaken};
 use mm_cut::read_sheet;
 use mm_memory::Memory;
 use mm_packet::BlockPacket;
@@ -44,6 +45,7 @@ pub(crate) struct SourcesAndLinks {
     pub(crate) opening: Vec<BlockPacket>,
     pub(crate) sources: Vec<ScriptedSource>,
     pub(crate) links: Vec<ScriptedLink>,
+    pub(crate) untaken: Option<Untaken>,
 }
 
 /// Reads the setup and the forecast. Otherwise the first fault, of the setup and then of the forecast.
@@ -80,9 +82,10 @@ pub(crate) fn read_plan(
     }
 }
 
-/// Reads the sources and the links. Otherwise the first fault, of the sources and then of the links.
+/// Reads the sources, whose packets the memory has routes for, and the links. Otherwise the first fault, of the sources and then of the links.
 pub(crate) fn read_sources_and_links(
     alloc: Global,
+    memory: &Memory,
     sources: &[u8],
     links: &[u8],
 ) -> Result<SourcesAndLinks, ScriptFault>
@@ -91,11 +94,13 @@ pub(crate) fn read_sources_and_links(
     ensures unfailed { IfOk result (λ e. All (λ l. l.failed ≡ 0) e.links.items) }
     ensures refused { IfRefused script.NoMemory result (IsScriptFault sources.now links.now) }
 {
-    let SourceFile { opening, sources } = SourceFile::read(alloc, sources)?;
+    let mut unrouted = Unrouted::new(Some(memory));
+    let SourceFile { opening, sources } = SourceFile::read_noting(alloc, sources, &mut unrouted)?;
     let links = read_links(alloc, links)?;
     Ok(SourcesAndLinks {
         opening,
         sources,
         links,
+        untaken: unrouted.first,
     })
 }

@@ -16,8 +16,8 @@ mod tables;
 
 use crate::reason::Reason;
 use crate::spot::Spot;
-pub use ends::{EndsHint, ReportType, opening_hint};
-use ends::{counts_hint, links_hint, sources_hint};
+pub use ends::{EndsHint, opening_hint};
+use ends::{links_hint, sources_hint};
 pub use fit::fit_hint;
 use forecast::forecast_hint;
 use mm_base::Refusal;
@@ -88,8 +88,5 @@ fn said_of(alloc: Global, reason: Reason, texts: Texts<'_>) -> Option<Sentence> 
 /// What is found in the files of a task that is refused for this reason, if more can be said of it.
 #[must_use]
 pub fn hint_for(alloc: Global, reason: Reason, texts: Texts<'_>) -> Option<Hint> {
-    if matches!(reason.refusal, Refusal::Counts) {
-        return Some(Hint::Ends(counts_hint(texts)?));
-    }
     Some(Hint::Said(said_of(alloc, reason, texts)?))
 }

@@ -6,6 +6,7 @@ mod dumps;
 mod first_calls;
 mod gates;
 mod links;
+mod noting;
 mod records;
 mod reports;
 mod runs;

@@ -22,7 +22,6 @@ macro_rules! refused {
 mod bases;
 mod controls;
 mod hinting;
-mod noting;
 mod packets;
 mod reports;
 mod requests;

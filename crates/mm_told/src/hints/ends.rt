@@ -1,17 +1,16 @@
 //! Hints on the files of a run's sources and links.
 
+use crate::hints::Hint;
 use crate::hints::excerpt::Excerpt;
 use crate::hints::form::{form_hint, quoted};
 use crate::hints::lines::line_at;
-use crate::hints::packets::{number_in, packet_hint};
+use crate::hints::packets::packet_hint;
 use crate::hints::sentence::{Sentence, Shown};
-use crate::hints::{Hint, Texts};
 use mm_base::lines::{cut_word, first_line};
 use mm_base::numbers::Numeral;
-use mm_base::{RouteRow, StoreId, StoreRow};
+use mm_base::{RouteRow, StoreId};
 use mm_problem::Setup;
 use std::alloc::Global;
-use std::fmt;
 
 /// What is found in the files of a run's ends, or in the routes that lead to its stores.
 #[derive(Clone, Copy)]
@@ -34,6 +33,18 @@ pub enum EndsHint {
 }
 
 impl EndsHint {
+    /// What is found where a run has so many sources and links, which it does not take.
+    #[must_use]
+    pub fn of_counts(sources: usize, links: usize) -> EndsHint {
+        if sources == 0 {
+            EndsHint::Sources { found: 0 }
+        } else {
+            EndsHint::Links {
+                found: links as u64,
+            }
+        }
+    }
+
     pub(crate) fn sentence(self) -> Sentence {
         match self {
             EndsHint::Sources { found } => {
@@ -126,114 +137,6 @@ pub(crate) fn links_hint(text: &[u8], line: u64) -> Option<Sentence> {
     }
 }
 
-// The greatest number of a source.
-fn sources_in(text: &[u8]) -> u64 {
-    let mut rest = text;
-    let mut sources = 0;
-    while let Some((line, after)) = first_line(rest) {
-        if let Some((source, _, _)) = parts_of(line) {
-            sources = sources.max(source);
-        }
-        rest = after;
-    }
-    sources
-}
-
-// How many links a file says.
-fn links_in(text: &[u8]) -> Option<u64> {
-    let (line, _) = first_line(text)?;
-    let (_, number) = cut_word(line)?;
-    match Numeral::read(number, 99) {
-        Numeral::Number(links) => Some(links),
-        _ => None,
-    }
-}
-
-/// How many sources or links there are, where a run takes another number.
-pub(crate) fn counts_hint(texts: Texts<'_>) -> Option<EndsHint> {
-    let found = sources_in(texts.sources);
-    if found == 0 {
-        return Some(EndsHint::Sources { found });
-    }
-    let found = links_in(texts.links)?;
-    Some(EndsHint::Links { found })
-}
-
-/// The digits of the packet of a line of sources.
-pub(crate) fn digits_of(line: &[u8]) -> Option<&[u8]> {
-    let (_, _, digits) = parts_of(line)?;
-    Some(digits)
-}
-
-/// The report type of telemetry.
-#[derive(Clone, Copy)]
-pub struct ReportType {
-    pub(crate) apid: u64,
-    pub(crate) service: u64,
-    pub(crate) subtype: u64,
-}
-
-impl fmt::Display for ReportType {
-    fn fmt<W: fmt::Write>(&self, f: &mut fmt::Formatter<W>) -> fmt::Result {
-        write!(
-            f,
-            "APID {}, service {}, subtype {}",
-            self.apid, self.service, self.subtype
-        )
-    }
-}
-
-impl ReportType {
-    /// The report type of the packet in these digits; none of a telecommand.
-    pub(crate) fn of(digits: &[u8]) -> Option<ReportType> {
-        let front = number_in(digits, 0, 2)?;
-        if front & 0x1000 != 0 {
-            return None;
-        }
-        Some(ReportType {
-            apid: front & 0x07FF,
-            service: number_in(digits, 7, 1)?,
-            subtype: number_in(digits, 8, 1)?,
-        })
-    }
-
-    /// Whether a route takes it.
-    pub(crate) fn is_taken(&self, route: &RouteRow) -> bool {
-        u64::from(route.apid) == self.apid
-            && u64::from(route.service) == self.service
-            && u64::from(route.subtype) == self.subtype
-    }
-}
-
-// Whether a line of sources is of step 0, and its packet goes to this store.
-fn comes_before(line: &[u8], routes: &[RouteRow], store: StoreId) -> bool {
-    let Some((_, 0, digits)) = parts_of(line) else {
-        return false;
-    };
-    let Some(report) = ReportType::of(digits) else {
-        return false;
-    };
-    for route in routes {
-        if route.store == store && report.is_taken(route) {
-            return true;
-        }
-    }
-    false
-}
-
-// How many packets of step 0 go to a store.
-fn opening_of(sources: &[u8], routes: &[RouteRow], store: StoreId) -> u64 {
-    let mut rest = sources;
-    let mut packets: u64 = 0;
-    while let Some((line, after)) = first_line(rest) {
-        if comes_before(line, routes, store) {
-            packets = packets.saturating_add(1);
-        }
-        rest = after;
-    }
-    packets
-}
-
 /// Whether a route leads to a store.
 pub(crate) fn is_reached(routes: &[RouteRow], store: StoreId) -> bool {
     for route in routes {
@@ -244,34 +147,23 @@ pub(crate) fn is_reached(routes: &[RouteRow], store: StoreId) -> bool {
     false
 }
 
-// Why a store holds another number of packets than its start says.
-fn opening(setup: &Setup, row: &StoreRow, sources: &[u8]) -> EndsHint {
-    if is_reached(setup.routes(), row.id) {
-        EndsHint::Opening {
-            store: row.id,
-            found: opening_of(sources, setup.routes(), row.id),
-            start: row.start,
-        }
-    } else {
-        EndsHint::NoRoute { store: row.id }
+/// Why the store holds so many packets before a run, and not as many as its start in the setup says.
+#[must_use]
+pub fn opening_hint(alloc: Global, setup: &[u8], store: StoreId, found: u64) -> Option<Hint> {
+    let Ok(setup) = Setup::read(alloc, setup) else {
+        return None;
+    };
+    if !is_reached(setup.routes(), store) {
+        return Some(Hint::Ends(EndsHint::NoRoute { store }));
     }
-}
-
-// Why the store of this name in a setup holds another number of packets than its start says.
-fn opening_of_store(setup: &Setup, sources: &[u8], store: &str) -> Option<Hint> {
     for row in setup.stores() {
-        if row.id.text() == store.as_bytes() {
-            return Some(Hint::Ends(opening(setup, row, sources)));
+        if row.id == store {
+            return Some(Hint::Ends(EndsHint::Opening {
+                store,
+                found,
+                start: row.start,
+            }));
         }
     }
     None
-}
-
-/// Why the store of this name holds another number of packets before a run than its start says.
-#[must_use]
-pub fn opening_hint(alloc: Global, texts: Texts<'_>, store: &str) -> Option<Hint> {
-    match Setup::read(alloc, texts.setup) {
-        Ok(setup) => opening_of_store(&setup, texts.sources, store),
-        Err(_) => None,
-    }
 }

@@ -14,15 +14,9 @@ pub(crate) const TWO_STORES: &str =
     "[[store]]\nid = \"SCI\"\nsize = 4\ntype = \"bounded\"\nchannel = 0\n\n[[store]]\nid = \"HK\"\nsize = 2\ntype = \"circular\"\nchannel = 3\n\n[[route]]\napid = 100\nservice = 3\nsubtype = 25\nstore = \"SCI\"\n";
 
 // A call told this outcome and this text.
-pub(crate) fn is_told(
-    rt: &impl Abort,
-    name: &str,
-    told: &(Outcome, Vec<u8>),
-    outcome: Outcome,
-    want: &str,
-) {
-    let text = str::from_utf8(&told.1).expect(rt, name);
-    let is_so = told.0 == outcome && text == want;
+pub(crate) fn is_told(rt: &impl Abort, name: &str, told: &Replies, outcome: Outcome, want: &str) {
+    let text = str::from_utf8(&told.text).expect(rt, name);
+    let is_so = told.outcome == outcome && text == want;
     assert!(rt; is_so, "{name}: {text}");
 }
 

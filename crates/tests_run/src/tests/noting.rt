@@ -1,11 +1,11 @@
-//! The note on the first packet that no route takes, of made sources, beside a plain form of it, which looks at each line as a whole.
+//! The first packet that no route takes, of made sources, beside a plain form of it, which looks at the digits of each line.
 
 use mm_base::lines::{cut_word, first_line};
-use mm_base::numbers::Numeral;
 use mm_problem::Setup;
-use mm_told::{Note, Texts, notes_on};
-use std::alloc::Global;
+use mm_run::{RunTexts, Untaken, run_texts};
 use std::process::Abort;
+use std::sync::Wait;
+use std::thread::Threads;
 
 // The value of a hexadecimal digit.
 fn digit(byte: u8) -> Option<u64> {
@@ -30,16 +30,6 @@ fn number_in(digits: &[u8], first: usize, octets: usize) -> Option<u64> {
     Some(number)
 }
 
-// The digits of the packet of a line of sources.
-fn digits_of(line: &[u8]) -> Option<&[u8]> {
-    let (source, rest) = cut_word(line)?;
-    let (step, digits) = cut_word(rest)?;
-    match (Numeral::read(source, 8), Numeral::read(step, 256)) {
-        (Numeral::Number(_), Numeral::Number(_)) => Some(digits),
-        _ => None,
-    }
-}
-
 // The APID, the service and the subtype of telemetry.
 fn report_of(digits: &[u8]) -> Option<[u64; 3]> {
     let front = number_in(digits, 0, 2)?;
@@ -55,7 +45,9 @@ fn report_of(digits: &[u8]) -> Option<[u64; 3]> {
 
 // The report type of a line that no route takes.
 fn untaken(setup: &Setup, line: &[u8]) -> Option<[u64; 3]> {
-    let report = report_of(digits_of(line)?)?;
+    let (_, rest) = cut_word(line)?;
+    let (_, digits) = cut_word(rest)?;
+    let report = report_of(digits)?;
     for route in setup.routes() {
         let row = [
             u64::from(route.apid),
@@ -69,17 +61,13 @@ fn untaken(setup: &Setup, line: &[u8]) -> Option<[u64; 3]> {
     Some(report)
 }
 
-// What is said of the first line that no route takes.
-fn plain_note<R: Abort + AllocGlobal>(rt: &R, setup: &Setup, sources: &[u8]) -> Option<String> {
+// The first line that no route takes, and its report type.
+fn plain_untaken(setup: &Setup, sources: &[u8]) -> Option<(u64, [u64; 3])> {
     let mut rest = sources;
     for number in 1..u64::MAX {
         let (line, after) = first_line(rest)?;
         if let Some(report) = untaken(setup, line) {
-            let [apid, service, subtype] = report;
-            let said = format!(in rt.alloc();
-                "no route takes APID {apid}, service {service}, subtype {subtype}, as line {number} of the sources has it; such packets go to no store"
-            );
-            return Some(said.expect(rt, "memory"));
+            return Some((number, report));
         }
         rest = after;
     }
@@ -110,20 +98,13 @@ fn setup_of<R: Abort + AllocGlobal>(rt: &R, routes: usize) -> String {
     text
 }
 
-// What lines begin with, how many of the digits of a report type they have, and what follows all of these.
-static FRONTS: [&str; 8] = [
-    "1 2 ", "8 256 ", "1 2 ", "3 0 ", "01 2 ", "9 2 ", "1 257 ", "1 ",
-];
-
-static DIGITS: [usize; 8] = [18, 18, 18, 17, 18, 18, 18, 16];
+// What lines begin with.
+static FRONTS: [&str; 4] = ["1 2 ", "8 256 ", "3 0 ", "2 1 "];
 
 // Services of which no route is, with one digit that is another or both.
 static SERVICES: [usize; 4] = [0x13, 0x02, 0xF3, 0x40];
 
-static ENDS: [&str; 6] = ["0000", "", "0", " ", "\r", "00000000000000000000000000"];
-
-// Pushes a line with a packet of a report type. Five in so many lines are of a type beyond those of the routes, or have too few digits for
-// a service; some have too few for a subtype, and few are spelled otherwise.
+// Pushes a line with a packet of a report type, or with a telecommand. Four in so many lines are of a type beyond those of the routes.
 fn push_line<R: Abort + AllocGlobal>(
     rt: &R,
     text: &mut String,
@@ -131,39 +112,27 @@ fn push_line<R: Abort + AllocGlobal>(
     among: usize,
     state: &mut u64,
 ) {
-    let alloc = rt.alloc();
     let route = next(state, routes);
     let (mut apid, mut service, mut subtype) = (route / 4, 3, route % 4);
-    let mut digits = DIGITS.get(next(state, 8)).copied().unwrap_or(18);
     match next(state, among) {
-        0 => apid = next(state, 2048),
+        0 => apid = next(state, 2047),
         1 => service = SERVICES.get(next(state, 4)).copied().unwrap_or(0),
         2 => subtype = next(state, 256),
         3 => subtype = next(state, 16),
-        4 => digits = next(state, 16),
         _ => {}
     }
-    let kind = if next(state, 9) == 0 { 0x1800 } else { 0x0800 };
-    let front = FRONTS.get(next(state, 8)).copied().unwrap_or("1 2 ");
-    let first = kind + apid % 2048;
-    let line = format!(in alloc; "{front}{first:04x}C000000E20{service:02x}{subtype:02X}").expect(
-        rt, "memory",
-    );
-    let bad = if next(state, 30) == 0 {
-        next(state, line.len())
+    let (kind, length, rest) = if next(state, 9) == 0 {
+        (0x1800, "0004", "0000")
     } else {
-        line.len()
+        (0x0800, "000E", "000000000000000000000000")
     };
-    let cut = front.len().saturating_add(digits);
-    for (place, letter) in line.as_str().chars().take(cut).enumerate() {
-        let letter = if place == bad { 'G' } else { letter };
-        text.push(letter).expect(rt, "memory");
-    }
-    if digits == 18 {
-        let end = ENDS.get(next(state, 6)).copied().unwrap_or("0000");
-        text.push_str(end).expect(rt, "memory");
-    }
-    text.push('\n').expect(rt, "memory");
+    let front = FRONTS.get(next(state, 4)).copied().unwrap_or("1 2 ");
+    let first = kind + apid % 2048;
+    let line = format!(in rt.alloc();
+        "{front}{first:04x}C000{length}20{service:02x}{subtype:02X}{rest}\n"
+    );
+    text.push_str(line.expect(rt, "memory").as_str())
+        .expect(rt, "memory");
 }
 
 // Pushes so many lines.
@@ -180,34 +149,45 @@ fn push_lines<R: Abort + AllocGlobal>(
     }
 }
 
-// The notes on these sources have that of the plain form, or none where that has none.
-fn is_as_plain<R: Abort + AllocGlobal>(rt: &R, setup: &str, sources: &[u8]) {
-    let alloc: Global = rt.alloc();
-    let texts = Texts {
+// A forecast of one step, and links that no run takes.
+const FORECAST: &[u8] = b"step,window,A\n1,0,0\n";
+
+const LINKS: &[u8] = b"links 0\n";
+
+// What a run of these sources hands out is as the plain form says, though it does not begin.
+fn is_as_plain<R: Abort + AllocGlobal + Threads + Wait + Sync>(
+    rt: &R,
+    setup: &str,
+    sources: &[u8],
+) {
+    let read = Setup::read(rt.alloc(), setup.as_bytes()).expect(rt, "a setup");
+    let texts = RunTexts {
         setup: setup.as_bytes(),
-        forecast: &[],
-        plan: &[],
+        forecast: FORECAST,
         sources,
-        links: &[],
+        links: LINKS,
     };
-    let read = Setup::read(alloc, setup.as_bytes()).expect(rt, "a setup");
-    let mut said = None;
-    for note in &notes_on(alloc, true, texts).expect(rt, "memory") {
-        if let Note::Untaken { .. } = note {
-            said = Some(format!(in alloc; "{note}").expect(rt, "memory"));
-        }
-    }
-    let plain = plain_note(rt, &read, sources);
-    let is_same = match (&said, &plain) {
-        (Some(said), Some(plain)) => said.as_str() == plain.as_str(),
-        (None, None) => true,
-        _ => false,
+    let printed = run_texts(rt, rt.alloc(), texts, None).expect(rt, "texts");
+    let told = match printed.given.untaken {
+        Some(
+            Untaken {
+                line,
+                apid,
+                service,
+                subtype,
+            },
+        ) => Some((
+            line,
+            [u64::from(apid), u64::from(service), u64::from(subtype)],
+        )),
+        None => None,
     };
-    assert!(rt; is_same, "{said:?} for {plain:?}");
+    let plain = plain_untaken(&read, sources);
+    assert!(rt; told == plain, "{told:?} for {plain:?}");
 }
 
-// How many lines the sources have, and among how many of them five are strange. Where none is, a route takes each report type; of many
-// routes there are then more types than are remembered, and strange lines follow.
+// How many lines the sources have, and among how many of them four are strange. Where none is, a route takes each report type, and strange
+// lines follow.
 const NONE: usize = 1 << 40;
 
 static SIZES: [(usize, usize); 11] = [
