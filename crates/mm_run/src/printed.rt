@@ -94,7 +94,7 @@ impl Printed {
                 given,
             }),
             Err(NoMemory) => {
-                push_lacking(&mut lacking)?;
+                push_lacking(&mut lacking).map_err(|_| NoMemory)?;
                 Ok(Printed {
                     sheet,
                     report: lacking,
@@ -126,10 +126,10 @@ impl Printed {
         if step_of(&cause).is_some() {
             match report.text(alloc) {
                 Ok(text) => told = text,
-                Err(NoMemory) => push_lacking(&mut told)?,
+                Err(NoMemory) => push_lacking(&mut told).map_err(|_| NoMemory)?,
             }
         }
-        push_end(&mut end, &cause)?;
+        push_end(&mut end, &cause).map_err(|_| NoMemory)?;
         Ok(Printed {
             sheet,
             report: told,
