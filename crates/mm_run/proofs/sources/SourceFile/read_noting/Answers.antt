@@ -1,7 +1,7 @@
 use Rattle.std.proofs.Common.{[], arith, refl, sym}
 use Rattle.mm_run.specs.Sources.{source_lines_of}
 use Rattle.mm_run.proofs.FewLemmas.{few_given}
-use Rattle.mm_run.proofs.sources.SourceFile.read.Goals as goal
+use Rattle.mm_run.proofs.sources.SourceFile.read_noting.Goals as goal
 
 pub loop-front-init : goal.loop-front-init
 unfolding source_lines_of

@@ -3,7 +3,7 @@ use Rattle.mm_run.specs.declared.source_line.SourceLine.{SourceLine}
 use Rattle.mm_base.specs.Lines.{file_lines}
 use Rattle.mm_run.specs.Sources.{with_lines, source_lines_of}
 use Rattle.mm_run.specs.Drafts.{IsRead}
-use Rattle.mm_run.proofs.sources.SourceFile.read.Given as goal
+use Rattle.mm_run.proofs.sources.SourceFile.read_noting.Given as goal
 
 abbrev pub invariant-loop-front : goal.invariant-loop-front
 invariant-loop-front l = record {
