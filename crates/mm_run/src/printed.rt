@@ -31,6 +31,18 @@ pub struct Given {
     pub untaken: Option<Untaken>,
 }
 
+impl Given {
+    /// The same, where so many packets of step 0 went to that store.
+    pub(crate) fn with_opening(self, opening: u64) -> Given {
+        Given {
+            sources: self.sources,
+            links: self.links,
+            opening,
+            untaken: self.untaken,
+        }
+    }
+}
+
 /// What a run prints: three texts, one after the other. Beside them, how it ended and what it was given.
 #[derive(Debug, Drop)]
 pub struct Printed {
@@ -111,30 +123,30 @@ impl Printed {
         alloc: Global,
         sheet: Vec<u8>,
         reserved: ReservedLines,
-        cause: Cause,
+        cause: &Cause,
         report: &Report,
         given: Given,
     ) -> Result<Printed, NoMemory>
         requires empty { reserved.report.items ≡ [] }
         requires no_end { reserved.end.items ≡ [] }
-        ensures { IfOk result (TellsEnd sheet.items cause report.now) }
+        ensures { IfOk result (TellsEnd sheet.items cause.now report.now) }
     {
         let ReservedLines {
             report: mut told,
             mut end,
         } = reserved;
-        if step_of(&cause).is_some() {
+        if step_of(cause).is_some() {
             match report.text(alloc) {
                 Ok(text) => told = text,
                 Err(NoMemory) => push_lacking(&mut told).map_err(|_| NoMemory)?,
             }
         }
-        push_end(&mut end, &cause).map_err(|_| NoMemory)?;
+        push_end(&mut end, cause).map_err(|_| NoMemory)?;
         Ok(Printed {
             sheet,
             report: told,
             end,
-            outcome: Outcome::Stopped(cause),
+            outcome: Outcome::Stopped(*cause),
             given,
         })
     }

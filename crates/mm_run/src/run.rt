@@ -77,11 +77,11 @@ fn fly_plan<R: Threads + Wait + Sync>(
 }
 
 // How many packets the store was offered that does not hold its start volume, where that is the cause.
-fn offered_for(memory: &Memory, cause: Cause) -> u64 {
+fn offered_for(memory: &Memory, cause: &Cause) -> u64 {
     let Cause::OpeningDiffers { store } = cause else {
         return 0;
     };
-    match memory.state(&store) {
+    match memory.state(store) {
         Some(state) => state.offered(),
         None => 0,
     }
@@ -103,7 +103,7 @@ fn print_run<R: Threads + Wait + Sync>(
     ensures { IfOk result (RunEnds sheet problem.now memory.old sources.items links.items) }
 {
     let reserved = ReservedLines::new(alloc)?;
-    let mut given = Given {
+    let given = Given {
         sources: sources.len(),
         links: links.len(),
         opening: 0,
@@ -113,8 +113,8 @@ fn print_run<R: Threads + Wait + Sync>(
         Ok(Flown { sheet, report, .. }) => Printed::whole(alloc, sheet, reserved, &report, given),
         Err(FlyHalted { sheet, halted }) => {
             let Halted { cause, report, .. } = halted;
-            given.opening = offered_for(memory, cause);
-            Printed::stopped(alloc, sheet, reserved, cause, &report, given)
+            let given = given.with_opening(offered_for(memory, &cause));
+            Printed::stopped(alloc, sheet, reserved, &cause, &report, given)
         }
     }
 }
