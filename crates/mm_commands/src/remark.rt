@@ -65,12 +65,20 @@ struct RefusedIn<'a> {
 impl RefusedIn<'_> {
     // What is found in the line of the requests.
     fn hint(&self, requests: &mut RequestHints<'_>) -> Option<Hint> {
-        match *self.place {
+        match self.place {
             Place::Line(line) | Place::Instruction { line, .. } => {
-                requests.hint(self.refusal, line)
+                requests.hint(self.refusal, *line)
             }
             Place::Said(_) => None,
         }
+    }
+}
+
+// Writes a place as an answer spells it, such as `3` or `3.1`.
+fn write_said<W: fmt::Write>(place: &str, f: &mut fmt::Formatter<W>) -> fmt::Result {
+    match place.split_once('.') {
+        Some((line, number)) => write!(f, "{line}, instruction {number}"),
+        None => write!(f, "{place}"),
     }
 }
 
@@ -80,13 +88,10 @@ impl fmt::Display for RefusedIn<'_> {
         match self.place {
             Place::Line(line) => write!(f, "{line}")?,
             Place::Instruction { line, number } => write!(f, "{line}, instruction {number}")?,
-            Place::Said(place) => {
-                let place = std::str::from_utf8(place).unwrap_or_default();
-                match place.split_once('.') {
-                    Some((line, number)) => write!(f, "{line}, instruction {number}")?,
-                    None => write!(f, "{place}")?,
-                }
-            }
+            Place::Said(place) => match std::str::from_utf8(place) {
+                Ok(place) => write_said(place, f)?,
+                Err(_) => {}
+            },
         }
         write!(f, ": {}", Words::of(self.refusal))
     }
