@@ -5,7 +5,7 @@ use crate::answers::Answer;
 use crate::file_name::Shown;
 use crate::status::Status;
 use crate::texts::TaskTexts;
-use mm_ask::{MOST_KEPT, Place, RefusedPlace, Replies};
+use mm_ask::{MOST_KEPT, Place, Replies};
 use mm_base::{Refusal, Refused};
 use mm_command_line::{Role, Task};
 use mm_cut::Verdict;
@@ -248,9 +248,9 @@ fn tell_place<E: Write>(
 // How many places are not kept of the refusals that there are.
 fn untold(counts: &[u64; 256]) -> u64 {
     let mut untold: u64 = 0;
-    for (number, count) in counts.iter().enumerate() {
-        if refusal_numbered(number as u32).is_some() {
-            untold = untold.saturating_add(count.saturating_sub(MOST_KEPT));
+    for number in 0..256u32 {
+        if refusal_numbered(number).is_some() {
+            untold = untold.saturating_add(counts[number as usize].saturating_sub(MOST_KEPT));
         }
     }
     untold
@@ -268,12 +268,12 @@ fn tell_refused<E: Write>(
         return Ok(());
     };
     let mut hints = RequestHints::new(requests);
-    for RefusedPlace { place, number } in &replies.refused.first {
-        if let Some(refusal) = refusal_numbered(u32::from(*number)) {
+    for refused in &replies.refused.first {
+        if let Some(refusal) = refusal_numbered(u32::from(refused.number)) {
             let told = RefusedIn {
                 file,
                 counted,
-                place,
+                place: &refused.place,
                 refusal,
             };
             tell_place(told, &mut hints, err)?;
