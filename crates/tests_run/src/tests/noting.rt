@@ -121,10 +121,12 @@ fn push_line<R: Abort + AllocGlobal>(
         3 => subtype = next(state, 16),
         _ => {}
     }
-    let (kind, length, rest) = if next(state, 9) == 0 {
-        (0x1800, "0004", "0000")
+    let is_command = next(state, 9) == 0;
+    let kind = if is_command { 0x1800 } else { 0x0800 };
+    let (length, rest) = if is_command {
+        ("0004", "0000")
     } else {
-        (0x0800, "000E", "000000000000000000000000")
+        ("000E", "000000000000000000000000")
     };
     let front = FRONTS.get(next(state, 4)).copied().unwrap_or("1 2 ");
     let first = kind + apid % 2048;
