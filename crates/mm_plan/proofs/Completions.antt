@@ -12,9 +12,8 @@ use Rattle.mm_base.specs.Id.{is_id_char, IsIdField, field_of}
 use Rattle.mm_base.proofs.IdFields.{field_of-IsIdField}
 use Rattle.mm_plan.specs.declared.draft.Stage.{Stage}
 use Rattle.mm_plan.specs.declared.draft.Stage.TheVariants.{ToTitle, ToStores, ToDumps, ToCut, ToEnd, Done}
-use Rattle.mm_plan.specs.Sheet.{SheetRows, IsSheet, Line, title_line, stores_line, dump_line, loss_line, stretch_line, count_line, bound_line, end_line, dump_lines, has_counts, lines_of, line_text, Begins}
+use Rattle.mm_plan.specs.Sheet.{SheetRows, IsSheet, Line, title_line, stores_line, dump_line, loss_line, stretch_line, count_line, bound_line, end_line, dump_lines, has_counts, lines_of, line_text, Begins, IsLine}
 use Rattle.mm_plan.specs.Reading.{DraftRows, start, may_follow, after, run}
-use Rattle.mm_plan.proofs.Lines.{IsLine}
 use Rattle.mm_plan.proofs.Drafts.{dumps_of, upto_loss, upto_counts, so_far, IsRows, IsAt, IsBlank, IsUncut, IsPlanned, IsWhole, IsAdded, added}
 use Rattle.mm_plan.proofs.Runs.{eq_of, lines_so_far, run_start}
 

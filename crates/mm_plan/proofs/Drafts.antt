@@ -1,6 +1,6 @@
 -- What a draft of a sheet says so far, and that each line that may come next adds just itself.
 use Rattle.std.proofs.Common.{◌≡◌, ℕ, zero, suc, ◌+◌, ◌*◌, ◌<◌, ◌≤◌, Bool, true, false, ◌==◌, List, [], ◌∷◌, ◌++◌, length, map, take, drop, ℤ, refl, sym, ap, ◌∙◌, arith, append_assoc, append-nil, length-append, length-drop}
-use Rattle.std.specs.Prelude.{All, nat_lt, ◌&&◌, ◌^◌, FitsSigned}
+use Rattle.std.specs.Prelude.{All, nat_le, nat_lt, ◌&&◌, ◌^◌, FitsSigned}
 use Rattle.std.specs.Int.{w64}
 use Rattle.std.proofs.lemmas.Bool.{and_parts, false≢true}
 use Rattle.std.proofs.lemmas.Bool.Decides.{nat_tests}
@@ -8,14 +8,14 @@ use Rattle.std.proofs.lemmas.List.{nil_from_length, take_all, map-append, take-a
 use Rattle.std.proofs.lemmas.List.Elements.{All-append, All-push}
 use Rattle.mm_base.specs.declared.limits.TheConstants.{MAX_STORES, MAX_STEPS, MAX_BLOCKS}
 use Rattle.mm_base.specs.Id.{IsIdField}
+use Rattle.mm_base.proofs.IdFields.{Decides-nat_le}
 use Rattle.mm_plan.specs.declared.stretch.Stretch.{Stretch}
 use Rattle.mm_plan.specs.declared.stretch.TheConstants.{MAX_STRETCHES, MAX_COUNTS}
 use Rattle.mm_plan.specs.declared.draft.Stage.{Stage}
 use Rattle.mm_plan.specs.declared.draft.Stage.TheVariants.{ToTitle, ToStores, ToDumps, ToCut, ToEnd, Done}
 use Rattle.mm_plan.specs.Table.{Table}
-use Rattle.mm_plan.specs.Sheet.{SheetRows, IsWritten, Line, title_line, stores_line, dump_line, loss_line, stretch_line, count_line, bound_line, end_line, dump_lines, has_counts}
+use Rattle.mm_plan.specs.Sheet.{SheetRows, IsWritten, Line, title_line, stores_line, dump_line, loss_line, stretch_line, count_line, bound_line, end_line, dump_lines, has_counts, IsLine}
 use Rattle.mm_plan.specs.Reading.{may_follow, next_stage, second_after, rows_after}
-use Rattle.mm_plan.proofs.Lines.{IsLine}
 
 -- the dump lines of the plan
 abbrev pub dumps_of : SheetRows → List Line
@@ -155,13 +155,14 @@ empty_table : (size k n : ℕ) → size ≡ 0 → k ≡ 0 → size ≡ k * n
 empty_table size k n none no_steps = omega (arith, ap (λ j. j * n) no_steps)
 
 -- the stores line adds just itself
-added_stores : (b : Bool) (s : SheetRows) (ids : List (List ℕ)) → IsLine (stores_line ids) → IsRows s → IsBlank s → nat_lt 0 (length ids) ≡ true → IsAdded ToStores b s (stores_line ids)
+added_stores : (b : Bool) (s : SheetRows) (ids : List (List ℕ)) → IsLine (stores_line ids) → IsRows s → IsBlank s → (nat_lt 0 (length ids) && nat_le (length ids) MAX_STORES) ≡ true → IsAdded ToStores b s (stores_line ids)
 added_stores b s ids line rows blank may =
+    let p = and_parts (nat_lt 0 (length ids)) (nat_le (length ids) MAX_STORES) may in
     let none : length s.plan.amounts ≡ 0 = ap length blank.amounts in
     record {
       rows = record {
         dumps = record {
-          stores = line.0;
+          stores = (Decides-nat_le (length ids) MAX_STORES).0 p.1;
           steps = rows.dumps.steps;
           same_stores = refl;
           table = empty_table (length s.plan.amounts) s.plan.steps (length ids) none blank.steps;
@@ -172,7 +173,7 @@ added_stores b s ids line rows blank may =
         loss = rows.loss;
         bound = rows.bound;
       };
-      at = record { has_store = some_passes (length ids) may; cut = blank.cut; counts = blank.counts };
+      at = record { has_store = some_passes (length ids) p.0; cut = blank.cut; counts = blank.counts };
       lines = ap (λ k. title_line b ∷ stores_line ids ∷ dump_lines (length ids) 1 k s.plan.amounts) blank.steps;
     }
 

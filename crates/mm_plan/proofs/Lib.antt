@@ -1,7 +1,6 @@
 pub mod Steps
 pub mod Options
-pub mod IdTexts
-pub mod NumberTexts
+pub mod Saying
 pub mod Spelled
 pub mod Lines
 pub mod Drafts

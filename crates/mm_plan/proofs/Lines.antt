@@ -1,35 +1,21 @@
 -- Each line of a sheet is read from its text, and what is read is the text of a line.
-use Rattle.std.proofs.Common.{◌≡◌, ℕ, ◌<◌, ◌≤◌, true, false, cond, ◌==◌, List, [], ◌∷◌, ◌++◌, length, map, take, Option, Some, None, refl, sym, ap, ◌∙◌, subst, inl, inr, arith, append_assoc, append-nil, length-take}
-use Rattle.std.specs.Prelude.{All, codes, decimal, nat_le, ◌^◌, FitsSigned, option_and_then}
-use Rattle.std.specs.Option.{option_map}
+use Rattle.std.proofs.Common.{◌≡◌, ℕ, ◌<◌, ◌≤◌, Bool, true, false, cond, ◌==◌, List, [], ◌∷◌, length, map, take, drop, Some, None, refl, sym, ap, ◌∙◌, subst, arith, length-append, length-take, length-drop, ◌++◌, ◌-◌}
+use Rattle.std.specs.Prelude.{All, codes, decimal, ◌^◌, FitsSigned}
 use Rattle.std.specs.Int.{w64}
 use Rattle.std.specs.List.{slice_split, join_with_byte}
 use Rattle.std.specs.Str.{bytes_eq}
-use Rattle.mm_base.proofs.IdFields.{Decides-nat_le}
 use Rattle.std.proofs.lemmas.List.{length-map, take_all}
 use Rattle.std.proofs.lemmas.List.Elements.{All-from_recursion, All-nil, All-cons, All-head, All-tail, All-map, All-weaker}
-use Rattle.std.proofs.lemmas.List.Splits.{join_with_byte-slice_split}
-use Rattle.std.proofs.lemmas.Option.{same_Some, option_and_then_some}
-use Rattle.mm_base.specs.declared.limits.TheConstants.{MAX_STORES, MAX_STEPS, MAX_BLOCKS}
+use Rattle.std.proofs.Math.Seq.{take-append_seam}
+use Rattle.std.proofs.lemmas.Option.{cond_some}
+use Rattle.std.proofs.lemmas.Slice.Eq.{bytes_eq-Decides}
+use Rattle.mm_base.specs.declared.limits.TheConstants.{MAX_STEPS, MAX_BLOCKS}
 use Rattle.mm_base.specs.Id.{IsIdField, id_text}
-use Rattle.mm_plan.specs.Reading.{number_to}
-use Rattle.mm_plan.specs.Sheet.{Line, title_line, stores_line, dump_line, loss_line, stretch_line, count_line, bound_line, end_line, words, line_text, IsWritten}
-use Rattle.mm_plan.specs.Reading.{MAX_U32, MAX_U64, line_words, read_id, read_bound, read_each, read_row, stretch_of, read_title, read_stores, read_dump, read_loss, read_stretch, read_count, read_bound_line, read_end, read_words, read_line}
-use Rattle.mm_plan.proofs.Options.{none_is_some, option_map_some, cond_either, cond_then, same_bytes}
-use Rattle.mm_plan.proofs.IdTexts.{read_id-id_text, read_id_some}
-use Rattle.mm_plan.proofs.NumberTexts.{number_to-decimal, number_to_some, read_bound-signed_decimal, read_bound_some}
+use Rattle.mm_plan.specs.Sheet.{Line, title_line, stores_line, dump_line, loss_line, stretch_line, count_line, bound_line, end_line, IsLine, words, line_text, IsWritten}
+use Rattle.mm_plan.specs.Reading.{MAX_U32, MAX_U64, line_words, number_of, id_of, word, line_of, read_line}
+use Rattle.mm_plan.specs.Printing.{ended}
 use Rattle.mm_plan.proofs.Spelled.{Lacks, IsBare, bare_lacks, bare_tested, bare_decimal, bare_signed, bare_id, slice_split-join, join_lacks}
-
--- a line whose numbers and identifiers are within their ranges
-abbrev pub IsLine : Line → Type 0
-IsLine (title_line b) = Unit {0}
-IsLine (stores_line ids) = (length ids ≤ MAX_STORES) × All IsIdField ids
-IsLine (dump_line t xs) = (t ≤ MAX_STEPS) × (length xs ≤ MAX_STORES) × All (λ n. n ≤ MAX_BLOCKS) xs
-IsLine (loss_line n) = n < 2 ^ 64
-IsLine (stretch_line d) = IsWritten d
-IsLine (count_line t) = t < 2 ^ 32
-IsLine (bound_line z) = FitsSigned w64 z
-IsLine end_line = Unit {0}
+use Rattle.mm_plan.proofs.Saying.{number_of-decimal, number_of-most, id_of-id_text, id_of-is, signed_of-signed_decimal, signed_of-fits}
 
 -- ---- the words of a line
 
@@ -92,230 +78,89 @@ line_words-line_text : (x : Line) → IsLine x → line_words (line_text x) ≡ 
 unfolding line_text
 line_words-line_text x h =
     let short = short_words x h in
-    ap (take 19) (slice_split-join 32 (words x) short.0 (bare_lack 32 (omega arith) (words x) (bare_words x h)))
-    ∙ take_all 19 (words x) (omega (arith, short.1))
+    ap (take 18) (slice_split-join 32 (words x) short.0 (bare_lack 32 (omega arith) (words x) (bare_words x h)))
+    ∙ take_all 18 (words x) (omega (arith, short.1))
 
--- ---- a printed line is read
+-- ---- the words of a line say the line
 
--- printed elements are read
-read_each-map : {A : Type 0} (read : List ℕ → Option A) (text : A → List ℕ) (P : A → Type 0) → ((x : A) → P x → read (text x) ≡ Some x) → (earlier xs : List A) → All P xs → read_each read earlier (map text xs) ≡ Some (earlier ++ xs)
-read_each-map read text P back earlier [] h = ap Some (sym (append-nil earlier))
-read_each-map read text P back earlier (x ∷ xs) h =
-    ap (λ o. option_and_then (λ y. read_each read (earlier ++ y ∷ []) (map text xs)) o) (back x (All-head P x xs h))
-    ∙ read_each-map read text P back (earlier ++ x ∷ []) xs (All-tail P x xs h)
-    ∙ ap Some (append_assoc earlier (x ∷ []) xs)
+-- printed elements say what they were printed of
+said_each : {A : Type 0} (said : List ℕ → A) (text : A → List ℕ) (P : A → Type 0) → ((x : A) → P x → said (text x) ≡ x) → (xs : List A) → All P xs → map said (map text xs) ≡ xs
+said_each said text P back [] h = refl
+said_each said text P back (x ∷ xs) h =
+    ap (λ y. y ∷ map said (map text xs)) (back x (All-head P x xs h)) ∙ ap (λ ys. x ∷ ys) (said_each said text P back xs (All-tail P x xs h))
 
--- a printed row is read
-read_row-map : {A : Type 0} (read : List ℕ → Option A) (text : A → List ℕ) (P : A → Type 0) → ((x : A) → P x → read (text x) ≡ Some x) → (xs : List A) → length xs ≤ MAX_STORES → All P xs → read_row read (map text xs) ≡ Some xs
-read_row-map read text P back xs few h =
-    let fits : nat_le (length (map text xs)) MAX_STORES ≡ true = rw (length-map xs text) ((Decides-nat_le (length xs) MAX_STORES).1 few) in
-    ap (λ b. cond b (read_each read [] (map text xs)) None) fits ∙ read_each-map read text P back [] xs h
-
--- the words of a line are read as the line
-read_words-words : (x : Line) → IsLine x → read_words (words x) ≡ Some x
-unfolding read_words read_title read_stores read_dump read_loss read_stretch read_count read_bound_line read_end
-read_words-words (title_line false) h = refl
-read_words-words (title_line true) h = refl
-read_words-words (stores_line ids) h = ap (option_map stores_line) (read_row-map read_id id_text IsIdField read_id-id_text ids h.0 h.1)
-read_words-words (dump_line t xs) h =
+-- the words of a line say the line
+line_of-words : (x : Line) → IsLine x → line_of (words x) ≡ x
+unfolding line_of
+line_of-words (title_line false) h = refl
+line_of-words (title_line true) h = refl
+line_of-words (stores_line ids) h = ap stores_line (said_each id_of id_text IsIdField id_of-id_text ids h.1)
+line_of-words (dump_line t xs) h =
     let step : t ≤ MAX_STEPS = h.0 in
-    ap (λ o. option_and_then (λ k. option_map (dump_line k) (read_row (number_to MAX_BLOCKS) (map decimal xs))) o) (number_to-decimal MAX_STEPS t step (omega arith))
-    ∙ ap (option_map (dump_line t))
-    (read_row-map (number_to MAX_BLOCKS) decimal (λ n. n ≤ MAX_BLOCKS) (λ n le. number_to-decimal MAX_BLOCKS n le (omega arith)) xs h.1 h.2)
-read_words-words (loss_line n) h = ap (option_map loss_line) (number_to-decimal MAX_U64 n (omega (arith, h)) (omega arith))
-read_words-words (stretch_line d) h =
-    ap (λ o. option_and_then (λ id. option_and_then (λ first. option_map (stretch_of id first) (number_to MAX_U32 (decimal d.last))) (number_to MAX_U32 (decimal d.first))) o) (read_id-id_text d.store h.store)
-    ∙ ap (λ o. option_and_then (λ first. option_map (stretch_of d.store first) (number_to MAX_U32 (decimal d.last))) o) (number_to-decimal MAX_U32 d.first (omega (arith, h.first)) (omega arith))
-    ∙ ap (option_map (stretch_of d.store d.first)) (number_to-decimal MAX_U32 d.last (omega (arith, h.last)) (omega arith))
-read_words-words (count_line t) h = ap (option_map count_line) (number_to-decimal MAX_U32 t (omega (arith, h)) (omega arith))
-read_words-words (bound_line z) h = ap (option_map bound_line) (read_bound-signed_decimal z h)
-read_words-words end_line h = refl
+    ap (λ k. dump_line k (map (number_of MAX_BLOCKS) (map decimal xs))) (number_of-decimal MAX_STEPS t step (omega arith))
+    ∙ ap (dump_line t) (said_each (number_of MAX_BLOCKS) decimal (λ n. n ≤ MAX_BLOCKS) (λ n le. number_of-decimal MAX_BLOCKS n le (omega arith)) xs h.2)
+line_of-words (loss_line n) h = ap loss_line (number_of-decimal MAX_U64 n (omega (arith, h)) (omega arith))
+line_of-words (stretch_line d) h =
+    ap (λ id. stretch_line (record { store = id; first = number_of MAX_U32 (decimal d.first); last = number_of MAX_U32 (decimal d.last) })) (id_of-id_text d.store h.store)
+    ∙ ap (λ n. stretch_line (record { store = d.store; first = n; last = number_of MAX_U32 (decimal d.last) })) (number_of-decimal MAX_U32 d.first (omega (arith, h.first)) (omega arith))
+    ∙ ap (λ n. stretch_line (record { store = d.store; first = d.first; last = n })) (number_of-decimal MAX_U32 d.last (omega (arith, h.last)) (omega arith))
+line_of-words (count_line t) h = ap count_line (number_of-decimal MAX_U32 t (omega (arith, h)) (omega arith))
+line_of-words (bound_line z) h = ap bound_line (signed_of-signed_decimal z h)
+line_of-words end_line h = refl
+
+-- either way
+cond_is : (P : Line → Type 0) (b : Bool) (x y : Line) → P x → P y → P (cond b x y)
+cond_is P true x y here there = here
+cond_is P false x y here there = there
+
+-- what any words say
+each_is : {A : Type 0} (said : List ℕ → A) (P : A → Type 0) → ((w : List ℕ) → P (said w)) → (ws : List (List ℕ)) → All P (map said ws)
+each_is said P is [] = All-nil P
+each_is said P is (w ∷ ws) = All-cons P (said w) (map said ws) (is w) (each_is said P is ws)
+
+-- what at most 18 words say is a line
+pub line_of-is : (ws : List (List ℕ)) → length ws ≤ 18 → IsLine (line_of ws)
+unfolding line_of
+line_of-is [] few = tt
+line_of-is (k ∷ ws) few =
+    let w : ℕ → List ℕ = λ i. word ws i in
+    let u32 : (i : ℕ) → number_of MAX_U32 (w i) < 2 ^ 32 = λ i. omega (arith, number_of-most MAX_U32 (w i)) in
+    cond_is IsLine (bytes_eq k (codes "mmplan")) _ _ tt
+    (cond_is IsLine (bytes_eq k (codes "stores")) _ _ (omega (arith, few, length-map ws id_of), each_is id_of IsIdField id_of-is ws)
+    (cond_is IsLine (bytes_eq k (codes "dump")) _ _ (
+      number_of-most MAX_STEPS (w 0),
+      omega (arith, few, length-map (drop 1 ws) (number_of MAX_BLOCKS), length-drop 1 ws),
+      each_is (number_of MAX_BLOCKS) (λ n. n ≤ MAX_BLOCKS) (number_of-most MAX_BLOCKS) (drop 1 ws),
+    )
+    (cond_is IsLine (bytes_eq k (codes "loss")) _ _ (omega (arith, number_of-most MAX_U64 (w 0)))
+    (cond_is IsLine (bytes_eq k (codes "stretch")) _ _ (record { store = id_of-is (w 0); first = u32 1; last = u32 2 })
+    (cond_is IsLine (bytes_eq k (codes "count")) _ _ (u32 0)
+    (cond_is IsLine (bytes_eq k (codes "bound")) _ _ (signed_of-fits (w 0)) tt))))))
+
+-- ---- the line of a text
 
 -- the text of a line is read as the line
 pub read_line-line_text : (x : Line) → IsLine x → read_line (line_text x) ≡ Some x
 unfolding read_line
-read_line-line_text x h = ap read_words (line_words-line_text x h) ∙ read_words-words x h
+read_line-line_text x h =
+    ap (λ y. cond (bytes_eq (line_text y) (line_text x)) (Some y) None) (ap line_of (line_words-line_text x h) ∙ line_of-words x h)
+    ∙ ap (λ b. cond b (Some x) None) ((bytes_eq-Decides (line_text x) (line_text x)).1 refl)
 
--- ---- what is read is the text of a line
-
--- the elements that words were read as
-pub record AreRead {A : Type 0} (text : A → List ℕ) (P : A → Type 0) (earlier : List A) (ws : List (List ℕ)) (ys : List A) : Type 0 where
-  pub xs : List A
-  pub result : ys ≡ earlier ++ xs
-  pub words : ws ≡ map text xs
-  pub each : All P xs
-
--- what was read is what was printed
-read_each_some : {A : Type 0} (read : List ℕ → Option A) (text : A → List ℕ) (P : A → Type 0) → ((w : List ℕ) (x : A) → read w ≡ Some x → (w ≡ text x) × P x) → (earlier : List A) (ws : List (List ℕ)) (ys : List A) → read_each read earlier ws ≡ Some ys → AreRead text P earlier ws ys
-read_each_some read text P inverse earlier [] ys e =
-    record { xs = []; result = sym (same_Some earlier ys e) ∙ sym (append-nil earlier); words = refl; each = All-nil P }
-read_each_some read text P inverse earlier (w ∷ ws) ys e =
-    option_and_then_some (λ x. read_each read (earlier ++ x ∷ []) ws) (read w) ys e (λ x was more.
-    let rest : AreRead text P (earlier ++ x ∷ []) ws ys = read_each_some read text P inverse (earlier ++ x ∷ []) ws ys more in
-    let here = inverse w x was in
-    record {
-      xs = x ∷ rest.xs;
-      result = rest.result ∙ append_assoc earlier (x ∷ []) rest.xs;
-      words = ap (λ v. v ∷ ws) here.0 ∙ ap (λ vs. text x ∷ vs) rest.words;
-      each = All-cons P x rest.xs here.1 rest.each;
-    })
-
--- a row that was read
-pub record IsRow {A : Type 0} (text : A → List ℕ) (P : A → Type 0) (ws : List (List ℕ)) (xs : List A) : Type 0 where
-  pub few : length xs ≤ MAX_STORES
-  pub words : ws ≡ map text xs
-  pub each : All P xs
-
--- a row that was read was printed
-read_row_some : {A : Type 0} (read : List ℕ → Option A) (text : A → List ℕ) (P : A → Type 0) → ((w : List ℕ) (x : A) → read w ≡ Some x → (w ≡ text x) × P x) → (ws : List (List ℕ)) (xs : List A) → read_row read ws ≡ Some xs → IsRow text P ws xs
-read_row_some read text P inverse ws xs e =
-    let p = cond_then (nat_le (length ws) MAX_STORES) (read_each read [] ws) xs e in
-    let all : AreRead text P [] ws xs = read_each_some read text P inverse [] ws xs p.1 in
-    let words : ws ≡ map text xs = all.words ∙ ap (map text) (sym all.result) in
-    let few : length ws ≤ MAX_STORES = (Decides-nat_le (length ws) MAX_STORES).0 p.0 in
-    record {
-      few = subst (λ n. n ≤ MAX_STORES) (ap length words ∙ length-map xs text) few;
-      words = words;
-      each = subst (All P) (sym all.result) all.each;
-    }
-
--- these words are those of the line
-abbrev Spells : List (List ℕ) → Line → Type 0
-Spells ws x = (ws ≡ words x) × IsLine x
-
--- a title that was read
-read_title_some : (ws : List (List ℕ)) (x : Line) → read_title ws ≡ Some x → Spells (codes "mmplan" ∷ ws) x
-unfolding read_title
-read_title_some [] x e = none_is_some x e
-read_title_some (w ∷ []) x e = elim (cond_either (bytes_eq w (codes "1")) (Some (title_line false)) (cond (bytes_eq w (codes "2")) (Some (title_line true)) None) x e) [
-  | inl first ↦ subst (Spells (codes "mmplan" ∷ w ∷ [])) (same_Some (title_line false) x first.1) (ap (λ v. codes "mmplan" ∷ v ∷ []) (same_bytes w (codes "1") first.0), tt)
-  | inr rest ↦
-      let second = cond_then (bytes_eq w (codes "2")) (Some (title_line true)) x rest in
-      subst (Spells (codes "mmplan" ∷ w ∷ [])) (same_Some (title_line true) x second.1) (ap (λ v. codes "mmplan" ∷ v ∷ []) (same_bytes w (codes "2") second.0), tt)
-]
-read_title_some (w ∷ v ∷ ws) x e = none_is_some x e
-
--- stores that were read
-read_stores_some : (ws : List (List ℕ)) (x : Line) → read_stores ws ≡ Some x → Spells (codes "stores" ∷ ws) x
-unfolding read_stores
-read_stores_some ws x e =
-    option_map_some stores_line (read_row read_id ws) x e (λ ids was is.
-    let row : IsRow id_text IsIdField ws ids = read_row_some read_id id_text IsIdField read_id_some ws ids was in
-    subst (Spells (codes "stores" ∷ ws)) is (ap (λ vs. codes "stores" ∷ vs) row.words, (row.few, row.each)))
-
--- an amount that was read
-amount_some : (w : List ℕ) (n : ℕ) → number_to MAX_BLOCKS w ≡ Some n → (w ≡ decimal n) × (n ≤ MAX_BLOCKS)
-amount_some w n e = number_to_some MAX_BLOCKS w n (omega arith) e
-
--- a dump that was read
-read_dump_some : (ws : List (List ℕ)) (x : Line) → read_dump ws ≡ Some x → Spells (codes "dump" ∷ ws) x
-unfolding read_dump
-read_dump_some [] x e = none_is_some x e
-read_dump_some (w ∷ ws) x e =
-    option_and_then_some (λ t. option_map (dump_line t) (read_row (number_to MAX_BLOCKS) ws)) (number_to MAX_STEPS w) x e (λ t step more.
-    option_map_some (dump_line t) (read_row (number_to MAX_BLOCKS) ws) x more (λ xs was is.
-    let row : IsRow decimal (λ n. n ≤ MAX_BLOCKS) ws xs = read_row_some (number_to MAX_BLOCKS) decimal (λ n. n ≤ MAX_BLOCKS) amount_some ws xs was in
-    let number = number_to_some MAX_STEPS w t (omega arith) step in
-    subst (Spells (codes "dump" ∷ w ∷ ws)) is
-    (ap (λ v. codes "dump" ∷ v ∷ ws) number.0 ∙ ap (λ vs. codes "dump" ∷ decimal t ∷ vs) row.words, (number.1, row.few, row.each))))
-
--- a loss that was read
-read_loss_some : (ws : List (List ℕ)) (x : Line) → read_loss ws ≡ Some x → Spells (codes "loss" ∷ ws) x
-unfolding read_loss
-read_loss_some [] x e = none_is_some x e
-read_loss_some (w ∷ []) x e =
-    option_map_some loss_line (number_to MAX_U64 w) x e (λ n was is.
-    let number = number_to_some MAX_U64 w n (omega arith) was in
-    subst (Spells (codes "loss" ∷ w ∷ [])) is (ap (λ v. codes "loss" ∷ v ∷ []) number.0, omega (arith, number.1)))
-read_loss_some (w ∷ v ∷ ws) x e = none_is_some x e
-
--- a stretch that was read
-read_stretch_some : (ws : List (List ℕ)) (x : Line) → read_stretch ws ≡ Some x → Spells (codes "stretch" ∷ ws) x
-unfolding read_stretch
-read_stretch_some [] x e = none_is_some x e
-read_stretch_some (a ∷ []) x e = none_is_some x e
-read_stretch_some (a ∷ b ∷ []) x e = none_is_some x e
-read_stretch_some (a ∷ b ∷ c ∷ []) x e =
-    option_and_then_some (λ id. option_and_then (λ first. option_map (stretch_of id first) (number_to MAX_U32 c)) (number_to MAX_U32 b)) (read_id a) x e (λ id is_id more.
-    option_and_then_some (λ first. option_map (stretch_of id first) (number_to MAX_U32 c)) (number_to MAX_U32 b) x more (λ first is_first rest.
-    option_map_some (stretch_of id first) (number_to MAX_U32 c) x rest (λ last is_last is.
-    let store = read_id_some a id is_id in
-    let i = number_to_some MAX_U32 b first (omega arith) is_first in
-    let j = number_to_some MAX_U32 c last (omega arith) is_last in
-    subst (Spells (codes "stretch" ∷ a ∷ b ∷ c ∷ [])) is (
-      ap (λ v. codes "stretch" ∷ v ∷ b ∷ c ∷ []) store.0
-          ∙ ap (λ v. codes "stretch" ∷ id_text id ∷ v ∷ c ∷ []) i.0
-          ∙ ap (λ v. codes "stretch" ∷ id_text id ∷ decimal first ∷ v ∷ []) j.0,
-      record { store = store.1; first = omega (arith, i.1); last = omega (arith, j.1) },
-    ))))
-read_stretch_some (a ∷ b ∷ c ∷ d ∷ ws) x e = none_is_some x e
-
--- a count that was read
-read_count_some : (ws : List (List ℕ)) (x : Line) → read_count ws ≡ Some x → Spells (codes "count" ∷ ws) x
-unfolding read_count
-read_count_some [] x e = none_is_some x e
-read_count_some (w ∷ []) x e = none_is_some x e
-read_count_some (w ∷ v ∷ []) x e =
-    let p = cond_then (bytes_eq v (codes "channels")) (option_map count_line (number_to MAX_U32 w)) x e in
-    option_map_some count_line (number_to MAX_U32 w) x p.1 (λ t was is.
-    let number = number_to_some MAX_U32 w t (omega arith) was in
-    subst (Spells (codes "count" ∷ w ∷ v ∷ [])) is (
-      ap (λ u. codes "count" ∷ u ∷ v ∷ []) number.0 ∙ ap (λ u. codes "count" ∷ decimal t ∷ u ∷ []) (same_bytes v (codes "channels") p.0),
-      omega (arith, number.1),
-    ))
-read_count_some (w ∷ v ∷ u ∷ ws) x e = none_is_some x e
-
--- a bound that was read
-read_bound_line_some : (ws : List (List ℕ)) (x : Line) → read_bound_line ws ≡ Some x → Spells (codes "bound" ∷ ws) x
-unfolding read_bound_line
-read_bound_line_some [] x e = none_is_some x e
-read_bound_line_some (w ∷ []) x e =
-    option_map_some bound_line (read_bound w) x e (λ z was is.
-    let number = read_bound_some w z was in
-    subst (Spells (codes "bound" ∷ w ∷ [])) is (ap (λ v. codes "bound" ∷ v ∷ []) number.0, number.1))
-read_bound_line_some (w ∷ v ∷ ws) x e = none_is_some x e
-
--- an end that was read
-read_end_some : (ws : List (List ℕ)) (x : Line) → read_end ws ≡ Some x → Spells (codes "end" ∷ ws) x
-unfolding read_end
-read_end_some [] x e = subst (Spells (codes "end" ∷ [])) (same_Some end_line x e) (refl, tt)
-read_end_some (w ∷ ws) x e = none_is_some x e
-
--- the keyword is known
-keyword : (w : List ℕ) (ws : List (List ℕ)) (k : List ℕ) (x : Line) → bytes_eq w k ≡ true → Spells (k ∷ ws) x → Spells (w ∷ ws) x
-keyword w ws k x same h = (ap (λ v. v ∷ ws) (same_bytes w k same) ∙ h.0, h.1)
-
--- the keyword is this one, or another is looked for
-by_keyword : (w : List ℕ) (ws : List (List ℕ)) (k : List ℕ) (read other : Option Line) (x : Line) → (read ≡ Some x → Spells (k ∷ ws) x) → (other ≡ Some x → Spells (w ∷ ws) x)
-    → cond (bytes_eq w k) read other ≡ Some x → Spells (w ∷ ws) x
-by_keyword w ws k read other x said rest e = elim (cond_either (bytes_eq w k) read other x e) [
-  | inl p ↦ keyword w ws k x p.0 (said p.1)
-  | inr e ↦ rest e
-]
-
--- words that were read are those of the line
-read_words_some : (ws : List (List ℕ)) (x : Line) → read_words ws ≡ Some x → Spells ws x
-unfolding read_words
-read_words_some [] x e = none_is_some x e
-read_words_some (w ∷ ws) x e =
-    by_keyword w ws (codes "mmplan") (read_title ws) _ x (read_title_some ws x)
-    (by_keyword w ws (codes "stores") (read_stores ws) _ x (read_stores_some ws x)
-    (by_keyword w ws (codes "dump") (read_dump ws) _ x (read_dump_some ws x)
-    (by_keyword w ws (codes "loss") (read_loss ws) _ x (read_loss_some ws x)
-    (by_keyword w ws (codes "stretch") (read_stretch ws) _ x (read_stretch_some ws x)
-    (by_keyword w ws (codes "count") (read_count ws) _ x (read_count_some ws x)
-    (by_keyword w ws (codes "bound") (read_bound_line ws) _ x (read_bound_line_some ws x)
-    (λ e. let p = cond_then (bytes_eq w (codes "end")) (read_end ws) x e in keyword w ws (codes "end") x p.0 (read_end_some ws x p.1)))))))) e
-
--- a list of which 18 elements or fewer are left is whole
-whole_take : {A : Type 0} (ws : List A) → length (take 19 ws) ≤ 18 → take 19 ws ≡ ws
-whole_take ws few = take_all 19 ws (omega (arith, length-take 19 ws))
+-- the line that a text's words say
+pub said_is : (text : List ℕ) → IsLine (line_of (line_words text))
+said_is text = line_of-is (line_words text) (omega (arith, length-take 18 (slice_split (λ c. c == 32) text)))
 
 -- what a text is read as is the line whose text it is
 pub read_line_some : (text : List ℕ) (x : Line) → read_line text ≡ Some x → (text ≡ line_text x) × IsLine x
-unfolding read_line line_text
+unfolding read_line
 read_line_some text x e =
-    let p = read_words_some (line_words text) x e in
-    let few : length (line_words text) ≤ 18 = omega (arith, ap length p.0, (short_words x p.1).1) in
-    let all : line_words text ≡ slice_split (λ c. c == 32) text = whole_take (slice_split (λ c. c == 32) text) few in
-    (sym (join_with_byte-slice_split 32 text) ∙ ap (join_with_byte 32) (sym all ∙ p.0), p.1)
+    let said = line_of (line_words text) in
+    let p = cond_some (bytes_eq (line_text said) text) said x e in
+    subst (λ y. (text ≡ line_text y) × IsLine y) p.1 (sym ((bytes_eq-Decides (line_text said) text).0 p.0), said_is text)
+
+-- a line that is printed, without its line feed
+pub line_printed : (x : Line) (printed rest : List ℕ) (n : ℕ) → printed ≡ ended x → n ≡ length printed → rest ≡ take (n - 1) printed → rest ≡ line_text x
+unfolding ended
+line_printed x printed rest n is size cut =
+    let len : n - 1 ≡ length (line_text x) = omega (arith, size, ap length is, length-append (line_text x) (10 ∷ [])) in
+    cut ∙ ap (λ k. take k printed) len ∙ ap (take (length (line_text x))) is ∙ take-append_seam (line_text x) (10 ∷ [])

@@ -6,10 +6,10 @@ use Rattle.std.proofs.lemmas.List.{map-append}
 use Rattle.mm_base.specs.declared.limits.TheConstants.{MAX_STORES, MAX_STEPS, MAX_BLOCKS}
 use Rattle.mm_plan.specs.declared.draft.Stage.TheVariants.{ToDumps}
 use Rattle.mm_plan.specs.Printing.{spaced}
-use Rattle.mm_plan.specs.Sheet.{dump_line, line_text}
+use Rattle.mm_plan.specs.Sheet.{dump_line, line_text, IsLine}
 use Rattle.mm_plan.specs.Reading.{DraftRows, read_line, may_follow, after, add_line, take_line}
 use Rattle.mm_plan.proofs.Prints.{join-spaced}
-use Rattle.mm_plan.proofs.Lines.{IsLine, read_line-line_text}
+use Rattle.mm_plan.proofs.Lines.{read_line-line_text}
 
 -- words after words
 spaced-append : (xs ys : List (List ℕ)) → spaced (xs ++ ys) ≡ spaced xs ++ spaced ys

@@ -1,6 +1,6 @@
 -- The lines of a sheet run to its end, and what was taken begins some sheet.
 use Rattle.std.proofs.Common.{◌≡◌, ℕ, zero, suc, ◌+◌, ◌*◌, ◌<◌, ◌≤◌, Bool, true, false, cond, ◌==◌, List, [], ◌∷◌, ◌++◌, length, map, take, drop, Option, Some, None, ℤ, pos, refl, sym, ap, ◌∙◌, subst, arith, append_assoc, append-nil, length-append, length-drop}
-use Rattle.std.specs.Prelude.{All, nat_lt, ◌&&◌, ◌^◌, option_and_then}
+use Rattle.std.specs.Prelude.{All, nat_le, nat_lt, ◌&&◌, ◌^◌, option_and_then}
 use Rattle.std.proofs.lemmas.Bool.{false≢true}
 use Rattle.std.proofs.lemmas.Bool.Decides.{nat_tests}
 use Rattle.std.proofs.lemmas.List.{nil_from_length, take-append-drop, length-take-le}
@@ -8,13 +8,14 @@ use Rattle.std.proofs.lemmas.List.Elements.{All-nil, All-cons, All-head, All-tai
 use Rattle.std.proofs.lemmas.Option.{same_Some, option_and_then_some}
 use Rattle.mm_base.specs.declared.limits.TheConstants.{MAX_STORES, MAX_STEPS, MAX_BLOCKS}
 use Rattle.mm_base.specs.Id.{IsIdField}
+use Rattle.mm_base.proofs.IdFields.{Decides-nat_le}
 use Rattle.mm_plan.specs.declared.stretch.Stretch.{Stretch}
 use Rattle.mm_plan.specs.declared.stretch.TheConstants.{MAX_STRETCHES, MAX_COUNTS}
 use Rattle.mm_plan.specs.declared.draft.Stage.TheVariants.{ToStores, ToDumps, ToCut, Done}
-use Rattle.mm_plan.specs.Sheet.{SheetRows, IsSheet, IsWritten, Line, title_line, stores_line, dump_line, loss_line, stretch_line, count_line, bound_line, end_line, dump_lines, has_counts, lines_of, line_text, Begins}
+use Rattle.mm_plan.specs.Sheet.{SheetRows, IsSheet, IsWritten, Line, title_line, stores_line, dump_line, loss_line, stretch_line, count_line, bound_line, end_line, dump_lines, has_counts, lines_of, line_text, Begins, IsLine}
 use Rattle.mm_plan.specs.Reading.{DraftRows, no_rows, start, may_follow, after, add_line, take_line, run, read_line}
 use Rattle.mm_plan.proofs.Options.{none_is_some, cond_then}
-use Rattle.mm_plan.proofs.Lines.{IsLine, read_line-line_text, read_line_some}
+use Rattle.mm_plan.proofs.Lines.{read_line-line_text, read_line_some}
 use Rattle.mm_plan.proofs.Drafts.{so_far, IsRows, IsAt, IsAdded, added}
 
 -- the draft with these lines more
@@ -117,15 +118,19 @@ lines_right s = simp append_assoc
 some_may : (n : ℕ) → 1 ≤ n → nat_lt 0 n ≡ true
 some_may n h = grind (arith, nat_tests)
 
+-- stores may come, where there are neither none nor too many
+stores_may : (n : ℕ) → 1 ≤ n → n ≤ MAX_STORES → (nat_lt 0 n && nat_le n MAX_STORES) ≡ true
+stores_may n some few = ap (λ b. b && nat_le n MAX_STORES) (some_may n some) ∙ (Decides-nat_le n MAX_STORES).1 few
+
 -- a sheet without its loss, stretches, counts and bound
 abbrev opened : SheetRows → SheetRows
 opened s = record no_rows { stores = s.stores; plan = record { stores = s.plan.stores; steps = 0; amounts = [] } }
 
 -- title and stores
-go_opening : (s : SheetRows) (b : Bool) (more : List Line) → 1 ≤ length s.stores → s.plan.stores ≡ length s.stores → go start (title_line b ∷ stores_line s.stores ∷ more) ≡ go (dumping b (opened s) 0 []) more
+go_opening : (s : SheetRows) (b : Bool) (more : List Line) → 1 ≤ length s.stores → length s.stores ≤ MAX_STORES → s.plan.stores ≡ length s.stores → go start (title_line b ∷ stores_line s.stores ∷ more) ≡ go (dumping b (opened s) 0 []) more
 unfolding add_line
-go_opening s b more some same =
-    go_may (record { stage = ToStores; second = b; rows = no_rows }) (stores_line s.stores) more (some_may (length s.stores) some)
+go_opening s b more some few same =
+    go_may (record { stage = ToStores; second = b; rows = no_rows }) (stores_line s.stores) more (stores_may (length s.stores) some few)
     ∙ ap (λ n. go (dumping b (record no_rows { stores = s.stores; plan = record { stores = n; steps = 0; amounts = [] } }) 0 []) more) (sym same)
 
 -- the lines of a sheet run to its end
@@ -136,7 +141,7 @@ go-lines_of s h =
     let counted = map count_line s.by_channels ++ (bound_line s.bound ∷ end_line ∷ []) in
     let after_dumps = loss_line s.loss ∷ (map stretch_line s.cut ++ counted) in
     ap (go start) (lines_right s)
-    ∙ go_opening s (has_counts s) (dump_lines s.plan.stores 1 s.plan.steps s.plan.amounts ++ after_dumps) some h.same_stores
+    ∙ go_opening s (has_counts s) (dump_lines s.plan.stores 1 s.plan.steps s.plan.amounts ++ after_dumps) some (omega (arith, h.plan.few, h.same_stores)) h.same_stores
     ∙ go-dump_lines (has_counts s) (opened s) 0 s.plan.steps [] s.plan.amounts after_dumps h.same_stores h.plan.table
     ∙ ap (λ k. go (dumping (has_counts s) (opened s) k s.plan.amounts) after_dumps) steps
     ∙ go_may (dumping (has_counts s) (opened s) s.plan.steps s.plan.amounts) (loss_line s.loss) (map stretch_line s.cut ++ counted) (some_may s.plan.steps h.plan.has_step)
@@ -170,7 +175,7 @@ lines_are s h =
     let all_rows : All IsLine (dumps ++ (loss_line s.loss ∷ cut)) = All-append IsLine dumps (loss_line s.loss ∷ cut) all_dumps (All-cons IsLine (loss_line s.loss) cut h.loss all_cut) in
     subst (All IsLine) (sym (lines_right s))
     (All-cons IsLine (title_line (has_counts s)) (stores_line s.stores ∷ (dumps ++ (loss_line s.loss ∷ cut))) tt
-    (All-cons IsLine (stores_line s.stores) (dumps ++ (loss_line s.loss ∷ cut)) (few, h.each_store) all_rows))
+    (All-cons IsLine (stores_line s.stores) (dumps ++ (loss_line s.loss ∷ cut)) (omega (arith, few), h.each_store) all_rows))
 
 -- the texts of a sheet's lines run to its end
 pub run-sheet : (s : SheetRows) → IsSheet s → run start (map line_text (lines_of s)) ≡ Some (whole s)

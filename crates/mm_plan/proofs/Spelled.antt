@@ -10,7 +10,7 @@ use Rattle.std.proofs.lemmas.List.Elements.{All-nil, All-cons, All-head, All-tai
 use Rattle.std.proofs.lemmas.List.Splits.{slice_split_none, slice_split_at}
 use Rattle.std.proofs.lemmas.List.Sums.{AllPass-from_list_all}
 use Rattle.mm_base.specs.Id.{is_id_char, IsIdField, id_text}
-use Rattle.mm_plan.proofs.NumberTexts.{decimal_digits}
+use Rattle.mm_plan.proofs.Saying.{decimal_digits}
 
 -- the octet does not stand in it
 abbrev pub Lacks : ℕ → List ℕ → Type 0

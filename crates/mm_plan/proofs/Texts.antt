@@ -9,10 +9,10 @@ use Rattle.std.proofs.lemmas.Option.{same_Some}
 use Rattle.mm_base.specs.Lines.{text_lines}
 use Rattle.mm_plan.specs.declared.draft.Stage.{Stage}
 use Rattle.mm_plan.specs.declared.draft.Stage.TheVariants.{Done}
-use Rattle.mm_plan.specs.Sheet.{SheetRows, IsSheet, lines_of, line_text, sheet_text, Begins, IsFirstBadLine}
+use Rattle.mm_plan.specs.Sheet.{SheetRows, IsSheet, lines_of, line_text, sheet_text, Begins, IsFirstBadLine, IsLine}
 use Rattle.mm_plan.specs.Reading.{DraftRows, start, take_line, run}
 use Rattle.mm_plan.proofs.Spelled.{Lacks, slice_split-join}
-use Rattle.mm_plan.proofs.Lines.{IsLine, line_text_lacks}
+use Rattle.mm_plan.proofs.Lines.{line_text_lacks}
 use Rattle.mm_plan.proofs.Drafts.{so_far, IsAt, IsWhole}
 use Rattle.mm_plan.proofs.Runs.{lines_so_far, whole, lines_are, run-sheet, run-append, run_start, stops_begins}
 use Rattle.mm_plan.proofs.Completions.{whole_is_sheet, lines_of-whole, taken_begins, few_taken}

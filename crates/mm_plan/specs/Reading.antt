@@ -1,7 +1,6 @@
 -- Reading a plan text line by line.
-use Rattle.std.specs.Prelude.{ℕ, ◌+◌, ◌-◌, ℤ, pos, negsuc, Bool, true, false, ◌&&◌, ◌==◌, nat_le, nat_lt, if◌then◌else◌, List, [], ◌∷◌, ◌++◌, length, take, Option, Some, None, option_and_then, codes}
+use Rattle.std.specs.Prelude.{ℕ, zero, suc, ◌+◌, ℤ, pos, negsuc, Bool, true, false, ◌&&◌, ◌==◌, nat_le, nat_lt, if◌then◌else◌, List, [], ◌∷◌, ◌++◌, length, map, take, drop, slice_index_or, Option, Some, None, option_and_then, codes}
 use Rattle.std.specs.List.{slice_split}
-use Rattle.std.specs.Option.{option_map}
 use Rattle.std.specs.Str.{bytes_eq}
 use Rattle.mm_base.specs.declared.limits.TheConstants.{MAX_STORES, MAX_STEPS, MAX_BLOCKS}
 use Rattle.mm_base.specs.Characters.{space}
@@ -9,10 +8,11 @@ use Rattle.mm_base.specs.Id.{is_id_text, field_of}
 use Rattle.mm_base.specs.Numbers.{numeral_of}
 use Rattle.mm_base.specs.declared.numbers.Numeral.{Numeral}
 use Rattle.mm_base.specs.declared.numbers.Numeral.TheVariants.{NotNumber, TooLarge, Number}
+use Rattle.mm_plan.specs.declared.stretch.Stretch.{Stretch}
 use Rattle.mm_plan.specs.declared.stretch.TheConstants.{MAX_STRETCHES, MAX_COUNTS}
 use Rattle.mm_plan.specs.declared.draft.Stage.{Stage}
 use Rattle.mm_plan.specs.declared.draft.Stage.TheVariants.{ToTitle, ToStores, ToDumps, ToCut, ToEnd, Done}
-use Rattle.mm_plan.specs.Sheet.{SheetRows, Line, title_line, stores_line, dump_line, loss_line, stretch_line, count_line, bound_line, end_line}
+use Rattle.mm_plan.specs.Sheet.{SheetRows, Line, title_line, stores_line, dump_line, loss_line, stretch_line, count_line, bound_line, end_line, line_text}
 
 -- the greatest number of 32 bits
 abbrev pub MAX_U32 : ℕ
@@ -22,133 +22,68 @@ MAX_U32 = 4294967295
 abbrev pub MAX_U64 : ℕ
 MAX_U64 = 18446744073709551615
 
--- ---- words
+-- ---- what words say, where they are those of a line
 
--- the words of a line, of which no more than 19 are looked at
+-- the words of a line, of which no more than 18 are looked at
 abbrev pub line_words : List ℕ → List (List ℕ)
-line_words text = take 19 (slice_split (λ c. c == space) text)
+line_words text = take 18 (slice_split (λ c. c == space) text)
 
--- the number, if there is one
-abbrev pub number_in : Numeral → Option ℕ
-number_in NotNumber = None
-number_in TooLarge = None
-number_in (Number n) = Some n
+-- the number, or 0
+abbrev pub number_in : Numeral → ℕ
+number_in NotNumber = 0
+number_in TooLarge = 0
+number_in (Number n) = n
 
--- the number that a text writes, where it is at most this
-unfoldable pub number_to : ℕ → List ℕ → Option ℕ
-number_to most text = number_in (numeral_of most text)
+-- the number that a word writes, where it is at most this
+unfoldable pub number_of : ℕ → List ℕ → ℕ
+number_of most word = number_in (numeral_of most word)
 
--- the identifier of this text, as its field
-unfoldable pub read_id : List ℕ → Option (List ℕ)
-read_id text = if is_id_text text then Some (field_of text) else None
-
--- digits after no sign
-abbrev pub pos_of : ℕ → Option ℤ
-pos_of n = Some (pos n)
+-- the identifier that a word is, as its field
+unfoldable pub id_of : List ℕ → List ℕ
+id_of word = field_of (if is_id_text word then word else codes "A")
 
 -- the sign of a number below 0
 abbrev minus : ℕ
 minus = 45
 
--- digits after a minus; 0 has none
-abbrev pub negative_of : ℕ → Option ℤ
-negative_of n = if n == 0 then None else Some (negsuc (n - 1))
+-- the number below 0 with these digits
+abbrev pub negative : ℕ → ℤ
+negative zero = pos 0
+negative (suc n) = negsuc n
 
--- the signed number that a text writes, where it is one of 64 bits
-unfoldable pub read_bound : List ℕ → Option ℤ
-read_bound [] = None
-read_bound (c ∷ cs) =
-    if c == minus then option_and_then negative_of (number_to 9223372036854775808 cs)
-    else option_and_then pos_of (number_to 9223372036854775807 (c ∷ cs))
+-- the signed number of 64 bits that a word writes
+unfoldable pub signed_of : List ℕ → ℤ
+signed_of [] = pos 0
+signed_of (c ∷ cs) =
+    if c == minus then negative (number_of 9223372036854775808 cs)
+    else pos (number_of 9223372036854775807 (c ∷ cs))
 
--- what each of the words reads as, after what was read before
-abbrev pub read_each : {A : Type 0} → (List ℕ → Option A) → List A → List (List ℕ) → Option (List A)
-read_each read earlier [] = Some earlier
-read_each read earlier (w ∷ ws) = option_and_then (λ x. read_each read (earlier ++ x ∷ []) ws) (read w)
+-- the word at a place
+abbrev pub word : List (List ℕ) → ℕ → List ℕ
+word ws k = slice_index_or ws k []
 
--- the same for at most as many words as there may be stores
-abbrev pub read_row : {A : Type 0} → (List ℕ → Option A) → List (List ℕ) → Option (List A)
-read_row read ws = if nat_le (length ws) MAX_STORES then read_each read [] ws else None
+-- the stretch that words say: a store, the first and the last step
+abbrev pub stretch_of : List (List ℕ) → Stretch
+stretch_of ws = record { store = id_of (word ws 0); first = number_of MAX_U32 (word ws 1); last = number_of MAX_U32 (word ws 2) }
 
--- ---- lines: what follows the keyword
+-- the line that words say: a keyword, and its words
+unfoldable pub line_of : List (List ℕ) → Line
+line_of [] = end_line
+line_of (k ∷ ws) =
+    if bytes_eq k (codes "mmplan") then title_line (bytes_eq (word ws 0) (codes "2"))
+    else if bytes_eq k (codes "stores") then stores_line (map id_of ws)
+    else if bytes_eq k (codes "dump") then dump_line (number_of MAX_STEPS (word ws 0)) (map (number_of MAX_BLOCKS) (drop 1 ws))
+    else if bytes_eq k (codes "loss") then loss_line (number_of MAX_U64 (word ws 0))
+    else if bytes_eq k (codes "stretch") then stretch_line (stretch_of ws)
+    else if bytes_eq k (codes "count") then count_line (number_of MAX_U32 (word ws 0))
+    else if bytes_eq k (codes "bound") then bound_line (signed_of (word ws 0))
+    else end_line
 
--- `mmplan`: the form
-unfoldable pub read_title : List (List ℕ) → Option Line
-read_title [] = None
-read_title (w ∷ []) =
-    if bytes_eq w (codes "1") then Some (title_line false)
-    else if bytes_eq w (codes "2") then Some (title_line true)
-    else None
-read_title (w ∷ v ∷ ws) = None
-
--- `stores`: the identifiers
-unfoldable pub read_stores : List (List ℕ) → Option Line
-read_stores ws = option_map stores_line (read_row read_id ws)
-
--- `dump`: the step and the amounts
-unfoldable pub read_dump : List (List ℕ) → Option Line
-read_dump [] = None
-read_dump (w ∷ ws) = option_and_then (λ t. option_map (dump_line t) (read_row (number_to MAX_BLOCKS) ws)) (number_to MAX_STEPS w)
-
--- `loss`: the number
-unfoldable pub read_loss : List (List ℕ) → Option Line
-read_loss [] = None
-read_loss (w ∷ []) = option_map loss_line (number_to MAX_U64 w)
-read_loss (w ∷ v ∷ ws) = None
-
--- the line of a stretch
-abbrev pub stretch_of : List ℕ → ℕ → ℕ → Line
-stretch_of id first last = stretch_line (record { store = id; first = first; last = last })
-
--- `stretch`: the identifier and both steps
-unfoldable pub read_stretch : List (List ℕ) → Option Line
-read_stretch [] = None
-read_stretch (a ∷ []) = None
-read_stretch (a ∷ b ∷ []) = None
-read_stretch (a ∷ b ∷ c ∷ []) =
-    option_and_then (λ id. option_and_then (λ first. option_map (stretch_of id first) (number_to MAX_U32 c)) (number_to MAX_U32 b)) (read_id a)
-read_stretch (a ∷ b ∷ c ∷ d ∷ ws) = None
-
--- `count`: the step, and the word `channels`
-unfoldable pub read_count : List (List ℕ) → Option Line
-read_count [] = None
-read_count (w ∷ []) = None
-read_count (w ∷ v ∷ []) = if bytes_eq v (codes "channels") then option_map count_line (number_to MAX_U32 w) else None
-read_count (w ∷ v ∷ u ∷ ws) = None
-
--- `bound`: the signed number
-unfoldable pub read_bound_line : List (List ℕ) → Option Line
-read_bound_line [] = None
-read_bound_line (w ∷ []) = option_map bound_line (read_bound w)
-read_bound_line (w ∷ v ∷ ws) = None
-
--- `end`: nothing
-unfoldable pub read_end : List (List ℕ) → Option Line
-read_end [] = Some end_line
-read_end (w ∷ ws) = None
-
--- the line of the certificate with this keyword and these words after it
-abbrev pub read_certificate : List ℕ → List (List ℕ) → Option Line
-read_certificate w ws =
-    if bytes_eq w (codes "loss") then read_loss ws
-    else if bytes_eq w (codes "stretch") then read_stretch ws
-    else if bytes_eq w (codes "count") then read_count ws
-    else if bytes_eq w (codes "bound") then read_bound_line ws
-    else if bytes_eq w (codes "end") then read_end ws
-    else None
-
--- the line of these words, by its keyword
-unfoldable pub read_words : List (List ℕ) → Option Line
-read_words [] = None
-read_words (w ∷ ws) =
-    if bytes_eq w (codes "mmplan") then read_title ws
-    else if bytes_eq w (codes "stores") then read_stores ws
-    else if bytes_eq w (codes "dump") then read_dump ws
-    else read_certificate w ws
-
--- the line of this text
+-- the line whose text this is
 unfoldable pub read_line : List ℕ → Option Line
-read_line text = read_words (line_words text)
+read_line text =
+    let x = line_of (line_words text) in
+    if bytes_eq (line_text x) text then Some x else None
 
 -- ---- what has been read so far
 
@@ -169,7 +104,7 @@ start = record { stage = ToTitle; second = false; rows = no_rows }
 -- whether the line may come next
 abbrev pub may_follow : Stage → Bool → SheetRows → Line → Bool
 may_follow ToTitle b s (title_line c) = true
-may_follow ToStores b s (stores_line ids) = nat_lt 0 (length ids)
+may_follow ToStores b s (stores_line ids) = nat_lt 0 (length ids) && nat_le (length ids) MAX_STORES
 may_follow ToDumps b s (dump_line t xs) = (t == s.plan.steps + 1) && (length xs == length s.stores)
 may_follow ToDumps b s (loss_line n) = nat_lt 0 s.plan.steps
 may_follow ToCut b s (stretch_line d) = nat_lt (length s.cut) MAX_STRETCHES && (length s.by_channels == 0)

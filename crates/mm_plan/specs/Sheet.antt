@@ -3,7 +3,7 @@ use Rattle.std.specs.Prelude.{◌≡◌, ◌≢◌, ℕ, zero, suc, ◌+◌, ◌
 use Rattle.std.specs.Fmt.{signed_decimal}
 use Rattle.std.specs.Int.{w64}
 use Rattle.std.specs.List.{join_with_byte}
-use Rattle.mm_base.specs.declared.limits.TheConstants.{MAX_STEPS}
+use Rattle.mm_base.specs.declared.limits.TheConstants.{MAX_STORES, MAX_STEPS, MAX_BLOCKS}
 use Rattle.mm_problem.specs.Dumping.{Dumping}
 use Rattle.mm_base.specs.Characters.{line_feed, space}
 use Rattle.mm_base.specs.Id.{IsIdField, id_text}
@@ -45,6 +45,23 @@ words (count_line t) = codes "count" ∷ decimal t ∷ codes "channels" ∷ []
 words (bound_line z) = codes "bound" ∷ signed_decimal z ∷ []
 words end_line = codes "end" ∷ []
 
+-- a stretch of a well-formed identifier and steps below 2^32
+pub record IsWritten (d : Stretch) : Type 0 where
+  pub store : IsIdField d.store
+  pub first : d.first < 2 ^ 32
+  pub last : d.last < 2 ^ 32
+
+-- a line of at most 18 words whose numbers and identifiers are within their ranges
+abbrev pub IsLine : Line → Type 0
+IsLine (title_line b) = Unit {0}
+IsLine (stores_line ids) = (length ids ≤ 17) × All IsIdField ids
+IsLine (dump_line t xs) = (t ≤ MAX_STEPS) × (length xs ≤ MAX_STORES) × All (λ n. n ≤ MAX_BLOCKS) xs
+IsLine (loss_line n) = n < 2 ^ 64
+IsLine (stretch_line d) = IsWritten d
+IsLine (count_line t) = t < 2 ^ 32
+IsLine (bound_line z) = FitsSigned w64 z
+IsLine end_line = Unit {0}
+
 -- the octets of a line: its words, with one space between two of them
 unfoldable pub line_text : Line → List ℕ
 line_text x = join_with_byte space (words x)
@@ -72,12 +89,6 @@ lines_of s =
 -- the octets of a sheet: its lines, each with a line feed after it
 unfoldable pub sheet_text : SheetRows → List ℕ
 sheet_text s = join_with_byte line_feed (map line_text (lines_of s) ++ [] ∷ [])
-
--- a stretch of a well-formed identifier and steps below 2^32
-pub record IsWritten (d : Stretch) : Type 0 where
-  pub store : IsIdField d.store
-  pub first : d.first < 2 ^ 32
-  pub last : d.last < 2 ^ 32
 
 -- a sheet within the limits of the text
 pub record IsSheet (s : SheetRows) : Type 0 where

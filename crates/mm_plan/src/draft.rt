@@ -93,7 +93,7 @@ impl Draft {
     {
         match (self.stage, line) {
             (Stage::ToTitle, Line::Title { .. }) => true,
-            (Stage::ToStores, Line::Stores(ids)) => !ids.is_empty(),
+            (Stage::ToStores, Line::Stores(ids)) => !ids.is_empty() && ids.len() <= MAX_STORES,
             (Stage::ToDumps, Line::Dump { step, amounts }) => {
                 u64::from(*step) == u64::from(self.steps) + 1 && amounts.len() == self.stores.len()
             }

@@ -1,13 +1,15 @@
 //! The lines of a plan text.
-ghost use Rattle.std.specs.Prelude.{◌≡◌, ◌≤◌, map, drop, IfOk, length};
+ghost use Rattle.std.specs.Prelude.{◌≡◌, bytes_eq, map, drop, IfOk};
 ghost use Rattle.std.specs.Option.{option_map};
-ghost use Rattle.mm_base.specs.declared.limits.TheConstants.{MAX_STORES, MAX_BLOCKS};
-ghost use Rattle.mm_plan.specs.Reading.{number_to, read_id, read_row, read_title, read_stores, read_dump, read_loss, read_stretch, read_count, read_bound_line, read_end, read_certificate, read_words, read_line};
+ghost use Rattle.mm_base.specs.declared.limits.TheConstants.{MAX_BLOCKS};
+ghost use Rattle.mm_plan.specs.Reading.{id_of, number_of, stretch_of, line_of, read_line};
 ghost use Rattle.mm_plan.specs.Seen.{seen};
+ghost use Rattle.mm_plan.specs.Sheet.{IsLine, line_text};
 
+use crate::print::push_line;
 use crate::stretch::Stretch;
-use crate::words::{line_words, number_to, read_bound, read_id, read_u32};
-use mm_base::{MAX_BLOCKS, MAX_STEPS, MAX_STORES, StoreId};
+use crate::words::{id_of, line_words, number_of, signed_of, u32_of, word};
+use mm_base::{MAX_BLOCKS, MAX_STEPS, StoreId};
 use std::alloc::{AllocError, Global};
 
 // A line; the title of the second form counts steps by channels.
@@ -23,181 +25,95 @@ pub(crate) enum Line {
     End,
 }
 
-#[tactic(auto, unfolding(crate::specs::Reading::read_title))]
-fn read_title(words: &[&[u8]]) -> Option<Line>
-    ensures { option_map seen result ≡ read_title (map (λ w. w.now) words.now) }
+fn ids_of(alloc: Global, words: &[&[u8]]) -> Result<Vec<StoreId>, AllocError>
+    ensures { IfOk result (λ ids. ids.items ≡ map id_of (map (λ w. w.now) words.now)) }
 {
-    match words {
-        [form] if *form == b"1".as_slice() => Some(Line::Title { second: false }),
-        [form] if *form == b"2".as_slice() => Some(Line::Title { second: true }),
-        _ => None,
-    }
-}
-
-fn ids_of(alloc: Global, words: &[&[u8]]) -> Result<Option<Vec<StoreId>>, AllocError>
-    ensures { IfOk result (λ ids. option_map (λ v. v.items) ids ≡ read_row read_id (map (λ w. w.now) words.now)) }
-{
-    if words.len() > MAX_STORES {
-        return Ok(None);
-    }
     let mut ids = Vec::with_capacity(alloc, words.len())?;
     let mut rest = words;
     while let [word, after @ ..] = rest {
-        let Some(id) = read_id(*word) else {
-            return Ok(None);
-        };
-        ids.push(id)?;
+        ids.push(id_of(*word))?;
         rest = after;
     }
-    Ok(Some(ids))
+    Ok(ids)
 }
 
-fn amounts_of(alloc: Global, words: &[&[u8]]) -> Result<Option<Vec<u32>>, AllocError>
+// The numbers that all words but the first write.
+fn amounts_of(alloc: Global, words: &[&[u8]]) -> Result<Vec<u32>, AllocError>
     ensures { IfOk result (λ amounts.
-        option_map (λ v. v.items) amounts ≡ read_row (number_to MAX_BLOCKS) (map (λ w. w.now) words.now)) }
+        amounts.items ≡ map (number_of MAX_BLOCKS) (drop 1 (map (λ w. w.now) words.now))) }
 {
-    if words.len() > MAX_STORES {
-        return Ok(None);
-    }
     let mut amounts = Vec::with_capacity(alloc, words.len())?;
-    let mut rest = words;
+    let [_, row @ ..] = words else {
+        return Ok(amounts);
+    };
+    let mut rest = row;
     while let [word, after @ ..] = rest {
-        let Some(amount) = read_u32(MAX_BLOCKS, *word) else {
-            return Ok(None);
-        };
-        amounts.push(amount)?;
+        amounts.push(u32_of(MAX_BLOCKS, *word))?;
         rest = after;
     }
-    Ok(Some(amounts))
+    Ok(amounts)
 }
 
-#[tactic(auto, unfolding(crate::specs::Reading::read_stores))]
-fn read_stores(alloc: Global, words: &[&[u8]]) -> Result<Option<Line>, AllocError>
-    ensures { IfOk result (λ line. option_map seen line ≡ read_stores (map (λ w. w.now) words.now)) }
+fn stretch_of(words: &[&[u8]]) -> Stretch
+    ensures { result ≡ stretch_of (map (λ w. w.now) words.now) }
 {
-    match ids_of(alloc, words)? {
-        Some(ids) => Ok(Some(Line::Stores(ids))),
-        None => Ok(None),
+    Stretch {
+        store: id_of(word(words, 0)),
+        first: u32_of(u32::MAX, word(words, 1)),
+        last: u32_of(u32::MAX, word(words, 2)),
     }
 }
 
-#[tactic(auto, unfolding(crate::specs::Reading::read_dump))]
-fn read_dump(alloc: Global, words: &[&[u8]]) -> Result<Option<Line>, AllocError>
-    ensures { IfOk result (λ line. option_map seen line ≡ read_dump (map (λ w. w.now) words.now)) }
-{
-    let [step, amounts @ ..] = words else {
-        return Ok(None);
-    };
-    let Some(step) = read_u32(MAX_STEPS, *step) else {
-        return Ok(None);
-    };
-    match amounts_of(alloc, amounts)? {
-        Some(amounts) => Ok(Some(Line::Dump { step, amounts })),
-        None => Ok(None),
-    }
-}
-
-#[tactic(auto, unfolding(crate::specs::Reading::read_loss))]
-fn read_loss(words: &[&[u8]]) -> Option<Line>
-    ensures { option_map seen result ≡ read_loss (map (λ w. w.now) words.now) }
-{
-    match words {
-        [loss] => Some(Line::Loss(number_to(u64::MAX, *loss)?)),
-        _ => None,
-    }
-}
-
-#[tactic(auto, unfolding(crate::specs::Reading::read_stretch))]
-fn read_stretch(words: &[&[u8]]) -> Option<Line>
-    ensures { option_map seen result ≡ read_stretch (map (λ w. w.now) words.now) }
-{
-    match words {
-        [store, first, last] => {
-            let store = read_id(*store)?;
-            let first = read_u32(u32::MAX, *first)?;
-            let last = read_u32(u32::MAX, *last)?;
-            Some(Line::Cut(Stretch { store, first, last }))
-        }
-        _ => None,
-    }
-}
-
-#[tactic(auto, unfolding(crate::specs::Reading::read_count))]
-fn read_count(words: &[&[u8]]) -> Option<Line>
-    ensures { option_map seen result ≡ read_count (map (λ w. w.now) words.now) }
-{
-    match words {
-        [step, channels] if *channels == b"channels".as_slice() => {
-            Some(Line::Count(read_u32(u32::MAX, *step)?))
-        }
-        _ => None,
-    }
-}
-
-#[tactic(auto, unfolding(crate::specs::Reading::read_bound_line))]
-fn read_bound_line(words: &[&[u8]]) -> Option<Line>
-    ensures { option_map seen result ≡ read_bound_line (map (λ w. w.now) words.now) }
-{
-    match words {
-        [bound] => Some(Line::Bound(read_bound(*bound)?)),
-        _ => None,
-    }
-}
-
-#[tactic(auto, unfolding(crate::specs::Reading::read_end))]
-fn read_end(words: &[&[u8]]) -> Option<Line>
-    ensures { option_map seen result ≡ read_end (map (λ w. w.now) words.now) }
-{
-    if words.is_empty() {
-        Some(Line::End)
-    } else {
-        None
-    }
-}
-
-// The line of the certificate with this keyword and these words after it.
-fn read_certificate(keyword: &[u8], rest: &[&[u8]]) -> Option<Line>
-    ensures { option_map seen result ≡ read_certificate keyword.now (map (λ w. w.now) rest.now) }
-{
-    if keyword == b"loss".as_slice() {
-        read_loss(rest)
-    } else if keyword == b"stretch".as_slice() {
-        read_stretch(rest)
-    } else if keyword == b"count".as_slice() {
-        read_count(rest)
-    } else if keyword == b"bound".as_slice() {
-        read_bound_line(rest)
-    } else if keyword == b"end".as_slice() {
-        read_end(rest)
-    } else {
-        None
-    }
-}
-
-#[tactic(auto, unfolding(crate::specs::Reading::read_words))]
-fn read_words(alloc: Global, words: &[&[u8]]) -> Result<Option<Line>, AllocError>
-    ensures { IfOk result (λ line. option_map seen line ≡ read_words (map (λ w. w.now) words.now)) }
+// The line that words say.
+#[tactic(auto, unfolding(crate::specs::Reading::line_of))]
+fn line_of(alloc: Global, words: &[&[u8]]) -> Result<Line, AllocError>
+    ensures { IfOk result (λ line. seen line ≡ line_of (map (λ w. w.now) words.now)) }
 {
     let [keyword, rest @ ..] = words else {
-        return Ok(None);
+        return Ok(Line::End);
     };
     let keyword = *keyword;
-    if keyword == b"mmplan".as_slice() {
-        Ok(read_title(rest))
+    let first = word(rest, 0);
+    Ok(if keyword == b"mmplan".as_slice() {
+        Line::Title { second: first == b"2".as_slice() }
     } else if keyword == b"stores".as_slice() {
-        read_stores(alloc, rest)
+        Line::Stores(ids_of(alloc, rest)?)
     } else if keyword == b"dump".as_slice() {
-        read_dump(alloc, rest)
+        Line::Dump { step: u32_of(MAX_STEPS, first), amounts: amounts_of(alloc, rest)? }
+    } else if keyword == b"loss".as_slice() {
+        Line::Loss(number_of(u64::MAX, first))
+    } else if keyword == b"stretch".as_slice() {
+        Line::Cut(stretch_of(rest))
+    } else if keyword == b"count".as_slice() {
+        Line::Count(u32_of(u32::MAX, first))
+    } else if keyword == b"bound".as_slice() {
+        Line::Bound(signed_of(first))
     } else {
-        Ok(read_certificate(keyword, rest))
-    }
+        Line::End
+    })
 }
 
-// The line of this text, or none.
+// Whether the line has this text.
+fn has_text(alloc: Global, line: &Line, text: &[u8]) -> Result<bool, AllocError>
+    requires { IsLine (seen line.now) }
+    ensures { IfOk result (λ is. is ≡ bytes_eq (line_text (seen line.now)) text.now) }
+{
+    let mut printed = Vec::with_capacity(alloc, text.len() + 1)?;
+    push_line(&mut printed, line)?;
+    printed.pop();
+    Ok(printed.as_slice() == text)
+}
+
+// The line whose text this is, or none: what the words say is printed again and compared with the text.
 #[tactic(auto, unfolding(crate::specs::Reading::read_line))]
 pub(crate) fn read_line(alloc: Global, text: &[u8]) -> Result<Option<Line>, AllocError>
     ensures { IfOk result (λ line. option_map seen line ≡ read_line text.now) }
 {
     let words = line_words(alloc, text)?;
-    read_words(alloc, words.as_slice())
+    let line = line_of(alloc, words.as_slice())?;
+    if has_text(alloc, &line, text)? {
+        Ok(Some(line))
+    } else {
+        Ok(None)
+    }
 }

@@ -5,8 +5,11 @@ ghost use Rattle.mm_base.specs.Characters.{line_feed, space};
 ghost use Rattle.mm_base.specs.declared.limits.TheConstants.{MAX_STORES};
 ghost use Rattle.mm_base.specs.Id.{id_text};
 ghost use Rattle.mm_plan.specs.Sheet.{title_line, stores_line, dump_line, loss_line, stretch_line, count_line, bound_line, end_line, dump_lines};
+ghost use Rattle.mm_plan.specs.Seen.{seen};
+ghost use Rattle.mm_plan.specs.Sheet.{IsLine};
 ghost use Rattle.mm_plan.specs.Printing.{place_of, stretch_key, AreOrdered, AreRising, ended, all_ended, spaced, plan_lines};
 
+use crate::line::Line;
 use crate::plan::Plan;
 use crate::stretch::Stretch;
 use mm_base::numbers::{push_number, write_number};
@@ -237,6 +240,23 @@ pub(crate) fn push_certificate(
     push_bound(text, bound)?;
     push_end(text)?;
     Ok(())
+}
+
+// A line.
+pub(crate) fn push_line(text: &mut Vec<u8>, line: &Line) -> Pushed
+    requires { IsLine (seen line.now) }
+    ensures { OnOk result (text.new.items ≡ text.old.items ++ ended (seen line.now)) }
+{
+    match line {
+        Line::Title { second } => push_title(text, *second),
+        Line::Stores(ids) => push_stores(text, ids.as_slice()),
+        Line::Dump { step, amounts } => push_dump(text, *step, amounts.as_slice()),
+        Line::Loss(loss) => push_loss(text, *loss),
+        Line::Cut(stretch) => push_stretch(text, *stretch),
+        Line::Count(step) => push_count(text, *step),
+        Line::Bound(bound) => push_bound(text, *bound),
+        Line::End => push_end(text),
+    }
 }
 
 fn place_of(ids: &[StoreId], id: StoreId) -> usize

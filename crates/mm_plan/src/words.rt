@@ -1,14 +1,13 @@
-//! The words of a line.
-ghost use Rattle.std.specs.Prelude.{◌≡◌, ◌≤◌, ◌-◌, [], map, IfOk, IfSome, OnOk, length};
-ghost use Rattle.std.specs.Option.{option_map};
-ghost use Rattle.mm_plan.specs.Reading.{line_words, number_to, read_id, read_bound};
+//! The words of a line, and what they say, where they are those of a line.
+ghost use Rattle.std.specs.Prelude.{◌≡◌, ◌≤◌, [], map, IfOk, OnOk};
+ghost use Rattle.mm_plan.specs.Reading.{line_words, word, number_of, id_of, signed_of};
 
 use mm_base::StoreId;
 use mm_base::numbers::Numeral;
 use std::alloc::{AllocError, Global};
 
 // How many words of a line are looked at.
-const MAX_WORDS: usize = 19;
+const MAX_WORDS: usize = 18;
 
 // The words of a line are separated by one space; a line of more than 18 words stands in no sheet.
 fn add_words<'a>(words: &mut Vec<&'a [u8]>, text: &'a [u8]) -> Result<(), AllocError>
@@ -27,52 +26,57 @@ pub(crate) fn line_words<'a>(alloc: Global, text: &'a [u8]) -> Result<Vec<&'a [u
     Ok(words)
 }
 
-// The number that a word writes, where it is at most this.
-#[tactic(auto, unfolding(crate::specs::Reading::number_to))]
-pub(crate) fn number_to(most: u64, text: &[u8]) -> Option<u64>
-    ensures number { result ≡ number_to most text.now }
-    ensures most { IfSome result (λ n. n ≤ most) }
+// The word at a place; nothing where there are fewer.
+pub(crate) fn word<'a>(words: &[&'a [u8]], place: usize) -> &'a [u8]
+    ensures { result.now ≡ word (map (λ w. w.now) words.now) place }
 {
-    match Numeral::read(text, most) {
-        Numeral::Number(number) => Some(number),
-        _ => None,
+    if place < words.len() {
+        words[place]
+    } else {
+        b"".as_slice()
     }
 }
 
-pub(crate) fn read_u32(most: u32, text: &[u8]) -> Option<u32>
-    ensures number { result ≡ number_to most text.now }
+// The number that a word writes, where it is at most this, and otherwise 0.
+#[tactic(auto, unfolding(crate::specs::Reading::number_of))]
+pub(crate) fn number_of(most: u64, word: &[u8]) -> u64
+    ensures number { result ≡ number_of most word.now }
+    ensures most { result ≤ most }
 {
-    let number = number_to(u64::from(most), text)?;
-    Some(number as u32)
-}
-
-#[tactic(auto, unfolding(crate::specs::Reading::read_id))]
-pub(crate) fn read_id(text: &[u8]) -> Option<StoreId>
-    ensures { result ≡ read_id text.now }
-{
-    match StoreId::of_text(text) {
-        Ok(id) => Some(id),
-        Err(_) => None,
+    match Numeral::read(word, most) {
+        Numeral::Number(number) => number,
+        _ => 0,
     }
 }
 
-#[tactic(auto, unfolding(crate::specs::Reading::read_bound))]
-pub(crate) fn read_bound(text: &[u8]) -> Option<i64>
-    ensures { result ≡ read_bound text.now }
+pub(crate) fn u32_of(most: u32, word: &[u8]) -> u32
+    ensures { result ≡ number_of most word.now }
 {
-    match text {
-        [] => None,
-        [b'-', digits @ ..] => {
-            let number = number_to(1 << 63, digits)?;
-            if number == 0 {
-                None
-            } else {
-                Some(-1 - (number - 1) as i64)
-            }
-        }
-        digits => {
-            let number = number_to(i64::MAX as u64, digits)?;
-            Some(number as i64)
-        }
+    number_of(u64::from(most), word) as u32
+}
+
+// The identifier that a word is, and another where it is none.
+#[tactic(auto, using(crate::proofs::Saying::id_a))]
+pub(crate) fn id_of(word: &[u8]) -> StoreId
+    ensures { result ≡ id_of word.now }
+{
+    match StoreId::of_text(word) {
+        Ok(id) => id,
+        Err(_) => StoreId::of_text(b"A").unwrap(),
+    }
+}
+
+// The signed number that a word writes, and otherwise 0.
+#[tactic(auto, unfolding(crate::specs::Reading::signed_of))]
+pub(crate) fn signed_of(word: &[u8]) -> i64
+    ensures { result ≡ signed_of word.now }
+{
+    match word {
+        [] => 0,
+        [b'-', digits @ ..] => match number_of(1 << 63, digits) {
+            0 => 0,
+            number => -1 - (number - 1) as i64,
+        },
+        digits => number_of(i64::MAX as u64, digits) as i64,
     }
 }
