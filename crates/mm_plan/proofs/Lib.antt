@@ -16,5 +16,4 @@ pub mod Tabling
 pub mod Lowering
 pub mod Rests
 pub mod Fills
-pub mod Fronts
 pub mod Rows

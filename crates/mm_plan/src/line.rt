@@ -75,11 +75,16 @@ fn line_of(alloc: Global, words: &[&[u8]]) -> Result<Line, AllocError>
     let keyword = *keyword;
     let first = word(rest, 0);
     Ok(if keyword == b"mmplan".as_slice() {
-        Line::Title { second: first == b"2".as_slice() }
+        Line::Title {
+            second: first == b"2".as_slice(),
+        }
     } else if keyword == b"stores".as_slice() {
         Line::Stores(ids_of(alloc, rest)?)
     } else if keyword == b"dump".as_slice() {
-        Line::Dump { step: u32_of(MAX_STEPS, first), amounts: amounts_of(alloc, rest)? }
+        Line::Dump {
+            step: u32_of(MAX_STEPS, first),
+            amounts: amounts_of(alloc, rest)?,
+        }
     } else if keyword == b"loss".as_slice() {
         Line::Loss(number_of(u64::MAX, first))
     } else if keyword == b"stretch".as_slice() {
