@@ -15,7 +15,7 @@ use Rattle.mm_plan.specs.declared.draft.Stage.{Stage}
 use Rattle.mm_plan.specs.declared.draft.Stage.TheVariants.{ToTitle, ToStores, ToDumps, ToCut, ToEnd, Done}
 use Rattle.mm_plan.specs.Table.{Table}
 use Rattle.mm_plan.specs.Sheet.{SheetRows, IsWritten, Line, title_line, stores_line, dump_line, loss_line, stretch_line, count_line, bound_line, end_line, dump_lines, has_counts, IsLine}
-use Rattle.mm_plan.specs.Reading.{may_follow, next_stage, second_after, rows_after}
+use Rattle.mm_plan.specs.Reading.{DraftRows, may_follow, after}
 
 -- the dump lines of the plan
 abbrev pub dumps_of : SheetRows → List Line
@@ -95,11 +95,23 @@ IsAt ToCut b s = IsPlanned b s
 IsAt ToEnd b s = IsWhole b s
 IsAt Done b s = IsWhole b s
 
--- a sound draft to which one line was added
-pub record IsAdded (stage : Stage) (b : Bool) (s : SheetRows) (x : Line) : Type 0 where
-  pub rows : IsRows (rows_after s x)
-  pub at : IsAt (next_stage stage x) (second_after b x) (rows_after s x)
-  pub lines : so_far (next_stage stage x) (second_after b x) (rows_after s x) ≡ so_far stage b s ++ x ∷ []
+-- a draft with these parts
+abbrev pub at_stage : Stage → Bool → SheetRows → DraftRows
+at_stage stage b s = record { stage = stage; second = b; rows = s }
+
+-- a draft that is sound
+pub record IsSound (d : DraftRows) : Type 0 where
+  pub rows : IsRows d.rows
+  pub at : IsAt d.stage d.second d.rows
+
+-- the lines that a draft was read from
+abbrev pub lines_so_far : DraftRows → List Line
+lines_so_far d = so_far d.stage d.second d.rows
+
+-- a line adds just itself
+pub record IsAdded (d : DraftRows) (x : Line) : Type 0 where
+  pub sound : IsSound (after d x)
+  pub lines : lines_so_far (after d x) ≡ lines_so_far d ++ x ∷ []
 
 -- ---- lists of lines
 
@@ -155,25 +167,27 @@ empty_table : (size k n : ℕ) → size ≡ 0 → k ≡ 0 → size ≡ k * n
 empty_table size k n none no_steps = omega (arith, ap (λ j. j * n) no_steps)
 
 -- the stores line adds just itself
-added_stores : (b : Bool) (s : SheetRows) (ids : List (List ℕ)) → IsLine (stores_line ids) → IsRows s → IsBlank s → (nat_lt 0 (length ids) && nat_le (length ids) MAX_STORES) ≡ true → IsAdded ToStores b s (stores_line ids)
+added_stores : (b : Bool) (s : SheetRows) (ids : List (List ℕ)) → IsLine (stores_line ids) → IsRows s → IsBlank s → (nat_lt 0 (length ids) && nat_le (length ids) MAX_STORES) ≡ true → IsAdded (at_stage ToStores b s) (stores_line ids)
 added_stores b s ids line rows blank may =
     let p = and_parts (nat_lt 0 (length ids)) (nat_le (length ids) MAX_STORES) may in
     let none : length s.plan.amounts ≡ 0 = ap length blank.amounts in
     record {
-      rows = record {
-        dumps = record {
-          stores = (Decides-nat_le (length ids) MAX_STORES).0 p.1;
-          steps = rows.dumps.steps;
-          same_stores = refl;
-          table = empty_table (length s.plan.amounts) s.plan.steps (length ids) none blank.steps;
-          each_amount = rows.dumps.each_amount;
-          each_store = line.1;
+      sound = record {
+        rows = record {
+          dumps = record {
+            stores = (Decides-nat_le (length ids) MAX_STORES).0 p.1;
+            steps = rows.dumps.steps;
+            same_stores = refl;
+            table = empty_table (length s.plan.amounts) s.plan.steps (length ids) none blank.steps;
+            each_amount = rows.dumps.each_amount;
+            each_store = line.1;
+          };
+          listed = rows.listed;
+          loss = rows.loss;
+          bound = rows.bound;
         };
-        listed = rows.listed;
-        loss = rows.loss;
-        bound = rows.bound;
+        at = record { has_store = some_passes (length ids) p.0; cut = blank.cut; counts = blank.counts };
       };
-      at = record { has_store = some_passes (length ids) p.0; cut = blank.cut; counts = blank.counts };
       lines = ap (λ k. title_line b ∷ stores_line ids ∷ dump_lines (length ids) 1 k s.plan.amounts) blank.steps;
     }
 
@@ -188,27 +202,29 @@ wider : (k n t old new : ℕ) → t ≡ suc k → old ≡ k * n → new ≡ n �
 wider k n t old new is_next table width = omega (arith, ap (λ j. j * n) is_next)
 
 -- a dump line adds just itself
-added_dump : (b : Bool) (s : SheetRows) (t : ℕ) (xs : List ℕ) → IsLine (dump_line t xs) → IsRows s → IsUncut s → ((t == s.plan.steps + 1) && (length xs == length s.stores)) ≡ true → IsAdded ToDumps b s (dump_line t xs)
+added_dump : (b : Bool) (s : SheetRows) (t : ℕ) (xs : List ℕ) → IsLine (dump_line t xs) → IsRows s → IsUncut s → ((t == s.plan.steps + 1) && (length xs == length s.stores)) ≡ true → IsAdded (at_stage ToDumps b s) (dump_line t xs)
 added_dump b s t xs line rows uncut may =
     let p = dump_follows s t xs may in
     let is_next : t ≡ suc s.plan.steps = omega (arith, p.0) in
     let number : 1 + s.plan.steps ≡ t = omega (arith, p.0) in
     let width : length xs ≡ s.plan.stores = p.1 ∙ sym rows.dumps.same_stores in
     record {
-      rows = record {
-        dumps = record {
-          stores = rows.dumps.stores;
-          steps = line.0;
-          same_stores = rows.dumps.same_stores;
-          table = length-append s.plan.amounts xs ∙ wider s.plan.steps s.plan.stores t (length s.plan.amounts) (length xs) is_next rows.dumps.table width;
-          each_amount = All-append (λ n. n ≤ MAX_BLOCKS) s.plan.amounts xs rows.dumps.each_amount line.2;
-          each_store = rows.dumps.each_store;
+      sound = record {
+        rows = record {
+          dumps = record {
+            stores = rows.dumps.stores;
+            steps = line.0;
+            same_stores = rows.dumps.same_stores;
+            table = length-append s.plan.amounts xs ∙ wider s.plan.steps s.plan.stores t (length s.plan.amounts) (length xs) is_next rows.dumps.table width;
+            each_amount = All-append (λ n. n ≤ MAX_BLOCKS) s.plan.amounts xs rows.dumps.each_amount line.2;
+            each_store = rows.dumps.each_store;
+          };
+          listed = rows.listed;
+          loss = rows.loss;
+          bound = rows.bound;
         };
-        listed = rows.listed;
-        loss = rows.loss;
-        bound = rows.bound;
+        at = record { has_store = uncut.has_store; cut = uncut.cut; counts = uncut.counts };
       };
-      at = record { has_store = uncut.has_store; cut = uncut.cut; counts = uncut.counts };
       lines =
           ap (λ k. title_line b ∷ stores_line s.stores ∷ dump_lines s.plan.stores 1 k (s.plan.amounts ++ xs)) is_next
           ∙ ap (λ ls. title_line b ∷ stores_line s.stores ∷ ls) (dump_lines-push s.plan.stores 1 s.plan.steps s.plan.amounts xs rows.dumps.table width)
@@ -216,16 +232,18 @@ added_dump b s t xs line rows uncut may =
     }
 
 -- the loss line adds just itself
-added_loss : (b : Bool) (s : SheetRows) (n : ℕ) → IsLine (loss_line n) → IsRows s → IsUncut s → nat_lt 0 s.plan.steps ≡ true → IsAdded ToDumps b s (loss_line n)
+added_loss : (b : Bool) (s : SheetRows) (n : ℕ) → IsLine (loss_line n) → IsRows s → IsUncut s → nat_lt 0 s.plan.steps ≡ true → IsAdded (at_stage ToDumps b s) (loss_line n)
 added_loss b s n line rows uncut may =
     record {
-      rows = record {
-        dumps = rows.dumps;
-        listed = rows.listed;
-        loss = line;
-        bound = rows.bound;
+      sound = record {
+        rows = record {
+          dumps = rows.dumps;
+          listed = rows.listed;
+          loss = line;
+          bound = rows.bound;
+        };
+        at = record { has_store = uncut.has_store; has_step = some_passes s.plan.steps may; counts = λ _. uncut.counts };
       };
-      at = record { has_store = uncut.has_store; has_step = some_passes s.plan.steps may; counts = λ _. uncut.counts };
       lines = no_cut (title_line b ∷ stores_line s.stores ∷ [] ++ dumps_of s ++ loss_line n ∷ []) s.cut s.by_channels uncut.cut uncut.counts;
     }
 
@@ -237,22 +255,24 @@ stretch_follows s may =
     (grind (arith, nat_tests, p.0), nil_from_length s.by_channels none)
 
 -- a stretch line adds just itself
-added_stretch : (b : Bool) (s : SheetRows) (d : Stretch) → IsLine (stretch_line d) → IsRows s → IsPlanned b s → (nat_lt (length s.cut) MAX_STRETCHES && (length s.by_channels == 0)) ≡ true → IsAdded ToCut b s (stretch_line d)
+added_stretch : (b : Bool) (s : SheetRows) (d : Stretch) → IsLine (stretch_line d) → IsRows s → IsPlanned b s → (nat_lt (length s.cut) MAX_STRETCHES && (length s.by_channels == 0)) ≡ true → IsAdded (at_stage ToCut b s) (stretch_line d)
 added_stretch b s d line rows planned may =
     let p = stretch_follows s may in
     record {
-      rows = record {
-        dumps = rows.dumps;
-        listed = record {
-          cut = omega (arith, p.0, length-append s.cut (d ∷ []));
-          counts = rows.listed.counts;
-          each_stretch = All-push IsWritten s.cut d rows.listed.each_stretch line;
-          each_count = rows.listed.each_count;
+      sound = record {
+        rows = record {
+          dumps = rows.dumps;
+          listed = record {
+            cut = omega (arith, p.0, length-append s.cut (d ∷ []));
+            counts = rows.listed.counts;
+            each_stretch = All-push IsWritten s.cut d rows.listed.each_stretch line;
+            each_count = rows.listed.each_count;
+          };
+          loss = rows.loss;
+          bound = rows.bound;
         };
-        loss = rows.loss;
-        bound = rows.bound;
+        at = record { has_store = planned.has_store; has_step = planned.has_step; counts = planned.counts };
       };
-      at = record { has_store = planned.has_store; has_step = planned.has_step; counts = planned.counts };
       lines = more_cut (upto_loss b s) s.cut s.by_channels d p.1;
     }
 
@@ -263,36 +283,40 @@ count_follows b s may =
     (p.0, grind (arith, nat_tests, p.1))
 
 -- a count line adds just itself
-added_count : (b : Bool) (s : SheetRows) (t : ℕ) → IsLine (count_line t) → IsRows s → IsPlanned b s → (b && nat_lt (length s.by_channels) MAX_COUNTS) ≡ true → IsAdded ToCut b s (count_line t)
+added_count : (b : Bool) (s : SheetRows) (t : ℕ) → IsLine (count_line t) → IsRows s → IsPlanned b s → (b && nat_lt (length s.by_channels) MAX_COUNTS) ≡ true → IsAdded (at_stage ToCut b s) (count_line t)
 added_count b s t line rows planned may =
     let p = count_follows b s may in
     record {
-      rows = record {
-        dumps = rows.dumps;
-        listed = record {
-          cut = rows.listed.cut;
-          counts = omega (arith, p.1, length-append s.by_channels (t ∷ []));
-          each_stretch = rows.listed.each_stretch;
-          each_count = All-push (λ t. t < 2 ^ 32) s.by_channels t rows.listed.each_count line;
+      sound = record {
+        rows = record {
+          dumps = rows.dumps;
+          listed = record {
+            cut = rows.listed.cut;
+            counts = omega (arith, p.1, length-append s.by_channels (t ∷ []));
+            each_stretch = rows.listed.each_stretch;
+            each_count = All-push (λ t. t < 2 ^ 32) s.by_channels t rows.listed.each_count line;
+          };
+          loss = rows.loss;
+          bound = rows.bound;
         };
-        loss = rows.loss;
-        bound = rows.bound;
+        at = record { has_store = planned.has_store; has_step = planned.has_step; counts = λ first. absurd (false≢true (sym first ∙ p.0)) };
       };
-      at = record { has_store = planned.has_store; has_step = planned.has_step; counts = λ first. absurd (false≢true (sym first ∙ p.0)) };
       lines = more_counts (upto_loss b s ++ map stretch_line s.cut) s.by_channels t;
     }
 
 -- the bound line adds just itself
-added_bound : (b : Bool) (s : SheetRows) (z : ℤ) → IsLine (bound_line z) → IsRows s → IsPlanned b s → b ≡ has_counts s → IsAdded ToCut b s (bound_line z)
+added_bound : (b : Bool) (s : SheetRows) (z : ℤ) → IsLine (bound_line z) → IsRows s → IsPlanned b s → b ≡ has_counts s → IsAdded (at_stage ToCut b s) (bound_line z)
 added_bound b s z line rows planned form =
     record {
-      rows = record {
-        dumps = rows.dumps;
-        listed = rows.listed;
-        loss = rows.loss;
-        bound = line;
+      sound = record {
+        rows = record {
+          dumps = rows.dumps;
+          listed = rows.listed;
+          loss = rows.loss;
+          bound = line;
+        };
+        at = record { has_store = planned.has_store; has_step = planned.has_step; form = form };
       };
-      at = record { has_store = planned.has_store; has_step = planned.has_step; form = form };
       lines = refl;
     }
 
@@ -301,8 +325,8 @@ no_counts_form : (s : SheetRows) → (length s.by_channels == 0) ≡ true → fa
 no_counts_form s may = grind (arith, nat_tests)
 
 -- a line that may come next adds just itself
-pub added : (stage : Stage) (b : Bool) (s : SheetRows) (x : Line) → IsLine x → IsRows s → IsAt stage b s → may_follow stage b s x ≡ true → IsAdded stage b s x
-added ToTitle b s (title_line c) line rows at may = record { rows = rows; at = at; lines = refl }
+pub added : (stage : Stage) (b : Bool) (s : SheetRows) (x : Line) → IsLine x → IsRows s → IsAt stage b s → may_follow stage b s x ≡ true → IsAdded (at_stage stage b s) x
+added ToTitle b s (title_line c) line rows at may = record { sound = record { rows = rows; at = at }; lines = refl }
 added ToStores b s (stores_line ids) line rows at may = added_stores b s ids line rows at may
 added ToDumps b s (dump_line t xs) line rows at may = added_dump b s t xs line rows at may
 added ToDumps b s (loss_line n) line rows at may = added_loss b s n line rows at may
@@ -310,5 +334,5 @@ added ToCut b s (stretch_line d) line rows at may = added_stretch b s d line row
 added ToCut b s (count_line t) line rows at may = added_count b s t line rows at may
 added ToCut true s (bound_line z) line rows at may = added_bound true s z line rows at (sym may)
 added ToCut false s (bound_line z) line rows at may = added_bound false s z line rows at (no_counts_form s may)
-added ToEnd b s end_line line rows at may = record { rows = rows; at = at; lines = refl }
+added ToEnd b s end_line line rows at may = record { sound = record { rows = rows; at = at }; lines = refl }
 added _ b s x line rows at may = absurd (false≢true may)

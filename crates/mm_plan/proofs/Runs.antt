@@ -16,7 +16,7 @@ use Rattle.mm_plan.specs.Sheet.{SheetRows, IsSheet, IsWritten, Line, title_line,
 use Rattle.mm_plan.specs.Reading.{DraftRows, no_rows, start, may_follow, after, add_line, take_line, run, read_line}
 use Rattle.mm_plan.proofs.Options.{none_is_some, cond_then}
 use Rattle.mm_plan.proofs.Lines.{read_line-line_text, read_line_some}
-use Rattle.mm_plan.proofs.Drafts.{so_far, IsRows, IsAt, IsAdded, added}
+use Rattle.mm_plan.proofs.Drafts.{IsSound, lines_so_far, IsAdded, added}
 
 -- the draft with these lines more
 abbrev pub go : DraftRows → List Line → Option DraftRows
@@ -110,7 +110,7 @@ go_ending s true ds (t ∷ ts) z form few =
 go_ending s false ds (t ∷ ts) z form few = absurd (grind (arith, nat_tests, form))
 
 -- the lines of a sheet, from the first on
-lines_right : (s : SheetRows) → lines_of s ≡ title_line (has_counts s) ∷ stores_line s.stores ∷ (dump_lines s.plan.stores 1 s.plan.steps s.plan.amounts ++ (loss_line s.loss ∷ (map stretch_line s.cut ++ (map count_line s.by_channels ++ (bound_line s.bound ∷ end_line ∷ [])))))
+pub lines_right : (s : SheetRows) → lines_of s ≡ title_line (has_counts s) ∷ stores_line s.stores ∷ (dump_lines s.plan.stores 1 s.plan.steps s.plan.amounts ++ (loss_line s.loss ∷ (map stretch_line s.cut ++ (map count_line s.by_channels ++ (bound_line s.bound ∷ end_line ∷ [])))))
 unfolding lines_of
 lines_right s = simp append_assoc
 
@@ -203,15 +203,6 @@ stops_begins ls stops begins =
 
 -- ---- what was taken
 
--- a draft that is sound
-pub record IsSound (d : DraftRows) : Type 0 where
-  pub rows : IsRows d.rows
-  pub at : IsAt d.stage d.second d.rows
-
--- the lines that a draft was read from
-abbrev pub lines_so_far : DraftRows → List Line
-lines_so_far d = so_far d.stage d.second d.rows
-
 -- one line was taken
 pub record IsTaken (d e : DraftRows) (text : List ℕ) : Type 0 where
   pub line : Line
@@ -227,14 +218,13 @@ take_line_some d e text sound was =
     option_and_then_some (add_line d) (read_line text) e was (λ x is_read adds.
     let p = cond_then (may_follow d.stage d.second d.rows x) (Some (after d x)) e adds in
     let read = read_line_some text x is_read in
-    let more : IsAdded d.stage d.second d.rows x = added d.stage d.second d.rows x read.1 sound.rows sound.at p.0 in
+    let more : IsAdded d x = added d.stage d.second d.rows x read.1 sound.rows sound.at p.0 in
     let same : after d x ≡ e = same_Some (after d x) e p.1 in
-    let after_sound : IsSound (after d x) = record { rows = more.rows; at = more.at } in
     record {
       line = x;
       is = read.1;
       text_is = read.0;
-      sound = subst IsSound same after_sound;
+      sound = subst IsSound same more.sound;
       lines = ap lines_so_far (sym same) ∙ more.lines;
     })
 

@@ -13,8 +13,8 @@ use Rattle.mm_plan.specs.Sheet.{SheetRows, IsSheet, lines_of, line_text, sheet_t
 use Rattle.mm_plan.specs.Reading.{DraftRows, start, take_line, run}
 use Rattle.mm_plan.proofs.Spelled.{Lacks, slice_split-join}
 use Rattle.mm_plan.proofs.Lines.{line_text_lacks}
-use Rattle.mm_plan.proofs.Drafts.{so_far, IsAt, IsWhole}
-use Rattle.mm_plan.proofs.Runs.{lines_so_far, whole, lines_are, run-sheet, run-append, run_start, stops_begins}
+use Rattle.mm_plan.proofs.Drafts.{so_far, IsAt, IsWhole, lines_so_far}
+use Rattle.mm_plan.proofs.Runs.{whole, lines_are, run-sheet, run-append, run_start, stops_begins}
 use Rattle.mm_plan.proofs.Completions.{whole_is_sheet, lines_of-whole, taken_begins, few_taken}
 
 -- the lines before this one were taken, and the rest is to be read

@@ -114,36 +114,16 @@ may_follow ToCut false s (bound_line z) = length s.by_channels == 0
 may_follow ToEnd b s end_line = true
 may_follow _ b s x = false
 
--- what comes next after a line
-abbrev pub next_stage : Stage → Line → Stage
-next_stage stage (title_line b) = ToStores
-next_stage stage (stores_line ids) = ToDumps
-next_stage stage (dump_line t xs) = stage
-next_stage stage (loss_line n) = ToCut
-next_stage stage (stretch_line d) = stage
-next_stage stage (count_line t) = stage
-next_stage stage (bound_line z) = ToEnd
-next_stage stage end_line = Done
-
--- the form after a line
-abbrev pub second_after : Bool → Line → Bool
-second_after b (title_line c) = c
-second_after b _ = b
-
--- what is said after a line
-abbrev pub rows_after : SheetRows → Line → SheetRows
-rows_after s (title_line b) = s
-rows_after s (stores_line ids) = record s { stores = ids; plan = record { stores = length ids; steps = s.plan.steps; amounts = s.plan.amounts } }
-rows_after s (dump_line t xs) = record s { plan = record { stores = s.plan.stores; steps = t; amounts = s.plan.amounts ++ xs } }
-rows_after s (loss_line n) = record s { loss = n }
-rows_after s (stretch_line d) = record s { cut = s.cut ++ d ∷ [] }
-rows_after s (count_line t) = record s { by_channels = s.by_channels ++ t ∷ [] }
-rows_after s (bound_line z) = record s { bound = z }
-rows_after s end_line = s
-
 -- the draft after a line
 abbrev pub after : DraftRows → Line → DraftRows
-after d x = record { stage = next_stage d.stage x; second = second_after d.second x; rows = rows_after d.rows x }
+after d (title_line b) = record d { stage = ToStores; second = b }
+after d (stores_line ids) = record d { stage = ToDumps; rows = record d.rows { stores = ids; plan = record d.rows.plan { stores = length ids } } }
+after d (dump_line t xs) = record d { rows = record d.rows { plan = record d.rows.plan { steps = t; amounts = d.rows.plan.amounts ++ xs } } }
+after d (loss_line n) = record d { stage = ToCut; rows = record d.rows { loss = n } }
+after d (stretch_line e) = record d { rows = record d.rows { cut = d.rows.cut ++ e ∷ [] } }
+after d (count_line t) = record d { rows = record d.rows { by_channels = d.rows.by_channels ++ t ∷ [] } }
+after d (bound_line z) = record d { stage = ToEnd; rows = record d.rows { bound = z } }
+after d end_line = record d { stage = Done }
 
 -- the draft with one line more, where it may come next
 unfoldable pub add_line : DraftRows → Line → Option DraftRows

@@ -1,6 +1,6 @@
 //! What has been read of a plan text so far.
 ghost use Rattle.std.specs.Prelude.{◌≡◌, ◌↔◌, IsTrue, IfOk, OnOk, MatchBool, Some, None};
-ghost use Rattle.mm_plan.specs.Reading.{may_follow, next_stage, after, take_line, start};
+ghost use Rattle.mm_plan.specs.Reading.{may_follow, after, take_line, start};
 ghost use Rattle.mm_plan.specs.Seen.{seen};
 
 use crate::line::{Line, read_line};
@@ -19,20 +19,6 @@ pub(crate) enum Stage {
     ToCut,
     ToEnd,
     Done,
-}
-
-// Which line comes next after this one.
-fn next_stage(stage: Stage, line: &Line) -> Stage
-    ensures { result ≡ next_stage stage (seen line.now) }
-{
-    match line {
-        Line::Title { .. } => Stage::ToStores,
-        Line::Stores(_) => Stage::ToDumps,
-        Line::Dump { .. } | Line::Cut(_) | Line::Count(_) => stage,
-        Line::Loss(_) => Stage::ToCut,
-        Line::Bound(_) => Stage::ToEnd,
-        Line::End => Stage::Done,
-    }
 }
 
 // What the lines so far say, and which line comes next.
@@ -112,21 +98,31 @@ impl Draft {
     fn add(&mut self, line: Line) -> Result<(), AllocError>
         ensures { OnOk result (self.new ≡ after self.old (seen line)) }
     {
-        let stage = next_stage(self.stage, &line);
         match line {
-            Line::Title { second } => self.second = second,
-            Line::Stores(ids) => self.stores = ids,
+            Line::Title { second } => {
+                self.second = second;
+                self.stage = Stage::ToStores;
+            }
+            Line::Stores(ids) => {
+                self.stores = ids;
+                self.stage = Stage::ToDumps;
+            }
             Line::Dump { step, amounts } => {
                 self.amounts.extend_from_slice(amounts.as_slice())?;
                 self.steps = step;
             }
-            Line::Loss(loss) => self.loss = loss,
+            Line::Loss(loss) => {
+                self.loss = loss;
+                self.stage = Stage::ToCut;
+            }
             Line::Cut(stretch) => self.cut.push(stretch)?,
             Line::Count(step) => self.by_channels.push(step)?,
-            Line::Bound(bound) => self.bound = bound,
-            Line::End => {}
+            Line::Bound(bound) => {
+                self.bound = bound;
+                self.stage = Stage::ToEnd;
+            }
+            Line::End => self.stage = Stage::Done,
         }
-        self.stage = stage;
         Ok(())
     }
 
