@@ -10,14 +10,14 @@ use Rattle.mm_problem.specs.declared.fault.Fault.{Fault}
 use Rattle.mm_problem.specs.declared.fault.Fault.TheVariants.{ForecastText, Limit}
 use Rattle.mm_problem.specs.declared.fault.Name.{Name}
 use Rattle.mm_problem.specs.declared.fault.Name.TheVariants as name
-use Rattle.mm_base.specs.declared.limits.TheConstants.{MAX_STORES, MAX_STEPS, MAX_BLOCKS, MAX_CHANNEL}
+use Rattle.mm_base.specs.declared.limits.TheConstants.{MAX_STORES, MAX_STEPS, MAX_BLOCKS, MAX_CHANNEL, CHANNELS}
 use Rattle.mm_base.specs.declared.rows.LimitRow.{LimitRow}
 use Rattle.mm_base.specs.declared.rows.StoreRow.{StoreRow}
 use Rattle.mm_base.specs.Reading.{◌>>=◌, test}
 use Rattle.mm_base.proofs.IdFields.{Decides-nat_le}
 use Rattle.mm_problem.specs.Data.{store_fits, limit_fits, rows_fit, amounts_fit, step_fits, steps_fit}
 use Rattle.mm_problem.specs.Document.{stores_counted}
-use Rattle.mm_problem.specs.Dumping.{AreSteps}
+use Rattle.mm_problem.specs.Dumping.{AreSteps, AreStepLimits}
 use Rattle.mm_problem.specs.Forecast.{another_step, some_step}
 use Rattle.mm_problem.specs.Keys.{within}
 use Rattle.mm_problem.specs.Setup.{IsStoreRow, HaveOtherIds, AreStores, IsLimitRow, HaveOtherChannels}
@@ -200,3 +200,13 @@ steps_said rows windows arrived u v passed some =
       each_window = all.each_window;
       each_arrival = all.each_arrival;
     }
+
+-- where no channel has limits of each step
+pub no_step_limits : (windows : List ℕ) → AreStepLimits windows [] []
+no_step_limits windows = record {
+  at_most = omega arith;
+  each_channel = All-nil (λ c. c < CHANNELS);
+  rising = none_apart ◌<◌;
+  table = omega arith;
+  each_limit = All-nil (λ n. n ≤ MAX_BLOCKS);
+}

@@ -1,13 +1,16 @@
 -- The cells of a record.
-use Rattle.std.proofs.Common.{◌≡◌, ◌≢◌, ℕ, ◌&&◌, Bool, true, false, map, get_or, ap, arith, ◌+◌, ◌<◌, ◌≤◌, zero, suc, List, [], ◌∷◌, ◌++◌, length, drop, Ok, Err, unwrap_or, refl}
+use Rattle.std.proofs.Common.{◌≡◌, ℕ, ◌&&◌, Bool, true, false, map, get_or, arith, ◌+◌, ◌<◌, ◌≤◌, nat_lt, zero, suc, List, [], ◌∷◌, ◌++◌, length, drop, Ok, Err, unwrap_or, refl}
 use Rattle.std.proofs.lemmas.List.{drop_more, drop_all}
 use Rattle.csv.specs.Records.{field_at}
 use Rattle.mm_problem.specs.Cells.{amount_of}
-use Rattle.mm_problem.specs.Forecast.{cell_of, same_fields, arrivals_in}
+use Rattle.std.specs.List.{list_all}
+use Rattle.mm_base.specs.Reading.{test}
+use Rattle.mm_problem.specs.Forecast.{cell_of, cells_from, begins_with, channel_in, channels_in, amounts_in}
 use Rattle.mm_problem.specs.Records.{Fields}
 use Rattle.std.specs.Prelude.{bytes_eq}
 use Rattle.mm_problem.specs.declared.fault.Fault.{Fault}
-use Rattle.mm_problem.specs.declared.fault.Name.TheVariants as name
+use Rattle.mm_problem.specs.declared.fault.Fault.TheVariants.{Header}
+use Rattle.mm_problem.specs.declared.fault.Name.{Name}
 
 -- the field at a place
 pub cell_is : (fields : List (List ℕ)) (i : ℕ) → cell_of fields i ≡ unwrap_or (field_at fields i) []
@@ -22,35 +25,59 @@ and_false true = refl
 and_false false = refl
 
 -- the amounts from a cell on
-module _ (row column i : ℕ) (earlier : List ℕ) (fields : List (List ℕ)) where
+module _ (name : Name) (row column i : ℕ) (earlier : List ℕ) (fields : List (List ℕ)) where
   -- after the last cell there is no further amount
-  pub no_cell_left : length fields ≤ i → arrivals_in row earlier column (drop i fields) ≡ Ok earlier
-  unfolding arrivals_in
-  no_cell_left past = rw (drop_all i fields past) refl
+  pub no_cell_left : (count : ℕ) → count ≡ 0 → amounts_in name row earlier column (cells_from fields i count) ≡ Ok earlier
+  unfolding amounts_in
+  no_cell_left count none = rw none refl
 
-  -- the amount in the cell at the place comes next
-  pub next_amount : (amount : ℕ) → i < length fields → amount_of row column name.Arrivals (cell_of fields i) ≡ Ok amount
-      → arrivals_in row earlier column (drop i fields) ≡ arrivals_in row (earlier ++ amount ∷ []) (column + 1) (drop (i + 1) fields)
-  unfolding arrivals_in
-  next_amount amount within given = rw (drop_more fields i [] within, given) refl
+  module _ (count more : ℕ) (one_more : count ≡ suc more) (within : i < length fields) where
+    -- the amount in the cell at the place comes next
+    pub next_amount : (amount : ℕ) → amount_of row column name (cell_of fields i) ≡ Ok amount
+        → amounts_in name row earlier column (cells_from fields i count) ≡ amounts_in name row (earlier ++ amount ∷ []) (column + 1) (cells_from fields (i + 1) more)
+    unfolding amounts_in
+    next_amount amount given = rw (one_more, drop_more fields i [] within, given) refl
 
-  -- a fault in that cell is the fault of all
-  pub bad_amount : (e : Fault) → i < length fields → amount_of row column name.Arrivals (cell_of fields i) ≡ Err e → arrivals_in row earlier column (drop i fields) ≡ Err e
-  unfolding arrivals_in
-  bad_amount e within given = rw (drop_more fields i [] within, given) refl
+    -- a fault in that cell is the fault of all
+    pub bad_amount : (e : Fault) → amount_of row column name (cell_of fields i) ≡ Err e → amounts_in name row earlier column (cells_from fields i count) ≡ Err e
+    unfolding amounts_in
+    bad_amount e given = rw (one_more, drop_more fields i [] within, given) refl
+
+-- the columns of limits from a cell on
+module _ (i : ℕ) (earlier : List ℕ) (fields : List (List ℕ)) where
+  -- after the last cell there is no further column
+  pub no_column_left : length fields ≤ i → channels_in earlier (drop i fields) ≡ Ok earlier
+  unfolding channels_in
+  no_column_left past = rw (drop_all i fields past) refl
+
+  module _ (within : i < length fields) where
+    -- a column of no channel is the fault of all
+    pub bad_column : (e : Fault) → channel_in (cell_of fields i) ≡ Err e → channels_in earlier (drop i fields) ≡ Err e
+    unfolding channels_in
+    bad_column e given = rw (drop_more fields i [] within, given) refl
+
+    module _ (channel : ℕ) (is : channel_in (cell_of fields i) ≡ Ok channel) where
+      -- so is one that does not rise
+      pub falling_column : (e : Fault) → test (list_all (λ c. nat_lt c channel) earlier) Header ≡ Err e → channels_in earlier (drop i fields) ≡ Err e
+      unfolding channels_in
+      falling_column e given = rw (drop_more fields i [] within, is, given) refl
+
+      -- a channel that rises comes next
+      pub next_column : (u : Unit {0}) → test (list_all (λ c. nat_lt c channel) earlier) Header ≡ Ok u → channels_in earlier (drop i fields) ≡ channels_in (earlier ++ channel ∷ []) (drop (i + 1) fields)
+      unfolding channels_in
+      next_column u given = rw (drop_more fields i [] within, is, given) refl
 
 -- ---- the header
 
--- records of two lengths differ
-pub other_length : (xs ys : Fields) → length xs ≢ length ys → same_fields xs ys ≡ false
-other_length [] [] other = absurd (other refl)
-other_length [] (y ∷ ys) other = refl
-other_length (x ∷ xs) [] other = refl
-other_length (x ∷ xs) (y ∷ ys) other = rw (other_length xs ys (λ same. other (ap suc same))) (and_false (bytes_eq x y))
+-- a shorter record does not begin with these fields
+pub too_few : (xs ys : Fields) → length xs < length ys → begins_with xs ys ≡ false
+too_few xs [] shorter = absurd (omega arith)
+too_few [] (y ∷ ys) shorter = refl
+too_few (x ∷ xs) (y ∷ ys) shorter = rw (too_few xs ys (omega arith)) (and_false (bytes_eq x y))
 
 -- the first two cells, and those after them
-pub header_cells : (fields : Fields) (n : ℕ) (a b : List ℕ) (more : Fields) → length fields ≡ n + 2
-    → same_fields fields (a ∷ b ∷ more) ≡ (bytes_eq (cell_of fields 0) a && (bytes_eq (cell_of fields 1) b && same_fields (drop 2 fields) more))
+pub header_cells : (fields : Fields) (n : ℕ) (a b : List ℕ) (more : Fields) → n + 2 ≤ length fields
+    → begins_with fields (a ∷ b ∷ more) ≡ (bytes_eq (cell_of fields 0) a && (bytes_eq (cell_of fields 1) b && begins_with (drop 2 fields) more))
 header_cells [] n a b more long = absurd (omega arith)
 header_cells (x ∷ []) n a b more long = absurd (omega arith)
 header_cells (x ∷ y ∷ rest) n a b more long = refl
@@ -58,10 +85,10 @@ header_cells (x ∷ y ∷ rest) n a b more long = refl
 module _ (fields : Fields) where
   module _ {X : Type 0} (f : X → List ℕ) (stores : List X) (i j : ℕ) where
     -- the cells at two places, and those after them
-    pub same_fields_more : (store : X) → i < length fields → j < length stores → store ≡ get_or stores j store
-        → same_fields (drop i fields) (map f (drop j stores)) ≡ (bytes_eq (cell_of fields i) (f store) && same_fields (drop (i + 1) fields) (map f (drop (j + 1) stores)))
-    same_fields_more store within here is = rw (drop_more fields i [] within, drop_more stores j store here, ← is) refl
+    pub begins_more : (store : X) → i < length fields → j < length stores → store ≡ get_or stores j store
+        → begins_with (drop i fields) (map f (drop j stores)) ≡ (bytes_eq (cell_of fields i) (f store) && begins_with (drop (i + 1) fields) (map f (drop (j + 1) stores)))
+    begins_more store within here is = rw (drop_more fields i [] within, drop_more stores j store here, ← is) refl
 
-    -- after the last cells nothing differs
-    pub same_fields_end : length fields ≤ i → length stores ≤ j → same_fields (drop i fields) (map f (drop j stores)) ≡ true
-    same_fields_end past ended = rw (drop_all i fields past, drop_all j stores ended) refl
+    -- after the last name nothing differs
+    pub begins_end : length stores ≤ j → begins_with (drop i fields) (map f (drop j stores)) ≡ true
+    begins_end ended = rw (drop_all j stores ended) refl

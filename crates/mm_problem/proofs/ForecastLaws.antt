@@ -4,10 +4,10 @@ use Rattle.std.specs.Prelude.{All}
 use Rattle.std.specs.List.{AllZip, AllByRecursion, range_with_len}
 use Rattle.std.proofs.lemmas.Bool.{cases_Bool}
 use Rattle.std.proofs.lemmas.Bool.Decides.{nat_tests, Decides-eqb}
-use Rattle.std.proofs.lemmas.List.{append-nil}
+use Rattle.std.proofs.lemmas.List.{append-nil, length-take-le}
 use Rattle.std.proofs.lemmas.List.Elements.{All-nil, All-cons, All-push, All-append, All-map, recursion_from_All}
 use Rattle.std.proofs.lemmas.List.FromFn.{length-map-range_with_len}
-use Rattle.mm_problem.specs.declared.fault.Fault.TheVariants.{Header, Limit}
+use Rattle.mm_problem.specs.declared.fault.Fault.TheVariants.{Limit}
 use Rattle.mm_problem.specs.declared.fault.Name.{Name}
 use Rattle.mm_problem.specs.declared.fault.Name.TheVariants as name
 use Rattle.mm_base.specs.declared.limits.TheConstants.{MAX_STEPS, MAX_BLOCKS, CHANNELS}
@@ -16,14 +16,16 @@ use Rattle.mm_base.specs.declared.numbers.Numeral.TheVariants.{NotNumber, TooLar
 use Rattle.mm_base.specs.declared.rows.LimitRow.{LimitRow}
 use Rattle.mm_base.specs.declared.rows.StoreRow.{StoreRow}
 use Rattle.mm_problem.specs.Cells.{amount_from, amount_of, step_from}
-use Rattle.mm_problem.specs.Dumping.{AreSteps, IsLimit, AreChannels}
-use Rattle.mm_problem.specs.Forecast.{Steps, header_of, same_fields, cell_of, arrivals_in, next_step, steps_in, no_steps, some_steps, forecast_in, limit_of, limits_of}
+use Rattle.mm_problem.specs.Dumping.{AreSteps, AreStepLimits, IsLimit, AreChannels}
+use Rattle.mm_problem.specs.Forecast.{Steps, cell_of, cells_from, amounts_in, next_step, steps_in, no_steps, some_steps, later_steps, limited_in, forecast_in, limit_of, limits_of}
 use Rattle.mm_base.specs.Numbers.{numeral_of}
-use Rattle.mm_base.specs.Reading.{◌>>=◌, test}
+use Rattle.mm_base.specs.Reading.{test}
 use Rattle.mm_problem.specs.Records.{Fields}
 use Rattle.mm_problem.specs.Setup.{IsLimitRow}
 use Rattle.mm_base.proofs.NumberTexts.{IsNumeral, numeral_said}
 use Rattle.mm_base.proofs.ReadingSteps.{bind_ok, test_ok}
+use Rattle.mm_base.proofs.IdFields.{Decides-nat_le}
+use Rattle.mm_problem.proofs.ColumnLaws.{limited_said}
 
 -- ---- numbers
 
@@ -56,12 +58,12 @@ pub record AreAmounts (cells : Fields) (earlier all : List ℕ) : Type 0 where
   pub each : AllZip (IsNumeral MAX_BLOCKS) cells more
 
 -- amounts that were read are those in the cells
-pub arrivals_said : (row : ℕ) (cells : Fields) (column : ℕ) (earlier all : List ℕ) → arrivals_in row earlier column cells ≡ Ok all → AreAmounts cells earlier all
-unfolding arrivals_in
-arrivals_said row [] column earlier all h = let same : earlier ≡ all = cc in record { more = []; behind = sym same ∙ sym (append-nil earlier); each = tt }
-arrivals_said row (cell ∷ cells) column earlier all h =
+pub amounts_read_said : (name : Name) (row : ℕ) (cells : Fields) (column : ℕ) (earlier all : List ℕ) → amounts_in name row earlier column cells ≡ Ok all → AreAmounts cells earlier all
+unfolding amounts_in
+amounts_read_said name row [] column earlier all h = let same : earlier ≡ all = cc in record { more = []; behind = sym same ∙ sym (append-nil earlier); each = tt }
+amounts_read_said name row (cell ∷ cells) column earlier all h =
     let (n, given, rest) = bind_ok _ _ _ h in
-    let others = arrivals_said row cells (column + 1) (earlier ++ n ∷ []) all rest in
+    let others = amounts_read_said name row cells (column + 1) (earlier ++ n ∷ []) all rest in
     record { more = n ∷ others.more; behind = others.behind ∙ append_assoc earlier (n ∷ []) others.more; each = (amount_said _ _ _ cell n given, others.each) }
 
 -- a test of an order that passed
@@ -70,13 +72,15 @@ below_said a b h = grind (arith, nat_tests)
 
 -- the record says the step after earlier ones
 pub record IsNextStep (stores : ℕ) (earlier : Steps) (fields : Fields) (next : Steps) : Type 0 where
-  pub as_long : length fields ≡ stores + 2
+  pub as_long : length fields ≡ 2 + stores + length earlier.limited
+  pub same : next.limited ≡ earlier.limited
   pub few : length earlier.windows < MAX_STEPS
   pub numbered : IsNumeral MAX_STEPS (cell_of fields 0) (length earlier.windows + 1)
   pub window : ℕ
   pub spelled : IsNumeral MAX_BLOCKS (cell_of fields 1) window
   pub windows : next.windows ≡ earlier.windows ++ window ∷ []
-  pub arrivals : AreAmounts (drop 2 fields) earlier.arrived next.arrived
+  pub arrivals : AreAmounts (cells_from fields 2 stores) earlier.arrived next.arrived
+  pub limits : AreAmounts (cells_from fields (2 + stores) (length earlier.limited)) earlier.step_limits next.step_limits
 
 -- a step that was read is what the record says
 pub next_step_said : (stores : ℕ) (earlier : Steps) (fields : Fields) (next : Steps) → next_step stores earlier fields ≡ Ok next → IsNextStep stores earlier fields next
@@ -86,18 +90,21 @@ next_step_said stores earlier fields next h =
     let (v, few, h2) = bind_ok _ _ _ h1 in
     let (w, numbered, h3) = bind_ok _ _ _ h2 in
     let (window, spelled, h4) = bind_ok _ _ _ h3 in
-    let (arrived, arrivals, last) = bind_ok _ _ _ h4 in
+    let (arrived, arrivals, h5) = bind_ok _ _ _ h4 in
+    let (step_limits, limits, last) = bind_ok _ _ _ h5 in
     let fewer = below_said (length earlier.windows) MAX_STEPS (test_ok _ _ _ few) in
-    let steps : Steps = record { windows = earlier.windows ++ window ∷ []; arrived = arrived } in
+    let steps : Steps = record { limited = earlier.limited; windows = earlier.windows ++ window ∷ []; arrived = arrived; step_limits = step_limits } in
     let same : steps ≡ next = cc in
     subst (IsNextStep stores earlier fields) same (record {
-      as_long = (Decides-eqb (length fields) (stores + 2)).0 (test_ok _ _ _ long);
+      as_long = (Decides-eqb (length fields) (2 + stores + length earlier.limited)).0 (test_ok _ _ _ long);
+      same = refl;
       few = fewer;
       numbered = step_from_said (length earlier.windows + 1) (numeral_of MAX_STEPS (cell_of fields 0)) w numbered;
       window = window;
       spelled = amount_said _ _ _ (cell_of fields 1) window spelled;
       windows = refl;
-      arrivals = arrivals_said _ (drop 2 fields) 3 earlier.arrived arrived arrivals;
+      arrivals = amounts_read_said name.Arrivals _ (cells_from fields 2 stores) 3 earlier.arrived arrived arrivals;
+      limits = amounts_read_said name.Limit _ (cells_from fields (2 + stores) (length earlier.limited)) (2 + stores + 1) earlier.step_limits step_limits limits;
     })
 
 -- ---- the ranges of what was read
@@ -108,6 +115,12 @@ pub record AreStepsOf (stores : ℕ) (s : Steps) : Type 0 where
   pub table : length s.arrived ≡ length s.windows * stores
   pub each_window : All (λ n. n ≤ MAX_BLOCKS) s.windows
   pub each_arrival : All (λ n. n ≤ MAX_BLOCKS) s.arrived
+  pub limit_table : length s.step_limits ≡ length s.windows * length s.limited
+  pub each_limit : All (λ n. n ≤ MAX_BLOCKS) s.step_limits
+
+-- as many cells as are asked for, where there are as many
+pub cells_count : (fields : Fields) (first count : ℕ) → first + count ≤ length fields → length (cells_from fields first count) ≡ count
+cells_count fields first count enough = length-take-le count (drop first fields) (omega (arith, length-drop first fields))
 
 -- amounts that cells spell
 pub amounts_fit : (cells : Fields) (amounts : List ℕ) → AllZip (IsNumeral MAX_BLOCKS) cells amounts → All (λ n. n ≤ MAX_BLOCKS) amounts × (length cells ≡ length amounts)
@@ -118,19 +131,27 @@ amounts_fit (c ∷ cs) (n ∷ ns) h =
     let others = amounts_fit cs ns h.1 in
     (All-cons (λ n. n ≤ MAX_BLOCKS) n ns (numeral_fits MAX_BLOCKS c n h.0) others.0, ap suc others.1)
 
+-- more amounts keep a table
+more_amounts : (cells : Fields) (earlier all : List ℕ) → AreAmounts cells earlier all → All (λ n. n ≤ MAX_BLOCKS) earlier → (length all ≡ length earlier + length cells) × All (λ n. n ≤ MAX_BLOCKS) all
+more_amounts cells earlier all are so_far =
+    let amounts = amounts_fit cells are.more are.each in
+    (omega (arith, ap length are.behind, length-append earlier are.more, amounts.1), rw are.behind (All-append (λ n. n ≤ MAX_BLOCKS) earlier are.more so_far amounts.0))
+
 -- one more step keeps the ranges
 next_fits : (stores : ℕ) (earlier : Steps) (fields : Fields) (next : Steps) → AreStepsOf stores earlier → IsNextStep stores earlier fields next → AreStepsOf stores next
 next_fits stores earlier fields next so_far this =
-    let arrivals = this.arrivals in
-    let amounts = amounts_fit (drop 2 fields) arrivals.more arrivals.each in
-    let as_many : length arrivals.more ≡ stores = omega (arith, amounts.1, length-drop 2 fields, this.as_long) in
+    let arrivals = more_amounts _ _ _ this.arrivals so_far.each_arrival in
+    let limits = more_amounts _ _ _ this.limits so_far.each_limit in
+    let of_stores = cells_count fields 2 stores (omega (arith, this.as_long)) in
+    let of_limits = cells_count fields (2 + stores) (length earlier.limited) (omega (arith, this.as_long)) in
     let longer : length next.windows ≡ length earlier.windows + 1 = ap length this.windows ∙ length-append earlier.windows (this.window ∷ []) in
-    let wider : length next.arrived ≡ length earlier.arrived + stores = ap length arrivals.behind ∙ length-append earlier.arrived arrivals.more ∙ ap (λ n. length earlier.arrived + n) as_many in
     record {
       at_most = omega (arith, longer, this.few);
-      table = rw (wider, longer, so_far.table) (omega arith);
+      table = rw (arrivals.0, of_stores, longer, so_far.table) (omega arith);
       each_window = rw this.windows (All-push (λ n. n ≤ MAX_BLOCKS) earlier.windows this.window so_far.each_window (numeral_fits MAX_BLOCKS (cell_of fields 1) this.window this.spelled));
-      each_arrival = rw arrivals.behind (All-append (λ n. n ≤ MAX_BLOCKS) earlier.arrived arrivals.more so_far.each_arrival amounts.0);
+      each_arrival = arrivals.1;
+      limit_table = rw (limits.0, of_limits, longer, this.same, so_far.limit_table) (omega arith);
+      each_limit = limits.1;
     }
 
 -- all steps that are read are within the ranges
@@ -141,32 +162,58 @@ steps_fit stores (fields ∷ rows) earlier steps so_far h =
     let (next, given, rest) = bind_ok _ _ _ h in
     steps_fit stores rows next steps (next_fits stores earlier fields next so_far (next_step_said stores earlier fields next given)) rest
 
+-- steps that are read have the columns of those before them
+pub same_columns : (stores : ℕ) (rows : List Fields) (earlier steps : Steps) → steps_in stores earlier rows ≡ Ok steps → steps.limited ≡ earlier.limited
+unfolding steps_in
+same_columns stores [] earlier steps h = let same : earlier ≡ steps = cc in ap (λ (s : Steps). s.limited) (sym same)
+same_columns stores (fields ∷ rows) earlier steps h =
+    let (next, given, rest) = bind_ok _ _ _ h in
+    same_columns stores rows next steps rest ∙ (next_step_said stores earlier fields next given).same
+
 -- records that say steps: the first is the header, the others say the steps, and there is a step
-pub forecast_parts : (stores : List StoreRow) (header : Fields) (rows : List Fields) (steps : Steps) → forecast_in stores (header ∷ rows) ≡ Ok steps
-    → (same_fields header (header_of stores) ≡ true) × (steps_in (length stores) no_steps rows ≡ Ok steps) × (nat_le 1 (length steps.windows) ≡ true)
+pub record AreParts (stores : List StoreRow) (header : Fields) (rows : List Fields) (steps : Steps) : Type 0 where
+  pub limited : limited_in stores header ≡ Ok steps.limited
+  pub are : steps_in (length stores) (no_steps steps.limited) rows ≡ Ok steps
+  pub some : nat_le 1 (length steps.windows) ≡ true
+
+pub forecast_parts : (stores : List StoreRow) (header : Fields) (rows : List Fields) (steps : Steps) → forecast_in stores (header ∷ rows) ≡ Ok steps → AreParts stores header rows steps
 unfolding forecast_in some_steps
 forecast_parts stores header rows steps h =
-    let (u, named, h1) = bind_ok (test (same_fields header (header_of stores)) Header) (λ _. steps_in (length stores) no_steps rows >>= some_steps) steps h in
-    let (read, are, h2) = bind_ok (steps_in (length stores) no_steps rows) some_steps steps h1 in
+    let (limited, named, h1) = bind_ok (limited_in stores header) (λ limited. later_steps (length stores) limited rows) steps h in
+    let (read, are, h2) = bind_ok (steps_in (length stores) (no_steps limited) rows) some_steps steps h1 in
     let (v, some, last) = bind_ok (test (nat_le 1 (length read.windows)) (Limit name.Steps)) (λ _. Ok read) steps h2 in
     let same : read ≡ steps = cc in
-    subst (λ s. (same_fields header (header_of stores) ≡ true) × (steps_in (length stores) no_steps rows ≡ Ok s) × (nat_le 1 (length s.windows) ≡ true)) same
-    (test_ok _ _ _ named, are, test_ok _ _ _ some)
+    let columns : read.limited ≡ limited = same_columns (length stores) rows (no_steps limited) read are in
+    subst (AreParts stores header rows) same (record {
+      limited = named ∙ ap Ok (sym columns);
+      are = ap (λ cs. steps_in (length stores) (no_steps cs) rows) columns ∙ are;
+      some = test_ok _ _ _ some;
+    })
 
 -- the steps of a forecast that is read are those of a problem
-pub forecast_fits : (stores : List StoreRow) (rows : List Fields) (steps : Steps) → forecast_in stores rows ≡ Ok steps → AreSteps stores steps.windows steps.arrived
+pub forecast_fits : (stores : List StoreRow) (rows : List Fields) (steps : Steps) → forecast_in stores rows ≡ Ok steps → AreSteps stores steps.windows steps.arrived × AreStepLimits steps.windows steps.limited steps.step_limits
 unfolding forecast_in
 forecast_fits stores [] steps h = absurd (cc)
 forecast_fits stores (header ∷ rows) steps h =
-    let (named, are, one) = forecast_parts stores header rows steps h in
-    let fit = steps_fit (length stores) rows no_steps steps (record { at_most = omega arith; table = omega arith; each_window = All-nil (λ n. n ≤ MAX_BLOCKS); each_arrival = All-nil (λ n. n ≤ MAX_BLOCKS) }) are in
-    record {
-      has_step = grind (arith, nat_tests);
-      at_most = fit.at_most;
-      table = fit.table;
-      each_window = fit.each_window;
-      each_arrival = fit.each_arrival;
-    }
+    let parts = forecast_parts stores header rows steps h in
+    let columns = limited_said stores header steps.limited parts.limited in
+    let none = All-nil (λ n. n ≤ MAX_BLOCKS) in
+    let fit = steps_fit (length stores) rows (no_steps steps.limited) steps (record { at_most = omega arith; table = omega arith; each_window = none; each_arrival = none; limit_table = omega arith; each_limit = none }) parts.are in (
+      record {
+        has_step = (Decides-nat_le 1 (length steps.windows)).0 parts.some;
+        at_most = fit.at_most;
+        table = fit.table;
+        each_window = fit.each_window;
+        each_arrival = fit.each_arrival;
+      },
+      record {
+        at_most = columns.at_most;
+        each_channel = columns.each;
+        rising = columns.rising;
+        table = fit.limit_table;
+        each_limit = fit.each_limit;
+      },
+    )
 
 -- ---- limits
 

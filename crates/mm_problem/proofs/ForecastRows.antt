@@ -1,13 +1,13 @@
 -- The records of a forecast, found one after the other.
-use Rattle.std.proofs.Common.{◌≡◌, ℕ, ◌+◌, true, false, List, [], ◌∷◌, length, drop, Result, Ok, Err, Bor, refl, sym, ap, ◌∙◌}
+use Rattle.std.proofs.Common.{◌≡◌, ℕ, ◌+◌, true, false, List, ◌∷◌, length, drop, Result, Ok, Err, Bor, refl, sym, ap, ◌∙◌}
 use Rattle.std.specs.Prelude.{OnOk}
 use Rattle.csv.specs.Reading.{default_config, records_from, reader_state}
 use Rattle.csv.specs.declared.reader.Reader.{Reader}
 use Rattle.mm_problem.specs.declared.fault.Fault.{Fault}
 use Rattle.mm_problem.specs.declared.fault.Fault.TheVariants.{Header}
 use Rattle.mm_base.specs.declared.rows.StoreRow.{StoreRow}
-use Rattle.mm_problem.specs.Forecast.{Steps, header_of, same_fields, next_step, steps_in, no_steps, some_steps, header_in, forecast_in}
-use Rattle.mm_base.specs.Reading.{◌>>=◌, test}
+use Rattle.mm_problem.specs.Forecast.{Steps, next_step, steps_in, some_steps, later_steps, limited_in, header_in, forecast_in}
+use Rattle.mm_base.specs.Reading.{◌>>=◌}
 use Rattle.mm_problem.specs.Records.{Fields, HasRecords, TakesRecord}
 use Rattle.mm_problem.proofs.RecordSteps.{found_record, found_end}
 
@@ -31,18 +31,17 @@ same_rows reader rows others h g =
 
 -- the header, and the steps after it
 pub forecast_parts : (stores : List StoreRow) (rows : List Fields)
-    → forecast_in stores rows ≡ (header_in stores rows >>= (λ _. steps_in (length stores) no_steps (drop 1 rows) >>= some_steps))
+    → forecast_in stores rows ≡ (header_in stores rows >>= (λ limited. later_steps (length stores) limited (drop 1 rows)))
 unfolding forecast_in
-forecast_parts stores [] = refl
-forecast_parts stores (header ∷ rows) = refl
+forecast_parts stores rows = refl
 
 module _ (stores : List StoreRow) (rows : List Fields) (fields : Fields) (reader : Reader (Bor (List ℕ))) where
   -- without a record there is no header
   pub no_header : TakesRecord rows false fields reader → header_in stores rows ≡ Err Header
   no_header took = rw (found_end rows fields reader took) refl
 
-  -- the first record is tested
-  pub header_at : TakesRecord rows true fields reader → header_in stores rows ≡ test (same_fields fields (header_of stores)) Header
+  -- the first record is the header
+  pub header_at : TakesRecord rows true fields reader → header_in stores rows ≡ limited_in stores fields
   header_at took = let (more, are, has) = found_record rows fields reader took in rw are refl
 
 module _ (rows : List Fields) (fields : Fields) (reader : Reader (Bor (List ℕ))) where

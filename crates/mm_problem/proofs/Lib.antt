@@ -7,7 +7,9 @@ pub mod SetupLaws
 pub mod RecordSteps
 pub mod ForecastCells
 pub mod ForecastRows
+pub mod ColumnLaws
 pub mod ForecastLaws
 pub mod ForecastTexts
 pub mod DataLaws
 pub mod RestLaws
+pub mod Limits

@@ -8,7 +8,7 @@ use Rattle.std.proofs.lemmas.List.FromFn.{length-map-range_with_len, get_or-map-
 use Rattle.mm_base.specs.declared.limits.TheConstants.{MAX_BLOCKS}
 use Rattle.mm_base.specs.declared.rows.StoreRow.{StoreRow}
 use Rattle.mm_base.proofs.IdFields.{Decides-nat_le}
-use Rattle.mm_problem.specs.Dumping.{no_row, AreSteps}
+use Rattle.mm_problem.specs.Dumping.{no_row, AreSteps, AreStepLimits}
 use Rattle.mm_problem.specs.Rest.{starting_with, rows_from, starts_fit}
 use Rattle.mm_problem.specs.Setup.{AreStores}
 
@@ -26,6 +26,22 @@ of_range p (suc n) a k all low high =
       | inl same ↦ rw (← same) here
       | inr above ↦ of_range p n (a + 1) k others (omega arith) (omega arith)
     ]
+
+-- the rows of a table after a step
+later_table : (steps n step : ℕ) (cells : List ℕ) → length cells ≡ steps * n → length (drop (step * n) cells) ≡ (steps - step) * n
+later_table steps n step cells table =
+    let fewer : (steps - step) * n ≡ steps * n - step * n = mul_comm (steps - step) n ∙ mul-sub n steps step ∙ (omega arith) in
+    rw (length-drop (step * n) cells, table, fewer) refl
+
+-- the limits of the steps after a step
+pub are_step_limits : (windows limited step_limits : List ℕ) (step : ℕ) → AreStepLimits windows limited step_limits → AreStepLimits (drop step windows) limited (drop (step * length limited) step_limits)
+are_step_limits windows limited step_limits step is = record {
+  at_most = is.at_most;
+  each_channel = is.each_channel;
+  rising = is.rising;
+  table = rw (length-drop step windows) (later_table (length windows) (length limited) step step_limits is.table);
+  each_limit = All-drop (λ n. n ≤ MAX_BLOCKS) (step * length limited) step_limits is.each_limit;
+}
 
 module _ (rows : List StoreRow) (starts : List ℕ) where
   -- the test passes where each store has room
@@ -69,11 +85,10 @@ module _ (rows : List StoreRow) (starts : List ℕ) where
   pub are_steps : (windows arrived : List ℕ) (step : ℕ) → AreSteps rows windows arrived → step < length windows → AreSteps (rows_from rows starts) (drop step windows) (drop (step * length rows) arrived)
   are_steps windows arrived step is below =
       let n = length rows in
-      let fewer : (length windows - step) * n ≡ length windows * n - step * n = mul_comm (length windows - step) n ∙ mul-sub n (length windows) step ∙ (omega arith) in
       record {
         has_step = omega (arith, length-drop step windows);
         at_most = omega (arith, length-drop step windows, is.at_most);
-        table = rw (length-drop step windows, length-drop (step * n) arrived, as_many_rows, is.table, fewer) refl;
+        table = rw (length-drop step windows, as_many_rows) (later_table (length windows) n step arrived is.table);
         each_window = All-drop (λ n. n ≤ MAX_BLOCKS) step windows is.each_window;
         each_arrival = All-drop (λ n. n ≤ MAX_BLOCKS) (step * n) arrived is.each_arrival;
       }

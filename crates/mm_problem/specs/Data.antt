@@ -58,7 +58,8 @@ steps_fit stores earlier (window ∷ windows) arrived = do
   step ← step_fits earlier window (take stores arrived)
   steps_fit stores (earlier + 1) windows (drop stores arrived)
 
--- the problem of these stores and limits, windows of the steps, and arrivals step by step, in each the stores in order
+-- the problem of these stores and limits, windows of the steps, and arrivals step by step, in each the stores in order; no step has limits of its
+-- own
 unfoldable pub problem_from : List StoreRow → List LimitRow → List ℕ → List ℕ → Result Dumping Fault
 problem_from rows limits windows arrived = do
   store_count ← stores_counted (length rows)
@@ -67,4 +68,4 @@ problem_from rows limits windows arrived = do
   by_channel ← rows_fit limit_fits [] limits
   steps ← steps_fit (length rows) 0 windows arrived
   some ← some_step (length windows)
-  Ok (record { rows = rows; limits = limits_of limits; windows = windows; arrived = arrived })
+  Ok (record { rows = rows; limits = limits_of limits; windows = windows; arrived = arrived; limited = []; step_limits = [] })

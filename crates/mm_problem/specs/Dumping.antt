@@ -1,5 +1,5 @@
 -- The memory dumping problem, as numbers: stores counted from 0 in setup order, steps from 1.
-use Rattle.std.specs.Prelude.{◌≡◌, ℕ, ◌+◌, ◌-◌, ◌*◌, ◌≤◌, Bool, ◌==◌, List, [], length, filter, All, Option, None, slice_index, slice_index_or, IfSome}
+use Rattle.std.specs.Prelude.{◌≡◌, ℕ, ◌-◌, ◌*◌, ◌≤◌, ◌<◌, min, nat_lt, Bool, ◌==◌, if◌then◌else◌, List, [], length, filter, All, AllPairs, Option, Some, None, slice_index, slice_index_or, IfSome}
 use Rattle.std.specs.List.{position_or_len, range_with_len}
 use Rattle.std.specs.Str.{bytes_eq}
 use Rattle.mm_base.specs.declared.limits.TheConstants.{MAX_STEPS, MAX_BLOCKS, CHANNELS}
@@ -10,12 +10,16 @@ use Rattle.mm_problem.specs.Setup.{AreStores}
 
 pub record Dumping : Type 0 where
   pub rows : List StoreRow
-  -- of each channel, the blocks that may leave its stores in one step, where it has a limit
+  -- of each channel, the blocks that may leave its stores in each step, where it has a limit of the setup
   pub limits : List (Option ℕ)
   -- of each step
   pub windows : List ℕ
   -- step by step, in each the stores in order
   pub arrived : List ℕ
+  -- the channels that have a limit of their own in each step, rising
+  pub limited : List ℕ
+  -- step by step, in each these channels in order
+  pub step_limits : List ℕ
 
 abbrev pub no_row : StoreRow
 no_row = record { id = []; size = 0; start = 0; kind = Circular; channel = 0 }
@@ -39,9 +43,23 @@ start q s = (row q s).start
 abbrev pub channel : Dumping → ℕ → ℕ
 channel q s = (row q s).channel
 
--- the blocks of the channel that may leave in one step, where it has a limit
-abbrev pub limit : Dumping → ℕ → Option ℕ
-limit q c = slice_index_or q.limits c None
+-- what the column at a place says in the step, where there is that column
+abbrev pub in_column : Dumping → ℕ → ℕ → Option ℕ
+in_column q column t = if nat_lt column (length q.limited) then Some (cell (length q.limited) q.step_limits column t) else None
+
+-- the channel's limit of this step alone, where it has one
+abbrev pub step_limit : Dumping → ℕ → ℕ → Option ℕ
+step_limit q c t = in_column q (position_or_len (λ k. k == c) q.limited) t
+
+-- the lesser of two limits, of those that there are
+abbrev pub lesser : Option ℕ → Option ℕ → Option ℕ
+lesser None b = b
+lesser (Some a) None = Some a
+lesser (Some a) (Some b) = Some (min a b)
+
+-- the blocks that may leave the stores of a channel that there is in the step, where it has a limit: the setup's, the step's, or the lesser
+abbrev pub limit : Dumping → ℕ → ℕ → Option ℕ
+limit q c t = if nat_lt c (length q.limits) then lesser (slice_index_or q.limits c None) (step_limit q c t) else None
 
 -- the blocks that may leave all stores in the step
 abbrev pub window : Dumping → ℕ → ℕ
@@ -84,8 +102,17 @@ pub record AreChannels (limits : List (Option ℕ)) : Type 0 where
   pub all : length limits ≡ CHANNELS
   pub each : All IsLimit limits
 
+-- limits of each step for channels that rise
+pub record AreStepLimits (windows limited step_limits : List ℕ) : Type 0 where
+  pub at_most : length limited ≤ CHANNELS
+  pub each_channel : All (λ c. c < CHANNELS) limited
+  pub rising : AllPairs ◌<◌ limited
+  pub table : length step_limits ≡ length windows * length limited
+  pub each_limit : All (λ n. n ≤ MAX_BLOCKS) step_limits
+
 -- the numbers of a problem within all ranges
 pub record IsDumping (q : Dumping) : Type 0 where
   pub stores : AreStores q.rows
   pub steps : AreSteps q.rows q.windows q.arrived
   pub channels : AreChannels q.limits
+  pub by_step : AreStepLimits q.windows q.limited q.step_limits

@@ -18,7 +18,14 @@ rows_from rows starts = map (λ s. starting_with (slice_index_or rows s no_row) 
 
 -- the problem of the steps after this one, from these start volumes
 abbrev pub rest_of : Dumping → ℕ → List ℕ → Dumping
-rest_of q step starts = record { rows = rows_from q.rows starts; limits = q.limits; windows = drop step q.windows; arrived = drop (step * length q.rows) q.arrived }
+rest_of q step starts = record {
+  rows = rows_from q.rows starts;
+  limits = q.limits;
+  windows = drop step q.windows;
+  arrived = drop (step * length q.rows) q.arrived;
+  limited = q.limited;
+  step_limits = drop (step * length q.limited) q.step_limits;
+}
 
 -- whether each store has room for its start volume
 abbrev pub starts_fit : List StoreRow → List ℕ → Bool

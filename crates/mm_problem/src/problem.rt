@@ -1,8 +1,9 @@
 //! The dumping problem: what the setup and the forecast say together.
-ghost use Rattle.std.specs.Prelude.{◌≡◌, ℕ, ◌+◌, ◌-◌, ◌*◌, ◌<◌, ◌≤◌, length, IfOk, IfErr, IfSome, IfNone};
+ghost use Rattle.std.specs.Prelude.{◌≡◌, ℕ, ◌+◌, ◌-◌, ◌*◌, ◌==◌, ◌<◌, ◌≤◌, length, IfOk, IfErr, IfSome, IfNone};
+ghost use Rattle.std.specs.List.{position_or_len};
 ghost use Rattle.mm_base.specs.declared.limits.TheConstants.{MAX_STORES, MAX_STEPS, MAX_BLOCKS, MAX_CHANNEL, CHANNELS};
 ghost use Rattle.mm_base.specs.Id.{IsIdField};
-ghost use Rattle.mm_problem.specs.Dumping.{row, place_in, place, size, start, channel, limit, window, arrivals, IsDumping};
+ghost use Rattle.mm_problem.specs.Dumping.{row, place_in, place, size, start, channel, step_limit, lesser, limit, window, arrivals, IsDumping};
 ghost use Rattle.mm_problem.specs.Forecast.{limit_of, limits_of, problem_of};
 ghost use Rattle.mm_problem.specs.Data.{problem_from};
 ghost use Rattle.mm_problem.specs.Rest.{rows_from, starts_fit, rest_from};
@@ -21,7 +22,7 @@ use std::alloc::Global;
 use std::marker::Model;
 
 /// A problem of memory dumping: stores with sizes, start volumes and channels, limits of channels, and for each step
-/// a pass window and what arrives at each store, all in blocks. Stores count from 0 in setup order, steps from 1.
+/// a pass window, what arrives at each store, and limits of channels in this step, all in blocks. Stores count from 0 in setup order, steps from 1.
 #[derive(Debug, Drop)]
 pub struct Problem {
     pub(crate) rows: Vec<StoreRow>,
@@ -29,6 +30,10 @@ pub struct Problem {
     pub(crate) windows: Vec<u32>,
     // step by step, in each the stores in order
     pub(crate) arrived: Vec<u32>,
+    // the channels that have a limit of their own in each step, rising
+    pub(crate) limited: Vec<u8>,
+    // step by step, in each these channels in order
+    pub(crate) step_limits: Vec<u32>,
 }
 
 impl Model for Problem {
@@ -37,9 +42,9 @@ impl Model for Problem {
 
     ghost Value = { Dumping };
 
-    ghost view = { λ a. record { rows = a.rows.items; limits = a.limits; windows = a.windows.items; arrived = a.arrived.items } };
+    ghost view = { λ a. record { rows = a.rows.items; limits = a.limits; windows = a.windows.items; arrived = a.arrived.items; limited = a.limited.items; step_limits = a.step_limits.items } };
 
-    ghost invariant = { λ a. IsDumping (record { rows = a.rows.items; limits = a.limits; windows = a.windows.items; arrived = a.arrived.items }) };
+    ghost invariant = { λ a. IsDumping (record { rows = a.rows.items; limits = a.limits; windows = a.windows.items; arrived = a.arrived.items; limited = a.limited.items; step_limits = a.step_limits.items }) };
 }
 
 // The place of the store with this identifier, or the number of stores.
@@ -103,6 +108,30 @@ fn limits_of(limits: &[LimitRow]) -> [Option<u32>; CHANNELS]
     by_channel
 }
 
+// The place of a channel, or how many there are.
+fn column_of(limited: &[u8], channel: u8) -> usize
+    ensures column { result ≡ position_or_len (λ k. k == channel) limited.now }
+    ensures within { result ≤ length limited.now }
+{
+    for (column, of) in limited.iter().enumerate() {
+        if *of == channel {
+            return column;
+        }
+    }
+    limited.len()
+}
+
+// The lesser of two limits, of those that there are.
+fn lesser(a: Option<u32>, b: Option<u32>) -> Option<u32>
+    ensures lesser { result ≡ lesser a b }
+{
+    match (a, b) {
+        (Some(a), Some(b)) => Some(a.min(b)),
+        (Some(a), None) => Some(a),
+        (None, b) => b,
+    }
+}
+
 impl Problem {
     /// The problem of these stores and limits of channels, windows of the steps, and arrivals step by step, in each the stores in
     /// order. Otherwise the first fault, as the readers test what they read: 28 `SetupField` for a repeated store or channel, 29
@@ -133,6 +162,8 @@ impl Problem {
             limits,
             windows,
             arrived,
+            limited: Vec::new(alloc),
+            step_limits: Vec::new(alloc),
         })
     }
 
@@ -152,11 +183,17 @@ impl Problem {
         let windows = Vec::from_slice(alloc, &self.windows[step as usize..])?;
         let first = place(stores.len(), step + 1, 0);
         let arrived = Vec::from_slice(alloc, &self.arrived[first..])?;
+        let own = self.limited.as_slice();
+        let limited = Vec::from_slice(alloc, own)?;
+        let first_limit = place(own.len(), step + 1, 0);
+        let step_limits = Vec::from_slice(alloc, &self.step_limits[first_limit..])?;
         Ok(Problem {
             rows,
             limits: self.limits,
             windows,
             arrived,
+            limited,
+            step_limits,
         })
     }
 
@@ -170,12 +207,19 @@ impl Problem {
         let steps = forecast_of(alloc, stores, text)?;
         let rows = Vec::from_slice(alloc, stores)?;
         let limits = limits_of(setup.limits());
-        let StepTable { windows, arrived } = steps;
+        let StepTable {
+            limited,
+            windows,
+            arrived,
+            step_limits,
+        } = steps;
         Ok(Problem {
             rows,
             limits,
             windows,
             arrived,
+            limited,
+            step_limits,
         })
     }
 
@@ -264,13 +308,47 @@ impl Problem {
         self.rows[store].channel
     }
 
-    /// How many blocks may leave the stores of a channel together in one step; none where it has no limit.
-    #[must_use]
-    pub fn limit(&self, channel: u8) -> Option<u32>
-        ensures limit { result ≡ limit self.now channel }
+    // The limit that the forecast has for a channel in a step.
+    fn step_limit(&self, channel: u8, step: u32) -> Option<u32>
+        requires first { 1 ≤ step }
+        requires last { step ≤ length self.now.windows }
+        ensures limit { result ≡ step_limit self.now channel step }
         ensures most { IfSome result (λ blocks. blocks ≤ MAX_BLOCKS) }
     {
-        self.limits.get(channel as usize).copied().unwrap_or(None)
+        let columns = self.limited.len();
+        let column = column_of(self.limited.as_slice(), channel);
+        if column < columns {
+            Some(self.step_limits[place(columns, step, column)])
+        } else {
+            None
+        }
+    }
+
+    /// How many blocks may leave the stores of a channel together in a step: as many as the setup's limit and the forecast's limit of
+    /// this step let through, of those that there are; none where it has neither.
+    #[must_use]
+    pub fn limit(&self, channel: u8, step: u32) -> Option<u32>
+        requires first { 1 ≤ step }
+        requires last { step ≤ length self.now.windows }
+        ensures limit { result ≡ limit self.now channel step }
+        ensures most { IfSome result (λ blocks. blocks ≤ MAX_BLOCKS) }
+    {
+        if (channel as usize) < self.limits.len() {
+            lesser(
+                self.limits[channel as usize],
+                self.step_limit(channel, step),
+            )
+        } else {
+            None
+        }
+    }
+
+    /// The channels that have a limit of their own in each step, rising.
+    #[must_use]
+    pub fn limited(&self) -> &[u8]
+        ensures channels { result.now ≡ self.now.limited }
+    {
+        self.limited.as_slice()
     }
 
     /// How many blocks come to a store in a step.

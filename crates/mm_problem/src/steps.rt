@@ -1,8 +1,8 @@
 //! The steps of a forecast, read from its records.
 ghost use Rattle.std.specs.Prelude.{◌≡◌, ◌+◌, ◌≤◌, List, length, drop, map, vec_len, IfOk, OnOk};
 ghost use Rattle.csv.specs.Records.{fields_of};
-ghost use Rattle.mm_base.specs.declared.limits.TheConstants.{MAX_STORES, MAX_STEPS};
-ghost use Rattle.mm_problem.specs.Forecast.{cell_of, same_fields, header_of, arrivals_in, another_step, some_step, next_step, some_steps, later_steps, header_in, forecast_in};
+ghost use Rattle.mm_base.specs.declared.limits.TheConstants.{MAX_STORES, MAX_STEPS, CHANNELS};
+ghost use Rattle.mm_problem.specs.Forecast.{cell_of, cells_from, begins_with, header_of, amounts_in, another_step, some_step, next_step, some_steps, later_steps, header_in, forecast_in};
 ghost use Rattle.mm_base.specs.Id.{id_text};
 ghost use Rattle.mm_problem.specs.declared.fault.Fault.TheVariants.{NoMemory};
 ghost use Rattle.mm_base.specs.Reading.{Gives};
@@ -10,6 +10,7 @@ ghost use Rattle.mm_problem.specs.Records.{Fields, records_of, HasRecords, IsRea
 ghost use Rattle.mm_problem.specs.StepLists.{steps_of};
 
 use crate::cells::{amount_of, test_step};
+use crate::columns::limited_in;
 use crate::fault::{Fault, Name};
 use crate::reading::test;
 use crate::records::{next_record, reader_of};
@@ -17,16 +18,19 @@ use csv::{ByteRecord, Reader};
 use mm_base::{MAX_STEPS, StoreRow};
 use std::alloc::Global;
 
-// The windows of the steps read so far, and step by step what arrives at each store.
+// The channels with a column of limits, the windows of the steps read so far, and step by step what arrives at each store and
+// these limits.
 #[derive(Drop)]
 pub(crate) struct StepTable {
+    pub(crate) limited: Vec<u8>,
     pub(crate) windows: Vec<u32>,
     pub(crate) arrived: Vec<u32>,
+    pub(crate) step_limits: Vec<u32>,
 }
 
 // A cell of a record, counted from 0.
 #[tactic(auto, using(crate::proofs::ForecastCells::cell_is))]
-fn cell_of(row: &ByteRecord, i: usize) -> &[u8]
+pub(crate) fn cell_of(row: &ByteRecord, i: usize) -> &[u8]
     ensures { result.now ≡ cell_of (fields_of row.now) i }
 {
     match row.get(i) {
@@ -35,17 +39,25 @@ fn cell_of(row: &ByteRecord, i: usize) -> &[u8]
     }
 }
 
-// Adds the amounts of the cells after the window.
-fn arrivals_of(number: u32, mut arrived: Vec<u32>, row: &ByteRecord) -> Result<Vec<u32>, Fault>
-    requires few { length (fields_of row.now) ≤ MAX_STORES + 2 }
-    requires window { 2 ≤ length (fields_of row.now) }
-    ensures { Gives NoMemory (λ v. v.items) result (arrivals_in number arrived.items 3 (drop 2 (fields_of row.now))) }
+// Adds the amounts of some cells of the record with this number.
+fn amounts_of(
+    number: u32,
+    name: Name,
+    mut amounts: Vec<u32>,
+    row: &ByteRecord,
+    first: usize,
+    count: usize,
+) -> Result<Vec<u32>, Fault>
+    requires few { length (fields_of row.now) ≤ 2 + MAX_STORES + CHANNELS }
+    requires cells { first + count ≤ length (fields_of row.now) }
+    ensures { Gives NoMemory (λ v. v.items) result
+        (amounts_in name number amounts.items (first + 1) (cells_from (fields_of row.now) first count)) }
 {
-    for i in 2..row.len() {
-        let amount = amount_of(number, i as u32 + 1, Name::Arrivals, cell_of(row, i))?;
-        arrived.push(amount)?;
+    for i in first..first + count {
+        let amount = amount_of(number, i as u32 + 1, name, cell_of(row, i))?;
+        amounts.push(amount)?;
     }
-    Ok(arrived)
+    Ok(amounts)
 }
 
 // Tests that a step may follow this many.
@@ -68,29 +80,40 @@ pub(crate) fn test_some_step(steps: usize) -> Result<(), Fault>
 // Adds the step of the next record.
 #[tactic(auto, unfolding(crate::specs::Forecast::next_step))]
 fn next_step(stores: usize, steps: StepTable, row: &ByteRecord) -> Result<StepTable, Fault>
-    requires { stores ≤ MAX_STORES }
+    requires stores { stores ≤ MAX_STORES }
+    requires limited { vec_len steps.limited ≤ CHANNELS }
     ensures step { Gives NoMemory steps_of result (next_step stores (steps_of steps) (fields_of row.now)) }
     ensures longer { IfOk result (λ s. vec_len s.windows ≡ vec_len steps.windows + 1) }
     ensures most { IfOk result (λ s. vec_len s.windows ≤ MAX_STEPS) }
+    ensures limited { IfOk result (λ s. vec_len s.limited ≤ CHANNELS) }
 {
-    test(row.len() == stores + 2, Fault::ForecastText)?;
     let StepTable {
+        limited,
         mut windows,
         arrived,
+        step_limits,
     } = steps;
+    let columns = limited.len();
+    test(row.len() == 2 + stores + columns, Fault::ForecastText)?;
     test_another_step(windows.len())?;
     let number = windows.len() as u32 + 1;
     test_step(number, cell_of(row, 0))?;
     let window = amount_of(number, 2, Name::Window, cell_of(row, 1))?;
-    let arrived = arrivals_of(number, arrived, row)?;
+    let arrived = amounts_of(number, Name::Arrivals, arrived, row, 2, stores)?;
+    let step_limits = amounts_of(number, Name::Limit, step_limits, row, 2 + stores, columns)?;
     windows.push(window)?;
-    Ok(StepTable { windows, arrived })
+    Ok(StepTable {
+        limited,
+        windows,
+        arrived,
+        step_limits,
+    })
 }
 
 // Whether the cells after the window name these stores.
 fn names_stores(stores: &[StoreRow], row: &ByteRecord) -> bool
-    requires { length (fields_of row.now) ≡ length stores.now + 2 }
-    ensures { result ≡ same_fields (drop 2 (fields_of row.now)) (map (λ r. id_text r.id) stores.now) }
+    requires { length stores.now + 2 ≤ length (fields_of row.now) }
+    ensures { result ≡ begins_with (drop 2 (fields_of row.now)) (map (λ r. id_text r.id) stores.now) }
 {
     for (i, store) in stores.iter().enumerate() {
         if cell_of(row, i + 2) != store.id.text() {
@@ -100,12 +123,13 @@ fn names_stores(stores: &[StoreRow], row: &ByteRecord) -> bool
     true
 }
 
-#[tactic(auto, using(crate::proofs::ForecastCells::header_cells, crate::proofs::ForecastCells::other_length))]
-fn is_header(stores: &[StoreRow], row: &ByteRecord) -> bool
+// Whether the first cells name the step, the window and these stores.
+#[tactic(auto, using(crate::proofs::ForecastCells::header_cells, crate::proofs::ForecastCells::too_few))]
+pub(crate) fn begins_with_stores(stores: &[StoreRow], row: &ByteRecord) -> bool
     requires { length stores.now ≤ MAX_STORES }
-    ensures { result ≡ same_fields (fields_of row.now) (header_of stores.now) }
+    ensures { result ≡ begins_with (fields_of row.now) (header_of stores.now) }
 {
-    if row.len() != stores.len() + 2 {
+    if row.len() < stores.len() + 2 {
         return false;
     }
     cell_of(row, 0) == b"step".as_slice()
@@ -122,38 +146,45 @@ fn some_steps(steps: StepTable) -> Result<StepTable, Fault>
     Ok(steps)
 }
 
-// Reads the header of a forecast of these stores.
+// Reads the header of a forecast of these stores: the channels that have a column of limits.
 fn read_header(
+    alloc: Global,
     stores: &[StoreRow],
     reader: &mut Reader<&[u8]>,
     row: &mut ByteRecord,
-) -> Result<(), Fault>
+) -> Result<Vec<u8>, Fault>
     requires stores { length stores.now ≤ MAX_STORES }
     requires reading { IsReading reader.old }
-    ensures header { (rows : List Fields) → HasRecords reader.old rows → Gives NoMemory (λ x. x) result (header_in stores.now rows) }
+    ensures header { (rows : List Fields) → HasRecords reader.old rows
+        → Gives NoMemory (λ v. v.items) result (header_in stores.now rows) }
+    ensures few { IfOk result (λ v. vec_len v ≤ CHANNELS) }
     ensures later { OnOk result ((rows : List Fields) → HasRecords reader.old rows → HasRecords reader.new (drop 1 rows)) }
 {
     if !next_record(reader, row)? {
         return Err(Fault::Header);
     }
-    test(is_header(stores, row), Fault::Header)
+    limited_in(alloc, stores, row)
 }
 
 // Reads the steps of a forecast after its header.
 fn read_steps(
     alloc: Global,
     stores: usize,
+    limited: Vec<u8>,
     reader: &mut Reader<&[u8]>,
     row: &mut ByteRecord,
 ) -> Result<StepTable, Fault>
     requires stores { stores ≤ MAX_STORES }
+    requires limited { vec_len limited ≤ CHANNELS }
     requires reading { IsReading reader.old }
     ensures { (rows : List Fields) → HasRecords reader.old rows
-        → Gives NoMemory steps_of result (later_steps stores rows) }
+        → Gives NoMemory steps_of result (later_steps stores limited.items rows) }
 {
     let mut steps = StepTable {
+        limited,
         windows: Vec::new(alloc),
         arrived: Vec::new(alloc),
+        step_limits: Vec::new(alloc),
     };
     'rows: while next_record(reader, row)? {
         steps = next_step(stores, steps, row)?;
@@ -172,6 +203,6 @@ pub(crate) fn forecast_of(
 {
     let mut reader = reader_of(alloc, text);
     let mut row = ByteRecord::new(alloc);
-    read_header(stores, &mut reader, &mut row)?;
-    read_steps(alloc, stores.len(), &mut reader, &mut row)
+    let limited = read_header(alloc, stores, &mut reader, &mut row)?;
+    read_steps(alloc, stores.len(), limited, &mut reader, &mut row)
 }

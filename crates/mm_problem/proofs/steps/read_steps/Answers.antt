@@ -10,9 +10,10 @@ use Rattle.mm_problem.proofs.steps.read_steps.Goals as goal
 pub rows-init : goal.rows-init
 rows-init c = record {
   most = omega (arith, c.new.ensures.len);
+  limited = c.requires.limited;
   rows = c.requires.reading.0;
   has = c.requires.reading.1;
-  left = λ all has. rw (c.new.ensures.items, c.new-2.ensures.items) (ap (λ rows. steps_in c.args.stores no_steps rows >>= some_steps) (same_rows c.args.reader.now c.requires.reading.0 all c.requires.reading.1 has));
+  left = λ all has. rw (c.new.ensures.items, c.new-2.ensures.items, c.new-3.ensures.items) (ap (λ rows. steps_in c.args.stores (no_steps c.args.limited.items) rows >>= some_steps) (same_rows c.args.reader.now c.requires.reading.0 all c.requires.reading.1 has));
 }
 
 pub returns-in_err-steps : goal.returns-in_err-steps
@@ -29,7 +30,7 @@ rows-preserved c =
     let found = row_found c.rows.invariant.rows (fields_of c.next_record.new.row) c.next_record.new.reader c.args.stores (steps_of c.rows.steps)
     (rw c.if-branch.true at (c.in_ok-next_record.ensures.takes c.rows.invariant.rows c.rows.invariant.has))
     (steps_of c.in_ok-steps.steps) c.in_ok-steps.ensures.step in
-    record { most = c.in_ok-steps.ensures.most; rows = found.rows; has = found.has; left = λ all has. found.left ∙ c.rows.invariant.left all has }
+    record { most = c.in_ok-steps.ensures.most; limited = c.in_ok-steps.ensures.limited; rows = found.rows; has = found.has; left = λ all has. found.left ∙ c.rows.invariant.left all has }
 
 pub returns : goal.returns
 returns c = λ all has.
