@@ -46,7 +46,7 @@ unfolding channel_in
 channel_read c below = rw (printed_numeral MAX_CHANNEL c (omega arith) (omega arith)) refl
 
 -- channels that pass the test are below the channel
-below_said : (channel : ℕ) (cs : List ℕ) → list_all (λ c. nat_lt c channel) cs ≡ true → All (λ c. c < channel) cs
+pub below_said : (channel : ℕ) (cs : List ℕ) → list_all (λ c. nat_lt c channel) cs ≡ true → All (λ c. c < channel) cs
 below_said channel [] h = All-nil (λ c. c < channel)
 below_said channel (c ∷ cs) h =
     let (here, others) = and_parts (nat_lt c channel) (list_all (λ c. nat_lt c channel) cs) h in

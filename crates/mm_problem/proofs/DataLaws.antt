@@ -7,7 +7,7 @@ use Rattle.std.proofs.lemmas.List.{drop_more, drop_all, take_more, append-nil, t
 use Rattle.std.proofs.lemmas.List.Elements.{All-nil, All-cons, All-push, All-append}
 use Rattle.std.proofs.lemmas.List.Quantifiers.{all_pairs_push}
 use Rattle.mm_problem.specs.declared.fault.Fault.{Fault}
-use Rattle.mm_problem.specs.declared.fault.Fault.TheVariants.{ForecastText, Limit}
+use Rattle.mm_problem.specs.declared.fault.Fault.TheVariants.{ForecastText, Header, Limit}
 use Rattle.mm_problem.specs.declared.fault.Name.{Name}
 use Rattle.mm_problem.specs.declared.fault.Name.TheVariants as name
 use Rattle.mm_base.specs.declared.limits.TheConstants.{MAX_STORES, MAX_STEPS, MAX_BLOCKS, MAX_CHANNEL, CHANNELS}
@@ -15,7 +15,7 @@ use Rattle.mm_base.specs.declared.rows.LimitRow.{LimitRow}
 use Rattle.mm_base.specs.declared.rows.StoreRow.{StoreRow}
 use Rattle.mm_base.specs.Reading.{◌>>=◌, test}
 use Rattle.mm_base.proofs.IdFields.{Decides-nat_le}
-use Rattle.mm_problem.specs.Data.{store_fits, limit_fits, rows_fit, amounts_fit, step_fits, steps_fit}
+use Rattle.mm_problem.specs.Data.{store_fits, limit_fits, rows_fit, amounts_fit, step_fits, steps_fit, column_fits, step_limits_fit}
 use Rattle.mm_problem.specs.Document.{stores_counted}
 use Rattle.mm_problem.specs.Dumping.{AreSteps, AreStepLimits}
 use Rattle.mm_problem.specs.Forecast.{another_step, some_step}
@@ -23,6 +23,8 @@ use Rattle.mm_problem.specs.Keys.{within}
 use Rattle.mm_problem.specs.Setup.{IsStoreRow, HaveOtherIds, AreStores, IsLimitRow, HaveOtherChannels}
 use Rattle.mm_problem.specs.Tables.{new_store, new_limit}
 use Rattle.mm_base.proofs.ReadingSteps.{bind_ok, test_ok, cond_ok}
+use Rattle.std.specs.List.{list_all}
+use Rattle.mm_problem.proofs.ColumnLaws.{below_said}
 use Rattle.mm_problem.proofs.TableLaws.{new_store_said, new_limit_said}
 
 -- ---- one after the other
@@ -210,3 +212,27 @@ no_step_limits windows = record {
   table = omega arith;
   each_limit = All-nil (λ n. n ≤ MAX_BLOCKS);
 }
+
+-- a channel with limits of each step that passed
+column_fits_said : (earlier : List ℕ) (channel : ℕ) (u : Unit {0}) → column_fits earlier channel ≡ Ok u → (channel < CHANNELS) × All (λ e. e < channel) earlier
+column_fits_said earlier channel u h =
+    let (there, above) = and_parts (nat_le channel MAX_CHANNEL) (list_all (λ c. nat_lt c channel) earlier) (test_ok _ _ _ h) in
+    let most = (Decides-nat_le channel MAX_CHANNEL).0 there in
+    (omega arith, below_said channel earlier above)
+
+-- limits of each step that passed are those of a problem
+pub step_limits_said : (windows channels limits : List ℕ) (u : Unit {0}) → step_limits_fit (length windows) channels limits ≡ Ok u → AreStepLimits windows channels limits
+unfolding step_limits_fit
+step_limits_said windows channels limits u h =
+    let n = length windows * length channels in
+    let (a, few, h1) = bind_ok (test (nat_le (length channels) CHANNELS) Header) (λ _. rows_fit column_fits [] channels >>= (λ _. test (length limits == n) ForecastText >>= (λ _. amounts_fit name.Limit limits))) u h in
+    let (b, columns, h2) = bind_ok (rows_fit column_fits [] channels) (λ _. test (length limits == n) ForecastText >>= (λ _. amounts_fit name.Limit limits)) u h1 in
+    let (c, as_long, each) = bind_ok (test (length limits == n) ForecastText) (λ _. amounts_fit name.Limit limits) u h2 in
+    let all = rows_fit_said (λ c. c < CHANNELS) ◌<◌ column_fits column_fits_said channels [] b (All-nil (λ c. c < CHANNELS)) (none_apart ◌<◌) columns in
+    record {
+      at_most = (Decides-nat_le (length channels) CHANNELS).0 (test_ok _ _ _ few);
+      each_channel = all.0;
+      rising = all.1;
+      table = (Decides-eqb (length limits) n).0 (test_ok _ _ _ as_long);
+      each_limit = amounts_said name.Limit limits u each;
+    }

@@ -1,10 +1,11 @@
 -- The problem that data are, tested in the order in which the readers test what they read.
-use Rattle.std.specs.Prelude.{ℕ, ◌+◌, nat_le, ◌==◌, List, [], ◌∷◌, ◌++◌, length, take, drop, pos, Result, Ok}
+use Rattle.std.specs.Prelude.{ℕ, ◌+◌, ◌*◌, nat_le, nat_lt, ◌&&◌, ◌==◌, List, [], ◌∷◌, ◌++◌, length, take, drop, pos, Result, Ok}
+use Rattle.std.specs.List.{list_all}
 use Rattle.mm_problem.specs.declared.fault.Fault.{Fault}
-use Rattle.mm_problem.specs.declared.fault.Fault.TheVariants.{ForecastText}
+use Rattle.mm_problem.specs.declared.fault.Fault.TheVariants.{ForecastText, Header}
 use Rattle.mm_problem.specs.declared.fault.Name.{Name}
 use Rattle.mm_problem.specs.declared.fault.Name.TheVariants as name
-use Rattle.mm_base.specs.declared.limits.TheConstants.{MAX_BLOCKS, MAX_CHANNEL}
+use Rattle.mm_base.specs.declared.limits.TheConstants.{MAX_BLOCKS, MAX_CHANNEL, CHANNELS}
 use Rattle.mm_base.specs.declared.rows.LimitRow.{LimitRow}
 use Rattle.mm_base.specs.declared.rows.StoreRow.{StoreRow}
 use Rattle.mm_base.specs.Reading.{◌>>=◌, test}
@@ -69,3 +70,21 @@ problem_from rows limits windows arrived = do
   steps ← steps_fit (length rows) 0 windows arrived
   some ← some_step (length windows)
   Ok (record { rows = rows; limits = limits_of limits; windows = windows; arrived = arrived; limited = []; step_limits = [] })
+
+-- the test of a channel with limits of each step after these earlier ones: it is one, and they rise
+abbrev pub column_fits : List ℕ → ℕ → Result (Unit {0}) Fault
+column_fits earlier channel = test (nat_le channel MAX_CHANNEL && list_all (λ c. nat_lt c channel) earlier) Header
+
+-- the tests of these channels, and of as many limits in each step as there are channels
+unfoldable pub step_limits_fit : ℕ → List ℕ → List ℕ → Result (Unit {0}) Fault
+step_limits_fit steps channels limits = do
+  few ← test (nat_le (length channels) CHANNELS) Header
+  columns ← rows_fit column_fits [] channels
+  as_long ← test (length limits == steps * length channels) ForecastText
+  amounts_fit name.Limit limits
+
+-- the problem with these limits of each step for these channels, step by step, in each the channels in order
+unfoldable pub limited_by : Dumping → List ℕ → List ℕ → Result Dumping Fault
+limited_by q channels limits = do
+  fit ← step_limits_fit (length q.windows) channels limits
+  Ok (record q { limited = channels; step_limits = limits })

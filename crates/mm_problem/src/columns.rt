@@ -29,7 +29,7 @@ fn channel_in(name: &[u8]) -> Result<u8, Fault>
 }
 
 // Whether all these channels are below this one.
-fn are_below(channels: &[u8], channel: u8) -> bool
+pub(crate) fn are_below(channels: &[u8], channel: u8) -> bool
     ensures { result ≡ list_all (λ c. nat_lt c channel) channels.now }
 {
     channels.iter().all(|below| *below < channel)

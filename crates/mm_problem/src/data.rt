@@ -1,18 +1,19 @@
 //! The tests of a problem from data, which are those of the readers.
 ghost use Rattle.std.specs.Prelude.{◌≤◌, ◌<◌, List, [], length, pos, Result};
 ghost use Rattle.mm_base.specs.Reading.{Gives};
-ghost use Rattle.mm_base.specs.declared.limits.TheConstants.{MAX_BLOCKS, MAX_CHANNEL};
-ghost use Rattle.mm_problem.specs.Data.{rows_fit, amounts_fit, step_fits, steps_fit};
+ghost use Rattle.mm_base.specs.declared.limits.TheConstants.{MAX_STEPS, MAX_BLOCKS, MAX_CHANNEL};
+ghost use Rattle.mm_problem.specs.Data.{rows_fit, amounts_fit, step_fits, steps_fit, step_limits_fit};
 ghost use Rattle.mm_problem.specs.Keys.{within};
 ghost use Rattle.mm_problem.specs.declared.fault.Fault.{Fault};
 ghost use Rattle.mm_problem.specs.declared.fault.Fault.TheVariants.{NoMemory};
 
+use crate::columns::are_below;
 use crate::fault::{Fault, Name};
 use crate::keys::within;
 use crate::reading::test;
 use crate::steps::test_another_step;
 use crate::tables::{test_new_limit, test_new_store};
-use mm_base::{LimitRow, MAX_BLOCKS, MAX_CHANNEL, StoreRow};
+use mm_base::{CHANNELS, LimitRow, MAX_BLOCKS, MAX_CHANNEL, StoreRow};
 
 // A row that is tested after the rows before it.
 pub(crate) trait Tested: Sized {
@@ -55,6 +56,18 @@ impl Tested for LimitRow {
         test_channel(row.channel)?;
         test_amount(Name::Blocks, row.blocks)?;
         test_new_limit(earlier, row)
+    }
+}
+
+// A channel with limits of each step.
+impl Tested for u8 {
+    ghost use Rattle.mm_problem.specs.Data.{column_fits};
+
+    ghost fits = { column_fits };
+
+    fn test(earlier: &[u8], channel: &u8) -> Result<(), Fault> {
+        let is_next = *channel <= MAX_CHANNEL && are_below(earlier, *channel);
+        test(is_next, Fault::Header)
     }
 }
 
@@ -110,4 +123,17 @@ pub(crate) fn test_steps(stores: usize, windows: &[u32], arrived: &[u32]) -> Res
         left = later;
     }
     test(left.is_empty(), Fault::ForecastText)
+}
+
+// Tests the channels with limits of each step, and these limits.
+#[tactic(auto, unfolding(crate::specs::Data::step_limits_fit))]
+pub(crate) fn test_step_limits(steps: usize, channels: &[u8], limits: &[u32]) -> Result<(), Fault>
+    requires { steps ≤ MAX_STEPS }
+    ensures { Gives NoMemory (λ x. x) result (step_limits_fit steps channels.now limits.now) }
+{
+    test(channels.len() <= CHANNELS, Fault::Header)?;
+    test_rows(channels)?;
+    let many = steps * channels.len();
+    test(limits.len() == many, Fault::ForecastText)?;
+    test_amounts(Name::Limit, limits)
 }

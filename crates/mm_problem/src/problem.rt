@@ -5,12 +5,12 @@ ghost use Rattle.mm_base.specs.declared.limits.TheConstants.{MAX_STORES, MAX_STE
 ghost use Rattle.mm_base.specs.Id.{IsIdField};
 ghost use Rattle.mm_problem.specs.Dumping.{row, place_in, place, size, start, channel, step_limit, lesser, limit, window, arrivals, IsDumping};
 ghost use Rattle.mm_problem.specs.Forecast.{limit_of, limits_of, problem_of};
-ghost use Rattle.mm_problem.specs.Data.{problem_from};
+ghost use Rattle.mm_problem.specs.Data.{problem_from, limited_by};
 ghost use Rattle.mm_problem.specs.Rest.{rows_from, starts_fit, rest_from};
 ghost use Rattle.mm_problem.specs.declared.fault.Fault.TheVariants.{NoMemory};
 ghost use Rattle.mm_base.specs.Reading.{Gives};
 
-use crate::data::{test_rows, test_steps};
+use crate::data::{test_rows, test_step_limits, test_steps};
 use crate::document::{test_limit_count, test_store_count};
 use crate::fault::{Fault, Name};
 use crate::reading::test;
@@ -164,6 +164,36 @@ impl Problem {
             arrived,
             limited: Vec::new(alloc),
             step_limits: Vec::new(alloc),
+        })
+    }
+
+    /// The same problem with limits of their own in each step for these channels, which rise: step by step, in each the channels in
+    /// order. Otherwise the first fault, as the reader tests such columns: 30 `Header`, 29 `ForecastText` where there are not as many
+    /// limits as channels in each step, or 33 `Limit`; or 0 `NoMemory`.
+    #[tactic(auto, unfolding(crate::specs::Data::limited_by))]
+    pub fn with_step_limits(
+        &self,
+        alloc: Global,
+        channels: &[u8],
+        limits: &[u32],
+    ) -> Result<Problem, Fault>
+        ensures problem { Gives NoMemory (λ problem. problem) result
+            (limited_by self.now channels.now limits.now) }
+    {
+        let steps = self.windows.as_slice();
+        test_step_limits(steps.len(), channels, limits)?;
+        let rows = Vec::from_slice(alloc, self.rows.as_slice())?;
+        let windows = Vec::from_slice(alloc, steps)?;
+        let arrived = Vec::from_slice(alloc, self.arrived.as_slice())?;
+        let limited = Vec::from_slice(alloc, channels)?;
+        let step_limits = Vec::from_slice(alloc, limits)?;
+        Ok(Problem {
+            rows,
+            limits: self.limits,
+            windows,
+            arrived,
+            limited,
+            step_limits,
         })
     }
 
