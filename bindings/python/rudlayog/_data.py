@@ -18,9 +18,10 @@ Text = bytes | bytearray | memoryview | str | os.PathLike[str]
 # A packet: its octets, whatever holds them.
 Packet = bytes | bytearray | memoryview
 
-# The columns of a forecast that are no stores: the steps' numbers, and their windows.
+# The columns of a forecast that are no stores: the steps' numbers, their windows, and what the names of columns with limits begin with.
 STEP = "step"
 WINDOW = "window"
+LIMIT = "limit:"
 
 
 class Frame(Protocol):

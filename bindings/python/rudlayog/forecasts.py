@@ -11,7 +11,7 @@ from itertools import chain
 from typing import Any, SupportsIndex, TypeVar, Union
 
 from . import _library
-from ._data import STEP, WINDOW, Columns, Table, Text, is_text, numbers, octets, whole
+from ._data import LIMIT, STEP, WINDOW, Columns, Table, Text, is_text, numbers, octets, whole
 from ._steps import by_step
 from .setups import setup_with
 
@@ -20,46 +20,54 @@ Made = TypeVar("Made")
 
 @dataclass(frozen=True, eq=False)
 class Forecast:
-    """A forecast: `windows`, how many blocks may leave all stores together in each step, and `arrivals`, what arrives in each step in each
-    store, in blocks. The stores stand in the setup's order. A forecast stays as it is, and may be a key of a dict."""
+    """A forecast: `windows`, how many blocks may leave all stores together in each step, `arrivals`, what arrives in each step in each
+    store, in blocks, and `limits`, how many blocks may leave the stores of channel C in each step, in columns named `limit:C`. The stores
+    stand in the setup's order, the limits by their channels. A forecast stays as it is, and may be a key of a dict."""
 
     windows: tuple[int, ...]
     arrivals: Columns
+    limits: Columns = Columns({})
 
     def __post_init__(self) -> None:
         object.__setattr__(self, "windows", numbers(self.windows, WINDOW))
         if not isinstance(self.arrivals, Columns):
             object.__setattr__(self, "arrivals", Columns(by_step(self.arrivals)))
-        for store, column in self.arrivals.items():
+        if not isinstance(self.limits, Columns):
+            object.__setattr__(self, "limits", Columns(by_step(self.limits)))
+        for name, column in self._columns.items():
             if len(column) != len(self.windows):
-                raise ValueError(f"column {store} has {len(column)} rows, and column {WINDOW} has {len(self.windows)}")
+                raise ValueError(f"column {name} has {len(column)} rows, and column {WINDOW} has {len(self.windows)}")
 
     @classmethod
-    def of(cls, windows: Iterable[SupportsIndex], arrivals: Table) -> Forecast:
-        """The forecast of these windows and arrivals: a table with a column for each store, and as many rows as there are windows."""
-        return cls(windows, arrivals)  # type: ignore[arg-type]
+    def of(cls, windows: Iterable[SupportsIndex], arrivals: Table, limits: Table | None = None) -> Forecast:
+        """The forecast of these windows and arrivals: a table with a column for each store, and as many rows as there are windows; and of
+        limits, in the same way with a column `limit:C` for each channel C that has its own in each step."""
+        return cls(windows, arrivals, Columns({}) if limits is None else limits)  # type: ignore[arg-type]
 
     @classmethod
     def table(cls, given: Table) -> Forecast:
-        """The forecast of a table with the columns `window` and one for each store: rows that are dicts, a dict of columns, or a data
-        frame. With a column `step` the rows may stand in any order. Raises `Refusal` where the steps are not 1, 2, 3 and so on."""
+        """The forecast of a table with the columns `window`, one for each store, and `limit:C` for channels: rows that are dicts, a dict of
+        columns, or a data frame. With a column `step` the rows may stand in any order. Raises `Refusal` where the steps are not 1, 2, 3
+        and so on."""
         named = by_step(given)
         if WINDOW not in named:
             raise ValueError(f"a forecast has a column {WINDOW}, and here are only the columns {', '.join(named)}")
-        return cls.of(named.pop(WINDOW), named)
+        windows = named.pop(WINDOW)
+        limits = {name: named.pop(name) for name in list(named) if name.startswith(LIMIT)}
+        return cls(windows, Columns(named), Columns(limits))
 
     @classmethod
     def read(cls, text: Text) -> Forecast:
         """The forecast that a text says. Raises the library's `Refusal` where it is none for any setup."""
         given = octets(text)
-        _library.accept(bytes(setup_with(_header(given)[2:])), given)
+        _library.accept(bytes(setup_with([name for name in _header(given)[2:] if not name.startswith(LIMIT)])), given)
         names, *rows = _records(given)
         return cls.table({name: [int(cell) for cell in column] for name, *column in zip(names, *rows, strict=True)})
 
     def to_dict(self) -> dict[str, list[int]]:
         """The columns of the forecast, as the text has them."""
         steps = list(range(1, len(self.windows) + 1))
-        return {STEP: steps, WINDOW: list(self.windows), **{store: list(column) for store, column in self.arrivals.items()}}
+        return {STEP: steps, WINDOW: list(self.windows), **{name: list(column) for name, column in self._columns.items()}}
 
     def to_frame(self, make: Callable[[dict[str, list[int]]], Made]) -> Made:
         """The forecast as a data frame, made by `make`, as `pandas.DataFrame`."""
@@ -73,23 +81,33 @@ class Forecast:
         """What is forecast after a step, or from the first on after 0: its steps count from 1 again."""
         if not 0 <= whole(step, STEP) <= len(self.windows):
             raise ValueError(f"the forecast has {len(self.windows)} steps, and no step {step}")
-        return Forecast(self.windows[step:], Columns({store: column[step:] for store, column in self.arrivals.items()}))
+        arrivals, limits = (Columns({name: column[step:] for name, column in named.items()}) for named in (self.arrivals, self.limits))
+        return Forecast(self.windows[step:], arrivals, limits)
 
-    def having(self, windows: Iterable[SupportsIndex] | None = None, arrivals: Table | None = None) -> Forecast:
-        """The same forecast with other windows, or with other arrivals in the stores that are named. Its text is made from this one's."""
-        changed = {} if arrivals is None else by_step(arrivals)
-        strange = [store for store in changed if store not in self.arrivals]
-        if strange:
-            raise ValueError(f"the forecast has no store {', '.join(strange)}")
+    def having(self, windows: Iterable[SupportsIndex] | None = None, arrivals: Table | None = None, limits: Table | None = None) -> Forecast:
+        """The same forecast with other windows, with other arrivals in the stores that are named, or with other limits in the columns that
+        are named. Its text is made from this one's."""
+        arriving, limiting = ({} if given is None else by_step(given) for given in (arrivals, limits))
+        for kind, named, own in (("store", arriving, self.arrivals), ("column", limiting, self.limits)):
+            strange = [name for name in named if name not in own]
+            if strange:
+                raise ValueError(f"the forecast has no {kind} {', '.join(strange)}")
+        changed = {**arriving, **limiting}
         if not changed:
-            return Forecast(self.windows if windows is None else windows, self.arrivals)  # type: ignore[arg-type]
-        forecast = Forecast(self.windows if windows is None else windows, Columns({**self.arrivals, **changed}))  # type: ignore[arg-type]
+            return Forecast(self.windows if windows is None else windows, self.arrivals, self.limits)  # type: ignore[arg-type]
+        merged = [Columns({**own, **named}) if named else own for own, named in ((self.arrivals, arriving), (self.limits, limiting))]
+        forecast = Forecast(self.windows if windows is None else windows, *merged)  # type: ignore[arg-type]
         if len(forecast.windows) == len(self.windows):
-            open_names = tuple(store for store in self.arrivals if store in changed)
-            form = self._form(open_names) if windows is None else self.arrivals.form(len(self.windows), open_names) % forecast.windows
+            open_names = tuple(name for name in self._columns if name in changed)
+            form = self._form(open_names) if windows is None else self._columns.form(len(self.windows), open_names) % forecast.windows
             in_order = changed[open_names[0]] if len(open_names) == 1 else chain.from_iterable(zip(*(changed[store] for store in open_names)))
             vars(forecast)["_octets"] = form % tuple(in_order)
         return forecast
+
+    @cached_property
+    def _columns(self) -> Columns:
+        """The columns after the windows."""
+        return Columns({**self.arrivals, **self.limits}) if self.limits else self.arrivals
 
     @cached_property
     def _forms(self) -> dict[tuple[str, ...], bytes]:
@@ -98,7 +116,7 @@ class Forecast:
     def _form(self, open_names: tuple[str, ...]) -> bytes:
         """The text with `%d` for each number of these columns. It is kept."""
         if open_names not in self._forms:
-            self._forms[open_names] = self.arrivals.form(len(self.windows), open_names) % self.windows
+            self._forms[open_names] = self._columns.form(len(self.windows), open_names) % self.windows
         return self._forms[open_names]
 
     @cached_property
@@ -115,7 +133,7 @@ class Forecast:
         return hash(self._octets)
 
     def __reduce__(self) -> tuple[object, ...]:
-        return Forecast, (self.windows, self.arrivals)
+        return Forecast, (self.windows, self.arrivals, self.limits)
 
 
 # What is taken as a forecast.

@@ -32,7 +32,10 @@ def setup(dice: random.Random) -> Setup:
 def forecast(dice: random.Random, stores: Setup) -> Forecast:
     steps = dice.choice([1, 2, 5, 12, 40])
     most = dice.choice([3, 9, 400])
-    return Forecast.of([dice.randint(0, most) for _ in range(steps)], {store.id: [dice.randint(0, most) for _ in range(steps)] for store in stores.stores})
+    channels = sorted(dice.sample(range(8), dice.choice([0, 0, 1, 3])))
+    windows, *columns = ([dice.randint(0, most) for _ in range(steps)] for _ in range(1 + len(stores.stores) + len(channels)))
+    names = [*(store.id for store in stores.stores), *(f"limit:{channel}" for channel in channels)]
+    return Forecast.table({"window": windows, **dict(zip(names, columns))})
 
 
 def spoiled(dice: random.Random, text: bytes) -> bytes:

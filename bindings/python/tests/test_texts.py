@@ -194,6 +194,11 @@ class Forecasts(unittest.TestCase):
             ("step,window,SCI\n1,2,07\n", "31 Cell row 1 column 3"),
             ("step,window,SCI\n3,2,7\n1,2,7\n2,2,7\n", "32 StepNumber row 1"),
             ("step,window,SCI\n1,1000001,7\n", "33 Limit name window"),
+            ("step,window,limit:0,SCI\n1,2,3,7\n", "30 Header"),
+            ("step,window,SCI,limit:1,limit:1\n1,2,7,3,3\n", "30 Header"),
+            ("step,window,SCI,limit:8\n1,2,7,3\n", "30 Header"),
+            ("step,window,SCI,limit:0\n1,2,7,03\n", "31 Cell row 1 column 4"),
+            ("step,window,SCI,limit:0\n1,2,7,1000001\n", "33 Limit name limit"),
         ):
             self.assertEqual(refused(self, Forecast.read, text), words, text)
 
@@ -279,6 +284,25 @@ class Forecasts(unittest.TestCase):
         self.assertEqual(wrong(self, self.forecast.having, [1]), "column SCI has 2 rows, and column window has 1")
         self.assertEqual(wrong(self, self.forecast.having, None, {"HK": [1]}), "column HK has 1 rows, and column window has 2")
         self.assertEqual(self.forecast.text(), FORECAST)
+
+    def test_limits(self):
+        text = "step,window,SCI,HK,limit:0,limit:3\n1,2,5,1,1,9\n2,3,3,0,0,4\n"
+        named = {"limit:0": [1, 0], "limit:3": [9, 4]}
+        limited = Forecast.of([2, 3], {"SCI": [5, 3], "HK": [1, 0]}, named)
+        self.assertEqual((limited.text(), Forecast.read(text)), (text, limited))
+        self.assertEqual(limited.limits["limit:3"], (9, 4))
+        self.assertEqual(Forecast.table(limited.to_dict()), limited)
+        self.assertEqual(limited.to_dict(), {**self.forecast.to_dict(), **named})
+        self.assertNotEqual(limited, self.forecast)
+        self.assertEqual(pickle.loads(pickle.dumps(limited)), limited)
+        self.assertEqual(limited.after(1).text(), "step,window,SCI,HK,limit:0,limit:3\n1,3,3,0,0,4\n")
+        self.assertEqual(limited.having([4, 5]).text(), text.replace("1,2,5", "1,4,5").replace("2,3,3", "2,5,3"))
+        for _ in range(2):
+            self.assertEqual(limited.having(limits={"limit:0": [7, 8]}).text(), text.replace("1,1,9", "1,7,9").replace("0,0,4", "0,8,4"))
+            changed = limited.having([4, 5], {"HK": [6, 6]}, {"limit:3": [2, 2]})
+            self.assertEqual(changed.text(), "step,window,SCI,HK,limit:0,limit:3\n1,4,5,6,1,2\n2,5,3,6,0,2\n")
+        self.assertEqual(wrong(self, limited.having, None, None, {"limit:1": [1, 1]}), "the forecast has no column limit:1")
+        self.assertEqual(wrong(self, Forecast.of, [1], {"SCI": [1]}, {"limit:0": [1, 2]}), "column limit:0 has 2 rows, and column window has 1")
 
     def test_frozen(self):
         again = Forecast.of([2, 3], {"SCI": [5, 3], "HK": [1, 0]})
