@@ -14,7 +14,7 @@ use Rattle.mm_plan.specs.Fit.{in_step, FitsAt}
 use Rattle.mm_plan.specs.Filled.{IsWindowUsed, IsLimitUsed}
 use Rattle.mm_plan.specs.Filling.{IsRest, room_in}
 use Rattle.mm_plan.proofs.Options.{none_is_some}
-use Rattle.mm_base.proofs.Elements.{within-get_or_Some}
+use Rattle.mm_problem.proofs.Limits.{limit_is_within}
 use Rattle.mm_base.proofs.RangeSums.{sum_by_range-le, sum_by_filter_range-le, sum_by_range_changed, sum_by_filter_range_changed}
 
 -- in the step d blocks more leave one store, and as many as before the others
@@ -62,9 +62,9 @@ rest_raised q x y s t d idle less rests after is raised is_less here others = re
   limited = λ c below. elim (eqb_tells (channel q s) c) [
     | inl same ↦
         let own = is.limited (channel q s) (omega (arith, below, same.1)) in
-        let now : limit q (channel q s) ≡ option_map (λ r. sum_by (in_step y t) (stores_of q (channel q s)) + r) (get_or after (channel q s) None) =
+        let now : limit q (channel q s) t ≡ option_map (λ r. sum_by (in_step y t) (stores_of q (channel q s)) + r) (get_or after (channel q s) None) =
         own ∙ ap (option_map (λ r. sum_by (in_step x t) (stores_of q (channel q s)) + r)) here ∙ more_used (get_or after (channel q s) None) _ _ d (own_raised q x y s t d raised) in
-        subst (λ k. limit q k ≡ option_map (λ r. sum_by (in_step y t) (stores_of q k) + r) (get_or after k None)) same.1 now
+        subst (λ k. limit q k t ≡ option_map (λ r. sum_by (in_step y t) (stores_of q k) + r) (get_or after k None)) same.1 now
     | inr other ↦
         let as_many : sum_by (in_step y t) (stores_of q c) ≡ sum_by (in_step x t) (stores_of q c) = omega (arith, rw other.0 at (channel_raised q x y s t d c raised)) in
         let stays = others c (λ e. other.1 (sym e)) in
@@ -81,7 +81,7 @@ fits_with limit (Some r) a b e some = omega (arith, same_Some (a + r) b (sym e �
 pub rest_fits : (q : Dumping) (x : Amounts) (t idle : ℕ) (rests : List (Option ℕ)) → IsDumping q → IsRest q x t idle rests → FitsAt q x t
 rest_fits q x t idle rests dumping is = record {
   windowed = omega (arith, is.windowed);
-  limited = λ c b e. fits_with (limit q c) (get_or rests c None) _ b (is.limited c (omega (arith, within-get_or_Some q.limits c b e, dumping.channels.all))) e;
+  limited = λ c b e. fits_with (limit q c t) (get_or rests c None) _ b (is.limited c (omega (arith, limit_is_within q c t b e, dumping.channels.all))) e;
 }
 
 -- where as much was used as there was room for, nothing is idle, or nothing of the limit is left

@@ -9,9 +9,9 @@ use Rattle.mm_plan.specs.Fit.{in_step}
 abbrev pub IsWindowUsed : Dumping → Amounts → ℕ → Type 0
 IsWindowUsed q x t = sum_by (in_step x t) (stores q) ≡ window q t
 
--- those of a channel add up to its limit
+-- those of a channel add up to its limit in the step
 abbrev pub IsLimitUsed : Dumping → Amounts → ℕ → ℕ → Type 0
-IsLimitUsed q x t c = limit q c ≡ Some (sum_by (in_step x t) (stores_of q c))
+IsLimitUsed q x t c = limit q c t ≡ Some (sum_by (in_step x t) (stores_of q c))
 
 -- nothing is asked for that is not there, and nothing stays that could leave
 pub record IsFilledAt (q : Dumping) (x : Amounts) (t : ℕ) : Type 0 where

@@ -25,7 +25,7 @@ AreSplit q x t blocks = (s : ℕ) → s < length q.rows → x s t + slice_index 
 
 -- of the limit of each channel that has one, what is not used in the step
 abbrev pub AreUnused : Dumping → Amounts → ℕ → List (Option ℕ) → Type 0
-AreUnused q x t rests = (c : ℕ) → c < CHANNELS → limit q c ≡ option_map (λ rest. sum_by (in_step x t) (stores_of q c) + rest) (slice_index_or rests c None)
+AreUnused q x t rests = (c : ℕ) → c < CHANNELS → limit q c t ≡ option_map (λ rest. sum_by (in_step x t) (stores_of q c) + rest) (slice_index_or rests c None)
 
 -- what is not used in the step: of its window, and of the limits
 pub record IsRest (q : Dumping) (x : Amounts) (t idle : ℕ) (rests : List (Option ℕ)) : Type 0 where

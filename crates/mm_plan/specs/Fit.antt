@@ -8,9 +8,9 @@ use Rattle.mm_plan.specs.Volumes.{Amounts}
 abbrev pub in_step : Amounts → ℕ → ℕ → ℕ
 in_step x t s = x s t
 
--- no more is to leave the stores of a channel in the step than its limit, where it has one
+-- no more is to leave the stores of a channel in the step than its limit there, where it has one
 abbrev pub FitsLimit : Dumping → Amounts → ℕ → ℕ → Type 0
-FitsLimit q x t c = (b : ℕ) → limit q c ≡ Some b → sum_by (in_step x t) (stores_of q c) ≤ b
+FitsLimit q x t c = (b : ℕ) → limit q c t ≡ Some b → sum_by (in_step x t) (stores_of q c) ≤ b
 
 -- no more is to leave in the step than its window and the limits of the channels let through
 pub record FitsAt (q : Dumping) (x : Amounts) (t : ℕ) : Type 0 where

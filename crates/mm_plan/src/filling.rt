@@ -78,7 +78,7 @@ fn unused_limits(problem: &Problem, plan: &Plan, step: u32) -> [Option<u32>; CHA
     let amounts = channel_amounts(problem, plan, step);
     let mut by_channel = [None; CHANNELS];
     for channel in 0..CHANNELS {
-        by_channel[channel] = unused(problem.limit(channel as u8), amounts[channel]);
+        by_channel[channel] = unused(problem.limit(channel as u8, step), amounts[channel]);
     }
     by_channel
 }

@@ -40,11 +40,13 @@ pub(crate) fn channel_amounts(problem: &Problem, plan: &Plan, step: u32) -> [u64
     amounts
 }
 
-// Whether no more leaves the stores of a channel than its limit, where it has one.
-fn fits_limit(problem: &Problem, channel: u8, amount: u64) -> bool
-    ensures { IsTrue result ↔ ((b : ℕ) → limit problem.now channel ≡ Some b → amount ≤ b) }
+// Whether no more leaves the stores of a channel in a step than its limit there, where it has one.
+fn fits_limit(problem: &Problem, channel: u8, step: u32, amount: u64) -> bool
+    requires first { 1 ≤ step }
+    requires last { step ≤ length problem.now.windows }
+    ensures { IsTrue result ↔ ((b : ℕ) → limit problem.now channel step ≡ Some b → amount ≤ b) }
 {
-    match problem.limit(channel) {
+    match problem.limit(channel, step) {
         Some(blocks) => amount <= u64::from(blocks),
         None => true,
     }
@@ -58,7 +60,7 @@ fn fits_limits(problem: &Problem, plan: &Plan, step: u32) -> bool
 {
     let amounts = channel_amounts(problem, plan, step);
     for channel in 0..problem.channels() {
-        if !fits_limit(problem, channel, amounts[channel as usize]) {
+        if !fits_limit(problem, channel, step, amounts[channel as usize]) {
             return false;
         }
     }

@@ -11,5 +11,5 @@ use Rattle.mm_plan.proofs.filling.unused_limits.Given as goal
 abbrev pub invariant-loop-channel : goal.invariant-loop-channel
 invariant-loop-channel l = record {
   channels : length l.by_channel ≡ CHANNELS;
-  unused : (c : ℕ) → c < l.channel → limit l.problem c ≡ option_map (λ rest. sum_by (in_step (amount l.plan) l.step) (stores_of l.problem c) + rest) (get_or l.by_channel c None);
+  unused : (c : ℕ) → c < l.channel → limit l.problem c l.step ≡ option_map (λ rest. sum_by (in_step (amount l.plan) l.step) (stores_of l.problem c) + rest) (get_or l.by_channel c None);
 }

@@ -14,7 +14,7 @@ loop-step-preserved c =
 ends : (c : goal.After-loss_of) → AreTabled c.args.problem.now (amount c.args.plan.now) (length c.args.problem.now.windows * length c.args.problem.now.rows) c.loop-step.tables
 ends c =
     subst (λ k. AreTabled c.args.problem.now (amount c.args.plan.now) k c.loop-step.tables)
-    (last_place (length c.args.problem.now.rows) c.loop-step.step (length c.args.problem.now.windows) (omega arith)) c.loop-step.invariant
+    (last_place (length c.args.problem.now.rows) c.loop-step.step (length c.args.problem.now.windows) (omega (arith, c.loop-step.auto.step, c.loop-step.auto.step-end))) c.loop-step.invariant
 
 pub invariant_of-result : goal.invariant_of-result
 invariant_of-result c =
