@@ -1,11 +1,10 @@
 -- In one step, the stretches of a cut have stores of their own, so that what they lose and what leaves them is bounded.
 use Rattle.std.proofs.Common.{◌≡◌, ℕ, ◌<◌, ◌≤◌, Bool, true, false, cond, eqb, ◌&&◌, List, length, get_or, All, refl, sym, ap, ◌∙◌, subst, inl, inr, arith}
-use Rattle.std.specs.Prelude.{◌≢◌, Option, Some, None, unwrap_or, is_some, IsSome}
+use Rattle.std.specs.Prelude.{◌≢◌, Option, Some, None, unwrap_or, IsSome}
 use Rattle.std.specs.List.{sum_by}
 use Rattle.std.specs.Str.{bytes_eq}
-use Rattle.std.proofs.lemmas.Bool.{cases_lt, cases_Bool, both_ways, false≢true, and_parts, eqb-true}
+use Rattle.std.proofs.lemmas.Bool.{cases_Bool, both_ways, false≢true, and_parts, eqb-true}
 use Rattle.std.proofs.lemmas.Bool.Decides.{nat_tests}
-use Rattle.std.proofs.lemmas.List.{get_or_past}
 use Rattle.std.proofs.lemmas.List.Elements.{All-contains}
 use Rattle.std.proofs.lemmas.List.Folds.{Any-from_list_any, list_any_at}
 use Rattle.std.proofs.lemmas.List.Sums.{passes_at_first}
@@ -14,6 +13,7 @@ use Rattle.mm_base.proofs.Tests.{true-from_cond}
 use Rattle.mm_base.proofs.Sums.{sum_by-le_each, sum_by-filter, sum_by_zeros, sum_by-swap}
 use Rattle.mm_base.proofs.RangeSums.{sum_by_range-le}
 use Rattle.mm_base.proofs.Groups.{sum_by-le_groups, sum_by-le_places}
+use Rattle.mm_problem.proofs.Limits.{limit_within}
 use Rattle.mm_problem.specs.Dumping.{Dumping, no_row, place, limit, window, is_of, stores, stores_of, channels, steps}
 use Rattle.mm_plan.specs.Volumes.{Amounts, lost, loss}
 use Rattle.mm_plan.specs.Fit.{in_step, FitsAt, Fits}
@@ -50,13 +50,6 @@ by_store q ds t f test are meets =
     (λ i j d before inside at_i at_j.
     let is = are.each i d (omega arith) in
     other_stores q (get_or ds i d) (get_or ds j d) t is (are.apart i j d before inside) (meets _ at_i) (meets _ at_j))
-
--- a channel with a limit is one of the channels
-limit_within : (q : Dumping) (c : ℕ) → IsSome (limit q c) → c < length q.limits
-limit_within q c some = elim (cases_lt c (length q.limits)) [
-  | inl within ↦ within
-  | inr past ↦ let none = get_or_past q.limits c None past in absurd (both_ways (is_some (limit q c)) (rw none refl) some)
-]
 
 some_value : (o : Option ℕ) → IsSome o → o ≡ Some (unwrap_or o 0)
 some_value None some = absurd (false≢true some)
@@ -130,23 +123,23 @@ module _ (q : Dumping) (x : Amounts) (ds : List Stretch) (are : AreStretches q d
       omega (arith, each, all_stores, sum_by-filter (in_step x t) (is_of q c) (stores q))
 
   -- a channel of an inner store has a limit, where each has one
-  pub inner_has_limit : (t c : ℕ) → All (IsLimited q t) ds → is_inner_on q ds t c ≡ true → IsSome (limit q c)
+  pub inner_has_limit : (t c : ℕ) → All (IsLimited q t) ds → is_inner_on q ds t c ≡ true → IsSome (limit q c t)
   inner_has_limit t c limited inner =
       let some = Any-from_list_any (goes_past_on q t c) ds inner in
       let on = and_parts (goes_past t some.1) (eqb (channel_of q some.1) c) some.4 in
       let has_limit = All-contains (IsLimited q t) ds some.1 limited (some.0, some.2, some.3) on.0 in
-      subst (λ k. IsSome (limit q k)) (eqb-true (channel_of q some.1) c on.1) has_limit
+      subst (λ k. IsSome (limit q k t)) (eqb-true (channel_of q some.1) c on.1) has_limit
 
   -- what leaves the inner stores of a channel is within its limit
   leaves_on_limit : (t c : ℕ)
       → FitsAt q x t
       → All (IsLimited q t) ds
-      → sum_by (leaves_on t c) ds ≤ cond (is_inner_on q ds t c) (limit_or_0 q c) 0
+      → sum_by (leaves_on t c) ds ≤ cond (is_inner_on q ds t c) (limit_or_0 q t c) 0
   leaves_on_limit t c fits limited = elim (cases_Bool (is_inner_on q ds t c)) [
     | inr none ↦ rw none (omega (arith, leaves_on_none t c none))
     | inl inner ↦
-        let is_limit = some_value (limit q c) (inner_has_limit t c limited inner) in
-        rw inner (omega (arith, leaves_on-le t c, fits.limited c (limit_or_0 q c) is_limit))
+        let is_limit = some_value (limit q c t) (inner_has_limit t c limited inner) in
+        rw inner (omega (arith, leaves_on-le t c, fits.limited c (limit_or_0 q t c) is_limit))
   ]
 
   -- what leaves inner stores in a step is within the limits of their channels, where each has one
@@ -156,11 +149,11 @@ module _ (q : Dumping) (x : Amounts) (ds : List Stretch) (are : AreStretches q d
       sum_by-le_groups (leaves_in q x t) (channel_of q) (length q.limits) ds
       (λ k d inside some.
       let e : Stretch = get_or ds k d in
-      limit_within q (channel_of q e) (limited k d inside (true-from_cond (goes_past t e) (x (store_of q e) t) some))) in
+      limit_within q (channel_of q e) t (limited k d inside (true-from_cond (goes_past t e) (x (store_of q e) t) some))) in
       let each =
-      sum_by_range-le (λ c. sum_by (leaves_on t c) ds) (λ c. cond (is_inner_on q ds t c) (limit_or_0 q c) 0)
+      sum_by_range-le (λ c. sum_by (leaves_on t c) ds) (λ c. cond (is_inner_on q ds t c) (limit_or_0 q t c) 0)
       0 (length q.limits) (λ c _ _. leaves_on_limit t c fits limited) in
-      omega (arith, groups, each, sum_by-filter (limit_or_0 q) (is_inner_on q ds t) (channels q))
+      omega (arith, groups, each, sum_by-filter (limit_or_0 q t) (is_inner_on q ds t) (channels q))
 
   -- a listed step is one that is counted
   pub listed_is_counted : (ts : List ℕ) (t : ℕ) → AreCounted q ds ts → is_listed ts t ≡ true → IsCounted q ds t

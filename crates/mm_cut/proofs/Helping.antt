@@ -1,5 +1,5 @@
 -- Only what a cut counts can lower its bound.
-use Rattle.std.proofs.Common.{◌≡◌, ℕ, ◌≤◌, Bool, true, false, cond, eqb, List, length, get_or, All, refl, sym, subst, inl, inr, arith}
+use Rattle.std.proofs.Common.{◌≡◌, ℕ, ◌≤◌, Bool, true, false, cond, eqb, List, length, get_or, All, refl, sym, ap, subst, inl, inr, arith}
 use Rattle.std.specs.Prelude.{IsSome, filter, ◌≤ℤ◌}
 use Rattle.std.specs.List.{sum_by, range_with_len}
 use Rattle.std.proofs.lemmas.Bool.{cases_Bool, and_parts, eqb-true}
@@ -57,13 +57,14 @@ module _ (q r : Dumping) (ds : List Stretch) (ts : List ℕ) (cut : IsCut q ds t
   -- no more leaves by the limits that count in a step
   limit_sum-less : (t : ℕ) → is_listed ts t ≡ true → limit_sum r ds t ≤ limit_sum q ds t
   limit_sum-less t listed =
-      let each : (c : ℕ) → cond (is_inner_on r ds t c) (limit_or_0 r c) 0 ≤ cond (is_inner_on q ds t c) (limit_or_0 q c) 0 =
+      let each : (c : ℕ) → cond (is_inner_on r ds t c) (limit_or_0 r t c) 0 ≤ cond (is_inner_on q ds t c) (limit_or_0 q t c) 0 =
       λ c. elim (cases_Bool (is_inner_on r ds t c)) [
         | inl inner ↦ let there = same_channels t c listed inner in rw (inner, there) (h.limits t c listed there)
         | inr none ↦ rw none (omega arith)
       ] in
-      let all = sum_by_range-le (λ c. cond (is_inner_on r ds t c) (limit_or_0 r c) 0) (λ c. cond (is_inner_on q ds t c) (limit_or_0 q c) 0) 0 (length q.limits) (λ c _ _. each c) in
-      rw h.channels (omega (arith, all, sum_by-filter (limit_or_0 r) (is_inner_on r ds t) (channels q), sum_by-filter (limit_or_0 q) (is_inner_on q ds t) (channels q)))
+      let all = sum_by_range-le (λ c. cond (is_inner_on r ds t c) (limit_or_0 r t c) 0) (λ c. cond (is_inner_on q ds t c) (limit_or_0 q t c) 0) 0 (length q.limits) (λ c _ _. each c) in
+      let of_r : limit_sum r ds t ≡ sum_by (limit_or_0 r t) (filter (is_inner_on r ds t) (channels q)) = ap (λ n. sum_by (limit_or_0 r t) (filter (is_inner_on r ds t) (range_with_len 0 n))) h.channels in
+      omega (arith, of_r, all, sum_by-filter (limit_or_0 r t) (is_inner_on r ds t) (channels q), sum_by-filter (limit_or_0 q t) (is_inner_on q ds t) (channels q))
 
   -- no more leaves in an inner step
   leaving-less : (t : ℕ) → is_inner ds t ≡ true → leaving r ds ts t ≤ leaving q ds ts t
@@ -86,7 +87,7 @@ module _ (q r : Dumping) (ds : List Stretch) (ts : List ℕ) (cut : IsCut q ds t
       let same = (h.stretches k d inside).channel t listed inner in
       let on : goes_past_on q t (channel_of q e) e ≡ true = rw inner (grind (arith, nat_tests)) in
       let there = list_any_at (goes_past_on q t (channel_of q e)) ds k d inside on in
-      subst (λ c. IsSome (limit r c)) (sym same) (h.limited t (channel_of q e) listed there)
+      subst (λ c. IsSome (limit r c t)) (sym same) (h.limited t (channel_of q e) listed there)
 
   counted_too : All (IsCounted r ds) ts
   counted_too k d inside =

@@ -34,7 +34,7 @@ abbrev limited : ℕ → List (Option ℕ)
 limited blocks = Some blocks ∷ replicate 7 None
 
 abbrev problem : List StoreRow → List (Option ℕ) → List ℕ → List ℕ → Dumping
-problem rows limits windows arrived = record { rows = rows; limits = limits; windows = windows; arrived = arrived }
+problem rows limits windows arrived = record { rows = rows; limits = limits; windows = windows; arrived = arrived; limited = []; step_limits = [] }
 
 -- a plan for as many stores, step by step
 abbrev plan : ℕ → List ℕ → Amounts

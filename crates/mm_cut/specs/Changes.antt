@@ -26,8 +26,8 @@ pub record Changes (R : ℕ → ℕ → Type 0) (q r : Dumping) (ds : List Stret
   -- the windows of the inner steps that count by their windows
   pub windows : (t : ℕ) → IsTrue (counts_window ds ts t) → R (window r t) (window q t)
   -- in the steps that count by channels, the limits of the channels of the stores that are inner there
-  pub limited : (t c : ℕ) → IsTrue (is_listed ts t) → IsTrue (is_inner_on q ds t c) → IsSome (limit r c)
-  pub limits : (t c : ℕ) → IsTrue (is_listed ts t) → IsTrue (is_inner_on q ds t c) → R (limit_or_0 r c) (limit_or_0 q c)
+  pub limited : (t c : ℕ) → IsTrue (is_listed ts t) → IsTrue (is_inner_on q ds t c) → IsSome (limit r c t)
+  pub limits : (t c : ℕ) → IsTrue (is_listed ts t) → IsTrue (is_inner_on q ds t c) → R (limit_or_0 r t c) (limit_or_0 q t c)
 
 -- r has nowhere fewer arrivals, a larger size, a wider window or a higher limit than q, as far as the cut counts
 abbrev pub HelpsNowhere : Dumping → Dumping → List Stretch → List ℕ → Type 0

@@ -26,13 +26,13 @@ coming q d = opening q d + sum_by (arrivals q (store_of q d)) (filter (covers d)
 abbrev pub held : Dumping → Stretch → ℕ
 held q d = size q (store_of q d)
 
--- the limit of a channel, 0 where it has none
-abbrev pub limit_or_0 : Dumping → ℕ → ℕ
-limit_or_0 q c = unwrap_or (limit q c) 0
+-- the limit in a step of a channel, 0 where it has none
+abbrev pub limit_or_0 : Dumping → ℕ → ℕ → ℕ
+limit_or_0 q t c = unwrap_or (limit q c t) 0
 
--- the limits of the channels of the stores that are inner in the step, each channel once
+-- the limits in the step of the channels of the stores that are inner in it, each channel once
 abbrev pub limit_sum : Dumping → List Stretch → ℕ → ℕ
-limit_sum q ds t = sum_by (limit_or_0 q) (filter (is_inner_on q ds t) (channels q))
+limit_sum q ds t = sum_by (limit_or_0 q t) (filter (is_inner_on q ds t) (channels q))
 
 -- the most that may leave the stores that are inner in the step
 abbrev pub leaving : Dumping → List Stretch → List ℕ → ℕ → ℕ

@@ -61,6 +61,8 @@ fn inner_channels(problem: &Problem, stretches: &[Stretch], step: u32) -> [bool;
 #[tactic(auto, using(mm_base::proofs::RangeSums::sum_by_filter_range_more))]
 fn limit_sum(problem: &Problem, stretches: &[Stretch], step: u32) -> u64
     requires is_dumping { IsDumping problem.now }
+    requires first { 1 ≤ step }
+    requires last { step ≤ length problem.now.windows }
     requires stretches { All (IsStretch problem.now) stretches.now }
     ensures sum { result ≡ limit_sum problem.now stretches.now step }
     ensures most { result ≤ CHANNELS * MAX_BLOCKS }
@@ -69,7 +71,7 @@ fn limit_sum(problem: &Problem, stretches: &[Stretch], step: u32) -> u64
     let mut sum: u64 = 0;
     for channel in 0..CHANNELS as u8 {
         if inner[channel as usize] {
-            sum += u64::from(problem.limit(channel).unwrap_or(0));
+            sum += u64::from(problem.limit(channel, step).unwrap_or(0));
         }
     }
     sum

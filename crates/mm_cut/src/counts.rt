@@ -28,7 +28,7 @@ fn is_limited(problem: &Problem, step: u32, stretch: &Stretch) -> bool
     requires { IsStretch problem.now stretch.now }
     ensures { IsTrue result ↔ IsLimited problem.now step stretch.now }
 {
-    !goes_past(step, stretch) || problem.limit(channel_of(problem, stretch)).is_some()
+    !goes_past(step, stretch) || problem.limit(channel_of(problem, stretch), step).is_some()
 }
 
 fn are_limited(problem: &Problem, step: u32, stretches: &[Stretch]) -> bool
@@ -57,7 +57,7 @@ fn is_counted_after(problem: &Problem, stretches: &[Stretch], earlier: &[u32], s
 }
 
 /// The first bad step of those that count by channels, from 1: it is not inner, it stands before in the list, or a
-/// store that is inner there has a channel without a limit.
+/// store that is inner there has a channel without a limit in that step.
 #[must_use]
 pub fn first_bad_count(problem: &Problem, stretches: &[Stretch], counts: &[u32]) -> Option<u32>
     requires { AreStretches problem.now stretches.now }

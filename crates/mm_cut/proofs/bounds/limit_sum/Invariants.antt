@@ -8,6 +8,6 @@ use Rattle.mm_cut.proofs.bounds.limit_sum.Given as goal
 
 abbrev pub invariant-loop-channel : goal.invariant-loop-channel
 invariant-loop-channel l = record {
-  sum : l.sum ≡ sum_by (limit_or_0 l.problem) (filter (is_inner_on l.problem l.stretches l.step) (range_with_len 0 l.channel));
+  sum : l.sum ≡ sum_by (limit_or_0 l.problem l.step) (filter (is_inner_on l.problem l.stretches l.step) (range_with_len 0 l.channel));
   most : l.sum ≤ l.channel * MAX_BLOCKS;
 }
