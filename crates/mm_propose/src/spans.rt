@@ -31,11 +31,14 @@ impl Span {
     };
 }
 
-// The limit of each channel, `u32::MAX` where it has none.
-fn limits_of(problem: &Problem) -> [u32; CHANNELS] {
+// The limit of each channel in a step, `u32::MAX` where it has none.
+fn limits_of(problem: &Problem, step: u32) -> [u32; CHANNELS]
+    requires first { 1 ≤ step }
+    requires last { step ≤ length problem.now.windows }
+{
     let mut limits = [u32::MAX; CHANNELS];
     for channel in 0..CHANNELS {
-        if let Some(blocks) = problem.limit(channel as u8) {
+        if let Some(blocks) = problem.limit(channel as u8, step) {
             limits[channel] = blocks;
         }
     }
@@ -82,13 +85,17 @@ fn begin(table: &mut Table, come: &Amounts, limits: &[u32; CHANNELS], window: u3
 /// The spans of a problem: each step without a window is joined to the next that has one, and the last such to the end.
 pub(crate) fn spans_of(alloc: Global, problem: &Problem) -> Result<Vec<Span>, NoMemory> {
     let steps = problem.steps();
-    let limits = limits_of(problem);
+    let by_step = !problem.limited().is_empty();
+    let mut limits = limits_of(problem, 1);
     let mut spans = Vec::with_capacity(alloc, steps as usize)?;
     let mut come = starts(problem);
     for step in 1..steps + 1 {
         add_arrivals(&mut come, problem, step);
         let window = problem.window(step);
         if window > 0 || step == steps {
+            if by_step {
+                limits = limits_of(problem, step);
+            }
             let at = spans.len();
             spans.push(Span::EMPTY)?;
             if let Some(span) = spans.get_mut(at) {

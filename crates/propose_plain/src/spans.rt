@@ -37,11 +37,14 @@ pub(crate) struct Span {
     pub(crate) found: Found,
 }
 
-// What each channel lets through in a window.
-fn limits_in(problem: &Problem, window: u32) -> Amounts {
+// What each channel lets through in the window of a step.
+fn limits_in(problem: &Problem, step: u32, window: u32) -> Amounts
+    requires first { 1 ≤ step }
+    requires last { step ≤ length problem.now.windows }
+{
     let mut limits = Amounts::UNLIMITED;
     for channel in 0..CHANNELS as u8 {
-        if let Some(blocks) = problem.limit(channel) {
+        if let Some(blocks) = problem.limit(channel, step) {
             if blocks < window {
                 limits.set(channel as usize, blocks);
             }
@@ -70,12 +73,15 @@ fn add_arrivals(come: &mut Amounts, problem: &Problem, step: u32)
 }
 
 // A span in which nothing has left yet.
-fn empty_span(problem: &Problem, first: u32, last: u32, come: Amounts, window: u32) -> Span {
+fn empty_span(problem: &Problem, first: u32, last: u32, come: Amounts, window: u32) -> Span
+    requires first { 1 ≤ last }
+    requires last { last ≤ length problem.now.windows }
+{
     Span {
         first,
         last,
         come,
-        limits: limits_in(problem, window),
+        limits: limits_in(problem, last, window),
         lost: Amounts::NOTHING,
         held: Amounts::NOTHING,
         dumped: Amounts::NOTHING,
