@@ -58,10 +58,10 @@ module _ (q : Dumping) (f : Flow) (within : IsWithin (net q) f) where
   over_value o n most e = ap (λ p. over p n) e
 
   -- no more passes a channel than its limit
-  pub pass_on_within : (t c most : ℕ) → 1 ≤ t → t ≤ length q.windows → c < length q.limits → limit q c ≡ Some most → pass_on q f t c ≤ most
+  pub pass_on_within : (t c most : ℕ) → 1 ≤ t → t ≤ length q.windows → c < length q.limits → limit q c t ≡ Some most → pass_on q f t c ≤ most
   unfolding excess
   pass_on_within t c most first last below limited =
-      omega (arith, excess_none, arcs_by_kind q (λ k (a : Arc). over a.capacity (f k)), over_value (limit q c) (pass_on q f t c) most limited, term-le-grid (λ u k. over (limit q k) (pass_on q f u k)) (length q.windows) (length q.limits) t c first last below)
+      omega (arith, excess_none, arcs_by_kind q (λ k (a : Arc). over a.capacity (f k)), over_value (limit q c t) (pass_on q f t c) most limited, term-le-grid (λ u k. over (limit q k u) (pass_on q f u k)) (length q.windows) (length q.limits) t c first last below)
 
   -- no more is sent than the window
   pub send_within : (t : ℕ) → 1 ≤ t → t ≤ length q.windows → send q f t ≤ window q t
@@ -74,7 +74,7 @@ abbrev leads_out : Side → Arc → Bool
 leads_out side a = side a.from && not (side a.to)
 
 -- the capacity of a side, kind by kind
-pub capacity_kinds : (q : Dumping) (side : Side) → side SOURCE ≡ true → side SINK ≡ false → capacity_of (net q) side ≡ grid (λ t s. cond (is_on side (In t s)) 0 (inflow q t s)) (length q.windows) (length q.rows) + grid (λ t s. cond (is_on side (In t s) && not (is_on side (Out t s))) (size q s) 0) (length q.windows) (length q.rows) + grid (λ t c. cond (is_on side (Channel t c) && not (is_on side (Pass t))) (limit_or_0 q c) 0) (length q.windows) (length q.limits) + sum_by (λ t. cond (is_on side (Pass t)) (window q t) 0) (range_with_len 1 (length q.windows))
+pub capacity_kinds : (q : Dumping) (side : Side) → side SOURCE ≡ true → side SINK ≡ false → capacity_of (net q) side ≡ grid (λ t s. cond (is_on side (In t s)) 0 (inflow q t s)) (length q.windows) (length q.rows) + grid (λ t s. cond (is_on side (In t s) && not (is_on side (Out t s))) (size q s) 0) (length q.windows) (length q.rows) + grid (λ t c. cond (is_on side (Channel t c) && not (is_on side (Pass t))) (limit_or_0 q t c) 0) (length q.windows) (length q.limits) + sum_by (λ t. cond (is_on side (Pass t)) (window q t) 0) (range_with_len 1 (length q.windows))
 unfolding capacity_of
 capacity_kinds q side at_source at_sink =
     let F : ℕ → Arc → ℕ = λ k a. cond (leads_out side a) (unwrap_or a.capacity 0) 0 in
@@ -150,9 +150,9 @@ module _ (q : Dumping) (side : Side) (cut : IsCut (net q) SOURCE SINK side) wher
   has_limit false b c none inside outside = absurd (false≢true inside)
 
   -- a channel on the side whose pass is not has a limit
-  pub limit_outside : (t c : ℕ) → 1 ≤ t → t ≤ length q.windows → c < length q.limits → is_on side (Channel t c) ≡ true → is_on side (Pass t) ≡ false → IsSome (limit q c)
+  pub limit_outside : (t c : ℕ) → 1 ≤ t → t ≤ length q.windows → c < length q.limits → is_on side (Channel t c) ≡ true → is_on side (Pass t) ≡ false → IsSome (limit q c t)
   unfolding unlimited_out
   limit_outside t c first last below inside outside =
-      has_limit (is_on side (Channel t c)) (is_on side (Pass t)) (is_some (limit q c))
-      (omega (arith, unlimited_none, arcs_by_kind q unlimited_out, term-le-grid (λ u k. cond (is_on side (Channel u k) && not (is_on side (Pass u))) (cond {A = ℕ} (is_some (limit q k)) 0 1) 0) (length q.windows) (length q.limits) t c first last below))
+      has_limit (is_on side (Channel t c)) (is_on side (Pass t)) (is_some (limit q c t))
+      (omega (arith, unlimited_none, arcs_by_kind q unlimited_out, term-le-grid (λ u k. cond (is_on side (Channel u k) && not (is_on side (Pass u))) (cond {A = ℕ} (is_some (limit q k u)) 0 1) 0) (length q.windows) (length q.limits) t c first last below))
       inside outside

@@ -103,7 +103,7 @@ module _ (q : Dumping) (ds es : List Stretch) (ts us : List ℕ) (stretches : Is
   same_leaving : leaving q ds ts ≡ leaving q es us
   same_leaving = fun_ext (λ t.
       ap (λ listed. cond listed (limit_sum q ds t) (window q t)) (list_any-IsPermutation (λ k. k == t) ts us counts)
-      ∙ ap (λ on. cond (is_listed us t) (sum_by (limit_or_0 q) (filter on (channels q))) (window q t)) (same_inner_on t))
+      ∙ ap (λ on. cond (is_listed us t) (sum_by (limit_or_0 q t) (filter on (channels q))) (window q t)) (same_inner_on t))
 
   same_leaving_sum : leaving_sum q ds ts ≡ leaving_sum q es us
   same_leaving_sum = ap (λ inner. sum_by (leaving q ds ts) (filter inner (steps q))) same_inner ∙ ap (λ f. sum_by f (filter (is_inner es) (steps q))) same_leaving

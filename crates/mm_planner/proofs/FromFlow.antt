@@ -2,7 +2,7 @@
 use Rattle.std.proofs.Common.{◌≡◌, ℕ, zero, suc, ◌+◌, ◌-◌, ◌<◌, ◌≤◌, min, cond, eqb, All, length, refl, sym, ap, ◌∙◌, arith, add-one}
 use Rattle.std.specs.List.{sum_by, range_with_len}
 use Rattle.std.proofs.lemmas.Bool.{cond-false, ne_eqb}
-use Rattle.mm_base.proofs.Elements.{within-get_or_Some}
+use Rattle.mm_problem.proofs.Limits.{limit_is_within}
 use Rattle.mm_base.proofs.Grids.{grid}
 use Rattle.mm_base.proofs.Groups.{sum_by-le_groups}
 use Rattle.mm_base.proofs.RangeSums.{sum_by_range_more, sum_by_range-le, sum_by_range_same}
@@ -123,7 +123,7 @@ module _ (q : Dumping) (is : IsDumping q) (f : Flow) (value : ℕ) (flow : IsFlo
   -- and the limits of the channels
   limited : (t c : ℕ) → 1 ≤ t → t ≤ length q.windows → FitsLimit q x t c
   limited t c first last most is_limit =
-      let below = within-get_or_Some q.limits c most is_limit in
+      let below = limit_is_within q c t most is_limit in
       let leaves_channel = sum_by_range_same (λ s. cond (is_of q c s) (in_step x t s) 0) (λ s. cond (eqb (channel q s) c) (leave q f t s) 0) 0 (length q.rows) (λ s _ within. ap (λ n. cond (eqb (channel q s) c) n 0) (taken s t (omega arith) first last)) in
       omega (arith, sum_by-filter (in_step x t) (is_of q c) (stores q), leaves_channel, channel_conserved q is f value flow t c first last below, pass_on_within q f flow.within t c most first last below is_limit)
 

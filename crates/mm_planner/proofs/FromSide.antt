@@ -178,7 +178,7 @@ module _ (q : Dumping) (is : IsDumping q) (side : Side) (cut : IsCut (net q) SOU
 
   -- what the gates of a step off the side let through
   gates : ℕ → ℕ
-  gates t = sum_by (λ c. cond (is_on side (Channel t c) && not (is_on side (Pass t))) (limit_or_0 q c) 0) (channels q) + cond (is_on side (Pass t)) (window q t) 0
+  gates t = sum_by (λ c. cond (is_on side (Channel t c) && not (is_on side (Pass t))) (limit_or_0 q t c) 0) (channels q) + cond (is_on side (Pass t)) (window q t) 0
 
   -- a channel that is inner in a step is on the side
   inner_on_inside : (t c : ℕ) → 1 ≤ t → t ≤ length q.windows → is_inner_on q (stretches q side) t c ≡ true → is_on side (Channel t c) ≡ true
@@ -201,9 +201,9 @@ module _ (q : Dumping) (is : IsDumping q) (side : Side) (cut : IsCut (net q) SOU
       let off = not_from_false (is_on side (Pass t)) outside in
       omega (
         arith,
-        sum_by-filter (limit_or_0 q) (is_inner_on q (stretches q side) t) (channels q),
-        sum_by_range-le (λ c. cond (is_inner_on q (stretches q side) t c) (limit_or_0 q c) 0) (λ c. cond (is_on side (Channel t c) && not (is_on side (Pass t))) (limit_or_0 q c) 0) 0 (length q.limits)
-            (λ c _ _. inner_limit (is_inner_on q (stretches q side) t c) (is_on side (Channel t c) && not (is_on side (Pass t))) (limit_or_0 q c) (λ at. and_from (is_on side (Channel t c)) (not (is_on side (Pass t))) (inner_on_inside t c first last at) off)),
+        sum_by-filter (limit_or_0 q t) (is_inner_on q (stretches q side) t) (channels q),
+        sum_by_range-le (λ c. cond (is_inner_on q (stretches q side) t c) (limit_or_0 q t c) 0) (λ c. cond (is_on side (Channel t c) && not (is_on side (Pass t))) (limit_or_0 q t c) 0) 0 (length q.limits)
+            (λ c _ _. inner_limit (is_inner_on q (stretches q side) t c) (is_on side (Channel t c) && not (is_on side (Pass t))) (limit_or_0 q t c) (λ at. and_from (is_on side (Channel t c)) (not (is_on side (Pass t))) (inner_on_inside t c first last at) off)),
       )
 
   -- what may leave the inner stores of a step is what its gates let through
@@ -228,14 +228,14 @@ module _ (q : Dumping) (is : IsDumping q) (side : Side) (cut : IsCut (net q) SOU
       fails a false e = absurd (false≢true e)
 
   -- what may leave all inner steps is what their gates let through
-  all_leaving : leaving_sum q (stretches q side) (counts q side) ≤ grid (λ t c. cond (is_on side (Channel t c) && not (is_on side (Pass t))) (limit_or_0 q c) 0) (length q.windows) (length q.limits) + sum_by (λ t. cond (is_on side (Pass t)) (window q t) 0) (steps q)
+  all_leaving : leaving_sum q (stretches q side) (counts q side) ≤ grid (λ t c. cond (is_on side (Channel t c) && not (is_on side (Pass t))) (limit_or_0 q t c) 0) (length q.windows) (length q.limits) + sum_by (λ t. cond (is_on side (Pass t)) (window q t) 0) (steps q)
   unfolding gates
   all_leaving =
       omega (
         arith,
         sum_by-filter (leaving q (stretches q side) (counts q side)) (is_inner (stretches q side)) (steps q),
         sum_by_range-le (λ t. cond (is_inner (stretches q side) t) (leaving q (stretches q side) (counts q side) t) 0) gates 1 (length q.windows) (λ t low high. leaving_within t low (omega arith)),
-        sum_by-add (λ t. sum_by (λ c. cond (is_on side (Channel t c) && not (is_on side (Pass t))) (limit_or_0 q c) 0) (channels q)) (λ t. cond (is_on side (Pass t)) (window q t) 0) (steps q),
+        sum_by-add (λ t. sum_by (λ c. cond (is_on side (Channel t c) && not (is_on side (Pass t))) (limit_or_0 q t c) 0) (channels q)) (λ t. cond (is_on side (Pass t)) (window q t) 0) (steps q),
       )
 
   -- what comes to all stores, less the side's capacity, is at most the bound of the side's cut

@@ -31,9 +31,9 @@ store_arc q Hold t s = joined (In t s) (Out t s) (Some (size q s))
 store_arc q Keep t s = joined (Out t s) (next_node q t s) None
 store_arc q Take t s = joined (Out t s) (Channel t (channel q s)) None
 
--- a channel lets through as many as its limit
+-- a channel lets through as many as its limit in the step
 abbrev pub limit_arc : Dumping → ℕ → ℕ → Arc
-limit_arc q t c = joined (Channel t c) (Pass t) (limit q c)
+limit_arc q t c = joined (Channel t c) (Pass t) (limit q c t)
 
 -- the pass lets through as many as its window
 abbrev pub window_arc : Dumping → ℕ → Arc

@@ -50,12 +50,13 @@ fn next_node(problem: &Problem, step: u32, store: usize) -> Node
     }
 }
 
-// The limit of a channel.
-fn limit(problem: &Problem, channel: u8) -> Option<u64>
-    ensures limit { result ≡ limit problem.now channel }
+// The limit of a channel in a step.
+fn limit(problem: &Problem, channel: u8, step: u32) -> Option<u64>
+    requires step { IsStep problem.now step }
+    ensures limit { result ≡ limit problem.now channel step }
     ensures most { ForSome result (λ blocks. blocks ≤ MAX_BLOCKS) }
 {
-    match problem.limit(channel) {
+    match problem.limit(channel, step) {
         Some(blocks) => Some(u64::from(blocks)),
         None => None,
     }
@@ -98,7 +99,7 @@ fn store_link(problem: &Problem, way: Way, step: u32, store: usize) -> Link
     }
 }
 
-// The arc for the limit of a channel.
+// The arc for the limit of a channel in a step.
 fn limit_link(problem: &Problem, step: u32, channel: u8) -> Link
     requires step { IsStep problem.now step }
     requires channel { channel < CHANNELS }
@@ -108,7 +109,7 @@ fn limit_link(problem: &Problem, step: u32, channel: u8) -> Link
     Link {
         from: Node::Channel { step, channel },
         to: Node::Pass { step },
-        capacity: limit(problem, channel),
+        capacity: limit(problem, channel, step),
     }
 }
 
@@ -155,7 +156,7 @@ fn add_store_arcs(
     Ok(())
 }
 
-// Each channel lets through as many as its limit.
+// Each channel lets through as many as its limit in the step.
 fn add_limit_arcs(network: &mut Network, problem: &Problem, step: u32) -> Result<(), NoMemory>
     requires step { IsStep problem.now step }
     requires room { HasRoom problem.now network.old.graph MAX_STORES }
