@@ -1,6 +1,7 @@
 -- A push along a residual entry.
 use Rattle.std.proofs.Common.{◌≡◌, ◌≢◌, ℕ, ◌+◌, ◌-◌, ◌<◌, ◌≤◌, cond, eqb, Bool, true, false, Some, length, ap, sym, ◌∙◌, refl, arith, inl, inr, subst}
 use Rattle.std.proofs.lemmas.Bool.{cases_eq}
+use Rattle.mm_flow.specs.declared.arc.Arc.{Arc}
 use Rattle.mm_flow.specs.Graph.{Graph, arc}
 use Rattle.mm_flow.specs.Flow.{Flow, entering, leaving}
 use Rattle.mm_flow.specs.Residual.{entries, place, residual, IsPushed}
@@ -37,6 +38,10 @@ pushed_forward g old new e amount forward fits elsewhere more =
           (omega (arith, entering-changed g old new e forward elsewhere n, leaving-changed g old new e forward elsewhere n, cond-plus (eqb (arc g e).from n) (old e) amount (new e) (sym more), cond-plus (eqb (arc g e).to n) (old e) amount (new e) (sym more)));
       elsewhere = λ k other. elsewhere k (λ same. other (same ∙ sym here));
       most = omega (arith, ap new here, ap old here, more);
+      kept = λ k _. elim (cases_eq k e) [
+        | inl same ↦ omega (arith, ap new same, ap old same, more)
+        | inr other ↦ omega (arith, elsewhere k other)
+      ];
     }
 
 -- less on an arc backward
@@ -54,4 +59,5 @@ pushed_backward g old new e i amount at backward known elsewhere less =
           (omega (arith, entering-changed g old new i i_known elsewhere n, leaving-changed g old new i i_known elsewhere n, cond-plus (eqb (arc g i).from n) (new i) amount (old i) less, cond-plus (eqb (arc g i).to n) (new i) amount (old i) less));
       elsewhere = λ k other. elsewhere k (λ same. other (same ∙ sym here));
       most = omega (arith, ap new here, ap old here, less);
+      kept = λ k from. omega (arith, elsewhere k (λ same. from (ap (λ (j : ℕ). (arc g j).from) same ∙ ap (λ (a : Arc). a.from) (sym arc_at) ∙ sym (head-backward g e backward))));
     }

@@ -1,13 +1,13 @@
 -- A solver at work, from its first search to its last.
-use Rattle.std.proofs.Common.{◌≡◌, ℕ, ◌≤◌, List, length, slice_index, sym, ◌∙◌, subst, arith}
+use Rattle.std.proofs.Common.{◌≡◌, ℕ, ◌≤◌, List, length, slice_index, sym, ap, ◌∙◌, subst, arith}
 use Rattle.mm_flow.specs.declared.limits.TheConstants.{MAX_VALUE}
 use Rattle.mm_flow.specs.declared.links.Links.{Links}
 use Rattle.mm_flow.specs.declared.search.Search.{Search}
 use Rattle.mm_flow.specs.declared.solved.Solved.{Solved}
 use Rattle.mm_flow.specs.declared.tables.Tables.{Tables}
-use Rattle.mm_flow.specs.Graph.{Graph}
+use Rattle.mm_flow.specs.Graph.{Graph, arc}
 use Rattle.mm_flow.specs.Solution.{IsSolved}
-use Rattle.mm_flow.specs.Balance.{IsAugmented, IsBounded}
+use Rattle.mm_flow.specs.Balance.{IsAugmented, IsBounded, IsBegun}
 use Rattle.mm_flow.specs.Levels.{IsLevelled}
 use Rattle.mm_flow.specs.Tables.{IsAtWork}
 use Rattle.mm_flow.specs.Task.{IsTask, SameTask}
@@ -60,7 +60,17 @@ same_further first then last one two = record {
   graph = two.graph ∙ one.graph;
   source = two.source ∙ one.source;
   sink = two.sink ∙ one.sink;
+  kept = λ k leaves.
+      let leaves_then = ap (λ (g : Graph). (arc g k).from) one.graph ∙ leaves ∙ sym one.source in
+      omega (arith, one.kept k leaves, two.kept k leaves_then);
 }
+
+-- a flow of the tables' task
+pub begun_task : (g : Graph) (source sink : ℕ) (t : Tables) (solved : Solved) → IsTask g source sink t → IsBegun t.network.now.graph t.search.source t.sink solved → IsBegun g source sink solved
+begun_task g source sink t solved task is =
+    subst (λ (h : Graph). IsBegun h source sink solved) task.graph
+    (subst (λ (n : ℕ). IsBegun t.network.now.graph n sink solved) task.source
+    (subst (λ (n : ℕ). IsBegun t.network.now.graph t.search.source n solved) task.sink is))
 
 -- a solution of the tables' task
 pub solved_task : (g : Graph) (source sink : ℕ) (t : Tables) (solved : Solved) → IsTask g source sink t → IsSolved t.network.now.graph t.search.source t.sink solved → IsSolved g source sink solved

@@ -1,7 +1,8 @@
 -- What an augmentation keeps: the flow is balanced at every node.
-use Rattle.std.specs.Prelude.{◌≡◌, ℕ, ◌+◌, ◌≤◌, ◌==◌, if◌then◌else◌}
+use Rattle.std.specs.Prelude.{◌≡◌, ℕ, ◌+◌, ◌≤◌, ◌==◌, if◌then◌else◌, length, slice_index}
 use Rattle.mm_flow.specs.declared.limits.TheConstants.{MAX_VALUE}
-use Rattle.mm_flow.specs.Graph.{Graph}
+use Rattle.mm_flow.specs.declared.solved.Solved.{Solved}
+use Rattle.mm_flow.specs.Graph.{Graph, arc}
 use Rattle.mm_flow.specs.Flow.{Flow, IsFlow, IsWithin, entering, leaving}
 
 -- as much enters each node as leaves it, where the value comes to the source from outside and goes out at the sink
@@ -19,6 +20,15 @@ pub record IsAugmented (g : Graph) (source sink : ℕ) (f : Flow) (value : ℕ) 
   pub within : IsWithin g f
   pub balanced : IsBalanced g source sink f value
   pub most : (k : ℕ) → f k ≤ value
+
+-- a flow in a table, from which a solver may go on
+pub record IsBegun (g : Graph) (source sink : ℕ) (s : Solved) : Type 0 where
+  pub arcs : length s.flow.items ≡ length g.arcs
+  pub augmented : IsAugmented g source sink (slice_index s.flow.items) s.value
+
+-- no arc that leaves the source carries less
+abbrev pub KeepsSource : Graph → ℕ → Flow → Flow → Type 0
+KeepsSource g source old new = (k : ℕ) → (arc g k).from ≡ source → old k ≤ new k
 
 -- no flow has a greater value than this many arcs of the greatest capacity carry together
 abbrev pub IsBounded : Graph → ℕ → ℕ → Type 0

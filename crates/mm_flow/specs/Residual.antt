@@ -44,3 +44,4 @@ pub record IsPushed (g : Graph) (old new : Flow) (e amount : ℕ) : Type 0 where
   pub moves : (n : ℕ) → entering g new n + leaving g old n + (if tail g e == n then amount else 0) ≡ entering g old n + leaving g new n + (if head g e == n then amount else 0)
   pub elsewhere : (k : ℕ) → k ≢ place g e → new k ≡ old k
   pub most : new (place g e) ≤ old (place g e) + amount
+  pub kept : (k : ℕ) → (arc g k).from ≢ head g e → old k ≤ new k

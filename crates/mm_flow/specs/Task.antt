@@ -2,6 +2,7 @@
 use Rattle.std.specs.Prelude.{◌≡◌, ℕ, slice_index}
 use Rattle.mm_flow.specs.declared.tables.Tables.{Tables}
 use Rattle.mm_flow.specs.Graph.{Graph}
+use Rattle.mm_flow.specs.Balance.{KeepsSource}
 use Rattle.mm_flow.specs.Levels.{IsUp, HasPath}
 use Rattle.mm_flow.specs.Tables.{IsEnded}
 
@@ -11,9 +12,12 @@ pub record IsTask (g : Graph) (from to : ℕ) (t : Tables) : Type 0 where
   pub source : t.search.source ≡ from
   pub sink : t.sink ≡ to
 
--- two tables are of one network, source and sink
-abbrev pub SameTask : Tables → Tables → Type 0
-SameTask old new = IsTask old.network.now.graph old.search.source old.sink new
+-- two tables are of one network, source and sink, and by the new ones no arc that leaves the source carries less
+pub record SameTask (old new : Tables) : Type 0 where
+  pub graph : new.network.now.graph ≡ old.network.now.graph
+  pub source : new.search.source ≡ old.search.source
+  pub sink : new.sink ≡ old.sink
+  pub kept : KeepsSource old.network.now.graph old.search.source (slice_index old.flow.items) (slice_index new.flow.items)
 
 -- a path can go on by an entry
 abbrev pub IsOpen : Tables → ℕ → Type 0

@@ -21,4 +21,4 @@ pub use limits::{MAX_ARCS, MAX_CAPACITY, MAX_NODES};
 pub use mm_base::NoMemory;
 pub use network::Network;
 pub use solved::Solved;
-pub use solver::solve;
+pub use solver::{solve, solve_from};

@@ -36,7 +36,7 @@ pub(crate) struct Search {
 impl Search {
     ghost use Rattle.mm_flow.specs.declared.search.Mark.{Mark};
     ghost use Rattle.mm_flow.specs.Marks.{IsMarking, IsSearching, IsSearched, GoesOn, HasMark, level};
-    ghost use Rattle.mm_flow.specs.Balance.{IsAugmented};
+    ghost use Rattle.mm_flow.specs.Balance.{IsAugmented, KeepsSource};
     ghost use Rattle.mm_flow.specs.Levels.{IsLevelled, IsUp, HasPath};
 
     // A search from this source that has not begun.
@@ -216,6 +216,8 @@ impl Search {
             → IsAugmented network.now.graph self.now.source sink (slice_index flow.old) value
             → IsAugmented network.now.graph self.now.source sink (slice_index flow.new)
             (value + result) }
+        ensures source { KeepsSource network.now.graph self.now.source (slice_index flow.old)
+            (slice_index flow.new) }
     {
         let amount = self.bottleneck(network, flow, sink);
         self.push_along(network, flow, sink, amount);
@@ -254,10 +256,12 @@ impl Search {
         requires levelled { IsLevelled network.now.graph self.now.source self.now.marks.items }
         requires path { HasPath network.now.graph (slice_index flow.old) self.now.marks.items
             self.now.source amount sink }
-        ensures { (value : ℕ)
+        ensures augmented { (value : ℕ)
             → IsAugmented network.now.graph self.now.source sink (slice_index flow.old) value
             → IsAugmented network.now.graph self.now.source sink (slice_index flow.new)
             (value + amount) }
+        ensures source { KeepsSource network.now.graph self.now.source (slice_index flow.old)
+            (slice_index flow.new) }
     {
         let mut at = sink;
         while at != self.source {

@@ -1,5 +1,7 @@
 //! The solver that callers use.
-ghost use Rattle.std.specs.Prelude.{◌≡◌, ◌≢◌, ◌<◌, ◌↔◌, IfOk, OnOk, IsErrOf};
+ghost use Rattle.std.specs.Prelude.{◌≡◌, ◌≢◌, ◌<◌, ◌↔◌, IfOk, OnOk, IsErrOf, slice_index};
+ghost use Rattle.mm_flow.specs.Balance.{IsBegun, KeepsSource};
+ghost use Rattle.mm_flow.specs.Refusing.{RefusesFaults};
 ghost use Rattle.mm_flow.specs.Solution.{IsSolved, HasUnlimitedPath};
 
 use crate::fault::Fault;
@@ -17,6 +19,7 @@ pub fn solve(alloc: Global, network: &Network, source: u32, sink: u32) -> Result
     requires source { source < network.now.graph.nodes }
     requires sink { sink < network.now.graph.nodes }
     ensures solved { IfOk result (IsSolved network.now.graph source sink) }
+    ensures begun { IfOk result (IsBegun network.now.graph source sink) }
     ensures same_ends { IsErrOf result Fault.SameEnds ↔ (source ≡ sink) }
 
     // Want of memory aside, these two say exactly when the answer is `Unbounded`.
@@ -25,6 +28,34 @@ pub fn solve(alloc: Global, network: &Network, source: u32, sink: u32) -> Result
     ensures bounded { OnOk result (¬ HasUnlimitedPath network.now.graph source sink) }
 {
     let mut phase = Phase::new(alloc, Tables::new(alloc, network, source, sink)?)?;
+    phase.run();
+    Ok(phase.tables.solved(alloc)?)
+}
+
+/// A maximum flow and a minimum cut, as by `solve`, found by going on from a flow: what an arc that leaves the source carries does not
+/// become less, since an augmenting path never comes back to the source.
+///
+/// So sources in an order of priority are served best one after another: their arcs are opened in that order (Megiddo, 'Optimal flows in
+/// networks with multiple sources and sinks', 1974).
+pub fn solve_from(
+    alloc: Global,
+    network: &Network,
+    begun: Solved,
+    source: u32,
+    sink: u32,
+) -> Result<Solved, Fault>
+    requires source { source < network.now.graph.nodes }
+    requires sink { sink < network.now.graph.nodes }
+    requires begun { IsBegun network.now.graph source sink begun }
+    ensures solved { IfOk result (IsSolved network.now.graph source sink) }
+    ensures begun { IfOk result (IsBegun network.now.graph source sink) }
+    ensures kept { IfOk result (λ s. KeepsSource network.now.graph source
+        (slice_index begun.flow.items) (slice_index s.flow.items)) }
+    ensures refused { RefusesFaults network.now.graph source sink result }
+{
+    let mut tables = Tables::new(alloc, network, source, sink)?;
+    tables.begin_with(begun);
+    let mut phase = Phase::new(alloc, tables)?;
     phase.run();
     Ok(phase.tables.solved(alloc)?)
 }

@@ -1,5 +1,6 @@
 //! A solver at work: its tables, all reserved before its first augmentation, and the flow so far.
 ghost use Rattle.std.specs.Prelude.{◌≡◌, ◌<◌, ◌≤◌, ℕ, true, false, IfOk};
+ghost use Rattle.mm_flow.specs.Balance.{IsBegun};
 ghost use Rattle.mm_flow.specs.Refusing.{RefusesFaults};
 ghost use Rattle.mm_flow.specs.Solution.{IsSolved};
 ghost use Rattle.mm_flow.specs.Tables.{IsAtWork};
@@ -61,6 +62,16 @@ impl<'a> Tables<'a> {
             flow,
             value: 0,
         })
+    }
+
+    // Takes this flow in place of nothing.
+    pub(crate) fn begin_with(&mut self, begun: Solved)
+        requires begun { IsBegun self.old.network.now.graph self.old.search.source self.old.sink begun }
+        ensures task { IsTask self.old.network.now.graph self.old.search.source self.old.sink self.new }
+        ensures flow { self.new.flow ≡ begun.flow }
+    {
+        self.flow = begun.flow;
+        self.value = begun.value;
     }
 
     // Searches anew, and answers whether the sink was reached.
@@ -154,8 +165,11 @@ impl<'a> Tables<'a> {
     // The flow, with the nodes that the search reached as the source's side.
     pub(crate) fn solved(self, alloc: Global) -> Result<Solved, AllocError>
         requires over { IsOver self }
-        ensures { IfOk result (IsSolved self.entry.network.now.graph self.entry.search.source
+        ensures solved { IfOk result (IsSolved self.entry.network.now.graph
+            self.entry.search.source self.entry.sink) }
+        ensures begun { IfOk result (IsBegun self.entry.network.now.graph self.entry.search.source
             self.entry.sink) }
+        ensures flow { IfOk result (λ s. s.flow ≡ self.entry.flow) }
     {
         let side = self.search.side(alloc)?;
         Ok(Solved {

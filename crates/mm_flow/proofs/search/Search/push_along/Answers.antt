@@ -1,4 +1,4 @@
-use Rattle.std.proofs.Common.{◌≡◌, ◌≢◌, ℕ, slice_index, ap, subst, arith}
+use Rattle.std.proofs.Common.{◌≡◌, ◌≢◌, ℕ, slice_index, sym, ap, ◌∙◌, subst, arith}
 use Rattle.std.proofs.lemmas.List.{get_or_read}
 use Rattle.mm_flow.specs.declared.search.Mark.{Mark}
 use Rattle.mm_flow.specs.Marks.{no_mark, level}
@@ -34,6 +34,7 @@ loop-at-init c =
         untouched = untouched_start g s.marks.items f _;
       };
       balanced = λ value balanced. balanced_start g s.source c.args.sink f value c.args.amount balanced;
+      source = λ k _. omega arith;
     }
 
 pub push-requires-clause-entry : goal.push-requires-clause-entry
@@ -69,13 +70,15 @@ loop-at-preserved c =
     let invariant = c.loop-at.invariant in
     let ready = entry_ready (goal.at.loop-at-preserved c).After-index (omega arith) in
     let leaves = c.tail-at.ensures.node in
+    let inner : at ≢ source = omega arith in
     record {
       followed = followed_next g marks old now new source at entry c.tail-at.result amount invariant.followed ready c.push.ensures.pushed leaves;
       balanced = λ value balanced. rw leaves (balanced_next g source c.args.sink now new value at entry amount c.push.ensures.pushed ready.leads (invariant.balanced value balanced));
+      source = λ k leaves. omega (arith, invariant.source k leaves, c.push.ensures.pushed.kept k (λ same. inner (sym ready.leads ∙ sym same ∙ leaves)));
     }
 
-pub returns : goal.returns
-returns c =
+pub returns-clause-augmented : goal.returns-clause-augmented
+returns-clause-augmented c =
     let g = c.args.network.now.graph in
     let source = c.args.self.now.source in
     let now = slice_index c.loop-at.flow in

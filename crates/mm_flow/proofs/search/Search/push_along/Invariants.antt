@@ -1,5 +1,5 @@
 use Rattle.std.proofs.Common.{ℕ, slice_index}
-use Rattle.mm_flow.specs.Balance.{IsBalanced, IsBalancedAt}
+use Rattle.mm_flow.specs.Balance.{IsBalanced, IsBalancedAt, KeepsSource}
 use Rattle.mm_flow.specs.Marks.{level}
 use Rattle.mm_flow.proofs.Augmenting.{IsFollowed}
 use Rattle.mm_flow.proofs.search.Search.push_along.Given as goal
@@ -8,6 +8,7 @@ abbrev pub invariant-loop-at : goal.invariant-loop-at
 invariant-loop-at l = record {
   followed : IsFollowed l.network.graph l.self.marks.items (slice_index l.fn.flow) (slice_index l.flow) l.self.source l.at l.amount;
   balanced : (value : ℕ) → IsBalanced l.network.graph l.self.source l.sink (slice_index l.fn.flow) value → IsBalancedAt l.network.graph l.self.source l.sink (slice_index l.flow) value l.at l.amount;
+  source : KeepsSource l.network.graph l.self.source (slice_index l.fn.flow) (slice_index l.flow);
 }
 
 abbrev pub decreases-loop-at : goal.decreases-loop-at

@@ -9,9 +9,9 @@ use Rattle.mm_flow.specs.Marks.{no_mark}
 use Rattle.mm_flow.proofs.Ends.{reached_side, solved_by}
 use Rattle.mm_flow.proofs.tables.Tables.solved.Goals as goal
 
-pub returns : goal.returns
+pub returns-clause-solved : goal.returns-clause-solved
 unfolding reached_side
-returns c =
+returns-clause-solved c =
     let side = c.in_ok-side.side.items in
     let marks = c.args.self.search.marks.items in
     let flow = slice_index c.args.self.flow.items in
