@@ -1,7 +1,7 @@
 -- In one step, the stretches of a cut have stores of their own, so that what they lose and what leaves them is bounded.
 use Rattle.std.proofs.Common.{◌≡◌, ℕ, ◌<◌, ◌≤◌, Bool, true, false, cond, eqb, ◌&&◌, List, length, get_or, All, refl, sym, ap, ◌∙◌, subst, inl, inr, arith}
 use Rattle.std.specs.Prelude.{◌≢◌, Option, Some, None, unwrap_or, IsSome}
-use Rattle.std.specs.List.{sum_by}
+use Rattle.std.specs.List.{sum_by, range_with_len}
 use Rattle.std.specs.Str.{bytes_eq}
 use Rattle.std.proofs.lemmas.Bool.{cases_Bool, both_ways, false≢true, and_parts, eqb-true}
 use Rattle.std.proofs.lemmas.Bool.Decides.{nat_tests}
@@ -15,7 +15,7 @@ use Rattle.mm_base.proofs.RangeSums.{sum_by_range-le}
 use Rattle.mm_base.proofs.Groups.{sum_by-le_groups, sum_by-le_places}
 use Rattle.mm_problem.proofs.Limits.{limit_within}
 use Rattle.mm_problem.specs.Dumping.{Dumping, no_row, place, limit, window, is_of, stores, stores_of, channels, steps}
-use Rattle.mm_plan.specs.Volumes.{Amounts, lost, loss}
+use Rattle.mm_plan.specs.Volumes.{Amounts, lost, first_loss}
 use Rattle.mm_plan.specs.Fit.{in_step, FitsAt, Fits}
 use Rattle.mm_plan.specs.declared.stretch.Stretch.{Stretch}
 use Rattle.mm_cut.specs.Stretches.{store_of, channel_of, covers, goes_past, goes_past_on, is_inner, is_inner_on, IsStretch, AreApart, AreStretches}
@@ -40,16 +40,24 @@ other_stores q d e t is apart at_d at_e same =
     let one_store = same_place q d.store e.store is.store same in
     elim (apart one_store) [ inl before ↦ grind (arith, nat_tests) | inr after ↦ grind (arith, nat_tests) ]
 
--- over stretches that are met in one step, a sum over their stores is at most the sum over all stores
+-- over stretches of the first stores that are met in one step, a sum over their stores is at most the sum over those
+by_first_stores : (n : ℕ) (q : Dumping) (ds : List Stretch) (t : ℕ) (f : ℕ → ℕ) (test : Stretch → Bool)
+    → AreStretches q ds
+    → All (λ d. store_of q d < n) ds
+    → ((d : Stretch) → test d ≡ true → covers d t ≡ true)
+    → sum_by (λ d. cond (test d) (f (store_of q d)) 0) ds ≤ sum_by f (range_with_len 0 n)
+by_first_stores n q ds t f test are first meets =
+    sum_by-le_places f test (store_of q) n ds (λ k d inside _. first k d inside)
+    (λ i j d before inside at_i at_j.
+    let is = are.each i d (omega arith) in
+    other_stores q (get_or ds i d) (get_or ds j d) t is (are.apart i j d before inside) (meets _ at_i) (meets _ at_j))
+
+-- and of any stores at most the sum over all stores
 pub by_store : (q : Dumping) (ds : List Stretch) (t : ℕ) (f : ℕ → ℕ) (test : Stretch → Bool)
     → AreStretches q ds
     → ((d : Stretch) → test d ≡ true → covers d t ≡ true)
     → sum_by (λ d. cond (test d) (f (store_of q d)) 0) ds ≤ sum_by f (stores q)
-by_store q ds t f test are meets =
-    sum_by-le_places f test (store_of q) (length q.rows) ds (λ k d inside _. (are.each k d inside).store)
-    (λ i j d before inside at_i at_j.
-    let is = are.each i d (omega arith) in
-    other_stores q (get_or ds i d) (get_or ds j d) t is (are.apart i j d before inside) (meets _ at_i) (meets _ at_j))
+by_store q ds t f test are = by_first_stores (length q.rows) q ds t f test are (λ k d inside. (are.each k d inside).store)
 
 some_value : (o : Option ℕ) → IsSome o → o ≡ Some (unwrap_or o 0)
 some_value None some = absurd (false≢true some)
@@ -69,14 +77,14 @@ passes_neither false true n fails = refl
 passes_neither false false n fails = refl
 
 module _ (q : Dumping) (x : Amounts) (ds : List Stretch) (are : AreStretches q ds) where
-  -- what the stretches lose is at most the loss
-  pub lost_in_all : sum_by (λ d. sum_by (lost_in q x d) (steps q)) ds ≤ loss q x
-  lost_in_all =
-      let in_step : ℕ → ℕ = λ t. sum_by (λ s. lost q x s t) (stores q) in
+  -- what stretches of the first stores lose is at most what those stores lose
+  pub lost_in_first : (n : ℕ) → All (λ d. store_of q d < n) ds → sum_by (λ d. sum_by (lost_in q x d) (steps q)) ds ≤ first_loss n q x
+  lost_in_first n first =
+      let in_step : ℕ → ℕ = λ t. sum_by (λ s. lost q x s t) (range_with_len 0 n) in
       let each =
       sum_by_range-le (λ t. sum_by (λ d. lost_in q x d t) ds) in_step 1 (length q.windows)
-      (λ t _ _. by_store q ds t (λ s. lost q x s t) (λ d. covers d t) are (λ d at. at)) in
-      omega (arith, each, sum_by-swap (lost_in q x) ds (steps q), sum_by-swap (lost q x) (stores q) (steps q))
+      (λ t _ _. by_first_stores n q ds t (λ s. lost q x s t) (λ d. covers d t) are first (λ d at. at)) in
+      omega (arith, each, sum_by-swap (lost_in q x) ds (steps q), sum_by-swap (lost q x) (range_with_len 0 n) (steps q))
 
   -- in a step that is inner in no stretch, nothing leaves inner stores
   leaves_in_none : (t : ℕ) → is_inner ds t ≡ false → sum_by (leaves_in q x t) ds ≡ 0

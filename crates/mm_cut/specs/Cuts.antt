@@ -1,9 +1,9 @@
 -- Cuts, which show that no plan loses less than their bound.
-use Rattle.std.specs.Prelude.{ℕ, ◌+◌, ◌*◌, ◌≤◌, Bool, ◌==◌, ◌&&◌, not, if◌then◌else◌, List, length, filter, unwrap_or, ℤ, pos, ◌-ℤ◌, ◌≤ℤ◌}
+use Rattle.std.specs.Prelude.{ℕ, ◌+◌, ◌*◌, ◌<◌, ◌≤◌, Bool, ◌==◌, ◌&&◌, not, if◌then◌else◌, List, length, All, filter, unwrap_or, ℤ, pos, ◌-ℤ◌, ◌≤ℤ◌}
 use Rattle.std.specs.List.{sum_by}
 use Rattle.mm_base.specs.declared.limits.TheConstants.{MAX_STORES, MAX_STEPS}
 use Rattle.mm_problem.specs.Dumping.{Dumping, IsDumping, size, start, limit, window, arrivals, steps, channels}
-use Rattle.mm_plan.specs.Volumes.{Amounts, loss}
+use Rattle.mm_plan.specs.Volumes.{Amounts, loss, first_loss}
 use Rattle.mm_plan.specs.Fit.{Fits}
 use Rattle.mm_plan.specs.declared.stretch.Stretch.{Stretch}
 use Rattle.mm_cut.specs.Stretches.{store_of, covers, is_inner, is_inner_on, AreStretches}
@@ -74,6 +74,17 @@ bound q ds ts = pos (coming_sum q ds) -ℤ pos (held_sum q ds + leaving_sum q ds
 abbrev pub CutsBoundLosses : Type 0
 CutsBoundLosses =
     (q : Dumping) (x : Amounts) (ds : List Stretch) (ts : List ℕ) → Fits q x → IsCut q ds ts → bound q ds ts ≤ℤ pos (loss q x)
+
+-- a cut whose stretches are of the first stores
+pub record IsFirstCut (k : ℕ) (q : Dumping) (ds : List Stretch) (ts : List ℕ) : Type 0 where
+  pub cut : IsCut q ds ts
+  pub first : All (λ d. store_of q d < k) ds
+
+-- no plan that fits loses less of the first stores than the bound of any cut of them
+abbrev pub FirstCutsBoundLosses : Type 0
+FirstCutsBoundLosses =
+    (k : ℕ) (q : Dumping) (x : Amounts) (ds : List Stretch) (ts : List ℕ) → Fits q x → IsFirstCut k q ds ts
+    → bound q ds ts ≤ℤ pos (first_loss k q x)
 
 -- a cut has at most one stretch for each store and step, and counts each step once at the most
 abbrev pub CutsAreFew : Type 0

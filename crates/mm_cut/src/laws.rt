@@ -1,11 +1,16 @@
 //! The laws of cuts and verdicts, over their definitions alone.
 ghost use Rattle.mm_cut.specs.Changes.{CutsCountAlike, OnlyCountedHelps};
-ghost use Rattle.mm_cut.specs.Cuts.{CutsBoundLosses, CutsAreFew};
+ghost use Rattle.mm_cut.specs.Cuts.{CutsBoundLosses, FirstCutsBoundLosses, CutsAreFew};
 ghost use Rattle.mm_cut.specs.Verdicts.{VerdictsExclude};
 
 /// No plan that fits loses less than the bound of any cut.
 pub fn cuts_bound_losses()
     ensures { CutsBoundLosses }
+{}
+
+/// No plan that fits loses less of the first stores than the bound of any cut whose stretches are theirs.
+pub fn first_cuts_bound_losses()
+    ensures { FirstCutsBoundLosses }
 {}
 
 /// Of one plan, cut, printed loss and printed bound no two verdicts hold.

@@ -16,7 +16,8 @@ pub use check::{check_bytes, read_sheet, read_texts, verdict_of};
 pub use counts::{first_bad_count, is_inner};
 pub use fault::Fault;
 pub use laws::{
-    cuts_are_few, cuts_bound_losses, cuts_count_alike, only_counted_helps, verdicts_exclude,
+    cuts_are_few, cuts_bound_losses, cuts_count_alike, first_cuts_bound_losses, only_counted_helps,
+    verdicts_exclude,
 };
 pub use lines::verdict_line;
 pub use marks::{STEP_PLACES, inner_steps, listed_steps};

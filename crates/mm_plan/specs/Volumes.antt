@@ -1,6 +1,6 @@
 -- What a plan does to the stores of a problem.
 use Rattle.std.specs.Prelude.{ℕ, zero, suc, ◌+◌, ◌-◌, min}
-use Rattle.std.specs.List.{sum_by}
+use Rattle.std.specs.List.{sum_by, range_with_len}
 use Rattle.mm_problem.specs.Dumping.{Dumping, size, start, arrivals, stores, steps}
 
 -- a plan: the blocks that are to leave each store in each step, if it holds as many
@@ -29,3 +29,7 @@ store_loss q x s = sum_by (lost q x s) (steps q)
 -- what all stores lose over all steps
 abbrev pub loss : Dumping → Amounts → ℕ
 loss q x = sum_by (store_loss q x) (stores q)
+
+-- what the first stores lose over all steps
+abbrev pub first_loss : ℕ → Dumping → Amounts → ℕ
+first_loss k q x = sum_by (store_loss q x) (range_with_len 0 k)
