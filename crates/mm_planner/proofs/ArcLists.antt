@@ -1,5 +1,6 @@
 -- Graphs to which arcs are added.
-use Rattle.std.proofs.Common.{◌≡◌, ℕ, zero, suc, ◌+◌, ◌-◌, ◌*◌, ◌≤◌, List, [], ◌∷◌, ◌++◌, length, sym, ap, ◌∙◌, arith, append_assoc, append-nil, length-append}
+use Rattle.std.proofs.Common.{◌≡◌, ℕ, zero, suc, ◌+◌, ◌-◌, ◌*◌, ◌<◌, ◌≤◌, ltb, cond, List, [], ◌∷◌, ◌++◌, Some, length, refl, sym, ap, ◌∙◌, arith, append_assoc, append-nil, length-append}
+use Rattle.std.proofs.lemmas.Bool.{cond-true, lt-ltb}
 use Rattle.std.specs.Prelude.{map}
 use Rattle.std.specs.List.{range_with_len, flat_map}
 use Rattle.std.proofs.Math.Nat.{mul-le-mul}
@@ -11,8 +12,10 @@ use Rattle.mm_flow.specs.Graph.{Graph}
 use Rattle.mm_flow.specs.Built.{Built, with_arc}
 use Rattle.mm_flow.specs.declared.limits.TheConstants.{MAX_ARCS}
 use Rattle.mm_base.specs.declared.limits.TheConstants.{MAX_STORES}
-use Rattle.mm_problem.specs.Dumping.{Dumping, IsDumping}
-use Rattle.mm_planner.specs.Network.{step_arcs, arcs_of}
+use Rattle.mm_problem.specs.Dumping.{Dumping, IsDumping, stores, channels}
+use Rattle.mm_planner.specs.Network.{Inflows, inflow, first_inflow, joined, store_arc, limit_arc, window_arc, step_arcs, arcs_of, net_by, net}
+use Rattle.mm_planner.specs.declared.nodes.Node.TheVariants.{Source, In}
+use Rattle.mm_planner.specs.declared.way.Way.TheVariants.{Come, Hold, Keep, Take}
 use Rattle.mm_planner.specs.Taken.{step_width}
 use Rattle.mm_planner.proofs.ArcSums.{length-step}
 use Rattle.mm_planner.specs.Growing.{with_arcs, HasRoom, KeepsRoom}
@@ -56,14 +59,14 @@ arcs_push b d g make n a so_far added is =
     refl_zero = omega arith
 
 -- how many arcs the steps of a range have
-length-steps : (q : Dumping) (t n : ℕ) → length (flat_map (step_arcs q) (range_with_len t n)) ≡ n * step_width q
-length-steps q t zero = omega arith
-length-steps q t (suc n) =
-    omega (arith, length-append (step_arcs q t) (flat_map (step_arcs q) (range_with_len (t + 1) n)), length-step q t, length-steps q (t + 1) n)
+length-steps : (q : Dumping) (a : Inflows) (t n : ℕ) → length (flat_map (step_arcs q a) (range_with_len t n)) ≡ n * step_width q
+length-steps q a t zero = omega arith
+length-steps q a t (suc n) =
+    omega (arith, length-append (step_arcs q a t) (flat_map (step_arcs q a) (range_with_len (t + 1) n)), length-step q a t, length-steps q a (t + 1) n)
 
 -- how many arcs the first steps have
-pub length-arcs_of : (q : Dumping) (n : ℕ) → length (arcs_of q n) ≡ n * step_width q
-length-arcs_of q n = length-steps q 1 n
+pub length-arcs_of : (q : Dumping) (a : Inflows) (n : ℕ) → length (arcs_of q a n) ≡ n * step_width q
+length-arcs_of q a n = length-steps q a 1 n
 
 -- there is room for the arcs of a step
 pub few_arcs : (q : Dumping) (t : ℕ) → IsDumping q → t ≤ length q.windows → (t - 1) * step_width q + 6 * MAX_STORES ≤ MAX_ARCS
@@ -73,8 +76,30 @@ few_arcs q t is within =
     omega (arith, mul-le-mul before width)
 
 -- the arcs of one step more
-pub arcs_of_more : (q : Dumping) (t : ℕ) → 1 ≤ t → arcs_of q (t + 1 - 1) ≡ arcs_of q (t - 1) ++ step_arcs q t
-arcs_of_more q t first =
-    ap (flat_map (step_arcs q)) (range_with_len_next t first)
-    ∙ flat_map-append (step_arcs q) (range_with_len 1 (t - 1)) (t ∷ [])
-    ∙ ap (λ one. flat_map (step_arcs q) (range_with_len 1 (t - 1)) ++ one) (append-nil (step_arcs q t))
+pub arcs_of_more : (q : Dumping) (a : Inflows) (t : ℕ) → 1 ≤ t → arcs_of q a (t + 1 - 1) ≡ arcs_of q a (t - 1) ++ step_arcs q a t
+arcs_of_more q a t first =
+    ap (flat_map (step_arcs q a)) (range_with_len_next t first)
+    ∙ flat_map-append (step_arcs q a) (range_with_len 1 (t - 1)) (t ∷ [])
+    ∙ ap (λ one. flat_map (step_arcs q a) (range_with_len 1 (t - 1)) ++ one) (append-nil (step_arcs q a t))
+
+-- what the numbers of a range are made into, where two ways agree on them
+map_range_same : {X : Type 0} (f g : ℕ → X) (i n : ℕ) → ((k : ℕ) → i ≤ k → k < i + n → f k ≡ g k) → map f (range_with_len i n) ≡ map g (range_with_len i n)
+map_range_same f g i zero each = refl
+map_range_same f g i (suc n) each =
+    ap (λ x. x ∷ map f (range_with_len (i + 1) n)) (each i (omega arith) (omega arith))
+    ∙ ap (λ xs. g i ∷ xs) (map_range_same f g (i + 1) n (λ k low high. each k (omega arith) (omega arith)))
+
+-- where blocks come to the first stores, and these are all, they come to all
+pub net_all : (q : Dumping) → net_by q (first_inflow (length q.rows) q) ≡ net q
+net_all q = ap (λ (arcs : List Arc). let g : Graph = record { nodes = (net q).nodes; arcs = arcs } in g) all_steps
+  where
+    -- in each step
+    in_step : (t : ℕ) → step_arcs q (first_inflow (length q.rows) q) t ≡ step_arcs q (inflow q) t
+    in_step t =
+        ap (λ (come : List Arc). come ++ map (store_arc q (inflow q) Hold t) (stores q) ++ map (store_arc q (inflow q) Keep t) (stores q) ++ map (store_arc q (inflow q) Take t) (stores q) ++ map (limit_arc q t) (channels q) ++ window_arc q t ∷ [])
+        (map_range_same (store_arc q (first_inflow (length q.rows) q) Come t) (store_arc q (inflow q) Come t) 0 (length q.rows)
+        (λ s _ below. ap (λ (n : ℕ). joined Source (In t s) (Some n)) (cond-true (ltb s (length q.rows)) (inflow q t s) 0 (lt-ltb s (length q.rows) (omega arith)))))
+
+    -- in all
+    all_steps : arcs_of q (first_inflow (length q.rows) q) (length q.windows) ≡ arcs_of q (inflow q) (length q.windows)
+    all_steps = λ i. flat_map (λ t. in_step t i) (range_with_len 1 (length q.windows))

@@ -11,7 +11,7 @@ use Rattle.mm_problem.specs.Dumping.{Dumping, stores, channels}
 use Rattle.mm_flow.specs.declared.arc.Arc.{Arc}
 use Rattle.mm_flow.specs.Graph.{no_arc, arc, places}
 use Rattle.mm_planner.specs.declared.way.Way.TheVariants.{Come, Hold, Keep, Take}
-use Rattle.mm_planner.specs.Network.{limit_arc, window_arc, step_arcs, arcs_of, net, store_arc}
+use Rattle.mm_planner.specs.Network.{Inflows, limit_arc, window_arc, step_arcs, arcs_of, net_by, store_arc}
 use Rattle.mm_planner.specs.Taken.{step_width, first_arc, take_place}
 
 -- the numbers of the other arcs of a step
@@ -106,24 +106,24 @@ arcs_sum-six F i r l a b c d e w of_a of_b of_c of_d of_e =
     )
 
 -- how many arcs a step has
-pub length-step : (q : Dumping) (t : ℕ) → length (step_arcs q t) ≡ step_width q
-length-step q t =
-    let a = map (store_arc q Come t) (stores q) in
-    let b = map (store_arc q Hold t) (stores q) in
-    let c = map (store_arc q Keep t) (stores q) in
-    let d = map (store_arc q Take t) (stores q) in
+pub length-step : (q : Dumping) (a : Inflows) (t : ℕ) → length (step_arcs q a t) ≡ step_width q
+length-step q a t =
+    let a1 = map (store_arc q a Come t) (stores q) in
+    let b = map (store_arc q a Hold t) (stores q) in
+    let c = map (store_arc q a Keep t) (stores q) in
+    let d = map (store_arc q a Take t) (stores q) in
     let e = map (limit_arc q t) (channels q) in
     omega (
       arith,
-      length-append (a ++ b ++ c ++ d ++ e) (window_arc q t ∷ []),
-      length-append (a ++ b ++ c ++ d) e,
-      length-append (a ++ b ++ c) d,
-      length-append (a ++ b) c,
-      length-append a b,
-      length-map-range_with_len (store_arc q Come t) 0 (length q.rows),
-      length-map-range_with_len (store_arc q Hold t) 0 (length q.rows),
-      length-map-range_with_len (store_arc q Keep t) 0 (length q.rows),
-      length-map-range_with_len (store_arc q Take t) 0 (length q.rows),
+      length-append (a1 ++ b ++ c ++ d ++ e) (window_arc q t ∷ []),
+      length-append (a1 ++ b ++ c ++ d) e,
+      length-append (a1 ++ b ++ c) d,
+      length-append (a1 ++ b) c,
+      length-append a1 b,
+      length-map-range_with_len (store_arc q a Come t) 0 (length q.rows),
+      length-map-range_with_len (store_arc q a Hold t) 0 (length q.rows),
+      length-map-range_with_len (store_arc q a Keep t) 0 (length q.rows),
+      length-map-range_with_len (store_arc q a Take t) 0 (length q.rows),
       length-map-range_with_len (limit_arc q t) 0 (length q.limits),
     )
 
@@ -132,41 +132,41 @@ abbrev pub kind_sum : (ℕ → Arc → ℕ) → (ℕ → ℕ → ℕ) → (ℕ �
 kind_sum F place make t k = F (place t k) (make t k)
 
 -- a sum over the arcs of a step, kind by kind
-step_sum : (q : Dumping) (F : ℕ → Arc → ℕ) (t : ℕ) → arcs_sum F (first_arc q t) (step_arcs q t) ≡ sum_by (kind_sum F (come_place q) (store_arc q Come) t) (stores q) + sum_by (kind_sum F (hold_place q) (store_arc q Hold) t) (stores q) + sum_by (kind_sum F (keep_place q) (store_arc q Keep) t) (stores q) + sum_by (kind_sum F (take_place q) (store_arc q Take) t) (stores q) + sum_by (kind_sum F (limit_place q) (limit_arc q) t) (channels q) + F (window_place q t) (window_arc q t)
-step_sum q F t =
+step_sum : (q : Dumping) (a : Inflows) (F : ℕ → Arc → ℕ) (t : ℕ) → arcs_sum F (first_arc q t) (step_arcs q a t) ≡ sum_by (kind_sum F (come_place q) (store_arc q a Come) t) (stores q) + sum_by (kind_sum F (hold_place q) (store_arc q a Hold) t) (stores q) + sum_by (kind_sum F (keep_place q) (store_arc q a Keep) t) (stores q) + sum_by (kind_sum F (take_place q) (store_arc q a Take) t) (stores q) + sum_by (kind_sum F (limit_place q) (limit_arc q) t) (channels q) + F (window_place q t) (window_arc q t)
+step_sum q a F t =
     let i = first_arc q t in
     let r = length q.rows in
     let l = length q.limits in
     omega (
       arith,
-      arcs_sum-six F i r l (map (store_arc q Come t) (stores q)) (map (store_arc q Hold t) (stores q)) (map (store_arc q Keep t) (stores q)) (map (store_arc q Take t) (stores q)) (map (limit_arc q t) (channels q)) (window_arc q t)
-          (length-map-range_with_len (store_arc q Come t) 0 r) (length-map-range_with_len (store_arc q Hold t) 0 r) (length-map-range_with_len (store_arc q Keep t) 0 r) (length-map-range_with_len (store_arc q Take t) 0 r) (length-map-range_with_len (limit_arc q t) 0 l),
-      arcs_sum-map F (store_arc q Come t) i 0 r i (omega arith),
-      arcs_sum-map F (store_arc q Hold t) (i + r) 0 r (i + r) (omega arith),
-      arcs_sum-map F (store_arc q Keep t) (i + 2 * r) 0 r (i + 2 * r) (omega arith),
-      arcs_sum-map F (store_arc q Take t) (i + 3 * r) 0 r (i + 3 * r) (omega arith),
+      arcs_sum-six F i r l (map (store_arc q a Come t) (stores q)) (map (store_arc q a Hold t) (stores q)) (map (store_arc q a Keep t) (stores q)) (map (store_arc q a Take t) (stores q)) (map (limit_arc q t) (channels q)) (window_arc q t)
+          (length-map-range_with_len (store_arc q a Come t) 0 r) (length-map-range_with_len (store_arc q a Hold t) 0 r) (length-map-range_with_len (store_arc q a Keep t) 0 r) (length-map-range_with_len (store_arc q a Take t) 0 r) (length-map-range_with_len (limit_arc q t) 0 l),
+      arcs_sum-map F (store_arc q a Come t) i 0 r i (omega arith),
+      arcs_sum-map F (store_arc q a Hold t) (i + r) 0 r (i + r) (omega arith),
+      arcs_sum-map F (store_arc q a Keep t) (i + 2 * r) 0 r (i + 2 * r) (omega arith),
+      arcs_sum-map F (store_arc q a Take t) (i + 3 * r) 0 r (i + 3 * r) (omega arith),
       arcs_sum-map F (limit_arc q t) (i + 4 * r) 0 l (i + 4 * r) (omega arith),
     )
 
 -- a sum over all arcs, kind by kind
-pub arcs_by_kind : (q : Dumping) (F : ℕ → Arc → ℕ) → sum_by (λ k. F k (arc (net q) k)) (places (net q)) ≡ grid (kind_sum F (come_place q) (store_arc q Come)) (length q.windows) (length q.rows) + grid (kind_sum F (hold_place q) (store_arc q Hold)) (length q.windows) (length q.rows) + grid (kind_sum F (keep_place q) (store_arc q Keep)) (length q.windows) (length q.rows) + grid (kind_sum F (take_place q) (store_arc q Take)) (length q.windows) (length q.rows) + grid (kind_sum F (limit_place q) (limit_arc q)) (length q.windows) (length q.limits) + sum_by (λ t. F (window_place q t) (window_arc q t)) (range_with_len 1 (length q.windows))
-arcs_by_kind q F =
+pub arcs_by_kind : (q : Dumping) (a : Inflows) (F : ℕ → Arc → ℕ) → sum_by (λ k. F k (arc (net_by q a) k)) (places (net_by q a)) ≡ grid (kind_sum F (come_place q) (store_arc q a Come)) (length q.windows) (length q.rows) + grid (kind_sum F (hold_place q) (store_arc q a Hold)) (length q.windows) (length q.rows) + grid (kind_sum F (keep_place q) (store_arc q a Keep)) (length q.windows) (length q.rows) + grid (kind_sum F (take_place q) (store_arc q a Take)) (length q.windows) (length q.rows) + grid (kind_sum F (limit_place q) (limit_arc q)) (length q.windows) (length q.limits) + sum_by (λ t. F (window_place q t) (window_arc q t)) (range_with_len 1 (length q.windows))
+arcs_by_kind q a F =
     let m = length q.windows in
     let steps_range = range_with_len 1 m in
-    let come : ℕ → ℕ = λ t. sum_by (kind_sum F (come_place q) (store_arc q Come) t) (stores q) in
-    let hold : ℕ → ℕ = λ t. sum_by (kind_sum F (hold_place q) (store_arc q Hold) t) (stores q) in
-    let keep : ℕ → ℕ = λ t. sum_by (kind_sum F (keep_place q) (store_arc q Keep) t) (stores q) in
-    let takes : ℕ → ℕ = λ t. sum_by (kind_sum F (take_place q) (store_arc q Take) t) (stores q) in
+    let come : ℕ → ℕ = λ t. sum_by (kind_sum F (come_place q) (store_arc q a Come) t) (stores q) in
+    let hold : ℕ → ℕ = λ t. sum_by (kind_sum F (hold_place q) (store_arc q a Hold) t) (stores q) in
+    let keep : ℕ → ℕ = λ t. sum_by (kind_sum F (keep_place q) (store_arc q a Keep) t) (stores q) in
+    let takes : ℕ → ℕ = λ t. sum_by (kind_sum F (take_place q) (store_arc q a Take) t) (stores q) in
     let limits : ℕ → ℕ = λ t. sum_by (kind_sum F (limit_place q) (limit_arc q) t) (channels q) in
     let windows : ℕ → ℕ = λ t. F (window_place q t) (window_arc q t) in
-    let zero_first : sum_by (λ k. F k (arc (net q) k)) (places (net q)) ≡ sum_by (λ k. F (0 + k) (arc (net q) k)) (places (net q)) =
-    sum_by-same (λ k. F k (arc (net q) k)) (λ k. F (0 + k) (arc (net q) k)) (places (net q)) (λ i d _. let k = get_or (places (net q)) i d in let same : k ≡ 0 + k = omega arith in ap (λ j. F j (arc (net q) k)) same) in
-    let by_steps = arcs_sum-steps F (step_arcs q) (step_width q) (length-step q) 1 m 0 (omega arith) (omega arith) in
-    let each = sum_by-same (λ t. arcs_sum F (first_arc q t) (step_arcs q t)) (λ t. come t + hold t + keep t + takes t + limits t + windows t) steps_range (λ i d _. step_sum q F (get_or steps_range i d)) in
+    let zero_first : sum_by (λ k. F k (arc (net_by q a) k)) (places (net_by q a)) ≡ sum_by (λ k. F (0 + k) (arc (net_by q a) k)) (places (net_by q a)) =
+    sum_by-same (λ k. F k (arc (net_by q a) k)) (λ k. F (0 + k) (arc (net_by q a) k)) (places (net_by q a)) (λ i d _. let k = get_or (places (net_by q a)) i d in let same : k ≡ 0 + k = omega arith in ap (λ j. F j (arc (net_by q a) k)) same) in
+    let by_steps = arcs_sum-steps F (step_arcs q a) (step_width q) (length-step q a) 1 m 0 (omega arith) (omega arith) in
+    let each = sum_by-same (λ t. arcs_sum F (first_arc q t) (step_arcs q a t)) (λ t. come t + hold t + keep t + takes t + limits t + windows t) steps_range (λ i d _. step_sum q a F (get_or steps_range i d)) in
     omega (
       arith,
       zero_first,
-      arcs_sum-places F (arcs_of q m) 0,
+      arcs_sum-places F (arcs_of q a m) 0,
       by_steps,
       each,
       sum_by-add (λ t. come t + hold t + keep t + takes t + limits t) windows steps_range,

@@ -12,7 +12,7 @@ use Rattle.mm_planner.specs.declared.nodes.Node.{Node}
 use Rattle.mm_planner.specs.declared.nodes.Node.TheVariants.{Source, Sink, In, Out, Channel, Pass}
 use Rattle.mm_planner.specs.declared.nodes.TheConstants.{SOURCE, SINK}
 use Rattle.mm_planner.specs.Nodes.{number_of}
-use Rattle.mm_planner.specs.Network.{next_node, net}
+use Rattle.mm_planner.specs.Network.{Inflows, next_node, net_by}
 use Rattle.mm_planner.proofs.NodeNumbers.{IsNode, is_same}
 use Rattle.mm_planner.proofs.KindSums.{come, hold, keep, leave, pass_on, send, at_node, next_cases, entering_kinds, leaving_kinds}
 
@@ -84,7 +84,7 @@ exits q f (Out t s) = keep q f t s + leave q f t s
 exits q f (Channel t c) = pass_on q f t c
 exits q f (Pass t) = send q f t
 
-module _ (q : Dumping) (is : IsDumping q) (f : Flow) where
+module _ (q : Dumping) (a : Inflows) (is : IsDumping q) (f : Flow) where
   -- the nodes that are met are the network's
   is_node : (n : Node) → IsMet q n → IsNode n
   is_node Source met = tt
@@ -128,36 +128,36 @@ module _ (q : Dumping) (is : IsDumping q) (f : Flow) where
       ]
 
   -- what enters a node
-  pub entering_is : (n : Node) → IsMet q n → entering (net q) f (number_of n) ≡ enters q f n
+  pub entering_is : (n : Node) → IsMet q n → entering (net_by q a) f (number_of n) ≡ enters q f n
   entering_is Source met =
-      omega (arith, entering_kinds q is f Source tt, nothing (length q.windows) (length q.rows), nothing (length q.windows) (length q.limits), no_step (length q.windows), none_kept Source refl (λ _ _ _. refl))
+      omega (arith, entering_kinds q a is f Source tt, nothing (length q.windows) (length q.rows), nothing (length q.windows) (length q.limits), no_step (length q.windows), none_kept Source refl (λ _ _ _. refl))
   entering_is Sink met = absurd met
   entering_is (In zero s) met = absurd met
   entering_is (In (suc t) s) met =
-      omega (arith, entering_kinds q is f (In (suc t) s) (is_node (In (suc t) s) met), nothing (length q.windows) (length q.rows), nothing (length q.windows) (length q.limits), no_step (length q.windows), at_place (come q f) (length q.windows) (length q.rows) (suc t) s (omega arith) (omega (arith, met.0)) met.1, kept_into t s met.0 met.1)
+      omega (arith, entering_kinds q a is f (In (suc t) s) (is_node (In (suc t) s) met), nothing (length q.windows) (length q.rows), nothing (length q.windows) (length q.limits), no_step (length q.windows), at_place (come q f) (length q.windows) (length q.rows) (suc t) s (omega arith) (omega (arith, met.0)) met.1, kept_into t s met.0 met.1)
   entering_is (Out t s) met =
-      omega (arith, entering_kinds q is f (Out t s) (is_node (Out t s) met), nothing (length q.windows) (length q.rows), nothing (length q.windows) (length q.limits), no_step (length q.windows), at_place (hold q f) (length q.windows) (length q.rows) t s met.0 met.1 met.2, none_kept (Out t s) refl (λ _ _ _. refl))
+      omega (arith, entering_kinds q a is f (Out t s) (is_node (Out t s) met), nothing (length q.windows) (length q.rows), nothing (length q.windows) (length q.limits), no_step (length q.windows), at_place (hold q f) (length q.windows) (length q.rows) t s met.0 met.1 met.2, none_kept (Out t s) refl (λ _ _ _. refl))
   entering_is (Channel t c) met =
-      omega (arith, entering_kinds q is f (Channel t c) (is_node (Channel t c) met), nothing (length q.windows) (length q.rows), nothing (length q.windows) (length q.limits), no_step (length q.windows), at_group (leave q f) (channel q) (length q.windows) (length q.rows) t c met.0 met.1, none_kept (Channel t c) refl (λ _ _ _. refl))
+      omega (arith, entering_kinds q a is f (Channel t c) (is_node (Channel t c) met), nothing (length q.windows) (length q.rows), nothing (length q.windows) (length q.limits), no_step (length q.windows), at_group (leave q f) (channel q) (length q.windows) (length q.rows) t c met.0 met.1, none_kept (Channel t c) refl (λ _ _ _. refl))
   entering_is (Pass t) met =
-      omega (arith, entering_kinds q is f (Pass t) (is_node (Pass t) met), nothing (length q.windows) (length q.rows), no_step (length q.windows), at_step (pass_on q f) (length q.windows) (length q.limits) t met.0 met.1, none_kept (Pass t) refl (λ _ _ _. refl))
+      omega (arith, entering_kinds q a is f (Pass t) (is_node (Pass t) met), nothing (length q.windows) (length q.rows), no_step (length q.windows), at_step (pass_on q f) (length q.windows) (length q.limits) t met.0 met.1, none_kept (Pass t) refl (λ _ _ _. refl))
 
   -- what leaves a node
-  pub leaving_is : (n : Node) → IsMet q n → leaving (net q) f (number_of n) ≡ exits q f n
+  pub leaving_is : (n : Node) → IsMet q n → leaving (net_by q a) f (number_of n) ≡ exits q f n
   leaving_is Source met =
-      omega (arith, leaving_kinds q is f Source tt, nothing (length q.windows) (length q.rows), nothing (length q.windows) (length q.limits), no_step (length q.windows))
+      omega (arith, leaving_kinds q a is f Source tt, nothing (length q.windows) (length q.rows), nothing (length q.windows) (length q.limits), no_step (length q.windows))
   leaving_is Sink met = absurd met
   leaving_is (In zero s) met = absurd met
   leaving_is (In (suc t) s) met =
-      omega (arith, leaving_kinds q is f (In (suc t) s) (is_node (In (suc t) s) met), nothing (length q.windows) (length q.rows), nothing (length q.windows) (length q.limits), no_step (length q.windows), at_place (hold q f) (length q.windows) (length q.rows) (suc t) s (omega arith) (omega (arith, met.0)) met.1)
+      omega (arith, leaving_kinds q a is f (In (suc t) s) (is_node (In (suc t) s) met), nothing (length q.windows) (length q.rows), nothing (length q.windows) (length q.limits), no_step (length q.windows), at_place (hold q f) (length q.windows) (length q.rows) (suc t) s (omega arith) (omega (arith, met.0)) met.1)
   leaving_is (Out t s) met =
-      omega (arith, leaving_kinds q is f (Out t s) (is_node (Out t s) met), nothing (length q.windows) (length q.rows), nothing (length q.windows) (length q.limits), no_step (length q.windows), at_place (keep q f) (length q.windows) (length q.rows) t s met.0 met.1 met.2, at_place (leave q f) (length q.windows) (length q.rows) t s met.0 met.1 met.2)
+      omega (arith, leaving_kinds q a is f (Out t s) (is_node (Out t s) met), nothing (length q.windows) (length q.rows), nothing (length q.windows) (length q.limits), no_step (length q.windows), at_place (keep q f) (length q.windows) (length q.rows) t s met.0 met.1 met.2, at_place (leave q f) (length q.windows) (length q.rows) t s met.0 met.1 met.2)
   leaving_is (Channel t c) met =
-      omega (arith, leaving_kinds q is f (Channel t c) (is_node (Channel t c) met), nothing (length q.windows) (length q.rows), no_step (length q.windows), at_place (pass_on q f) (length q.windows) (length q.limits) t c met.0 met.1 met.2)
+      omega (arith, leaving_kinds q a is f (Channel t c) (is_node (Channel t c) met), nothing (length q.windows) (length q.rows), no_step (length q.windows), at_place (pass_on q f) (length q.windows) (length q.limits) t c met.0 met.1 met.2)
   leaving_is (Pass t) met =
       omega (
         arith,
-        leaving_kinds q is f (Pass t) (is_node (Pass t) met),
+        leaving_kinds q a is f (Pass t) (is_node (Pass t) met),
         nothing (length q.windows) (length q.rows),
         nothing (length q.windows) (length q.limits),
         sum_by_range_one (λ u. cond (eqb u t) (send q f u) 0) 1 (length q.windows) t met.0 (omega (arith, met.1)) (λ u _ _ other. cond-eqb_other u t (send q f u) other),
@@ -166,11 +166,11 @@ module _ (q : Dumping) (is : IsDumping q) (f : Flow) where
 
 -- ---- flows
 
-module _ (q : Dumping) (is : IsDumping q) (f : Flow) (value : ℕ) (flow : IsFlow (net q) SOURCE SINK f value) where
+module _ (q : Dumping) (a : Inflows) (is : IsDumping q) (f : Flow) (value : ℕ) (flow : IsFlow (net_by q a) SOURCE SINK f value) where
   -- as much enters a node of a step as leaves it
   conserved : (n : Node) → IsMet q n → number_of n ≢ SOURCE → number_of n ≢ SINK → enters q f n ≡ exits q f n
   conserved n met no_source no_sink =
-      sym (entering_is q is f n met) ∙ flow.conserved (number_of n) no_source no_sink ∙ leaving_is q is f n met
+      sym (entering_is q a is f n met) ∙ flow.conserved (number_of n) no_source no_sink ∙ leaving_is q a is f n met
 
   -- what comes to a store and what it kept is what it holds
   pub in_conserved : (t s : ℕ) → t < length q.windows → s < length q.rows → come q f (suc t) s + carried q f t s ≡ hold q f (suc t) s
@@ -190,4 +190,4 @@ module _ (q : Dumping) (is : IsDumping q) (f : Flow) (value : ℕ) (flow : IsFlo
 
   -- what comes to all stores is the flow's value
   pub come_is_value : grid (come q f) (length q.windows) (length q.rows) ≡ value
-  come_is_value = omega (arith, flow.has_value, entering_is q is f Source tt, leaving_is q is f Source tt)
+  come_is_value = omega (arith, flow.has_value, entering_is q a is f Source tt, leaving_is q a is f Source tt)

@@ -9,7 +9,7 @@ use Rattle.mm_base.proofs.RangeSums.{sum_by_range_more, sum_by_range-le, sum_by_
 use Rattle.mm_base.proofs.Ranges.{All-range_with_len}
 use Rattle.mm_base.proofs.Sums.{sum_by-add, sum_by-filter, sum_by-swap}
 use Rattle.mm_problem.specs.Dumping.{Dumping, IsDumping, start, channel, window, arrivals, is_of, stores, steps}
-use Rattle.mm_plan.specs.Volumes.{Amounts, left, written, lost, store_loss, loss}
+use Rattle.mm_plan.specs.Volumes.{Amounts, left, written, lost, store_loss, loss, first_loss}
 use Rattle.mm_plan.specs.Fit.{in_step, FitsLimit, Fits}
 use Rattle.mm_plan.proofs.Steps.{left_step, left_start}
 use Rattle.mm_flow.specs.Flow.{Flow, IsFlow}
@@ -48,20 +48,20 @@ module _ (q : Dumping) (is : IsDumping q) (f : Flow) (value : ℕ) (flow : IsFlo
   -- what comes and what was kept is at most what arrives and what was left
   comes_within : (t s : ℕ) → t < length q.windows → s < length q.rows → carried q f t s ≤ left q x s t → come q f (suc t) s + carried q f t s ≤ left q x s t + arrivals q s (suc t)
   comes_within zero s within below so_far =
-      omega (arith, come_within q f flow.within (suc zero) s (omega arith) (omega arith) below, inflow_is q zero s, left_start q x s)
+      omega (arith, come_within q (inflow q) f flow.within (suc zero) s (omega arith) (omega arith) below, inflow_is q zero s, left_start q x s)
   comes_within (suc t) s within below so_far =
-      omega (arith, come_within q f flow.within (suc (suc t)) s (omega arith) (omega arith) below, inflow_is q (suc t) s, so_far)
+      omega (arith, come_within q (inflow q) f flow.within (suc (suc t)) s (omega arith) (omega arith) below, inflow_is q (suc t) s, so_far)
 
   -- what a flow holds is written
   hold_written : (t s : ℕ) → t < length q.windows → s < length q.rows → carried q f t s ≤ left q x s t → hold q f (suc t) s ≤ written q x s (suc t)
   hold_written t s within below so_far =
-      omega (arith, comes_within t s within below so_far, in_conserved q is f value flow t s within below, hold_within q f flow.within (suc t) s (omega arith) (omega arith) below, left_before s t)
+      omega (arith, comes_within t s within below so_far, in_conserved q (inflow q) is f value flow t s within below, hold_within q (inflow q) f flow.within (suc t) s (omega arith) (omega arith) below, left_before s t)
 
   -- what a flow keeps is at most what the plan leaves
   keep_left : (t s : ℕ) → t ≤ length q.windows → s < length q.rows → carried q f t s ≤ left q x s t
   keep_left zero s within below = omega arith
   keep_left (suc t) s within below =
-      omega (arith, hold_written t s (omega arith) below (keep_left t s (omega arith) below), out_conserved q is f value flow (suc t) s (omega arith) within below, taken s (suc t) below (omega arith) within, left_after s t)
+      omega (arith, hold_written t s (omega arith) below (keep_left t s (omega arith) below), out_conserved q (inflow q) is f value flow (suc t) s (omega arith) within below, taken s (suc t) below (omega arith) within, left_after s t)
 
   -- over the first steps, what a store lost and what came to it
   lost_and_come : (t s : ℕ) → t ≤ length q.windows → s < length q.rows → sum_by (lost q x s) (range_with_len 1 t) + sum_by (λ u. come q f u s) (range_with_len 1 t) + left q x s t ≤ sum_by (λ u. inflow q u s) (range_with_len 1 t) + carried q f t s + opening_at q t s
@@ -78,8 +78,8 @@ module _ (q : Dumping) (is : IsDumping q) (f : Flow) (value : ℕ) (flow : IsFlo
         left_after s t,
         inflow_is q t s,
         hold_written t s (omega arith) below before,
-        in_conserved q is f value flow t s (omega arith) below,
-        out_conserved q is f value flow (suc t) s (omega arith) within below,
+        in_conserved q (inflow q) is f value flow t s (omega arith) below,
+        out_conserved q (inflow q) is f value flow (suc t) s (omega arith) within below,
         taken s (suc t) below (omega arith) within,
       )
 
@@ -93,17 +93,20 @@ module _ (q : Dumping) (is : IsDumping q) (f : Flow) (value : ℕ) (flow : IsFlo
   store_lost s below =
       omega (arith, lost_and_come (length q.windows) s (omega arith) below, keep_left (length q.windows) s (omega arith) below, no_opening (length q.windows) s is.steps.has_step)
 
-  -- what the plan loses and the flow's value are at most what comes
-  pub loss_within : loss q x + value ≤ grid (inflow q) (length q.windows) (length q.rows)
-  loss_within =
+  -- what the first stores lose and what came to them
+  pub first_loss_within : (n : ℕ) → n ≤ length q.rows → first_loss n q x + grid (come q f) (length q.windows) n ≤ grid (inflow q) (length q.windows) n
+  first_loss_within n few =
       omega (
         arith,
-        come_is_value q is f value flow,
-        sum_by-swap (come q f) (steps q) (stores q),
-        sum_by-swap (inflow q) (steps q) (stores q),
-        sum_by-add (store_loss q x) (λ s. sum_by (λ u. come q f u s) (steps q)) (stores q),
-        sum_by_range-le (λ s. store_loss q x s + sum_by (λ u. come q f u s) (steps q)) (λ s. sum_by (λ u. inflow q u s) (steps q)) 0 (length q.rows) (λ s _ below. store_lost s (omega arith)),
+        sum_by-swap (come q f) (steps q) (range_with_len 0 n),
+        sum_by-swap (inflow q) (steps q) (range_with_len 0 n),
+        sum_by-add (store_loss q x) (λ s. sum_by (λ u. come q f u s) (steps q)) (range_with_len 0 n),
+        sum_by_range-le (λ s. store_loss q x s + sum_by (λ u. come q f u s) (steps q)) (λ s. sum_by (λ u. inflow q u s) (steps q)) 0 n (λ s _ below. store_lost s (omega (arith, few))),
       )
+
+  -- what the plan loses and the flow's value are at most what comes
+  pub loss_within : loss q x + value ≤ grid (inflow q) (length q.windows) (length q.rows)
+  loss_within = omega (arith, come_is_value q (inflow q) is f value flow, first_loss_within (length q.rows) (omega arith))
 
   -- what is to leave in a step leaves in the flow
   leaves_all : (t : ℕ) → 1 ≤ t → t ≤ length q.windows → sum_by (in_step x t) (stores q) ≡ sum_by (leave q f t) (stores q)
@@ -117,15 +120,15 @@ module _ (q : Dumping) (is : IsDumping q) (f : Flow) (value : ℕ) (flow : IsFlo
   windowed : (t : ℕ) → 1 ≤ t → t ≤ length q.windows → sum_by (in_step x t) (stores q) ≤ window q t
   windowed t first last =
       let groups = sum_by-le_groups (leave q f t) (channel q) (length q.limits) (stores q) (each_in_channel t) in
-      let by_channel = sum_by_range_same (λ c. sum_by (λ s. cond (eqb (channel q s) c) (leave q f t s) 0) (stores q)) (pass_on q f t) 0 (length q.limits) (λ c _ below. channel_conserved q is f value flow t c first last (omega arith)) in
-      omega (arith, leaves_all t first last, groups, by_channel, pass_conserved q is f value flow t first last, send_within q f flow.within t first last)
+      let by_channel = sum_by_range_same (λ c. sum_by (λ s. cond (eqb (channel q s) c) (leave q f t s) 0) (stores q)) (pass_on q f t) 0 (length q.limits) (λ c _ below. channel_conserved q (inflow q) is f value flow t c first last (omega arith)) in
+      omega (arith, leaves_all t first last, groups, by_channel, pass_conserved q (inflow q) is f value flow t first last, send_within q (inflow q) f flow.within t first last)
 
   -- and the limits of the channels
   limited : (t c : ℕ) → 1 ≤ t → t ≤ length q.windows → FitsLimit q x t c
   limited t c first last most is_limit =
       let below = limit_is_within q c t most is_limit in
       let leaves_channel = sum_by_range_same (λ s. cond (is_of q c s) (in_step x t s) 0) (λ s. cond (eqb (channel q s) c) (leave q f t s) 0) 0 (length q.rows) (λ s _ within. ap (λ n. cond (eqb (channel q s) c) n 0) (taken s t (omega arith) first last)) in
-      omega (arith, sum_by-filter (in_step x t) (is_of q c) (stores q), leaves_channel, channel_conserved q is f value flow t c first last below, pass_on_within q f flow.within t c most first last below is_limit)
+      omega (arith, sum_by-filter (in_step x t) (is_of q c) (stores q), leaves_channel, channel_conserved q (inflow q) is f value flow t c first last below, pass_on_within q (inflow q) f flow.within t c most first last below is_limit)
 
   -- the plan fits
   pub fits : Fits q x

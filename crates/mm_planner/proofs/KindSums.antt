@@ -16,7 +16,7 @@ use Rattle.mm_flow.specs.Flow.{Flow, entering, leaving}
 use Rattle.mm_planner.specs.declared.nodes.Node.{Node}
 use Rattle.mm_planner.specs.declared.nodes.Node.TheVariants.{Source, Sink, In, Out, Channel, Pass}
 use Rattle.mm_planner.specs.Nodes.{number_of}
-use Rattle.mm_planner.specs.Network.{next_node, net}
+use Rattle.mm_planner.specs.Network.{Inflows, next_node, net_by}
 use Rattle.mm_planner.specs.Taken.{take_place}
 use Rattle.mm_planner.proofs.NodeNumbers.{IsNode, is_same, eqb-number_of}
 use Rattle.mm_planner.proofs.ArcSums.{come_place, hold_place, keep_place, limit_place, window_place, arcs_by_kind}
@@ -72,7 +72,7 @@ windows_at node carries n m is each =
     sum_by_range_same (λ t. cond (eqb (number_of (node t)) (number_of n)) (carries t) 0) (λ t. cond (is_same (node t) n) (carries t) 0) 1 m
     (λ t low _. ap (λ b. cond b (carries t) 0) (eqb-number_of (node t) n (each t low) is))
 
-module _ (q : Dumping) (is : IsDumping q) (f : Flow) (n : Node) (is_node : IsNode n) where
+module _ (q : Dumping) (a : Inflows) (is : IsDumping q) (f : Flow) (n : Node) (is_node : IsNode n) where
   -- each arc's node is one of the network's
   is_next : (t k : ℕ) → k < length q.rows → IsNode (next_node q t k)
   is_next t k within = elim (eqb t (length q.windows)) as (λ b. IsNode (cond b Sink (In (t + 1) k))) [ true ↦ tt | false ↦ (omega arith, omega (arith, is.stores.at_most)) ]
@@ -81,7 +81,7 @@ module _ (q : Dumping) (is : IsDumping q) (f : Flow) (n : Node) (is_node : IsNod
   is_channel t k low within = (low, omega (arith, channel_within q is k within))
 
   -- what enters a node
-  pub entering_kinds : entering (net q) f (number_of n) ≡ grid (at_node (λ t s. In t s) (come q f) n) (length q.windows) (length q.rows) + grid (at_node (λ t s. Out t s) (hold q f) n) (length q.windows) (length q.rows) + grid (at_node (next_node q) (keep q f) n) (length q.windows) (length q.rows) + grid (at_node (λ t s. Channel t (channel q s)) (leave q f) n) (length q.windows) (length q.rows) + grid (at_node (λ t _. Pass t) (pass_on q f) n) (length q.windows) (length q.limits) + sum_by (λ t. cond (is_same Sink n) (send q f t) 0) (range_with_len 1 (length q.windows))
+  pub entering_kinds : entering (net_by q a) f (number_of n) ≡ grid (at_node (λ t s. In t s) (come q f) n) (length q.windows) (length q.rows) + grid (at_node (λ t s. Out t s) (hold q f) n) (length q.windows) (length q.rows) + grid (at_node (next_node q) (keep q f) n) (length q.windows) (length q.rows) + grid (at_node (λ t s. Channel t (channel q s)) (leave q f) n) (length q.windows) (length q.rows) + grid (at_node (λ t _. Pass t) (pass_on q f) n) (length q.windows) (length q.limits) + sum_by (λ t. cond (is_same Sink n) (send q f t) 0) (range_with_len 1 (length q.windows))
   unfolding entering
   entering_kinds =
       let m = length q.windows in
@@ -89,8 +89,8 @@ module _ (q : Dumping) (is : IsDumping q) (f : Flow) (n : Node) (is_node : IsNod
       let most = is.stores.at_most in
       omega (
         arith,
-        sum_by-filter f (ends_at (net q) (number_of n)) (places (net q)),
-        arcs_by_kind q (λ k (a : Arc). cond (eqb a.to (number_of n)) (f k) 0),
+        sum_by-filter f (ends_at (net_by q a) (number_of n)) (places (net_by q a)),
+        arcs_by_kind q a (λ k (arc : Arc). cond (eqb arc.to (number_of n)) (f k) 0),
         kind_at (λ t s. In t s) (come q f) n m r is_node (λ t k low _ within. (low, omega arith)),
         kind_at (λ t s. Out t s) (hold q f) n m r is_node (λ t k low _ within. (low, omega arith)),
         kind_at (next_node q) (keep q f) n m r is_node (λ t k _ _ within. is_next t k within),
@@ -100,7 +100,7 @@ module _ (q : Dumping) (is : IsDumping q) (f : Flow) (n : Node) (is_node : IsNod
       )
 
   -- what leaves a node
-  pub leaving_kinds : leaving (net q) f (number_of n) ≡ grid (at_node (λ _ _. Source) (come q f) n) (length q.windows) (length q.rows) + grid (at_node (λ t s. In t s) (hold q f) n) (length q.windows) (length q.rows) + grid (at_node (λ t s. Out t s) (keep q f) n) (length q.windows) (length q.rows) + grid (at_node (λ t s. Out t s) (leave q f) n) (length q.windows) (length q.rows) + grid (at_node (λ t c. Channel t c) (pass_on q f) n) (length q.windows) (length q.limits) + sum_by (λ t. cond (is_same (Pass t) n) (send q f t) 0) (range_with_len 1 (length q.windows))
+  pub leaving_kinds : leaving (net_by q a) f (number_of n) ≡ grid (at_node (λ _ _. Source) (come q f) n) (length q.windows) (length q.rows) + grid (at_node (λ t s. In t s) (hold q f) n) (length q.windows) (length q.rows) + grid (at_node (λ t s. Out t s) (keep q f) n) (length q.windows) (length q.rows) + grid (at_node (λ t s. Out t s) (leave q f) n) (length q.windows) (length q.rows) + grid (at_node (λ t c. Channel t c) (pass_on q f) n) (length q.windows) (length q.limits) + sum_by (λ t. cond (is_same (Pass t) n) (send q f t) 0) (range_with_len 1 (length q.windows))
   unfolding leaving
   leaving_kinds =
       let m = length q.windows in
@@ -109,8 +109,8 @@ module _ (q : Dumping) (is : IsDumping q) (f : Flow) (n : Node) (is_node : IsNod
       let eight = is.channels.all in
       omega (
         arith,
-        sum_by-filter f (starts_at (net q) (number_of n)) (places (net q)),
-        arcs_by_kind q (λ k (a : Arc). cond (eqb a.from (number_of n)) (f k) 0),
+        sum_by-filter f (starts_at (net_by q a) (number_of n)) (places (net_by q a)),
+        arcs_by_kind q a (λ k (arc : Arc). cond (eqb arc.from (number_of n)) (f k) 0),
         kind_at (λ _ _. Source) (come q f) n m r is_node (λ t k _ _ _. tt),
         kind_at (λ t s. In t s) (hold q f) n m r is_node (λ t k low _ within. (low, omega arith)),
         kind_at (λ t s. Out t s) (keep q f) n m r is_node (λ t k low _ within. (low, omega arith)),

@@ -1,5 +1,6 @@
 pub mod ArcSums
 pub mod NodeNumbers
+pub mod Wider
 pub mod KindSums
 pub mod Conserved
 pub mod Capacities
@@ -7,6 +8,7 @@ pub mod FromFlow
 pub mod RunSums
 pub mod FromSide
 pub mod Optimality
+pub mod Opening
 pub mod ArcLists
 pub mod RunLists
 pub mod NoPath

@@ -7,4 +7,6 @@ pub mod Taken
 pub mod Runs
 pub mod Planned
 pub mod Growing
+pub mod InOrder
+pub mod Opening
 pub mod PlanTexts

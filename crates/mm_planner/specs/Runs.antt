@@ -1,7 +1,7 @@
 -- The cut that a side of the network says: its stretches are the greatest runs of one store's nodes on the side.
-use Rattle.std.specs.Prelude.{ℕ, zero, suc, Bool, not, ◌&&◌, if◌then◌else◌, List, map, filter}
-use Rattle.std.specs.List.{flat_map}
-use Rattle.mm_problem.specs.Dumping.{Dumping, row, stores, steps}
+use Rattle.std.specs.Prelude.{ℕ, zero, suc, Bool, not, ◌&&◌, if◌then◌else◌, List, length, map, filter}
+use Rattle.std.specs.List.{flat_map, range_with_len}
+use Rattle.mm_problem.specs.Dumping.{Dumping, row, steps}
 use Rattle.mm_plan.specs.declared.stretch.Stretch.{Stretch}
 use Rattle.mm_cut.specs.Stretches.{is_inner}
 use Rattle.mm_flow.specs.Cut.{Side}
@@ -34,9 +34,13 @@ stretch q side s t = record { store = (row q s).id; first = first_step side s t;
 abbrev pub stretches_of : Dumping → Side → ℕ → List Stretch
 stretches_of q side s = map (stretch q side s) (filter (is_end side s) (steps q))
 
+-- the runs of the first stores
+abbrev pub first_stretches : ℕ → Dumping → Side → List Stretch
+first_stretches n q side = flat_map (stretches_of q side) (range_with_len 0 n)
+
 -- the runs of all stores
 abbrev pub stretches : Dumping → Side → List Stretch
-stretches q side = flat_map (stretches_of q side) (stores q)
+stretches q side = first_stretches (length q.rows) q side
 
 -- whether a step is inner and its pass is off the side
 abbrev pub is_by_channels : Side → List Stretch → ℕ → Bool
@@ -46,6 +50,10 @@ is_by_channels side ds t = is_inner ds t && not (is_on side (Pass t))
 abbrev pub counts_of : Dumping → Side → List Stretch → List ℕ
 counts_of q side ds = filter (is_by_channels side ds) (steps q)
 
--- those of the side's own stretches
+-- those of the side's own stretches of the first stores
+abbrev pub first_counts : ℕ → Dumping → Side → List ℕ
+first_counts n q side = counts_of q side (first_stretches n q side)
+
+-- those of all its stretches
 abbrev pub counts : Dumping → Side → List ℕ
-counts q side = counts_of q side (stretches q side)
+counts q side = first_counts (length q.rows) q side

@@ -4,7 +4,7 @@ ghost use Rattle.std.specs.Option.{ForSome};
 ghost use Rattle.mm_base.specs.declared.limits.TheConstants.{MAX_STORES, MAX_BLOCKS, CHANNELS};
 ghost use Rattle.mm_problem.specs.Dumping.{stores, channels, limit};
 ghost use Rattle.mm_flow.specs.Built.{with_arc};
-ghost use Rattle.mm_planner.specs.Network.{inflow, next_node, store_arc, limit_arc, window_arc, step_arcs};
+ghost use Rattle.mm_planner.specs.Network.{first_inflow, next_node, store_arc, limit_arc, window_arc, step_arcs};
 ghost use Rattle.mm_planner.specs.Links.{arc_of, IsLink};
 ghost use Rattle.mm_planner.specs.Growing.{AddsArcs, IsStep, HasRoom, KeepsRoom};
 
@@ -22,13 +22,16 @@ pub(crate) struct Link {
     pub(crate) capacity: Option<u64>,
 }
 
-// The blocks that come to a store in a step, with those that it holds as the first step begins.
-fn inflow(problem: &Problem, step: u32, store: usize) -> u64
+// The blocks that come to a store in a step, with those that it holds as the first step begins, if it is one of the first.
+fn inflow(problem: &Problem, first: usize, step: u32, store: usize) -> u64
     requires store { store < length problem.now.rows }
     requires step { IsStep problem.now step }
-    ensures inflow { result ≡ inflow problem.now step store }
+    ensures inflow { result ≡ first_inflow first problem.now step store }
     ensures most { result ≤ 2 * MAX_BLOCKS }
 {
+    if store >= first {
+        return 0;
+    }
     let arrivals = u64::from(problem.arrivals(store, step));
     if step == 1 {
         arrivals + u64::from(problem.start(store))
@@ -62,12 +65,13 @@ fn limit(problem: &Problem, channel: u8, step: u32) -> Option<u64>
     }
 }
 
-// The arc for what the blocks of a store do in a step.
-fn store_link(problem: &Problem, way: Way, step: u32, store: usize) -> Link
+// The arc for what the blocks of a store do in a step, where blocks come to the first stores alone.
+fn store_link(problem: &Problem, first: usize, way: Way, step: u32, store: usize) -> Link
     requires step { IsStep problem.now step }
     requires store { store < length problem.now.rows }
     requires most { store < MAX_STORES }
-    ensures arc { arc_of result ≡ store_arc problem.now way step store }
+    ensures arc { arc_of result
+        ≡ store_arc problem.now (first_inflow first problem.now) way step store }
     ensures is_link { IsLink problem.now result }
 {
     let arrived = Node::In { step, store };
@@ -76,7 +80,7 @@ fn store_link(problem: &Problem, way: Way, step: u32, store: usize) -> Link
         Way::Come => Link {
             from: Node::Source,
             to: arrived,
-            capacity: Some(inflow(problem, step, store)),
+            capacity: Some(inflow(problem, first, step, store)),
         },
         Way::Hold => Link {
             from: arrived,
@@ -140,17 +144,19 @@ fn add_link(network: &mut Network, problem: &Problem, link: Link) -> Result<(), 
 fn add_store_arcs(
     network: &mut Network,
     problem: &Problem,
+    first: usize,
     way: Way,
     step: u32,
 ) -> Result<(), NoMemory>
     requires step { IsStep problem.now step }
     requires room { HasRoom problem.now network.old.graph MAX_STORES }
     ensures added { OnOk result
-        (AddsArcs network.old network.new (map (store_arc problem.now way step) (stores problem.now))) }
+        (AddsArcs network.old network.new
+        (map (store_arc problem.now (first_inflow first problem.now) way step) (stores problem.now))) }
     ensures room { OnOk result (KeepsRoom network.old.graph network.new.graph MAX_STORES) }
 {
     for store in 0..problem.stores() {
-        let link = store_link(problem, way, step, store);
+        let link = store_link(problem, first, way, step, store);
         add_link(network, problem, link)?;
     }
     Ok(())
@@ -183,17 +189,23 @@ fn add_window_arc(network: &mut Network, problem: &Problem, step: u32) -> Result
     add_link(network, problem, link)
 }
 
-// All arcs of a step.
-pub(crate) fn add_step(network: &mut Network, problem: &Problem, step: u32) -> Result<(), NoMemory>
+// All arcs of a step, where blocks come to the first stores alone.
+pub(crate) fn add_step(
+    network: &mut Network,
+    problem: &Problem,
+    first: usize,
+    step: u32,
+) -> Result<(), NoMemory>
     requires step { IsStep problem.now step }
     requires room { HasRoom problem.now network.old.graph (6 * MAX_STORES) }
     ensures added { OnOk result
-        (AddsArcs network.old network.new (step_arcs problem.now step)) }
+        (AddsArcs network.old network.new
+        (step_arcs problem.now (first_inflow first problem.now) step)) }
 {
-    add_store_arcs(network, problem, Way::Come, step)?;
-    add_store_arcs(network, problem, Way::Hold, step)?;
-    add_store_arcs(network, problem, Way::Keep, step)?;
-    add_store_arcs(network, problem, Way::Take, step)?;
+    add_store_arcs(network, problem, first, Way::Come, step)?;
+    add_store_arcs(network, problem, first, Way::Hold, step)?;
+    add_store_arcs(network, problem, first, Way::Keep, step)?;
+    add_store_arcs(network, problem, first, Way::Take, step)?;
     add_limit_arcs(network, problem, step)?;
     add_window_arc(network, problem, step)?;
     Ok(())

@@ -3,7 +3,7 @@ ghost use Rattle.std.specs.Prelude.{◌≡◌, ◌+◌, ◌*◌, ◌≤◌, leng
 ghost use Rattle.mm_base.specs.declared.limits.TheConstants.{MAX_STORES, MAX_STEPS, CHANNELS};
 ghost use Rattle.mm_problem.specs.Dumping.{IsDumping};
 ghost use Rattle.mm_flow.specs.declared.limits.TheConstants.{MAX_NODES};
-ghost use Rattle.mm_planner.specs.Network.{net, arcs_of};
+ghost use Rattle.mm_planner.specs.Network.{first_inflow, net_by, net};
 ghost use Rattle.mm_planner.specs.Taken.{step_width};
 ghost use Rattle.mm_planner.specs.Growing.{with_arcs, nodes_alone};
 
@@ -36,14 +36,33 @@ fn add_nodes(network: &mut Network, nodes: u32) -> Result<(), NoMemory>
 }
 
 // Adds the arcs of all steps.
-fn add_arcs(network: &mut Network, problem: &Problem) -> Result<(), NoMemory>
+fn add_arcs(network: &mut Network, problem: &Problem, first: usize) -> Result<(), NoMemory>
     requires { network.old.graph ≡ nodes_alone (net problem.now).nodes }
-    ensures added { OnOk result (network.new.graph ≡ net problem.now) }
+    ensures added { OnOk result
+        (network.new.graph ≡ net_by problem.now (first_inflow first problem.now)) }
 {
     for step in 1..problem.steps() + 1 {
-        add_step(network, problem, step)?;
+        add_step(network, problem, first, step)?;
     }
     Ok(())
+}
+
+/// The network of a problem where blocks come to the first stores alone.
+pub(crate) fn first_network(
+    alloc: Global,
+    problem: &Problem,
+    first: usize,
+) -> Result<Network, NoMemory>
+    ensures built { IfOk result
+        (λ network. network.graph ≡ net_by problem.now (first_inflow first problem.now)) }
+    ensures problem { IsDumping problem.now }
+{
+    let nodes = STEP_NODES * (problem.steps() + 1);
+    let arcs = problem.steps() * step_width(problem);
+    let mut network = Network::with_room(alloc, nodes, arcs)?;
+    add_nodes(&mut network, nodes)?;
+    add_arcs(&mut network, problem, first)?;
+    Ok(network)
 }
 
 /// The network of a problem: blocks flow from `SOURCE` through its stores and channels to `SINK`. As many as a greatest flow carries
@@ -52,10 +71,6 @@ pub fn network_of(alloc: Global, problem: &Problem) -> Result<Network, NoMemory>
     ensures built { IfOk result (λ network. network.graph ≡ net problem.now) }
     ensures problem { IsDumping problem.now }
 {
-    let nodes = STEP_NODES * (problem.steps() + 1);
-    let arcs = problem.steps() * step_width(problem);
-    let mut network = Network::with_room(alloc, nodes, arcs)?;
-    add_nodes(&mut network, nodes)?;
-    add_arcs(&mut network, problem)?;
+    let network = first_network(alloc, problem, problem.stores())?;
     Ok(network)
 }

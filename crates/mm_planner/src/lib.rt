@@ -3,6 +3,7 @@
 
 mod arcs;
 mod building;
+mod in_order;
 mod laws;
 mod nodes;
 mod planner;
@@ -13,6 +14,7 @@ mod texts;
 mod way;
 
 pub use building::network_of;
+pub use in_order::{FirstCut, InOrder, plan_in_order};
 pub use laws::{plans_check_least, solutions_plan};
 pub use mm_base::NoMemory;
 pub use mm_cut::{Fault, check_bytes};

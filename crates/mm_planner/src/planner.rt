@@ -60,7 +60,7 @@ pub fn plan_by_flow(alloc: Global, problem: &Problem) -> Result<Planned, NoMemor
     let taken = taken_plan(alloc, problem, &solved)?;
     let plan = fill(alloc, problem, &taken)?;
     let side = solved.side.as_slice();
-    let cut = stretches(alloc, problem, side)?;
+    let cut = stretches(alloc, problem, problem.stores(), side)?;
     let by_channels = counts(alloc, problem, side, cut.as_slice())?;
     let loss = loss_of(problem, &plan);
     Ok(Planned {

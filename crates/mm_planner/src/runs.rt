@@ -3,10 +3,10 @@ ghost use Rattle.std.specs.Prelude.{◌≡◌, ◌+◌, ◌<◌, ◌≤◌, ◌^
 ghost use Rattle.mm_base.specs.declared.limits.TheConstants.{MAX_STORES, MAX_STEPS};
 ghost use Rattle.mm_flow.specs.Solution.{side_of};
 ghost use Rattle.mm_planner.specs.Nodes.{number_of};
-ghost use Rattle.mm_planner.specs.Runs.{is_on, goes_on, is_end, is_by_channels, stretches_of, stretches, counts_of};
+ghost use Rattle.mm_planner.specs.Runs.{is_on, goes_on, is_end, is_by_channels, stretches_of, first_stretches, counts_of};
 
 use crate::nodes::Node;
-use mm_base::NoMemory;
+use mm_base::{MAX_STORES, NoMemory};
 use mm_cut::is_inner;
 use mm_plan::Stretch;
 use mm_problem::Problem;
@@ -98,16 +98,20 @@ fn add_runs(
     Ok(())
 }
 
-// The runs of all stores.
+// The runs of the first stores.
 pub(crate) fn stretches(
     alloc: Global,
     problem: &Problem,
+    first: usize,
     side: &[bool],
 ) -> Result<Vec<Stretch>, NoMemory>
-    ensures { IfOk result (λ runs. runs.items ≡ stretches problem.now (side_of side.now)) }
+    requires { first ≤ length problem.now.rows }
+    ensures { IfOk result
+        (λ runs. runs.items ≡ first_stretches first problem.now (side_of side.now)) }
 {
+    prove!(problem.stores() <= MAX_STORES);
     let mut runs = Vec::new(alloc);
-    for store in 0..problem.stores() {
+    for store in 0..first {
         add_runs(&mut runs, problem, store, side)?;
     }
     Ok(runs)

@@ -1,19 +1,20 @@
 use Rattle.std.proofs.Common.{◌++◌, ◌∷◌, [], map}
 use Rattle.mm_problem.specs.Dumping.{stores, channels}
 use Rattle.mm_planner.specs.declared.way.Way.TheVariants.{Come, Hold, Keep, Take}
-use Rattle.mm_planner.specs.Network.{store_arc, limit_arc, window_arc}
+use Rattle.mm_planner.specs.Network.{first_inflow, store_arc, limit_arc, window_arc}
 use Rattle.mm_planner.proofs.ArcLists.{with_arcs-append}
 use Rattle.mm_planner.proofs.arcs.add_step.Goals as goal
 
 pub returns : goal.returns
 returns c =
     let q = c.args.problem.now in
+    let come = first_inflow c.args.first q in
     let t = c.args.step in
     let g = c.args.network.now.graph in
-    let a = map (store_arc q Come t) (stores q) in
-    let b = map (store_arc q Hold t) (stores q) in
-    let d = map (store_arc q Keep t) (stores q) in
-    let e = map (store_arc q Take t) (stores q) in
+    let a = map (store_arc q come Come t) (stores q) in
+    let b = map (store_arc q come Hold t) (stores q) in
+    let d = map (store_arc q come Keep t) (stores q) in
+    let e = map (store_arc q come Take t) (stores q) in
     let f = map (limit_arc q t) (channels q) in
     let two = with_arcs-append c.add_store_arcs.new.network.graph c.add_store_arcs-2.new.network.graph g a b c.in_ok-add_store_arcs.ensures.added c.in_ok-add_store_arcs-2.ensures.added in
     let three = with_arcs-append c.add_store_arcs-2.new.network.graph c.add_store_arcs-3.new.network.graph g (a ++ b) d two c.in_ok-add_store_arcs-3.ensures.added in

@@ -1,0 +1,33 @@
+-- The arcs of the stores are opened one store after another.
+use Rattle.std.specs.Prelude.{◌≡◌, ℕ, ◌+◌, ◌<◌, ◌≤◌, List, length, slice_index, slice_index_or}
+use Rattle.std.specs.List.{sum_by, range_with_len}
+use Rattle.mm_problem.specs.Dumping.{Dumping, steps}
+use Rattle.mm_flow.specs.Flow.{Flow}
+use Rattle.mm_flow.specs.Balance.{IsBegun}
+use Rattle.mm_flow.specs.Solution.{IsSolved}
+use Rattle.mm_flow.specs.declared.solved.Solved.{Solved}
+use Rattle.mm_cut.specs.Cuts.{IsFirstCut, coming_sum, held_sum, leaving_sum}
+use Rattle.mm_planner.specs.declared.nodes.TheConstants.{SOURCE, SINK}
+use Rattle.mm_planner.specs.declared.in_order.FirstCut.{FirstCut}
+use Rattle.mm_planner.specs.Network.{Inflows, inflow, first_inflow, net_by}
+use Rattle.mm_planner.specs.Taken.{first_arc}
+
+-- what a flow brings to each store
+abbrev pub brought : Dumping → Flow → Inflows
+brought q f t s = f (first_arc q t + s)
+
+-- what comes to the first stores over all steps
+abbrev pub first_sum : ℕ → Dumping → Inflows → ℕ
+first_sum k q a = sum_by (λ t. sum_by (a t) (range_with_len 0 k)) (steps q)
+
+-- what comes to the first stores, and a flow does not bring, is at most the bound of a cut of them
+pub record IsCovered (k : ℕ) (q : Dumping) (f : Flow) (c : FirstCut) : Type 0 where
+  pub cut : IsFirstCut k q c.stretches.items c.by_channels.items
+  pub covers : first_sum k q (inflow q) + (held_sum q c.stretches.items + leaving_sum q c.stretches.items c.by_channels.items) ≤ coming_sum q c.stretches.items + first_sum k q (brought q f)
+
+-- of the first store, of the first two and so on to these there is such a cut, and no other store's arcs are open
+pub record AreOpened (k : ℕ) (q : Dumping) (s : Solved) (cuts : List FirstCut) : Type 0 where
+  pub solved : 0 < k → IsSolved (net_by q (first_inflow k q)) SOURCE SINK s
+  pub begun : IsBegun (net_by q (first_inflow k q)) SOURCE SINK s
+  pub count : length cuts ≡ k
+  pub each : (j : ℕ) (c : FirstCut) → j < k → IsCovered (j + 1) q (slice_index s.flow.items) (slice_index_or cuts j c)
