@@ -10,8 +10,7 @@ use Rattle.mm_desk.specs.declared.entry.Entry.{Entry}
 use Rattle.mm_desk.specs.Machine.{State}
 use Rattle.mm_desk.specs.Runs.{replay}
 use Rattle.mm_desk.specs.Shuffles.{AreBelow, IsShuffle, part}
-use Rattle.mm_shared.specs.declared.rule.Knows.{Knows}
-use Rattle.mm_shared.specs.Rule.{Fits, IsHome, IsOut, Keeps}
+use Rattle.mm_shared.specs.Rule.{Known, Fits, IsHome, IsOut, Keeps}
 use Rattle.mm_shared.specs.Views.{HasLegalLog}
 use Rattle.mm_shared.proofs.Keeping.{none-some}
 
@@ -29,7 +28,7 @@ untouched lists s t went empty = went.run.leaves ∙ ap (replay s) (none_made we
 
 module _ (start : State) (seats : ℕ) where
   -- the view of all seats, which holds nothing, is the only one that could hold the state
-  pub ends : (s : Table State Knows) (k : Keeps start seats s) (id : ℕ) (v : Knows) → get_elem? s.views id ≡ some v → v.held ≡ None → v.first ≡ 0 → length v.lists ≡ seats
+  pub ends : (s : Table State Known) (k : Keeps start seats s) (id : ℕ) (v : Known) → get_elem? s.views id ≡ some v → v.held ≡ None → v.first ≡ 0 → length v.lists ≡ seats
       → HasLegalLog v.lists start k.now × (s.homes ≡ some k.now ∷ [])
   ends s k id v me rest first all = (record { log = k.log; run = k.run; shuffle = shuffle }, ⊎_elim (λ (home : IsHome s k.now). home.homes) away k.state_is)
     where
@@ -51,14 +50,4 @@ module _ (start : State) (seats : ℕ) where
           let ours : k.owner out.holder.first ≡ id = ap k.owner (omega arith) ∙ mine.owned out.holder.first (omega arith) in
           let same : id ≡ out.port = sym ours ∙ theirs in
           let one : out.holder ≡ v = some-injective out.holder v (sym out.at ∙ (ap (λ (i : ℕ). get_elem? s.views i) (sym same) ∙ me)) in
-          absurd (none-some k.now (sym rest ∙ (ap (λ (u : Knows). u.held) (sym one) ∙ out.held)))
-
-  -- what a closed table had in its slot
-  pub closes : (ws : List ℕ) (xs : List State) (id : ℕ) (v : Knows) (result : State) → Final (Seen (Keeps start seats) id v) ws xs → get_elem? xs 0 ≡ some result
-      → v.held ≡ None → v.first ≡ 0 → length v.lists ≡ seats → HasLegalLog v.lists start result
-  closes ws xs id v result final at rest first all =
-      let s = final.0 in
-      let k = final.1.0 in
-      let end = ends s k id v final.1.1 rest first all in
-      let there : get_elem? xs 0 ≡ some k.now = final.4 0 k.now (ap (λ (hs : List (mathlib.Core.Option.Option State)). get_elem? hs 0) end.1) in
-      subst (HasLegalLog v.lists start) (some-injective k.now result (sym there ∙ at)) end.0
+          absurd (none-some k.now (sym rest ∙ (ap (λ (u : Known). u.held) (sym one) ∙ out.held)))

@@ -1,12 +1,12 @@
 pub mod Lists
 pub mod Parts
+pub mod CallsOn
 pub mod Keeping
 pub mod Giving
 pub mod Parting
 pub mod Ending
+pub mod Slices
 pub mod Defaults
 pub mod Places
-pub mod OneWorker
-pub mod Workers
-pub mod Closing
+pub mod Opening
 pub mod StillOpen

@@ -11,6 +11,12 @@ module _ {A : Type 0} where
   at_written (x ∷ xs) zero a b at = refl
   at_written (x ∷ xs) (suc i) a b at = at_written xs i a b at
 
+  -- what is at a place is read there
+  pub at_get : (l : List A) (i : ℕ) (a d : A) → get_elem? l i ≡ some a → get_or l i d ≡ a
+  at_get [] i a d at = absurd (some-ne-none a (sym at))
+  at_get (x ∷ xs) zero a d at = some-injective x a at
+  at_get (x ∷ xs) (suc i) a d at = at_get xs i a d at
+
   -- what is in a list with one more at its end, and where
   pub at_end : (l : List A) (a b : A) (j : ℕ) → get_elem? (l ++ a ∷ []) j ≡ some b → (get_elem? l j ≡ some b) ⊎ ((j ≡ length l) × (a ≡ b))
   at_end [] a b zero at = inr (refl, some-injective a b at)

@@ -1,5 +1,5 @@
--- Seats are parted and put together.
-use Rattle.std.proofs.Common.{◌≡◌, ◌≢◌, ◌⊎◌, inl, inr, ⊎_elim, ℕ, zero, suc, ◌+◌, ◌-◌, ◌<◌, ◌≤◌, eqb, List, [], ◌∷◌, ◌++◌, length, get_or, set, refl, sym, ap, ◌∙◌, subst, arith, Option, None}
+-- Seats are parted and put together, at one store.
+use Rattle.std.proofs.Common.{◌≡◌, ◌≢◌, ◌⊎◌, inl, inr, ⊎_elim, ℕ, zero, suc, ◌+◌, ◌-◌, ◌<◌, ◌≤◌, eqb, List, [], ◌∷◌, ◌++◌, length, drop, get_or, set, refl, sym, ap, ◌∙◌, subst, arith, Option, None}
 use Rattle.std.specs.Prelude.{if◌then◌else◌}
 use Rattle.std.proofs.lemmas.Bool.{eq-eqb, ne_eqb, cases_lt}
 use Rattle.std.proofs.lemmas.List.{length-append, get_or_append_left, get_or-append_right}
@@ -10,11 +10,21 @@ use Rattle.atomic_table.proofs.Lists.{at_set, set_else, at_longer}
 use Rattle.mm_desk.specs.declared.entry.Entry.{Entry}
 use Rattle.mm_desk.specs.Machine.{State}
 use Rattle.mm_desk.specs.Shuffles.{part}
-use Rattle.mm_shared.specs.declared.rule.Knows.{Knows}
-use Rattle.mm_shared.specs.Rule.{knows, Fits, IsHome, IsOut, Keeps}
-use Rattle.mm_shared.specs.Steps.{first_of, others_of, joined}
+use Rattle.mm_shared.specs.Rule.{Known, known, Fits, IsHome, IsOut, Keeps}
 use Rattle.mm_shared.proofs.Lists.{at_end}
 use Rattle.mm_shared.proofs.Keeping.{none-some, same_log}
+
+-- the seats from the second on
+abbrev pub others_at : Known → Known
+others_at v = known (v.first + 1) (drop 1 v.lists) v.held
+
+-- the first seat alone
+abbrev pub first_at : Known → Known
+first_at v = known v.first (get_or v.lists 0 [] ∷ []) None
+
+-- the seats of the second before those of the first
+abbrev pub joined_at : Known → Known → Known
+joined_at v w = known w.first (w.lists ++ v.lists) v.held
 
 module _ (start : State) (seats : ℕ) where
   -- who is the owner once the seat at a place has a new one
@@ -30,8 +40,8 @@ module _ (start : State) (seats : ℕ) where
   kept first new owner i other = rw (ne_eqb i first other) refl
 
   -- the seats of a view from the second on fit it, and the first fits a new one
-  parted : (log : List Entry) (owner : ℕ → ℕ) (id new first : ℕ) (lists : List (List Entry)) (held : Option State) → 0 < length lists → Fits seats log owner id (knows first lists held)
-      → Fits seats log (given_to first new owner) id (others_of (knows first lists held)) × Fits seats log (given_to first new owner) new (first_of (knows first lists held))
+  parted : (log : List Entry) (owner : ℕ → ℕ) (id new first : ℕ) (lists : List (List Entry)) (held : Option State) → 0 < length lists → Fits seats log owner id (known first lists held)
+      → Fits seats log (given_to first new owner) id (others_at (known first lists held)) × Fits seats log (given_to first new owner) new (first_at (known first lists held))
   parted log owner id new first [] held some_seat fit = absurd (omega arith)
   parted log owner id new first (list ∷ lists) held some_seat fit = (
     record {
@@ -51,11 +61,11 @@ module _ (start : State) (seats : ℕ) where
       only (suc i) within = absurd (omega arith)
 
   -- the first seat of a view at rest is parted from the others
-  pub splits : (id : ℕ) (v : Knows) → v.held ≡ None → 0 < length v.lists → Splits (Keeps start seats) id v (others_of v) (first_of v)
+  pub splits : (id : ℕ) (v : Known) → v.held ≡ None → 0 < length v.lists → Splits (Keeps start seats) id v (others_at v) (first_at v)
   splits id v rest some_seat s k me = same_log start seats s _ k owner k.word k.words state_is fits
     where
-      views : List Knows
-      views = set s.views id (others_of v)
+      views : List Known
+      views = set s.views id (others_at v)
 
       new : ℕ
       new = length views
@@ -66,39 +76,39 @@ module _ (start : State) (seats : ℕ) where
       mine : Fits seats k.log k.owner id v
       mine = k.fits id v me
 
-      both : Fits seats k.log owner id (others_of v) × Fits seats k.log owner new (first_of v)
+      both : Fits seats k.log owner id (others_at v) × Fits seats k.log owner new (first_at v)
       both = parted k.log k.owner id new v.first v.lists v.held some_seat mine
 
-      empty : (P : Knows → Type 0) → P (others_of v) → P (first_of v) → (port : ℕ) (u : Knows) → (port ≢ id → get_elem? s.views port ≡ some u → P u) → get_elem? (views ++ first_of v ∷ []) port ≡ some u → P u
+      empty : (P : Known → Type 0) → P (others_at v) → P (first_at v) → (port : ℕ) (u : Known) → (port ≢ id → get_elem? s.views port ≡ some u → P u) → get_elem? (views ++ first_at v ∷ []) port ≡ some u → P u
       empty P left right port u old at =
-          ⊎_elim (λ there. ⊎_elim (λ here. subst P here.1 left) (λ other. old other.0 other.1) (at_set s.views id port (others_of v) u there))
-          (λ last. subst P last.1 right) (at_end views (first_of v) u port at)
+          ⊎_elim (λ there. ⊎_elim (λ here. subst P here.1 left) (λ other. old other.0 other.1) (at_set s.views id port (others_at v) u there))
+          (λ last. subst P last.1 right) (at_end views (first_at v) u port at)
 
-      state_is : IsHome record { words = s.words; homes = s.homes; views = views ++ first_of v ∷ [] } k.now ⊎ IsOut record { words = s.words; homes = s.homes; views = views ++ first_of v ∷ [] } k.word k.now
+      state_is : IsHome record { words = s.words; homes = s.homes; views = views ++ first_at v ∷ [] } k.now ⊎ IsOut record { words = s.words; homes = s.homes; views = views ++ first_at v ∷ [] } k.word k.now
       state_is =
           ⊎_elim
           (λ (home : IsHome s k.now). inl record {
             homes = home.homes;
-            none = λ port u at. empty (λ (u : Knows). u.held ≡ None) rest refl port u (λ other. home.none port u) at;
+            none = λ port u at. empty (λ (u : Known). u.held ≡ None) rest refl port u (λ other. home.none port u) at;
           })
           (λ (out : IsOut s k.word k.now). inr record {
             homes = out.homes;
             locked = out.locked;
             port = out.port;
             holder = out.holder;
-            at = at_longer views (first_of v ∷ []) out.port out.holder (set_else s.views id out.port (others_of v) (apart out) ∙ out.at);
+            at = at_longer views (first_at v ∷ []) out.port out.holder (set_else s.views id out.port (others_at v) (apart out) ∙ out.at);
             held = out.held;
             seated = out.seated;
-            others = λ port u at other. empty (λ (u : Knows). u.held ≡ None) rest refl port u (λ not_me old. out.others port u old other) at;
+            others = λ port u at other. empty (λ (u : Known). u.held ≡ None) rest refl port u (λ not_me old. out.others port u old other) at;
           })
           k.state_is
         where
           apart : (out : IsOut s k.word k.now) → out.port ≢ id
           apart out same =
               let one : out.holder ≡ v = some-injective out.holder v (sym out.at ∙ (ap (λ (i : ℕ). get_elem? s.views i) same ∙ me)) in
-              none-some k.now (sym rest ∙ (ap (λ (u : Knows). u.held) (sym one) ∙ out.held))
+              none-some k.now (sym rest ∙ (ap (λ (u : Known). u.held) (sym one) ∙ out.held))
 
-      fits : (port : ℕ) (u : Knows) → get_elem? (views ++ first_of v ∷ []) port ≡ some u → Fits seats k.log owner port u
+      fits : (port : ℕ) (u : Known) → get_elem? (views ++ first_at v ∷ []) port ≡ some u → Fits seats k.log owner port u
       fits port u at =
           ⊎_elim
           (λ there.
@@ -112,26 +122,26 @@ module _ (start : State) (seats : ℕ) where
                 ∙ fit.owned i within;
             parts = fit.parts;
           })
-          (at_set s.views id port (others_of v) u there))
+          (at_set s.views id port (others_at v) u there))
           (λ last. subst (λ (p : ℕ). Fits seats k.log owner p u) (sym last.0) (subst (Fits seats k.log owner new) last.1 both.1))
-          (at_end views (first_of v) u port at)
+          (at_end views (first_at v) u port at)
 
   -- who is the owner once all that one has is given to another
   abbrev handed_over : ℕ → ℕ → (ℕ → ℕ) → ℕ → ℕ
   handed_over from to owner i = if eqb (owner i) from then to else owner i
 
   -- seats are put before those of a view at rest
-  pub joins : (id : ℕ) (v : Knows) (other : ℕ) (w : Knows) → v.held ≡ None → w.held ≡ None → w.first + length w.lists ≡ v.first
-      → Joins (Keeps start seats) id v other w (joined v w) (knows 0 [] None)
+  pub joins : (id : ℕ) (v : Known) (other : ℕ) (w : Known) → v.held ≡ None → w.held ≡ None → w.first + length w.lists ≡ v.first
+      → Joins (Keeps start seats) id v other w (joined_at v w) (known 0 [] None)
   joins id v other w v_rest w_rest next s k me apart at_other = same_log start seats s _ k owner k.word k.words state_is fits
     where
-      both : Knows
-      both = joined v w
+      both : Known
+      both = joined_at v w
 
-      spent : Knows
-      spent = knows 0 [] None
+      spent : Known
+      spent = known 0 [] None
 
-      views : List Knows
+      views : List Known
       views = set (set s.views id both) other spent
 
       owner : ℕ → ℕ
@@ -147,7 +157,7 @@ module _ (start : State) (seats : ℕ) where
       yours = k.fits other w theirs
 
       -- what holds of the views: of the joined one, of the spent one, and of each old one
-      each : (P : ℕ → Knows → Type 0) → P id both → P other spent → (port : ℕ) (u : Knows) → (port ≢ id → port ≢ other → get_elem? s.views port ≡ some u → P port u)
+      each : (P : ℕ → Known → Type 0) → P id both → P other spent → (port : ℕ) (u : Known) → (port ≢ id → port ≢ other → get_elem? s.views port ≡ some u → P port u)
           → get_elem? views port ≡ some u → P port u
       each P joint empty port u old at =
           ⊎_elim (λ here. subst (λ (p : ℕ). P p u) (sym here.0) (subst (P other) here.1 empty))
@@ -156,17 +166,17 @@ module _ (start : State) (seats : ℕ) where
           (at_set (set s.views id both) other port spent u at)
 
       -- who holds nothing is not the holder
-      idle : (out : IsOut s k.word k.now) (port : ℕ) (u : Knows) → get_elem? s.views port ≡ some u → u.held ≡ None → out.port ≢ port
+      idle : (out : IsOut s k.word k.now) (port : ℕ) (u : Known) → get_elem? s.views port ≡ some u → u.held ≡ None → out.port ≢ port
       idle out port u at rest same =
           let one : out.holder ≡ u = some-injective out.holder u (sym out.at ∙ (ap (λ (i : ℕ). get_elem? s.views i) same ∙ at)) in
-          none-some k.now (sym rest ∙ (ap (λ (x : Knows). x.held) (sym one) ∙ out.held))
+          none-some k.now (sym rest ∙ (ap (λ (x : Known). x.held) (sym one) ∙ out.held))
 
       state_is : IsHome record { words = s.words; homes = s.homes; views = views } k.now ⊎ IsOut record { words = s.words; homes = s.homes; views = views } k.word k.now
       state_is =
           ⊎_elim
           (λ (home : IsHome s k.now). inl record {
             homes = home.homes;
-            none = λ port u at. each (λ (p : ℕ) (u : Knows). u.held ≡ None) v_rest refl port u (λ not_me not_you. home.none port u) at;
+            none = λ port u at. each (λ (p : ℕ) (u : Known). u.held ≡ None) v_rest refl port u (λ not_me not_you. home.none port u) at;
           })
           (λ (out : IsOut s k.word k.now). inr record {
             homes = out.homes;
@@ -176,7 +186,7 @@ module _ (start : State) (seats : ℕ) where
             at = set_else (set s.views id both) other out.port spent (idle out other w theirs w_rest) ∙ (set_else s.views id out.port both (idle out id v me v_rest) ∙ out.at);
             held = out.held;
             seated = out.seated;
-            others = λ port u at not_it. each (λ (p : ℕ) (u : Knows). u.held ≡ None) v_rest refl port u (λ not_me not_you old. out.others port u old not_it) at;
+            others = λ port u at not_it. each (λ (p : ℕ) (u : Known). u.held ≡ None) v_rest refl port u (λ not_me not_you old. out.others port u old not_it) at;
           })
           k.state_is
 
@@ -205,7 +215,7 @@ module _ (start : State) (seats : ℕ) where
               ap (λ (j : ℕ). part j k.log) (omega arith)
               ∙ (mine.parts (i - length w.lists) (omega (arith, length-append w.lists v.lists)) ∙ sym (get_or-append_right w.lists v.lists (length w.lists) i [] refl ours))
 
-      fits : (port : ℕ) (u : Knows) → get_elem? views port ≡ some u → Fits seats k.log owner port u
+      fits : (port : ℕ) (u : Known) → get_elem? views port ≡ some u → Fits seats k.log owner port u
       fits port u at =
           each (Fits seats k.log owner) joint (record { within = omega arith; owned = λ i within. absurd (omega arith); parts = λ i within. absurd (omega arith) }) port u
           (λ not_me not_you old.

@@ -6,15 +6,15 @@ use Rattle.std.proofs.lemmas.Bool.Decides.{nat_tests}
 use Rattle.std.proofs.lemmas.List.{get_or-map, length-map}
 use Rattle.std.proofs.lemmas.List.Sums.{fails_before_first, passes_at_first}
 use Rattle.std.proofs.lemmas.Slice.Eq.{bytes_eq-Decides}
-use Rattle.mm_shared.specs.declared.stores.NamedStore.{NamedStore}
+use Rattle.mm_shared.specs.declared.label.StoreLabel.{StoreLabel}
 use Rattle.mm_shared.specs.Stores.{AreNamed, ids_of, id_at}
-use Rattle.mm_shared.proofs.Defaults.{no_store}
+use Rattle.mm_shared.proofs.Defaults.{no_label}
 
 -- the store has the identifier
-abbrev pub is_named : List ℕ → NamedStore → Bool
+abbrev pub is_named : List ℕ → StoreLabel → Bool
 is_named id s = bytes_eq s.id id
 
-module _ (id : List ℕ) (stores : List NamedStore) (named : AreNamed (ids_of stores)) where
+module _ (id : List ℕ) (stores : List StoreLabel) (named : AreNamed (ids_of stores)) where
   abbrev first : ℕ
   first = position_or_len (is_named id) stores
 
@@ -24,14 +24,14 @@ module _ (id : List ℕ) (stores : List NamedStore) (named : AreNamed (ids_of st
       MatchOption r ((j : ℕ) → j < length stores → bytes_eq (id_at (ids_of stores) j) id ≡ false)
       (λ k. (k < length stores) × ((j : ℕ) → j < length stores → bytes_eq (id_at (ids_of stores) j) id ≡ (j == k)))
 
-  at : (j : ℕ) → j < length stores → id_at (ids_of stores) j ≡ (get_or stores j no_store).id
-  at j within = get_or-map (λ (s : NamedStore). s.id) stores j no_store [] within
+  at : (j : ℕ) → j < length stores → id_at (ids_of stores) j ≡ (get_or stores j no_label).id
+  at j within = get_or-map (λ (s : StoreLabel). s.id) stores j no_label [] within
 
   before : (j : ℕ) → j < length stores → j < first → bytes_eq (id_at (ids_of stores) j) id ≡ false
-  before j within earlier = rw (at j within) (fails_before_first (is_named id) stores j no_store earlier)
+  before j within earlier = rw (at j within) (fails_before_first (is_named id) stores j no_label earlier)
 
   here : first < length stores → bytes_eq (id_at (ids_of stores) first) id ≡ true
-  here within = rw (at first within) (passes_at_first (is_named id) stores no_store within)
+  here within = rw (at first within) (passes_at_first (is_named id) stores no_label within)
 
   after : (j : ℕ) → j < length stores → first < j → bytes_eq (id_at (ids_of stores) j) id ≡ false
   after j within later = by_test (bytes_eq (id_at (ids_of stores) j) id) refl
@@ -42,7 +42,7 @@ module _ (id : List ℕ) (stores : List NamedStore) (named : AreNamed (ids_of st
           let mine = (bytes_eq-Decides (id_at (ids_of stores) j) id).0 e in
           let its = (bytes_eq-Decides (id_at (ids_of stores) first) id).0 (here (omega arith)) in
           let both = (bytes_eq-Decides (id_at (ids_of stores) first) (id_at (ids_of stores) j)).1 (its ∙ sym mine) in
-          let apart : bytes_eq (id_at (ids_of stores) first) (id_at (ids_of stores) j) ≡ false = named first j [] later (omega (arith, length-map stores (λ (s : NamedStore). s.id))) in
+          let apart : bytes_eq (id_at (ids_of stores) first) (id_at (ids_of stores) j) ≡ false = named first j [] later (omega (arith, length-map stores (λ (s : StoreLabel). s.id))) in
           absurd (cc)
 
   -- the first index that passes is the store's, and where none passes no store has the identifier

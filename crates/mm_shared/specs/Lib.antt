@@ -1,5 +1,4 @@
-pub mod Views
 pub mod Rule
+pub mod Views
 pub mod Steps
 pub mod Stores
-pub mod FreePorts

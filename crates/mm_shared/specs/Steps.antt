@@ -15,82 +15,88 @@ use Rattle.mm_shared.specs.Rule.{knows}
 abbrev pub Seated : Type 0
 Seated = Me State Knows
 
--- a table of one word and one slot
-pub record HasOneSlot (id : TableId) : Type 0 where
-  pub words : id.words ≡ 1
-  pub slots : id.slots ≡ 1
+-- a table of stores that were opened in these states has a word and a slot of this index, which are a store's
+pub record HasSlot (id : TableId) (openings : List State) (k : ℕ) : Type 0 where
+  pub word : k < id.words
+  pub slot : k < id.slots
+  pub opened : k < length openings
 
--- a seat that has nothing of the slot
+-- a table has a word and a slot for each store that was opened, and a word more
+pub record HasSlots (id : TableId) (openings : List State) : Type 0 where
+  pub words : id.words ≡ length openings + 1
+  pub slots : id.slots ≡ length openings
+
+-- a seat that has no slot
 pub record IsAtRest (m : Seated) : Type 0 where
   pub none : m.0.held ≡ None
   pub empty : m.1 ≡ []
 
--- the seat holding the state, which was the first one when it was taken and is the second one now
-abbrev pub holding : Seated → State → State → Seated
-holding m taken now = (knows m.0.first m.0.lists (Some taken), (0, now) ∷ [])
+-- the seat holding the state of the store of an index, which was the first one when it was taken and is the second one now
+abbrev pub holding : ℕ → Seated → State → State → Seated
+holding k m taken now = (knows m.0.first m.0.lists (Some (k, taken)), (k, now) ∷ [])
 
 -- the seat at rest
 abbrev pub at_rest : Seated → Seated
 at_rest m = (knows m.0.first m.0.lists None, [])
 
--- the seat holds a state, which is still as it was taken
-abbrev pub Holds : Seated → Seated → Type 0
-Holds m n = (s : State) × (n ≡ holding m s s)
+-- the seat holds the state of a store, which is still as it was taken
+abbrev pub Holds : ℕ → Seated → Seated → Type 0
+Holds k m n = (s : State) × (n ≡ holding k m s s)
 
--- a seat of this table, which has one slot, may take the state: it is at rest, and has a seat of the store at least
+-- a seat of this table may take a state: it is at rest, and has a seat at least
 pub record MayTake (id : TableId) (seat : Seat State Knows) : Type 0 where
   pub of : seat.table_id ≡ id
-  pub one : HasOneSlot id
   pub rest : IsAtRest seat.me
   pub seated : 0 < length seat.me.0.lists
 
 -- the seat has taken the state
-pub record HasTaken (seat after : Seat State Knows) : Type 0 where
+pub record HasTaken (k : ℕ) (seat after : Seat State Knows) : Type 0 where
   pub of : after.table_id ≡ seat.table_id
-  pub holds : Holds seat.me after.me
+  pub holds : Holds k seat.me after.me
 
 -- the seat holds a state as it was taken
-pub record IsAsTaken (m : Seated) : Type 0 where
+pub record IsAsTaken (k : ℕ) (m : Seated) : Type 0 where
   pub taken : State
-  pub held : m.0.held ≡ Some taken
-  pub has : m.1 ≡ (0, taken) ∷ []
+  pub held : m.0.held ≡ Some (k, taken)
+  pub has : m.1 ≡ (k, taken) ∷ []
 
 -- a seat of this table, which holds a state
-pub record HoldsAt (id : TableId) (seat : Seat State Knows) : Type 0 where
+pub record HoldsAt (id : TableId) (k : ℕ) (seat : Seat State Knows) : Type 0 where
   pub of : seat.table_id ≡ id
+  pub slot : k < id.slots
   pub now : State
-  pub has : seat.me.1 ≡ (0, now) ∷ []
+  pub has : seat.me.1 ≡ (k, now) ∷ []
 
 -- the first list with one call more
-abbrev pub lists_with : ℕ → List (List Entry) → Event → Reply → List (List Entry)
-lists_with first [] event reply = []
-lists_with first (list ∷ lists) event reply = (list ++ entry first event reply ∷ []) ∷ lists
+abbrev pub lists_with : {A : Type 0} → A → List (List A) → List (List A)
+lists_with call [] = []
+lists_with call (list ∷ lists) = (list ++ call ∷ []) ∷ lists
 
 -- the seat at rest, with one call more in the list of its first seat
-abbrev pub called : Seated → Event → Reply → Seated
-called m event reply = (knows m.0.first (lists_with m.0.first m.0.lists event reply) None, [])
+abbrev pub called : ℕ → Seated → Event → Reply → Seated
+called k m event reply = (knows m.0.first (lists_with (k, entry m.0.first event reply) m.0.lists) None, [])
 
--- the seat holds the state that this call left
-pub record HasCalled (event : Event) (reply : Reply) (m : Seated) : Type 0 where
+-- the seat holds the state of a store that this call left
+pub record HasCalled (k : ℕ) (event : Event) (reply : Reply) (m : Seated) : Type 0 where
   pub taken : State
   pub now : State
-  pub held : m.0.held ≡ Some taken
-  pub has : m.1 ≡ (0, now) ∷ []
+  pub held : m.0.held ≡ Some (k, taken)
+  pub has : m.1 ≡ (k, now) ∷ []
   pub seated : 0 < length m.0.lists
   pub stepped : step taken event ≡ (reply, now)
 
--- the state that the seat holds goes by this event, with this reply
-pub record HeldSteps (seat : Seat State Knows) (event : Event) (reply : Reply) (after : Seat State Knows) : Type 0 where
+-- the state of a store that the seat holds goes by this event, with this reply
+pub record HeldSteps (k : ℕ) (seat : Seat State Knows) (event : Event) (reply : Reply) (after : Seat State Knows) : Type 0 where
   pub of : after.table_id ≡ seat.table_id
   pub old : State
   pub new : State
-  pub had : seat.me.1 ≡ (0, old) ∷ []
-  pub has : after.me ≡ (seat.me.0, (0, new) ∷ [])
+  pub had : seat.me.1 ≡ (k, old) ∷ []
+  pub has : after.me ≡ (seat.me.0, (k, new) ∷ [])
   pub stepped : step old event ≡ (reply, new)
 
--- a try of the lock: the state is held where the word was 0
+-- a try of a lock: the state of its store is held where the word was 0
 abbrev pub tried : Step State → Seated → ℕ → Seated → Type 0
-tried st m r n = (r ≡ 0 → Holds m n) × (r ≢ 0 → n ≡ m)
+tried st m r n = (r ≡ 0 → Holds st.word m n) × (r ≢ 0 → n ≡ m)
 
 -- the seats from the second on
 abbrev pub others_of : Knows → Knows

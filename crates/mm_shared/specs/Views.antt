@@ -1,38 +1,39 @@
 -- What contracts see of a shared store and of its ports, and of what became of a store.
-use Rattle.std.specs.Prelude.{ℕ, ◌+◌, List, [], ◌∷◌, ◌++◌, slice_index_or, drop, replicate}
+use Rattle.std.specs.Prelude.{ℕ, ◌+◌, ◌<◌, List, [], ◌∷◌, ◌++◌, length, map, slice_index_or, drop, replicate}
 use Rattle.atomic_table.specs.Seated.{TableId}
 use Rattle.mm_desk.specs.declared.entry.Entry.{Entry}
 use Rattle.mm_desk.specs.declared.event.Event.{Event}
 use Rattle.mm_desk.specs.declared.reply.Reply.{Reply}
 use Rattle.mm_desk.specs.Machine.{State}
-use Rattle.mm_desk.specs.Runs.{entry, IsRun}
+use Rattle.mm_desk.specs.Runs.{entry, IsRun, opening_at}
 use Rattle.mm_desk.specs.Shuffles.{IsShuffle}
+use Rattle.mm_shared.specs.Rule.{calls_on}
 
--- a shared store: which one it is, the state that it was opened with, and how many seats it has
-pub record StoreView : Type 0 where
+-- stores that threads share: which table it is, the states that they were opened with, and how many seats there are
+pub record StoresView : Type 0 where
   pub id : TableId
-  pub opening : State
+  pub openings : List State
   pub seats : ℕ
 
 -- a port: which store it is of, the number of its seat there, and the list of the calls made through it
 pub record PortView : Type 0 where
   pub of : TableId
   pub number : ℕ
-  pub list : List Entry
+  pub list : List (ℕ × Entry)
 
 -- ports that are still together: which store they are of, the first seat's number, and the list of calls of each
 pub record PortsView : Type 0 where
   pub of : TableId
   pub first : ℕ
-  pub lists : List (List Entry)
+  pub lists : List (List (ℕ × Entry))
 
 -- a port through which no call was made
 abbrev pub new_port : TableId → ℕ → PortView
 new_port id number = record { of = id; number = number; list = [] }
 
 -- a port with one call more in its list
-abbrev pub with_call : PortView → Event → Reply → PortView
-with_call port event reply = record port { list = port.list ++ entry port.number event reply ∷ [] }
+abbrev pub with_call : PortView → ℕ → Event → Reply → PortView
+with_call port k event reply = record port { list = port.list ++ (k, entry port.number event reply) ∷ [] }
 
 -- all ports of a store with this many seats, through which no call was made
 abbrev pub new_ports : TableId → ℕ → PortsView
@@ -50,8 +51,16 @@ other_ports ports = record ports { first = ports.first + 1; lists = drop 1 ports
 abbrev pub with_port : PortView → PortsView → PortsView
 with_port port ports = record ports { first = port.number; lists = port.list ∷ ports.lists }
 
+-- no port is left: this many are with workers
+abbrev pub no_ports : TableId → ℕ → PortsView
+no_ports id seats = record { of = id; first = seats; lists = [] }
+
 -- there is a legal log from the first state to the second that is a shuffle of these lists, one for each seat
 pub record HasLegalLog (lists : List (List Entry)) (s t : State) : Type 0 where
   pub log : List Entry
   pub run : IsRun s log t
   pub shuffle : IsShuffle lists log
+
+-- each store went by a legal log that is a shuffle of the calls on it in these lists, one for each seat
+abbrev pub HaveLogs : List (List (ℕ × Entry)) → List State → List State → Type 0
+HaveLogs lists before after = (k : ℕ) → k < length after → HasLegalLog (map (calls_on k) lists) (opening_at before k) (opening_at after k)

@@ -1,4 +1,4 @@
-//! Calls on a state that a seat holds.
+//! Calls on the state of a store that a seat holds.
 ghost use Rattle.std.specs.Prelude.{◌≡◌, ◌≢◌, Ok, Err};
 ghost use Rattle.mm_desk.specs.declared.fault.Fault.TheVariants.{NoMemory};
 ghost use Rattle.mm_shared.specs.Steps.{HoldsAt, HeldSteps};
@@ -12,64 +12,72 @@ use std::alloc::Global;
 pub(crate) fn offer(
     table: &StoreTable,
     seat: &mut StoreSeat,
+    store: usize,
     now: u64,
     packet: BlockPacket,
 ) -> Result<Offered, Returned>
-    requires held { HoldsAt table.now.table_id seat.old }
-    ensures steps { HeldSteps seat.old (Event.Offer now packet) (Reply.Offered result) seat.new }
+    requires held { HoldsAt table.now.table_id store seat.old }
+    ensures steps { HeldSteps store seat.old (Event.Offer now packet) (Reply.Offered result) seat.new }
 {
-    seat.slot_mut(table, 0).offer(now, packet)
+    seat.slot_mut(table, store).offer(now, packet)
 }
 
 pub(crate) fn begin(
     table: &StoreTable,
     seat: &mut StoreSeat,
+    store: usize,
     from: u64,
     to: u64,
 ) -> Result<(), Fault>
-    requires held { HoldsAt table.now.table_id seat.old }
-    ensures steps { HeldSteps seat.old (Event.Begin from to) (Reply.Done result) seat.new }
+    requires held { HoldsAt table.now.table_id store seat.old }
+    ensures steps { HeldSteps store seat.old (Event.Begin from to) (Reply.Done result) seat.new }
 {
-    seat.slot_mut(table, 0).begin(from, to)
+    seat.slot_mut(table, store).begin(from, to)
 }
 
 pub(crate) fn next(
     table: &StoreTable,
     alloc: Global,
     seat: &mut StoreSeat,
+    store: usize,
 ) -> Result<Option<Stored>, Fault>
-    requires held { HoldsAt table.now.table_id seat.old }
-    ensures steps { result ≢ Err NoMemory → HeldSteps seat.old Event.Next (Reply.Given result) seat.new }
+    requires held { HoldsAt table.now.table_id store seat.old }
+    ensures steps { result ≢ Err NoMemory → HeldSteps store seat.old Event.Next (Reply.Given result) seat.new }
     ensures of { seat.new.table_id ≡ seat.old.table_id }
     ensures lack { result ≡ Err NoMemory → seat.new.me ≡ seat.old.me }
 {
-    seat.slot_mut(table, 0).next_copy(alloc)
+    seat.slot_mut(table, store).next_copy(alloc)
 }
 
-pub(crate) fn abort(table: &StoreTable, seat: &mut StoreSeat) -> Result<(), Fault>
-    requires held { HoldsAt table.now.table_id seat.old }
-    ensures steps { HeldSteps seat.old Event.Abort (Reply.Done result) seat.new }
+pub(crate) fn abort(table: &StoreTable, seat: &mut StoreSeat, store: usize) -> Result<(), Fault>
+    requires held { HoldsAt table.now.table_id store seat.old }
+    ensures steps { HeldSteps store seat.old Event.Abort (Reply.Done result) seat.new }
 {
-    seat.slot_mut(table, 0).abort()
+    seat.slot_mut(table, store).abort()
 }
 
-pub(crate) fn delete(table: &StoreTable, seat: &mut StoreSeat, limit: u64) -> Result<u32, Fault>
-    requires held { HoldsAt table.now.table_id seat.old }
-    ensures steps { HeldSteps seat.old (Event.Delete limit) (Reply.Deleted result) seat.new }
+pub(crate) fn delete(
+    table: &StoreTable,
+    seat: &mut StoreSeat,
+    store: usize,
+    limit: u64,
+) -> Result<u32, Fault>
+    requires held { HoldsAt table.now.table_id store seat.old }
+    ensures steps { HeldSteps store seat.old (Event.Delete limit) (Reply.Deleted result) seat.new }
 {
-    seat.slot_mut(table, 0).delete(limit)
+    seat.slot_mut(table, store).delete(limit)
 }
 
-pub(crate) fn enable(table: &StoreTable, seat: &mut StoreSeat)
-    requires held { HoldsAt table.now.table_id seat.old }
-    ensures steps { HeldSteps seat.old Event.Enable (Reply.Done (Ok tt)) seat.new }
+pub(crate) fn enable(table: &StoreTable, seat: &mut StoreSeat, store: usize)
+    requires held { HoldsAt table.now.table_id store seat.old }
+    ensures steps { HeldSteps store seat.old Event.Enable (Reply.Done (Ok tt)) seat.new }
 {
-    seat.slot_mut(table, 0).enable();
+    seat.slot_mut(table, store).enable();
 }
 
-pub(crate) fn disable(table: &StoreTable, seat: &mut StoreSeat)
-    requires held { HoldsAt table.now.table_id seat.old }
-    ensures steps { HeldSteps seat.old Event.Disable (Reply.Done (Ok tt)) seat.new }
+pub(crate) fn disable(table: &StoreTable, seat: &mut StoreSeat, store: usize)
+    requires held { HoldsAt table.now.table_id store seat.old }
+    ensures steps { HeldSteps store seat.old Event.Disable (Reply.Done (Ok tt)) seat.new }
 {
-    seat.slot_mut(table, 0).disable();
+    seat.slot_mut(table, store).disable();
 }

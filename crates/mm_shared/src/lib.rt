@@ -4,14 +4,14 @@
 
 mod calls;
 mod held;
-mod lines;
+mod label;
 mod lock;
 mod port;
 mod rule;
-mod store;
+mod shared;
 mod stores;
 
-pub use lines::{Line, Lines};
+pub use label::StoreLabel;
 pub use port::{Port, Ports};
-pub use store::SharedStore;
-pub use stores::{NamedStore, OpenStores, close_all, open_all, place_of};
+pub use shared::SharedStores;
+pub use stores::{OpenStores, close_all, open_all, place_of};

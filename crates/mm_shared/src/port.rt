@@ -1,12 +1,13 @@
-//! Ports of a shared store: the right to make calls on it. A port has no bytes, and may go to another thread.
+//! Ports of shared stores: the right to make calls on them. A port may go to another thread.
 
 use crate::rule::StoreSeat;
 use std::marker::Model;
 
-/// A port of a shared store: one seat there, through which calls are made. Contracts see which store it is of, the number of its
-/// seat and the list of the calls made through it.
+/// A port of shared stores: one seat there, through which calls are made on any of them. Contracts see which stores it is of, the number
+/// of its seat, and the list of the calls made through it, each with the index of its store.
 #[derive(Drop)]
 pub struct Port {
+    pub(crate) number: u32,
     pub(crate) seat: StoreSeat,
 }
 
@@ -19,17 +20,19 @@ impl Model for Port {
 
     ghost view = { λ p. record { of = p.seat.table_id; number = p.seat.me.0.first; list = slice_index_or p.seat.me.0.lists 0 [] } };
 
-    ghost invariant = { λ p. IsAtRest p.seat.me × (length p.seat.me.0.lists ≡ 1) };
+    ghost invariant = { λ p. IsAtRest p.seat.me × (p.number ≡ p.seat.me.0.first) × (length p.seat.me.0.lists ≡ 1) };
 }
 
-/// Ports of a shared store that are still together. Contracts see which store they are of, the number of the first seat and the
-/// list of the calls made through each.
+/// Ports of shared stores that are still together. Contracts see which stores they are of, the number of the first seat and the list of
+/// the calls made through each.
 #[derive(Drop)]
 pub struct Ports {
+    pub(crate) first: u32,
     pub(crate) seat: StoreSeat,
 }
 
 impl Model for Ports {
+    ghost use Rattle.std.specs.Prelude.{◌≡◌, ◌+◌, ◌<◌, ◌^◌, length};
     ghost use Rattle.mm_shared.specs.Steps.{IsAtRest};
     ghost use Rattle.mm_shared.specs.Views.{PortsView};
 
@@ -37,5 +40,5 @@ impl Model for Ports {
 
     ghost view = { λ p. record { of = p.seat.table_id; first = p.seat.me.0.first; lists = p.seat.me.0.lists } };
 
-    ghost invariant = { λ p. IsAtRest p.seat.me };
+    ghost invariant = { λ p. IsAtRest p.seat.me × (p.first ≡ p.seat.me.0.first) × (p.first + length p.seat.me.0.lists < 2 ^ 32) };
 }

@@ -1,5 +1,5 @@
 //! What is known of a shared store, in the proofs alone, and the rule that all its steps keep.
-ghost use Rattle.mm_shared.specs.Rule.{Keeps, knows, all_seats};
+ghost use Rattle.mm_shared.specs.Rule.{KeepsAll, knows, all_seats};
 ghost use Rattle.mm_shared.specs.Steps.{tried, called, at_rest, first_of, others_of, joined};
 ghost use Rattle.std.specs.Prelude.{◌≡◌, [], None, Ok};
 ghost use Rattle.mm_desk.specs.declared.event.Event.{Event as Asked};
@@ -12,27 +12,27 @@ use std::collections::LinkedList;
 use std::marker::{Brand, PhantomData};
 use std::snapshot::Snapshot;
 
-/// What is known with seats: the number of the first, the calls made through each from it on, and the state that it holds. No
-/// value of it is made.
+/// What is known with seats: the number of the first, the calls made through each from it on, each with the index of its store, and
+/// the state that it holds, with the index of its store. No value of it is made.
 pub struct Knows {
     pub first: u64,
-    pub lists: LinkedList<LinkedList<Entry>>,
-    pub held: Option<StoreState>,
+    pub lists: LinkedList<LinkedList<(u64, Entry)>>,
+    pub held: Option<(u64, StoreState)>,
 }
 
-/// What a shared store was opened with: the state, for the proofs alone, and how many seats.
+/// What shared stores were opened with: the states, for the proofs alone, and how many seats.
 #[derive(Drop)]
 pub struct Opened {
-    pub state: Snapshot<StoreState>,
+    pub states: Snapshot<Vec<StoreState>>,
     pub seats: u32,
 }
 
-/// The rule of a shared store.
+/// The rule of shared stores.
 #[derive(Clone, Copy)]
 pub struct Ruled;
 
 impl TableRule<StoreState, Knows, Opened> for Ruled {
-    ghost holds = { λ key. Keeps key.state.value key.seats };
+    ghost holds = { λ key. KeepsAll key.states.value.items key.seats };
 
     ghost first = { λ key. all_seats key.seats };
 }
@@ -69,7 +69,7 @@ pub struct Give<T: Call> {
 }
 
 impl<T: Call> Play<StoreState, Knows> for Give<T> {
-    ghost then = { λ st m r n. n ≡ called m T.event T.reply };
+    ghost then = { λ st m r n. n ≡ called st.word m T.event T.reply };
 }
 
 /// The state is given back as it was.

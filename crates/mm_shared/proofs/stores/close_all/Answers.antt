@@ -1,18 +1,14 @@
-use Rattle.std.proofs.Common.{List, subst}
-use Rattle.mm_shared.specs.declared.stores.NamedStore.{NamedStore}
-use Rattle.mm_shared.specs.FreePorts.{AllTaken}
-use Rattle.mm_shared.proofs.Closing.{all_back, legal_logs, sound_back}
+use Rattle.std.proofs.Common.{List, ℕ, map, subst, ap, ◌∙◌}
+use Rattle.mm_desk.specs.declared.entry.Entry.{Entry}
+use Rattle.mm_desk.specs.Runs.{opening_at}
+use Rattle.mm_shared.specs.Stores.{states_of}
+use Rattle.mm_shared.specs.Rule.{calls_on}
+use Rattle.mm_shared.specs.Views.{PortsView, HasLegalLog}
+use Rattle.mm_shared.proofs.Opening.{lists_are}
 use Rattle.mm_shared.proofs.stores.close_all.Goals as goal
 
-pub close_each-requires-clause-all : goal.close_each-requires-clause-all
-close_each-requires-clause-all c =
-    let taken = subst (λ (ss : List NamedStore). AllTaken ss c.args.opened.workers.items c.take_all.new.free.items) c.deref.ensures.value c.take_all.ensures.ports in
-    all_back c.args.opened.stores.items c.args.opened.workers.items c.take_all.new.free.items taken c.requires.opened.seats
-
 pub returns-clause-went : goal.returns-clause-went
-returns-clause-went c =
-    let taken = subst (λ (ss : List NamedStore). AllTaken ss c.args.opened.workers.items c.take_all.new.free.items) c.deref.ensures.value c.take_all.ensures.ports in
-    legal_logs c.args.opened.stores.items c.args.opened.workers.items c.take_all.new.free.items c.close_each.new.stores.items taken c.close_each.ensures.back
-
-pub returns-clause-sound : goal.returns-clause-sound
-returns-clause-sound c = sound_back c.args.opened.stores.items c.take_all.new.free.items c.close_each.new.stores.items c.close_each.ensures.back
+returns-clause-went c k within =
+    let workers = c.args.opened.workers.items in
+    subst (λ (ls : List (List Entry)). HasLegalLog ls (opening_at c.args.opened.stores.openings k) (opening_at (states_of c.close.new.stores.items) k))
+    (ap (λ (v : PortsView). map (calls_on k) v.lists) c.take_ports.ensures.all ∙ lists_are k workers) (c.close.ensures.went k within)

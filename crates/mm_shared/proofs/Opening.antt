@@ -1,0 +1,64 @@
+-- Stores are parted into labels and states, and put together again.
+use Rattle.std.proofs.Common.{◌≡◌, ℕ, zero, suc, ◌+◌, ◌<◌, List, [], ◌∷◌, ◌++◌, length, map, take, get_or, refl, ap, ◌∙◌, arith}
+use Rattle.mm_desk.specs.declared.entry.Entry.{Entry}
+use Rattle.mm_desk.specs.declared.held.Held.{Held}
+use Rattle.mm_desk.specs.Machine.{State}
+use Rattle.mm_shared.specs.declared.label.StoreLabel.{StoreLabel}
+use Rattle.mm_shared.specs.Rule.{calls_on}
+use Rattle.mm_shared.specs.Views.{PortView}
+use Rattle.mm_shared.specs.Stores.{held_stores, label_of, labels_of, lists_at, names_of, states_of}
+
+-- a store under a label
+abbrev pub under : StoreLabel → State → Held
+under label state = record { id = label.id; channel = label.channel; state = state }
+
+-- one store more
+pub one_more : (labels : List StoreLabel) (states : List State) (label : StoreLabel) (state : State) → length labels ≡ length states
+    → held_stores (labels ++ label ∷ []) (states ++ state ∷ []) ≡ held_stores labels states ++ under label state ∷ []
+one_more [] [] label state same = refl
+one_more [] (s ∷ states) label state same = absurd (omega (arith, same))
+one_more (l ∷ labels) [] label state same = absurd (omega (arith, same))
+one_more (l ∷ labels) (s ∷ states) label state same = ap (λ (hs : List Held). under l s ∷ hs) (one_more labels states label state (omega (arith, same)))
+
+-- stores that were parted are together again
+pub together : (stores : List Held) → held_stores (map label_of stores) (states_of stores) ≡ stores
+together [] = refl
+together (h ∷ hs) = ap (λ (xs : List Held). h ∷ xs) (together hs)
+
+-- the labels and the states of stores that were put together
+pub labels_are : (labels : List StoreLabel) (states : List State) → length labels ≡ length states → labels_of (held_stores labels states) ≡ names_of labels
+labels_are [] [] same = refl
+labels_are [] (s ∷ states) same = refl
+labels_are (l ∷ labels) [] same = absurd (omega (arith, same))
+labels_are (l ∷ labels) (s ∷ states) same = ap (λ (xs : List (List ℕ × ℕ)). (l.id, l.channel) ∷ xs) (labels_are labels states (omega (arith, same)))
+
+pub states_are : (labels : List StoreLabel) (states : List State) → length labels ≡ length states → states_of (held_stores labels states) ≡ states
+states_are [] [] same = refl
+states_are [] (s ∷ states) same = absurd (omega (arith, same))
+states_are (l ∷ labels) [] same = refl
+states_are (l ∷ labels) (s ∷ states) same = ap (λ (xs : List State). s ∷ xs) (states_are labels states (omega (arith, same)))
+
+-- the labels of parted stores
+pub names_are : (stores : List Held) → names_of (map label_of stores) ≡ labels_of stores
+names_are [] = refl
+names_are (h ∷ hs) = ap (λ (xs : List (List ℕ × ℕ)). (h.id, h.channel) ∷ xs) (names_are hs)
+
+-- how many stores there are
+pub count_is : (labels : List StoreLabel) (states : List State) → length labels ≡ length states → length (held_stores labels states) ≡ length labels
+count_is [] states same = refl
+count_is (l ∷ labels) [] same = absurd (omega (arith, same))
+count_is (l ∷ labels) (s ∷ states) same = ap suc (count_is labels states (omega (arith, same)))
+
+-- one element more of a list
+pub take_one : {A : Type 0} (l : List A) (k : ℕ) (d : A) → k < length l → take (k + 1) l ≡ take k l ++ get_or l k d ∷ []
+take_one l k d within = let next : k + 1 ≡ suc k = omega arith in ap (λ (n : ℕ). take n l) next ∙ by_suc l k within
+  where
+    by_suc : (l : List _) (k : ℕ) → k < length l → take (suc k) l ≡ take k l ++ get_or l k d ∷ []
+    by_suc [] k within = absurd (omega (arith, within))
+    by_suc (x ∷ xs) zero within = refl
+    by_suc (x ∷ xs) (suc k) within = ap (λ (ys : List _). x ∷ ys) (by_suc xs k (omega (arith, within)))
+
+-- the calls of workers on a store
+pub lists_are : (k : ℕ) (workers : List PortView) → map (calls_on k) (map (λ w. w.list) workers) ≡ lists_at k workers
+lists_are k [] = refl
+lists_are k (w ∷ ws) = ap (λ (ls : List (List Entry)). calls_on k w.list ∷ ls) (lists_are k ws)

@@ -1,0 +1,7 @@
+use Rattle.std.specs.Prelude.{Ok}
+use Rattle.mm_desk.specs.declared.event.Event.TheVariants.{Disable}
+use Rattle.mm_desk.specs.declared.reply.Reply.TheVariants as reply
+use Rattle.mm_shared.proofs.shared.SharedStores.disable.Given as goal
+
+abbrev pub ghosts-give : goal.ghosts-give
+ghosts-give g a = record { event = Disable; reply = reply.Done (Ok tt) }

@@ -1,0 +1,18 @@
+use Rattle.std.proofs.Common.{◌≡◌, ℕ, ◌+◌, ◌<◌, List, Vec, Global, length, replicate, take, get_or, rules, sym, subst, ◌∙◌, arith}
+use Rattle.std.proofs.lemmas.List.{length-take-le, get_or-take, get_or-replicate}
+use Rattle.atomic_table.specs.Table.{opening}
+use Rattle.mm_desk.specs.Machine.{State}
+use Rattle.mm_shared.specs.Rule.{KeepsAll, all_seats}
+use Rattle.mm_shared.proofs.Slices.{begins_all}
+use Rattle.mm_shared.proofs.shared.SharedStores.open.Goals as goal
+
+pub new-requires : goal.new-requires
+new-requires c =
+    let states = c.args.states.items in
+    let count : c.len.result ≡ length states = search rules in
+    let zeros : List ℕ = replicate 17 0 in
+    let words : List ℕ = take (c.len.result + 1) zeros in
+    let many : length words ≡ length states + 1 = length-take-le (c.len.result + 1) zeros (omega (arith, count, c.requires.few)) ∙ omega (arith, count) in
+    let made = begins_all c.args.seats words states many
+    (λ k within. get_or-take (c.len.result + 1) zeros k 0 (omega (arith, count)) ∙ get_or-replicate 17 k 0 0 (omega (arith, c.requires.few))) in
+    subst (λ (v : Vec State Global). KeepsAll v.items c.args.seats (opening words states (all_seats c.args.seats))) (sym c.of.ensures) made

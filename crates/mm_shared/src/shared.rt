@@ -1,0 +1,147 @@
+//! Packet stores that threads share.
+ghost use Rattle.std.specs.Prelude.{◌≡◌, ◌+◌, ◌<◌, ◌≤◌, ℕ, [], length, All, IfOk, IfErr, IsTrue, false, vec_capacity, slice_index_or, slice_set};
+ghost use mathlib.Core.Option.{some};
+ghost use lib.ListN.{get_elem?};
+ghost use Rattle.std.specs.Slots.{slots_items, slots_len, slots_filled, IsFull};
+ghost use Rattle.mm_base.specs.declared.limits.TheConstants.{MAX_STORES};
+ghost use Rattle.mm_desk.specs.Machine.{IsState};
+ghost use Rattle.mm_desk.specs.Runs.{opening_at};
+ghost use Rattle.mm_shared.specs.Stores.{held_stores, labels_of, names_of, states_of};
+ghost use Rattle.mm_shared.specs.Views.{HaveLogs, new_ports, first_port, other_ports, with_port};
+
+use crate::label::StoreLabel;
+use crate::port::{Port, Ports};
+use crate::rule::{Before, First, Knows, Opened, Ruled};
+use atomic_table::{Closed, Refused, Table};
+use mm_base::{MAX_STORES, NoMemory};
+use mm_desk::{Held, StoreState};
+use std::alloc::Global;
+use std::marker::Model;
+use std::snapshot::Snapshot;
+
+/// Packet stores that threads share, each by a port of its own. Stores count from 0. Contracts see which ones they are, the states that
+/// they were opened with and how many seats there are.
+#[derive(Drop)]
+pub struct SharedStores {
+    pub(crate) table: Table<StoreState, Knows, Opened, Ruled, Global>,
+}
+
+impl Model for SharedStores {
+    ghost use Rattle.mm_shared.specs.Steps.{HasSlots};
+    ghost use Rattle.mm_shared.specs.Views.{StoresView};
+
+    ghost Value = { StoresView };
+
+    ghost view = { λ s. record { id = s.table.shared.table_id; openings = s.table.shared.key.states.value.items; seats = s.table.shared.key.seats } };
+
+    ghost invariant = { λ s. HasSlots s.table.shared.table_id s.table.shared.key.states.value.items };
+}
+
+// Takes one state out of a closed table.
+fn take_state(closed: &mut Closed<StoreState, Global>, store: usize) -> StoreState
+    requires there { (store < slots_len closed.old.slots) × IsTrue (slice_index_or (slots_filled closed.old.slots) store false) }
+    ensures value { get_elem? (slots_items closed.old.slots) store ≡ some result }
+    ensures items { slots_items closed.new.slots ≡ slots_items closed.old.slots }
+    ensures filled { slots_filled closed.new.slots ≡ slice_set (slots_filled closed.old.slots) store false }
+    ensures len { slots_len closed.new.slots ≡ slots_len closed.old.slots }
+    ensures sound { IsState result }
+{
+    closed.take(store)
+}
+
+// Takes the states out of a closed table, each under its label.
+fn take_out(closed: Closed<StoreState, Global>, labels: &[StoreLabel], stores: &mut Vec<Held>)
+    requires full { IsFull closed.slots }
+    requires as_many { slots_len closed.slots ≡ length labels.now }
+    requires none { stores.old.items ≡ [] }
+    requires room { length labels.now ≤ vec_capacity stores.old }
+    ensures stores { stores.new.items ≡ held_stores labels.now (slots_items closed.slots) }
+    ensures sound { All (λ h. IsState h.state) stores.new.items }
+{
+    let mut closed = closed;
+    for k in 0..labels.len() {
+        let label = labels[k];
+        let state = take_state(&mut closed, k);
+        stores.push_reserved(Held {
+            id: label.id,
+            channel: label.channel,
+            state,
+        });
+    }
+    closed.free();
+}
+
+impl SharedStores {
+    /// Stores in these states with this many seats, and all ports. Where there is no memory the states come back.
+    pub fn open(
+        alloc: Global,
+        states: Vec<StoreState>,
+        seats: u32,
+    ) -> Result<(SharedStores, Ports), (Vec<StoreState>, NoMemory)>
+        requires few { length states.items ≤ MAX_STORES }
+        ensures opened { IfOk result (λ o. (o.0.openings ≡ states.items) × (o.0.seats ≡ seats)) }
+        ensures ports { IfOk result (λ o. o.1 ≡ new_ports o.0.id seats) }
+        ensures back { IfErr result (λ refused. refused.0.items ≡ states.items) }
+    {
+        let words = [0u64; MAX_STORES + 1];
+        let opened = Opened {
+            states: Snapshot::of(&states),
+            seats,
+        };
+        match Table::new(alloc, &words[..states.len() + 1], states, &opened) {
+            Ok((table, seat)) => Ok((SharedStores { table }, Ports { first: 0, seat })),
+            Err(Refused { slots }) => Err((slots, NoMemory)),
+        }
+    }
+
+    /// Parts the first seat from the others, which gets a port of its own.
+    pub fn split(&self, ports: &mut Ports) -> Port
+        requires of { ports.old.of ≡ self.now.id }
+        requires some { 0 < length ports.old.lists }
+        ensures port { result ≡ first_port ports.old }
+        ensures others { ports.new ≡ other_ports ports.old }
+    {
+        let seat = self.table.shared.split_seat::<First>(&mut ports.seat);
+        let number = ports.first;
+        ports.first += 1;
+        Port { number, seat }
+    }
+
+    /// Puts a port before those whose first seat comes next after its own.
+    pub fn join(&self, ports: &mut Ports, port: Port)
+        requires of { (ports.old.of ≡ self.now.id) × (port.of ≡ self.now.id) }
+        requires next { port.number + 1 ≡ ports.old.first }
+        ensures joined { ports.new ≡ with_port port ports.old }
+    {
+        self.table
+            .shared
+            .join_seat::<Before>(&mut ports.seat, port.seat);
+        ports.first = port.number;
+    }
+
+    /// Gives the stores back under these labels, with all ports. It takes no memory.
+    pub fn close(self, ports: Ports, labels: &[StoreLabel], stores: &mut Vec<Held>)
+        requires of { ports.of ≡ self.id }
+        requires first { ports.first ≡ 0 }
+        requires all { length ports.lists ≡ self.seats }
+        requires as_many { length labels.now ≡ length self.openings }
+        requires none { stores.old.items ≡ [] }
+        requires room { length labels.now ≤ vec_capacity stores.old }
+        ensures labels { labels_of stores.new.items ≡ names_of labels.now }
+        ensures went { HaveLogs ports.lists self.openings (states_of stores.new.items) }
+        ensures sound { All (λ h. IsState h.state) stores.new.items }
+    {
+        take_out(self.table.close_with(ports.seat), labels, stores);
+    }
+
+    /// Gives the stores back under these labels, without the ports. Nothing is known of them but that they are sound. It takes no memory.
+    pub fn into_stores(self, labels: &[StoreLabel], stores: &mut Vec<Held>)
+        requires as_many { length labels.now ≡ length self.openings }
+        requires none { stores.old.items ≡ [] }
+        requires room { length labels.now ≤ vec_capacity stores.old }
+        ensures labels { labels_of stores.new.items ≡ names_of labels.now }
+        ensures sound { All (λ h. IsState h.state) stores.new.items }
+    {
+        take_out(self.table.close(), labels, stores);
+    }
+}
