@@ -1,5 +1,5 @@
 -- Stores are parted into labels and states, and put together again.
-use Rattle.std.proofs.Common.{◌≡◌, ℕ, zero, suc, ◌+◌, ◌<◌, List, [], ◌∷◌, ◌++◌, length, map, take, get_or, refl, ap, ◌∙◌, arith}
+use Rattle.std.proofs.Common.{◌≡◌, ℕ, suc, List, [], ◌∷◌, ◌++◌, length, map, refl, ap, arith}
 use Rattle.mm_desk.specs.declared.entry.Entry.{Entry}
 use Rattle.mm_desk.specs.declared.held.Held.{Held}
 use Rattle.mm_desk.specs.Machine.{State}
@@ -48,15 +48,6 @@ pub count_is : (labels : List StoreLabel) (states : List State) → length label
 count_is [] states same = refl
 count_is (l ∷ labels) [] same = absurd (omega (arith, same))
 count_is (l ∷ labels) (s ∷ states) same = ap suc (count_is labels states (omega (arith, same)))
-
--- one element more of a list
-pub take_one : {A : Type 0} (l : List A) (k : ℕ) (d : A) → k < length l → take (k + 1) l ≡ take k l ++ get_or l k d ∷ []
-take_one l k d within = let next : k + 1 ≡ suc k = omega arith in ap (λ (n : ℕ). take n l) next ∙ by_suc l k within
-  where
-    by_suc : (l : List _) (k : ℕ) → k < length l → take (suc k) l ≡ take k l ++ get_or l k d ∷ []
-    by_suc [] k within = absurd (omega (arith, within))
-    by_suc (x ∷ xs) zero within = refl
-    by_suc (x ∷ xs) (suc k) within = ap (λ (ys : List _). x ∷ ys) (by_suc xs k (omega (arith, within)))
 
 -- the calls of workers on a store
 pub lists_are : (k : ℕ) (workers : List PortView) → map (calls_on k) (map (λ w. w.list) workers) ≡ lists_at k workers

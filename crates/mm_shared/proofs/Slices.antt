@@ -1,9 +1,8 @@
 -- Each step on a table of stores keeps the rule of each: that of its own store by the step, those of the others as they were.
-use Rattle.std.proofs.Common.{◌≡◌, ◌≢◌, ◌⊎◌, inl, inr, ⊎_elim, ℕ, zero, suc, ◌+◌, ◌<◌, ◌==◌, Bool, true, false, cond, List, [], ◌∷◌, ◌++◌, length, map, filter, drop, get_or, set, refl, sym, ap, ◌∙◌, subst, arith, Option, Some, None}
-use Rattle.std.specs.Prelude.{replicate, if◌then◌else◌}
+use Rattle.std.proofs.Common.{◌≡◌, ◌≢◌, ℕ, zero, suc, ◌+◌, ◌<◌, List, [], ◌∷◌, ◌++◌, length, map, drop, get_or, set, refl, sym, ap, ◌∙◌, subst, arith, Some, None}
+use Rattle.std.specs.Prelude.{replicate}
 use Rattle.std.proofs.lemmas.Bool.{eq-eqb, ne_eqb}
-use Rattle.std.proofs.lemmas.List.{length-set, get_or_default, get_or-map, get_or-set_same, get_or-set_other, map-set, map-append, append-nil, length-map}
-use Rattle.std.proofs.lemmas.List.Elements.{filter-append}
+use Rattle.std.proofs.lemmas.List.{length-set, get_or_default, get_or-map, get_or-set_same, get_or-set_other, map-set, map-append, length-map}
 use mathlib.Core.Option.{none, some, some-injective}
 use native.Mathlib.Decide.{ℕ_discrete}
 use lib.ListN.{get_elem?}
@@ -16,7 +15,7 @@ use Rattle.mm_desk.specs.Machine.{State}
 use Rattle.mm_desk.specs.Runs.{entry, opening_at, blank}
 use Rattle.mm_shared.specs.declared.rule.Knows.{Knows}
 use Rattle.mm_shared.specs.Rule.{Known, known, knows, all_seats, calls_on, held_of, known_at, table_at, Keeps, KeepsAll}
-use Rattle.mm_shared.specs.Steps.{Seated, IsAtRest, HasCalled, IsAsTaken, holding, lists_with, called, at_rest, tried, others_of, first_of, joined}
+use Rattle.mm_shared.specs.Steps.{Seated, IsAtRest, HasCalled, IsAsTaken, lists_with, called, at_rest, tried, others_of, first_of, joined}
 use Rattle.mm_shared.specs.Views.{HasLegalLog}
 use Rattle.mm_shared.proofs.CallsOn.{call_here, call_there}
 use Rattle.mm_shared.proofs.Keeping.{begins, takes_it, keeps_it}

@@ -1,5 +1,5 @@
 -- Stores stay open while workers call through their ports, since no call changes where a port is.
-use Rattle.std.proofs.Common.{◌≡◌, ℕ, ◌+◌, ◌<◌, List, length, get_or, sym, ap, ◌∙◌, arith, Vec, Global}
+use Rattle.std.proofs.Common.{◌≡◌, ℕ, ◌<◌, List, length, get_or, sym, ap, ◌∙◌, arith, Vec, Global}
 use Rattle.std.proofs.lemmas.List.{get_or-map, length-map}
 use Rattle.atomic_table.specs.Seated.{TableId}
 use Rattle.mm_shared.specs.Views.{PortView, no_ports}

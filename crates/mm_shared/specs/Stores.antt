@@ -6,7 +6,7 @@ use Rattle.mm_desk.specs.declared.held.Held.{Held}
 use Rattle.mm_desk.specs.Machine.{State}
 use Rattle.mm_desk.specs.Runs.{opening_at}
 use Rattle.mm_shared.specs.Rule.{calls_on}
-use Rattle.mm_shared.specs.Views.{PortView, HasLegalLog, no_ports}
+use Rattle.mm_shared.specs.Views.{PortView, PortsView, StoresView, HasLegalLog, no_ports}
 use Rattle.mm_shared.specs.declared.label.StoreLabel.{StoreLabel}
 use Rattle.mm_shared.specs.declared.stores.OpenStores.{OpenStores}
 
@@ -43,6 +43,13 @@ AreNamed ids = AllPairs (λ a b. bytes_eq a b ≡ false) ids
 -- the identifiers and the channels of labels
 abbrev pub names_of : List StoreLabel → List (List ℕ × ℕ)
 names_of labels = map (λ s. (s.id, s.channel)) labels
+
+-- stores can be given back under these labels: all their ports are together, and there is a label for each
+pub record MayClose (stores : StoresView) (ports : PortsView) (labels : List StoreLabel) : Type 0 where
+  pub of : ports.of ≡ stores.id
+  pub first : ports.first ≡ 0
+  pub all : length ports.lists ≡ stores.seats
+  pub as_many : length labels ≡ length stores.openings
 
 -- the list of calls made through a port on the store of an index
 abbrev pub list_at : PortView → ℕ → List Entry

@@ -6,7 +6,8 @@ ghost use Rattle.std.specs.Slots.{slots_items, slots_len, slots_filled, IsFull};
 ghost use Rattle.mm_base.specs.declared.limits.TheConstants.{MAX_STORES};
 ghost use Rattle.mm_desk.specs.Machine.{IsState};
 ghost use Rattle.mm_desk.specs.Runs.{opening_at};
-ghost use Rattle.mm_shared.specs.Stores.{held_stores, labels_of, names_of, states_of};
+ghost use Rattle.mm_shared.specs.Rule.{calls_on};
+ghost use Rattle.mm_shared.specs.Stores.{held_stores, labels_of, names_of, states_of, MayClose};
 ghost use Rattle.mm_shared.specs.Views.{HaveLogs, new_ports, first_port, other_ports, with_port};
 
 use crate::label::StoreLabel;
@@ -121,14 +122,12 @@ impl SharedStores {
 
     /// Gives the stores back under these labels, with all ports. It takes no memory.
     pub fn close(self, ports: Ports, labels: &[StoreLabel], stores: &mut Vec<Held>)
-        requires of { ports.of ≡ self.id }
-        requires first { ports.first ≡ 0 }
-        requires all { length ports.lists ≡ self.seats }
-        requires as_many { length labels.now ≡ length self.openings }
-        requires none { stores.old.items ≡ [] }
-        requires room { length labels.now ≤ vec_capacity stores.old }
+        requires may { MayClose self ports labels.now }
+        requires room { (stores.old.items ≡ []) × (length labels.now ≤ vec_capacity stores.old) }
         ensures labels { labels_of stores.new.items ≡ names_of labels.now }
         ensures went { HaveLogs ports.lists self.openings (states_of stores.new.items) }
+        ensures untouched { (k : ℕ) → k < length self.openings → All (λ calls. calls_on k calls ≡ []) ports.lists
+            → opening_at (states_of stores.new.items) k ≡ opening_at self.openings k }
         ensures sound { All (λ h. IsState h.state) stores.new.items }
     {
         take_out(self.table.close_with(ports.seat), labels, stores);
@@ -137,8 +136,7 @@ impl SharedStores {
     /// Gives the stores back under these labels, without the ports. Nothing is known of them but that they are sound. It takes no memory.
     pub fn into_stores(self, labels: &[StoreLabel], stores: &mut Vec<Held>)
         requires as_many { length labels.now ≡ length self.openings }
-        requires none { stores.old.items ≡ [] }
-        requires room { length labels.now ≤ vec_capacity stores.old }
+        requires room { (stores.old.items ≡ []) × (length labels.now ≤ vec_capacity stores.old) }
         ensures labels { labels_of stores.new.items ≡ names_of labels.now }
         ensures sound { All (λ h. IsState h.state) stores.new.items }
     {

@@ -1,15 +1,15 @@
-use Rattle.std.proofs.Common.{◌≡◌, ◌≢◌, ◌⊎◌, inl, inr, ℕ, ◌+◌, ◌<◌, ◌≤◌, Bool, true, false, List, [], ◌∷◌, ◌++◌, length, take, get_or, set, refl, sym, ap, ◌∙◌, subst, arith, IsTrue}
+use Rattle.std.proofs.Common.{◌≡◌, ◌⊎◌, inl, inr, ℕ, ◌+◌, ◌<◌, Bool, false, List, [], ◌∷◌, ◌++◌, length, take, get_or, set, sym, ap, ◌∙◌, subst, arith, IsTrue}
 use Rattle.std.specs.Prelude.{slice_index_or}
 use Rattle.std.specs.Slots.{slots_items, slots_len, slots_filled, slots_counts}
 use Rattle.std.proofs.lemmas.Bool.{cases_order}
-use Rattle.std.proofs.lemmas.List.{get_or-set_same, get_or-set_other, length-take-le}
+use Rattle.std.proofs.lemmas.List.{get_or-set_same, get_or-set_other, length-take-le, take_more}
 use Rattle.std.proofs.lemmas.List.Elements.{All-push}
 use Rattle.mm_desk.specs.declared.held.Held.{Held}
 use Rattle.mm_desk.specs.Machine.{State, IsState}
 use Rattle.mm_shared.specs.declared.label.StoreLabel.{StoreLabel}
 use Rattle.mm_shared.specs.Stores.{held_stores}
 use Rattle.mm_shared.proofs.Lists.{at_get}
-use Rattle.mm_shared.proofs.Opening.{one_more, take_one, under}
+use Rattle.mm_shared.proofs.Opening.{one_more, under}
 use Rattle.mm_shared.proofs.shared.take_out.Goals as goal
 
 pub loop-k-preserved : goal.loop-k-preserved
@@ -37,8 +37,8 @@ loop-k-preserved c =
           ∙ (ap (λ (hs : List Held). hs ++ pushed ∷ []) before.same
           ∙ (sym (one_more (take k c.args.labels.now) (take k all) label state
           (length-take-le k c.args.labels.now (omega arith) ∙ sym (length-take-le k all (omega (arith, many)))))
-          ∙ (ap (λ (ls : List StoreLabel). held_stores ls (take k all ++ state ∷ [])) (sym (take_one c.args.labels.now k label in_labels ∙ ap (λ (l : StoreLabel). take k c.args.labels.now ++ l ∷ []) (sym c.index-labels-k.is)))
-          ∙ ap (held_stores (take (k + 1) c.args.labels.now)) (sym (take_one all k state (omega (arith, many)) ∙ ap (λ (s : State). take k all ++ s ∷ []) there)))));
+          ∙ (ap (λ (ls : List StoreLabel). held_stores ls (take k all ++ state ∷ [])) (sym (take_more c.args.labels.now k label in_labels ∙ ap (λ (l : StoreLabel). take k c.args.labels.now ++ l ∷ []) (sym c.index-labels-k.is)))
+          ∙ ap (held_stores (take (k + 1) c.args.labels.now)) (sym (take_more all k state (omega (arith, many)) ∙ ap (λ (s : State). take k all ++ s ∷ []) there)))));
       sound = subst (λ (hs : List Held). Rattle.std.specs.Prelude.All (λ h. IsState h.state) hs) (sym c.push_reserved.ensures.items)
           (All-push (λ (h : Held). IsState h.state) c.loop-k.stores.items pushed before.sound c.take_state-state.ensures.sound);
       room = c.push_reserved.ensures.capacity ∙ before.room;

@@ -1,7 +1,6 @@
-use Rattle.std.proofs.Common.{◌≡◌, List, ◌∷◌, [], ◌++◌, length, sym, ap, ◌∙◌, arith}
+use Rattle.std.proofs.Common.{List, ◌∷◌, [], ◌++◌, length, sym, ap, ◌∙◌, arith}
 use Rattle.std.proofs.lemmas.List.{length-append}
 use Rattle.mm_desk.specs.declared.held.Held.{Held}
-use Rattle.mm_desk.specs.Machine.{State}
 use Rattle.mm_shared.specs.declared.label.StoreLabel.{StoreLabel}
 use Rattle.mm_shared.specs.Stores.{held_stores}
 use Rattle.mm_shared.proofs.Opening.{one_more, count_is, under}

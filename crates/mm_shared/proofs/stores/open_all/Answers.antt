@@ -1,7 +1,6 @@
-use Rattle.std.proofs.Common.{◌≡◌, ℕ, List, Vec, Global, length, sym, ap, ◌∙◌, subst, arith}
+use Rattle.std.proofs.Common.{List, Vec, Global, length, sym, ap, ◌∙◌, arith}
 use Rattle.std.proofs.lemmas.List.{length-map}
 use Rattle.mm_desk.specs.declared.held.Held.{Held}
-use Rattle.mm_desk.specs.Machine.{State}
 use Rattle.mm_shared.specs.declared.label.StoreLabel.{StoreLabel}
 use Rattle.mm_shared.specs.Stores.{held_stores, label_of, names_of, states_of}
 use Rattle.mm_shared.specs.Views.{no_ports}

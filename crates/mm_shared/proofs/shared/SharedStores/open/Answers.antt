@@ -1,4 +1,4 @@
-use Rattle.std.proofs.Common.{◌≡◌, ℕ, ◌+◌, ◌<◌, List, Vec, Global, length, replicate, take, get_or, rules, sym, subst, ◌∙◌, arith}
+use Rattle.std.proofs.Common.{◌≡◌, ℕ, ◌+◌, List, Vec, Global, length, replicate, take, rules, sym, subst, ◌∙◌, arith}
 use Rattle.std.proofs.lemmas.List.{length-take-le, get_or-take, get_or-replicate}
 use Rattle.atomic_table.specs.Table.{opening}
 use Rattle.mm_desk.specs.Machine.{State}
