@@ -3,22 +3,26 @@ use Rattle.std.proofs.Common.{◌≡◌, ℕ, ◌+◌, ◌<◌, ◌≤◌, List,
 use Rattle.std.specs.List.{AllZip, sum_by}
 use Rattle.std.specs.Prelude.{Option, Some, None}
 use Rattle.std.proofs.lemmas.List.{length-map}
-use Rattle.std.proofs.lemmas.List.Elements.{All-nil, All-cons, All-head, All-tail, All-map, All-weaker}
+use Rattle.std.proofs.lemmas.List.Elements.{All-head, All-tail, All-map, All-weaker}
 use Rattle.std.proofs.lemmas.List.Sums.{sum_by-cons, sum_by-append}
 use Rattle.crossbeam_queue.specs.declared.array_queue.Doing.{Doing}
 use Rattle.crossbeam_queue.specs.declared.array_queue.Slotted.{Slotted}
 use Rattle.crossbeam_queue.specs.Passes.{view}
+use Rattle.mm_base.proofs.Elements.{All-unmapped}
 use Rattle.mm_base.proofs.Sums.{sum_by-map}
 use Rattle.mm_desk.specs.declared.entry.Entry.{Entry}
 use Rattle.mm_store.specs.declared.stored.Stored.{Stored}
+use Rattle.mm_shared.specs.Rule.{calls_on}
 use Rattle.mm_shared.specs.Stores.{id_at, list_at}
+use Rattle.mm_shared.specs.Views.{PortView, StoresView}
 use Rattle.mm_dump.specs.declared.order.Order.{Order}
+use Rattle.mm_dump.specs.declared.order.OrderBroken.{OrderBroken}
 use Rattle.mm_dump.specs.declared.queue.QueueView.{QueueView}
-use Rattle.mm_dump.specs.declared.stop.Stop.{Stop}
-use Rattle.mm_dump.specs.Courses.{Course, calls_at, sent_by, failed_by, spent_by}
+use Rattle.mm_dump.specs.Courses.{Course, worst_of, calls_at, sent_by, failed_by, spent_by}
 use Rattle.mm_dump.specs.Dumped.{AllKept, used_by}
 use Rattle.mm_dump.specs.Sending.{Sent, all_sent}
-use Rattle.mm_dump.specs.Workers.{order_at, AreTried, TookAs, Sided, AllWorked}
+use Rattle.mm_dump.specs.Workers.{order_at, AreTried, TookAs, Sided, IsReady, AllWorked, calls_of}
+use Rattle.mm_dump.proofs.Finding.{calls_on-calls_of}
 use Rattle.mm_dump.proofs.Weighing.{below, all_below, not_below, is_it, last_taken}
 
 -- an order is the one of some number
@@ -26,11 +30,6 @@ pub record IsOrdered (orders : List Order) (o : Order) : Type 0 where
   pub number : ℕ
   pub within : number < length orders
   pub is : o ≡ order_at orders number
-
--- what holds of each element of a mapped list
-pub unmapped : {X Y : Type 0} (P : Y → Type 0) (f : X → Y) (xs : List X) → All P (map f xs) → All (λ (x : X). P (f x)) xs
-unmapped P f [] all = All-nil (λ x. P (f x))
-unmapped P f (x ∷ xs) all = All-cons (λ x. P (f x)) x xs (All-head P (f x) (map f xs) all) (unmapped P f xs (All-tail P (f x) (map f xs) all))
 
 -- a packet of a store
 sending : List ℕ → Stored → Sent
@@ -74,15 +73,15 @@ all_kept sent failed ids (cs ∷ more) (old ∷ olds) (new ∷ news) grew =
 ordered_of : (orders : List Order) (courses : List Course) (numbers : List ℕ) → map (λ (c : Course). c.order) courses ≡ map (order_at orders) numbers
     → All (λ (k : ℕ). k < length orders) numbers → All (λ (c : Course). IsOrdered orders c.order) courses
 ordered_of orders courses numbers same within =
-    unmapped (IsOrdered orders) (λ (c : Course). c.order) courses
+    All-unmapped (IsOrdered orders) (λ (c : Course). c.order) courses
     (subst (λ (os : List Order). All (IsOrdered orders) os) (sym same)
     (All-map (IsOrdered orders) (order_at orders) numbers (All-weaker (λ (k : ℕ). k < length orders) (λ (k : ℕ). IsOrdered orders (order_at orders k)) (λ k inside. record { number = k; within = inside; is = refl }) numbers within)))
 
 -- what a worker took weighs what its orders weigh
-took_weighs : (orders : List Order) (g : Order → ℕ) (courses : List Course) (numbers taken : List ℕ) (stop : Option Stop)
-    → map (λ (c : Course). c.order) courses ≡ map (order_at orders) numbers → All (λ (k : ℕ). k < length orders) numbers → TookAs stop (length orders) numbers taken
+took_weighs : (orders : List Order) (g : Order → ℕ) (courses : List Course) (numbers taken : List ℕ) (why : Option OrderBroken)
+    → map (λ (c : Course). c.order) courses ≡ map (order_at orders) numbers → All (λ (k : ℕ). k < length orders) numbers → TookAs why (length orders) numbers taken
     → sum_by (λ (c : Course). g c.order) courses ≡ sum_by (below (length orders) (λ (k : ℕ). g (order_at orders k))) taken
-took_weighs orders g courses numbers taken stop same within took = these ∙ sym (by_stop stop took)
+took_weighs orders g courses numbers taken why same within took = these ∙ sym (by_cause why took)
   where
     weight : ℕ → ℕ
     weight k = below (length orders) (λ (k : ℕ). g (order_at orders k)) k
@@ -92,53 +91,58 @@ took_weighs orders g courses numbers taken stop same within took = these ∙ sym
         sym (sum_by-map g (λ (c : Course). c.order) courses) ∙ ap (sum_by g) same ∙ sum_by-map g (order_at orders) numbers
         ∙ sym (all_below (length orders) (λ (k : ℕ). g (order_at orders k)) numbers within)
 
-    by_stop : (stop : Option Stop) → TookAs stop (length orders) numbers taken → sum_by weight taken ≡ sum_by weight numbers
-    by_stop None t =
+    by_cause : (why : Option OrderBroken) → TookAs why (length orders) numbers taken → sum_by weight taken ≡ sum_by weight numbers
+    by_cause None t =
         omega (arith, ap (sum_by weight) t.2, sum_by-append weight numbers (t.0 ∷ []), sum_by-cons weight t.0 [], not_below (length orders) (λ (k : ℕ). g (order_at orders k)) t.0 t.1)
-    by_stop (Some s) t = ap (sum_by weight) t
+    by_cause (Some broken) t = ap (sum_by weight) t
 
--- a worker of whose orders none stopped took a number past those of the orders
+-- a worker of whose orders none broke took a number past those of the orders
 pub record FoundNone (orders : ℕ) (taken : List ℕ) : Type 0 where
   pub past : ℕ
   pub beyond : orders ≤ past
   pub was_taken : 1 ≤ sum_by (is_it past) taken
 
-found_none : (orders : ℕ) (numbers taken : List ℕ) (stop : Option Stop) → TookAs stop orders numbers taken → stop ≡ None → FoundNone orders taken
+found_none : (orders : ℕ) (numbers taken : List ℕ) (why : Option OrderBroken) → TookAs why orders numbers taken → why ≡ None → FoundNone orders taken
 found_none orders numbers taken None took none = record { past = took.0; beyond = took.1; was_taken = last_taken took.0 numbers taken took.2 }
-found_none orders numbers taken (Some s) took none = absurd (cc none)
+found_none orders numbers taken (Some broken) took none = absurd (cc none)
 
--- a worker before it takes an order: no call was made through its lines, and it has spent nothing
-pub record IsFreshAt {L : Type 0} (desks : ℕ) (s : Sided L) : Type 0 where
-  pub count : length s.lines ≡ desks
-  pub empty : (k : ℕ) → list_at s.lines k ≡ []
-  pub spent : s.worker.spent ≡ 0
+-- a worker took a number at least
+took_some : (orders : List Order) (courses : List Course) (numbers taken : List ℕ) (why : Option OrderBroken) → map (λ (c : Course). c.order) courses ≡ map (order_at orders) numbers
+    → worst_of (map (λ (c : Course). c.why) courses) ≡ why → TookAs why (length orders) numbers taken → 1 ≤ sum_by (λ (k : ℕ). 1) taken
+took_some orders courses numbers taken None same cause took =
+    omega (arith, ap (sum_by (λ (k : ℕ). 1)) took.2, sum_by-append (λ (k : ℕ). 1) numbers (took.0 ∷ []), sum_by-cons (λ (k : ℕ). 1) took.0 [])
+took_some orders [] numbers taken (Some broken) same cause took = absurd (cc cause)
+took_some orders (c ∷ courses) [] taken (Some broken) same cause took = absurd (cc same)
+took_some orders (c ∷ courses) (k ∷ numbers) taken (Some broken) same cause took =
+    omega (arith, ap (sum_by (λ (k : ℕ). 1)) took, sum_by-cons (λ (k : ℕ). 1) k numbers)
 
--- how a worker's orders went, with what stopped it
+-- how a worker's orders went, and why the last one broke, where it did
 pub record IsOf {L : Type 0} (orders : List Order) (courses : List Course) (s : Sided L) : Type 0 where
-  pub are : AreTried s.worker.stop courses
+  pub are : AreTried s.worker.why courses
   pub ordered : All (λ (c : Course). IsOrdered orders c.order) courses
   pub weighs : (g : Order → ℕ) → sum_by (λ (c : Course). g c.order) courses ≡ sum_by (below (length orders) (λ (k : ℕ). g (order_at orders k))) (view s.worker.pass).taken
-  pub found : s.worker.stop ≡ None → FoundNone (length orders) (view s.worker.pass).taken
+  pub found : s.worker.why ≡ None → FoundNone (length orders) (view s.worker.pass).taken
+  pub some : 1 ≤ sum_by (λ (k : ℕ). 1) (view s.worker.pass).taken
   pub blocks : s.worker.spent ≡ spent_by courses
 
 module _ {L Q A : Type 0} (sent : L → List Sent) (failed : L → ℕ) (queue : Slotted (Option ℕ) (Doing ℕ QueueView) Q A) (ids : List (List ℕ)) (orders : List Order) where
   -- the orders that workers carried out, each one's in order
-  pub record Gathered (desks : ℕ) (olds news : List (Sided L)) : Type 0 where
+  pub record Gathered (olds news : List (Sided L)) : Type 0 where
     pub courses : List (List Course)
     pub each : AllZip (IsOf orders) courses news
-    pub lists : (k : ℕ) → k < desks → map (λ (s : Sided L). list_at s.lines k) news ≡ map (calls_at k) courses
+    pub lists : (k : ℕ) → map (λ (s : Sided L). list_at s.port k) news ≡ map (calls_at k) courses
     pub links : AllGrew sent failed ids courses (map (λ (s : Sided L). s.link) olds) (map (λ (s : Sided L). s.link) news)
 
-  pub gathered : (desks : ℕ) (olds news : List (Sided L)) → All (IsFreshAt desks) olds → AllWorked sent failed queue ids orders olds news → Gathered desks olds news
+  pub gathered : (stores : StoresView) (olds news : List (Sided L)) → All (IsReady sent failed queue stores) olds → AllWorked sent failed queue ids orders olds news → Gathered olds news
   unfolding AllGrew
-  gathered desks [] [] fresh all = record { courses = []; each = tt; lists = λ k within. refl; links = tt }
-  gathered desks [] (new ∷ news) fresh all = absurd all
-  gathered desks (old ∷ olds) [] fresh all = absurd all
-  gathered desks (old ∷ olds) (new ∷ news) fresh all =
-      let rest = gathered desks olds news (All-tail (IsFreshAt desks) old olds fresh) all.1 in
+  gathered stores [] [] ready all = record { courses = []; each = tt; lists = λ k. refl; links = tt }
+  gathered stores [] (new ∷ news) ready all = absurd all
+  gathered stores (old ∷ olds) [] ready all = absurd all
+  gathered stores (old ∷ olds) (new ∷ news) ready all =
+      let rest = gathered stores olds news (All-tail (IsReady sent failed queue stores) old olds ready) all.1 in
       let one = all.0.worked in
       let on = one.on in
-      let start = All-head (IsFreshAt desks) old olds fresh in
+      let start = All-head (IsReady sent failed queue stores) old olds ready in
       let cs = on.courses in
       record {
         courses = cs ∷ rest.courses;
@@ -146,16 +150,17 @@ module _ {L Q A : Type 0} (sent : L → List Sent) (failed : L → ℕ) (queue :
           record {
             are = on.are;
             ordered = ordered_of orders cs one.numbers on.of on.within;
-            weighs = λ g. took_weighs orders g cs one.numbers (view new.worker.pass).taken new.worker.stop on.of on.within one.took;
-            found = found_none (length orders) one.numbers (view new.worker.pass).taken new.worker.stop one.took;
+            weighs = λ g. took_weighs orders g cs one.numbers (view new.worker.pass).taken new.worker.why on.of on.within one.took;
+            found = found_none (length orders) one.numbers (view new.worker.pass).taken new.worker.why one.took;
+            some = took_some orders cs one.numbers (view new.worker.pass).taken new.worker.why on.of on.are.cause one.took;
             blocks = omega (arith, on.shown.blocks, start.spent);
           },
           rest.each,
         );
-        lists = λ k within.
-            let here : list_at new.lines k ≡ calls_at k cs =
-            on.shown.lists k (omega (arith, within, start.count)) ∙ ap (λ (es : List Entry). es ++ calls_at k cs) (start.empty k) in
-            let there = rest.lists k within in
+        lists = λ k.
+            let here : list_at new.port k ≡ calls_at k cs =
+            ap (λ (p : PortView). list_at p k) on.shown.port ∙ ap (λ (calls : List (ℕ × Entry)). calls_on k (calls ++ calls_of cs)) start.fresh ∙ calls_on-calls_of k cs in
+            let there = rest.lists k in
             λ i. here i ∷ there i;
         links = (on.shown.all, on.shown.failures, rest.links);
       }

@@ -88,17 +88,13 @@ first_queued x items next (suc many) same =
     let less : suc many - 1 ≡ many = omega arith in
     (omega arith, cc same, rw less (cc same))
 
--- how many numbers were taken
-counted : (next : ℕ) → sum_by (λ (k : ℕ). 1) (range_with_len 0 next) ≡ next
-counted next = ones (range_with_len 0 next) ∙ length-range_with_len 0 next
-  where
-    ones : (xs : List ℕ) → sum_by (λ (k : ℕ). 1) xs ≡ length xs
-    ones [] = refl
-    ones (x ∷ xs) = omega (arith, sum_by-cons (λ (k : ℕ). 1) x xs, ones xs)
-
+-- how many numbers there are
 counted_list : (xs : List ℕ) → sum_by (λ (k : ℕ). 1) xs ≡ length xs
 counted_list [] = refl
 counted_list (x ∷ xs) = omega (arith, sum_by-cons (λ (k : ℕ). 1) x xs, counted_list xs)
+
+pub counted : (next : ℕ) → sum_by (λ (k : ℕ). 1) (range_with_len 0 next) ≡ next
+counted next = counted_list (range_with_len 0 next) ∙ length-range_with_len 0 next
 
 -- making the queue with its first pass
 pub begins : AreTakenOnce [] (queue_view 1024 0 [] ∷ [])

@@ -12,8 +12,9 @@ use Rattle.mm_desk.specs.declared.state.Retrieval.{Retrieval}
 use Rattle.mm_desk.specs.Machine.{State, give, next_of, step}
 use Rattle.mm_desk.specs.Orders.{begun, given}
 use Rattle.mm_desk.specs.Runs.{entry}
+use Rattle.mm_shared.specs.Views.{PortView}
 use Rattle.mm_dump.specs.Broken.{aborted}
-use Rattle.mm_dump.specs.OrderSteps.{IsRefused}
+use Rattle.mm_dump.specs.OrderSteps.{IsRefused, WasRefused, with_calls}
 
 -- a retrieval is on after it was begun
 begins_on : (s : State) → reply.Done (Ok tt) ≡ (step s (Begin 1 clock_end)).0 → is_some (step s (Begin 1 clock_end)).1.retrieval ≡ true
@@ -111,3 +112,7 @@ pub after_given : (seat : ℕ) (gave : List Stored) (calls : List Entry) → IsR
 after_given seat [] calls refused = refused
 after_given seat (p ∷ gave) calls refused =
     after_call true true (entry seat Next (reply.Given (Ok (Some p)))) (given seat gave ++ calls) (λ s on answers. gives_on s p answers) (after_given seat gave calls refused)
+
+-- one call through a port that no store answers so
+pub was_refused : (place : ℕ) (on : Bool) (old new : PortView) (e : Entry) → new ≡ with_calls place old (e ∷ []) → IsRefused on (e ∷ []) → WasRefused place on old new
+was_refused place on old new e called refused = (e ∷ [], called, refused)

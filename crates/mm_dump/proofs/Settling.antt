@@ -1,9 +1,8 @@
 -- From what workers carried out and what became of the stores, to the step.
-use Rattle.std.proofs.Common.{◌≡◌, ◌≢◌, ◌⊎◌, inl, inr, ℕ, ◌+◌, ◌<◌, ◌≤◌, List, [], ◌∷◌, ◌++◌, get_or, map, All, AllPairs, refl, sym, ap, subst, ◌∙◌, append_assoc, arith}
+use Rattle.std.proofs.Common.{◌≡◌, ◌≢◌, ℕ, ◌+◌, ◌<◌, ◌≤◌, List, [], ◌∷◌, ◌++◌, get_or, map, All, AllPairs, refl, sym, ap, subst, ◌∙◌, arith}
 use Rattle.std.specs.List.{flat_map, sum_by}
 use Rattle.std.specs.Prelude.{Option, None}
-use Rattle.std.proofs.lemmas.Bool.{cases_lt}
-use Rattle.std.proofs.lemmas.List.Elements.{All-nil, All-cons, All-head, All-tail}
+use Rattle.std.proofs.lemmas.List.Elements.{All-nil, All-cons, All-head, All-tail, All-append}
 use Rattle.mm_base.proofs.Sums.{sum_by-same, sum_by-map, sum_by-flat_map}
 use Rattle.mm_desk.specs.declared.entry.Entry.{Entry}
 use Rattle.mm_desk.specs.Laws.{LoneSeatsAreLogs}
@@ -19,8 +18,9 @@ use Rattle.mm_dump.specs.Dumped.{wanted, times, places_of, AreCourses, HasDumped
 use Rattle.mm_dump.specs.Sending.{Sent, all_sent}
 use Rattle.mm_dump.proofs.Causes.{worse-none}
 use Rattle.mm_dump.proofs.Courses.{whys, none_broke, whole_course, no_failures}
-use Rattle.mm_dump.proofs.Finding.{find, here, tally, flat, found_at, all_found, none_found, none_lists, lone_list}
+use Rattle.mm_dump.proofs.Finding.{find, here, tally, flat, is_found, none_found, lone_list}
 use Rattle.mm_dump.proofs.Gathering.{IsOrdered, AllGrew}
+use Rattle.mm_dump.proofs.Halves.{all_left, all_right}
 use Rattle.mm_dump.proofs.Ordered.{wanted_of, wanted_named}
 
 -- the places of orders
@@ -35,6 +35,17 @@ Known orders c = IsCourse c × IsOrdered orders c.order
 abbrev pub HaveEnded : List Course → Type 0
 HaveEnded cs = (why : Option OrderBroken) × AreCourses why cs
 
+-- what holds of each order of each list, and of all of them
+pub flat_all : (P : Course → Type 0) (courses : List (List Course)) → All (λ (cs : List Course). All P cs) courses → All P (flat courses)
+flat_all P [] all = All-nil P
+flat_all P (cs ∷ more) all =
+    All-append P cs (flat more) (All-head (λ (cs : List Course). All P cs) cs more all) (flat_all P more (All-tail (λ (cs : List Course). All P cs) cs more all))
+
+pub all_flat : (P : Course → Type 0) (courses : List (List Course)) → All P (flat courses) → All (λ (cs : List Course). All P cs) courses
+all_flat P [] all = All-nil (λ (cs : List Course). All P cs)
+all_flat P (cs ∷ more) all =
+    All-cons (λ (cs : List Course). All P cs) cs more (all_left P cs (flat more) all) (all_flat P more (all_right P cs (flat more) all))
+
 -- how often a place stands in the lists of places
 pub spots_tally : (k : ℕ) (courses : List (List Course)) → sum_by (times k) (map spots courses) ≡ tally k (flat courses)
 spots_tally k courses =
@@ -42,112 +53,94 @@ spots_tally k courses =
     ∙ sum_by-same (λ (cs : List Course). times k (spots cs)) (tally k) courses (λ i d within. sum_by-map _ (λ (c : Course). c.order.place) (get_or courses i d))
     ∙ sym (sum_by-flat_map (here k) (λ (cs : List Course). cs) courses)
 
--- the links took what the orders found at the places sent
-module _ {L : Type 0} (sent : L → List Sent) (failed : L → ℕ) (ids : List (List ℕ)) (all : List Course) (few : (p : ℕ) → tally p all ≤ 1) where
-  pub all_tried : (xs : List Course) (courses : List (List Course)) (olds news : List L) → all ≡ xs ++ flat courses
-      → All HaveEnded courses
-      → AllGrew sent failed ids courses olds news → AllTried sent failed ids (λ (p : ℕ). find p all) (map spots courses) olds news
-  unfolding AllGrew AllTried
-  all_tried xs [] [] [] split are grew = tt
-  all_tried xs [] [] (new ∷ news) split are grew = absurd grew
-  all_tried xs [] (old ∷ olds) news split are grew = absurd grew
-  all_tried xs (cs ∷ more) [] news split are grew = absurd grew
-  all_tried xs (cs ∷ more) (old ∷ olds) [] split are grew = absurd grew
-  all_tried xs (cs ∷ more) (old ∷ olds) (new ∷ news) split are grew =
-      let found = sym (all_found xs cs (flat more) all split few) in
-      let mine = All-head HaveEnded cs more are in (
-        record {
-          all = grew.0 ∙ ap (λ (ds : List Course). sent old ++ sent_by ids ds) found;
-          failures = grew.1 ∙ ap (λ (ds : List Course). failed old + failed_by ds) found;
-          why = mine.0;
-          are = subst (λ (ds : List Course). AreCourses mine.0 ds) found mine.1;
-        },
-        all_tried (xs ++ cs) more olds news (split ∙ sym (append_assoc xs cs (flat more))) (All-tail HaveEnded cs more are) grew.2,
-      )
+-- where the course of each order's place is its own
+module _ (course : ℕ → Course) where
+  abbrev pub IsAt : Course → Type 0
+  IsAt c = course c.order.place ≡ c
 
-  -- where nothing broke they took all that was given
-  took_same : (xs cs ys : List Course) → all ≡ xs ++ (cs ++ ys)
-      → flat_map (λ (k : ℕ). all_sent (id_at ids k) (find k all).sent) (spots cs) ≡ sent_by ids cs
-  took_same xs [] ys split = refl
-  took_same xs (c ∷ cs) ys split =
-      let first = ap (λ (d : Course). all_sent (id_at ids c.order.place) d.sent) (found_at xs c (cs ++ ys) all split few) in
-      let rest = took_same (xs ++ c ∷ []) cs ys (split ∙ sym (append_assoc xs (c ∷ []) (cs ++ ys))) in
-      λ i. first i ++ rest i
+  abbrev pub AllAt : List Course → Type 0
+  AllAt cs = All IsAt cs
 
-  pub all_took : (xs : List Course) (courses : List (List Course)) (olds news : List L) → all ≡ xs ++ flat courses
-      → All HaveEnded courses
-      → worst_of (map (λ (cs : List Course). worst_of (whys cs)) courses) ≡ None
-      → AllGrew sent failed ids courses olds news → AllTook sent failed ids (λ (k : ℕ). (find k all).sent) (map spots courses) olds news
-  unfolding AllGrew AllTook
-  all_took xs [] [] [] split are none grew = tt
-  all_took xs [] [] (new ∷ news) split are none grew = absurd grew
-  all_took xs [] (old ∷ olds) news split are none grew = absurd grew
-  all_took xs (cs ∷ more) [] news split are none grew = absurd grew
-  all_took xs (cs ∷ more) (old ∷ olds) [] split are none grew = absurd grew
-  all_took xs (cs ∷ more) (old ∷ olds) (new ∷ news) split are none grew =
-      let mine = All-head HaveEnded cs more are in
-      let both = worse-none (worst_of (whys cs)) (worst_of (map (λ (cs : List Course). worst_of (whys cs)) more)) none in (
-        grew.0 ∙ ap (λ (ss : List Sent). sent old ++ ss) (sym (took_same xs cs (flat more) split)),
-        omega (arith, grew.1, no_failures cs mine.1.each both.0),
-        all_took (xs ++ cs) more olds news (split ∙ sym (append_assoc xs cs (flat more))) (All-tail HaveEnded cs more are) both.1 grew.2,
-      )
+  again : (cs : List Course) → AllAt cs → map course (spots cs) ≡ cs
+  again [] at = refl
+  again (c ∷ cs) at = let first = All-head IsAt c cs at in let rest = again cs (All-tail IsAt c cs at) in λ i. first i ∷ rest i
 
-  -- the causes of the orders found
-  pub same_causes : (xs : List Course) (courses : List (List Course)) → all ≡ xs ++ flat courses
-      → map (λ (ks : List ℕ). worst_of (map (λ (c : Course). c.why) (map (λ (p : ℕ). find p all) ks))) (map spots courses) ≡ map (λ (cs : List Course). worst_of (whys cs)) courses
-  same_causes xs [] split = refl
-  same_causes xs (cs ∷ more) split =
-      let first = ap (λ (ds : List Course). worst_of (whys ds)) (all_found xs cs (flat more) all split few) in
-      let rest = same_causes (xs ++ cs) more (split ∙ sym (append_assoc xs cs (flat more))) in
+  -- the causes are those of the courses
+  pub same_causes : (courses : List (List Course)) → All AllAt courses
+      → map (λ (ks : List ℕ). worst_of (map (λ (c : Course). c.why) (map course ks))) (map spots courses) ≡ map (λ (cs : List Course). worst_of (whys cs)) courses
+  same_causes [] at = refl
+  same_causes (cs ∷ more) at =
+      let first = ap (λ (ds : List Course). worst_of (whys ds)) (again cs (All-head AllAt cs more at)) in
+      let rest = same_causes more (All-tail AllAt cs more at) in
       λ i. first i ∷ rest i
 
+  module _ {L : Type 0} (sent : L → List Sent) (failed : L → ℕ) (ids : List (List ℕ)) where
+    -- the links took what the courses at the places sent
+    pub all_tried : (courses : List (List Course)) (olds news : List L) → All AllAt courses → All HaveEnded courses
+        → AllGrew sent failed ids courses olds news → AllTried sent failed ids course (map spots courses) olds news
+    unfolding AllGrew AllTried
+    all_tried [] [] [] at are grew = tt
+    all_tried [] [] (new ∷ news) at are grew = absurd grew
+    all_tried [] (old ∷ olds) news at are grew = absurd grew
+    all_tried (cs ∷ more) [] news at are grew = absurd grew
+    all_tried (cs ∷ more) (old ∷ olds) [] at are grew = absurd grew
+    all_tried (cs ∷ more) (old ∷ olds) (new ∷ news) at are grew =
+        let same = sym (again cs (All-head AllAt cs more at)) in
+        let mine = All-head HaveEnded cs more are in (
+          record {
+            all = grew.0 ∙ ap (λ (ds : List Course). sent old ++ sent_by ids ds) same;
+            failures = grew.1 ∙ ap (λ (ds : List Course). failed old + failed_by ds) same;
+            why = mine.0;
+            are = subst (λ (ds : List Course). AreCourses mine.0 ds) same mine.1;
+          },
+          all_tried more olds news (All-tail AllAt cs more at) (All-tail HaveEnded cs more are) grew.2,
+        )
+
+    -- where nothing broke they took all that was given
+    took_same : (cs : List Course) → AllAt cs → flat_map (λ (k : ℕ). all_sent (id_at ids k) (course k).sent) (spots cs) ≡ sent_by ids cs
+    took_same [] at = refl
+    took_same (c ∷ cs) at =
+        let first = ap (λ (d : Course). all_sent (id_at ids c.order.place) d.sent) (All-head IsAt c cs at) in
+        let rest = took_same cs (All-tail IsAt c cs at) in
+        λ i. first i ++ rest i
+
+    pub all_took : (courses : List (List Course)) (olds news : List L) → All AllAt courses → All HaveEnded courses
+        → worst_of (map (λ (cs : List Course). worst_of (whys cs)) courses) ≡ None
+        → AllGrew sent failed ids courses olds news → AllTook sent failed ids (λ (k : ℕ). (course k).sent) (map spots courses) olds news
+    unfolding AllGrew AllTook
+    all_took [] [] [] at are none grew = tt
+    all_took [] [] (new ∷ news) at are none grew = absurd grew
+    all_took [] (old ∷ olds) news at are none grew = absurd grew
+    all_took (cs ∷ more) [] news at are none grew = absurd grew
+    all_took (cs ∷ more) (old ∷ olds) [] at are none grew = absurd grew
+    all_took (cs ∷ more) (old ∷ olds) (new ∷ news) at are none grew =
+        let both = worse-none (worst_of (whys cs)) (worst_of (map (λ (cs : List Course). worst_of (whys cs)) more)) none in (
+          grew.0 ∙ ap (λ (ss : List Sent). sent old ++ ss) (sym (took_same cs (All-head AllAt cs more at))),
+          omega (arith, grew.1, no_failures cs (All-head HaveEnded cs more are).1.each both.0),
+          all_took more olds news (All-tail AllAt cs more at) (All-tail HaveEnded cs more are) both.1 grew.2,
+        )
+
 -- where nothing broke each order is whole
-pub all_unbroken : (courses : List (List Course)) → worst_of (map (λ (cs : List Course). worst_of (whys cs)) courses) ≡ None
-    → All (λ (cs : List Course). All (λ (c : Course). c.why ≡ None) cs) courses
-all_unbroken [] none = All-nil (λ (cs : List Course). All (λ (c : Course). c.why ≡ None) cs)
+pub all_unbroken : (courses : List (List Course)) → worst_of (map (λ (cs : List Course). worst_of (whys cs)) courses) ≡ None → All (λ (c : Course). c.why ≡ None) (flat courses)
+all_unbroken [] none = All-nil (λ (c : Course). c.why ≡ None)
 all_unbroken (cs ∷ more) none =
     let both = worse-none (worst_of (whys cs)) (worst_of (map (λ (cs : List Course). worst_of (whys cs)) more)) none in
-    All-cons (λ (cs : List Course). All (λ (c : Course). c.why ≡ None) cs) cs more (none_broke cs both.0) (all_unbroken more both.1)
+    All-append (λ (c : Course). c.why ≡ None) cs (flat more) (none_broke cs both.0) (all_unbroken more both.1)
 
--- anything holds of nothing much
-anything : (courses : List (List Course)) → All (λ (cs : List Course). All (λ (c : Course). Unit {0}) cs) courses
-anything courses i d within j e inside = tt
-
--- what became of the store at a place
-module _ (lone : LoneSeatsAreLogs) (courses : List (List Course)) (p : ℕ) (s t : State) (lists : List (List Entry)) (log : List Entry)
-    (few : tally p (flat courses) ≤ 1) (same : lists ≡ map (calls_at p) courses) (run : IsRun s log t) (shuffle : IsShuffle lists log) where
-  shuffled : IsShuffle (map (calls_at p) courses) log
-  shuffled = subst (λ (ls : List (List Entry)). IsShuffle ls log) same shuffle
-
-  -- the log is the calls of the order found there
-  log_found : log ≡ (find p (flat courses)).calls
-  log_found = by_count (cases_lt 0 (tally p (flat courses)))
-    where
-      by_count : (0 < tally p (flat courses)) ⊎ (tally p (flat courses) ≤ 0) → log ≡ (find p (flat courses)).calls
-      by_count (inl has) =
-          let one = lone_list (λ (c : Course). Unit {0}) p courses (anything courses) (omega (arith, has, few)) in
-          lone (map (calls_at p) courses) log one.seat shuffled (λ other within off. one.others other off) ∙ one.calls ∙ ap (λ (c : Course). c.calls) (sym one.found)
-      by_count (inr none) =
-          let nothing : tally p (flat courses) ≡ 0 = omega (arith, none) in
-          lone (map (calls_at p) courses) log 0 shuffled (λ other within off. none_lists p courses nothing other) ∙ none_lists p courses nothing 0
-          ∙ ap (λ (c : Course). c.calls) (sym (none_found p (flat courses) nothing))
-
-  pub run_found : IsRun s (find p (flat courses)).calls t
-  run_found = subst (λ (es : List Entry). IsRun s es t) log_found run
+-- all that happened to the store at a place is what its order's worker did
+pub run_found : (lone : LoneSeatsAreLogs) (courses : List (List Course)) (p : ℕ) (s t : State) (log : List Entry) → tally p (flat courses) ≤ 1
+    → IsRun s log t → IsShuffle (map (calls_at p) courses) log → IsRun s (find p (flat courses)).calls t
+run_found lone courses p s t log few run shuffle =
+    let one = lone_list p courses few in
+    subst (λ (es : List Entry). IsRun s es t) (lone (map (calls_at p) courses) log one.seat shuffle (λ other within off. one.others other off) ∙ one.calls) run
 
 -- the order found at a place
 module _ (orders : List Order) (courses : List (List Course)) (p : ℕ) (apart : AllPairs (λ (a b : Order). a.place ≢ b.place) orders)
-    (known : All (λ (cs : List Course). All (Known orders) cs) courses) (few : tally p (flat courses) ≤ 1) where
-  -- it is known
-  known_found : 0 < tally p (flat courses) → ((find p (flat courses)).order.place ≡ p) × Known orders (find p (flat courses))
-  known_found has =
-      let one = lone_list (Known orders) p courses known (omega (arith, has, few)) in
-      (ap (λ (c : Course). c.order.place) one.found ∙ one.place, subst (Known orders) (sym one.found) one.holds)
-
+    (known : All (Known orders) (flat courses)) where
   -- its amount is what is wanted of the place
   pub amount_found : 0 < tally p (flat courses) → (find p (flat courses)).order.amount ≡ wanted orders p
   amount_found has =
-      let both = known_found has in
+      let both = is_found (Known orders) p (flat courses) known has in
       let is = both.1.1 in
       let wants = wanted_of orders is.number apart is.within in
       ap (λ (o : Order). o.amount) is.is ∙ sym wants ∙ ap (wanted orders) (ap (λ (o : Order). o.place) (sym is.is) ∙ both.0)
@@ -160,13 +153,12 @@ module _ (orders : List Order) (courses : List (List Course)) (p : ℕ) (apart :
           let nothing = none_found p (flat courses) (sym (spots_tally p courses) ∙ none) in
           (ap (λ (c : Course). c.calls) nothing, ap (λ (c : Course). c.sent) nothing);
       some = λ has.
-          let both = known_found (omega (arith, has, spots_tally p courses)) in
+          let both = is_found (Known orders) p (flat courses) known (omega (arith, has, spots_tally p courses)) in
           (both.0, both.1.0);
     }
 
     -- where nothing broke and all orders were taken
-    pub dumped : tally p (flat courses) ≡ times p (places_of orders) → All (λ (o : Order). 1 ≤ o.amount) orders
-        → All (λ (cs : List Course). All (λ (c : Course). c.why ≡ None) cs) courses
+    pub dumped : tally p (flat courses) ≡ times p (places_of orders) → All (λ (o : Order). 1 ≤ o.amount) orders → All (λ (c : Course). c.why ≡ None) (flat courses)
         → HasDumped (wanted orders p) (find p (flat courses)).sent s t
     dumped all amounts unbroken = record {
       calls = (find p (flat courses)).calls;
@@ -176,7 +168,7 @@ module _ (orders : List Order) (courses : List (List Course)) (p : ℕ) (apart :
           (ap (λ (c : Course). c.sent) nothing, ap (λ (c : Course). c.calls) nothing);
       whole = λ some_wanted.
           let has : 0 < tally p (flat courses) = omega (arith, all, (wanted_named p orders amounts).0 some_wanted) in
-          let one = lone_list (λ (c : Course). c.why ≡ None) p courses unbroken (omega (arith, has, few)) in
-          let whole = whole_course (find p (flat courses)) (ap (λ (c : Course). c.why) one.found ∙ one.holds) (known_found has).1.0 in
-          ((find p (flat courses)).seat, subst (λ (n : ℕ). IsOrderOf (find p (flat courses)).seat n (find p (flat courses)).sent (find p (flat courses)).calls) (amount_found has) whole.order);
+          let found = find p (flat courses) in
+          let whole = whole_course found (is_found (λ (c : Course). c.why ≡ None) p (flat courses) unbroken has).1 (is_found (Known orders) p (flat courses) known has).1.0 in
+          (found.seat, subst (λ (n : ℕ). IsOrderOf found.seat n found.sent found.calls) (amount_found has) whole.order);
     }

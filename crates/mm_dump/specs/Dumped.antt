@@ -1,5 +1,5 @@
 -- What a step's dump is given, and what it leaves: its stores, and its links.
-use Rattle.std.specs.Prelude.{◌≡◌, ◌≢◌, ℕ, ◌+◌, ◌-◌, ◌<◌, ◌≤◌, ◌^◌, ◌==◌, List, [], ◌∷◌, ◌++◌, length, map, filter, flat_map, sum_by, count_by, slice_index_or, All, AllPairs, Any, Option, None, suc}
+use Rattle.std.specs.Prelude.{◌≡◌, ◌≢◌, ℕ, ◌+◌, ◌-◌, ◌<◌, ◌≤◌, ◌^◌, ◌==◌, List, [], ◌∷◌, ◌++◌, length, map, filter, flat_map, sum_by, count_by, slice_index_or, All, AllPairs, Any, Option, None, IfNone, suc}
 use Rattle.std.specs.List.{AllZip}
 use Rattle.mm_base.specs.declared.limits.TheConstants.{MAX_STORES}
 use Rattle.mm_store.specs.declared.stored.Stored.{Stored}
@@ -125,3 +125,18 @@ used_by sent failed links = sum_by (λ l. length (sent l) + failed l) links
 -- how many blocks orders want together
 abbrev pub amount_of : List Order → ℕ
 amount_of orders = sum_by (λ o. o.amount) orders
+
+-- how a step's dump went over these links: an order broke for this cause, the worst, where one broke, and this many blocks of the window were
+-- spent
+pub record CarriesOut {L : Type 0} (sent : L → List Sent) (failed : L → ℕ) (ids : List (List ℕ)) (orders : List Order) (before after : List State) (old new : List L)
+    (broken : Option OrderBroken) (spent : ℕ) : Type 0 where
+  -- what was dumped, where no order broke
+  pub dumped : IfNone broken (AllDumped sent failed ids orders before after old new)
+  -- what became of each order in any case. With a link for each all were taken
+  pub settled : AllSettled sent failed ids orders broken before after old new
+  pub enough : length orders ≤ length old → (k : ℕ) → sum_by (times k) settled.places ≡ times k (places_of orders)
+  -- each link has sent what it had sent before
+  pub kept : AllKept sent failed old new
+  -- what was spent is what was sent and what failed, and no more than the orders want
+  pub used : used_by sent failed new ≡ used_by sent failed old + spent
+  pub within : spent ≤ amount_of orders

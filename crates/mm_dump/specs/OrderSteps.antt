@@ -1,5 +1,5 @@
 -- The parts of an order. No public clause cites this module.
-use Rattle.std.specs.Prelude.{◌≡◌, ℕ, ◌+◌, ◌≤◌, Bool, true, false, nat_lt, is_some, if◌then◌else◌, List, [], ◌∷◌, ◌++◌, length, Option, Some, None, Ok}
+use Rattle.std.specs.Prelude.{◌≡◌, ℕ, ◌+◌, ◌<◌, ◌≤◌, Bool, true, false, nat_lt, is_some, if◌then◌else◌, List, [], ◌∷◌, ◌++◌, length, map, Option, Some, None, Ok}
 use Rattle.std.specs.Option.{option_to_list}
 use Rattle.mm_store.specs.declared.stored.Stored.{Stored}
 use Rattle.mm_desk.specs.declared.entry.Entry.{Entry}
@@ -8,8 +8,9 @@ use Rattle.mm_desk.specs.declared.reply.Reply.TheVariants as reply
 use Rattle.mm_desk.specs.Machine.{State}
 use Rattle.mm_desk.specs.Orders.{given, last_time, IsOrderOf}
 use Rattle.mm_desk.specs.Runs.{entry, IsRun}
-use Rattle.mm_shared.specs.Views.{PortView}
+use Rattle.mm_shared.specs.Views.{PortView, StoresView}
 use Rattle.mm_dump.specs.declared.order.OrderBroken.{OrderBroken}
+use Rattle.mm_dump.specs.declared.order.OrderBroken.TheVariants.{NoMemory}
 use Rattle.mm_dump.specs.declared.stop.Stop.{Stop}
 use Rattle.mm_dump.specs.declared.stop.Stop.TheVariants.{Broken, Refused}
 use Rattle.mm_dump.specs.Broken.{aborted, unsent_at, IsBrokenOrder}
@@ -19,31 +20,49 @@ use Rattle.mm_dump.specs.Sending.{LinkState, all_sent}
 pub record IsRefused (on : Bool) (calls : List Entry) : Type 0 where
   pub never : (s t : State) → is_some s.retrieval ≡ on → IsRun s calls t → ⊥
 
--- a port with these calls more in its list
-abbrev pub with_calls : PortView → List Entry → PortView
-with_calls port calls = record port { list = port.list ++ calls }
+-- the store of an order: its place, and its identifier
+pub record OrderStore : Type 0 where
+  pub place : ℕ
+  pub id : List ℕ
+
+abbrev pub order_store : ℕ → List ℕ → OrderStore
+order_store place id = record { place = place; id = id }
+
+-- a port of these stores, of which one is at this place
+pub record IsPortAt (stores : StoresView) (place : ℕ) (port : PortView) : Type 0 where
+  pub of : port.of ≡ stores.id
+  pub within : place < length stores.openings
+
+-- a port with these calls more in its list, made on the store at a place
+abbrev pub with_calls : ℕ → PortView → List Entry → PortView
+with_calls place port calls = record port { list = port.list ++ map (λ e. (place, e)) calls }
 
 -- through a port calls were made that no store answers so
-abbrev pub WasRefused : Bool → PortView → PortView → Type 0
-WasRefused on old new = (calls : List Entry) × (new ≡ with_calls old calls) × IsRefused on calls
+abbrev pub WasRefused : ℕ → Bool → PortView → PortView → Type 0
+WasRefused place on old new = (calls : List Entry) × (new ≡ with_calls place old calls) × IsRefused on calls
 
 -- through a port these calls were made; of the packets that they gave the link took these and did not take those, and a block of
 -- the window was spent for each
-pub record HasSent (id : List ℕ) (calls : List Entry) (sent unsent : List Stored) (old new : PortView) (before after : LinkState) : Type 0 where
-  pub port : new ≡ with_calls old calls
-  pub all : after.sent ≡ before.sent ++ all_sent id sent
+pub record HasSent (store : OrderStore) (calls : List Entry) (sent unsent : List Stored) (old new : PortView) (before after : LinkState) : Type 0 where
+  pub port : new ≡ with_calls store.place old calls
+  pub all : after.sent ≡ before.sent ++ all_sent store.id sent
   pub failures : after.failed ≡ before.failed + length unsent
   pub blocks : after.spent ≡ before.spent + length sent + length unsent
 
+-- why an order broke that stopped so
+abbrev pub cause_of : Stop → OrderBroken
+cause_of (Broken why) = why
+cause_of Refused = NoMemory
+
 -- a next was answered with this packet, which was sent, or with the end of the retrieval
-abbrev pub SentNext : List ℕ → Option Stored → PortView → PortView → LinkState → LinkState → Type 0
-SentNext id next old new before after =
-    HasSent id (entry old.number Next (reply.Given (Ok next)) ∷ []) (option_to_list next) [] old new before after
+abbrev pub SentNext : OrderStore → Option Stored → PortView → PortView → LinkState → LinkState → Type 0
+SentNext store next old new before after =
+    HasSent store (entry old.number Next (reply.Given (Ok next)) ∷ []) (option_to_list next) [] old new before after
 
 -- the retrieval was aborted after an order broke, or the abort was refused
-abbrev pub AbortsAs : OrderBroken → Stop → PortView → PortView → Type 0
-AbortsAs why (Broken other) old new = (other ≡ why) × (new ≡ with_calls old (aborted old.number ∷ []))
-AbortsAs why Refused old new = WasRefused true old new
+abbrev pub AbortsAs : ℕ → OrderBroken → Stop → PortView → PortView → Type 0
+AbortsAs place why (Broken other) old new = (other ≡ why) × (new ≡ with_calls place old (aborted old.number ∷ []))
+AbortsAs place why Refused old new = WasRefused place true old new
 
 -- the calls of an order that stops in its retrieval: it was aborted, or a call was refused
 abbrev pub StopsAs : Stop → ℕ → List Stored → List Stored → List Entry → Type 0
@@ -51,12 +70,12 @@ StopsAs (Broken why) seat sent unsent calls = (calls ≡ given seat (sent ++ uns
 StopsAs Refused seat sent unsent calls = IsRefused true calls
 
 -- an order stopped in its retrieval, after at most this many packets
-pub record OrderStopped (id : List ℕ) (wanted : ℕ) (stop : Stop) (old new : PortView) (before after : LinkState) : Type 0 where
+pub record OrderStopped (store : OrderStore) (wanted : ℕ) (stop : Stop) (old new : PortView) (before after : LinkState) : Type 0 where
   pub sent : List Stored
   pub unsent : List Stored
   pub calls : List Entry
   pub most : length (sent ++ unsent) ≤ wanted
-  pub has_sent : HasSent id calls sent unsent old new before after
+  pub has_sent : HasSent store calls sent unsent old new before after
   pub stops : StopsAs stop old.number sent unsent calls
 
 -- the time of the packet given last
@@ -73,12 +92,12 @@ abbrev pub abort_where : ℕ → Bool → List Entry
 abort_where seat over = if over then [] else aborted seat ∷ []
 
 -- packets were given and sent, this many or fewer; where fewer, the retrieval came to its end
-pub record SentAll (id : List ℕ) (wanted : ℕ) (last : Option ℕ) (over : Bool) (old new : PortView) (before after : LinkState) : Type 0 where
+pub record SentAll (store : OrderStore) (wanted : ℕ) (last : Option ℕ) (over : Bool) (old new : PortView) (before after : LinkState) : Type 0 where
   pub gave : List Stored
   pub most : length gave ≤ wanted
   pub fewer : over ≡ nat_lt (length gave) wanted
   pub last_is : last ≡ last_of gave
-  pub has_sent : HasSent id (given old.number gave ++ end_where old.number over) gave [] old new before after
+  pub has_sent : HasSent store (given old.number gave ++ end_where old.number over) gave [] old new before after
 
 -- the entry of the deletion up to the packet given last, where one was given
 abbrev pub deletion : ℕ → Option ℕ → ℕ → List Entry
@@ -92,10 +111,10 @@ EndsAs (Some (Broken why)) seat wanted sent unsent calls = IsBrokenOrder seat wa
 EndsAs (Some Refused) seat wanted sent unsent calls = IsRefused false calls
 
 -- an order ended, after at most this many packets
-pub record HasEnded (id : List ℕ) (wanted : ℕ) (stop : Option Stop) (old new : PortView) (before after : LinkState) : Type 0 where
+pub record HasEnded (store : OrderStore) (wanted : ℕ) (stop : Option Stop) (old new : PortView) (before after : LinkState) : Type 0 where
   pub sent : List Stored
   pub unsent : List Stored
   pub calls : List Entry
   pub most : length (sent ++ unsent) ≤ wanted
-  pub has_sent : HasSent id calls sent unsent old new before after
+  pub has_sent : HasSent store calls sent unsent old new before after
   pub ends : EndsAs stop old.number wanted sent unsent calls

@@ -1,6 +1,6 @@
 -- What a step's dump takes beside its stores and its links, and what its passes know when they are back. No public clause cites
 -- this module.
-use Rattle.std.specs.Prelude.{◌≡◌, ℕ, ◌+◌, List, [], length, sum_by, All, vec_len}
+use Rattle.std.specs.Prelude.{◌≡◌, ℕ, ◌+◌, ◌≤◌, ◌^◌, List, [], length, sum_by, All, vec_len}
 use Rattle.crossbeam_queue.specs.Passes.{view, IsPassOf}
 use Rattle.mm_dump.specs.declared.dumper.DumpWorker.{DumpWorker}
 use Rattle.mm_dump.specs.declared.queue.QueueView.{QueueView}
@@ -25,10 +25,11 @@ pub record AreBuffers (links numbers : ℕ) (buffers : DumpBuffers) : Type 0 whe
   pub none : (view buffers.pass).taken ≡ []
   pub hired : All (IsHired buffers.queue numbers) buffers.workers.items
 
--- the pass of a worker has one part
-pub record HasPart {Q A : Type 0} (queue : Slotted (Option ℕ) (Doing ℕ QueueView) Q A) (w : DumpWorker) : Type 0 where
+-- a worker is back: its pass has one part, and it has not spent too much
+pub record IsBack {Q A : Type 0} (queue : Slotted (Option ℕ) (Doing ℕ QueueView) Q A) (w : DumpWorker) : Type 0 where
   pub pass : IsPassOf queue w.pass
   pub part : (view w.pass).parts ≡ 1
+  pub bound : w.spent ≤ 2 ^ 48
 
 -- the passes of workers were joined to a pass: their parts, and what they took, however it is weighed
 pub record AreBack (workers : List DumpWorker) (old new : QueueView) : Type 0 where

@@ -2,7 +2,7 @@
 ghost use Rattle.std.specs.Prelude.{◌≡◌, ℕ, ◌+◌, ◌-◌, ◌<◌, ◌^◌, [], ◌∷◌, not, false, Some, None, Ok, IfOk, IfErr, OnOk, OnErr};
 ghost use Rattle.mm_desk.specs.Orders.{begun};
 ghost use Rattle.mm_shared.specs.Views.{with_call};
-ghost use Rattle.mm_dump.specs.OrderSteps.{with_calls, SentNext, AbortsAs, OrderStopped, SentAll, WasRefused, HasEnded, abort_where, deletion};
+ghost use Rattle.mm_dump.specs.OrderSteps.{order_store, IsPortAt, with_calls, SentNext, AbortsAs, OrderStopped, SentAll, WasRefused, HasEnded, abort_where, deletion};
 ghost use Rattle.mm_dump.specs.Sending.{link_state};
 
 use crate::link::Link;
@@ -10,7 +10,7 @@ use crate::order::OrderBroken;
 use crate::stop::Stop;
 use mm_base::StoreId;
 use mm_desk::{Event, Fault, Reply};
-use mm_shared::{Port, SharedStore};
+use mm_shared::{Port, SharedStores};
 use mm_store::Stored;
 use std::alloc::Global;
 use std::sync::Wait;
@@ -22,24 +22,28 @@ struct Sending {
     over: bool,
 }
 
-/// Where an order is carried out: at a shared store, under its identifier.
+/// Where an order is carried out: at the store of a place, under its identifier.
 #[derive(Drop)]
 pub(crate) struct OrderContext<'a, R: Wait> {
     pub(crate) rt: &'a R,
     pub(crate) alloc: Global,
-    pub(crate) store: &'a SharedStore,
+    pub(crate) stores: &'a SharedStores,
+    pub(crate) place: usize,
     pub(crate) id: &'a StoreId,
 }
 
 // Begins a retrieval of all packets.
 fn begin<R: Wait>(context: &OrderContext<'_, R>, port: &mut Port) -> Result<(), Stop>
-    requires of { port.old.of ≡ context.now.store.now.id }
-    ensures ok { OnOk result (port.new ≡ with_calls port.old (begun port.old.number ∷ [])) }
+    requires at { IsPortAt context.now.stores.now context.now.place port.old }
+    ensures ok { OnOk result (port.new ≡ with_calls context.now.place port.old (begun port.old.number ∷ [])) }
     ensures of { port.new.of ≡ port.old.of }
     ensures refused { IfErr result (λ stop. stop ≡ Stop.Refused) }
-    ensures err { OnErr result (WasRefused false port.old port.new) }
+    ensures err { OnErr result (WasRefused context.now.place false port.old port.new) }
 {
-    match context.store.begin(context.rt, port, 1, u64::MAX) {
+    match context
+        .stores
+        .begin(context.rt, port, context.place, 1, u64::MAX)
+    {
         Ok(()) => Ok(()),
         Err(_) => Err(Stop::Refused),
     }
@@ -47,10 +51,10 @@ fn begin<R: Wait>(context: &OrderContext<'_, R>, port: &mut Port) -> Result<(), 
 
 // Aborts the retrieval of an order that broke.
 fn abort<R: Wait>(context: &OrderContext<'_, R>, port: &mut Port, why: OrderBroken) -> Stop
-    requires of { port.old.of ≡ context.now.store.now.id }
-    ensures aborted { AbortsAs why result port.old port.new }
+    requires at { IsPortAt context.now.stores.now context.now.place port.old }
+    ensures aborted { AbortsAs context.now.place why result port.old port.new }
 {
-    match context.store.abort(context.rt, port) {
+    match context.stores.abort(context.rt, port, context.place) {
         Ok(()) => Stop::Broken(why),
         Err(_) => Stop::Refused,
     }
@@ -58,11 +62,14 @@ fn abort<R: Wait>(context: &OrderContext<'_, R>, port: &mut Port, why: OrderBrok
 
 // Takes the next packet of the retrieval. Where there is no memory for its copy the retrieval is aborted.
 fn next<R: Wait>(context: &OrderContext<'_, R>, port: &mut Port) -> Result<Option<Stored>, Stop>
-    requires of { port.old.of ≡ context.now.store.now.id }
-    ensures ok { IfOk result (λ next. port.new ≡ with_call port.old Event.Next (Reply.Given (Ok next))) }
-    ensures err { IfErr result (λ stop. AbortsAs OrderBroken.NoMemory stop port.old port.new) }
+    requires at { IsPortAt context.now.stores.now context.now.place port.old }
+    ensures ok { IfOk result (λ next. port.new ≡ with_call port.old context.now.place Event.Next (Reply.Given (Ok next))) }
+    ensures err { IfErr result (λ stop. AbortsAs context.now.place OrderBroken.NoMemory stop port.old port.new) }
 {
-    let fault = match context.store.next(context.rt, context.alloc, port) {
+    let fault = match context
+        .stores
+        .next(context.rt, context.alloc, port, context.place)
+    {
         Ok(next) => return Ok(next),
         Err(fault) => fault,
     };
@@ -80,13 +87,13 @@ fn send_next<L: Link, R: Wait>(
     link: &mut L,
     spent: &mut u64,
 ) -> Result<Option<Stored>, Stop>
-    requires of { port.old.of ≡ context.now.store.now.id }
+    requires at { IsPortAt context.now.stores.now context.now.place port.old }
     requires room { L.failed link.old < 2 ^ 64 - 1 }
     requires blocks { spent.old + 1 < 2 ^ 64 }
     ensures of { port.new.of ≡ port.old.of }
-    ensures ok { IfOk result (λ next. SentNext context.now.id.now next port.old port.new
+    ensures ok { IfOk result (λ next. SentNext (order_store context.now.place context.now.id.now) next port.old port.new
         (link_state (L.sent link.old) (L.failed link.old) spent.old) (link_state (L.sent link.new) (L.failed link.new) spent.new)) }
-    ensures err { IfErr result (λ stop. OrderStopped context.now.id.now 1 stop port.old port.new
+    ensures err { IfErr result (λ stop. OrderStopped (order_store context.now.place context.now.id.now) 1 stop port.old port.new
         (link_state (L.sent link.old) (L.failed link.old) spent.old) (link_state (L.sent link.new) (L.failed link.new) spent.new)) }
 {
     let Some(stored) = next(context, port)? else {
@@ -107,13 +114,13 @@ fn send_all<L: Link, R: Wait>(
     spent: &mut u64,
     amount: u32,
 ) -> Result<Sending, Stop>
-    requires of { port.old.of ≡ context.now.store.now.id }
+    requires at { IsPortAt context.now.stores.now context.now.place port.old }
     requires room { L.failed link.old < 2 ^ 64 - 1 }
     requires blocks { spent.old + amount < 2 ^ 64 }
     ensures of { port.new.of ≡ port.old.of }
-    ensures ok { IfOk result (λ sending. SentAll context.now.id.now amount sending.last sending.over port.old port.new
+    ensures ok { IfOk result (λ sending. SentAll (order_store context.now.place context.now.id.now) amount sending.last sending.over port.old port.new
         (link_state (L.sent link.old) (L.failed link.old) spent.old) (link_state (L.sent link.new) (L.failed link.new) spent.new)) }
-    ensures err { IfErr result (λ stop. OrderStopped context.now.id.now amount stop port.old port.new
+    ensures err { IfErr result (λ stop. OrderStopped (order_store context.now.place context.now.id.now) amount stop port.old port.new
         (link_state (L.sent link.old) (L.failed link.old) spent.old) (link_state (L.sent link.new) (L.failed link.new) spent.new)) }
 {
     let mut last = None;
@@ -132,16 +139,16 @@ fn end_retrieval<R: Wait>(
     port: &mut Port,
     over: bool,
 ) -> Result<(), Stop>
-    requires of { port.old.of ≡ context.now.store.now.id }
+    requires at { IsPortAt context.now.stores.now context.now.place port.old }
     ensures of { port.new.of ≡ port.old.of }
-    ensures ok { OnOk result (port.new ≡ with_calls port.old (abort_where port.old.number over)) }
+    ensures ok { OnOk result (port.new ≡ with_calls context.now.place port.old (abort_where port.old.number over)) }
     ensures refused { IfErr result (λ stop. stop ≡ Stop.Refused) }
-    ensures err { OnErr result (WasRefused (not over) port.old port.new) }
+    ensures err { OnErr result (WasRefused context.now.place (not over) port.old port.new) }
 {
     if over {
         return Ok(());
     }
-    match context.store.abort(context.rt, port) {
+    match context.stores.abort(context.rt, port, context.place) {
         Ok(()) => Ok(()),
         Err(_) => Err(Stop::Refused),
     }
@@ -153,15 +160,18 @@ fn delete_sent<R: Wait>(
     port: &mut Port,
     last: Option<u64>,
 ) -> Result<(), Stop>
-    requires of { port.old.of ≡ context.now.store.now.id }
-    ensures ok { OnOk result ((count : ℕ) × (port.new ≡ with_calls port.old (deletion port.old.number last count))) }
+    requires at { IsPortAt context.now.stores.now context.now.place port.old }
+    ensures ok { OnOk result ((count : ℕ) × (port.new ≡ with_calls context.now.place port.old (deletion port.old.number last count))) }
     ensures refused { IfErr result (λ stop. stop ≡ Stop.Refused) }
-    ensures err { OnErr result (WasRefused false port.old port.new) }
+    ensures err { OnErr result (WasRefused context.now.place false port.old port.new) }
 {
     let Some(limit) = last else {
         return Ok(());
     };
-    match context.store.delete(context.rt, port, limit) {
+    match context
+        .stores
+        .delete(context.rt, port, context.place, limit)
+    {
         Ok(_) => Ok(()),
         Err(_) => Err(Stop::Refused),
     }
@@ -177,12 +187,12 @@ pub(crate) fn carry<L: Link, R: Wait>(
     spent: &mut u64,
     amount: u32,
 ) -> Result<(), Stop>
-    requires of { port.old.of ≡ context.now.store.now.id }
+    requires at { IsPortAt context.now.stores.now context.now.place port.old }
     requires room { L.failed link.old < 2 ^ 64 - 1 }
     requires blocks { spent.old + amount < 2 ^ 64 }
-    ensures ok { OnOk result (HasEnded context.now.id.now amount None port.old port.new
+    ensures ok { OnOk result (HasEnded (order_store context.now.place context.now.id.now) amount None port.old port.new
         (link_state (L.sent link.old) (L.failed link.old) spent.old) (link_state (L.sent link.new) (L.failed link.new) spent.new)) }
-    ensures err { IfErr result (λ stop. HasEnded context.now.id.now amount (Some stop) port.old port.new
+    ensures err { IfErr result (λ stop. HasEnded (order_store context.now.place context.now.id.now) amount (Some stop) port.old port.new
         (link_state (L.sent link.old) (L.failed link.old) spent.old) (link_state (L.sent link.new) (L.failed link.new) spent.new)) }
 {
     begin(context, port)?;

@@ -1,84 +1,84 @@
 //! Dump workers: each takes its next order from the queue until it finds that none is left, and carries it out.
-ghost use Rattle.std.specs.Prelude.{◌≡◌, ◌+◌, ◌-◌, ◌<◌, ◌≤◌, ◌^◌, length, All};
+ghost use Rattle.std.specs.Prelude.{◌≡◌, ◌+◌, ◌-◌, ◌<◌, ◌≤◌, ◌^◌, length};
 ghost use Rattle.std.specs.Thread.{IsSync, IsSend};
 ghost use Rattle.crossbeam_queue.specs.Passes.{view, IsPassOf};
 ghost use Rattle.mm_shared.specs.Stores.{ids_of};
+ghost use Rattle.mm_dump.specs.OrderSteps.{IsPortAt};
 ghost use Rattle.mm_dump.specs.Sending.{link_state};
-ghost use Rattle.mm_dump.specs.Workers.{HasLines, OrderCarriedOut, Worked, side, sided, IsReady, AreReady, AllWorked};
+ghost use Rattle.mm_dump.specs.Workers.{OrdersFit, OrderCarriedOut, Worked, side, sided, IsReady, AreReady, AllWorked};
 
 use crate::carrying::{OrderContext, carry};
 use crate::link::Link;
-use crate::order::Order;
+use crate::order::{Order, OrderBroken};
 use crate::queue::{OrderPass, OrderQueue, take_next};
-use crate::stop::Stop;
-use mm_shared::{Line, Lines, NamedStore};
+use mm_shared::{Port, SharedStores, StoreLabel};
 use std::alloc::Global;
 use std::sync::Wait;
 use std::thread::{Threads, join_mut};
 
-/// What a dump worker has beside its link and its lines: its pass of the queue, how many blocks of the window it spent, and why an
-/// order stopped it, where one did.
+/// What a dump worker has beside its link and its port: its pass of the queue, how many blocks of the window it spent, and why its
+/// last order broke, where it did.
 #[derive(Drop)]
 pub(crate) struct DumpWorker {
     pub(crate) pass: OrderPass,
     pub(crate) spent: u64,
-    pub(crate) stop: Option<Stop>,
+    pub(crate) why: Option<OrderBroken>,
 }
 
-/// What the workers of a step share: the queue of the orders' numbers, the orders, and the stores.
+/// What the workers of a step share: the queue of the orders' numbers, the orders, and the stores with their labels.
 #[derive(Drop)]
 pub(crate) struct DumpContext<'a, R: Wait> {
     pub(crate) rt: &'a R,
     pub(crate) queue: &'a OrderQueue,
     pub(crate) orders: &'a [Order],
-    pub(crate) stores: &'a [NamedStore],
+    pub(crate) labels: &'a [StoreLabel],
+    pub(crate) stores: &'a SharedStores,
     pub(crate) alloc: Global,
 }
 
-// Carries an order out at the store of its place, and says why it stopped, where it did.
+// Carries an order out at the store of its place, and says why it broke, where it did.
 fn carry_at<L: Link, R: Wait>(
     context: &DumpContext<'_, R>,
     order: Order,
-    lines: &mut Vec<Line>,
+    port: &mut Port,
     link: &mut L,
     spent: &mut u64,
-) -> Option<Stop>
-    requires within { order.place < length context.now.stores.now }
-    requires lines { HasLines context.now.stores.now lines.old.items }
+) -> Option<OrderBroken>
+    requires named { order.place < length context.now.labels.now }
+    requires at { IsPortAt context.now.stores.now order.place port.old }
     requires room { L.failed link.old < 2 ^ 64 - 1 }
     requires blocks { spent.old < 2 ^ 48 }
     ensures few { spent.new ≤ spent.old + 2 ^ 32 }
-    ensures carried { OrderCarriedOut (ids_of context.now.stores.now) order result lines.old.items lines.new.items
+    ensures carried { OrderCarriedOut (ids_of context.now.labels.now) order result port.old port.new
         (link_state (L.sent link.old) (L.failed link.old) spent.old) (link_state (L.sent link.new) (L.failed link.new) spent.new) }
 {
     let place = order.place as usize;
-    let named = &context.stores[place];
     let at = OrderContext {
         rt: context.rt,
         alloc: context.alloc,
-        store: &named.store,
-        id: &named.id,
+        stores: context.stores,
+        place,
+        id: &context.labels[place].id,
     };
-    let line = &mut lines[place];
-    match carry(&at, &mut line.port, link, spent, order.amount) {
+    match carry(&at, port, link, spent, order.amount) {
         Ok(()) => None,
-        Err(stop) => Some(stop),
+        Err(stop) => Some(stop.cause()),
     }
 }
 
-// Carries out orders of the queue until none is left or one stops, and says why that one did.
+// Carries out orders of the queue until none is left or one breaks, and says why that one did.
 fn work<L: Link, R: Wait>(
     context: &DumpContext<'_, R>,
-    lines: &mut Vec<Line>,
+    port: &mut Port,
     worker: &mut DumpWorker,
     link: &mut L,
-) -> Option<Stop>
-    requires within { All (λ o. o.place < length context.now.stores.now) context.now.orders.now }
-    requires ready { IsReady L.sent L.failed context.now.queue.now context.now.stores.now (side link.old lines.old.items worker.old) }
+) -> Option<OrderBroken>
+    requires fit { OrdersFit context.now.stores.now context.now.labels.now context.now.orders.now }
+    requires ready { IsReady L.sent L.failed context.now.queue.now context.now.stores.now (side link.old port.old worker.old) }
     ensures pass { IsPassOf context.now.queue.now worker.new.pass }
     ensures parts { (view worker.new.pass).parts ≡ 1 }
     ensures bound { worker.new.spent ≤ 2 ^ 48 }
-    ensures worked { Worked (ids_of context.now.stores.now) context.now.orders.now (view worker.new.pass).taken result lines.old.items lines.new.items
+    ensures worked { Worked (ids_of context.now.labels.now) context.now.orders.now (view worker.new.pass).taken result port.old port.new
         (link_state (L.sent link.old) (L.failed link.old) worker.old.spent) (link_state (L.sent link.new) (L.failed link.new) worker.new.spent) }
 {
     for _ in context.rt.forever() {
@@ -87,9 +87,9 @@ fn work<L: Link, R: Wait>(
             return None;
         }
         let order = context.orders[number];
-        let stop = carry_at(context, order, lines, link, &mut worker.spent);
-        if stop.is_some() {
-            return stop;
+        let broken = carry_at(context, order, port, link, &mut worker.spent);
+        if broken.is_some() {
+            return broken;
         }
     }
     unreachable!()
@@ -99,17 +99,17 @@ fn work<L: Link, R: Wait>(
 fn run<L: Link, R: Wait>(
     context: &DumpContext<'_, R>,
     links: &mut [L],
-    lines: &mut [Lines],
+    ports: &mut [Port],
     workers: &mut [DumpWorker],
 )
     requires one { length links.old ≡ 1 }
-    requires ready { AreReady L.sent L.failed context.now.queue.now context.now.stores.now context.now.orders.now links.old lines.old workers.old }
-    ensures worked { AllWorked L.sent L.failed context.now.queue.now (ids_of context.now.stores.now) context.now.orders.now
-        (sided links.old lines.old workers.old) (sided links.new lines.new workers.new) }
+    requires ready { AreReady L.sent L.failed context.now.queue.now context.now.stores.now context.now.labels.now context.now.orders.now links.old ports.old workers.old }
+    ensures worked { AllWorked L.sent L.failed context.now.queue.now (ids_of context.now.labels.now) context.now.orders.now
+        (sided links.old ports.old workers.old) (sided links.new ports.new workers.new) }
 {
     let worker = &mut workers[0];
-    let stop = work(context, &mut lines[0].lines, worker, &mut links[0]);
-    worker.stop = stop;
+    let why = work(context, &mut ports[0], worker, &mut links[0]);
+    worker.why = why;
 }
 
 // Lets workers carry out orders, each in a thread of its own where one can be made.
@@ -117,40 +117,40 @@ fn run<L: Link, R: Wait>(
 pub(crate) fn dump_all<L: Link + Send, R: Threads + Wait + Sync>(
     context: &DumpContext<'_, R>,
     links: &mut [L],
-    lines: &mut [Lines],
+    ports: &mut [Port],
     workers: &mut [DumpWorker],
 )
-    requires ready { AreReady L.sent L.failed context.now.queue.now context.now.stores.now context.now.orders.now links.old lines.old workers.old }
-    ensures worked { AllWorked L.sent L.failed context.now.queue.now (ids_of context.now.stores.now) context.now.orders.now
-        (sided links.old lines.old workers.old) (sided links.new lines.new workers.new) }
+    requires ready { AreReady L.sent L.failed context.now.queue.now context.now.stores.now context.now.labels.now context.now.orders.now links.old ports.old workers.old }
+    ensures worked { AllWorked L.sent L.failed context.now.queue.now (ids_of context.now.labels.now) context.now.orders.now
+        (sided links.old ports.old workers.old) (sided links.new ports.new workers.new) }
 {
     if links.len() == 1 {
-        run(context, links, lines, workers);
+        run(context, links, ports, workers);
         return;
     }
     let middle = links.len() / 2;
     let (low_links, high_links) = links.split_at_mut(middle);
-    let (low_lines, high_lines) = lines.split_at_mut(middle);
+    let (low_ports, high_ports) = ports.split_at_mut(middle);
     let (low_workers, high_workers) = workers.split_at_mut(middle);
     dump_halves(
         context,
         HalfOfWorkers {
             links: low_links,
-            lines: low_lines,
+            ports: low_ports,
             workers: low_workers,
         },
         HalfOfWorkers {
             links: high_links,
-            lines: high_lines,
+            ports: high_ports,
             workers: high_workers,
         },
     );
 }
 
-/// Half of a step's workers, with their links and their lines.
+/// Half of a step's workers, with their links and their ports.
 struct HalfOfWorkers<'a, L> {
     links: &'a mut [L],
-    lines: &'a mut [Lines],
+    ports: &'a mut [Port],
     workers: &'a mut [DumpWorker],
 }
 
@@ -162,30 +162,30 @@ fn dump_halves<L: Link + Send, R: Threads + Wait + Sync>(
     low: HalfOfWorkers<'_, L>,
     high: HalfOfWorkers<'_, L>,
 )
-    requires ready { AreReady L.sent L.failed context.now.queue.now context.now.stores.now context.now.orders.now low.links.now low.lines.now low.workers.now
-        × AreReady L.sent L.failed context.now.queue.now context.now.stores.now context.now.orders.now high.links.now high.lines.now high.workers.now }
-    ensures low { AllWorked L.sent L.failed context.now.queue.now (ids_of context.now.stores.now) context.now.orders.now
-        (sided low.entry.links.now low.entry.lines.now low.entry.workers.now) (sided low.exit.0.now low.exit.1.0.now low.exit.1.1.0.now) }
-    ensures high { AllWorked L.sent L.failed context.now.queue.now (ids_of context.now.stores.now) context.now.orders.now
-        (sided high.entry.links.now high.entry.lines.now high.entry.workers.now) (sided high.exit.0.now high.exit.1.0.now high.exit.1.1.0.now) }
+    requires ready { AreReady L.sent L.failed context.now.queue.now context.now.stores.now context.now.labels.now context.now.orders.now low.links.now low.ports.now low.workers.now
+        × AreReady L.sent L.failed context.now.queue.now context.now.stores.now context.now.labels.now context.now.orders.now high.links.now high.ports.now high.workers.now }
+    ensures low { AllWorked L.sent L.failed context.now.queue.now (ids_of context.now.labels.now) context.now.orders.now
+        (sided low.entry.links.now low.entry.ports.now low.entry.workers.now) (sided low.exit.0.now low.exit.1.0.now low.exit.1.1.0.now) }
+    ensures high { AllWorked L.sent L.failed context.now.queue.now (ids_of context.now.labels.now) context.now.orders.now
+        (sided high.entry.links.now high.entry.ports.now high.entry.workers.now) (sided high.exit.0.now high.exit.1.0.now high.exit.1.1.0.now) }
 {
     let HalfOfWorkers {
         links: low_links,
-        lines: low_lines,
+        ports: low_ports,
         workers: low_workers,
     } = low;
     let HalfOfWorkers {
         links: high_links,
-        lines: high_lines,
+        ports: high_ports,
         workers: high_workers,
     } = high;
     let mut low = ||
-        requires { IsSync R.row × IsSend L.row × AreReady L.sent L.failed context.now.queue.now context.now.stores.now context.now.orders.now low_links.now low_lines.now low_workers.now }
-        ensures { AllWorked L.sent L.failed context.entry.now.queue.now (ids_of context.entry.now.stores.now) context.entry.now.orders.now (sided low_links.entry.now low_lines.entry.now low_workers.entry.now) (sided low_links.exit.now low_lines.exit.now low_workers.exit.now) }
-    { dump_all(context, low_links, low_lines, low_workers) };
+        requires { IsSync R.row × IsSend L.row × AreReady L.sent L.failed context.now.queue.now context.now.stores.now context.now.labels.now context.now.orders.now low_links.now low_ports.now low_workers.now }
+        ensures { AllWorked L.sent L.failed context.entry.now.queue.now (ids_of context.entry.now.labels.now) context.entry.now.orders.now (sided low_links.entry.now low_ports.entry.now low_workers.entry.now) (sided low_links.exit.now low_ports.exit.now low_workers.exit.now) }
+    { dump_all(context, low_links, low_ports, low_workers) };
     let mut high = ||
-        requires { IsSync R.row × IsSend L.row × AreReady L.sent L.failed context.now.queue.now context.now.stores.now context.now.orders.now high_links.now high_lines.now high_workers.now }
-        ensures { AllWorked L.sent L.failed context.entry.now.queue.now (ids_of context.entry.now.stores.now) context.entry.now.orders.now (sided high_links.entry.now high_lines.entry.now high_workers.entry.now) (sided high_links.exit.now high_lines.exit.now high_workers.exit.now) }
-    { dump_all(context, high_links, high_lines, high_workers) };
+        requires { IsSync R.row × IsSend L.row × AreReady L.sent L.failed context.now.queue.now context.now.stores.now context.now.labels.now context.now.orders.now high_links.now high_ports.now high_workers.now }
+        ensures { AllWorked L.sent L.failed context.entry.now.queue.now (ids_of context.entry.now.labels.now) context.entry.now.orders.now (sided high_links.entry.now high_ports.entry.now high_workers.entry.now) (sided high_links.exit.now high_ports.exit.now high_workers.exit.now) }
+    { dump_all(context, high_links, high_ports, high_workers) };
     join_mut(context.rt, &mut low, &mut high);
 }

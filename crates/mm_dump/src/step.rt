@@ -1,12 +1,12 @@
 //! A step's dump: workers carry out the orders of one queue, over any number of stores.
-ghost use Rattle.std.specs.Prelude.{◌≡◌, ◌+◌, ◌<◌, ◌≤◌, ◌^◌, [], length, map, sum_by, All, None, IfNone, Ok, IfOk, OnErr, vec_len};
+ghost use Rattle.std.specs.Prelude.{◌≡◌, ◌+◌, ◌<◌, ◌≤◌, ◌^◌, [], length, map, sum_by, All, None, Ok, IfOk, OnErr};
 ghost use Rattle.crossbeam_queue.specs.Passes.{view, IsPassOf};
 ghost use Rattle.mm_base.specs.declared.limits.TheConstants.{MAX_STORES};
 ghost use Rattle.mm_desk.specs.declared.desk.TheConstants.{MAX_SEATS};
 ghost use Rattle.mm_desk.specs.Machine.{IsState};
 ghost use Rattle.mm_shared.specs.Stores.{states_of, labels_of};
-ghost use Rattle.mm_dump.specs.Dumped.{MayDump, AllDumped, AllSettled, AllKept, used_by, amount_of};
-ghost use Rattle.mm_dump.specs.Steps.{AreBuffers, HasPart, AreBack};
+ghost use Rattle.mm_dump.specs.Dumped.{MayDump, CarriesOut};
+ghost use Rattle.mm_dump.specs.Steps.{AreBuffers, IsBack, AreBack};
 
 use crate::dumper::{DumpContext, DumpWorker, dump_all};
 use crate::link::Link;
@@ -57,7 +57,7 @@ fn new_buffers<R: Wait>(
         workers.push_reserved(DumpWorker {
             pass: queue.another::<SplitOne>(&mut pass),
             spent: 0,
-            stop: None,
+            why: None,
         });
     }
     Ok(DumpBuffers {
@@ -84,7 +84,7 @@ fn spent_by(workers: &[DumpWorker]) -> u64
 fn join_passes(queue: &OrderQueue, pass: &mut OrderPass, workers: Vec<DumpWorker>)
     requires pass { IsPassOf queue.now pass.old }
     requires part { 0 < (view pass.old).parts }
-    requires passes { All (HasPart queue.now) workers.items }
+    requires passes { All (IsBack queue.now) workers.items }
     ensures pass { IsPassOf queue.now pass.new }
     ensures joined { AreBack workers.items (view pass.old) (view pass.new) }
 {
@@ -103,57 +103,8 @@ pub fn read_states(stores: &[Held])
     }
 }
 
-// Carries out a step's dump orders by workers, as `dump` says.
-fn dump_orders<L: Link + Send, R: Threads + Wait + Sync>(
-    rt: &R,
-    alloc: Global,
-    orders: &[Order],
-    stores: &mut Vec<Held>,
-    links: &mut [L],
-) -> Result<Dumped, NoMemory>
-    requires may { MayDump L.failed orders.now stores.old.items links.old }
-    ensures labels { labels_of stores.new.items ≡ labels_of stores.old.items }
-    ensures dumped { IfOk result (λ d. IfNone d.broken (AllDumped L.sent L.failed (map (λ h. h.id) stores.old.items) orders.now
-        (states_of stores.old.items) (states_of stores.new.items) links.old links.new)) }
-    ensures settled { IfOk result (λ d. AllSettled L.sent L.failed (map (λ h. h.id) stores.old.items) orders.now d.broken
-        (states_of stores.old.items) (states_of stores.new.items) links.old links.new) }
-    ensures sound { IfOk result (λ d. All (λ h. IsState h.state) stores.new.items) }
-    ensures kept { IfOk result (λ d. AllKept L.sent L.failed links.old links.new) }
-    ensures spent { IfOk result (λ d. used_by L.sent L.failed links.new ≡ used_by L.sent L.failed links.old + d.spent) }
-    ensures within { IfOk result (λ d. d.spent ≤ amount_of orders.now) }
-    ensures stores_same { OnErr result (stores.new.items ≡ stores.old.items) }
-    ensures links_same { OnErr result (links.new ≡ links.old) }
-{
-    let buffers = new_buffers(rt, alloc, links.len() as u32, orders.len() as u32)?;
-    let DumpBuffers {
-        queue,
-        mut pass,
-        mut workers,
-    } = buffers;
-    let mut opened = open_all(alloc, stores, links.len() as u32)?;
-    dump_all(
-        &DumpContext {
-            rt,
-            queue: &queue,
-            orders,
-            stores: &opened.stores,
-            alloc,
-        },
-        links,
-        &mut opened.workers,
-        &mut workers,
-    );
-    lone_seats_are_logs();
-    close_all(opened, stores);
-    let broken = worst_broken(&workers);
-    let spent = spent_by(&workers);
-    join_passes(&queue, &mut pass, workers);
-    learn_taken(&queue, &mut pass);
-    Ok(Dumped { broken, spent })
-}
-
-/// Carries out a step's dump orders, of which no two name one store: each link gets a worker, which takes orders from one queue
-/// until none is left, and sends the packets of each before it deletes them. A worker whose order breaks takes no further one, and
+/// Carries out a step's dump orders, of which no two name one store: each link gets a worker, as far as there are orders. It takes orders
+/// from one queue until none is left, and sends the packets of each before it deletes them. A worker whose order breaks takes no further one, and
 /// the others go on. A store is locked during a call on it and not during a send. The stores and the links are lent: each store is
 /// in its place again afterwards. Where there is no memory for the queue, the workers and the shared stores, nothing is begun. Without
 /// orders no worker is needed.
@@ -166,21 +117,11 @@ pub fn dump<L: Link + Send, R: Threads + Wait + Sync>(
 ) -> Result<Dumped, NoMemory>
     requires may { MayDump L.failed orders.now stores.old.items links.old }
     ensures labels { labels_of stores.new.items ≡ labels_of stores.old.items }
-    // What was dumped, where no order broke.
-    ensures dumped { IfOk result (λ d. IfNone d.broken (AllDumped L.sent L.failed (map (λ h. h.id) stores.old.items) orders.now
-        (states_of stores.old.items) (states_of stores.new.items) links.old links.new)) }
-    // What became of each order in any case.
-    ensures settled { IfOk result (λ d. AllSettled L.sent L.failed (map (λ h. h.id) stores.old.items) orders.now d.broken
-        (states_of stores.old.items) (states_of stores.new.items) links.old links.new) }
-    // Each store is sound, and each link has sent what it had sent before.
+    ensures carried { IfOk result (λ d. CarriesOut L.sent L.failed (map (λ h. h.id) stores.old.items) orders.now
+        (states_of stores.old.items) (states_of stores.new.items) links.old links.new d.broken d.spent) }
     ensures sound { IfOk result (λ d. All (λ h. IsState h.state) stores.new.items) }
-    ensures kept { IfOk result (λ d. AllKept L.sent L.failed links.old links.new) }
-    // The window: what was spent is what was sent and what failed, and no more than the orders want.
-    ensures spent { IfOk result (λ d. used_by L.sent L.failed links.new ≡ used_by L.sent L.failed links.old + d.spent) }
-    ensures within { IfOk result (λ d. d.spent ≤ amount_of orders.now) }
     // Where there was no memory.
-    ensures stores_same { OnErr result (stores.new.items ≡ stores.old.items) }
-    ensures links_same { OnErr result (links.new ≡ links.old) }
+    ensures unchanged { OnErr result ((stores.new.items ≡ stores.old.items) × (links.new ≡ links.old)) }
     // Without orders it is never out of memory, and nothing is done.
     ensures without_orders { orders.now ≡ [] → (result ≡ Ok (record { broken = None; spent = 0 }))
         × (stores.new.items ≡ stores.old.items) × (links.new ≡ links.old) }
@@ -192,5 +133,32 @@ pub fn dump<L: Link + Send, R: Threads + Wait + Sync>(
             spent: 0,
         });
     }
-    dump_orders(rt, alloc, orders, stores, links)
+    let many = links.len().min(orders.len());
+    let buffers = new_buffers(rt, alloc, many as u32, orders.len() as u32)?;
+    let DumpBuffers {
+        queue,
+        mut pass,
+        mut workers,
+    } = buffers;
+    let mut opened = open_all(alloc, stores, many as u32)?;
+    dump_all(
+        &DumpContext {
+            rt,
+            queue: &queue,
+            orders,
+            labels: &opened.labels,
+            stores: &opened.stores,
+            alloc,
+        },
+        &mut links[..many],
+        &mut opened.workers,
+        &mut workers,
+    );
+    lone_seats_are_logs();
+    close_all(opened, stores);
+    let broken = worst_broken(&workers);
+    let spent = spent_by(&workers);
+    join_passes(&queue, &mut pass, workers);
+    learn_taken(&queue, &mut pass);
+    Ok(Dumped { broken, spent })
 }

@@ -1,4 +1,6 @@
 //! Why an order stopped.
+ghost use Rattle.std.specs.Prelude.{◌≡◌};
+ghost use Rattle.mm_dump.specs.OrderSteps.{cause_of};
 
 use crate::order::OrderBroken;
 
@@ -10,4 +12,16 @@ pub(crate) enum Stop {
     Broken(OrderBroken),
     /// The store refused a call.
     Refused,
+}
+
+impl Stop {
+    // Why the order broke. A refused call, which never comes, is told as out of memory.
+    pub(crate) fn cause(self) -> OrderBroken
+        ensures cause { result ≡ cause_of self }
+    {
+        match self {
+            Stop::Broken(why) => why,
+            Stop::Refused => OrderBroken::NoMemory,
+        }
+    }
 }

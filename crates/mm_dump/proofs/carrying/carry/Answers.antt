@@ -1,4 +1,5 @@
 use Rattle.std.proofs.lemmas.Result.{err_from_is_err_and}
+use Rattle.mm_dump.specs.OrderSteps.{order_store}
 use Rattle.mm_dump.specs.Sending.{link_state}
 use Rattle.mm_dump.proofs.Whole.{unbegun, stopped, unended, undeleted, whole}
 use Rattle.mm_dump.proofs.carrying.carry.Goals as goal
@@ -6,7 +7,7 @@ use Rattle.mm_dump.proofs.carrying.carry.Goals as goal
 pub returns-in_err-begin-clause-err : goal.returns-in_err-begin-clause-err
 returns-in_err-begin-clause-err g c =
     let failed = err_from_is_err_and c.from_residual.result c.from_residual.ensures.1 in
-    rw (failed.1, failed.2) (unbegun c.args.context.now.id.now c.args.amount _ _ _ (link_state (g.L.Link.sent c.args.link.now) (g.L.Link.failed c.args.link.now) c.args.spent.now)
+    rw (failed.1, failed.2) (unbegun (order_store c.args.context.now.place c.args.context.now.id.now) c.args.amount _ _ _ (link_state (g.L.Link.sent c.args.link.now) (g.L.Link.failed c.args.link.now) c.args.spent.now)
     c.in_err-begin.ensures.refused c.in_err-begin.ensures.err)
 
 pub returns-in_err-sending-clause-err : goal.returns-in_err-sending-clause-err

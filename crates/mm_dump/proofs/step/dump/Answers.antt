@@ -1,27 +1,162 @@
-use Rattle.std.proofs.Common.{◌≡◌, List, [], map, sym, subst, rules}
-use Rattle.std.specs.Prelude.{None}
-use Rattle.std.proofs.lemmas.List.{nil_from_length}
-use Rattle.mm_dump.specs.declared.order.Order.{Order}
-use Rattle.mm_shared.specs.Stores.{states_of}
-use Rattle.mm_dump.specs.Dumped.{AllDumped, AllSettled}
-use Rattle.mm_dump.proofs.Nothing.{nothing_dumped, nothing_settled, all_kept_same}
+use Rattle.std.proofs.Common.{rules, ◌≡◌, ◌+◌, ◌-◌, ◌<◌, ◌≤◌, ◌^◌, ℕ, List, [], ◌++◌, length, map, take, drop, All, vec_len, refl, sym, ap, subst, ◌∙◌, arith}
+use Rattle.std.specs.List.{sum_by}
+use Rattle.std.proofs.lemmas.List.{length-take-le, length-drop, take-append-drop, nil_from_length}
+use Rattle.std.proofs.lemmas.List.Elements.{All-take}
+use Rattle.crossbeam_queue.specs.Passes.{view}
+use Rattle.mm_desk.specs.Machine.{State}
+use Rattle.mm_shared.specs.Stores.{states_of, names_of, all_ends, HaveLegalLogs}
+use Rattle.mm_shared.specs.Views.{PortView}
+use Rattle.mm_shared.proofs.StillOpen.{still_open}
+use Rattle.mm_dump.specs.declared.dumper.DumpWorker.{DumpWorker}
+use Rattle.mm_dump.specs.Courses.{worst_of}
+use Rattle.mm_dump.specs.Dumped.{CarriesOut}
+use Rattle.mm_dump.specs.Queue.{Tells}
+use Rattle.mm_dump.specs.Steps.{IsHired, IsBack, AreBack}
+use Rattle.mm_dump.specs.Workers.{AreReady, causes_of}
+use Rattle.mm_dump.proofs.Ending.{lent, same_ids, sided_ends, sided_each}
+use Rattle.mm_dump.proofs.Leaves.{HasEndedAll, leaves}
+use Rattle.mm_dump.proofs.Nothing.{nothing, with_idle}
+use Rattle.mm_dump.proofs.Ready.{step_ready, ends_same, all_back}
+use Rattle.mm_dump.proofs.step.dump.Given as given
 use Rattle.mm_dump.proofs.step.dump.Goals as goal
+use Rattle.mm_dump.proofs.step.dump.Goals.{After-deref_mut-2, After-dump_all}
 
-pub returns-then-is_empty-clause-dumped : goal.returns-then-is_empty-clause-dumped
-returns-then-is_empty-clause-dumped g c =
-    let ids = map (λ h. h.id) c.args.stores.now.items in
-    let none : c.args.orders.now ≡ [] = nil_from_length c.args.orders.now (search rules) in
-    let states = states_of c.args.stores.now.items in
-    subst (λ (os : List Order). AllDumped g.L.Link.sent g.L.Link.failed ids os states states c.args.links.now c.args.links.now) (sym none)
-    (nothing_dumped g.L.Link.sent g.L.Link.failed ids states c.args.links.now)
+pub returns-then-is_empty-clause-carried : goal.returns-then-is_empty-clause-carried
+returns-then-is_empty-clause-carried g c =
+    nothing g.L.Link.sent g.L.Link.failed (map (λ h. h.id) c.args.stores.now.items) c.args.orders.now (states_of c.args.stores.now.items) c.args.links.now
+    (nil_from_length c.args.orders.now (search rules))
 
-pub returns-then-is_empty-clause-settled : goal.returns-then-is_empty-clause-settled
-returns-then-is_empty-clause-settled g c =
-    let ids = map (λ h. h.id) c.args.stores.now.items in
-    let none : c.args.orders.now ≡ [] = nil_from_length c.args.orders.now (search rules) in
-    let states = states_of c.args.stores.now.items in
-    subst (λ (os : List Order). AllSettled g.L.Link.sent g.L.Link.failed ids os None states states c.args.links.now c.args.links.now) (sym none)
-    (nothing_settled g.L.Link.sent g.L.Link.failed ids states c.args.links.now)
+-- how many workers there are
+busy : (g : given.Over) (c : goal.After-deref_mut-2 g) → length (take c.min-many.result c.args.links.now) ≡ c.min-many.result
+busy g c = length-take-le c.min-many.result c.args.links.now (search rules)
 
-pub returns-then-is_empty-clause-kept : goal.returns-then-is_empty-clause-kept
-returns-then-is_empty-clause-kept g c = all_kept_same g.L.Link.sent g.L.Link.failed [] c.args.links.now
+workers : (g : given.Over) (c : goal.After-deref_mut-2 g) → length c.deref_mut-2.result.now ≡ c.min-many.result
+workers g c =
+    let count : vec_len c.in_ok-buffers.buffers.workers ≡ length c.in_ok-buffers.buffers.workers.items = omega (arith, c.in_ok-buffers.buffers.workers.ok.0) in
+    omega (arith, count, ap length c.deref_mut-2.ensures.value, c.in_ok-buffers.ensures.buffers.count)
+
+-- they are ready
+ready : (g : given.Over) (c : goal.After-deref_mut-2 g) → AreReady g.L.Link.sent g.L.Link.failed c.in_ok-buffers.buffers.queue c.in_ok-opened.opened.stores c.deref-2.result.now c.args.orders.now
+    (take c.min-many.result c.args.links.now) c.deref_mut.result.now c.deref_mut-2.result.now
+ready g c =
+    let some : 0 < c.min-many.result = search rules in
+    let hired = subst (λ (ws : List DumpWorker). All (IsHired c.in_ok-buffers.buffers.queue (length c.args.orders.now + c.min-many.result)) ws) (sym c.deref_mut-2.ensures.value) c.in_ok-buffers.ensures.buffers.hired in
+    step_ready g.L.Link.sent g.L.Link.failed c.in_ok-buffers.buffers.queue c.in_ok-opened.opened c.args.orders.now c.args.stores.now.items c.min-many.result (take c.min-many.result c.args.links.now)
+    c.deref-2.result.now c.deref_mut.result.now c.deref_mut-2.result.now (length c.args.orders.now + c.min-many.result)
+    (omega (arith, some, busy g c)) (busy g c) (All-take (λ l. g.L.Link.failed l < 2 ^ 64 - 1) c.min-many.result c.args.links.now c.requires.may.room) c.requires.may.places c.in_ok-opened.ensures.opened
+    c.deref-2.ensures.value c.deref_mut.ensures.value (workers g c) hired (search rules)
+
+pub dump_all-requires-clause-ready : goal.dump_all-requires-clause-ready
+dump_all-requires-clause-ready g c κs within = ready g c
+
+-- there are as many ports and workers as links
+record AsMany (L : Type 0) (links : List L) (ports : List PortView) (workers : List DumpWorker) : Type 0 where
+  ports_are : length ports ≡ length links
+  workers_are : length workers ≡ length links
+
+-- also when they are back
+as_many : (g : given.Over) (c : goal.After-dump_all g) → AsMany _ (take c.min-many.result c.args.links.now) c.deref_mut.result.now c.deref_mut-2.result.now
+    → AsMany _ c.dump_all.new.links c.dump_all.new.ports c.dump_all.new.workers
+as_many g c before = record {
+  ports_are = omega (arith, c.dump_all.auto.ports, c.dump_all.auto.links, before.ports_are);
+  workers_are = omega (arith, c.dump_all.auto.workers, c.dump_all.auto.links, before.workers_are);
+}
+
+-- they were lent whole
+same_ports : (g : given.Over) (c : goal.After-dump_all g) (rest : List PortView) → take c.in_ok-opened.opened.workers.len (c.dump_all.new.ports ++ rest) ≡ c.dump_all.new.ports
+same_ports g c rest =
+    let held : vec_len c.in_ok-opened.opened.workers ≡ length c.in_ok-opened.opened.workers.items = omega (arith, c.in_ok-opened.opened.workers.ok.0) in
+    lent c.in_ok-opened.opened.workers.len c.dump_all.new.ports rest (omega (arith, held, c.dump_all.auto.ports, ap length c.deref_mut.ensures.value))
+
+same_workers : (g : given.Over) (c : goal.After-dump_all g) (rest : List DumpWorker) → take c.in_ok-buffers.buffers.workers.len (c.dump_all.new.workers ++ rest) ≡ c.dump_all.new.workers
+same_workers g c rest =
+    let held : vec_len c.in_ok-buffers.buffers.workers ≡ length c.in_ok-buffers.buffers.workers.items = omega (arith, c.in_ok-buffers.buffers.workers.ok.0) in
+    lent c.in_ok-buffers.buffers.workers.len c.dump_all.new.workers rest (omega (arith, held, c.dump_all.auto.workers, ap length c.deref_mut-2.ensures.value))
+
+-- what the workers have
+back : (g : given.Over) (c : goal.After-dump_all g) → AsMany _ c.dump_all.new.links c.dump_all.new.ports c.dump_all.new.workers → All (IsBack c.in_ok-buffers.buffers.queue) c.dump_all.new.workers
+back g c many =
+    sided_each (IsBack c.in_ok-buffers.buffers.queue) c.dump_all.new.links c.dump_all.new.ports c.dump_all.new.workers many.ports_are many.workers_are
+    (all_back g.L.Link.sent g.L.Link.failed c.in_ok-buffers.buffers.queue _ _ _ _ c.dump_all.ensures.worked)
+
+-- as many as were ready
+were : (g : given.Over) (c : goal.After-deref_mut-2 g) → AsMany _ (take c.min-many.result c.args.links.now) c.deref_mut.result.now c.deref_mut-2.result.now
+were g c = record { ports_are = (ready g c).ports_count; workers_are = (ready g c).workers_count }
+
+pub close_all-requires : goal.close_all-requires
+close_all-requires g c =
+    let b = (goal.at.close_all-requires g c).After-deref_mut-2 in
+    let a = (goal.at.close_all-requires g c).After-dump_all in
+    let many = as_many g a (were g b) in
+    let ends : all_ends c.dump_all.new.ports ≡ all_ends c.in_ok-opened.opened.workers.items =
+    sym (sided_ends c.dump_all.new.links c.dump_all.new.ports c.dump_all.new.workers many.ports_are many.workers_are)
+    ∙ ends_same g.L.Link.sent g.L.Link.failed c.in_ok-buffers.buffers.queue _ _ _ _ c.dump_all.ensures.worked
+    ∙ sided_ends (take c.min-many.result c.args.links.now) c.deref_mut.result.now c.deref_mut-2.result.now (ready g b).ports_count (ready g b).workers_count
+    ∙ ap all_ends c.deref_mut.ensures.value in
+    record { opened = still_open c.in_ok-opened.opened _ c.in_ok-opened.ensures.opened.are_open (ap all_ends (same_ports g a _) ∙ ends) }
+
+pub spent_by-spent-requires-clause-bound : goal.spent_by-spent-requires-clause-bound
+spent_by-spent-requires-clause-bound g c k d inside =
+    let b = (goal.at.spent_by-spent-requires-clause-bound g c).After-deref_mut-2 in
+    let a = (goal.at.spent_by-spent-requires-clause-bound g c).After-dump_all in
+    (subst (λ (ws : List DumpWorker). All (IsBack c.in_ok-buffers.buffers.queue) ws) (sym (c.deref-4.ensures.value ∙ same_workers g a _)) (back g a (as_many g a (were g b))) k d inside).bound
+
+pub join_passes-requires-clause-passes : goal.join_passes-requires-clause-passes
+join_passes-requires-clause-passes g c =
+    let b = (goal.at.join_passes-requires-clause-passes g c).After-deref_mut-2 in
+    let a = (goal.at.join_passes-requires-clause-passes g c).After-dump_all in
+    subst (λ (ws : List DumpWorker). All (IsBack c.in_ok-buffers.buffers.queue) ws) (sym (same_workers g a _)) (back g a (as_many g a (were g b)))
+
+pub returns-clause-carried : goal.returns-clause-carried
+returns-clause-carried g c =
+    let b = (goal.at.returns-clause-carried g c).After-deref_mut-2 in
+    let a = (goal.at.returns-clause-carried g c).After-dump_all in
+    let sent = g.L.Link.sent in
+    let failed = g.L.Link.failed in
+    let before = c.args.stores.now.items in
+    let after = c.close_all.new.stores.items in
+    let many = c.min-many.result in
+    let busy_links = take many c.args.links.now in
+    let idle = drop many c.args.links.now in
+    let opened = c.in_ok-opened.ensures.opened in
+    let count = as_many g a (were g b) in
+    let same = same_workers g a (drop (length c.dump_all.new.workers) c.in_ok-buffers.buffers.workers.items) in
+    let ports = same_ports g a (drop (length c.dump_all.new.ports) c.in_ok-opened.opened.workers.items) in
+    let joined : AreBack c.dump_all.new.workers (view c.in_ok-buffers.buffers.pass) (view c.join_passes.new.pass) =
+    subst (λ (ws : List DumpWorker). AreBack ws (view c.in_ok-buffers.buffers.pass) (view c.join_passes.new.pass)) same c.join_passes.ensures.joined in
+    let broken : c.worst_broken-broken.result ≡ worst_of (causes_of c.dump_all.new.workers) =
+    c.worst_broken-broken.ensures.worst ∙ ap (λ (ws : List DumpWorker). worst_of (causes_of ws)) (c.deref-3.ensures.value ∙ same) in
+    let spent : c.spent_by-spent.result ≡ sum_by (λ (w : DumpWorker). w.spent) c.dump_all.new.workers =
+    c.spent_by-spent.ensures.spent ∙ ap (λ (ws : List DumpWorker). sum_by (λ (w : DumpWorker). w.spent) ws) (c.deref-4.ensures.value ∙ same) in
+    let ended : HasEndedAll sent failed c.in_ok-buffers.buffers.queue c.args.orders.now before after busy_links c.dump_all.new.links c.in_ok-opened.opened.stores c.deref-2.result.now
+    c.deref_mut.result.now c.dump_all.new.ports c.deref_mut-2.result.now c.dump_all.new.workers (view c.in_ok-buffers.buffers.pass) (view c.join_passes.new.pass) c.worst_broken-broken.result
+    c.spent_by-spent.result = record {
+      distinct = c.requires.may.distinct;
+      amounts = c.requires.may.amounts;
+      places = c.requires.may.places;
+      idle = c.requires.may.idle;
+      lone = c.lone_seats_are_logs.ensures.law;
+      labels = c.close_all.ensures.labels ∙ opened.labels;
+      ids = same_ids c.deref-2.result.now before (ap names_of c.deref-2.ensures.value ∙ opened.labels);
+      ready = ready g b;
+      links_after = c.dump_all.auto.links;
+      ports_after = count.ports_are;
+      workers_after = count.workers_are;
+      worked = c.dump_all.ensures.worked;
+      logs = subst (λ (ps : List PortView). HaveLegalLogs ps (states_of before) (states_of after)) ports
+          (subst (λ (ss : List State). HaveLegalLogs (take c.in_ok-opened.opened.workers.len (c.dump_all.new.ports ++ drop (length c.dump_all.new.ports) c.in_ok-opened.opened.workers.items)) ss (states_of after))
+          opened.states c.close_all.ensures.went);
+      back = joined;
+      none = c.in_ok-buffers.ensures.buffers.none;
+      whole = omega (arith, joined.parts, c.in_ok-buffers.ensures.buffers.parts, count.workers_are, c.dump_all.auto.links, busy g b);
+      tells = subst Tells c.learn_taken.ensures.same c.learn_taken.ensures.taken;
+      worst = broken;
+      spent_is = spent;
+    } in
+    let out = leaves sent failed c.in_ok-buffers.buffers.queue c.args.orders.now before after busy_links c.dump_all.new.links c.in_ok-opened.opened.stores c.deref-2.result.now
+    c.deref_mut.result.now c.dump_all.new.ports c.deref_mut-2.result.now c.dump_all.new.workers (view c.in_ok-buffers.buffers.pass) (view c.join_passes.new.pass) c.worst_broken-broken.result
+    c.spent_by-spent.result ended in
+    let few : 0 < length idle → length c.args.orders.now ≤ length busy_links = λ some. omega (arith, some, length-drop many c.args.links.now, busy g b, c.min-many.ensures) in
+    subst (λ ls. CarriesOut sent failed (map (λ h. h.id) before) c.args.orders.now (states_of before) (states_of after) ls (c.dump_all.new.links ++ idle) c.worst_broken-broken.result c.spent_by-spent.result)
+    (take-append-drop many c.args.links.now)
+    (with_idle sent failed (map (λ h. h.id) before) c.args.orders.now (states_of before) (states_of after) busy_links c.dump_all.new.links idle c.worst_broken-broken.result c.spent_by-spent.result out few)

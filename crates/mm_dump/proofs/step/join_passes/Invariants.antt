@@ -2,14 +2,14 @@ use Rattle.std.proofs.Common.{◌≡◌, ◌<◌, ℕ, ◌+◌, All, length, vec
 use Rattle.std.specs.List.{sum_by}
 use Rattle.crossbeam_queue.specs.Passes.{view, IsPassOf}
 use Rattle.mm_dump.specs.declared.dumper.DumpWorker.{DumpWorker}
-use Rattle.mm_dump.specs.Steps.{HasPart}
+use Rattle.mm_dump.specs.Steps.{IsBack}
 use Rattle.mm_dump.proofs.step.join_passes.Given as goal
 
 abbrev pub invariant-loop-worker : goal.invariant-loop-worker
 invariant-loop-worker l = record {
   pass : IsPassOf l.queue l.pass;
   part : 0 < (view l.pass).parts;
-  passes : All (HasPart l.queue) l.workers.items;
+  passes : All (IsBack l.queue) l.workers.items;
   parts : (view l.pass).parts + length l.workers.items ≡ (view l.initial.pass).parts + length l.initial.workers.items;
   pushed : (view l.pass).pushed ≡ (view l.initial.pass).pushed;
   taken : (weight : ℕ → ℕ) → sum_by weight (view l.pass).taken + sum_by (λ (w : DumpWorker). sum_by weight (view w.pass).taken) l.workers.items

@@ -1,11 +1,8 @@
-use Rattle.std.proofs.Common.{ap, ◌∙◌}
 use Rattle.mm_dump.specs.declared.dumper.DumpWorker.{DumpWorker}
-use Rattle.mm_dump.specs.Courses.{worse}
-use Rattle.mm_dump.specs.Workers.{why_of}
 use Rattle.mm_dump.proofs.Causes.{worst_next}
 use Rattle.mm_dump.proofs.worst.worst_broken.Goals as goal
 
 pub loop-worker-preserved : goal.loop-worker-preserved
 loop-worker-preserved c =
-    worst_next (λ (w : DumpWorker). why_of w.stop) c.args.workers.now c.loop-worker.worker-index c.worker-item.result c.loop-worker.worst c.worse-worst.result
-    c.loop-worker-test.true c.worker-item.is c.loop-worker.invariant (c.worse-worst.ensures.worse ∙ ap (worse c.loop-worker.worst) c.why.ensures.why)
+    worst_next (λ (w : DumpWorker). w.why) c.args.workers.now c.loop-worker.worker-index c.worker-item.result c.loop-worker.worst c.worse-worst.result
+    c.loop-worker-test.true c.worker-item.is c.loop-worker.invariant c.worse-worst.ensures.worse
