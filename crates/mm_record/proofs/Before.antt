@@ -1,7 +1,8 @@
 -- What the tests before a step tell, where all pass.
-use Rattle.std.proofs.Common.{◌≡◌, ℕ, zero, suc, ◌+◌, ◌<◌, ◌≤◌, ◌^◌, ◌&&◌, Bool, true, false, not, cond, List, [], ◌∷◌, All, Option, Some, None, refl, sym, arith}
+use Rattle.std.proofs.Common.{◌≡◌, ℕ, ◌+◌, ◌<◌, ◌≤◌, ◌^◌, ◌&&◌, Bool, true, false, not, cond, List, [], ◌∷◌, All, Option, Some, None, refl, sym, arith}
 use Rattle.std.specs.List.{find, list_any}
 use Rattle.std.proofs.lemmas.Bool.{ltb-false, or_parts}
+use Rattle.std.proofs.lemmas.List.Elements.{All-cons}
 use Rattle.mm_packet.specs.Packet.{SpacePacket}
 use Rattle.mm_desk.specs.declared.held.Held.{Held}
 use Rattle.mm_memory.specs.Holdings.{Holdings}
@@ -13,25 +14,21 @@ use Rattle.mm_record.specs.MemorySteps.{recording_of}
 use Rattle.mm_record.specs.Steps.{IsWithinLimits, TakesAll}
 
 -- what nothing is found of is none of the list
-none_more : (t : Bool) (y : Held) (rest : Option Held) → cond t (Some y) rest ≡ None → (t ≡ false) × (rest ≡ None)
-none_more true y rest bad = absurd (cc)
-none_more false y rest none = (refl, none)
-
-one_more : (P : Held → Type 0) (x : Held) (xs : List Held) → P x → All P xs → All P (x ∷ xs)
-one_more P x xs head tail zero d within = head
-one_more P x xs head tail (suc i) d within = tail i d (omega arith)
+nAll-cons : (t : Bool) (y : Held) (rest : Option Held) → cond t (Some y) rest ≡ None → (t ≡ false) × (rest ≡ None)
+nAll-cons true y rest bad = absurd (cc)
+nAll-cons false y rest none = (refl, none)
 
 none_passes : (p : Held → Bool) (xs : List Held) → find p xs ≡ None → All (λ x. p x ≡ false) xs
 none_passes p [] none = λ i d within. absurd (omega arith)
 none_passes p (y ∷ ys) none =
-    let both = none_more (p y) y (find p ys) none in
-    one_more (λ x. p x ≡ false) y ys both.0 (none_passes p ys both.1)
+    let both = nAll-cons (p y) y (find p ys) none in
+    All-cons (λ x. p x ≡ false) y ys both.0 (none_passes p ys both.1)
 
 none_of_any : (p : Held → Bool) (xs : List Held) → list_any p xs ≡ false → All (λ x. p x ≡ false) xs
 none_of_any p [] none = λ i d within. absurd (omega arith)
 none_of_any p (y ∷ ys) none =
     let both = or_parts (p y) (list_any p ys) none in
-    one_more (λ x. p x ≡ false) y ys both.0 (none_of_any p ys both.1)
+    All-cons (λ x. p x ≡ false) y ys both.0 (none_of_any p ys both.1)
 
 -- a store that is ready has its storage on
 storage_on : (on busy : Bool) → not (on && busy) ≡ false → on ≡ true

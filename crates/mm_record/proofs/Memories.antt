@@ -1,10 +1,9 @@
 -- A step over the stores of a memory.
-use Rattle.std.proofs.Common.{◌≡◌, ◌≢◌, ◌⊎◌, inl, inr, ℕ, zero, suc, ◌+◌, ◌<◌, false, List, [], ◌∷◌, ◌++◌, length, get_or, take, map, All, Option, Some, None, IfNone, IfSome, refl, sym, subst, ap, ◌∙◌, arith}
+use Rattle.std.proofs.Common.{◌≡◌, ◌≢◌, ◌⊎◌, inl, inr, ℕ, ◌+◌, ◌<◌, false, List, [], ◌∷◌, ◌++◌, length, get_or, take, map, All, Option, Some, None, IfNone, IfSome, refl, sym, subst, ap, ◌∙◌, arith}
 use Rattle.std.specs.List.{AllPairs}
 use Rattle.std.specs.Prelude.{bytes_eq}
 use Rattle.std.proofs.lemmas.Bool.{false_from_ne_true}
 use Rattle.std.proofs.lemmas.List.{get_or-map, length-map, map-append, same_lists, take_more}
-use Rattle.std.proofs.lemmas.List.Elements.{All-append}
 use Rattle.std.proofs.lemmas.Slice.Eq.{bytes_eq-Decides}
 use Rattle.mm_base.specs.declared.rows.RouteRow.{RouteRow}
 use Rattle.mm_packet.specs.Packet.{SpacePacket}
@@ -215,16 +214,6 @@ module _ {S : Type 0} (gives : S → ℕ → List SpacePacket) (e : RecordingCon
         (records.why_is.lack ((caused e.step why cause is).lack lack));
     others = records.others;
   })
-
--- what holds of the first elements and of the next one
-pub all_more : {X : Type 0} (P : X → Type 0) (xs : List X) (i : ℕ) (x : X) → i < length xs → get_or xs i x ≡ x → All P (take i xs) → P x → All P (take (i + 1) xs)
-all_more P xs i x within at all one =
-    let next : take (i + 1) xs ≡ take i xs ++ x ∷ [] = take_more xs i x within ∙ ap (λ y. take i xs ++ y ∷ []) at in
-    subst (All P) (sym next) (All-append P (take i xs) (x ∷ []) all alone)
-  where
-    alone : All P (x ∷ [])
-    alone zero d inside = one
-    alone (suc j) d inside = absurd (omega arith)
 
 -- what is told of the first elements and of the next one
 pub map_more : {X Y : Type 0} (f : X → Y) (xs : List X) (i : ℕ) (x : X) → i < length xs → get_or xs i x ≡ x → map f (take (i + 1) xs) ≡ map f (take i xs) ++ f x ∷ []

@@ -1,4 +1,4 @@
--- Why recorders stopped early, from the lists of the calls made through their lines to the log of a store.
+-- Why recorders stopped early, from the lists of the calls made through their ports to the log of a store.
 use Rattle.std.proofs.Common.{◌≡◌, ◌⊎◌, inl, inr, ℕ, zero, suc, ◌<◌, ◌==◌, Bool, true, false, cond, List, [], ◌∷◌, length, get_or, map, filter, Option, Some, None, IfSome, Ok, Err, refl, sym, subst, ◌∙◌, arith}
 use Rattle.std.specs.Prelude.{Any}
 use Rattle.std.proofs.lemmas.List.{get_or_default}
@@ -11,9 +11,8 @@ use Rattle.mm_desk.specs.declared.reply.Reply.{Reply}
 use Rattle.mm_desk.specs.declared.reply.Reply.TheVariants as reply
 use Rattle.mm_desk.specs.Offers.{AreTaken, IsTaken}
 use Rattle.mm_desk.specs.Shuffles.{IsShuffle}
-use Rattle.mm_shared.specs.declared.lines.Line.{Line}
-use Rattle.mm_shared.specs.declared.lines.Lines.{Lines}
 use Rattle.mm_shared.specs.Stores.{list_at, lists_at}
+use Rattle.mm_shared.specs.Views.{PortView}
 use Rattle.mm_record.specs.Offering.{IsReason}
 use Rattle.mm_record.specs.Steps.{IsRefusedWith, RecorderRun}
 
@@ -65,41 +64,41 @@ refusal_in_log fault lists log shuffle (seat, list, within, at, refused) =
     (subst (Any (IsRefusal fault)) (sym (shuffle.parts seat within ∙ get_or_default lists seat [] list within ∙ at)) refused)
 
 -- an offer to the store at an index was refused with this fault
-pub record IsRefusedIn (count : ℕ) (workers : List Lines) (fault : Fault) : Type 0 where
+pub record IsRefusedIn (count : ℕ) (workers : List PortView) (fault : Fault) : Type 0 where
   pub index : ℕ
   pub within : index < count
   pub refused : Any (Any (IsRefusal fault)) (lists_at index workers)
 
 -- why some of these workers stopped early: out of memory, or an offer was refused so
-abbrev pub IsReasonOf : ℕ → List Lines → Fault → Type 0
+abbrev pub IsReasonOf : ℕ → List PortView → Fault → Type 0
 IsReasonOf count workers fault = (fault ≡ NoMemory) ⊎ IsRefusedIn count workers fault
 
 -- the reason of the first worker
-first_reason : (count : ℕ) (w : Lines) (ws : List Lines) (fault : Fault) → IsReason count w.lines.items fault → IsReasonOf count (w ∷ ws) fault
+first_reason : (count : ℕ) (w : PortView) (ws : List PortView) (fault : Fault) → IsReason count w fault → IsReasonOf count (w ∷ ws) fault
 first_reason count w ws fault (inl lack) = inl lack
 first_reason count w ws fault (inr refusal) = inr (record {
   index = refusal.index;
   within = refusal.within;
-  refused = (0, list_at w.lines.items refusal.index, omega arith, refl, refusal.refused);
+  refused = (0, list_at w refusal.index, omega arith, refl, refusal.refused);
 })
 
 -- the reason of a later worker
-later_reason : (count : ℕ) (w : Lines) (ws : List Lines) (fault : Fault) → IsReasonOf count ws fault → IsReasonOf count (w ∷ ws) fault
+later_reason : (count : ℕ) (w : PortView) (ws : List PortView) (fault : Fault) → IsReasonOf count ws fault → IsReasonOf count (w ∷ ws) fault
 later_reason count w ws fault (inl lack) = inl lack
 later_reason count w ws fault (inr refusal) = inr (record {
   index = refusal.index;
   within = refusal.within;
-  refused = any_more (Any (IsRefusal fault)) (list_at w.lines.items refusal.index) (lists_at refusal.index ws) refusal.refused;
+  refused = any_more (Any (IsRefusal fault)) (list_at w refusal.index) (lists_at refusal.index ws) refusal.refused;
 })
 
 -- the reason of a worker that stopped so
-reason_at : (count : ℕ) (lines : List Line) (broken : Option Fault) (fault : Fault) → IfSome broken (IsReason count lines) → broken ≡ Some fault → IsReason count lines fault
-reason_at count lines None fault reason is = cc
-reason_at count lines (Some other) fault reason is = let same : other ≡ fault = cc in subst (IsReason count lines) same reason
+reason_at : (count : ℕ) (port : PortView) (broken : Option Fault) (fault : Fault) → IfSome broken (IsReason count port) → broken ≡ Some fault → IsReason count port fault
+reason_at count port None fault reason is = cc
+reason_at count port (Some other) fault reason is = let same : other ≡ fault = cc in subst (IsReason count port) same reason
 
 -- a worker more
-pub reason_more : (count : ℕ) (w : Lines) (run : RecorderRun) (ws : List Lines) (runs : List RecorderRun) (fault : Fault) → IfSome run.broken (IsReason count w.lines.items)
+pub reason_more : (count : ℕ) (w : PortView) (run : RecorderRun) (ws : List PortView) (runs : List RecorderRun) (fault : Fault) → IfSome run.broken (IsReason count w)
     → ((i : ℕ) → i < length runs → get_or (map (λ run. run.broken) runs) i None ≡ Some fault → IsReasonOf count ws fault)
     → (i : ℕ) → i < suc (length runs) → get_or (map (λ run. run.broken) (run ∷ runs)) i None ≡ Some fault → IsReasonOf count (w ∷ ws) fault
-reason_more count w run ws runs fault reason rest zero within is = first_reason count w ws fault (reason_at count w.lines.items run.broken fault reason is)
+reason_more count w run ws runs fault reason rest zero within is = first_reason count w ws fault (reason_at count w run.broken fault reason is)
 reason_more count w run ws runs fault reason rest (suc i) within is = later_reason count w ws fault (rest i (omega arith) is)

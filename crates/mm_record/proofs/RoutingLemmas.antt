@@ -7,7 +7,7 @@ use Rattle.mm_packet.specs.declared.header.PacketType.{PacketType}
 use Rattle.mm_packet.specs.declared.header.PacketType.TheVariants.{Telecommand, Telemetry}
 use Rattle.mm_packet.specs.Packet.{SpacePacket, IsTelemetry}
 use Rattle.mm_control.specs.Routes.{has_row}
-use Rattle.mm_shared.specs.declared.stores.NamedStore.{NamedStore}
+use Rattle.mm_shared.specs.declared.label.StoreLabel.{StoreLabel}
 use Rattle.mm_shared.specs.Stores.{ids_of, id_at}
 use Rattle.mm_record.specs.declared.routing.ReportType.{ReportType}
 use Rattle.mm_record.specs.Offering.{offers_by}
@@ -42,16 +42,16 @@ only (r ∷ []) row one at = ap (λ (x : RouteRow). x ∷ []) at
 only (r ∷ s ∷ rows) row one at = absurd (omega (arith, one))
 
 -- the store of the only row is the one
-pub leads_to : (routes : List RouteRow) (stores : List NamedStore) (report : ReportType) (rows : List RouteRow) (row : RouteRow) (index : ℕ)
+pub leads_to : (routes : List RouteRow) (labels : List StoreLabel) (report : ReportType) (rows : List RouteRow) (row : RouteRow) (index : ℕ)
     → ((id : List ℕ) → filter (bytes_eq id) (map (λ (r : RouteRow). r.store) rows)
     ≡ (if has_row (row_of report id) routes then id ∷ [] else []))
-    → length rows ≡ 1 → get_or rows 0 row ≡ row → index < length stores
-    → ((j : ℕ) → j < length stores → bytes_eq (id_at (ids_of stores) j) row.store ≡ (j == index))
-    → LeadsTo routes stores report index
-leads_to routes stores report rows row index once one at within is = record {
+    → length rows ≡ 1 → get_or rows 0 row ≡ row → index < length labels
+    → ((j : ℕ) → j < length labels → bytes_eq (id_at (ids_of labels) j) row.store ≡ (j == index))
+    → LeadsTo routes labels report index
+leads_to routes labels report rows row index once one at within is = record {
   within = within;
   offers = λ now p k of inside.
-      let id = id_at (ids_of stores) k in
+      let id = id_at (ids_of labels) k in
       let routed = sym (routed_as routes id report p of) in
       found_at now p id row k index (is k inside)
       ∙ ap (offers_by now p id) (sym (only rows row one at))

@@ -1,19 +1,17 @@
 -- Recorders of two groups, one after the other.
-use Rattle.std.proofs.Common.{◌≡◌, ℕ, ◌+◌, ◌<◌, List, [], ◌∷◌, ◌++◌, length, get_or, map, All, Option, None, sym, subst, ap, ◌∙◌, length-append, arith}
+use Rattle.std.proofs.Common.{◌≡◌, ℕ, ◌+◌, List, [], ◌∷◌, ◌++◌, length, get_or, map, All, Option, None, sym, subst, ap, length-append, arith}
 use Rattle.std.proofs.Math.ListN.{set}
-use Rattle.std.proofs.lemmas.List.{get_or-map, get_or_append_left, get_or-append-add, length-map, map-append}
+use Rattle.std.proofs.lemmas.List.{get_or_append_left, get_or-append-add, map-append}
 use Rattle.atomic_table.specs.Seated.{TableId}
 use Rattle.mm_packet.specs.Packet.{SpacePacket}
 use Rattle.mm_desk.specs.declared.fault.Fault.{Fault}
-use Rattle.mm_shared.specs.declared.lines.Line.{Line}
-use Rattle.mm_shared.specs.declared.lines.Lines.{Lines}
-use Rattle.mm_shared.specs.declared.stores.NamedStore.{NamedStore}
-use Rattle.mm_shared.specs.Stores.{ends_of, ids_of, AreNamed, AreWorkers, IsFresh, IsWorker}
-use Rattle.mm_record.specs.Offering.{AreAt}
+use Rattle.mm_shared.specs.declared.label.StoreLabel.{StoreLabel}
+use Rattle.mm_shared.specs.Stores.{ids_of, AreNamed, AreWorkers, IsFresh}
+use Rattle.mm_shared.specs.Views.{PortView, StoresView}
+use Rattle.mm_record.specs.Offering.{MayOffer}
 use Rattle.mm_record.specs.Recorded.{RecordingContext}
 use Rattle.mm_record.specs.Recorders.{HasRun, HaveRun, IsRunAt, AreRunsAt, MayRecord, is_worse}
 use Rattle.mm_record.specs.Steps.{RecorderRun, IsWhy}
-use Rattle.mm_record.proofs.Adding.{end_of}
 use Rattle.mm_record.proofs.Whys.{why_none, why_one, why_both}
 
 -- what holds of all of two lists holds of all of each
@@ -24,52 +22,37 @@ pub all_second : {X : Type 0} (P : X → Type 0) (xs ys : List X) → All P (xs 
 all_second P xs ys all i d within = subst P (get_or-append-add xs ys i d) (all (length xs + i) d (omega (arith, length-append xs ys)))
 
 -- two groups of recorders may record where both together may
-pub may_both : {S : Type 0} (stores : List NamedStore) (ss us : List S) (ws xs : List Lines) → length ss ≡ length ws
-    → MayRecord stores (ss ++ us) (ws ++ xs) → MayRecord stores ss ws × MayRecord stores us xs
-may_both stores ss us ws xs same may = (
+pub may_both : {S : Type 0} (labels : List StoreLabel) (stores : StoresView) (ss us : List S) (ws xs : List PortView) → length ss ≡ length ws
+    → MayRecord labels stores (ss ++ us) (ws ++ xs) → MayRecord labels stores ss ws × MayRecord labels stores us xs
+may_both labels stores ss us ws xs same may = (
   record {
-    named = may.named;
     same = sym same;
-    at = all_first (λ w. AreAt stores (ends_of w.lines.items)) ws xs may.at;
-    fresh = all_first (λ w. IsFresh w.lines.items) ws xs may.fresh;
+    may = all_first (λ w. MayOffer labels stores w.of) ws xs may.may;
+    fresh = all_first IsFresh ws xs may.fresh;
   },
   record {
-    named = may.named;
     same = omega (arith, may.same, length-append ss us, length-append ws xs, same);
-    at = all_second (λ w. AreAt stores (ends_of w.lines.items)) ws xs may.at;
-    fresh = all_second (λ w. IsFresh w.lines.items) ws xs may.fresh;
+    may = all_second (λ w. MayOffer labels stores w.of) ws xs may.may;
+    fresh = all_second IsFresh ws xs may.fresh;
   },
 )
 
--- a line among lines
-end_at : (lines : List Line) (k : ℕ) (end : ℕ × TableId × ℕ) (id : TableId) → k < length lines → ((l : Line) → (get_or lines k l).port.of ≡ id)
-    → (get_or (ends_of lines) k end).1 ≡ id
-end_at [] k end id within at = absurd (omega arith)
-end_at (l ∷ ls) k end id within at = ap (λ (x : ℕ × TableId × ℕ). x.1) (get_or-map end_of (l ∷ ls) k l end within) ∙ at l
-
--- a worker has its lines at the stores
-at_of : (stores : List NamedStore) (number : ℕ) (lines : List Line) → IsWorker stores number lines → AreAt stores (ends_of lines)
-at_of stores number lines worker = record {
-  count = length-map lines end_of ∙ worker.count;
-  of = λ k s end within. end_at lines k end (get_or stores k s).store.id (omega (arith, worker.count)) (λ l. (worker.at k s l within).of);
-}
-
--- workers of new stores, one for each source, may record where no two stores have one identifier
-pub may_of : {S : Type 0} (stores : List NamedStore) (sources : List S) (workers : List Lines) → AreNamed (ids_of stores) → length workers ≡ length sources
-    → AreWorkers stores 0 workers → All (λ w. IsFresh w.lines.items) workers → MayRecord stores sources workers
-may_of stores sources workers named same are fresh = record {
-  named = named;
+-- workers of stores that were opened, one for each source, may record where no two stores have one identifier
+pub may_of : {S : Type 0} (labels : List StoreLabel) (stores : StoresView) (sources : List S) (workers : List PortView) → AreNamed (ids_of labels)
+    → length labels ≡ length stores.openings → length workers ≡ length sources → AreWorkers stores.id 0 workers → All IsFresh workers
+    → MayRecord labels stores sources workers
+may_of labels stores sources workers named as_many same are fresh = record {
   same = same;
-  at = λ i d within. at_of stores (0 + i) (get_or workers i d).lines.items (are i d within);
+  may = λ i d within. record { named = named; as_many = as_many; of_them = ap (λ (end : TableId × ℕ). end.0) (are i d within) };
   fresh = fresh;
 }
 
 module _ {S : Type 0} (gives : S → ℕ → List SpacePacket) (e : RecordingContext) where
   -- what holds where there is no recorder, and for one recorder more, holds for all
-  pub for_all : (P : List S → List S → List Lines → List RecorderRun → Type 0) → P [] [] [] []
-      → ((s t : S) (w : Lines) (run : RecorderRun) (ss ts : List S) (ws : List Lines) (runs : List RecorderRun) → IsRunAt e (gives s) (gives t) w.lines.items run → P ss ts ws runs
+  pub for_all : (P : List S → List S → List PortView → List RecorderRun → Type 0) → P [] [] [] []
+      → ((s t : S) (w : PortView) (run : RecorderRun) (ss ts : List S) (ws : List PortView) (runs : List RecorderRun) → IsRunAt e (gives s) (gives t) w run → P ss ts ws runs
       → P (s ∷ ss) (t ∷ ts) (w ∷ ws) (run ∷ runs))
-      → (ss ts : List S) (ws : List Lines) (runs : List RecorderRun) → AreRunsAt gives e ss ts ws runs → P ss ts ws runs
+      → (ss ts : List S) (ws : List PortView) (runs : List RecorderRun) → AreRunsAt gives e ss ts ws runs → P ss ts ws runs
   unfolding AreRunsAt
   for_all P none more [] [] [] [] at = none
   for_all P none more [] [] [] (run ∷ runs) at = absurd at
@@ -81,15 +64,15 @@ module _ {S : Type 0} (gives : S → ℕ → List SpacePacket) (e : RecordingCon
   for_all P none more (s ∷ ss) (t ∷ ts) (w ∷ ws) (run ∷ runs) at = more s t w run ss ts ws runs at.0 (for_all P none more ss ts ws runs at.1)
 
   -- no recorder
-  pub none_run : (sources : List S) (workers : List Lines) → length sources ≡ 0 → length workers ≡ length sources → HaveRun gives e sources sources workers None
+  pub none_run : (sources : List S) (workers : List PortView) → length sources ≡ 0 → length workers ≡ length sources → HaveRun gives e sources sources workers None
   unfolding AreRunsAt
   none_run [] [] none same = record { runs = []; are = tt; why_is = why_none }
   none_run [] (w ∷ ws) none same = absurd (omega arith)
   none_run (s ∷ ss) workers none same = absurd (omega arith)
 
   -- the recorder of one source
-  pub one_run : (sources : List S) (workers : List Lines) (s t : S) (w : Lines) (broken : Option Fault) → length sources ≡ 1 → length workers ≡ length sources
-      → get_or sources 0 s ≡ s → HasRun e (gives s) (gives t) broken w.lines.items → HaveRun gives e sources (set sources 0 t) (set workers 0 w) broken
+  pub one_run : (sources : List S) (workers : List PortView) (s t : S) (w : PortView) (broken : Option Fault) → length sources ≡ 1 → length workers ≡ length sources
+      → get_or sources 0 s ≡ s → HasRun e (gives s) (gives t) broken w → HaveRun gives e sources (set sources 0 t) (set workers 0 w) broken
   unfolding AreRunsAt
   one_run [] workers s t w broken one same at has = absurd (omega arith)
   one_run (x ∷ y ∷ xs) workers s t w broken one same at has = absurd (omega arith)
@@ -97,18 +80,18 @@ module _ {S : Type 0} (gives : S → ℕ → List SpacePacket) (e : RecordingCon
   one_run (x ∷ []) (v ∷ u ∷ ws) s t w broken one same at has = absurd (omega arith)
   one_run (x ∷ []) (v ∷ []) s t w broken one same at has = record {
     runs = has.run ∷ [];
-    are = (subst (λ (y : S). IsRunAt e (gives y) (gives t) w.lines.items has.run) (sym at) has.is, tt);
+    are = (subst (λ (y : S). IsRunAt e (gives y) (gives t) w has.run) (sym at) has.is, tt);
     why_is = subst (λ (b : Option Fault). IsWhy (b ∷ []) broken) (sym has.ended) (why_one broken);
   }
 
   -- the runs of two groups
-  both_at : (us vs : List S) (xs : List Lines) (more : List RecorderRun) → AreRunsAt gives e us vs xs more → (ss ts : List S) (ws : List Lines) (runs : List RecorderRun) → AreRunsAt gives e ss ts ws runs
+  both_at : (us vs : List S) (xs : List PortView) (more : List RecorderRun) → AreRunsAt gives e us vs xs more → (ss ts : List S) (ws : List PortView) (runs : List RecorderRun) → AreRunsAt gives e ss ts ws runs
       → AreRunsAt gives e (ss ++ us) (ts ++ vs) (ws ++ xs) (runs ++ more)
   unfolding AreRunsAt
   both_at us vs xs more two = for_all (λ ss ts ws runs. AreRunsAt gives e (ss ++ us) (ts ++ vs) (ws ++ xs) (runs ++ more)) two (λ s t w run ss ts ws runs one rest. (one, rest))
 
   -- two groups
-  pub both_run : (ss ts us vs : List S) (ws xs : List Lines) (first second : Option Fault) → HaveRun gives e ss ts ws first → HaveRun gives e us vs xs second
+  pub both_run : (ss ts us vs : List S) (ws xs : List PortView) (first second : Option Fault) → HaveRun gives e ss ts ws first → HaveRun gives e us vs xs second
       → HaveRun gives e (ss ++ us) (ts ++ vs) (ws ++ xs) (is_worse first second)
   both_run ss ts us vs ws xs first second one two = record {
     runs = one.runs ++ two.runs;

@@ -1,37 +1,39 @@
 -- A recorder at work: what its source gave so far is recorded.
 use Rattle.std.proofs.Common.{◌≡◌, ◌≢◌, ℕ, ◌<◌, List, [], ◌∷◌, ◌++◌, length, Some, None, refl, sym, subst, ap, ◌∙◌, append_assoc, arith}
 use Rattle.mm_packet.specs.Packet.{SpacePacket}
+use Rattle.mm_desk.specs.declared.entry.Entry.{Entry}
 use Rattle.mm_desk.specs.declared.event.Event.{Event}
 use Rattle.mm_desk.specs.declared.fault.Fault.{Fault}
 use Rattle.mm_desk.specs.Offers.{AreTaken}
 use Rattle.mm_desk.specs.Offers.{asked as asked_in}
-use Rattle.mm_shared.specs.declared.lines.Line.{Line}
-use Rattle.mm_shared.specs.Stores.{list_at, ends_of, IsFresh}
+use Rattle.mm_shared.specs.Rule.{calls_on}
+use Rattle.mm_shared.specs.Stores.{list_at, end_of, IsFresh}
+use Rattle.mm_shared.specs.Views.{PortView}
 use Rattle.mm_record.specs.Offering.{asked, Adds, AddsPartly, IsReason}
 use Rattle.mm_record.specs.Recorded.{RecordingContext, offers}
 use Rattle.mm_record.specs.Recorders.{HasRun}
 use Rattle.mm_record.proofs.Offers.{offers_at, offers_more, offers_one}
 
--- through each line exactly the offers of these packets were made, in order, and none was refused
-abbrev pub Offered : RecordingContext → List SpacePacket → List Line → Type 0
-Offered e gave lines = (k : ℕ) → k < length e.ids → (asked lines k ≡ offers e k gave) × AreTaken (list_at lines k)
+-- to each store exactly the offers of these packets were made, in order, and none was refused
+abbrev pub Offered : RecordingContext → List SpacePacket → PortView → Type 0
+Offered e gave port = (k : ℕ) → k < length e.ids → (asked port k ≡ offers e k gave) × AreTaken (list_at port k)
 
--- what the source gave so far is recorded, and the lines are where they were
-pub record RecordedSoFar (e : RecordingContext) (before after : ℕ → List SpacePacket) (first lines : List Line) : Type 0 where
-  pub ends : ends_of lines ≡ ends_of first
+-- what the source gave so far is recorded, and the port is where it was
+pub record RecordedSoFar (e : RecordingContext) (before after : ℕ → List SpacePacket) (first port : PortView) : Type 0 where
+  pub end : end_of port ≡ end_of first
   pub gave : List SpacePacket
   pub order : before e.step ≡ gave ++ after e.step
   pub others : (t : ℕ) → t ≢ e.step → after t ≡ before t
-  pub done : Offered e gave lines
+  pub done : Offered e gave port
 
 -- at the start nothing was given
-pub so_far_start : (e : RecordingContext) (before : ℕ → List SpacePacket) (lines : List Line) → IsFresh lines → RecordedSoFar e before before lines lines
-so_far_start e before lines fresh = record {
-  ends = refl;
+pub so_far_start : (e : RecordingContext) (before : ℕ → List SpacePacket) (port : PortView) → IsFresh port → RecordedSoFar e before before port port
+so_far_start e before port fresh = record {
+  end = refl;
   gave = [];
   order = refl;
   others = λ t other. refl;
-  done = λ k within. (ap asked_in (fresh k), subst AreTaken (sym (fresh k)) (λ i d inside. absurd (omega arith)));
+  done = λ k within. (ap (λ (calls : List (ℕ × Entry)). asked_in (calls_on k calls)) fresh, subst (λ (calls : List (ℕ × Entry)). AreTaken (calls_on k calls)) (sym fresh) (λ i d inside. absurd (omega arith)));
 }
 
 -- what is given with a packet more
@@ -41,11 +43,11 @@ given_more before mid after step gave p order next =
     order ∙ ap (λ (x : List SpacePacket). gave ++ x) next ∙ sym (append_assoc gave (p ∷ []) (after step))
 
 -- a packet more
-pub so_far_more : (e : RecordingContext) (before mid after : ℕ → List SpacePacket) (first lines new : List Line) (count : ℕ) (p : SpacePacket)
-    → count ≡ length e.ids → RecordedSoFar e before mid first lines → mid e.step ≡ p ∷ after e.step → ((t : ℕ) → t ≢ e.step → after t ≡ mid t)
-    → Adds count (offers_at e p) lines new → RecordedSoFar e before after first new
-so_far_more e before mid after first lines new count p many so_far next others adds = record {
-  ends = adds.ends ∙ so_far.ends;
+pub so_far_more : (e : RecordingContext) (before mid after : ℕ → List SpacePacket) (first port new : PortView) (count : ℕ) (p : SpacePacket)
+    → count ≡ length e.ids → RecordedSoFar e before mid first port → mid e.step ≡ p ∷ after e.step → ((t : ℕ) → t ≢ e.step → after t ≡ mid t)
+    → Adds count (offers_at e p) port new → RecordedSoFar e before after first new
+so_far_more e before mid after first port new count p many so_far next others adds = record {
+  end = adds.end ∙ so_far.end;
   gave = so_far.gave ++ p ∷ [];
   order = given_more before mid after e.step so_far.gave p so_far.order next;
   others = λ t other. others t other ∙ so_far.others t other;
@@ -58,11 +60,11 @@ so_far_more e before mid after first lines new count p many so_far next others a
 }
 
 -- the source gives no more
-pub ran_whole : (e : RecordingContext) (before mid after : ℕ → List SpacePacket) (first lines : List Line)
-    → RecordedSoFar e before mid first lines → mid e.step ≡ [] → mid e.step ≡ after e.step → ((t : ℕ) → t ≢ e.step → after t ≡ mid t)
-    → HasRun e before after None lines
-ran_whole e before mid after first lines so_far none same others = record {
-  run = record { gave = so_far.gave; offered = asked lines; broken = None };
+pub ran_whole : (e : RecordingContext) (before mid after : ℕ → List SpacePacket) (first port : PortView)
+    → RecordedSoFar e before mid first port → mid e.step ≡ [] → mid e.step ≡ after e.step → ((t : ℕ) → t ≢ e.step → after t ≡ mid t)
+    → HasRun e before after None port
+ran_whole e before mid after first port so_far none same others = record {
+  run = record { gave = so_far.gave; offered = asked port; broken = None };
   is = record {
     is = record {
       order = so_far.order ∙ ap (λ (x : List SpacePacket). so_far.gave ++ x) same;
@@ -78,10 +80,10 @@ ran_whole e before mid after first lines so_far none same others = record {
 }
 
 -- an offer failed
-pub ran_partly : (e : RecordingContext) (before mid after : ℕ → List SpacePacket) (first lines new : List Line) (count : ℕ) (p : SpacePacket) (fault : Fault)
-    → count ≡ length e.ids → RecordedSoFar e before mid first lines → mid e.step ≡ p ∷ after e.step → ((t : ℕ) → t ≢ e.step → after t ≡ mid t)
-    → AddsPartly count (offers_at e p) lines new → IsReason count new fault → HasRun e before after (Some fault) new
-ran_partly e before mid after first lines new count p fault many so_far next others adds reason = record {
+pub ran_partly : (e : RecordingContext) (before mid after : ℕ → List SpacePacket) (first port new : PortView) (count : ℕ) (p : SpacePacket) (fault : Fault)
+    → count ≡ length e.ids → RecordedSoFar e before mid first port → mid e.step ≡ p ∷ after e.step → ((t : ℕ) → t ≢ e.step → after t ≡ mid t)
+    → AddsPartly count (offers_at e p) port new × IsReason count new fault → HasRun e before after (Some fault) new
+ran_partly e before mid after first port new count p fault many so_far next others (adds, reason) = record {
   run = record { gave = so_far.gave ++ p ∷ []; offered = asked new; broken = Some fault };
   is = record {
     is = record {

@@ -1,7 +1,7 @@
 -- From what each recorder and each store says, to the step.
 use Rattle.std.proofs.Common.{◌≡◌, ◌≢◌, ◌⊎◌, inl, inr, ℕ, zero, suc, ◌+◌, ◌*◌, ◌<◌, ◌≤◌, max, List, [], ◌∷◌, ◌++◌, length, get_or, map, filter, All, Option, Some, None, IfNone, IfSome, refl, sym, subst, ap, ◌∙◌, append_assoc, length-append, arith}
 use Rattle.std.proofs.lemmas.List.{append-nil, length-map}
-use Rattle.std.proofs.lemmas.List.Elements.{All-head, All-map, All-tail}
+use Rattle.std.proofs.lemmas.List.Elements.{All-cons, All-head, All-map, All-tail}
 use Rattle.std.proofs.lemmas.List.Sums.{sum_by-le}
 use Rattle.mm_base.specs.declared.rows.RouteRow.{RouteRow}
 use Rattle.mm_packet.specs.Packet.{SpacePacket}
@@ -16,10 +16,9 @@ use Rattle.mm_desk.specs.Offers.{AreTaken, IsTaken, IsShuffleOfEvents, count_of}
 use Rattle.mm_desk.specs.Offers.{asked as asked_in}
 use Rattle.mm_desk.specs.Runs.{opening_at, blank}
 use Rattle.mm_desk.specs.Shuffles.{AreBelow, IsShuffle}
-use Rattle.mm_shared.specs.declared.lines.Line.{Line}
-use Rattle.mm_shared.specs.declared.lines.Lines.{Lines}
-use Rattle.mm_shared.specs.declared.stores.NamedStore.{NamedStore}
-use Rattle.mm_shared.specs.Stores.{list_at, lists_at, states_of, labels_of, names_of, openings_of, ids_of, id_at, HaveLegalLogs}
+use Rattle.mm_shared.specs.declared.label.StoreLabel.{StoreLabel}
+use Rattle.mm_shared.specs.Stores.{list_at, lists_at, states_of, labels_of, names_of, ids_of, id_at, HaveLegalLogs}
+use Rattle.mm_shared.specs.Views.{PortView}
 use Rattle.mm_record.specs.Offering.{asked, IsReason}
 use Rattle.mm_record.proofs.Reasons.{IsReasonOf, not_taken, reason_more, refusal_in_log}
 use Rattle.mm_memory.specs.Recording.{is_routed}
@@ -35,11 +34,6 @@ at_map : {X Y : Type 0} (f : X → Y) (xs : List X) (i : ℕ) (d : X) → get_or
 at_map f [] i d = refl
 at_map f (x ∷ xs) zero d = refl
 at_map f (x ∷ xs) (suc i) d = at_map f xs i d
-
--- one element more
-all_more : {X : Type 0} (P : X → Type 0) (x : X) (xs : List X) → P x → All P xs → All P (x ∷ xs)
-all_more P x xs head tail zero d within = head
-all_more P x xs head tail (suc i) d within = tail i d (omega arith)
 
 -- a log that is a shuffle of lists is one of what is asked in them
 pub asked_shuffled : (lists : List (List Entry)) (log : List Entry) → IsShuffle lists log → IsShuffleOfEvents (map asked_in lists) log
@@ -76,7 +70,7 @@ first_of e before after run k is within = by_end run.broken is.whole is.partly
               ∙ sym (append_assoc (offers e k partly.before) began.did began.rest) ∙ ap (λ (es : List Event). es ++ began.rest) (sym began.asks_are);
         }
 
--- what was asked through a line is offers at the step's moment, and no more of them than the source gave packets
+-- what was asked of a store is offers at the step's moment, and no more of them than the source gave packets
 record AreOffers (e : RecordingContext) (asks : List Event) : Type 0 where
   offers_are : All (IsOfferAt e.now) asks
   few : length asks ≤ 65535
@@ -89,9 +83,9 @@ offers_fewer e k ps =
     let routed = is_routed e.routes (id_at e.ids k) in
     omega (arith, length-map (filter routed ps) (λ (p : SpacePacket). Offer e.now p), filter_fewer routed ps)
 
-are_offers : (e : RecordingContext) (before after : ℕ → List SpacePacket) (lines : List Line) (run : RecorderRun) (k : ℕ) → IsRunAt e before after lines run → k < length e.ids
-    → length (before e.step) ≤ 65535 → AreOffers e (asked lines k)
-are_offers e before after lines run k at within few =
+are_offers : (e : RecordingContext) (before after : ℕ → List SpacePacket) (port : PortView) (run : RecorderRun) (k : ℕ) → IsRunAt e before after port run → k < length e.ids
+    → length (before e.step) ≤ 65535 → AreOffers e (asked port k)
+are_offers e before after port run k at within few =
     let first = first_of e before after run k at.is within in
     subst (AreOffers e) (at.offered k) (record {
       offers_are = all_first (IsOfferAt e.now) (run.offered k) first.rest (subst (All (IsOfferAt e.now)) first.are (offers_all e k run.gave));
@@ -99,13 +93,13 @@ are_offers e before after lines run k at within few =
     })
 
 -- what a recorder that did not stop early offered to a store, and that none was refused
-whole_list : (e : RecordingContext) (before after : ℕ → List SpacePacket) (lines : List Line) (run : RecorderRun) (k : ℕ) → IsRunAt e before after lines run
-    → run.broken ≡ None → k < length e.ids → (asked lines k ≡ offers e k (before e.step)) × AreTaken (list_at lines k) × (after e.step ≡ [])
-whole_list e before after lines run k at none within = by_end run.broken none at.is.whole at.taken
+whole_list : (e : RecordingContext) (before after : ℕ → List SpacePacket) (port : PortView) (run : RecorderRun) (k : ℕ) → IsRunAt e before after port run
+    → run.broken ≡ None → k < length e.ids → (asked port k ≡ offers e k (before e.step)) × AreTaken (list_at port k) × (after e.step ≡ [])
+whole_list e before after port run k at none within = by_end run.broken none at.is.whole at.taken
   where
     by_end : (broken : Option Fault) → broken ≡ None → IfNone broken ((after e.step ≡ []) × ((k : ℕ) → k < length e.ids → run.offered k ≡ offers e k run.gave))
-        → IfNone broken ((k : ℕ) → k < length e.ids → AreTaken (list_at lines k))
-        → (asked lines k ≡ offers e k (before e.step)) × AreTaken (list_at lines k) × (after e.step ≡ [])
+        → IfNone broken ((k : ℕ) → k < length e.ids → AreTaken (list_at port k))
+        → (asked port k ≡ offers e k (before e.step)) × AreTaken (list_at port k) × (after e.step ≡ [])
     by_end None is whole taken =
         let all : before e.step ≡ run.gave = at.is.order ∙ ap (λ (x : List SpacePacket). run.gave ++ x) whole.0 ∙ append-nil run.gave in
         (sym (at.offered k) ∙ whole.1 k within ∙ ap (offers e k) (sym all), taken k within, whole.0)
@@ -123,74 +117,74 @@ abbrev AreWhole : List RecorderRun → Type 0
 AreWhole runs = All (λ run. run.broken ≡ None) runs
 
 -- why it stopped is out of memory, where no offer of its was refused
-reason_of : (e : RecordingContext) (lines : List Line) (broken : Option Fault) → IfSome broken (IsReason (length e.ids) lines)
-    → ((k : ℕ) → k < length e.ids → AreTaken (list_at lines k)) → IfSome broken (λ fault. fault ≡ NoMemory)
-reason_of e lines None reason taken = tt
-reason_of e lines (Some fault) (inl lack) taken = lack
-reason_of e lines (Some fault) (inr refusal) taken = absurd (not_taken (list_at lines refusal.index) fault refusal.refused (taken refusal.index refusal.within))
+reason_of : (e : RecordingContext) (port : PortView) (broken : Option Fault) → IfSome broken (IsReason (length e.ids) port)
+    → ((k : ℕ) → k < length e.ids → AreTaken (list_at port k)) → IfSome broken (λ fault. fault ≡ NoMemory)
+reason_of e port None reason taken = tt
+reason_of e port (Some fault) (inl lack) taken = lack
+reason_of e port (Some fault) (inr refusal) taken = absurd (not_taken (list_at port refusal.index) fault refusal.refused (taken refusal.index refusal.within))
 
 module _ {S : Type 0} (gives : S → ℕ → List SpacePacket) (e : RecordingContext) where
-  -- what recorders did, without their lines
-  are_runs : (ss ts : List S) (ws : List Lines) (runs : List RecorderRun) → AreRunsAt gives e ss ts ws runs → AreRecorderRuns gives e ss ts runs
+  -- what recorders did, without their ports
+  are_runs : (ss ts : List S) (ws : List PortView) (runs : List RecorderRun) → AreRunsAt gives e ss ts ws runs → AreRecorderRuns gives e ss ts runs
   unfolding AreRecorderRuns
   are_runs = for_all gives e (λ ss ts ws runs. AreRecorderRuns gives e ss ts runs) tt (λ s t w run ss ts ws runs one rest. (one.is, rest))
 
   -- there are as many sources as before, and as many workers
-  as_many : (ss ts : List S) (ws : List Lines) (runs : List RecorderRun) → AreRunsAt gives e ss ts ws runs → (length ts ≡ length ss) × (length ws ≡ length ss)
+  as_many : (ss ts : List S) (ws : List PortView) (runs : List RecorderRun) → AreRunsAt gives e ss ts ws runs → (length ts ≡ length ss) × (length ws ≡ length ss)
   as_many = for_all gives e (λ ss ts ws runs. (length ts ≡ length ss) × (length ws ≡ length ss)) (refl, refl) (λ s t w run ss ts ws runs one rest. (ap suc rest.0, ap suc rest.1))
 
-  -- what recorders offered is what was asked through their lines
-  runs_offered : (k : ℕ) (ss ts : List S) (ws : List Lines) (runs : List RecorderRun) → AreRunsAt gives e ss ts ws runs → map (λ run. run.offered k) runs ≡ map asked_in (lists_at k ws)
+  -- what recorders offered is what was asked through their ports
+  runs_offered : (k : ℕ) (ss ts : List S) (ws : List PortView) (runs : List RecorderRun) → AreRunsAt gives e ss ts ws runs → map (λ run. run.offered k) runs ≡ map asked_in (lists_at k ws)
   runs_offered k = for_all gives e (λ ss ts ws runs. map (λ run. run.offered k) runs ≡ map asked_in (lists_at k ws)) refl
       (λ s t w run ss ts ws runs one rest. let offered = one.offered k in λ i. offered i ∷ rest i)
 
   -- in another step the sources give what they gave
-  others_same : (step : ℕ) → step ≢ e.step → (ss ts : List S) (ws : List Lines) (runs : List RecorderRun) → AreRunsAt gives e ss ts ws runs → given_in gives step ts ≡ given_in gives step ss
+  others_same : (step : ℕ) → step ≢ e.step → (ss ts : List S) (ws : List PortView) (runs : List RecorderRun) → AreRunsAt gives e ss ts ws runs → given_in gives step ts ≡ given_in gives step ss
   others_same step other = for_all gives e (λ ss ts ws runs. given_in gives step ts ≡ given_in gives step ss) refl
       (λ s t w run ss ts ws runs one rest. let same = one.is.others step other in λ i. same i ∷ rest i)
 
   -- nothing is left for the step where no recorder stopped early
-  none_left : (ss ts : List S) (ws : List Lines) (runs : List RecorderRun) → AreRunsAt gives e ss ts ws runs → AreWhole runs → All (λ s. gives s e.step ≡ []) ts
+  none_left : (ss ts : List S) (ws : List PortView) (runs : List RecorderRun) → AreRunsAt gives e ss ts ws runs → AreWhole runs → All (λ s. gives s e.step ≡ []) ts
   none_left =
       for_all gives e (λ ss ts ws runs. AreWhole runs → All (λ s. gives s e.step ≡ []) ts) (λ whole i d within. absurd (omega arith))
       (λ s t w run ss ts ws runs one rest whole.
-      all_more (λ s. gives s e.step ≡ []) t ts (none_left_of e (gives s) (gives t) run one.is (All-head (λ run. run.broken ≡ None) run runs whole))
+      All-cons (λ s. gives s e.step ≡ []) t ts (none_left_of e (gives s) (gives t) run one.is (All-head (λ run. run.broken ≡ None) run runs whole))
       (rest (All-tail (λ run. run.broken ≡ None) run runs whole)))
 
   -- the lists of recorders that did not stop early: each with the offers of what its source gave, none refused
-  whole_lists : (k : ℕ) → k < length e.ids → (ss ts : List S) (ws : List Lines) (runs : List RecorderRun) → AreRunsAt gives e ss ts ws runs → AreWhole runs
+  whole_lists : (k : ℕ) → k < length e.ids → (ss ts : List S) (ws : List PortView) (runs : List RecorderRun) → AreRunsAt gives e ss ts ws runs → AreWhole runs
       → (map asked_in (lists_at k ws) ≡ map (offers e k) (given_in gives e.step ss)) × All AreTaken (lists_at k ws)
   whole_lists k within =
       for_all gives e (λ ss ts ws runs. AreWhole runs → (map asked_in (lists_at k ws) ≡ map (offers e k) (given_in gives e.step ss)) × All AreTaken (lists_at k ws))
       (λ whole. (refl, λ i d inside. absurd (omega arith)))
       (λ s t w run ss ts ws runs one rest whole.
-      let mine = whole_list e (gives s) (gives t) w.lines.items run k one (All-head (λ run. run.broken ≡ None) run runs whole) within in
+      let mine = whole_list e (gives s) (gives t) w run k one (All-head (λ run. run.broken ≡ None) run runs whole) within in
       let others = rest (All-tail (λ run. run.broken ≡ None) run runs whole) in
-      (λ i. mine.0 i ∷ others.0 i, all_more AreTaken (list_at w.lines.items k) (lists_at k ws) mine.1 others.1))
+      (λ i. mine.0 i ∷ others.0 i, All-cons AreTaken (list_at w k) (lists_at k ws) mine.1 others.1))
 
   -- what was asked of a store is offers, and few of each recorder
-  lists_are_offers : (k : ℕ) → k < length e.ids → (ss ts : List S) (ws : List Lines) (runs : List RecorderRun) → AreRunsAt gives e ss ts ws runs → AreFew gives e.step ss
+  lists_are_offers : (k : ℕ) → k < length e.ids → (ss ts : List S) (ws : List PortView) (runs : List RecorderRun) → AreRunsAt gives e ss ts ws runs → AreFew gives e.step ss
       → All (AreOffers e) (map asked_in (lists_at k ws))
   lists_are_offers k within =
       for_all gives e (λ ss ts ws runs. AreFew gives e.step ss → All (AreOffers e) (map asked_in (lists_at k ws))) (λ few i d inside. absurd (omega arith))
       (λ s t w run ss ts ws runs one rest few.
-      all_more (AreOffers e) (asked w.lines.items k) (map asked_in (lists_at k ws))
-      (are_offers e (gives s) (gives t) w.lines.items run k one within (All-head (λ s. length (gives s e.step) ≤ 65535) s ss few))
+      All-cons (AreOffers e) (asked w k) (map asked_in (lists_at k ws))
+      (are_offers e (gives s) (gives t) w run k one within (All-head (λ s. length (gives s e.step) ≤ 65535) s ss few))
       (rest (All-tail (λ s. length (gives s e.step) ≤ 65535) s ss few)))
 
   -- where no offer was refused, out of memory is the only reason why recorders stopped early
-  reasons_of : (ss ts : List S) (ws : List Lines) (runs : List RecorderRun) → AreRunsAt gives e ss ts ws runs
+  reasons_of : (ss ts : List S) (ws : List PortView) (runs : List RecorderRun) → AreRunsAt gives e ss ts ws runs
       → ((k : ℕ) → k < length e.ids → All AreTaken (lists_at k ws)) → All (λ run. IfSome run.broken (λ fault. fault ≡ NoMemory)) runs
   reasons_of =
       for_all gives e (λ ss ts ws runs. ((k : ℕ) → k < length e.ids → All AreTaken (lists_at k ws)) → All (λ run. IfSome run.broken (λ fault. fault ≡ NoMemory)) runs)
       (λ taken i d within. absurd (omega arith))
       (λ s t w run ss ts ws runs one rest taken.
-      all_more (λ run. IfSome run.broken (λ fault. fault ≡ NoMemory)) run runs
-      (reason_of e w.lines.items run.broken one.reason (λ k within. All-head AreTaken (list_at w.lines.items k) (lists_at k ws) (taken k within)))
-      (rest (λ k within. All-tail AreTaken (list_at w.lines.items k) (lists_at k ws) (taken k within))))
+      All-cons (λ run. IfSome run.broken (λ fault. fault ≡ NoMemory)) run runs
+      (reason_of e w run.broken one.reason (λ k within. All-head AreTaken (list_at w k) (lists_at k ws) (taken k within)))
+      (rest (λ k within. All-tail AreTaken (list_at w k) (lists_at k ws) (taken k within))))
 
-  -- where one of them stopped early so, it was out of memory, or an offer through one of their lines was refused so
-  reasons_in : (fault : Fault) (ss ts : List S) (ws : List Lines) (runs : List RecorderRun) → AreRunsAt gives e ss ts ws runs
+  -- where one of them stopped early so, it was out of memory, or an offer through one of their ports was refused so
+  reasons_in : (fault : Fault) (ss ts : List S) (ws : List PortView) (runs : List RecorderRun) → AreRunsAt gives e ss ts ws runs
       → (i : ℕ) → i < length runs → get_or (map (λ run. run.broken) runs) i None ≡ Some fault → IsReasonOf (length e.ids) ws fault
   reasons_in fault =
       for_all gives e (λ ss ts ws runs. (i : ℕ) → i < length runs → get_or (map (λ run. run.broken) runs) i None ≡ Some fault → IsReasonOf (length e.ids) ws fault)
@@ -228,24 +222,24 @@ why_lacks runs (Some fault) is all =
     subst (λ f. IfSome f (λ g. g ≡ NoMemory)) is.some.2 (each i None is.some.1)
 
 -- the first of labels
-first_labels : (stores : List NamedStore) → ids_of stores ≡ map (λ (l : List ℕ × ℕ). l.0) (names_of stores)
+first_labels : (labels : List StoreLabel) → ids_of labels ≡ map (λ (l : List ℕ × ℕ). l.0) (names_of labels)
 first_labels [] = refl
-first_labels (s ∷ stores) = ap (λ ids. s.id ∷ ids) (first_labels stores)
+first_labels (s ∷ labels) = ap (λ ids. s.id ∷ ids) (first_labels labels)
 
 first_held : (stores : List Held) → map (λ h. h.id) stores ≡ map (λ (l : List ℕ × ℕ). l.0) (labels_of stores)
 first_held [] = refl
 first_held (h ∷ stores) = ap (λ ids. h.id ∷ ids) (first_held stores)
 
 -- the identifiers of stores that are open
-pub ids_open : (stores : List NamedStore) (before : List Held) → names_of stores ≡ labels_of before → ids_of stores ≡ map (λ h. h.id) before
-ids_open stores before same = first_labels stores ∙ ap (map (λ (l : List ℕ × ℕ). l.0)) same ∙ sym (first_held before)
+pub ids_open : (labels : List StoreLabel) (before : List Held) → names_of labels ≡ labels_of before → ids_of labels ≡ map (λ h. h.id) before
+ids_open labels before same = first_labels labels ∙ ap (map (λ (l : List ℕ × ℕ). l.0)) same ∙ sym (first_held before)
 
 -- as many stores as labels
 pub same_many : (a b : List Held) → labels_of a ≡ labels_of b → length a ≡ length b
 same_many a b labels =
     sym (length-map a (λ (h : Held). (h.id, h.channel))) ∙ ap length labels ∙ length-map b (λ (h : Held). (h.id, h.channel))
 
-module _ {S : Type 0} (gives : S → ℕ → List SpacePacket) (e : RecordingContext) (sources left : List S) (workers : List Lines) (why : Option Fault)
+module _ {S : Type 0} (gives : S → ℕ → List SpacePacket) (e : RecordingContext) (sources left : List S) (workers : List PortView) (why : Option Fault)
     (before after : List State) (have : HaveRun gives e sources left workers why) (went : HaveLegalLogs workers before after) (many : length after ≤ length e.ids) where
   -- each store went by what the recorders offered
   went_offers : AllHaveLegalOffers have.runs before after
@@ -270,18 +264,18 @@ module _ {S : Type 0} (gives : S → ℕ → List SpacePacket) (e : RecordingCon
         taken = shuffle_taken (lists_at k workers) store.log store.shuffle lists.1;
       }
 
-  -- a refusal through a line is in the log of its store
+  -- a refusal through a port is in the log of its store
   refused_at : length after ≡ length e.ids → (fault : Fault) → IsReasonOf (length e.ids) workers fault → (fault ≡ NoMemory) ⊎ StoreRefused have.runs before after fault
   unfolding went_offers
   refused_at same fault (inl lack) = inl lack
-  refused_at same fault (inr line) =
-      let within : line.index < length after = omega (arith, line.within, same) in
-      let store = went line.index within in
+  refused_at same fault (inr refusal) =
+      let within : refusal.index < length after = omega (arith, refusal.within, same) in
+      let store = went refusal.index within in
       inr (record {
-        place = line.index;
+        place = refusal.index;
         within = within;
-        went = went_offers line.index within;
-        refused = refusal_in_log fault (lists_at line.index workers) store.log store.shuffle line.refused;
+        went = went_offers refusal.index within;
+        refused = refusal_in_log fault (lists_at refusal.index workers) store.log store.shuffle refusal.refused;
       })
 
   -- why recorders stopped early: out of memory, or what a store answered to an offer
@@ -302,7 +296,7 @@ module _ {S : Type 0} (gives : S → ℕ → List SpacePacket) (e : RecordingCon
       let each : All (λ es. length es ≤ 65535) asks = λ i d inside. (are i d inside).few in
       let total : count_of asks ≤ length asks * 65535 = sum_by-le (λ (es : List Event). length es) 65535 asks each in
       let workers_many = (as_many gives e sources left workers have.runs have.are).1 in
-      let asks_many : length asks ≡ length workers = length-map (lists_at k workers) asked_in ∙ length-map workers (λ (w : Lines). list_at w.lines.items k) in
+      let asks_many : length asks ≡ length workers = length-map (lists_at k workers) asked_in ∙ length-map workers (λ (w : PortView). list_at w k) in
       let most : length asks ≤ 16 = omega (arith, workers_many, asks_many, few_sources) in
       let sum : count_of asks ≤ 1048560 = omega (arith, total, most) in
       let time : HasTime e.now (count_of asks) (opening_at before k) = record {
@@ -316,23 +310,23 @@ module _ {S : Type 0} (gives : S → ℕ → List SpacePacket) (e : RecordingCon
       (λ i d inside. (are i d inside).offers_are))
 
 -- what a step of recorders leaves
-module _ {S : Type 0} (gives : S → ℕ → List SpacePacket) (step now : ℕ) (routes : List RouteRow) (before after : List Held) (stores : List NamedStore)
-    (sources left : List S) (workers : List Lines) (why : Option Fault) (names : names_of stores ≡ labels_of before) (openings : openings_of stores ≡ states_of before)
-    (labels : labels_of after ≡ names_of stores) (sound : All (λ h. IsState h.state) after) (logs : HaveLegalLogs workers (openings_of stores) (states_of after))
-    (ran : HaveRun gives (open_recording step now routes stores) sources left workers why) (few_sources : length sources ≤ 16) where
+module _ {S : Type 0} (gives : S → ℕ → List SpacePacket) (step now : ℕ) (routes : List RouteRow) (before after : List Held) (labels : List StoreLabel) (openings : List State)
+    (sources left : List S) (workers : List PortView) (why : Option Fault) (names : names_of labels ≡ labels_of before) (opened : openings ≡ states_of before)
+    (back : labels_of after ≡ names_of labels) (sound : All (λ h. IsState h.state) after) (logs : HaveLegalLogs workers openings (states_of after))
+    (ran : HaveRun gives (open_recording step now routes labels) sources left workers why) (few_sources : length sources ≤ 16) where
   abbrev e : RecordingContext
   e = recording step now routes before
 
   have : HaveRun gives e sources left workers why
   have =
-      subst (λ (ids : List (List ℕ)). HaveRun gives (record { step = step; now = now; routes = routes; ids = ids }) sources left workers why) (ids_open stores before names) ran
+      subst (λ (ids : List (List ℕ)). HaveRun gives (record { step = step; now = now; routes = routes; ids = ids }) sources left workers why) (ids_open labels before names) ran
 
   went : HaveLegalLogs workers (states_of before) (states_of after)
-  went = subst (λ (states : List State). HaveLegalLogs workers states (states_of after)) openings logs
+  went = subst (λ (states : List State). HaveLegalLogs workers states (states_of after)) opened logs
 
   many : length (states_of after) ≡ length e.ids
   many =
-      length-map after (λ (h : Held). h.state) ∙ same_many after before (labels ∙ names) ∙ sym (length-map before (λ (h : Held). h.id))
+      length-map after (λ (h : Held). h.state) ∙ same_many after before (back ∙ names) ∙ sym (length-map before (λ (h : Held). h.id))
 
   inside : length (states_of after) ≤ length e.ids
   inside = omega (arith, many)
@@ -345,7 +339,7 @@ module _ {S : Type 0} (gives : S → ℕ → List SpacePacket) (step now : ℕ) 
 
   pub records_of : Records gives e before after sources left why
   records_of = record {
-    labels = labels ∙ names;
+    labels = back ∙ names;
     sound = sound;
     many = (as_many gives e sources left workers have.runs have.are).0;
     runs = have.runs;

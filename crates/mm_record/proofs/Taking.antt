@@ -1,10 +1,10 @@
 -- Offers that no store refuses: storage is on, and clock and count are far from their ends.
-use Rattle.std.proofs.Common.{◌≡◌, ◌≢◌, ◌⊎◌, inl, inr, ℕ, zero, suc, ◌+◌, ◌<◌, ◌≤◌, ◌==◌, ◌||◌, Bool, true, false, not, eqb, max, ltb, List, [], ◌∷◌, length, map, filter, All, Result, Ok, Err, refl, sym, subst, ap, ◌∙◌, rules, arith}
+use Rattle.std.proofs.Common.{◌≡◌, ◌≢◌, ◌⊎◌, inl, inr, ℕ, suc, ◌+◌, ◌<◌, ◌≤◌, ◌==◌, ◌||◌, Bool, true, false, not, eqb, max, ltb, List, [], ◌∷◌, length, map, filter, All, Result, Ok, Err, refl, sym, subst, ap, ◌∙◌, rules, arith}
 use Rattle.std.specs.Prelude.{IsOk}
 use Rattle.std.proofs.lemmas.Bool.{cond_both, eq-eqb}
 use Rattle.std.proofs.lemmas.Bool.Decides.{eqb_tells, nat_tests}
 use Rattle.std.proofs.lemmas.List.{get_or_default, length-map, get_or-map}
-use Rattle.std.proofs.lemmas.List.Elements.{All-filter, All-head, All-tail}
+use Rattle.std.proofs.lemmas.List.Elements.{All-cons, All-filter, All-head, All-tail}
 use Rattle.std.proofs.lemmas.List.Filters.{length-filter_both}
 use Rattle.mm_base.specs.declared.kind.Kind.{Kind}
 use Rattle.mm_base.specs.declared.kind.Kind.TheVariants.{Circular, Bounded}
@@ -120,12 +120,8 @@ pub log_taken : (now : ℕ) (s : State) (log : List Entry) → HasTime now (leng
 log_taken now s [] time offers legal = λ i d within. absurd (omega arith)
 log_taken now s (e ∷ es) time offers legal =
     let one = event_taken s now (length es) e.event time (All-head (λ (x : Entry). IsOfferAt now x.event) e es offers) in
-    all_cons (subst (IsTaken e.event) (sym legal.0) one.0)
+    All-cons (λ (x : Entry). IsTaken x.event x.reply) e es (subst (IsTaken e.event) (sym legal.0) one.0)
     (log_taken now (step s e.event).1 es one.1 (All-tail (λ (x : Entry). IsOfferAt now x.event) e es offers) legal.1)
-  where
-    all_cons : IsTaken e.event e.reply → AreTaken es → AreTaken (e ∷ es)
-    all_cons head tail zero d within = head
-    all_cons head tail (suc i) d within = tail i d (omega arith)
 
 -- the last time after a log of offers
 pub log_last : (now : ℕ) (s : State) (log : List Entry) → All (λ e. IsOfferAt now e.event) log → (replay s log).store.last ≤ max s.store.last now + length log
@@ -156,12 +152,8 @@ module _ (P : Entry → Type 0) where
   pub parts_all : (seats : ℕ) (log : List Entry) → AreBelow seats log → ((seat : ℕ) → seat < seats → All P (part seat log)) → All P log
   parts_all seats [] below parts = λ i d within. absurd (omega arith)
   parts_all seats (e ∷ es) below parts =
-      all_cons (part_head e es (parts e.seat (All-head (λ (x : Entry). x.seat < seats) e es below)))
+      All-cons P e es (part_head e es (parts e.seat (All-head (λ (x : Entry). x.seat < seats) e es below)))
       (parts_all seats es (All-tail (λ (x : Entry). x.seat < seats) e es below) (λ seat within. part_tail e es seat (parts seat within)))
-    where
-      all_cons : P e → All P es → All P (e ∷ es)
-      all_cons head tail zero d within = head
-      all_cons head tail (suc i) d within = tail i d (omega arith)
 
 -- what holds of all that a list is mapped to
 pub all_unmapped : {X Y : Type 0} (P : Y → Type 0) (f : X → Y) (xs : List X) → All P (map f xs) → All (λ x. P (f x)) xs

@@ -6,7 +6,7 @@ use Rattle.mm_desk.specs.declared.event.Event.{Event}
 use Rattle.mm_desk.specs.declared.event.Event.TheVariants.{Offer}
 use Rattle.mm_desk.specs.declared.held.Held.{Held}
 use Rattle.mm_memory.specs.Recording.{is_routed}
-use Rattle.mm_shared.specs.declared.stores.NamedStore.{NamedStore}
+use Rattle.mm_shared.specs.declared.label.StoreLabel.{StoreLabel}
 use Rattle.mm_shared.specs.Stores.{ids_of, id_at}
 
 -- what all recorders of a step share: the step, the moment of its offers, the routes, and the identifiers of the stores
@@ -20,9 +20,9 @@ pub record RecordingContext : Type 0 where
 abbrev pub recording : ℕ → ℕ → List RouteRow → List Held → RecordingContext
 recording step now routes stores = record { step = step; now = now; routes = routes; ids = map (λ h. h.id) stores }
 
--- the step over these stores, which are open
-abbrev pub open_recording : ℕ → ℕ → List RouteRow → List NamedStore → RecordingContext
-open_recording step now routes stores = record { step = step; now = now; routes = routes; ids = ids_of stores }
+-- the step over stores that are open under these labels
+abbrev pub open_recording : ℕ → ℕ → List RouteRow → List StoreLabel → RecordingContext
+open_recording step now routes labels = record { step = step; now = now; routes = routes; ids = ids_of labels }
 
 -- the offers of packets to the store at an index, in the order of the packets
 abbrev pub offers : RecordingContext → ℕ → List SpacePacket → List Event

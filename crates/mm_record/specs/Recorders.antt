@@ -4,43 +4,41 @@ use Rattle.mm_packet.specs.Packet.{SpacePacket}
 use Rattle.mm_desk.specs.declared.fault.Fault.{Fault}
 use Rattle.mm_desk.specs.declared.fault.Fault.TheVariants.{NoMemory}
 use Rattle.mm_desk.specs.Offers.{AreTaken}
-use Rattle.mm_shared.specs.declared.lines.Line.{Line}
-use Rattle.mm_shared.specs.declared.lines.Lines.{Lines}
-use Rattle.mm_shared.specs.declared.stores.NamedStore.{NamedStore}
-use Rattle.mm_shared.specs.Stores.{list_at, ends_of, ids_of, AreNamed, IsFresh}
+use Rattle.mm_shared.specs.declared.label.StoreLabel.{StoreLabel}
+use Rattle.mm_shared.specs.Stores.{list_at, IsFresh}
+use Rattle.mm_shared.specs.Views.{PortView, StoresView}
 use Rattle.mm_record.specs.Recorded.{RecordingContext}
-use Rattle.mm_record.specs.Offering.{asked, AreAt, IsReason}
+use Rattle.mm_record.specs.Offering.{asked, MayOffer, IsReason}
 use Rattle.mm_record.specs.Steps.{RecorderRun, IsRecorderRun, IsWhy}
 
--- a recorder with these lines had this run. Where it did not stop early no offer of its was refused; where it did, it was out of memory or
+-- a recorder with this port had this run. Where it did not stop early no offer of its was refused; where it did, it was out of memory or
 -- an offer was refused with that fault
-pub record IsRunAt (e : RecordingContext) (before after : ℕ → List SpacePacket) (lines : List Line) (run : RecorderRun) : Type 0 where
+pub record IsRunAt (e : RecordingContext) (before after : ℕ → List SpacePacket) (port : PortView) (run : RecorderRun) : Type 0 where
   pub is : IsRecorderRun e before after run
-  pub offered : (k : ℕ) → run.offered k ≡ asked lines k
-  pub taken : IfNone run.broken ((k : ℕ) → k < length e.ids → AreTaken (list_at lines k))
-  pub reason : IfSome run.broken (IsReason (length e.ids) lines)
+  pub offered : (k : ℕ) → run.offered k ≡ asked port k
+  pub taken : IfNone run.broken ((k : ℕ) → k < length e.ids → AreTaken (list_at port k))
+  pub reason : IfSome run.broken (IsReason (length e.ids) port)
 
--- a recorder with these lines had a run that ended so
-pub record HasRun (e : RecordingContext) (before after : ℕ → List SpacePacket) (broken : Option Fault) (lines : List Line) : Type 0 where
+-- a recorder with this port had a run that ended so
+pub record HasRun (e : RecordingContext) (before after : ℕ → List SpacePacket) (broken : Option Fault) (port : PortView) : Type 0 where
   pub run : RecorderRun
-  pub is : IsRunAt e before after lines run
+  pub is : IsRunAt e before after port run
   pub ended : run.broken ≡ broken
 
--- no two stores have one identifier, and there is a fresh worker for each source, with a line at each store
-pub record MayRecord {S : Type 0} (stores : List NamedStore) (sources : List S) (workers : List Lines) : Type 0 where
-  pub named : AreNamed (ids_of stores)
+-- there is a fresh port for each source, through which packets may be offered
+pub record MayRecord {S : Type 0} (labels : List StoreLabel) (stores : StoresView) (sources : List S) (workers : List PortView) : Type 0 where
   pub same : length workers ≡ length sources
-  pub at : All (λ w. AreAt stores (ends_of w.lines.items)) workers
-  pub fresh : All (λ w. IsFresh w.lines.items) workers
+  pub may : All (λ w. MayOffer labels stores w.of) workers
+  pub fresh : All IsFresh workers
 
 -- the recorder of each source had its run
-unfoldable pub AreRunsAt : {S : Type 0} → (S → ℕ → List SpacePacket) → RecordingContext → List S → List S → List Lines → List RecorderRun → Type 0
+unfoldable pub AreRunsAt : {S : Type 0} → (S → ℕ → List SpacePacket) → RecordingContext → List S → List S → List PortView → List RecorderRun → Type 0
 AreRunsAt gives e [] [] [] [] = Unit {0}
-AreRunsAt gives e (s ∷ ss) (t ∷ ts) (w ∷ ws) (run ∷ runs) = IsRunAt e (gives s) (gives t) w.lines.items run × AreRunsAt gives e ss ts ws runs
+AreRunsAt gives e (s ∷ ss) (t ∷ ts) (w ∷ ws) (run ∷ runs) = IsRunAt e (gives s) (gives t) w run × AreRunsAt gives e ss ts ws runs
 AreRunsAt gives e ss ts ws runs = ⊥
 
 -- the recorder of each source had its run, and this is why some stopped early
-pub record HaveRun {S : Type 0} (gives : S → ℕ → List SpacePacket) (e : RecordingContext) (sources left : List S) (workers : List Lines) (why : Option Fault) : Type 0 where
+pub record HaveRun {S : Type 0} (gives : S → ℕ → List SpacePacket) (e : RecordingContext) (sources left : List S) (workers : List PortView) (why : Option Fault) : Type 0 where
   pub runs : List RecorderRun
   pub are : AreRunsAt gives e sources left workers runs
   pub why_is : IsWhy (map (λ run. run.broken) runs) why

@@ -2,7 +2,7 @@
 use Rattle.std.specs.Prelude.{◌≡◌, ℕ, ◌<◌, List, length, All, IfSome}
 use Rattle.mm_base.specs.declared.rows.RouteRow.{RouteRow}
 use Rattle.mm_packet.specs.Packet.{SpacePacket, IsTelemetry}
-use Rattle.mm_shared.specs.declared.stores.NamedStore.{NamedStore}
+use Rattle.mm_shared.specs.declared.label.StoreLabel.{StoreLabel}
 use Rattle.mm_shared.specs.Stores.{ids_of, id_at}
 use Rattle.mm_record.specs.declared.routing.ReportType.{ReportType}
 use Rattle.mm_record.specs.declared.routing.Routing.{Routing}
@@ -18,12 +18,12 @@ pub record IsOf (report : ReportType) (p : SpacePacket) : Type 0 where
   pub subtype : p.header.subtype ≡ report.subtype
 
 -- packets of a report type go to the store at an index, and to no other
-pub record LeadsTo (routes : List RouteRow) (stores : List NamedStore) (report : ReportType) (index : ℕ) : Type 0 where
-  pub within : index < length stores
-  pub offers : (now : ℕ) (p : SpacePacket) (k : ℕ) → IsOf report p → k < length stores
-      → offer_at now p index k ≡ offers_of now routes (id_at (ids_of stores) k) p
+pub record LeadsTo (routes : List RouteRow) (labels : List StoreLabel) (report : ReportType) (index : ℕ) : Type 0 where
+  pub within : index < length labels
+  pub offers : (now : ℕ) (p : SpacePacket) (k : ℕ) → IsOf report p → k < length labels
+      → offer_at now p index k ≡ offers_of now routes (id_at (ids_of labels) k) p
 
 -- each slot has a report type with the store that its packets go to, where there is one
-pub record AreRoutings (routes : List RouteRow) (stores : List NamedStore) (routings : Routings) : Type 0 where
+pub record AreRoutings (routes : List RouteRow) (labels : List StoreLabel) (routings : Routings) : Type 0 where
   pub count : length routings.slots ≡ REMEMBERED
-  pub lead : All (λ (r : Routing). IfSome r.store (LeadsTo routes stores r.report)) routings.slots
+  pub lead : All (λ (r : Routing). IfSome r.store (LeadsTo routes labels r.report)) routings.slots

@@ -2,8 +2,8 @@
 ghost use Rattle.std.specs.Prelude.{◌≡◌, ◌<◌, length};
 ghost use Rattle.std.specs.Result.{result_err};
 ghost use Rattle.std.specs.Thread.{IsSync, IsSend};
-ghost use Rattle.mm_shared.specs.Stores.{ids_of, ends_of, all_ends, AreNamed, IsFresh};
-ghost use Rattle.mm_record.specs.Offering.{AreAt};
+ghost use Rattle.mm_shared.specs.Stores.{end_of, all_ends, IsFresh};
+ghost use Rattle.mm_record.specs.Offering.{MayOffer};
 ghost use Rattle.mm_record.specs.Recorded.{open_recording};
 ghost use Rattle.mm_record.specs.Recorders.{HasRun, MayRecord, HaveRun, is_worse};
 
@@ -12,7 +12,7 @@ use crate::offering::offer_packet;
 use crate::routing::Routings;
 use crate::source::Source;
 use mm_desk::Fault;
-use mm_shared::{Line, Lines};
+use mm_shared::Port;
 use std::sync::Wait;
 use std::thread::{Threads, join_mut};
 
@@ -20,17 +20,16 @@ use std::thread::{Threads, join_mut};
 fn record_source<S: Source, R: Wait>(
     context: &StepContext<'_, R>,
     source: &mut S,
-    lines: &mut [Line],
+    port: &mut Port,
 ) -> Result<(), Fault>
-    requires named { AreNamed (ids_of context.now.stores.now) }
-    requires at { AreAt context.now.stores.now (ends_of lines.old) }
-    requires fresh { IsFresh lines.old }
-    ensures run { HasRun (open_recording context.now.step context.now.moment context.now.control.now context.now.stores.now) (S.gives source.old) (S.gives source.new) (result_err result) lines.new }
-    ensures ends { ends_of lines.new ≡ ends_of lines.old }
+    requires may { MayOffer context.now.labels.now context.now.stores.now port.old.of }
+    requires fresh { IsFresh port.old }
+    ensures run { HasRun (open_recording context.now.step context.now.moment context.now.control.now context.now.labels.now) (S.gives source.old) (S.gives source.new) (result_err result) port.new }
+    ensures end { end_of port.new ≡ end_of port.old }
 {
     let mut routings = Routings::new();
     while let Some(packet) = source.next(context.step) {
-        offer_packet(context, &mut routings, lines, packet)?;
+        offer_packet(context, &mut routings, port, packet)?;
     }
     Ok(())
 }
@@ -50,14 +49,14 @@ fn worse(first: Option<Fault>, second: Option<Fault>) -> Option<Fault>
 fn record_one<S: Source, R: Wait>(
     context: &StepContext<'_, R>,
     sources: &mut [S],
-    workers: &mut [Lines],
+    workers: &mut [Port],
 ) -> Option<Fault>
-    requires may { MayRecord context.now.stores.now sources.old workers.old }
+    requires may { MayRecord context.now.labels.now context.now.stores.now sources.old workers.old }
     requires one { length sources.old ≡ 1 }
-    ensures run { HaveRun S.gives (open_recording context.now.step context.now.moment context.now.control.now context.now.stores.now) sources.old sources.new workers.new result }
+    ensures run { HaveRun S.gives (open_recording context.now.step context.now.moment context.now.control.now context.now.labels.now) sources.old sources.new workers.new result }
     ensures ends { all_ends workers.new ≡ all_ends workers.old }
 {
-    record_source(context, &mut sources[0], &mut workers[0].lines).err()
+    record_source(context, &mut sources[0], &mut workers[0]).err()
 }
 
 // Lets recorders run, each in a thread of its own where one can be made, and tells why they stopped early, where some did.
@@ -65,10 +64,10 @@ fn record_one<S: Source, R: Wait>(
 pub(crate) fn record_all<S: Source + Send, R: Threads + Wait + Sync>(
     context: &StepContext<'_, R>,
     sources: &mut [S],
-    workers: &mut [Lines],
+    workers: &mut [Port],
 ) -> Option<Fault>
-    requires may { MayRecord context.now.stores.now sources.old workers.old }
-    ensures run { HaveRun S.gives (open_recording context.now.step context.now.moment context.now.control.now context.now.stores.now) sources.old sources.new workers.new result }
+    requires may { MayRecord context.now.labels.now context.now.stores.now sources.old workers.old }
+    ensures run { HaveRun S.gives (open_recording context.now.step context.now.moment context.now.control.now context.now.labels.now) sources.old sources.new workers.new result }
     ensures ends { all_ends workers.new ≡ all_ends workers.old }
 {
     if sources.is_empty() {
@@ -96,26 +95,26 @@ pub(crate) fn record_all<S: Source + Send, R: Threads + Wait + Sync>(
 fn record_halves<S: Source + Send, R: Threads + Wait + Sync>(
     context: &StepContext<'_, R>,
     low_sources: &mut [S],
-    low_workers: &mut [Lines],
+    low_workers: &mut [Port],
     high_sources: &mut [S],
-    high_workers: &mut [Lines],
+    high_workers: &mut [Port],
 ) -> (Option<Fault>, Option<Fault>)
-    requires low { MayRecord context.now.stores.now low_sources.old low_workers.old }
-    requires high { MayRecord context.now.stores.now high_sources.old high_workers.old }
+    requires low { MayRecord context.now.labels.now context.now.stores.now low_sources.old low_workers.old }
+    requires high { MayRecord context.now.labels.now context.now.stores.now high_sources.old high_workers.old }
     requires some_low { 0 < length low_sources.old }
     requires some_high { 0 < length high_sources.old }
-    ensures low { HaveRun S.gives (open_recording context.now.step context.now.moment context.now.control.now context.now.stores.now) low_sources.old low_sources.new low_workers.new result.0 }
-    ensures high { HaveRun S.gives (open_recording context.now.step context.now.moment context.now.control.now context.now.stores.now) high_sources.old high_sources.new high_workers.new result.1 }
+    ensures low { HaveRun S.gives (open_recording context.now.step context.now.moment context.now.control.now context.now.labels.now) low_sources.old low_sources.new low_workers.new result.0 }
+    ensures high { HaveRun S.gives (open_recording context.now.step context.now.moment context.now.control.now context.now.labels.now) high_sources.old high_sources.new high_workers.new result.1 }
     ensures low_ends { all_ends low_workers.new ≡ all_ends low_workers.old }
     ensures high_ends { all_ends high_workers.new ≡ all_ends high_workers.old }
 {
     let mut low = || -> Option<Fault>
-        requires { IsSync R.row × IsSend S.row × MayRecord context.now.stores.now low_sources.now low_workers.now }
-        ensures { HaveRun S.gives (open_recording context.entry.now.step context.entry.now.moment context.entry.now.control.now context.entry.now.stores.now) low_sources.entry.now low_sources.exit.now low_workers.exit.now result × (all_ends low_workers.exit.now ≡ all_ends low_workers.entry.now) }
+        requires { IsSync R.row × IsSend S.row × MayRecord context.now.labels.now context.now.stores.now low_sources.now low_workers.now }
+        ensures { HaveRun S.gives (open_recording context.entry.now.step context.entry.now.moment context.entry.now.control.now context.entry.now.labels.now) low_sources.entry.now low_sources.exit.now low_workers.exit.now result × (all_ends low_workers.exit.now ≡ all_ends low_workers.entry.now) }
     { record_all(context, low_sources, low_workers) };
     let mut high = || -> Option<Fault>
-        requires { IsSync R.row × IsSend S.row × MayRecord context.now.stores.now high_sources.now high_workers.now }
-        ensures { HaveRun S.gives (open_recording context.entry.now.step context.entry.now.moment context.entry.now.control.now context.entry.now.stores.now) high_sources.entry.now high_sources.exit.now high_workers.exit.now result × (all_ends high_workers.exit.now ≡ all_ends high_workers.entry.now) }
+        requires { IsSync R.row × IsSend S.row × MayRecord context.now.labels.now context.now.stores.now high_sources.now high_workers.now }
+        ensures { HaveRun S.gives (open_recording context.entry.now.step context.entry.now.moment context.entry.now.control.now context.entry.now.labels.now) high_sources.entry.now high_sources.exit.now high_workers.exit.now result × (all_ends high_workers.exit.now ≡ all_ends high_workers.entry.now) }
     { record_all(context, high_sources, high_workers) };
     join_mut(context.rt, &mut low, &mut high)
 }

@@ -1,13 +1,13 @@
 //! The routings that a recorder remembers, so that the rows of a report type are not looked up for each packet.
 ghost use Rattle.std.specs.Prelude.{◌≡◌, ◌<◌, List, IfSome};
 ghost use Rattle.mm_base.specs.declared.rows.RouteRow.{RouteRow};
-ghost use Rattle.mm_shared.specs.declared.stores.NamedStore.{NamedStore};
+ghost use Rattle.mm_shared.specs.declared.label.StoreLabel.{StoreLabel};
 ghost use Rattle.mm_shared.specs.Stores.{ids_of, AreNamed};
 ghost use Rattle.mm_record.specs.declared.routing.TheConstants.{REMEMBERED};
 ghost use Rattle.mm_record.specs.Routings.{LeadsTo, AreRoutings};
 
 use mm_control::ControlTable;
-use mm_shared::{NamedStore, place_of};
+use mm_shared::{StoreLabel, place_of};
 
 /// How many routings a recorder remembers.
 pub(crate) const REMEMBERED: usize = 16;
@@ -37,15 +37,15 @@ pub(crate) struct Routing {
 }
 
 // The index of the store that packets of a report type go to, where they go to one store alone.
-fn lone_store_of(stores: &[NamedStore], control: &ControlTable, report: ReportType) -> Option<usize>
-    requires named { AreNamed (ids_of stores.now) }
-    ensures leads { IfSome result (LeadsTo control.now stores.now report) }
+fn lone_store_of(labels: &[StoreLabel], control: &ControlTable, report: ReportType) -> Option<usize>
+    requires named { AreNamed (ids_of labels.now) }
+    ensures leads { IfSome result (LeadsTo control.now labels.now report) }
 {
     let rows = control.rows_for(report.apid, report.service, report.subtype);
     let [row] = rows else {
         return None;
     };
-    place_of(stores, &row.store)
+    place_of(labels, &row.store)
 }
 
 /// The routings of the report types that a recorder met last, one in each slot.
@@ -57,7 +57,7 @@ pub(crate) struct Routings {
 impl Routings {
     /// Those of a recorder that has met no report type.
     pub(crate) fn new() -> Routings
-        ensures routings { (routes : List RouteRow) (stores : List NamedStore) → AreRoutings routes stores result }
+        ensures routings { (routes : List RouteRow) (labels : List StoreLabel) → AreRoutings routes labels result }
     {
         let report = ReportType {
             apid: 0,
@@ -76,18 +76,18 @@ impl Routings {
     /// The index of the store that packets of a report type go to, where they go to one store alone.
     pub(crate) fn lone_store(
         &mut self,
-        stores: &[NamedStore],
+        labels: &[StoreLabel],
         control: &ControlTable,
         report: ReportType,
     ) -> Option<usize>
-        requires named { AreNamed (ids_of stores.now) }
-        requires routings { AreRoutings control.now stores.now self.old }
-        ensures routings { AreRoutings control.now stores.now self.new }
-        ensures leads { IfSome result (LeadsTo control.now stores.now report) }
+        requires named { AreNamed (ids_of labels.now) }
+        requires routings { AreRoutings control.now labels.now self.old }
+        ensures routings { AreRoutings control.now labels.now self.new }
+        ensures leads { IfSome result (LeadsTo control.now labels.now report) }
     {
         let slot = report.slot();
         if self.slots[slot].report != report {
-            let store = lone_store_of(stores, control, report);
+            let store = lone_store_of(labels, control, report);
             self.slots[slot] = Routing { report, store };
         }
         self.slots[slot].store

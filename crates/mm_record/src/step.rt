@@ -48,6 +48,7 @@ pub fn record<S: Source + Send, R: Threads + Wait + Sync>(
     let context = StepContext {
         rt,
         alloc,
+        labels: &open.labels,
         stores: &open.stores,
         control: step.control,
         step: step.step,

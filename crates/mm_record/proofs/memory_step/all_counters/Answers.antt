@@ -1,7 +1,8 @@
 use Rattle.std.proofs.Common.{rules, ◌≡◌, ◌<◌, [], ◌∷◌, ◌++◌, length, get_or, sym, ap, ◌∙◌}
+use Rattle.std.proofs.lemmas.List.Elements.{All-more}
 use Rattle.mm_desk.specs.Machine.{IsState}
 use Rattle.mm_record.specs.Counters.{counters_of}
-use Rattle.mm_record.proofs.Memories.{all_more, map_more}
+use Rattle.mm_record.proofs.Memories.{map_more}
 use Rattle.mm_record.proofs.memory_step.all_counters.Goals as goal
 
 pub loop-held-preserved : goal.loop-held-preserved
@@ -14,5 +15,5 @@ loop-held-preserved c =
     let pushed : c.push.new.self.items ≡ c.loop-held.counters.items ++ counters_of h.state ∷ [] = search rules in
     record {
       counters = pushed ∙ ap (λ cs. cs ++ counters_of h.state ∷ []) c.loop-held.invariant.counters ∙ sym (map_more (λ h. counters_of h.state) stores i h within at);
-      sound = all_more (λ h. IsState h.state) stores i h within at c.loop-held.invariant.sound c.of.ensures.sound;
+      sound = All-more (λ h. IsState h.state) stores i h within c.loop-held.invariant.sound (rw at c.of.ensures.sound);
     }

@@ -1,9 +1,8 @@
 use Rattle.std.proofs.Common.{rules, ◌≡◌, ◌<◌, ℕ, List, length}
-use Rattle.std.proofs.lemmas.Result.{on_ok_weaker, on_err_weaker}
 use Rattle.mm_shared.specs.Stores.{ids_of, id_at}
 use Rattle.mm_record.specs.Offering.{offers_by, offers_of}
 use Rattle.mm_memory.specs.Recording.{is_routed}
-use Rattle.mm_record.proofs.Adding.{adds_same}
+use Rattle.mm_record.proofs.Adding.{offers_same}
 use Rattle.mm_record.proofs.Offers.{by_rows}
 use Rattle.mm_record.proofs.offering.offer_packet.Goals as goal
 
@@ -13,10 +12,8 @@ returns g c =
     let rows = c.rows_for-rows.result.now in
     let same : (id : List ℕ) → offers_by context.moment c.args.packet id rows ≡ offers_of context.moment context.control.now id c.args.packet =
     λ id. let once = c.rows_for-rows.ensures.once id in by_rows context.moment c.args.packet id rows (is_routed context.control.now id c.args.packet) (search rules) in
-    let at = λ (k : ℕ) (within : k < length context.stores.now). same (id_at (ids_of context.stores.now) k) in
+    let at = λ (k : ℕ) (within : k < length context.labels.now). same (id_at (ids_of context.labels.now) k) in
     record {
       routings = c.lone_store.ensures.routings;
-      ok = on_ok_weaker c.offer_routed.result (adds_same _ _ _ _ _ _ at) c.offer_routed.ensures.ok;
-      err = on_err_weaker c.offer_routed.result (adds_same _ _ _ _ _ _ at) c.offer_routed.ensures.err;
-      why = c.offer_routed.ensures.why;
+      offers = offers_same c.offer_routed.result _ _ _ _ _ at c.offer_routed.ensures.offers;
     }

@@ -6,9 +6,9 @@ use Rattle.mm_record.proofs.recorder.record_source.Given as goal
 
 abbrev pub invariant-loop-packet : goal.invariant-loop-packet
 invariant-loop-packet g l = record {
-  routings : AreRoutings l.context.control.now l.context.stores.now l.routings;
-  so_far : RecordedSoFar (open_recording l.context.step l.context.moment l.context.control.now l.context.stores.now) (g.S.Source.gives l.initial.source) (g.S.Source.gives l.source)
-      l.initial.lines l.lines;
+  routings : AreRoutings l.context.control.now l.context.labels.now l.routings;
+  so_far : RecordedSoFar (open_recording l.context.step l.context.moment l.context.control.now l.context.labels.now) (g.S.Source.gives l.initial.source) (g.S.Source.gives l.source)
+      l.initial.port l.port;
 }
 
 abbrev pub decreases-loop-packet : goal.decreases-loop-packet

@@ -1,7 +1,7 @@
 use Rattle.std.proofs.Common.{rules, ◌≡◌, length, sym, subst, ap, ◌∙◌, arith}
 use Rattle.std.specs.Vec.{with_items}
 use Rattle.std.proofs.lemmas.List.{with_items_is}
-use Rattle.mm_shared.specs.Stores.{all_ends, openings_of, states_of, AreNamed, HaveLegalLogs}
+use Rattle.mm_shared.specs.Stores.{all_ends, states_of, AreNamed, HaveLegalLogs}
 use Rattle.mm_shared.proofs.StillOpen.{still_open}
 use Rattle.mm_record.specs.Recorded.{open_recording}
 use Rattle.mm_record.specs.Recorders.{HaveRun}
@@ -14,8 +14,8 @@ record_all-why-requires-clause-may g c κs within =
     let it = c.in_ok-open.open in
     let new = c.in_ok-open.ensures.opened in
     let many : length it.workers.items ≡ length c.args.sources.now = search rules in
-    let named = subst AreNamed (sym (ids_open it.stores.items c.args.stores.now.items new.labels)) c.requires.named in
-    let may = may_of it.stores.items c.args.sources.now it.workers.items named many new.are_open.workers new.fresh in
+    let named = subst AreNamed (sym (ids_open it.labels.items c.args.stores.now.items new.labels)) c.requires.named in
+    let may = may_of it.labels.items it.stores c.args.sources.now it.workers.items named new.are_open.labels many new.are_open.workers new.fresh in
     rw (c.deref.ensures.value, c.deref_mut.ensures.value) may
 
 pub close_all-requires : goal.close_all-requires
@@ -33,8 +33,8 @@ returns-clause-records g c =
     let new = c.in_ok-open.ensures.opened in
     let step = c.args.step.now in
     let written = with_items_is it.workers c.record_all-why.new.workers (omega (arith, c.record_all-why.auto.workers, c.deref_mut.ensures.len, it.workers.ok.0)) in
-    let logs = subst (λ ws. HaveLegalLogs ws (openings_of it.stores.items) (states_of c.close_all.new.stores.items)) written c.close_all.ensures.went in
+    let logs = subst (λ ws. HaveLegalLogs ws it.stores.openings (states_of c.close_all.new.stores.items)) written c.close_all.ensures.went in
     let ran = subst (λ ss. HaveRun g.S.Source.gives (open_recording step.step step.now step.control.now ss) c.args.sources.now c.record_all-why.new.sources c.record_all-why.new.workers c.record_all-why.result)
     c.deref.ensures.value c.record_all-why.ensures.run in
-    records_of g.S.Source.gives step.step step.now step.control.now c.args.stores.now.items c.close_all.new.stores.items it.stores.items c.args.sources.now c.record_all-why.new.sources
+    records_of g.S.Source.gives step.step step.now step.control.now c.args.stores.now.items c.close_all.new.stores.items it.labels.items it.stores.openings c.args.sources.now c.record_all-why.new.sources
     c.record_all-why.new.workers c.record_all-why.result new.labels new.states c.close_all.ensures.labels c.close_all.ensures.sound logs ran c.requires.many
