@@ -1,15 +1,15 @@
 //! Packet stores that threads share, of both kinds: each call, two threads at one store, and the stores of a step.
-ghost use Rattle.std.specs.Prelude.{◌≡◌};
+ghost use Rattle.std.specs.Prelude.{◌≡◌, length, IfSome};
 ghost use Rattle.mm_shared.specs.Views.{new_ports};
 
 use crate::tests::calls::Call;
 use crate::tests::gates::comes_to;
-use crate::tests::samples::{has, is_named, new_state, store_with, stores_with};
+use crate::tests::samples::{has, id, is_named, new_state, store_with, stores_with};
 use growths::calls::{Ask, Told};
 use growths::shared::answer;
 use mm_base::Kind;
 use mm_desk::{Fault, Held, StoreState};
-use mm_shared::{Port, Ports, SharedStore, close_all, open_all};
+use mm_shared::{Port, Ports, SharedStores, StoreLabel, close_all, open_all};
 use std::alloc::Global;
 use std::process::Abort;
 use std::sync::Wait;
@@ -17,13 +17,37 @@ use std::sync::atomic::{AtomicU64, Ordering};
 use std::thread::{Threads, join};
 
 // A store with this many seats, and its ports.
-fn opened(rt: &impl Abort, alloc: Global, state: StoreState, seats: u32) -> (SharedStore, Ports)
+fn opened(rt: &impl Abort, alloc: Global, state: StoreState, seats: u32) -> (SharedStores, Ports)
     ensures ports { result.1 ≡ new_ports result.0.id seats }
     ensures seats { result.0.seats ≡ seats }
+    ensures one { length result.0.openings ≡ 1 }
 {
-    match SharedStore::open(alloc, state, seats) {
+    let mut states = Vec::new(alloc);
+    assert!(rt; states.push(state).is_ok(), "memory");
+    assert!(rt; states.len() == 1, "one store");
+    match SharedStores::open(alloc, states, seats) {
         Ok(opened) => opened,
         Err(_) => panic!(rt; "memory"),
+    }
+}
+
+// What is left of the store, with all its ports or without them.
+fn closed(rt: &impl Abort, alloc: Global, stores: SharedStores, ports: Option<Ports>) -> StoreState
+    requires all { IfSome ports (λ ports. (ports.of ≡ stores.id) × (ports.first ≡ 0) × (length ports.lists ≡ stores.seats)) }
+    requires one { length stores.openings ≡ 1 }
+{
+    let label = StoreLabel {
+        id: id(rt, "AAA"),
+        channel: 3,
+    };
+    let mut back = Vec::with_capacity(alloc, 1).expect(rt, "memory");
+    match ports {
+        Some(ports) => stores.close(ports, &[label], &mut back),
+        None => stores.into_stores(&[label], &mut back),
+    }
+    match back.pop() {
+        Some(held) => held.state,
+        None => panic!(rt; "no store"),
     }
 }
 
@@ -31,16 +55,17 @@ fn opened(rt: &impl Abort, alloc: Global, state: StoreState, seats: u32) -> (Sha
 fn asks<R: Wait + Abort>(
     rt: &R,
     alloc: Global,
-    store: &SharedStore,
+    stores: &SharedStores,
     port: &mut Port,
     table: &[Call],
 )
-    requires of { port.old.of ≡ store.now.id }
+    requires of { port.old.of ≡ stores.now.id }
+    requires one { length stores.now.openings ≡ 1 }
     ensures same { (port.new.of ≡ port.old.of) × (port.new.number ≡ port.old.number) }
 {
     for row in 0..table.len() {
         let (ask, want) = table[row];
-        let told = answer(rt, alloc, store, port, ask);
+        let told = answer(rt, alloc, stores, port, ask);
         assert!(rt; told == want, "row {row}");
     }
 }
@@ -69,11 +94,11 @@ fn left_by<R: Wait + Abort>(
     state: StoreState,
     table: &[Call],
 ) -> StoreState {
-    let (store, mut ports) = opened(rt, alloc, state, 1);
-    let mut port = store.split(&mut ports);
-    asks(rt, alloc, &store, &mut port, table);
-    store.join(&mut ports, port);
-    store.close(ports)
+    let (stores, mut ports) = opened(rt, alloc, state, 1);
+    let mut port = stores.split(&mut ports);
+    asks(rt, alloc, &stores, &mut port, table);
+    stores.join(&mut ports, port);
+    closed(rt, alloc, stores, Some(ports))
 }
 
 // The counters of a store, and whether its storage is on.
@@ -94,8 +119,9 @@ fn each_call_answers_what_the_store_does(rt: HostRuntime) {
 #[test]
 fn a_store_without_calls_is_as_it_was(rt: HostRuntime) {
     let alloc = rt.alloc();
-    let (store, ports) = opened(&rt, alloc, store_with(&rt, alloc, Kind::Circular, 3), 2);
-    is_left(&rt, &store.close(ports), [3, 0, 0, 3], true);
+    let (stores, ports) = opened(&rt, alloc, store_with(&rt, alloc, Kind::Circular, 3), 2);
+    let state = closed(&rt, alloc, stores, Some(ports));
+    is_left(&rt, &state, [3, 0, 0, 3], true);
 }
 
 static ONE_MORE: [Call; 1] = [(Ask::Offer(90, 3), Told::Kept(90))];
@@ -103,10 +129,11 @@ static ONE_MORE: [Call; 1] = [(Ask::Offer(90, 3), Told::Kept(90))];
 #[test]
 fn a_state_comes_out_without_the_ports(rt: HostRuntime) {
     let alloc = rt.alloc();
-    let (store, mut ports) = opened(&rt, alloc, store_with(&rt, alloc, Kind::Bounded, 2), 1);
-    let mut port = store.split(&mut ports);
-    asks(&rt, alloc, &store, &mut port, &ONE_MORE);
-    is_left(&rt, &store.into_state(), [3, 0, 0, 3], true);
+    let (stores, mut ports) = opened(&rt, alloc, store_with(&rt, alloc, Kind::Bounded, 2), 1);
+    let mut port = stores.split(&mut ports);
+    asks(&rt, alloc, &stores, &mut port, &ONE_MORE);
+    let state = closed(&rt, alloc, stores, None);
+    is_left(&rt, &state, [3, 0, 0, 3], true);
 }
 
 // What a thread does at a store that another thread calls too. It begins once so many threads have called, and makes its calls; once both
@@ -141,12 +168,13 @@ static OFFERS_MEANWHILE: Part = Part {
 };
 
 // Offers this many packets.
-fn offers<R: Wait + Abort>(rt: &R, alloc: Global, store: &SharedStore, port: &mut Port, many: u32)
-    requires of { port.old.of ≡ store.now.id }
+fn offers<R: Wait + Abort>(rt: &R, alloc: Global, stores: &SharedStores, port: &mut Port, many: u32)
+    requires of { port.old.of ≡ stores.now.id }
+    requires one { length stores.now.openings ≡ 1 }
     ensures same { (port.new.of ≡ port.old.of) × (port.new.number ≡ port.old.number) }
 {
     for _ in 0..many {
-        answer(rt, alloc, store, port, Ask::Offer(7, 2));
+        answer(rt, alloc, stores, port, Ask::Offer(7, 2));
     }
 }
 
@@ -154,19 +182,20 @@ fn offers<R: Wait + Abort>(rt: &R, alloc: Global, store: &SharedStore, port: &mu
 fn plays<R: Wait + Abort>(
     rt: &R,
     alloc: Global,
-    store: &SharedStore,
+    stores: &SharedStores,
     mut port: Port,
     called: &AtomicU64,
     part: Part,
 ) -> Port
-    requires of { port.of ≡ store.now.id }
+    requires of { port.of ≡ stores.now.id }
+    requires one { length stores.now.openings ≡ 1 }
     ensures same { (result.of ≡ port.of) × (result.number ≡ port.number) }
 {
     assert!(rt; comes_to(called, part.begins), "its turn");
-    asks(rt, alloc, store, &mut port, part.calls);
+    asks(rt, alloc, stores, &mut port, part.calls);
     called.fetch_add(1, Ordering::SeqCst);
     assert!(rt; comes_to(called, 2), "both call");
-    offers(rt, alloc, store, &mut port, part.more);
+    offers(rt, alloc, stores, &mut port, part.more);
     port
 }
 
@@ -178,25 +207,25 @@ fn shared_by<R: Threads + Wait + Sync + Abort>(
     parts: (Part, Part),
 ) -> StoreState {
     let (first, second) = parts;
-    let (store, mut ports) = opened(rt, alloc, state, 2);
-    let one = store.split(&mut ports);
-    let two = store.split(&mut ports);
+    let (stores, mut ports) = opened(rt, alloc, state, 2);
+    let one = stores.split(&mut ports);
+    let two = stores.split(&mut ports);
     let count = AtomicU64::new(0);
-    let (shared, called) = (&store, &count);
+    let (shared, called) = (&stores, &count);
     let (one, two) = join(
         rt,
         move || -> Port
-            requires { one.of ≡ shared.now.id }
+            requires { (one.of ≡ shared.now.id) × (length shared.now.openings ≡ 1) }
             ensures { (result.of ≡ one.of) × (result.number ≡ one.number) }
         { plays(rt, alloc, shared, one, called, first) },
         move || -> Port
-            requires { two.of ≡ shared.now.id }
+            requires { (two.of ≡ shared.now.id) × (length shared.now.openings ≡ 1) }
             ensures { (result.of ≡ two.of) × (result.number ≡ two.number) }
         { plays(rt, alloc, shared, two, called, second) },
     );
-    store.join(&mut ports, two);
-    store.join(&mut ports, one);
-    store.close(ports)
+    stores.join(&mut ports, two);
+    stores.join(&mut ports, one);
+    closed(rt, alloc, stores, Some(ports))
 }
 
 // Two threads at a store of each kind with some packets, and its counters afterwards.
@@ -243,7 +272,7 @@ fn stores_are_given_back_in_order(rt: HostRuntime) {
     let Ok(opened) = open_all(rt.alloc(), &mut stores, 3) else {
         panic!(rt; "memory");
     };
-    let many = (opened.workers.len(), opened.stores.len());
+    let many = (opened.workers.len(), opened.labels.len());
     assert!(rt; many == (3, 2), "three workers at two stores");
     close_all(opened, &mut stores);
     stand(&rt, &stores);
