@@ -1,0 +1,83 @@
+"""What the step that makes the module asks of the kit: how rt has rattle build a crate, and the module that rattle gives its clang."""
+import importlib.machinery
+import importlib.util
+import os
+import re
+import shutil
+import subprocess
+import sys
+
+RT = shutil.which("rt") or sys.exit("dist/module: no rt on PATH")
+KIT = os.path.dirname(subprocess.run([RT, "doc"], capture_output=True, text=True, check=True).stdout.strip())
+TOOLS = f"{KIT}/toolchain/bin"
+X86 = "x86_64-unknown-linux-gnu"
+WASM = "wasm64-unknown-unknown"
+
+
+def refuse(words):
+    sys.exit(f"dist/module: {words}")
+
+
+def load_rt():
+    """The parts of the kit's rt, which may be loaded in the first thread alone."""
+    file = f"{os.path.dirname(os.path.realpath(RT))}/rtlib.py"
+    loader = importlib.machinery.SourceFileLoader("rtlib", file)
+    made = importlib.util.module_from_spec(importlib.util.spec_from_loader("rtlib", loader))
+    sys.modules["rtlib"] = made
+    loader.exec_module(made)
+    # The probe of the heap declares functions of C; no other crate may.
+    os.environ["RT_ALLOW_C"] = "heap"
+    made.guarded()
+    return made
+
+
+def run(*words, cwd=None):
+    """Runs a command, whose output is shown where it fails."""
+    ran = subprocess.run(words, cwd=cwd, stdin=subprocess.DEVNULL, stdout=subprocess.PIPE, stderr=subprocess.STDOUT, text=True, errors="replace", check=False)
+    if ran.returncode:
+        refuse(f"status {ran.returncode} of {os.path.basename(words[0])} {' '.join(words[1:3])} ..\n" + "\n".join(ran.stdout.split("\n")[-20:]))
+    return ran.stdout
+
+
+def recording_tools(work):
+    """A toolchain that is the kit's, but that its clang leaves the module that it is given, and its words, in the folder."""
+    os.makedirs(f"{work}/tools/bin")
+    os.symlink(f"{KIT}/toolchain/lib", f"{work}/tools/lib")
+    for tool in os.listdir(TOOLS):
+        if tool != "clang":
+            os.symlink(f"{TOOLS}/{tool}", f"{work}/tools/bin/{tool}")
+    clang = f"{work}/tools/bin/clang"
+    with open(clang, "w", encoding="utf-8") as file:
+        file.write(f'#!/bin/sh\nif [ -f module.bc ]; then cp module.bc "{work}/module.bc" && printf "%s\\n" "$@" >"{work}/words"; fi\nexec "{TOOLS}/clang" "$@"\n')
+    os.chmod(clang, 0o755)
+    return f"{work}/tools"
+
+
+def build(rt, folder, top, work, *more, jobs=2):
+    """Proves and builds a crate in the kit's way. Leaves the archive as lib.a, the module as module.ll and clang's words as words in the folder
+    for work, and gives rattle's last line."""
+    crate = rt.Crate(folder, top, {})
+    for below in crate.below():
+        if not below.is_built():
+            refuse(f"the library {below.name} is not built from these sources: ./mm_tool --libraries {crate.name} builds it")
+    tools = recording_tools(work)
+    words = [*crate.words(["--jobs", str(jobs)]), *more, "--toolchain", tools, "-o", f"{work}/lib.a"]
+    said = run(f"{KIT}/bin/rattle", "build", *words, cwd=folder)
+    verdict = re.search(r"^logic=proved .*$", said, re.M) or refuse(f"{crate.name} is not proved:\n{said[-2000:]}")
+    triple = WASM if crate.is_wasm else X86
+    run(f"{TOOLS}/clang", f"--target={triple}", "-S", "-emit-llvm", "-O0", "-Xclang", "-disable-llvm-passes", "-x", "ir", f"{work}/module.bc", "-o", f"{work}/module.ll")
+    return verdict[0]
+
+
+def text_of(path):
+    with open(path, encoding="utf-8") as file:
+        return file.read()
+
+
+def flags(work):
+    """The words with which rattle had clang compile the module in the folder for work, but for the names of files and folders."""
+    words = text_of(f"{work}/words").split("\n")[:-1]
+    at = words.index("-c")
+    if words[at:] != ["-c", "-x", "ir", "module.bc", "-o", "module.o", "-O3"]:
+        refuse(f"rattle calls clang in another way: {words[at:]}")
+    return [word for word in words[:at] if not word.startswith("--sysroot=")]
