@@ -1,0 +1,56 @@
+// The document: its elements, and writing to them only where something differs.
+export const at = id => document.getElementById(id);
+
+export function make(tag, text = "", more = {}) {
+  const made = document.createElement(tag);
+  if (text !== "") made.textContent = text;
+  for (const [name, value] of Object.entries(more)) {
+    if (name in made) made[name] = value;
+    else made.setAttribute(name, value);
+  }
+  return made;
+}
+
+export function row(...cells) {
+  const made = make("tr");
+  made.append(...cells);
+  return made;
+}
+
+// A table writes to cells that it remembers, since reading the document costs more than comparing texts.
+const lastWritten = new WeakMap();
+
+export function write(element, text, name = "") {
+  const is = `${name}\n${text}`;
+  if (lastWritten.get(element) === is) return;
+  lastWritten.set(element, is);
+  element.textContent = text;
+  element.className = name;
+}
+
+export function fill(input, text) {
+  if (input.value !== text) input.value = text;
+}
+
+export function mark(input, isBad) {
+  if (isBad === (input.getAttribute("aria-invalid") === "true")) return;
+  if (isBad) input.setAttribute("aria-invalid", "true");
+  else input.removeAttribute("aria-invalid");
+}
+
+export const number = (value, name) => [value === undefined ? "" : value.toLocaleString("en"), `is ${value ? name : "none"}`.trim()];
+
+// An input of a cell, which says by `data-cell` what it changes.
+export function input(cell, label, more = {}) {
+  const made = make("input", "", { inputMode: "numeric", autocomplete: "off", "aria-label": label, ...more });
+  made.dataset.cell = cell;
+  return made;
+}
+
+export function cellWith(...inside) {
+  const made = make("td");
+  made.append(...inside);
+  return made;
+}
+
+export const head = (text, more = {}) => make("th", text, { scope: "col", ...more });

@@ -1,0 +1,120 @@
+// The calls of the library, as bindings/c/rudlayog.h says them, on texts as octets. Nothing outside this file knows of memory.
+//
+// The module takes its heap from here: blocks lie one after another and are never given back, and each call has an instance of its own, whose
+// memory goes with it. So no call sees what another one left, and after a fault nothing is called again.
+const WRITTEN = 0, TOO_SMALL = 1, REFUSED = 2; // RUDLAYOG_WRITTEN and so on
+const PLAN_ROOM = 204800, LINE_ROOM = 64, PICTURE_ROOM = 1 << 18, WORDS_ROOM = 512, HINT_ROOM = 1024, VERSION_ROOM = 16;
+const REFUSED_SIZE = 32, VERDICT_SIZE = 24, ANSWER_SIZE = 48, LENGTH_AT = 40;
+const PAGE = 65536n, ALIGN = 16n;
+const KINDS = ["no verdict", "least", "does not fit", "loss is", "bad stretch", "bad count", "bound is", "not shown"]; // RUDLAYOG_LEAST and so on
+
+export class NoMemory extends Error {}
+
+// An instance of the module with its heap: its calls, and what takes and reads blocks of its memory.
+function instantiate(module) {
+  let memory, top = 0n, isWide = true;
+
+  const view = () => new DataView(memory.buffer);
+
+  function grows(size) {
+    const pages = (size + PAGE - 1n) / PAGE;
+    try {
+      memory.grow(isWide ? pages : Number(pages));
+      return true;
+    } catch {
+      return false;
+    }
+  }
+
+  // The place of a new block, or 0 where there is no memory. The memory doubles, since some browsers move it where it grows.
+  function take(size) {
+    const at = top, end = at + ((size + ALIGN - 1n) & ~(ALIGN - 1n)), has = BigInt(memory.buffer.byteLength);
+    if (end > has && !(end - has < has && grows(has)) && !grows(end - has)) return 0n;
+    top = end;
+    return at;
+  }
+
+  // Answers whether there is a block, and where. Without one the pointer is not null, and owns nothing.
+  function tell(out, at, otherwise) {
+    view().setBigUint64(Number(out), at ? 1n : 0n, true);
+    view().setBigUint64(Number(out) + 8, at || otherwise, true);
+  }
+
+  const heap = {
+    rattle_alloc: (out, size) => tell(out, take(size), ALIGN),
+    rattle_realloc(out, old, kept, size) {
+      const at = take(size);
+      if (at) new Uint8Array(memory.buffer).copyWithin(Number(at), Number(old), Number(old + kept));
+      tell(out, at, old);
+    },
+    rattle_dealloc() {},
+  };
+  const { exports } = new WebAssembly.Instance(module, { heap });
+  memory = exports.memory;
+  // A memory of 32 bits takes no big numbers.
+  try {
+    memory.grow(0n);
+  } catch {
+    isWide = false;
+  }
+  top = (BigInt(exports.__heap_base.value) + ALIGN - 1n) & ~(ALIGN - 1n);
+  return { exports, take, view, octets: (at, length) => new Uint8Array(memory.buffer, Number(at), length) };
+}
+
+// Makes a call: with texts, structs that are given, a buffer with this room, structs that are told, and the answer.
+function call(module, name, { texts = [], given = [], room, told = [] }) {
+  const it = instantiate(module);
+
+  function block(size) {
+    const at = it.take(BigInt(size));
+    if (!at) throw new NoMemory("there is no memory for the texts");
+    return at;
+  }
+
+  function put(octets) {
+    const at = block(octets.length);
+    it.octets(at, octets.length).set(octets);
+    return at;
+  }
+
+  const words = texts.flatMap(octets => [put(octets), BigInt(octets.length)]);
+  const [structs, out, results, answer] = [given.map(put), block(room), told.map(block), block(ANSWER_SIZE)];
+  it.exports[`rudlayog_${name}`](...words, ...structs, out, BigInt(room), ...results, answer);
+  const view = it.view(), at = Number(answer), status = view.getUint32(at, true), length = Number(view.getBigUint64(at + LENGTH_AT, true));
+  if (status === TOO_SMALL) return call(module, name, { texts, given, room: length, told });
+  return {
+    octets: status === WRITTEN ? it.octets(out, length).slice() : null,
+    refused: status === REFUSED ? it.octets(answer + 8n, REFUSED_SIZE).slice() : null,
+    told: results.map((place, nth) => new DataView(it.octets(place, told[nth]).slice().buffer)),
+  };
+}
+
+// The library over a compiled module. Each call answers `octets`, or `refused`: the refusal's words, its number and its place.
+export function libraryOf(module) {
+  const ascii = octets => String.fromCharCode(...octets);
+
+  function refusalOf(refused, texts) {
+    const fields = new DataView(refused.buffer), number = fields.getUint32(0, true);
+    const of = { number, row: fields.getUint32(8, true), column: fields.getUint32(12, true), line: Number(fields.getBigUint64(16, true)) };
+    const words = call(module, "words", { given: [refused], room: WORDS_ROOM }).octets;
+    const hint = number && call(module, "hint", { texts: [...texts, new Uint8Array(), new Uint8Array()].slice(0, 3), given: [refused], room: HINT_ROOM }).octets;
+    return { ...of, words: words ? ascii(words) : "0 NoMemory: expected memory for the task; free some memory", hint: hint ? ascii(hint) : "" };
+  }
+
+  function answerTo(name, texts, room, told) {
+    const answer = call(module, name, { texts, room, told });
+    return { octets: answer.octets, refused: answer.refused && refusalOf(answer.refused, texts), told: answer.told };
+  }
+
+  return {
+    plan: (setup, forecast) => answerTo("plan", [setup, forecast], PLAN_ROOM),
+    check(setup, forecast, plan) {
+      const { told: [it], ...answer } = answerTo("check", [setup, forecast, plan], LINE_ROOM, [VERDICT_SIZE]);
+      const [kind, place] = [KINDS[it.getUint32(0, true)], it.getUint32(4, true)];
+      return { ...answer, verdict: { kind, place, loss: Number(it.getBigUint64(8, true)), bound: Number(it.getBigInt64(16, true)) } };
+    },
+    chart: (setup, forecast, plan) => answerTo("chart", [setup, forecast, plan], PICTURE_ROOM),
+    table: (setup, forecast, plan) => answerTo("table", [setup, forecast, plan], PICTURE_ROOM),
+    version: () => ascii(call(module, "version", { room: VERSION_ROOM }).octets),
+  };
+}
