@@ -1,6 +1,6 @@
 #!/usr/bin/env python3
-"""Makes the wheel of the package in the folder that is named (or in out/), with the shared library that bindings/c has built, and prints the
-name of the file. `pip install bindings/python` calls it too (packaging.python.org, 'Build backend interface'). A wheel is a zip file (the
+"""Makes the wheel of the package in the folder that is named (or in out/), with the shared library that bindings/c has built and the page
+of bindings/page where it is made, and prints the name of the file. `pip install bindings/python` calls it too (packaging.python.org, 'Build backend interface'). A wheel is a zip file (the
 same, 'Binary distribution format'), so nothing is needed beside Python itself."""
 
 import base64
@@ -14,6 +14,7 @@ from typing import Any, NoReturn
 
 HERE = Path(__file__).resolve().parent
 LIBRARY = HERE.parent / "c" / "out" / "librudlayog.so"
+PAGE = HERE.parent / "page" / "out" / "rudlayog.html"
 LICENCES = ("LICENSE-APACHE", "LICENSE-MIT")
 # The oldest version of the C library that a tag needs to be told of: all that are in use have it.
 OLDEST = 17
@@ -60,6 +61,8 @@ def files(project: dict[str, Any], about: str) -> dict[str, bytes]:
     name, shared = project["name"], library()
     found = {f"{name}/{file.name}": file.read_bytes() for file in sorted((HERE / name).iterdir()) if file.suffix in (".py", ".typed")}
     found[f"{name}/librudlayog.so"] = shared
+    if PAGE.is_file():
+        found[f"{name}/page.html"] = PAGE.read_bytes()
     found[f"{about}/METADATA"] = metadata(project).encode()
     found[f"{about}/WHEEL"] = f"Wheel-Version: 1.0\nGenerator: make_wheel\nRoot-Is-Purelib: false\nTag: {tag(shared)}\n".encode()
     for licence in LICENCES:

@@ -1,6 +1,6 @@
 // The page: what is opened, changed, saved and kept; and in which order what is shown follows a change.
 import { chartOf, judgeSafely, tableOf } from "./answers.js";
-import { at, make } from "./dom.js";
+import { at, fill, make, mark } from "./dom.js";
 import { libraryOf } from "./library.js";
 import { passesShown, showPasses } from "./passes.js";
 import { momentOf, restOf, withPass, withoutPass } from "./planning.js";
@@ -28,7 +28,8 @@ function changed() {
   at("redo").disabled = !history.canRedo;
   at("all").hidden = !hasAll;
   at("start").hidden = hasAll;
-  for (const which of ["begins", "minutes"]) if (at(which) !== document.activeElement) at(which).value = session[which];
+  for (const which of ["begins", "minutes"]) if (at(which) !== document.activeElement) fill(at(which), String(session[which]));
+  mark(at("begins"), session.begins !== "" && momentOf(session.begins) === null);
   document.body.classList.toggle("timeless", momentOf(session.begins) === null);
   keeper.soon(session);
   due++;
@@ -109,6 +110,7 @@ function cancel(from, to) {
 function addPass(form) {
   const { now } = history, given = new FormData(form), from = momentOf(given.get("from")), to = momentOf(given.get("to"));
   if (momentOf(now.begins) === null) return note("Say first, above the steps, when step 1 begins.");
+  if (from === null || to === null) return note("A time is written as 2026-11-27 19:30.");
   if (to <= from) return note("The pass ends before it begins.");
   if (!forecastOf(now.forecast)) return note("This forecast is edited as a text.");
   const { session, steps, blocks } = withPass(now, { station: given.get("station").trim(), from, to, rate: Number(given.get("rate")) });
@@ -246,7 +248,7 @@ async function begin() {
     note("What was here last is here again, out of this browser.");
   } else if (given) history.open(given);
   // For tests.
-  window.rudlayog = { library, get state() { return { ...history.now, ...answer, chart, table, records, isBusy, passes: passesShown(history.now, records) }; } };
+  window.rudlayog = { library, libraryOf, get state() { return { ...history.now, ...answer, chart, table, records, isBusy, passes: passesShown(history.now, records) }; } };
   document.documentElement.dataset.ready = "yes";
 }
 

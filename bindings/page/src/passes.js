@@ -20,7 +20,7 @@ function layPasses(passes, stores) {
   if (form === shownOf) return;
   shownOf = form;
   const table = at("passes"), names = ["steps", "from (UTC)", "to (UTC)", "station", "window", "sent", "used", "lost without it"];
-  const heads = names.map(it => head(it, { className: it.endsWith("(UTC)") ? "clock" : "" }));
+  const heads = names.map(it => head(it, { className: it.endsWith("(UTC)") ? "clock" : it === "station" ? "name" : "" }));
   table.tHead.replaceChildren(row(...heads, head("", { className: "act" }), ...stores.map(it => head(it, { title: `Blocks that ${it} sends in the pass` }))));
   table.tBodies[0].replaceChildren(...passes.map(({ from, to }) => {
     const steps = from === to ? `${from}` : `${from} to ${to}`, name = input(`station ${from} ${to}`, `Station of the pass in steps ${steps}`, { className: "name", inputMode: "text" });

@@ -3,13 +3,13 @@ import { encode, forecastOf, setupOf, withCells, withNumber, forecastText } from
 
 const MINUTE = 60_000;
 
-// A moment as milliseconds, of a text such as 2026-11-27T13:10; null where it is none.
+// A moment in milliseconds, of a text such as 2026-11-27 13:10, perhaps with a Z; null where it is none.
 export function momentOf(text) {
-  const at = Date.parse(`${text}Z`);
-  return /^\d{4}-\d\d-\d\dT\d\d:\d\d(:\d\d)?$/.test(text) && !Number.isNaN(at) ? at : null;
+  const found = /^(\d{4}-\d\d-\d\d)[T ](\d\d:\d\d(?::\d\d)?)Z?$/.exec(text.trim()), moment = found ? Date.parse(`${found[1]}T${found[2]}Z`) : NaN;
+  return Number.isNaN(moment) ? null : moment;
 }
 
-export const textOf = moment => new Date(moment).toISOString().slice(0, 16);
+export const textOf = moment => new Date(moment).toISOString().slice(0, 16).replace("T", " ");
 
 // When a step begins, in milliseconds; null where no time is set.
 export function beginOf({ begins, minutes }, step) {

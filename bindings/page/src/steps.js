@@ -69,12 +69,15 @@ export function showSteps(session, records, place) {
     write(cells[1], shown(beginOf(session, nth + 1)), "text clock");
     const isPass = record[1] !== "0";
     if (body.rows[nth].classList.contains("pass") !== isPass) body.rows[nth].classList.toggle("pass", isPass);
-    write(cells[3], ...number(told?.dumped, ""));
-    write(cells[4], ...number(told?.lost, "lost"));
+    if (told) {
+      write(cells[3], ...number(told.dumped, ""));
+      write(cells[4], ...number(told.lost, "lost"));
+    }
     for (let column = 1; column < header.length; column++) {
       const cell = cells[column === 1 ? 2 : column + FIXED - 2];
-      if (column > 1 && shows !== "arrived") write(cell, ...number(told?.of.get(header[column])?.[shows], shows === "lost" ? "lost" : ""));
-      else {
+      if (column > 1 && shows !== "arrived") {
+        if (told) write(cell, ...number(told.of.get(header[column])?.[shows], shows === "lost" ? "lost" : ""));
+      } else {
         fill(cell.firstElementChild, record[column]);
         mark(cell.firstElementChild, place?.row === nth + 1 && place.column === column + 1);
       }

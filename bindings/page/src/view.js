@@ -3,7 +3,7 @@ import { difference, digits, refusalOf, sentenceOf } from "./answers.js";
 import { at, cellWith, fill, head, input, make, mark, number, row, write } from "./dom.js";
 import { decode, setupOf } from "./texts.js";
 
-const SUMS = [["arrived", "arrives"], ["dumped", "sent"], ["lost", "lost"], ["held", "held at the end"], ["most", "most held"]];
+const SUMS = [["arrived", "arrives"], ["dumped", "sent"], ["lost", "lost"], ["held", "at the end"], ["most", "most held"]];
 const PLANNED = ["plan", "chart", "table"];
 
 export function showVerdict(session, answer) {

@@ -99,9 +99,10 @@ class Chromium:
             self.take(self.read())
         self.events = [it for it in self.events if it.get("method") != "Page.loadEventFired"]
 
-    def run(self, script: str) -> Any:
-        """The value of an async function's body."""
-        told = self.ask("Runtime.evaluate", expression=f"(async () => {{{script}}})()", awaitPromise=True, returnByValue=True, userGesture=True)
+    def run(self, script: str, limit: int = 0) -> Any:
+        """The value of an async function's body. A limit in milliseconds ends a body that waits for nothing."""
+        more = {"timeout": limit} if limit else {}
+        told = self.ask("Runtime.evaluate", expression=f"(async () => {{{script}}})()", awaitPromise=True, returnByValue=True, userGesture=True, **more)
         if "exceptionDetails" in told:
             raise Fault(json.dumps(told["exceptionDetails"])[:2000])
         return told["result"].get("value")
@@ -235,7 +236,8 @@ Browser = Chromium | Firefox
 def installed() -> dict[str, Callable[..., Browser]]:
     """The browsers that are installed."""
     found: dict[str, Callable[..., Browser]] = {}
-    for name, kind in (("Chromium", Chromium), ("Firefox", Firefox)):
+    kinds: dict[str, type[Chromium] | type[Firefox]] = {"Chromium": Chromium, "Firefox": Firefox}
+    for name, kind in kinds.items():
         program = next((path for it in kind.programs if (path := shutil.which(it))), None)
         if program:
             found[name] = lambda *words, kind=kind, program=program, **more: kind(program, *words, **more)

@@ -8,11 +8,12 @@ from collections.abc import Sequence
 from concurrent.futures import ThreadPoolExecutor
 from typing import Any
 
-from browsers import Browser
+from browsers import Browser, Chromium, Fault
 from cases import Case
 from program import answers
 
 AT_ONCE = 20
+__all__ = ["Fault", "base64_of", "differences", "ready", "refused_in_turn", "wanted_of"]
 READ = "const octetsOf = text => Uint8Array.from(atob(text), it => it.charCodeAt(0)), { library } = window.rudlayog;"
 COMPARE = """
 const written = octets => { let text = ""; for (let at = 0; at < octets.length; at += 32768) text += String.fromCharCode(...octets.subarray(at, at + 32768)); return btoa(text); };
@@ -79,12 +80,14 @@ def wanted_of(cases: Sequence[Case]) -> list[dict[str, bytes | str]]:
         return list(threads.map(answers, cases))
 
 
-def differences(browser: Browser, cases: Sequence[Case], wanted: Sequence[dict[str, bytes | str]]) -> list[str]:
-    """Where the page, which is open and ready, says something else than the program."""
+def differences(browser: Browser, cases: Sequence[Case], wanted: Sequence[dict[str, bytes | str]], limit: int = 0) -> list[str]:
+    """Where the page, which is open and ready, says something else than the program. A limit in milliseconds ends what takes longer, in
+    Chromium."""
     found: list[str] = []
     for start in range(0, len(cases), AT_ONCE):
         given = [[base64_of(text) for text in case[1:]] for case in cases[start : start + AT_ONCE]]
-        said: list[dict[str, Any]] = json.loads(browser.run(f"const CASES = {json.dumps(given)};{READ}{COMPARE}"))
+        script = f"const CASES = {json.dumps(given)};{READ}{COMPARE}"
+        said: list[dict[str, Any]] = json.loads(browser.run(script, limit) if limit and isinstance(browser, Chromium) else browser.run(script))
         for case, page, program in zip(cases[start:], said, wanted[start:]):
             texts = {task: base64.b64decode(it[0]) if isinstance(it, list) else it for task, it in page.items()}
             found += [f"{case[0]}: {task} is another" for task in {**program, **texts} if texts.get(task) != program.get(task)]

@@ -179,12 +179,12 @@ def passes(use: Use, setup: bytes, forecast: bytes) -> None:
     use.expect("a pass cancelled: worth", said["more"] == f"{worth[4]} more than the reference, 26,260", said["more"], worth)
     use.do("press('undo');")
     use.do("const it = cell('station 7 11'); it.value = 'Kiruna'; it.dispatchEvent(new Event('change', { bubbles: true }));")
-    use.do("at('begins').value = '2026-11-27T06:00'; at('begins').dispatchEvent(new Event('input', { bubbles: true }));")
+    use.do("at('begins').value = '2026-11-27 06:00'; at('begins').dispatchEvent(new Event('input', { bubbles: true }));")
     said = use.planned("names and times", setup, forecast)
     use.expect("names and times: the first pass", said["passes"][0][:4] == ["7 to 11", "27 Nov 12:00", "27 Nov 17:00", "Kiruna"], said["passes"][0])
     # 30 minutes of step 14 and 45 of step 15, at 900 blocks an hour.
     use.do(
-        "const form = at('pass'); form.station.value = 'Redu'; form.from.value = '2026-11-27T19:30'; form.to.value = '2026-11-27T20:45'; form.rate.value = '900'; form.requestSubmit();"
+        "const form = at('pass'); form.station.value = 'Redu'; form.from.value = '2026-11-27 19:30'; form.to.value = '2026-11-27 20:45'; form.rate.value = '900'; form.requestSubmit();"
     )
     more = with_cell(with_cell(forecast, 14, 2, "450"), 15, 2, "675")
     said = use.planned("a pass more", setup, more)
@@ -207,7 +207,7 @@ def passes(use: Use, setup: bytes, forecast: bytes) -> None:
     lost = sum(int(row[4]) for row in table if int(row[0]) <= 60)
     total = lost + int(said["line"].split()[1])
     use.expect("the rest: before", said["before"] == f"In the 60 steps before, {lost:,} were lost: {total:,} in all.", said["before"])
-    use.expect("the rest: times", said["passes"][0][1] == "30 Nov 00:00", said["passes"][0])
+    use.expect("the rest: times", said["passes"][0][1] == "30 Nov 12:00", said["passes"][0])
     for _ in range(4):
         use.do("press('undo');")
     use.planned("undone", setup, forecast)
@@ -264,7 +264,7 @@ def reloaded(use: Use, setup: bytes, forecast: bytes) -> None:
     browser = use.browser
     more = with_cell(forecast, 5, 2, "77")
     use.planned("before the reload", setup, forecast)
-    use.do("at('begins').value = '2026-11-27T06:00'; at('begins').dispatchEvent(new Event('input', { bubbles: true })); cell('5 1').focus(); cell('5 1').select();")
+    use.do("at('begins').value = '2026-11-27 06:00'; at('begins').dispatchEvent(new Event('input', { bubbles: true })); cell('5 1').focus(); cell('5 1').select();")
     if isinstance(browser, Chromium):
         for key in ("7", "7"):
             browser.key(key)
@@ -278,7 +278,7 @@ def reloaded(use: Use, setup: bytes, forecast: bytes) -> None:
     if isinstance(browser, Chromium):
         use.expect("a warning before what was typed is left", browser.dialogs() == ["beforeunload"], browser.dialogs())
     use.planned("reloaded", setup, more)
-    use.expect("reloaded: the clock", use.do("return at('begins').value;") == "2026-11-27T06:00")
+    use.expect("reloaded: the clock", use.do("return at('begins').value;") == "2026-11-27 06:00")
     use.drop(("setup.toml", setup), ("forecast.csv", forecast))
 
 
@@ -306,7 +306,7 @@ def keyboard(use: Use, browser: Chromium, setup: bytes, forecast: bytes) -> None
 
 def saved(use: Use, browser: Chromium, setup: bytes, forecast: bytes) -> None:
     """Files that are saved, and one that is opened again."""
-    use.do("at('begins').value = '2026-11-27T06:00'; at('begins').dispatchEvent(new Event('input', { bubbles: true }));")
+    use.do("at('begins').value = '2026-11-27 06:00'; at('begins').dispatchEvent(new Event('input', { bubbles: true }));")
     use.planned("before saving", setup, forecast)
     plan = text("plan", setup, forecast)
     wanted = {"plan.txt": plan, "chart.svg": text("chart", setup, forecast, plan), "table.csv": text("table", setup, forecast, plan), "setup.toml": setup, "forecast.csv": forecast}
@@ -327,7 +327,7 @@ def saved(use: Use, browser: Chromium, setup: bytes, forecast: bytes) -> None:
     use.drop(("setup.toml", (TOP / "examples" / "tight" / "setup.toml").read_bytes()), ("forecast.csv", (TOP / "examples" / "tight" / "forecast.csv").read_bytes()))
     use.drop(("rudlayog.json", whole))
     use.planned("opened again", setup, forecast)
-    use.expect("opened again: the clock", use.do("return at('begins').value;") == "2026-11-27T06:00")
+    use.expect("opened again: the clock", use.do("return at('begins').value;") == "2026-11-27 06:00")
     use.drop(("broken.json", b'{"rudlayog": 2}'))
     use.expect("no session", "no file that this page saved" in use.state()["note"], use.state()["note"])
     use.planned("kept", setup, forecast)
