@@ -148,6 +148,7 @@ async function take(files) {
 
 function open(session, words) {
   if (!history.isSaved && history.canUndo) words += " Undo brings back what was there.";
+  if (!session.setup.length || !session.forecast.length) words += session.setup.length ? " The setup is here; a forecast is wanted too." : " A setup is wanted too.";
   note(words.trim());
   history.open(session);
 }

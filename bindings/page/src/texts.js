@@ -61,15 +61,25 @@ export const setupOf = once(octets => {
   const found = { store: [], route: [], limit: [] };
   let table = null;
   for (const [nth, line] of decode(octets).replace(MARK, "").split("\n").entries()) {
-    const plain = line.replace(/\r$/, "").replace(/^((?:[^"#]|"[^"]*")*)#.*$/, "$1").trim();
+    const plain = line.replace(/\r$/, "").replace(/^((?:[^"#]|"(?:[^"\\]|\\.)*")*)#.*$/, "$1").trim();
     if (!plain) continue;
-    const head = /^\[\[(store|route|limit)\]\]$/.exec(plain), pair = /^([a-z]+)\s*=\s*(?:"([^"\\]*)"|([^"'[{]*))$/.exec(plain);
+    const head = /^\[\[(store|route|limit)\]\]$/.exec(plain), pair = /^([a-z]+)\s*=\s*("(?:[^"\\]|\\.)*"|[^"'[{]*)$/.exec(plain);
     if (head) found[head[1]].push((table = { line: nth, lines: {}, keys: {} }));
-    else if (pair && table) Object.assign((table.lines[pair[1]] = nth, table.keys), { [pair[1]]: pair[2] ?? pair[3] });
-    else return null;
+    else if (pair && table) {
+      table.lines[pair[1]] = nth;
+      table.keys[pair[1]] = unquoted(pair[2]);
+    } else return null;
   }
   return found.store.length && found.store.every(({ keys }) => keys.id && keys.size !== undefined) ? found : null;
 });
+
+function unquoted(value) {
+  try {
+    return value.startsWith('"') ? JSON.parse(value) : value;
+  } catch {
+    return value;
+  }
+}
 
 // The text of a setup with another number. A `start` that is not there comes after the size.
 export function withNumber(octets, array, nth, key, value) {
@@ -79,7 +89,7 @@ export function withNumber(octets, array, nth, key, value) {
   if (table.lines[key] === undefined) {
     const end = lines[table.lines.size].endsWith("\r") ? "\r" : "";
     lines.splice(table.lines.size + 1, 0, `${key} = ${written}${end}`);
-  } else lines[table.lines[key]] = lines[table.lines[key]].replace(/=[^#\r]*?(\s*(?:#.*)?\r?)$/, (_, rest) => `= ${written}${rest}`);
+  } else lines[table.lines[key]] = lines[table.lines[key]].replace(/=\s*?(?:"(?:[^"\\]|\\.)*"|[^"#\r]*?)(\s*(?:#.*)?\r?)$/, (_, rest) => `= ${written}${rest}`);
   return encode(lines.join("\n"));
 }
 
