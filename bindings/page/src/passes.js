@@ -34,6 +34,7 @@ export function showPasses(library, session, answer, records) {
   const passes = passesShown(session, records), stores = records ? [...records.stores.keys()] : [], body = at("passes").tBodies[0];
   turn++;
   at("passes").hidden = !passes.length;
+  at("passes").dataset.worth = "";
   layPasses(passes, stores);
   passes.forEach((pass, nth) => {
     const { cells } = body.rows[nth];
@@ -64,6 +65,5 @@ function tellWorth(library, session, answer, passes, ofTurn) {
     if (nth < passes.length) setTimeout(next, 0, nth);
     else at("passes").dataset.worth = "known";
   };
-  at("passes").dataset.worth = "";
   next(0);
 }

@@ -4,6 +4,9 @@ import { beginOf, shown } from "./planning.js";
 import { forecastOf } from "./texts.js";
 
 const FIXED = 5;
+// After the stores a forecast may have limits by step, which are edited whatever the stores' columns show.
+const isLimit = name => name.startsWith("limit:");
+const isEdited = name => shows === "arrived" || isLimit(name);
 let laid = "", held = { row: 0, column: 1 };
 export let shows = "arrived";
 
@@ -16,7 +19,8 @@ function laySteps(header, count) {
   const body = [];
   for (let step = 1; step <= count; step++) {
     const window = input(`${step} 1`, `Window of step ${step}, in blocks`, { className: "window" });
-    const cells = stores.map((id, nth) => (shows === "arrived" ? cellWith(input(`${step} ${nth + 2}`, `Blocks that arrive in ${id} in step ${step}`)) : make("td")));
+    const label = id => (isLimit(id) ? `Limit of channel ${id.slice(6)} in step ${step}, in blocks` : `Blocks that arrive in ${id} in step ${step}`);
+    const cells = stores.map((id, nth) => (isEdited(id) ? cellWith(input(`${step} ${nth + 2}`, label(id))) : make("td")));
     body.push(row(make("th", String(step), { scope: "row" }), make("td"), cellWith(window), make("td"), make("td"), ...cells));
   }
   grid.tBodies[0].replaceChildren(...body);
@@ -75,7 +79,7 @@ export function showSteps(session, records, place) {
     }
     for (let column = 1; column < header.length; column++) {
       const cell = cells[column === 1 ? 2 : column + FIXED - 2];
-      if (column > 1 && shows !== "arrived") {
+      if (column > 1 && !isEdited(header[column])) {
         if (told) write(cell, ...number(told.of.get(header[column])?.[shows], shows === "lost" ? "lost" : ""));
       } else {
         fill(cell.firstElementChild, record[column]);

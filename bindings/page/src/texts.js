@@ -1,5 +1,7 @@
 // The texts of the library, read for what is shown and edited. What is planned is the texts alone: nothing here decides what they mean.
 const MARK = "\uFEFF";
+// The value of a key in a line of a setup, and what comes after it: a comment, and the CR of a line that ends with CR LF.
+const VALUE = /=\s*?(?:"(?:[^"\\]|\\.)*"|[^"#\r]*?)\s*?((?:[ \t]+#.*)?\r?)$/;
 
 // Octets that are no UTF-8 are shown as they can be, and stay as they are until their text is edited.
 export const decode = octets => new TextDecoder("utf-8", { ignoreBOM: true }).decode(octets);
@@ -89,7 +91,7 @@ export function withNumber(octets, array, nth, key, value) {
   if (table.lines[key] === undefined) {
     const end = lines[table.lines.size].endsWith("\r") ? "\r" : "";
     lines.splice(table.lines.size + 1, 0, `${key} = ${written}${end}`);
-  } else lines[table.lines[key]] = lines[table.lines[key]].replace(/=\s*?(?:"(?:[^"\\]|\\.)*"|[^"#\r]*?)(\s*(?:#.*)?\r?)$/, (_, rest) => `= ${written}${rest}`);
+  } else lines[table.lines[key]] = lines[table.lines[key]].replace(VALUE, (_, rest) => `= ${written}${rest.replace(/^\s+#/, " #")}`);
   return encode(lines.join("\n"));
 }
 
@@ -127,7 +129,7 @@ export function placeOf({ number, row, column, words, hint }, setup, forecast) {
   const name = / name (\w+):/.exec(words)?.[1], table = /\btable (\d+) of (\w+)/.exec(hint), line = /\bline (\d+)\b/.exec(hint)?.[1];
   if (number === 31) return { row, column };
   if (number === 32) return { row, column: 1 };
-  if (name === "window" || name === "arrivals") return firstAbove(forecastOf(forecast));
+  if (["window", "arrivals", "limit"].includes(name)) return firstAbove(forecastOf(forecast));
   if ((number === 28 || number === 33) && table) return { array: table[2], nth: table[1] - 1, key: name };
   return number === 27 && line ? keyOn(setupOf(setup), line - 1) : null;
 }

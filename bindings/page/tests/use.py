@@ -28,6 +28,7 @@ const press = id => at(id).click();
 """
 STATE = """
 await settle();
+await at("chart").decode().catch(() => {});
 const { state } = rudlayog, octets = it => (it ? written(it) : null);
 return JSON.stringify({ said: at("said").textContent, line: at("line").textContent, more: at("more").textContent, expected: at("expected").textContent, before: at("before").textContent,
   note: at("note").textContent, box: at("verdict").className, isJudged: !at("judging").hidden, isDrawn: at("chart").complete && at("chart").naturalWidth > 0, alt: at("chart").alt,
@@ -169,7 +170,7 @@ def edits(use: Use, setup: bytes, forecast: bytes) -> None:
 
 def passes(use: Use, setup: bytes, forecast: bytes) -> None:
     """What a pass is worth, one that is cancelled, one more, names, times, and the rest from a step on."""
-    use.do("for (let turn = 0; turn < 900 && at('passes').dataset.worth !== 'known'; turn++) await wait(20);")
+    use.do("await settle(); for (let turn = 0; turn < 900 && at('passes').dataset.worth !== 'known'; turn++) await wait(20);")
     worth = [cells[7] for cells in use.state()["passes"]]
     use.do("document.querySelectorAll('[data-act]')[4].click();")
     lacking = forecast
