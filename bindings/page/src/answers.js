@@ -1,7 +1,5 @@
 // What the library answers to a session, and what it says in a sentence.
-import { NOTHING, decode, placeOf, recordsOf } from "./texts.js";
-
-export const digits = number => number.toLocaleString("en");
+import { NOTHING, decode, digits, placeOf, recordsOf } from "./texts.js";
 
 // The plan, which is made or was given, and the verdict on it.
 export function judge(library, { setup, forecast, given }) {

@@ -1,4 +1,6 @@
 // The document: its elements, and writing to them only where something differs.
+import { digits } from "./texts.js";
+
 export const at = id => document.getElementById(id);
 
 export function make(tag, text = "", more = {}) {
@@ -17,8 +19,8 @@ export function row(...cells) {
   return made;
 }
 
-// A table writes to cells that it remembers, since reading the document costs more than comparing texts.
-const lastWritten = new WeakMap();
+// What stands in the document is remembered, since reading it there takes much longer than comparing texts.
+const lastWritten = new WeakMap(), lastMarked = new WeakSet();
 
 export function write(element, text, name = "") {
   const is = `${name}\n${text}`;
@@ -29,16 +31,22 @@ export function write(element, text, name = "") {
 }
 
 export function fill(input, text) {
-  if (input.value !== text) input.value = text;
+  if (lastWritten.get(input) === text) return;
+  lastWritten.set(input, text);
+  input.value = text;
 }
 
+// What was typed stands there already.
+export const notice = input => lastWritten.set(input, input.value);
+
 export function mark(input, isBad) {
-  if (isBad === (input.getAttribute("aria-invalid") === "true")) return;
+  if (isBad === lastMarked.has(input)) return;
+  lastMarked[isBad ? "add" : "delete"](input);
   if (isBad) input.setAttribute("aria-invalid", "true");
   else input.removeAttribute("aria-invalid");
 }
 
-export const number = (value, name) => [value === undefined ? "" : value.toLocaleString("en"), `is ${value ? name : "none"}`.trim()];
+export const number = (value, name) => [value === undefined ? "" : digits(value), `is ${value ? name : "none"}`.trim()];
 
 // An input of a cell, which says by `data-cell` what it changes.
 export function input(cell, label, more = {}) {

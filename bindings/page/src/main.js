@@ -1,12 +1,12 @@
 // The page: what is opened, changed, saved and kept; and in which order what is shown follows a change.
 import { chartOf, judgeSafely, tableOf } from "./answers.js";
-import { at, fill, make, mark } from "./dom.js";
+import { at, fill, make, mark, notice } from "./dom.js";
 import { libraryOf } from "./library.js";
 import { passesShown, showPasses } from "./passes.js";
 import { momentOf, restOf, withPass, withoutPass } from "./planning.js";
 import { TEXTS, fromJson, historyOf, keeperOf, toJson } from "./session.js";
 import { goTo, hold, moveBy, show, showSteps } from "./steps.js";
-import { NOTHING, decode, encode, forecastOf, kindOf, setupOf, withCells, withNumber } from "./texts.js";
+import { NOTHING, decode, digits, encode, forecastOf, kindOf, setupOf, withCells, withNumber } from "./texts.js";
 import { showChart, showStores, showTexts, showVerdict, stepOnChart } from "./view.js";
 
 const SAVED = {
@@ -16,7 +16,7 @@ const SAVED = {
 const json = id => JSON.parse(at(id).textContent);
 const note = words => { at("note").textContent = words; };
 
-let library = null, answer = {}, records = null, table = null, chart = null, place = null, due = 0, isBusy = false;
+let library = null, answer = {}, records = null, table = null, chart = null, place = null, due = 0, isBusy = false, taken = 0;
 const history = historyOf(changed), isGiven = json("session") !== null;
 const keeper = keeperOf(() => (isGiven ? sessionStorage : localStorage), `rudlayog ${location.pathname}`);
 
@@ -116,7 +116,7 @@ function addPass(form) {
   const { session, steps, blocks } = withPass(now, { station: given.get("station").trim(), from, to, rate: Number(given.get("rate")) });
   if (!steps) return note("The pass lies outside the steps.");
   history.change(session);
-  return note(`The pass has ${blocks.toLocaleString("en")} blocks in ${steps} ${steps === 1 ? "step" : "steps"}.`);
+  return note(`The pass has ${digits(blocks)} blocks in ${steps} ${steps === 1 ? "step" : "steps"}.`);
 }
 
 function planRest(step) {
@@ -169,6 +169,7 @@ function save(which) {
 function listen() {
   document.addEventListener("input", ({ target: it }) => {
     note("");
+    notice(it);
     if (TEXTS.includes(it.id)) history.change({ [it.id]: encode(it.value) }, it.id);
     else if (it.id === "begins") history.change({ begins: it.value }, it.id);
     else if (it.id === "minutes" && Number(it.value) > 0) history.change({ minutes: Number(it.value) }, it.id);
@@ -223,7 +224,7 @@ function listen() {
     document.addEventListener(name, event => {
       event.preventDefault();
       document.body.classList.toggle("over", name === "dragover");
-      if (name === "drop" && event.dataTransfer.files.length) take(event.dataTransfer.files);
+      if (name === "drop" && event.dataTransfer.files.length) take(event.dataTransfer.files).finally(() => taken++);
     });
   window.addEventListener("beforeunload", event => {
     const isKept = keeper.now(history.now);
@@ -249,7 +250,7 @@ async function begin() {
     note("What was here last is here again, out of this browser.");
   } else if (given) history.open(given);
   // For tests.
-  window.rudlayog = { library, libraryOf, get state() { return { ...history.now, ...answer, chart, table, records, isBusy, passes: passesShown(history.now, records) }; } };
+  window.rudlayog = { library, libraryOf, get state() { return { ...history.now, ...answer, chart, table, records, isBusy, taken, passes: passesShown(history.now, records) }; } };
   document.documentElement.dataset.ready = "yes";
 }
 

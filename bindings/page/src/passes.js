@@ -1,6 +1,6 @@
 // The passes: what each sends, of which store, and what is lost without it.
 import { leastLoss } from "./answers.js";
-import { at, cellWith, head, input, make, number, row, write } from "./dom.js";
+import { at, cellWith, fill, head, input, make, number, row, write } from "./dom.js";
 import { beginOf, passesOf, shown, withoutPass } from "./planning.js";
 import { forecastOf } from "./texts.js";
 
@@ -40,7 +40,7 @@ export function showPasses(library, session, answer, records) {
     const { cells } = body.rows[nth];
     write(cells[1], shown(beginOf(session, pass.from)), "text clock");
     write(cells[2], shown(beginOf(session, pass.to + 1)), "text clock");
-    if (cells[3].firstElementChild.value !== pass.station) cells[3].firstElementChild.value = pass.station;
+    fill(cells[3].firstElementChild, pass.station);
     write(cells[4], ...number(pass.window, ""));
     write(cells[5], ...number(pass.sent, ""));
     write(cells[6], `${Math.round((100 * pass.sent) / pass.window)} %`, "is");

@@ -8,6 +8,9 @@ export const decode = octets => new TextDecoder("utf-8", { ignoreBOM: true }).de
 export const encode = text => new TextEncoder().encode(text);
 export const NOTHING = new Uint8Array();
 
+const GROUPED = new Intl.NumberFormat("en");
+export const digits = number => GROUPED.format(number);
+
 const remembered = new WeakMap();
 
 // What a function reads of a text, read once.

@@ -1,7 +1,7 @@
 // What the page shows of a session and of what the library answers: verdict, chart, stores and texts.
-import { difference, digits, refusalOf, sentenceOf } from "./answers.js";
+import { difference, refusalOf, sentenceOf } from "./answers.js";
 import { at, cellWith, fill, head, input, make, mark, number, row, write } from "./dom.js";
-import { decode, setupOf } from "./texts.js";
+import { decode, digits, setupOf } from "./texts.js";
 
 const SUMS = [["arrived", "arrives"], ["dumped", "sent"], ["lost", "lost"], ["held", "at the end"], ["most", "most held"]];
 const PLANNED = ["plan", "chart", "table"];

@@ -81,8 +81,8 @@ class Use:
         """Drops files on the page."""
         given = json.dumps([[name, base64_of(octets)] for name, octets in files])
         self.do(
-            f"const data = new DataTransfer(); for (const [name, text] of {given}) data.items.add(new File([Uint8Array.from(atob(text), it => it.charCodeAt(0))], name));"
-            "document.body.dispatchEvent(new DragEvent('drop', { dataTransfer: data, bubbles: true, cancelable: true })); await wait(50);"
+            f"const {{ taken }} = rudlayog.state, data = new DataTransfer(); for (const [name, text] of {given}) data.items.add(new File([Uint8Array.from(atob(text), it => it.charCodeAt(0))], name));"
+            "document.body.dispatchEvent(new DragEvent('drop', { dataTransfer: data, bubbles: true, cancelable: true })); while (rudlayog.state.taken === taken) await wait(10);"
         )
 
     def type(self, cell: str, value: str) -> None:
