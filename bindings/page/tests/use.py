@@ -28,7 +28,7 @@ const press = id => at(id).click();
 """
 STATE = """
 await settle();
-await at("chart").decode().catch(() => {});
+for (let turn = 0; turn < 300 && !(at("chart").complete && at("chart").naturalWidth > 0); turn++) await wait(10);
 const { state } = rudlayog, octets = it => (it ? written(it) : null);
 return JSON.stringify({ said: at("said").textContent, line: at("line").textContent, more: at("more").textContent, expected: at("expected").textContent, before: at("before").textContent,
   note: at("note").textContent, box: at("verdict").className, isJudged: !at("judging").hidden, isDrawn: at("chart").complete && at("chart").naturalWidth > 0, alt: at("chart").alt,
