@@ -4,8 +4,9 @@ from __future__ import annotations
 
 from collections.abc import Callable
 from dataclasses import dataclass
+from datetime import timedelta
 from functools import cached_property
-from typing import Any, SupportsIndex, TypeVar, Union
+from typing import TYPE_CHECKING, Any, SupportsIndex, TypeVar, Union
 
 from . import _library
 from ._data import STEP, Columns, Table, Text, is_text, octets, packet_octets, whole
@@ -13,6 +14,10 @@ from ._steps import by_step
 from .forecasts import Forecast
 from .refusals import Refusal
 from .setups import setup_with
+
+if TYPE_CHECKING:
+    from .mission import Mission
+    from .sheets import Sheet
 
 Made = TypeVar("Made")
 
@@ -143,6 +148,18 @@ class Plan:
     def to_frame(self, make: Callable[[dict[str, list[int]]], Made]) -> Made:
         """The steps and the dumps as a data frame, made by `make`, as `pandas.DataFrame`."""
         return make(self.to_dict())
+
+    def passes(self, mission: Mission, step: timedelta | float | None = None) -> Sheet:
+        """The sheet for operations: what each pass of the mission sends, where this plan is one for its problem, with steps from event to
+        event or of this length."""
+        from .calls import check
+        from .sheets import MissionPlan
+
+        problem = mission.problem(step)
+        verdict = check(problem.setup, problem.forecast, self)
+        if verdict.kind == "does not fit":
+            raise ValueError(f"the plan is none for this mission: {verdict.line}")
+        return MissionPlan(mission, ((problem, self),)).passes()
 
     def _repr_svg_(self) -> str | None:
         if self._problem is None:

@@ -1,0 +1,229 @@
+"""Missions in TOML, CSV and data frames; each fault has its file and line, or its row."""
+
+from __future__ import annotations
+
+import csv
+import io
+import os
+import re
+import tomllib
+from collections.abc import Callable, Iterable, Mapping
+from dataclasses import fields
+from functools import partial
+from pathlib import Path
+from typing import Any, TypeVar
+
+from ._data import is_text, rows
+from ._units import Fault, MissionError, fault
+from .mission import Mission, Observation, PacketStore, Pass, Station
+from .setups import Route
+
+Part = TypeVar("Part", PacketStore, Station, Pass, Observation)
+
+# The tables of a mission by their keys in a file, with the fields of a mission and what their rows are.
+TABLES: dict[str, tuple[str, type[Any]]] = {
+    "store": ("stores", PacketStore),
+    "station": ("stations", Station),
+    "pass": ("passes", Pass),
+    "observation": ("observations", Observation),
+}
+PLAIN = ("name", "begin", "end", "packet", "block", "overlap")
+# Keys of parts that stand for words of Python, and columns `channel:C` for the rates of channels.
+CHANNEL = re.compile(r"channel:([0-7])\Z")
+
+
+def mission_in(path: str | os.PathLike[str]) -> Mission:
+    """The mission that a TOML file says."""
+    file = Path(path)
+    try:
+        text = file.read_bytes().decode("utf-8-sig")
+        given = tomllib.loads(text)
+    except OSError as error:
+        raise fault(str(file), error.strerror or "no file", "a file that can be read") from error
+    except UnicodeDecodeError as error:
+        raise fault(str(file), "octets that are no UTF-8", "a TOML document in UTF-8") from error
+    except tomllib.TOMLDecodeError as error:
+        raise fault(str(file), str(error), "a TOML document (toml.io)") from error
+    places = _Places(file, text)
+    faults: list[Fault] = []
+    for key in given:
+        if key not in (*PLAIN, *TABLES, "route", *(plural for plural, _ in TABLES.values())):
+            faults.append(Fault(places.key(key), f"the key {key}", f"one of {', '.join((*PLAIN, *TABLES))}, or the name of a CSV file as stores, stations, passes or observations"))
+    parts: dict[str, list[Any]] = {}
+    for key, (plural, kind) in TABLES.items():
+        found = given.get(key, [])
+        if not isinstance(found, list) or not all(isinstance(row, dict) for row in found):
+            faults.append(Fault(places.key(key), f"{key} = {found!r}", f"tables, each below [[{key}]]"))
+            found = []
+        placed = [(places.row(key, number), row) for number, row in enumerate(found, 1)]
+        parts[plural] = list(_parts(kind, placed, faults, partial(places.inside, key)))
+        if plural in given:
+            parts[plural] += _named_file(kind, file.parent, given[plural], places.key(plural), faults)
+    routes = tuple(_routes(given.get("route", []), places, faults))
+    plain = {key: given[key] for key in PLAIN if key in given}
+    return _made({**parts, **plain, "routes": routes}, faults, str(file))
+
+
+def mission_of(**given: Any) -> Mission:
+    """The mission of tables."""
+    faults: list[Fault] = []
+    made = dict(given)
+    for plural, kind in TABLES.values():
+        table = given.get(plural, ())
+        if is_text(table):
+            made[plural] = _csv_parts(kind, Path(os.fspath(table)), faults)
+        else:
+            listed = [*table] if isinstance(table, Iterable) and not isinstance(table, Mapping) and not hasattr(table, "columns") else rows(table)
+            placed = [(f"row {number} of {plural}", row) for number, row in enumerate(listed, 1)]
+            made[plural] = list(_parts(kind, placed, faults, lambda place, name: f"{place}, {name}"))
+    return _made(made, faults, "the mission")
+
+
+def _made(fields: dict[str, Any], faults: list[Fault], place: str) -> Mission:
+    """The mission of these parts. What is wrong with all of it is told after the faults of its parts."""
+    try:
+        made = Mission(**fields, place=place)
+    except MissionError as error:
+        # a part that is left out for its fault makes others seem wrong
+        raise MissionError([*faults, *(error.faults if not faults else ())]) from None
+    if faults:
+        raise MissionError(faults)
+    return made
+
+
+def _named_file(kind: type[Part], folder: Path, given: Any, place: str, faults: list[Fault]) -> list[Part]:
+    if not isinstance(given, str):
+        faults.append(Fault(place, repr(given), "the name of a CSV file"))
+        return []
+    return _csv_parts(kind, folder / given, faults)
+
+
+def _csv_parts(kind: type[Part], path: Path, faults: list[Fault]) -> list[Part]:
+    """The parts that a CSV file has, a row for each."""
+    try:
+        text = path.read_bytes().decode("utf-8-sig")
+    except (OSError, UnicodeDecodeError) as error:
+        faults.append(Fault(str(path), getattr(error, "strerror", None) or "octets that are no UTF-8", "a CSV file in UTF-8 that can be read"))
+        return []
+    reader = csv.reader(io.StringIO(text, newline=""))
+    header = [name.strip() for name in next(reader, [])]
+    placed: list[tuple[str, dict[str, Any]]] = []
+    for cells in reader:
+        place = f"{path}, line {reader.line_num}"
+        if not any(cell.strip() for cell in cells):
+            continue
+        if len(cells) != len(header):
+            faults.append(Fault(place, f"{len(cells)} cells", f"{len(header)}, as in the header {','.join(header)}"))
+            continue
+        placed.append((place, {name: cell.strip() for name, cell in zip(header, cells) if cell.strip()}))
+    if not header:
+        faults.append(Fault(str(path), "no header", f"a header with the columns {', '.join(_columns(kind))}"))
+    return list(_parts(kind, placed, faults, lambda place, name: f"{place}, column {name}"))
+
+
+def _columns(kind: type[Any]) -> list[str]:
+    return [field.name for field in fields(kind) if field.name != "place"]
+
+
+def _parts(kind: type[Part], placed: list[tuple[str, Any]], faults: list[Fault], inside: Callable[[str, str], str]) -> Iterable[Part]:
+    """The parts of these rows that are right; the faults of the others are added."""
+    for place, row in placed:
+        if isinstance(row, kind):
+            yield row
+            continue
+        if not isinstance(row, Mapping):
+            faults.append(Fault(place, repr(row), f"a {kind.__name__} or its fields"))
+            continue
+        try:
+            yield _part(kind, {str(key): value for key, value in row.items()}, place, inside)
+        except MissionError as error:
+            faults += error.faults
+
+
+def _part(kind: type[Part], row: dict[str, Any], place: str, inside: Callable[[str, str], str]) -> Part:
+    """One part of its fields."""
+    known, found = _columns(kind), {key: value for key, value in row.items() if not _is_missing(value)}
+    rates = {match[1]: found.pop(key) for key in list(found) if (match := CHANNEL.match(key)) and "channels" in known}
+    strange = [key for key in found if key not in known]
+    if strange:
+        raise fault(inside(place, strange[0]), f"the key {strange[0]}", f"one of {', '.join(known)}")
+    needed = {"PacketStore": ("id", "size"), "Station": ("name",), "Pass": ("station", "begin", "end"), "Observation": ("store", "begin", "end")}
+    for name in needed[kind.__name__]:
+        if name not in found:
+            raise fault(place, f"no {name}", f"{name}, beside {', '.join(key for key in known if key != name)}")
+    for name in ("id", "type", "name", "station", "store"):
+        if name in found and not isinstance(found[name], str):
+            raise fault(inside(place, name), repr(found[name]), "a text in quotes")
+    for name in ("channel", "packet"):
+        if name in found:
+            found[name] = _whole(found[name], inside(place, name))
+    if rates:
+        found["channels"] = {**found.get("channels", {}), **rates}
+    try:
+        return kind(**found, place=place)
+    except MissionError as error:
+        raise MissionError(_placed(each, place, inside) for each in error.faults) from None
+
+
+def _placed(each: Fault, place: str, inside: Callable[[str, str], str]) -> Fault:
+    """The fault with the place of its key."""
+    name = each.place.removeprefix(f"{place}, ").split(",")[0]
+    return Fault(inside(place, name), each.found, each.meant) if each.place != place else each
+
+
+def _whole(given: Any, place: str) -> int:
+    try:
+        value = int(str(given))
+    except ValueError:
+        raise fault(place, repr(given), "a whole number") from None
+    return value
+
+
+def _is_missing(value: Any) -> bool:
+    """Whether a data frame has nothing here: None, or what is not itself, as nan."""
+    return value is None or (not isinstance(value, (str, Mapping)) and bool(value != value))
+
+
+def _routes(given: Any, places: _Places, faults: list[Fault]) -> Iterable[Route]:
+    for number, row in enumerate(given if isinstance(given, list) else [given], 1):
+        try:
+            yield Route(**row)
+        except TypeError:
+            faults.append(Fault(places.row("route", number), repr(row), "apid, service, subtype and store"))
+
+
+class _Places:
+    """Where the tables and keys of a TOML text stand."""
+
+    def __init__(self, file: Path, text: str) -> None:
+        self._file = file
+        self._keys: dict[tuple[str, int, str], int] = {}
+        self._rows: dict[str, list[int]] = {}
+        table, number = "", 0
+        for line, words in enumerate(text.splitlines(), 1):
+            head = re.match(r"\s*\[\[\s*([\w-]+)\s*\]\]", words)
+            key = re.match(r"\s*\"?([\w-]+)\"?\s*(?:\.|=)", words)
+            if head:
+                table = head[1]
+                self._rows.setdefault(table, []).append(line)
+                number = len(self._rows[table])
+            elif key:
+                self._keys.setdefault((table, number, key[1]), line)
+
+    def row(self, table: str, number: int) -> str:
+        """The place of a table of an array."""
+        lines = self._rows.get(table, [])
+        return f"{self._file}, line {lines[number - 1]}" if number <= len(lines) else f"{self._file}, {table} {number}"
+
+    def key(self, key: str) -> str:
+        """The place of a key at the top."""
+        line = self._keys.get(("", 0, key)) or next(iter(self._rows.get(key, [])), None)
+        return f"{self._file}, line {line}, {key}" if line else f"{self._file}, {key}"
+
+    def inside(self, table: str, place: str, key: str) -> str:
+        """The place of a key of the table that has this place."""
+        for number, line in enumerate(self._rows.get(table, []), 1):
+            if place == f"{self._file}, line {line}":
+                at = self._keys.get((table, number, key))
+                return f"{self._file}, line {at}, {key}" if at else f"{place}, {key}"
+        return f"{place}, {key}"

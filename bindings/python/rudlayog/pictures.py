@@ -1,0 +1,227 @@
+"""Pictures: the program's chart with UTC on its axis, and what a study found, by matplotlib where it is installed and as SVG elsewhere."""
+
+from __future__ import annotations
+
+import io
+import os
+import re
+from collections.abc import Sequence
+from datetime import datetime, timedelta
+from html import escape
+from pathlib import Path
+from typing import TYPE_CHECKING, Any
+
+from .calls import chart
+
+if TYPE_CHECKING:
+    from ._timeline import Problem
+    from .plans import Plan
+    from .study import Answer, Study
+
+# How many bars a picture has at most.
+MOST_BARS = 40
+
+# Where the steps begin and end in the program's chart, in its units, and where their numbers stand.
+LEFT, RIGHT, NUMBERS = 180, 900, 96
+_AXIS = re.compile(r"<text class='k' x='[\d.]+' y='96'>\d+</text>\n<path class='i' d='M[\d.]+ (\d+)V(\d+)'/>\n")
+_PATH = re.compile(r"(?<= d=')[^']*(?=')")
+_ACROSS = re.compile(r"([MH])(-?[\d.]+)")
+
+
+def chart_of(problem: Problem, made: Plan) -> str:
+    """The program's chart of a plan, whose axis is the time: steps are as wide as they are long, and UTC stands where passes begin."""
+    drawn = chart(problem.setup, problem.forecast, made).svg
+    edges, span = problem.edges, problem.edges[-1] - problem.edges[0]
+    # the edges of the steps, where the program has drawn them and where they belong
+    wide = [LEFT + (RIGHT - LEFT) * (edge - edges[0]) / span for edge in edges]
+
+    def across(found: re.Match[str]) -> str:
+        place = (float(found[2]) - LEFT) * len(problem) / (RIGHT - LEFT)
+        step = min(max(int(place), 0), len(problem) - 1)
+        return f"{found[1]}{wide[step] + (place - step) * (wide[step + 1] - wide[step]):.2f}".rstrip("0").rstrip(".")
+
+    def along(found: re.Match[str]) -> str:
+        return _ACROSS.sub(across, found[0])
+
+    tops = _AXIS.search(drawn)
+    if tops is None:
+        return drawn
+    head, tail = drawn[: tops.start()], _AXIS.sub("", drawn[tops.start() :])
+    lines = [_PATH.sub(along, line) if line.startswith("<path") else line for line in tail.split("\n")]
+    axis = _utc_axis(problem.times, tops[1], tops[2])
+    head = head.replace(f"<text class='s' x='172' y='{NUMBERS}'>step</text>", f"<text class='s' x='172' y='{NUMBERS}'>UTC</text>")
+    return head + axis + _with_times("\n".join(lines), problem)
+
+
+def _utc_axis(times: Sequence[datetime], top: str, bottom: str) -> str:
+    """The ticks of an axis in UTC: whole hours or days, about ten of them."""
+    begin, span = times[0], times[-1] - times[0]
+    found = []
+    day = ""
+    for moment in _ticks(begin, times[-1]):
+        x = LEFT + (RIGHT - LEFT) * ((moment - begin) / span)
+        # the day stands at the first tick of it
+        words = f"{moment:%H:%M}" if f"{moment:%m-%d}" == day else f"{moment:%m-%d %H:%M}" if span < timedelta(days=3) else f"{moment:%m-%d}"
+        day = f"{moment:%m-%d}"
+        found.append(f"<text class='k' x='{x:.1f}' y='{NUMBERS}'>{words}</text>\n<path class='i' d='M{x:.1f} {top}V{bottom}'/>\n")
+    return "".join(found)
+
+
+def _ticks(begin: datetime, end: datetime) -> list[datetime]:
+    """Moments from begin to end, of which a whole hour, some hours or days lie between two."""
+    hours = next((hours for hours in (1, 2, 3, 6, 12, 24, 48, 96, 168) if (end - begin) / timedelta(hours=hours) <= 9), 336)
+    first = begin.replace(hour=0, minute=0, second=0, microsecond=0)
+    count = int((end - first) / timedelta(hours=hours)) + 1
+    return [moment for moment in (first + timedelta(hours=hours * number) for number in range(count)) if begin <= moment <= end]
+
+
+def _with_times(text: str, problem: Problem) -> str:
+    """The words of a chart, with the time after each range of steps."""
+
+    def timed(found: re.Match[str]) -> str:
+        first, last = int(found[2]), int(found[3] or found[2])
+        if not 1 <= first <= last <= len(problem):
+            return found[0]
+        return f"{found[0]} ({problem.times[first - 1]:%m-%d %H:%M} to {problem.times[last]:%m-%d %H:%M})"
+
+    lines = text.split("\n")
+    return "\n".join(re.sub(r"(\b)(\d+)(?:&#8211;(\d+))?(?=[,.])", timed, line) if "In step" in line and "wider window" in line else line for line in lines)
+
+
+class Picture:
+    """A picture: `svg` is a document of SVG. With matplotlib `figure` is its figure."""
+
+    def __init__(self, svg: str, figure: Any = None) -> None:
+        self.svg = svg
+        self.figure = figure
+
+    def _repr_svg_(self) -> str:
+        return self.svg
+
+    def save(self, path: str | os.PathLike[str]) -> None:
+        """Writes the picture into a file: as SVG, or with matplotlib as its name says."""
+        if self.figure is not None:
+            self.figure.savefig(path)
+        elif Path(path).suffix == ".svg":
+            Path(path).write_text(self.svg, encoding="utf-8", newline="")
+        else:
+            raise ValueError(f"{os.fspath(path)}: without matplotlib there is SVG alone")
+
+
+def picture_of(study: Study, parameters: Sequence[str] = (), matplotlib: bool | None = None) -> Picture:
+    """The picture of a study: by matplotlib where it is installed, unless `matplotlib` says otherwise."""
+    answers = [answer for answer in study if answer.loss is not None]
+    for name in parameters:
+        if not any(name in answer.parameters for answer in answers):
+            known = sorted({name for answer in answers for name in answer.parameters})
+            raise ValueError(f"no variant has the parameter {name}" + (f"; there are {', '.join(known)}" if known else ""))
+    answers = [answer for answer in answers if all(name in answer.parameters for name in parameters)]
+    if len(parameters) > 2:
+        raise ValueError("a picture has one or two parameters")
+    if matplotlib is not False:
+        try:
+            from matplotlib.figure import Figure  # type: ignore[import]
+        except ImportError:
+            if matplotlib:
+                raise
+        else:
+            return _by_matplotlib(Figure(figsize=(10, 4 + 0.15 * min(len(answers), 40) * (not parameters)), layout="constrained"), study, answers, parameters)
+    if len(parameters) == 2:
+        return Picture(_map_svg(answers, parameters))
+    return Picture(_bars_svg(study, _sorted(answers, parameters), parameters))
+
+
+def _sorted(answers: list[Answer], parameters: Sequence[str]) -> list[Answer]:
+    """The answers by the parameter, or the greatest loss first."""
+    if not parameters:
+        return sorted(answers, key=lambda answer: -(answer.loss or 0))
+    values = [answer.parameters[parameters[0]] for answer in answers]
+    try:
+        return [answer for _, _, answer in sorted(zip(values, range(len(values)), answers), key=lambda entry: entry[:2])]
+    except TypeError:
+        return answers
+
+
+def _axes_of(answers: list[Answer], parameters: Sequence[str]) -> tuple[list[Any], list[Any], dict[tuple[Any, Any], int]]:
+    """The values of two parameters, and the loss at each pair of them."""
+    first, second = ([*dict.fromkeys(answer.parameters[name] for answer in answers)] for name in parameters)
+    return first, second, {(answer.parameters[parameters[0]], answer.parameters[parameters[1]]): answer.loss or 0 for answer in answers}
+
+
+def _by_matplotlib(figure: Any, study: Study, answers: list[Answer], parameters: Sequence[str]) -> Picture:
+    axes = figure.add_subplot()
+    if len(parameters) == 2:
+        first, second, losses = _axes_of(answers, parameters)
+        image = axes.imshow([[losses.get((x, y), float("nan")) for x in first] for y in second], origin="lower", aspect="auto", cmap="OrRd")
+        axes.set_xticks(range(len(first)), [str(value) for value in first])
+        axes.set_yticks(range(len(second)), [str(value) for value in second])
+        axes.set_xlabel(parameters[0])
+        axes.set_ylabel(parameters[1])
+        figure.colorbar(image, label="blocks lost")
+    elif parameters:
+        shown = _sorted(answers, parameters)
+        axes.plot([answer.parameters[parameters[0]] for answer in shown], [answer.loss for answer in shown], marker="o", color="#c4161c")
+        axes.set_xlabel(parameters[0])
+        axes.set_ylabel("blocks lost")
+        axes.set_ylim(bottom=0)
+    else:
+        shown = _sorted(answers, ())[:MOST_BARS][::-1]
+        axes.barh([answer.name for answer in shown], [answer.loss for answer in shown], color="#2f6fb0")
+        axes.set_xlabel("blocks lost")
+    if len(parameters) < 2 and study.base.loss is not None:
+        (axes.axhline if parameters else axes.axvline)(study.base.loss, color="#444", linestyle="--", label=f"as it is: {study.base.loss:,}")
+        axes.legend()
+    text = io.StringIO()
+    figure.savefig(text, format="svg")
+    return Picture(text.getvalue(), figure)
+
+
+def _bars_svg(study: Study, answers: list[Answer], parameters: Sequence[str]) -> str:
+    """Bars with the loss of each variant, as SVG, in the colours of the program's chart."""
+    shown = answers[:MOST_BARS]
+    most = max([answer.loss or 0 for answer in shown] + [study.base.loss or 0, 1])
+    left = 24 + 7 * max([len(_named(answer, parameters)) for answer in shown] + [9])
+    height = 64 + 18 * len(shown)
+    lines = []
+    for place, answer in enumerate(shown):
+        y = 48 + 18 * place
+        width = 640 * (answer.loss or 0) / most
+        lines.append(f"<text x='{left - 8}' y='{y + 11}' text-anchor='end'>{escape(_named(answer, parameters))}</text>")
+        lines.append(f"<rect x='{left}' y='{y}' width='{width:.1f}' height='14' fill='#2f6fb0'/>")
+        lines.append(f"<text x='{left + width + 6:.1f}' y='{y + 11}'>{answer.loss:,}</text>")
+    base = left + 640 * (study.base.loss or 0) / most
+    lines.append(f"<path d='M{base:.1f} 40V{height - 12}' stroke='#c4161c' stroke-dasharray='4 3' fill='none'/>")
+    lines.append(f"<text x='{base:.1f}' y='34' fill='#c4161c' text-anchor='middle'>as it is: {study.base.loss or 0:,}</text>")
+    more = f", the {len(shown)} greatest of {len(answers)}" if len(shown) < len(answers) else ""
+    return _svg(left + 740, height, f"Blocks lost{more}", lines)
+
+
+def _map_svg(answers: list[Answer], parameters: Sequence[str]) -> str:
+    """A field for each pair of values, with the loss in it, as SVG."""
+    first, second, losses = _axes_of(answers, parameters)
+    most = max([*losses.values(), 1])
+    lines = []
+    for column, x in enumerate(first):
+        lines.append(f"<text x='{130 + 70 * column}' y='{72 + 30 * len(second)}' text-anchor='middle'>{escape(str(x))}</text>")
+    for row, y in enumerate(reversed(second)):
+        lines.append(f"<text x='88' y='{68 + 30 * row}' text-anchor='end'>{escape(str(y))}</text>")
+        for column, x in enumerate(first):
+            if (x, y) in losses:
+                shade = losses[x, y] / most
+                fill = f"rgb({255 - int(59 * shade)},{255 - int(233 * shade)},{255 - int(227 * shade)})"
+                lines.append(f"<rect x='{96 + 70 * column}' y='{48 + 30 * row}' width='68' height='28' fill='{fill}' stroke='#ccc'/>")
+                ink = "#fff" if shade > 0.6 else "#111"
+                lines.append(f"<text x='{130 + 70 * column}' y='{67 + 30 * row}' text-anchor='middle' fill='{ink}'>{losses[x, y]:,}</text>")
+    lines.append(f"<text x='{96 + 35 * len(first)}' y='{92 + 30 * len(second)}' text-anchor='middle' font-weight='bold'>{escape(parameters[0])}</text>")
+    lines.append(f"<text x='16' y='40' font-weight='bold'>{escape(parameters[1])}</text>")
+    return _svg(120 + 70 * len(first), 104 + 30 * len(second), "Blocks lost", lines)
+
+
+def _named(answer: Answer, parameters: Sequence[str]) -> str:
+    return str(answer.parameters[parameters[0]]) if parameters else answer.name
+
+
+def _svg(width: int, height: int, title: str, lines: list[str]) -> str:
+    head = f"<svg xmlns='http://www.w3.org/2000/svg' version='1.1' viewBox='0 0 {width} {height}' font-family='sans-serif' font-size='12'>"
+    body = "\n".join(["<rect width='100%' height='100%' fill='#fff'/>", f"<text x='16' y='20' font-size='15' font-weight='bold'>{title}</text>", *lines])
+    return f"{head}\n{body}\n</svg>\n"
