@@ -107,7 +107,7 @@ def _done(words: Namespace) -> None:
         _study(words, mission, kind)
         return
     if words.command == "sensitivity":
-        _put(words, mission.sensitivity(step))
+        _put(words, mission.sensitivity(step).text())
         return
     made = mission.plan(step, horizon)
     if words.command == "plan":

@@ -40,7 +40,7 @@ class Base:
     @cached_property
     def _sends(self) -> dict[str, list[int]]:
         """The windows of each pass by itself, where each adds its own to those of the steps."""
-        return {contact.one.name: falls(contact.sends, list(self.edges)) for contact in contacts_of(self.mission_of("a pass"))}
+        return {contact.one.name: falls(contact.sends, self.edges) for contact in contacts_of(self.mission_of("a pass"))}
 
     @cached_property
     def _arrivals(self) -> dict[str, list[Flow]]:
@@ -82,9 +82,8 @@ class Base:
             windows[step] -= own[step]
         if one is not None:
             mission = self.mission_of("a pass")
-            edges = list(self.edges)
             for contact in contacts_of(replace(mission, passes=(one,))):
-                for step, blocks in enumerate(falls(contact.sends, edges)):
+                for step, blocks in enumerate(falls(contact.sends, self.edges)):
                     windows[step] += blocks
 
     def scaled(self, store: str, forecast: Forecast, factor: Fraction) -> list[int]:
@@ -92,4 +91,4 @@ class Base:
         if self.mission is None:
             return [-(-blocks * factor.numerator // factor.denominator) for blocks in forecast.arrivals[store]]
         flows = [Flow(flow.begin, flow.end, flow.above * factor.numerator, flow.below * factor.denominator) for flow in self._arrivals[store]]
-        return rises(flows, list(self.edges))
+        return rises(flows, self.edges)

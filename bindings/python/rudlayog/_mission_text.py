@@ -14,7 +14,7 @@ from pathlib import Path
 from typing import Any, TypeVar
 
 from ._data import is_text, rows
-from ._units import Fault, MissionError, fault
+from ._units import Fault, MissionError, fault, moment_of
 from .mission import Mission, Observation, PacketStore, Pass, Station
 from .setups import Route
 
@@ -28,7 +28,7 @@ TABLES: dict[str, tuple[str, type[Any]]] = {
     "observation": ("observations", Observation),
 }
 PLAIN = ("name", "begin", "end", "packet", "block", "overlap")
-# Keys of parts that stand for words of Python, and columns `channel:C` for the rates of channels.
+# Columns for the rates of channels.
 CHANNEL = re.compile(r"channel:([0-7])\Z")
 
 
@@ -49,6 +49,14 @@ def mission_in(path: str | os.PathLike[str]) -> Mission:
     for key in given:
         if key not in (*PLAIN, *TABLES, "route", *(plural for plural, _ in TABLES.values())):
             faults.append(Fault(places.key(key), f"the key {key}", f"one of {', '.join((*PLAIN, *TABLES))}, or the name of a CSV file as stores, stations, passes or observations"))
+    plain = {key: given[key] for key in PLAIN if key in given}
+    for key in ("begin", "end"):
+        if key in plain:
+            try:
+                plain[key] = moment_of(plain[key], places.key(key))
+            except MissionError as error:
+                faults += error.faults
+                del plain[key]
     parts: dict[str, list[Any]] = {}
     for key, (plural, kind) in TABLES.items():
         found = given.get(key, [])
@@ -60,7 +68,6 @@ def mission_in(path: str | os.PathLike[str]) -> Mission:
         if plural in given:
             parts[plural] += _named_file(kind, file.parent, given[plural], places.key(plural), faults)
     routes = tuple(_routes(given.get("route", []), places, faults))
-    plain = {key: given[key] for key in PLAIN if key in given}
     return _made({**parts, **plain, "routes": routes}, faults, str(file))
 
 

@@ -101,7 +101,7 @@ def _windows(sheet: Sheet) -> dict[str, int]:
     found: dict[str, int] = {}
     for problem, _ in sheet.made.parts:
         for contact in problem.contacts:
-            found[contact.one.name] = found.get(contact.one.name, 0) + sum(falls(contact.sends, list(problem.edges)))
+            found[contact.one.name] = found.get(contact.one.name, 0) + sum(falls(contact.sends, problem.edges))
     return found
 
 

@@ -2,12 +2,13 @@
 
 from __future__ import annotations
 
-from bisect import bisect_right
-from collections.abc import Iterator, Mapping
+from bisect import bisect_left, bisect_right
+from collections.abc import Iterator, Mapping, Sequence
 from dataclasses import dataclass
 from datetime import datetime, timedelta
 from fractions import Fraction
 from functools import cache, cached_property
+from heapq import heapify, heappop, heappush
 from itertools import combinations, pairwise
 from typing import TYPE_CHECKING, Any, NamedTuple
 
@@ -40,13 +41,24 @@ class Flow:
         """What flows with that many blocks a second."""
         return cls(begin, end, blocks_a_second.numerator, blocks_a_second.denominator * 1_000_000)
 
-    def floors(self, times: list[int]) -> list[int]:
-        """The whole blocks that have flowed at these times."""
-        return [self.above * (min(max(time, self.begin), self.end) - self.begin) // self.below for time in times]
+    def falls(self, times: Sequence[int]) -> list[int]:
+        """What flows in each step, where a block counts once it is whole."""
+        return self._steps(times, 1)
 
-    def ceilings(self, times: list[int]) -> list[int]:
-        """The blocks that have flowed at these times, where one that has begun is whole."""
-        return [-(-self.above * (min(max(time, self.begin), self.end) - self.begin) // self.below) for time in times]
+    def rises(self, times: Sequence[int]) -> list[int]:
+        """What flows in each step, where a block that has begun is whole."""
+        return self._steps(times, -1)
+
+    def _steps(self, times: Sequence[int], sign: int) -> list[int]:
+        column = [0] * (len(times) - 1)
+        first, last = max(bisect_right(times, self.begin) - 1, 0), min(bisect_left(times, self.end), len(times) - 1)
+        above = sign * self.above
+        before = above * (max(times[first], self.begin) - self.begin) // self.below
+        for step in range(first, last):
+            after = above * (min(times[step + 1], self.end) - self.begin) // self.below
+            column[step] = sign * (after - before)
+            before = after
+        return column
 
     def exact(self, time: int) -> Fraction:
         """What has flowed at this time."""
@@ -170,13 +182,14 @@ class Problem:
         flows += [(store, flow, True) for store, given in self.arrivals.items() for flow in given]
         found = []
         for name, flow, rises in flows:
-            counts = (flow.ceilings if rises else flow.floors)(list(self.edges))
-            for step, (begin, end) in enumerate(pairwise(self.edges), 1):
-                carried = flow.exact(end) - counts[step]
-                if (carried or flow.exact(begin) != counts[step - 1]) and flow.begin < end and flow.end > begin:
-                    exact = float(flow.exact(end) - flow.exact(begin))
-                    blocks = counts[step] - counts[step - 1]
-                    found.append({"step": step, "begin": written(self.times[step - 1]), "of": name, "exact": exact, "blocks": blocks, "carried": float(carried)})
+            counts = flow.rises(self.edges) if rises else flow.falls(self.edges)
+            carried = Fraction(0)
+            for step, ((begin, end), blocks) in enumerate(zip(pairwise(self.edges), counts), 1):
+                exact = flow.exact(end) - flow.exact(begin)
+                carried += exact - blocks
+                if exact != blocks:
+                    begins = written(self.times[step - 1])
+                    found.append({"step": step, "begin": begins, "of": name, "exact": float(exact), "blocks": blocks, "carried": float(carried)})
         return sorted(found, key=lambda row: int(row["step"]))
 
 
@@ -196,9 +209,8 @@ def problem_of(mission: Mission, step: timedelta | None = None, edges: tuple[int
     contacts, arrivals = contacts_of(mission), arrivals_of(mission)
     if edges is None:
         edges = tuple(_events(mission, contacts, arrivals) if step is None else _equal(mission, step))
-    times = list(edges)
-    windows, limits = windows_of(contacts, times)
-    columns = {store: column_of(mission, store, flows, times) for store, flows in arrivals.items()}
+    windows, limits = windows_of(contacts, edges)
+    columns = {store: column_of(mission, store, flows, edges) for store, flows in arrivals.items()}
     setup_limits: list[Limit] = []
     if not takes_limits():
         windows, setup_limits, limits = _for_all_steps(windows, limits)
@@ -208,7 +220,7 @@ def problem_of(mission: Mission, step: timedelta | None = None, edges: tuple[int
     return Problem(mission, setup, forecast, tuple(mission.begin + edge * MICROSECOND for edge in edges), edges, tuple(contacts))
 
 
-def column_of(mission: Mission, store: str, flows: list[Flow], times: list[int]) -> list[int]:
+def column_of(mission: Mission, store: str, flows: list[Flow], times: Sequence[int]) -> list[int]:
     """What arrives in a store in each step."""
     column = rises(flows, times)
     if max(column, default=0) > MOST_BLOCKS:
@@ -218,21 +230,18 @@ def column_of(mission: Mission, store: str, flows: list[Flow], times: list[int])
     return column
 
 
-def rises(flows: list[Flow], times: list[int]) -> list[int]:
+def rises(flows: list[Flow], times: Sequence[int]) -> list[int]:
     """What flows in each step, where a block that has begun is whole."""
-    column = [0] * (len(times) - 1)
-    for flow in flows:
-        for step, (before, after) in enumerate(pairwise(flow.ceilings(times))):
-            column[step] += after - before
-    return column
+    columns = [flow.rises(times) for flow in flows]
+    return list(map(sum, zip(*columns))) if columns else [0] * (len(times) - 1)
 
 
-def falls(flow: Flow, times: list[int]) -> list[int]:
-    """What flows in each step, where a block counts once it is whole."""
-    return [min(after - before, MOST_BLOCKS) for before, after in pairwise(flow.floors(times))]
+def falls(flow: Flow, times: Sequence[int]) -> list[int]:
+    """What flows in each step, where a block counts once it is whole, and a step has at most what a window can be."""
+    return [min(blocks, MOST_BLOCKS) for blocks in flow.falls(times)]
 
 
-def windows_of(contacts: list[Contact], times: list[int]) -> tuple[list[int], dict[int, list[int]]]:
+def windows_of(contacts: list[Contact], times: Sequence[int]) -> tuple[list[int], dict[int, list[int]]]:
     """The windows of the steps, and the limits of the channels that have any."""
     sends = [falls(contact.sends, times) for contact in contacts]
     limited = sorted({channel for contact in contacts for channel in contact.channels})
@@ -292,12 +301,15 @@ def _events(mission: Mission, contacts: list[Contact], arrivals: Mapping[str, li
         raise _too_many(mission, edges)
     parts = dict.fromkeys(pairwise(edges), 1)
     busy = [span for span in parts if all(any(flow.begin <= span[0] and span[1] <= flow.end for flow in flows) for flows in (passes, comes))]
+    # the longest first
+    queue = [((begin - end) / 1, (begin, end)) for begin, end in busy if end - begin >= 2 * FINEST]
+    heapify(queue)
     left = MOST_STEPS - len(parts)
-    while left > 0 and busy:
-        longest = max(busy, key=lambda span: Fraction(span[1] - span[0], parts[span]))
-        if longest[1] - longest[0] < FINEST * (parts[longest] + 1):
-            break
+    while left > 0 and queue:
+        _, longest = heappop(queue)
         parts[longest] += 1
+        if (longest[1] - longest[0]) // (parts[longest] + 1) >= FINEST:
+            heappush(queue, ((longest[0] - longest[1]) / parts[longest], longest))
         left -= 1
     return [0, *(begin + (end - begin) * part // count for (begin, end), count in parts.items() for part in range(1, count + 1))]
 

@@ -3,11 +3,13 @@
 from __future__ import annotations
 
 import re
-from collections.abc import Iterable
+from collections.abc import Callable, Iterable
 from dataclasses import dataclass
 from datetime import date, datetime, timedelta, timezone
 from fractions import Fraction
-from typing import Any, SupportsIndex, Union
+from typing import Any, SupportsIndex, TypeVar, Union
+
+Made = TypeVar("Made")
 
 # Octets that each unit of a volume has, and bits a second that each unit of a rate has.
 OCTETS = {
@@ -47,6 +49,26 @@ class MissionError(ValueError):
 
     def __reduce__(self) -> tuple[object, ...]:
         return MissionError, (self.faults,)
+
+
+class Faults:
+    """The faults of several fields, which are told together."""
+
+    def __init__(self) -> None:
+        self._found: list[Fault] = []
+
+    def of(self, make: Callable[..., Made], *given: Any) -> Made:
+        """What this makes; where it cannot, the faults are kept, and `end` raises them."""
+        try:
+            return make(*given)
+        except MissionError as error:
+            self._found += error.faults
+            return None  # type: ignore[return-value]
+
+    def end(self) -> None:
+        """Raises the faults that are kept."""
+        if self._found:
+            raise MissionError(self._found)
 
 
 def fault(place: str, found: object, meant: str) -> MissionError:

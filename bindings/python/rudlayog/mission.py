@@ -24,12 +24,13 @@ from datetime import datetime, timedelta
 from fractions import Fraction
 from typing import TYPE_CHECKING, Any
 
-from ._units import Fault, MissionError, Moment, Rate, RateLike, Volume, VolumeLike, fault, moment_of, rate_of, span_of, volume_of, written
+from ._units import Fault, Faults, MissionError, Moment, Rate, RateLike, Volume, VolumeLike, fault, moment_of, rate_of, span_of, volume_of, written
 from .setups import Route, Store
 
 if TYPE_CHECKING:
     from ._timeline import Problem
     from .sheets import MissionPlan
+    from .worth import Sensitivity
 
 __all__ = ["Fault", "Mission", "MissionError", "Observation", "PacketStore", "Pass", "Rate", "Station", "Volume"]
 
@@ -74,8 +75,10 @@ class PacketStore:
         self, id: str, size: VolumeLike, type: str = "bounded", channel: int = 0, holds: VolumeLike = 0, packet: int | None = None, place: str = ""
     ) -> None:
         where = place or f"store {id}"
+        faults = Faults()
         _set(self, id=id, type=type, channel=channel, packet=packet, place=where)
-        _set(self, size=volume_of(size, f"{where}, size"), holds=volume_of(holds, f"{where}, holds"))
+        _set(self, size=faults.of(volume_of, size, f"{where}, size"), holds=faults.of(volume_of, holds, f"{where}, holds"))
+        faults.end()
 
 
 @dataclass(frozen=True, init=False)
@@ -90,8 +93,10 @@ class Station:
 
     def __init__(self, name: str, rate: RateLike | None = None, channels: Mapping[Any, RateLike] | None = None, place: str = "") -> None:
         where = place or f"station {name}"
-        _set(self, name=name, place=where, rate=None if rate is None else rate_of(rate, f"{where}, rate"))
-        _set(self, channels=_rates(channels or {}, f"{where}, channels"))
+        faults = Faults()
+        _set(self, name=name, place=where, rate=faults.of(_rate, rate, f"{where}, rate"))
+        _set(self, channels=faults.of(_rates, channels or {}, f"{where}, channels"))
+        faults.end()
 
 
 @dataclass(frozen=True, init=False)
@@ -118,10 +123,12 @@ class Pass:
         place: str = "",
     ) -> None:
         where = place or f"pass {name or station}"
+        faults = Faults()
         _set(self, station=station, name=name, place=where)
-        _set(self, begin=moment_of(begin, f"{where}, begin"), end=moment_of(end, f"{where}, end"))
-        _set(self, rate=None if rate is None else rate_of(rate, f"{where}, rate"), channels=_rates(channels or {}, f"{where}, channels"))
-        _in_order(self.begin, self.end, where, "a pass")
+        _set(self, begin=faults.of(moment_of, begin, f"{where}, begin"), end=faults.of(moment_of, end, f"{where}, end"))
+        faults.of(_in_order, self.begin, self.end, where, "a pass")
+        _set(self, rate=faults.of(_rate, rate, f"{where}, rate"), channels=faults.of(_rates, channels or {}, f"{where}, channels"))
+        faults.end()
 
 
 @dataclass(frozen=True, init=False)
@@ -140,12 +147,14 @@ class Observation:
         self, store: str, begin: Moment, end: Moment, rate: RateLike | None = None, volume: VolumeLike | None = None, name: str = "", place: str = ""
     ) -> None:
         where = place or f"observation {name or store}"
-        _set(self, store=store, name=name, place=where, begin=moment_of(begin, f"{where}, begin"), end=moment_of(end, f"{where}, end"))
-        if (rate is None) == (volume is None):
-            raise fault(where, "no rate and no volume" if rate is None else "a rate and a volume", "one of rate and volume")
-        _set(self, rate=None if rate is None else rate_of(rate, f"{where}, rate"))
-        _set(self, volume=None if volume is None else volume_of(volume, f"{where}, volume"))
-        _in_order(self.begin, self.end, where, "an observation")
+        faults = Faults()
+        _set(self, store=store, name=name, place=where)
+        _set(self, begin=faults.of(moment_of, begin, f"{where}, begin"), end=faults.of(moment_of, end, f"{where}, end"))
+        faults.of(_in_order, self.begin, self.end, where, "an observation")
+        _set(self, rate=faults.of(_rate, rate, f"{where}, rate"))
+        _set(self, volume=None if volume is None else faults.of(volume_of, volume, f"{where}, volume"))
+        faults.of(_one_of, rate, volume, where)
+        faults.end()
 
     def blocks_a_second(self, octets: int) -> Fraction:
         """The blocks that arrive in a second, where each is a packet of this many octets."""
@@ -155,8 +164,17 @@ class Observation:
         return self.volume.blocks(octets) / Fraction((self.end - self.begin) // timedelta(microseconds=1), 1_000_000)
 
 
-def _in_order(begin: datetime, end: datetime, place: str, what: str) -> None:
-    if end <= begin:
+def _rate(given: Any, place: str) -> Rate | None:
+    return None if given is None else rate_of(given, place)
+
+
+def _one_of(rate: object, volume: object, place: str) -> None:
+    if (rate is None) == (volume is None):
+        raise fault(place, "no rate and no volume" if rate is None else "a rate and a volume", "one of rate and volume")
+
+
+def _in_order(begin: datetime | None, end: datetime | None, place: str, what: str) -> None:
+    if begin is not None and end is not None and end <= begin:
         raise fault(place, f"begin {written(begin)} and end {written(end)}", f"{what} that ends after it begins")
 
 
@@ -265,17 +283,11 @@ class Mission:
 
         return MissionPlan.of(self, step, None if horizon is None else span_of(horizon, "horizon"))
 
-    def sensitivity(self, step: timedelta | float | None = None) -> str:
-        """What each window, size and limit is worth: the library's table, as comma separated values. Raises `MissionError` where the library has
-        none."""
-        import rudlayog
+    def sensitivity(self, step: timedelta | float | None = None) -> Sensitivity:
+        """What each window, size and limit is worth. Raises `MissionError` where the library does not say it."""
+        from .worth import Sensitivity
 
-        call = getattr(rudlayog, "sensitivity", None)
-        if call is None:
-            raise fault("", f"library {rudlayog.version()}, which has no sensitivity", "a later one")
-        problem = self.problem(step)
-        found = call(problem.setup, problem.forecast)
-        return found if isinstance(found, str) else str(found.text)
+        return Sensitivity.of(self, step)
 
 
 def _named(passes: Iterable[Pass], begin: datetime, end: datetime) -> tuple[Pass, ...]:

@@ -262,8 +262,8 @@ def _flown(problem: Problem, made: Plan) -> list[Flown]:
     """What each step of a problem does, from the table of its plan."""
     columns = table(problem.setup, problem.forecast, made).to_dict()
     stores = [store.id for store in problem.setup.stores]
-    sends = [falls(contact.sends, list(problem.edges)) for contact in problem.contacts]
-    by_channel = [{channel: falls(flow, list(problem.edges)) for channel, flow in contact.channels.items()} for contact in problem.contacts]
+    sends = [falls(contact.sends, problem.edges) for contact in problem.contacts]
+    by_channel = [{channel: falls(flow, problem.edges) for channel, flow in contact.channels.items()} for contact in problem.contacts]
     channels = {store.id: store.channel for store in problem.setup.stores}
     found = []
     for step in range(len(problem)):

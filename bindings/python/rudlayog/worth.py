@@ -1,0 +1,75 @@
+"""What each window, size and limit of a mission is worth, as the library's sensitivity says it, with the time of each step."""
+
+from __future__ import annotations
+
+import csv
+import io
+import os
+from collections.abc import Callable
+from dataclasses import asdict, dataclass
+from datetime import timedelta
+from html import escape
+from pathlib import Path
+from typing import TYPE_CHECKING, Any, TypeVar
+
+import rudlayog
+
+from ._units import fault, written
+
+if TYPE_CHECKING:
+    from ._timeline import Problem
+    from .mission import Mission
+
+Made = TypeVar("Made")
+COLUMNS = ("item", "name", "step", "begin", "end", "now", "next", "most", "without")
+
+
+@dataclass(frozen=True)
+class Sensitivity:
+    """A row for each window, size and limit: `item`, `name`, `step`, `begin` and `end` of the step, and in blocks its value `now`, how many fewer
+    are lost if it is one larger (`next`) or as large as can be (`most`), and how many more `without` it."""
+
+    rows: tuple[dict[str, Any], ...]
+    problem: Problem
+
+    @classmethod
+    def of(cls, mission: Mission, step: timedelta | float | None = None) -> Sensitivity:
+        """The sensitivity of a mission. Raises `MissionError` where the library has none."""
+        call: Callable[..., Any] | None = getattr(rudlayog, "sensitivity", None)
+        if call is None:
+            raise fault("", f"library {rudlayog.version()}, which has no sensitivity", "one that has it")
+        problem = mission.problem(step)
+        found = []
+        for worth in call(problem.setup, problem.forecast):
+            row = asdict(worth)
+            times = problem.when(row["step"]) if row["step"] else ("", "")
+            found.append({name: {**row, "begin": times[0], "end": times[1]}[name] for name in COLUMNS})
+        return cls(tuple(found), problem)
+
+    def to_dict(self) -> dict[str, list[Any]]:
+        """The columns. `begin` and `end` are `datetime`s in UTC."""
+        return {name: [row[name] for row in self.rows] for name in COLUMNS}
+
+    def to_frame(self, make: Callable[[dict[str, list[Any]]], Made]) -> Made:
+        """The table as a data frame, made by `make`, as `pandas.DataFrame`."""
+        return make(self.to_dict())
+
+    def text(self) -> str:
+        """The table as comma separated values."""
+        lines = io.StringIO()
+        writer = csv.writer(lines, lineterminator="\n")
+        writer.writerow(COLUMNS)
+        for row in self.rows:
+            writer.writerow(written(cell) if hasattr(cell, "tzinfo") else "" if cell is None else cell for cell in row.values())
+        return lines.getvalue()
+
+    def save(self, path: str | os.PathLike[str]) -> None:
+        """Writes the table into a file."""
+        Path(path).write_text(self.text(), encoding="utf-8", newline="")
+
+    def _repr_html_(self) -> str:
+        """What is worth anything, the most first."""
+        shown = sorted((row for row in self.rows if row["most"] or row["without"]), key=lambda row: (-row["most"], -row["without"]))[:40]
+        head = "".join(f"<th>{name}</th>" for name in COLUMNS)
+        cells = ["".join(f"<td>{escape(str('' if cell is None else cell))}</td>" for cell in row.values()) for row in shown]
+        return f"<table><thead><tr>{head}</tr></thead><tbody>" + "".join(f"<tr>{row}</tr>" for row in cells) + "</tbody></table>"

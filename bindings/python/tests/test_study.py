@@ -1,0 +1,229 @@
+"""Studies: what variants lose, whoever works them out, and where a worker dies."""
+
+import concurrent.futures
+import multiprocessing
+import os
+import signal
+import tempfile
+import threading
+import unittest
+from dataclasses import replace
+from pathlib import Path
+
+from made_missions import made_mission
+from rudlayog import check, plan, table
+from rudlayog.study import Changed, Replaced, Variant, answers, each_pass_lost, each_store_sized, grid, lost, rated, scaled, shortened, sized, study
+
+try:
+    import distributed
+except ImportError:
+    distributed = None
+
+# A mission whose passes overlap nowhere and whose channels have no rates, and one with both.
+PLAIN = made_mission(3, apart=True, channels=False)
+MIXED = next(mission for mission in map(made_mission, range(9, 99)) if len(mission.passes) > 3 and any(mission.rates(one)[1] for one in mission.passes))
+
+
+def without_store_names(study):
+    return [(answer.name, answer.loss, answer.by_store, answer.bound, answer.refused) for answer in study]
+
+
+def die_once(mission, folder):
+    """Ends this process the first time that it is called with this folder."""
+    flag = Path(folder, "died")
+    try:
+        flag.touch(exist_ok=False)
+    except FileExistsError:
+        return mission
+    os._exit(9)
+
+
+def die_always(mission):
+    """Ends this process, if it is not that of the test."""
+    if multiprocessing.parent_process() is not None:
+        os._exit(9)
+    return mission
+
+
+class DiesOnce:
+    """A change that ends the process in which it is made for the first time."""
+
+    def __init__(self, folder):
+        self.folder = folder
+
+    def __call__(self, mission):
+        return die_once(mission, self.folder)
+
+
+def variants_of(mission):
+    stores = [store.id for store in mission.stores]
+    return [
+        *each_pass_lost(mission),
+        *each_store_sized(mission, 1.25),
+        *(Variant(f"{store} x {factor}", (scaled(factor, store),)) for store in stores for factor in (0, 0.5, 1.1, 3)),
+        Variant("all half", (scaled("1/2"),)),
+        Variant("late", (shortened(mission.passes[0].name, late=3, early=1.5),)),
+        Variant("rates", (rated(factor=0.8),)),
+        Variant("one rate", (rated("2 kbit/s", of=[mission.passes[0].station]),)),
+        Variant("two changes", (lost(mission.passes[0].name), sized(stores[0], "70 blocks"))),
+    ]
+
+
+class Answers(unittest.TestCase):
+    def test_each_is_the_plan_of_its_mission(self):
+        for mission in (PLAIN, MIXED):
+            found = study(mission, variants_of(mission))
+            self.assertEqual(found.base.loss, mission.plan().loss)
+            edges = mission.problem().edges
+            from rudlayog._timeline import problem_of
+
+            for answer, one in zip(found, mission.passes):
+                self.assertEqual(answer.name, f"without {one.name}")
+                # the same steps, without the pass
+                problem = problem_of(mission.without(one.name), edges=edges)
+                again = plan(problem.setup, problem.forecast)
+                self.assertEqual(answer.loss, again.loss)
+                columns = table(problem.setup, problem.forecast, again).to_dict()
+                by_store = [sum(gone for gone, name in zip(columns["lost"], columns["store"]) if name == store) for store in found.stores]
+                self.assertEqual(sum(by_store), answer.loss)
+                self.assertEqual(list(answer.by_store), by_store)
+                self.assertTrue(answer.is_least)
+            for answer in found:
+                self.assertEqual(answer.refused, "", answer.name)
+                self.assertEqual(sum(answer.by_store), answer.loss, answer.name)
+            named = {answer.name: answer for answer in found}
+            half = replace(mission, observations=tuple(replace(one, rate=one.rate and one.rate.times(0.5), volume=one.volume and replace(one.volume, amount=one.volume.amount / 2)) for one in mission.observations))
+            self.assertEqual(named["all half"].loss, plan(*problem_of(half, edges=edges)).loss)
+
+    def test_certificate(self):
+        problem = MIXED.problem()
+        (answer,) = study(MIXED, {"as it is": ()})
+        made = plan(*problem)
+        self.assertEqual((answer.loss, answer.cut), (made.loss, made.cut))
+        self.assertTrue(answer.is_least)
+
+    def test_functions(self):
+        name = PLAIN.passes[0].name
+        found = study(PLAIN, {"gone": lambda mission: mission.without(name), "more": [lambda mission: mission.without(name), scaled(2)]})
+        self.assertEqual(found[0].loss, PLAIN.without(name).plan().loss)
+        self.assertGreaterEqual(found[1].loss, found[0].loss)
+        problem = PLAIN.problem()
+        setup, forecast = problem
+        wide = Replaced(lambda setup, forecast: (setup, forecast.having(windows=[window + 5 for window in forecast.windows])))
+        found = study((setup, forecast), {"wide": wide, "less": scaled(0.5)})
+        self.assertEqual(found[0].loss, plan(setup, forecast.having(windows=[window + 5 for window in forecast.windows])).loss)
+        self.assertLessEqual(found[1].loss, found.base.loss)
+
+    def test_refusals_stand_in_their_row(self):
+        found = study(PLAIN, {"no pass": lost("no such pass"), "no store": sized("NONE", 5), "too large": sized(PLAIN.stores[0].id, "9 GB"), "fails": lambda mission: 1 / 0, "good": scaled(1)})
+        self.assertEqual([answer.loss is None for answer in found], [True, True, True, True, False])
+        self.assertIn("one of the passes", found[0].refused)
+        self.assertIn("one of the stores", found[1].refused)
+        self.assertIn("33 Limit", found[2].refused)
+        self.assertIn("ZeroDivisionError", found[3].refused)
+        self.assertEqual((found.change(found[0]), found.change(found[4])), (None, 0))
+        self.assertEqual(len(found.text().splitlines()), 6)
+
+    def test_fixed_plan(self):
+        made = MIXED.plan()
+        found = study(MIXED, each_pass_lost(MIXED), plan=made)
+        anew = study(MIXED, each_pass_lost(MIXED))
+        self.assertEqual(found.base.loss, made.loss)
+        for fixed, free, one in zip(found, anew, MIXED.passes):
+            self.assertGreaterEqual(fixed.loss, free.loss)
+            self.assertEqual(sum(fixed.by_store), fixed.loss)
+        setup, forecast = PLAIN.problem()
+        own = plan(setup, forecast)
+        windows = [window // 2 for window in forecast.windows]
+        (half,) = study((setup, forecast), {"half": Replaced(lambda setup, forecast: (setup, forecast.having(windows=windows)))}, plan=own)
+        # the checker says what dumps that are cut down to the windows lose
+        dumps = [[0] * len(own.stores) for _ in windows]
+        for step, window in enumerate(windows):
+            for place, blocks in enumerate(own.dumps[step]):
+                dumps[step][place] = min(blocks, window - sum(dumps[step]))
+        verdict = check(setup, forecast.having(windows=windows), dict(zip(own.stores, zip(*dumps))))
+        self.assertEqual(half.loss, verdict.loss)
+
+    def test_grid(self):
+        store = PLAIN.stores[0].id
+        found = study(PLAIN, grid(arrivals=(scaled, [0.5, 1, 2]), size=(lambda blocks: sized(store, f"{blocks} blocks"), [10, 40])))
+        self.assertEqual([answer.parameters for answer in found][:2], [{"arrivals": 0.5, "size": 10}, {"arrivals": 0.5, "size": 40}])
+        losses = {tuple(answer.parameters.values()): answer.loss for answer in found}
+        self.assertTrue(losses[0.5, 40] <= losses[1, 40] <= losses[2, 40] <= losses[2, 10])
+
+    def test_pictures(self):
+        from rudlayog.pictures import picture_of
+
+        store = PLAIN.stores[0].id
+        found = study(PLAIN, grid(arrivals=(scaled, [0.5, 1, 2]), size=(lambda blocks: sized(store, f"{blocks} blocks"), [10, 40])))
+        for parameters in ((), ("arrivals",), ("arrivals", "size")):
+            self.assertIn("<svg", picture_of(found, parameters, matplotlib=False).svg)
+            self.assertIn("<svg", found.plot(*parameters).svg)
+        with self.assertRaisesRegex(ValueError, "no variant has the parameter x; there are arrivals, size"):
+            found.plot("x")
+        with tempfile.TemporaryDirectory() as room:
+            picture_of(found, (), matplotlib=False).save(Path(room, "study.svg"))
+            self.assertIn("as it is", Path(room, "study.svg").read_text())
+
+
+class Executors(unittest.TestCase):
+    def setUp(self):
+        self.variants = variants_of(MIXED)
+        self.wanted = without_store_names(study(MIXED, self.variants))
+
+    def test_the_same_table(self):
+        with concurrent.futures.ThreadPoolExecutor(2) as threads:
+            self.assertEqual(without_store_names(study(MIXED, self.variants, executor=threads, chunk=3)), self.wanted)
+        with concurrent.futures.ProcessPoolExecutor(2, multiprocessing.get_context("spawn")) as processes:
+            self.assertEqual(without_store_names(study(MIXED, iter(self.variants), executor=processes, chunk=5)), self.wanted)
+        self.assertEqual(sorted(place for place, _ in answers(MIXED, self.variants)), list(range(len(self.variants))))
+        with self.assertRaisesRegex(TypeError, "none of concurrent.futures"):
+            study(MIXED, self.variants, executor=7)
+
+    def test_a_process_that_dies(self):
+        with tempfile.TemporaryDirectory() as room:
+            variants = [*self.variants[:20], Variant("dies", (Changed(DiesOnce(room)),)), *self.variants[20:]]
+            with concurrent.futures.ProcessPoolExecutor(2, multiprocessing.get_context("spawn")) as processes:
+                found = study(MIXED, variants, executor=processes, chunk=4)
+        self.assertEqual([row for row in without_store_names(found) if row[0] != "dies"], self.wanted)
+        self.assertEqual(found[20].loss, found.base.loss)
+
+    def test_a_variant_that_always_ends_its_process(self):
+        variants = [*self.variants[:5], Variant("dies", (Changed(die_always),)), *self.variants[5:]]
+        with concurrent.futures.ProcessPoolExecutor(2, multiprocessing.get_context("spawn")) as processes:
+            found = study(MIXED, variants, executor=processes, chunk=1)
+        self.assertIn("BrokenProcessPool", found[5].refused)
+        self.assertEqual([row for row in without_store_names(found) if row[0] != "dies"], self.wanted)
+
+    def test_an_interrupt_gives_what_is_done(self):
+        def endless():
+            while True:
+                yield from self.variants
+
+        main = threading.main_thread().ident
+        timer = threading.Timer(0.7, lambda: signal.pthread_kill(main, signal.SIGINT))
+        timer.start()
+        found = study(MIXED, endless())
+        self.assertFalse(found.is_whole)
+        self.assertGreater(len(found), 0)
+        self.assertEqual(without_store_names(found)[0], self.wanted[0])
+
+    @unittest.skipUnless(distributed, "no distributed")
+    def test_a_cluster(self):
+        with distributed.LocalCluster(n_workers=3, threads_per_worker=1, processes=True, dashboard_address=None) as cluster, distributed.Client(cluster) as client:
+            self.assertEqual(without_store_names(study(MIXED, self.variants, executor=client, chunk=4)), self.wanted)
+            # one of its workers is killed while it works
+            many = self.variants * 30
+            victims = list(client.run(os.getpid).values())
+            seen = 0
+            for place, answer in answers(MIXED, many, executor=client, chunk=4):
+                seen += 1
+                if seen == 100:
+                    os.kill(victims[0], signal.SIGKILL)
+                self.assertEqual((answer.name, answer.loss, answer.by_store, answer.bound, answer.refused), self.wanted[place % len(self.wanted)])
+            self.assertEqual(seen, len(many))
+            self.assertNotIn(victims[0], client.run(os.getpid).values())
+
+
+if __name__ == "__main__":
+    unittest.main()
