@@ -14,7 +14,7 @@ from functools import cached_property
 from pathlib import Path
 from typing import TYPE_CHECKING, Any, TypeVar
 
-from ._timeline import Problem, falls
+from ._timeline import Problem, falls, micro, rises
 from ._units import MICROSECOND, Moment, Volume, VolumeLike, fault, moment_of, written
 from .calls import Verdict, check, plan, table
 from .plans import Plan
@@ -236,12 +236,12 @@ class MissionPlan:
         if done == len(self.steps) or self.steps[done].begin == moment:
             return found
         step = self.steps[done]
+        problem = next(problem for problem, _ in self.parts if moment < problem.times[-1])
         part = Fraction((moment - step.begin) // MICROSECOND, (step.end - step.begin) // MICROSECOND)
-        sizes = {store.id: store.size for store in self.parts[0][0].setup.stores}
-        return {
-            store: max(min(held - int(-step.arrived[store] * part // 1), sizes[store]) - int(step.dumped[store] * part), 0)
-            for store, held in found.items()
-        }
+        span = [micro(problem.mission, time) for time in (step.begin, moment)]
+        sizes = {store.id: store.size for store in problem.setup.stores}
+        came = {store: sum(rises(flows, span)) for store, flows in problem.arrivals.items()}
+        return {store: max(min(held + came[store], sizes[store]) - int(step.dumped[store] * part), 0) for store, held in found.items()}
 
     def at(self, utc: Moment, holds: Mapping[str, VolumeLike] | None = None) -> Mission:
         """The mission from a moment on, to be planned again: its stores hold what they do then by this plan, or the volumes that were measured."""

@@ -142,11 +142,12 @@ class Study(Sequence[Answer]):
         """The variants that lose most."""
         return sorted((answer for answer in self.answers if answer.loss is not None), key=lambda answer: -(answer.loss or 0))[:count]
 
-    def plot(self, *parameters: str) -> Picture:
-        """A picture: the loss of each variant, sorted; or over one or two parameters."""
+    def plot(self, *parameters: str, matplotlib: bool | None = None) -> Picture:
+        """A picture: the loss of each variant, sorted; or over one or two parameters. It is drawn by matplotlib where that is installed, unless
+        `matplotlib` is false."""
         from .pictures import picture_of
 
-        return picture_of(self, parameters)
+        return picture_of(self, parameters, matplotlib)
 
 
 def study(

@@ -167,8 +167,8 @@ end = 2031-03-03T03:00:00Z
             found = self.faults(Mission.read, path)
             self.assertEqual([each.split(": found")[0].rpartition("/")[2] for each in found], ["passes.csv, line 5", "passes.csv, line 3"])
             self.assertIn("no.toml", self.faults(Mission.read, Path(room, "no.toml"))[0])
-            path.write_text("[[store]]\nid = ")
-            self.assertIn("line 2", self.faults(Mission.read, path)[0])
+            path.write_text("begin = \nend = 3\n")
+            self.assertIn("line 1", self.faults(Mission.read, path)[0])
 
     def test_of_rows(self):
         rows = [{"station": "X", "begin": "2031-03-03T02:00:00Z", "end": "2031-03-03T03:00:00Z", "rate": 1, "channel:2": "9 bit/s"}]

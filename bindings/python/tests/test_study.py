@@ -8,10 +8,12 @@ import tempfile
 import threading
 import unittest
 from dataclasses import replace
+from fractions import Fraction
 from pathlib import Path
 
 from made_missions import made_mission
 from rudlayog import check, plan, table
+from rudlayog._timeline import problem_of
 from rudlayog.study import Changed, Replaced, Variant, answers, each_pass_lost, each_store_sized, grid, lost, rated, scaled, shortened, sized, study
 
 try:
@@ -75,8 +77,6 @@ class Answers(unittest.TestCase):
             found = study(mission, variants_of(mission))
             self.assertEqual(found.base.loss, mission.plan().loss)
             edges = mission.problem().edges
-            from rudlayog._timeline import problem_of
-
             for answer, one in zip(found, mission.passes):
                 self.assertEqual(answer.name, f"without {one.name}")
                 # the same steps, without the pass
@@ -92,7 +92,8 @@ class Answers(unittest.TestCase):
                 self.assertEqual(answer.refused, "", answer.name)
                 self.assertEqual(sum(answer.by_store), answer.loss, answer.name)
             named = {answer.name: answer for answer in found}
-            half = replace(mission, observations=tuple(replace(one, rate=one.rate and one.rate.times(0.5), volume=one.volume and replace(one.volume, amount=one.volume.amount / 2)) for one in mission.observations))
+            halves = tuple(replace(one, rate=one.rate and one.rate.times(Fraction(1, 2)), volume=one.volume and replace(one.volume, amount=one.volume.amount / 2)) for one in mission.observations)
+            half = replace(mission, observations=halves)
             self.assertEqual(named["all half"].loss, plan(*problem_of(half, edges=edges)).loss)
 
     def test_certificate(self):
