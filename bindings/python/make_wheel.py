@@ -65,6 +65,7 @@ def files(project: dict[str, Any], about: str) -> dict[str, bytes]:
         found[f"{name}/page.html"] = PAGE.read_bytes()
     found[f"{about}/METADATA"] = metadata(project).encode()
     found[f"{about}/WHEEL"] = f"Wheel-Version: 1.0\nGenerator: make_wheel\nRoot-Is-Purelib: false\nTag: {tag(shared)}\n".encode()
+    found[f"{about}/entry_points.txt"] = "".join(["[console_scripts]\n", *(f"{command} = {call}\n" for command, call in project["scripts"].items())]).encode()
     for licence in LICENCES:
         found[f"{about}/licenses/{licence}"] = (HERE.parents[1] / licence).read_bytes()
     return found

@@ -14,10 +14,10 @@ if TYPE_CHECKING:
     from .sheets import Row, Sheet
 
 STYLE = """
-body { font: 13px/1.35 sans-serif; color: #111; margin: 24px auto; max-width: 1100px; padding: 0 16px }
+body { font: 12.5px/1.35 sans-serif; color: #111; margin: 24px auto; max-width: 1160px; padding: 0 16px }
 h1 { font-size: 21px; margin: 0 0 4px } h2 { font-size: 15px; margin: 22px 0 6px }
 p { margin: 4px 0 } table { border-collapse: collapse; width: 100%; margin: 4px 0 10px }
-th, td { border-bottom: 1px solid #ccc; padding: 3px 8px; text-align: right; white-space: nowrap }
+th, td { border-bottom: 1px solid #ccc; padding: 3px 6px; text-align: right; white-space: nowrap }
 th { border-bottom: 2px solid #555; font-weight: 600 } th.w, td.w { text-align: left }
 td.lost { color: #c4161c; font-weight: 600 } tr.sum td { border-top: 2px solid #555; font-weight: 600 }
 section { break-inside: avoid } svg { width: 100%; height: auto }
@@ -38,8 +38,8 @@ def page(sheet: Sheet) -> str:
         _overview(sheet),
         *(_details(name, list(rows), sheet) for name, rows in groupby(sheet, key=lambda row: row.name)),
         *(f"<section class='chart'><h2>{escape(words)}</h2>{chart}</section>" for words, chart in zip(_chart_titles(sheet), made.charts())),
-        "<p class='note'>Times are in UTC. A block has room for one packet; 1 MB is 1,000,000 octets of packets. Within a pass the stores send in the "
-        "order in which their data come first. What is lost counts from the begin of a pass to that of the next one.</p>",
+        "<p class='note'>Times are in UTC. A block has room for one packet; 1 MB is 1,000,000 octets of packets. What is lost counts from the "
+        "begin of a pass to that of the next one.</p>",
     ]
     head = f"<meta charset='utf-8'><meta name='viewport' content='width=device-width, initial-scale=1'><title>{escape(title)}</title><style>{STYLE}</style>"
     return f"<!doctype html>\n<html lang='en'><head>{head}</head>\n<body>\n" + "\n".join(parts) + "\n</body></html>\n"
@@ -93,7 +93,7 @@ def _overview(sheet: Sheet) -> str:
     sums = "".join(f"<td>{sum(row.blocks for row in sheet if row.store == store):,}</td>" for store in stores)
     whole = f"<td>{sum(row.blocks for row in sheet):,}</td><td>{sum(windows.values()):,}</td>{_lost_cell(sum(row.lost for row in sheet))}"
     rows.append(f"<tr class='sum'><td class='w' colspan='3'>all</td>{sums}{whole}</tr>")
-    return _table(["<pass", "<begin (UTC)", "<end (UTC)", *stores, "sent", "could send", "lost until the next"], rows)
+    return _table(["<pass", "<begin (UTC)", "<end (UTC)", *stores, "sent", "could send", "lost"], rows)
 
 
 def _windows(sheet: Sheet) -> dict[str, int]:

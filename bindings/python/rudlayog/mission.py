@@ -19,7 +19,7 @@ from __future__ import annotations
 
 import os
 from collections.abc import Iterable, Mapping
-from dataclasses import InitVar, dataclass, field, replace
+from dataclasses import dataclass, field, replace
 from datetime import datetime, timedelta
 from fractions import Fraction
 from typing import TYPE_CHECKING, Any
@@ -178,7 +178,7 @@ def _in_order(begin: datetime | None, end: datetime | None, place: str, what: st
         raise fault(place, f"begin {written(begin)} and end {written(end)}", f"{what} that ends after it begins")
 
 
-@dataclass(frozen=True)
+@dataclass(frozen=True, init=False)
 class Mission:
     """A mission from `begin` to `end`: its `stores`, its `passes`, its `observations` and its `stations`, the octets of a `packet` and of a
     `block` of memory, and what holds where passes `overlap`: `both` send at once, or only the `better`, which has the higher rate. `begin` and
@@ -187,26 +187,38 @@ class Mission:
 
     stores: tuple[PacketStore, ...]
     passes: tuple[Pass, ...]
-    observations: tuple[Observation, ...] = ()
-    stations: tuple[Station, ...] = ()
-    begin: datetime = None  # type: ignore[assignment]
-    end: datetime = None  # type: ignore[assignment]
-    packet: int = PACKET
-    block: int = PACKET
-    overlap: str = "both"
-    name: str = ""
-    routes: tuple[Route, ...] = ()
-    place: InitVar[str] = "the mission"
+    observations: tuple[Observation, ...]
+    stations: tuple[Station, ...]
+    begin: datetime
+    end: datetime
+    packet: int
+    block: int
+    overlap: str
+    name: str
+    routes: tuple[Route, ...]
 
-    def __post_init__(self, place: str) -> None:
-        for name in ("stores", "passes", "observations", "stations", "routes"):
-            _set(self, **{name: tuple(getattr(self, name))})
-        begins = [one.begin for one in self.passes] + [one.begin for one in self.observations]
-        all_ends = [one.end for one in self.passes] + [one.end for one in self.observations]
-        for name, given, ends in (("begin", self.begin, begins), ("end", self.end, all_ends)):
-            if given is None and not ends:
-                raise fault(place, f"no {name}, no pass and no observation", "a mission with passes, or with begin and end")
-            _set(self, **{name: (min(ends) if name == "begin" else max(ends)) if given is None else moment_of(given, f"{place}, {name}")})
+    def __init__(
+        self,
+        stores: Iterable[PacketStore],
+        passes: Iterable[Pass],
+        observations: Iterable[Observation] = (),
+        stations: Iterable[Station] = (),
+        begin: Moment | None = None,
+        end: Moment | None = None,
+        packet: int = PACKET,
+        block: int = PACKET,
+        overlap: str = "both",
+        name: str = "",
+        routes: Iterable[Route] = (),
+        place: str = "the mission",
+    ) -> None:
+        _set(self, stores=tuple(stores), passes=tuple(passes), observations=tuple(observations), stations=tuple(stations), routes=tuple(routes))
+        _set(self, packet=packet, block=block, overlap=overlap, name=name)
+        spans = [(one.begin, one.end) for one in self.passes] + [(one.begin, one.end) for one in self.observations]
+        if not spans and (begin is None or end is None):
+            raise fault(place, "no begin and end, no pass and no observation", "a mission with passes, or with begin and end")
+        _set(self, begin=min(first for first, _ in spans) if begin is None else moment_of(begin, f"{place}, begin"))
+        _set(self, end=max(last for _, last in spans) if end is None else moment_of(end, f"{place}, end"))
         _set(self, passes=_named(self.passes, self.begin, self.end))
         found = list(_faults(self, place))
         if found:
@@ -266,7 +278,8 @@ class Mission:
         strange = set(held) - {store.id for store in self.stores}
         if strange:
             raise fault("", f"the store {', '.join(sorted(strange))}", f"one of the stores {', '.join(store.id for store in self.stores)}")
-        stores = tuple(replace(store, holds=held[store.id]) if store.id in held else store for store in self.stores)
+        places = {name: f"holds, store {name}" for name in held}
+        stores = tuple(replace(store, holds=held[store.id], place=places[store.id]) if store.id in held else store for store in self.stores)
         return replace(self, stores=stores, begin=begin, end=end)
 
     def problem(self, step: timedelta | float | None = None) -> Problem:

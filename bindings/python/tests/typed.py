@@ -2,10 +2,13 @@
 """A program that uses the package with types. `mypy --strict` must find nothing in it; it runs too."""
 
 from collections.abc import Mapping
+from datetime import datetime, timedelta, timezone
 
 from rudlayog import Cut, Forecast, ForecastLike, Limit, Memory, Plan, Refusal, Route, Setup, SetupLike, Store, Tally, ask, chart, check, plan
+from rudlayog.mission import Mission, Observation, PacketStore, Pass, Station
 from rudlayog.reports import Summaries
 from rudlayog.requests import StartRetrieval, SummariseContent, TimeRange
+from rudlayog.study import Answer, Changed, Variant, each_pass_lost, grid, scaled, sized, study
 
 TELEMETRY = bytes([0x08, 1, 0xC0, 0, 0, 14, 0x20, 3, 25]) + bytes(12)
 
@@ -52,6 +55,24 @@ def asked(stores: tuple[str, ...]) -> tuple[bytes, tuple[int, ...]]:
     raise ValueError("no summary")
 
 
+def flown() -> tuple[int, list[Answer]]:
+    """What a mission and a study of it say."""
+    begin, end = "2031-03-03T06:00:00Z", datetime(2031, 3, 3, 7, tzinfo=timezone.utc)
+    mission = Mission(
+        [PacketStore("CAM", "2 MB", holds=5)],
+        [Pass("Malargue", begin, end, channels={1: "2 kbit/s"})],
+        [Observation("CAM", "2031-03-03T00:00:00Z", end, volume="8 MB")],
+        [Station("Malargue", rate=9000)],
+        packet=1000,
+    )
+    made = mission.plan(step=timedelta(minutes=10))
+    rows: list[int] = [row.blocks for row in made.passes()]
+    again = made.at(begin, holds={"CAM": "1 MB"}).plan(horizon=30)
+    variants: list[Variant] = [*each_pass_lost(mission), *grid(size=(lambda mb: sized("CAM", mb), ["1 MB", "3 MB"])), Variant("more", (Changed(lambda other: other), scaled(1.5)))]
+    found = study(mission, variants, plan=None)
+    return sum(rows) + again.loss, list(found)
+
+
 if __name__ == "__main__":
-    assert planned()[0] >= 0 and recorded() == (Tally(0, 0, 0), []) and asked(("SCI", "HK"))[1] == (0, 0)
+    assert flown()[0] >= 0 and planned()[0] >= 0 and recorded() == (Tally(0, 0, 0), []) and asked(("SCI", "HK"))[1] == (0, 0)
     assert ask("[[store]]\nid = 'HK'\nsize = 2\ntype = 'bounded'\nchannel = 0\n", [b"\x18"]).all_done is False
