@@ -20,48 +20,52 @@ if TYPE_CHECKING:
 
 # How many bars a picture has at most.
 MOST_BARS = 40
+# How many minutes may lie between two ticks of an axis.
+TICKS = (5, 10, 15, 30, *(60 * hours for hours in (1, 2, 3, 6, 12, 24, 48, 96, 168, 336)))
 
-# Where the steps begin and end in the program's chart, in its units, and where their numbers stand.
-LEFT, RIGHT, NUMBERS = 180, 900, 96
+# Where the steps begin in the program's chart, in its units, and where their numbers stand.
+LEFT, NUMBERS = 180, 96
+# The most ranges of time that fit into a line.
+MOST_RANGES = 5
 _AXIS = re.compile(r"<text class='k' x='[\d.]+' y='96'>\d+</text>\n<path class='i' d='M[\d.]+ (\d+)V(\d+)'/>\n")
+_WIDTH = re.compile(r"<rect class='o' x='180' y='\d+' width='(\d+)'")
 _PATH = re.compile(r"(?<= d=')[^']*(?=')")
 _ACROSS = re.compile(r"([MH])(-?[\d.]+)")
+_RANGES = re.compile(r"(?<=>)In steps? ((?:\d+(?:&#8211;\d+)?, )+)")
 
 
 def chart_of(problem: Problem, made: Plan) -> str:
-    """The program's chart of a plan, whose axis is the time: steps are as wide as they are long, and UTC stands where passes begin."""
+    """The program's chart of a plan, whose axis is the time: steps are as wide as they are long, and UTC stands above them."""
     drawn = chart(problem.setup, problem.forecast, made).svg
-    edges, span = problem.edges, problem.edges[-1] - problem.edges[0]
-    # the edges of the steps, where the program has drawn them and where they belong
-    wide = [LEFT + (RIGHT - LEFT) * (edge - edges[0]) / span for edge in edges]
-
-    def across(found: re.Match[str]) -> str:
-        place = (float(found[2]) - LEFT) * len(problem) / (RIGHT - LEFT)
-        step = min(max(int(place), 0), len(problem) - 1)
-        return f"{found[1]}{wide[step] + (place - step) * (wide[step + 1] - wide[step]):.2f}".rstrip("0").rstrip(".")
-
-    def along(found: re.Match[str]) -> str:
-        return _ACROSS.sub(across, found[0])
-
-    tops = _AXIS.search(drawn)
-    if tops is None:
+    first, found = _AXIS.search(drawn), _WIDTH.search(drawn)
+    if first is None or found is None:
         return drawn
-    head, tail = drawn[: tops.start()], _AXIS.sub("", drawn[tops.start() :])
-    lines = [_PATH.sub(along, line) if line.startswith("<path") else line for line in tail.split("\n")]
-    axis = _utc_axis(problem.times, tops[1], tops[2])
-    head = head.replace(f"<text class='s' x='172' y='{NUMBERS}'>step</text>", f"<text class='s' x='172' y='{NUMBERS}'>UTC</text>")
-    return head + axis + _with_times("\n".join(lines), problem)
+    width, steps = int(found[1]), len(problem)
+    # where the edges of the steps belong
+    span = problem.edges[-1] - problem.edges[0]
+    edges = [LEFT + width * (edge - problem.edges[0]) / span for edge in problem.edges]
+
+    def across(place: re.Match[str]) -> str:
+        drawn_at = (float(place[2]) - LEFT) * steps / width
+        step = min(max(int(drawn_at), 0), steps - 1)
+        return f"{place[1]}{edges[step] + (drawn_at - step) * (edges[step + 1] - edges[step]):.2f}"
+
+    lines = _AXIS.sub("", drawn[first.start() :]).split("\n")
+    moved = "\n".join(_PATH.sub(lambda path: _ACROSS.sub(across, path[0]), line) if line.startswith("<path") else line for line in lines)
+    head = drawn[: first.start()].replace(f"y='{NUMBERS}'>step<", f"y='{NUMBERS}'>UTC<")
+    return head + _utc_axis(problem.times, width, first[1], first[2]) + _RANGES.sub(lambda ranges: _times_of(ranges, problem), moved)
 
 
-def _utc_axis(times: Sequence[datetime], top: str, bottom: str) -> str:
-    """The ticks of an axis in UTC: whole hours or days, about ten of them."""
+def _utc_axis(times: Sequence[datetime], width: int, top: str, bottom: str) -> str:
+    """The ticks of an axis in UTC: whole hours or days, about eight of them."""
     begin, span = times[0], times[-1] - times[0]
     found = []
     day = ""
     for moment in _ticks(begin, times[-1]):
-        x = LEFT + (RIGHT - LEFT) * ((moment - begin) / span)
-        # the day stands at the first tick of it
-        words = f"{moment:%H:%M}" if f"{moment:%m-%d}" == day else f"{moment:%m-%d %H:%M}" if span < timedelta(days=3) else f"{moment:%m-%d}"
+        x = LEFT + width * ((moment - begin) / span)
+        clock = "" if (moment.hour, moment.minute) == (0, 0) and span > timedelta(days=3) else f" {moment:%H:%M}"
+        # the day stands at its first tick
+        words = clock.strip() if f"{moment:%m-%d}" == day else f"{moment:%m-%d}{clock}"
         day = f"{moment:%m-%d}"
         found.append(f"<text class='k' x='{x:.1f}' y='{NUMBERS}'>{words}</text>\n<path class='i' d='M{x:.1f} {top}V{bottom}'/>\n")
     return "".join(found)
@@ -69,23 +73,19 @@ def _utc_axis(times: Sequence[datetime], top: str, bottom: str) -> str:
 
 def _ticks(begin: datetime, end: datetime) -> list[datetime]:
     """Moments from begin to end, of which a whole hour, some hours or days lie between two."""
-    hours = next((hours for hours in (1, 2, 3, 6, 12, 24, 48, 96, 168) if (end - begin) / timedelta(hours=hours) <= 9), 336)
+    minutes = next((minutes for minutes in TICKS if (end - begin) / timedelta(minutes=minutes) <= 8), TICKS[-1])
     first = begin.replace(hour=0, minute=0, second=0, microsecond=0)
-    count = int((end - first) / timedelta(hours=hours)) + 1
-    return [moment for moment in (first + timedelta(hours=hours * number) for number in range(count)) if begin <= moment <= end]
+    count = int((end - first) / timedelta(minutes=minutes)) + 1
+    return [moment for moment in (first + timedelta(minutes=minutes * number) for number in range(count)) if begin <= moment <= end]
 
 
-def _with_times(text: str, problem: Problem) -> str:
-    """The words of a chart, with the time after each range of steps."""
-
-    def timed(found: re.Match[str]) -> str:
-        first, last = int(found[2]), int(found[3] or found[2])
-        if not 1 <= first <= last <= len(problem):
-            return found[0]
-        return f"{found[0]} ({problem.times[first - 1]:%m-%d %H:%M} to {problem.times[last]:%m-%d %H:%M})"
-
-    lines = text.split("\n")
-    return "\n".join(re.sub(r"(\b)(\d+)(?:&#8211;(\d+))?(?=[,.])", timed, line) if "In step" in line and "wider window" in line else line for line in lines)
+def _times_of(ranges: re.Match[str], problem: Problem) -> str:
+    """The times of ranges of steps; where there are too many for a line the steps stay."""
+    given = [part.split("&#8211;") for part in ranges[1].removesuffix(", ").split(", ")]
+    if len(given) > MOST_RANGES:
+        return ranges[0]
+    times = [(problem.times[int(steps[0]) - 1], problem.times[int(steps[-1])]) for steps in given]
+    return "From " + ", ".join(f"{begin:%m-%d %H:%M} to {end:%m-%d %H:%M}" for begin, end in times) + ", "
 
 
 class Picture:

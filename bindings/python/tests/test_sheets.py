@@ -118,7 +118,7 @@ class Sheets(unittest.TestCase):
         self.assertIn("03-04", words)
         # where a pass begins its window is drawn: the first of them 220 minutes into seven days
         windows = next(path.get("d") for path in root.iter("{http://www.w3.org/2000/svg}path") if path.get("class") == "p")
-        self.assertAlmostEqual(float(re.match(r"M([\d.]+)", windows)[1]), 180 + 720 * 220 / (7 * 24 * 60), delta=0.3)
+        self.assertAlmostEqual(float(re.match(r"M([\d.]+)", windows)[1]), 180 + 768 * 220 / (7 * 24 * 60), delta=0.02)
 
     def test_charts_of_made_missions(self):
         for number in range(40):
