@@ -2,19 +2,34 @@
 
 from __future__ import annotations
 
+from bisect import bisect_left, bisect_right
 from collections.abc import Mapping
 from dataclasses import dataclass, replace
 from fractions import Fraction
 from functools import cached_property
-from typing import TYPE_CHECKING
+from typing import TYPE_CHECKING, NamedTuple
 
-from ._timeline import Flow, arrivals_of, contacts_of, falls, problem_of, rises, takes_limits
+from ._data import LIMIT
+from ._timeline import Contact, Flow, arrivals_of, contacts_of, falls, problem_of, rises, takes_limits
 from ._units import fault
 from .forecasts import Forecast
 from .setups import Setup
 
 if TYPE_CHECKING:
     from .mission import Mission, Pass
+
+
+def channel_of(column: str) -> int:
+    """The channel of a column of limits."""
+    return int(column.removeprefix(LIMIT))
+
+
+class Rooms(NamedTuple):
+    """What a pass can send in its steps, of which `first` is the first, from 0: all together, and by the columns of limits."""
+
+    first: int
+    windows: list[int]
+    limits: dict[str, list[int]]
 
 
 @dataclass(frozen=True)
@@ -38,53 +53,62 @@ class Base:
         return self.mission
 
     @cached_property
-    def _sends(self) -> dict[str, list[int]]:
-        """The windows of each pass by itself, where each adds its own to those of the steps."""
-        return {contact.one.name: falls(contact.sends, self.edges) for contact in contacts_of(self.mission_of("a pass"))}
+    def _own(self) -> dict[str, Rooms]:
+        """What each pass adds to the windows, and to the limits of channels."""
+        return {contact.one.name: self._rooms(contact) for contact in contacts_of(self.mission_of("a pass"))}
 
     @cached_property
     def _arrivals(self) -> dict[str, list[Flow]]:
         return arrivals_of(self.mission_of("an observation"))
 
     @cached_property
-    def _is_plain(self) -> bool:
-        """Whether the window of a pass is what the steps have less without it: no pass overlaps another one, and no channel has a rate."""
+    def _adds_up(self) -> bool:
+        """Whether windows and limits are those of the passes, one after the other, since none overlaps another one."""
+        passes = self.mission_of("a pass").passes
+        return all(before.end <= after.begin for before, after in zip(passes, passes[1:]))
+
+    @cached_property
+    def _lowers(self) -> bool:
+        """Whether windows are lowered to limits of the setup."""
         mission = self.mission_of("a pass")
-        ends = [one.end for one in mission.passes]
-        apart = all(end <= one.begin for end, one in zip(ends, mission.passes[1:]))
-        return apart and not any(mission.rates(one)[1] for one in mission.passes)
+        return not takes_limits() and any(mission.rates(one)[1] for one in mission.passes)
+
+    def _rooms(self, contact: Contact) -> Rooms:
+        first, last = bisect_right(self.edges, contact.sends.begin) - 1, bisect_left(self.edges, contact.sends.end)
+        edges = self.edges[first : last + 1]
+        limits = {name: falls(contact.channels.get(channel_of(name), contact.sends), edges) for name in self.forecast.limits}
+        return Rooms(first, falls(contact.sends, edges), limits)
 
     def without(self, forecast: Forecast, changed: Mapping[str, Pass | None]) -> Forecast:
         """The forecast where passes are others, or are not there."""
         mission = self.mission_of("a pass")
         for name in changed:
             mission.the_pass(name)
-        if self._is_plain:
-            windows = list(forecast.windows)
-            for name, one in changed.items():
-                self._put(windows, name, one)
-            return forecast.having(windows=windows)
-        passes = tuple(changed.get(one.name, one) for one in mission.passes)
-        problem = problem_of(replace(mission, passes=tuple(one for one in passes if one)), edges=self.edges)
-        if not takes_limits() and problem.setup.limits != self.setup.limits:
-            raise fault("", "other limits of channels", "a library with limits by step")
-        limits = {name: column for name, column in problem.forecast.arrivals.items() if name.startswith("limit:")}
-        for name in forecast.arrivals:
-            if name.startswith("limit:") and name not in limits:
-                limits[name] = problem.forecast.windows
-        return forecast.having(windows=problem.forecast.windows, arrivals=limits or None)
+        if not self._adds_up or (self._lowers and any(changed.values())):
+            return self._anew(forecast, changed)
+        windows = list(forecast.windows)
+        limits = {name: list(column) for name, column in forecast.limits.items()}
+        for name, one in changed.items():
+            own = self._own[name]
+            end = own.first + len(own.windows)
+            for column in (windows, *limits.values()):
+                column[own.first : end] = [0] * len(own.windows)
+            for contact in contacts_of(replace(mission, passes=(one,))) if one else ():
+                rooms = self._rooms(contact)
+                for column, blocks in ((windows, rooms.windows), *((limits[each], rooms.limits[each]) for each in limits)):
+                    column[rooms.first : rooms.first + len(blocks)] = blocks
+        return forecast.having(windows=windows, limits=limits)
 
-    def _put(self, windows: list[int], name: str, one: Pass | None) -> None:
-        """Takes the windows of a pass out, and puts those of another one in."""
-        own = self._sends[name]
-        first = next((step for step, blocks in enumerate(own) if blocks), len(own))
-        for step in range(first, len(own)):
-            windows[step] -= own[step]
-        if one is not None:
-            mission = self.mission_of("a pass")
-            for contact in contacts_of(replace(mission, passes=(one,))):
-                for step, blocks in enumerate(falls(contact.sends, self.edges)):
-                    windows[step] += blocks
+    def _anew(self, forecast: Forecast, changed: Mapping[str, Pass | None]) -> Forecast:
+        """The same where passes overlap: all windows are made again."""
+        mission = self.mission_of("a pass")
+        passes = [changed.get(one.name, one) for one in mission.passes]
+        problem = problem_of(replace(mission, passes=[one for one in passes if one]), edges=self.edges)
+        if self.setup.limits != problem.setup.limits and any(changed.values()):
+            raise fault("", "other limits of channels", "a library with limits by step")
+        # where no pass is left that has a rate for a channel, its limit is the window
+        limits = {name: problem.forecast.limits.get(name, problem.forecast.windows) for name in self.forecast.limits}
+        return forecast.having(windows=problem.forecast.windows, limits=limits)
 
     def scaled(self, store: str, forecast: Forecast, factor: Fraction) -> list[int]:
         """What arrives in a store, this many times as much."""

@@ -187,8 +187,13 @@ def _whole(given: Any, place: str) -> int:
 
 
 def _is_missing(value: Any) -> bool:
-    """Whether a data frame has nothing here: None, or what is not itself, as nan."""
-    return value is None or (not isinstance(value, (str, Mapping)) and bool(value != value))
+    """Whether a data frame has nothing here: None, or what is not itself, as nan, or neither is nor is not, as NA of pandas."""
+    if value is None or isinstance(value, (str, Mapping)):
+        return value is None
+    try:
+        return bool(value != value)
+    except TypeError:
+        return True
 
 
 def _routes(given: Any, places: _Places, faults: list[Fault]) -> Iterable[Route]:

@@ -13,6 +13,7 @@ from itertools import combinations, pairwise
 from typing import TYPE_CHECKING, Any, NamedTuple
 
 from . import _library
+from ._data import LIMIT
 from ._units import MICROSECOND, Rate, fault, moment_of, written
 from .forecasts import Forecast
 from .plans import MOST_STEPS
@@ -215,8 +216,7 @@ def problem_of(mission: Mission, step: timedelta | None = None, edges: tuple[int
     if not takes_limits():
         windows, setup_limits, limits = _for_all_steps(windows, limits)
     setup = Setup.of([mission.setup_store(store) for store in mission.stores], mission.routes, setup_limits)
-    named = {f"limit:{channel}": column for channel, column in sorted(limits.items())}
-    forecast = Forecast.of(windows, {**columns, **named})
+    forecast = Forecast.of(windows, columns, {f"{LIMIT}{channel}": column for channel, column in sorted(limits.items())})
     return Problem(mission, setup, forecast, tuple(mission.begin + edge * MICROSECOND for edge in edges), edges, tuple(contacts))
 
 

@@ -2,14 +2,14 @@
 
     >>> from rudlayog.mission import Mission, Observation, PacketStore, Pass
     >>> mission = Mission(
-    ...     stores=[PacketStore("CAM", size="8 MB")],
-    ...     passes=[Pass("Malargue", "2027-03-01T06:00:00Z", "2027-03-01T07:00:00Z", rate="64 kbit/s")],
-    ...     observations=[Observation("CAM", "2027-03-01T00:00:00Z", "2027-03-01T09:00:00Z", volume="30 MB")],
+    ...     stores=[PacketStore("CAM", size="16 MB")],
+    ...     passes=[Pass("Malargue", "2031-03-03T06:00:00Z", "2031-03-03T07:00:00Z", rate="64 kbit/s")],
+    ...     observations=[Observation("CAM", "2031-03-03T00:00:00Z", "2031-03-03T06:00:00Z", volume="20 MB")],
     ...     packet=1000,
     ... )
     >>> made = mission.plan()
-    >>> made.loss, [(row.store, row.blocks, row.lost) for row in made.passes()]
-    (5000, [('CAM', 28800, 1200)])
+    >>> made.loss, [(row.name, row.store, row.blocks, row.lost) for row in made.passes()]
+    (4375, [('before the first pass', 'CAM', 0, 4375), ('Malargue 1', 'CAM', 15625, 0)])
 
 Times are exact to the microsecond, and rates and volumes are fractions. What is rounded never promises what cannot be sent: windows and
 limits fall, and arrivals rise; what is cut off, or was taken too much, is carried to the next step, and `Problem.rounding` is its table.

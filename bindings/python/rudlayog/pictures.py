@@ -52,7 +52,7 @@ def chart_of(problem: Problem, made: Plan) -> str:
 
     lines = _AXIS.sub("", drawn[first.start() :]).split("\n")
     moved = "\n".join(_PATH.sub(lambda path: _ACROSS.sub(across, path[0]), line) if line.startswith("<path") else line for line in lines)
-    head = drawn[: first.start()].replace(f"y='{NUMBERS}'>step<", f"y='{NUMBERS}'>UTC<")
+    head = drawn[: first.start()].replace(f"x='172' y='{NUMBERS}'>step<", f"x='150' y='{NUMBERS}'>UTC<")
     return head + _utc_axis(problem.times, width, first[1], first[2]) + _RANGES.sub(lambda ranges: _times_of(ranges, problem), moved)
 
 

@@ -143,13 +143,14 @@ class MissionPlan:
     def of(cls, mission: Mission, step: timedelta | float | None = None, horizon: timedelta | None = None) -> MissionPlan:
         """The plan of a mission, in parts of this horizon if there is one."""
         parts: list[tuple[Problem, Plan]] = []
-        begin, holds = mission.begin, None
+        begin = mission.begin
         while begin < mission.end:
             end = mission.end if horizon is None else min(begin + horizon, mission.end)
+            left = _flown(*parts[-1])[-1].held if parts else {}
+            holds = {store: Volume(Fraction(held), True) for store, held in left.items()}
             problem = mission.between(begin, end, holds).problem(step)
             parts.append((problem, plan(problem.setup, problem.forecast)))
             begin = end
-            holds = {store: Volume(Fraction(held), True) for store, held in _flown(*parts[-1])[-1].held.items()}
         return cls(mission, tuple(parts))
 
     @property

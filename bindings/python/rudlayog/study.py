@@ -2,14 +2,17 @@
 
     >>> from rudlayog.mission import Mission, Observation, PacketStore, Pass
     >>> from rudlayog.study import each_pass_lost, study
+    >>> def at(hour):
+    ...     return f"2031-03-03T{hour:02}:00:00Z"
     >>> mission = Mission(
-    ...     stores=[PacketStore("CAM", size="8 MB")],
-    ...     passes=[Pass("Malargue", f"2027-03-01T{hour}:00:00Z", f"2027-03-01T{hour}:30:00Z", rate="64 kbit/s") for hour in ("06", "18")],
-    ...     observations=[Observation("CAM", "2027-03-01T00:00:00Z", "2027-03-01T21:00:00Z", volume="30 MB")],
+    ...     stores=[PacketStore("CAM", size="12 MB")],
+    ...     passes=[Pass("Malargue", at(hour), at(hour + 1), rate="64 kbit/s") for hour in (6, 18)],
+    ...     observations=[Observation("CAM", at(hour), at(hour + 5), volume="10 MB") for hour in (0, 12)],
+    ...     packet=1000,
     ... )
     >>> found = study(mission, each_pass_lost(mission))
-    >>> [(answer.name, answer.loss - found.base.loss) for answer in found]
-    [('without Malargue 1', 13733), ('without Malargue 2', 14061)]
+    >>> found.base.loss, [(answer.name, answer.loss) for answer in found]
+    (0, [('without Malargue 1', 8282), ('without Malargue 2', 0)])
 """
 
 from __future__ import annotations
@@ -24,7 +27,7 @@ from pathlib import Path
 from typing import TYPE_CHECKING, Any, TypeVar, Union
 
 from . import _library
-from ._base import Base
+from ._base import Base, channel_of
 from ._running import Progress, results
 from .forecasts import Forecast, ForecastLike
 from .mission import Mission
@@ -274,10 +277,9 @@ def _flown(setup: Setup, forecast: Forecast, dumps: tuple[tuple[int, ...], ...])
     held = [store.start for store in setup.stores]
     gone = [0] * len(held)
     limits = {limit.channel: [limit.blocks] * len(dumps) for limit in setup.limits}
-    for name, column in forecast.arrivals.items():
-        if name.startswith("limit:"):
-            channel = int(name[6:])
-            limits[channel] = [min(both) for both in zip(column, limits.get(channel, column))]
+    for name, column in forecast.limits.items():
+        channel = channel_of(name)
+        limits[channel] = [min(both) for both in zip(column, limits.get(channel, column))]
     for step, amounts in enumerate(dumps):
         window = forecast.windows[step]
         rooms = {channel: column[step] for channel, column in limits.items()}

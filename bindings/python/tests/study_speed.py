@@ -46,7 +46,7 @@ def linprog_time(setup, forecast):
     except ImportError:
         return None
     steps, stores = len(forecast.windows), setup.stores
-    limits = {name: column for name, column in forecast.arrivals.items() if name.startswith("limit:")}
+    limits = forecast.limits
     count = len(stores) * steps
 
     def at(kind, place, step):

@@ -1,5 +1,6 @@
 """Missions: what is rounded, which faults are told, and what the plan of a mission promises."""
 
+import doctest
 import os
 import pickle
 import tempfile
@@ -8,6 +9,8 @@ from datetime import datetime, timedelta, timezone
 from fractions import Fraction
 from pathlib import Path
 
+import rudlayog.mission
+import rudlayog.study
 from made_missions import DAY, made_mission
 from rudlayog import check, plan
 from rudlayog._timeline import takes_limits
@@ -279,6 +282,12 @@ class Planned(unittest.TestCase):
                     continue
                 with self.subTest(number=number, even=even):
                     self.assertLessEqual(mission.plan().loss, mission.plan(step=even).loss)
+
+
+def load_tests(_loader, tests, _pattern):
+    tests.addTests(doctest.DocTestSuite(rudlayog.mission))
+    tests.addTests(doctest.DocTestSuite(rudlayog.study))
+    return tests
 
 
 if __name__ == "__main__":
