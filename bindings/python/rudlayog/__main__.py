@@ -102,7 +102,7 @@ def _done(words: Namespace) -> None:
     """Does what the words say."""
     mission = Mission.read(words.mission)
     kind = Path(words.output).suffix if words.output else ""
-    step, horizon = (None if given is None else float(number_of(given, name, "minutes")) for name, given in (("--step", words.step), ("--horizon", words.horizon)))
+    step, horizon = _minutes("--step", words.step), _minutes("--horizon", words.horizon)
     if words.command == "study":
         _study(words, mission, kind)
         return
@@ -116,10 +116,15 @@ def _done(words: Namespace) -> None:
         else:
             _put(words, "".join(plan.text for _, plan in made.parts))
         return
-    forms: dict[str, Callable[[], str]] = {"": made.passes().markdown, ".md": made.passes().markdown, ".csv": made.passes().text, ".html": made.passes().html}
+    sheet = made.passes()
+    forms: dict[str, Callable[[], str]] = {"": sheet.markdown, ".md": sheet.markdown, ".csv": sheet.text, ".html": sheet.html}
     if kind not in forms:
         raise fault("--output", words.output, "a name that ends in .csv, .md or .html")
     _put(words, forms[kind]())
+
+
+def _minutes(name: str, given: str | None) -> float | None:
+    return None if given is None else float(number_of(given, name, "minutes"))
 
 
 def _study(words: Namespace, mission: Mission, kind: str) -> None:

@@ -46,9 +46,11 @@ def mission_in(path: str | os.PathLike[str]) -> Mission:
         raise fault(str(file), str(error), "a TOML document (toml.io)") from error
     places = _Places(file, text)
     faults: list[Fault] = []
+    files = [plural for plural, _ in TABLES.values()]
     for key in given:
-        if key not in (*PLAIN, *TABLES, "route", *(plural for plural, _ in TABLES.values())):
-            faults.append(Fault(places.key(key), f"the key {key}", f"one of {', '.join((*PLAIN, *TABLES))}, or the name of a CSV file as stores, stations, passes or observations"))
+        if key not in (*PLAIN, *TABLES, "route", *files):
+            meant = f"one of {', '.join((*PLAIN, *TABLES))}, or the name of a CSV file as {', '.join(files)}"
+            faults.append(Fault(places.key(key), f"the key {key}", meant))
     plain = {key: given[key] for key in PLAIN if key in given}
     for key in ("begin", "end"):
         if key in plain:

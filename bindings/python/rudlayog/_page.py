@@ -41,7 +41,7 @@ def page(sheet: Sheet) -> str:
         "<p class='note'>Times are in UTC. A block has room for one packet; 1 MB is 1,000,000 octets of packets. What is lost counts from the "
         "begin of a pass to that of the next one.</p>",
     ]
-    head = f"<meta charset='utf-8'><meta name='viewport' content='width=device-width, initial-scale=1'><title>{escape(title)}</title><style>{STYLE}</style>"
+    head = f"<meta charset='utf-8'><title>{escape(title)}</title><style>{STYLE}</style>"
     return f"<!doctype html>\n<html lang='en'><head>{head}</head>\n<body>\n" + "\n".join(parts) + "\n</body></html>\n"
 
 
@@ -58,7 +58,8 @@ def _summary(sheet: Sheet) -> list[str]:
     words = [f"{arrive:,} blocks arrive, {sent:,} are sent, and {made.loss:,} are lost."]
     verdicts = made.check()
     if all(verdicts):
-        words.append("No plan loses fewer: the checker says least." if len(verdicts) == 1 else f"Each of the {len(verdicts)} parts loses least from what the one before leaves.")
+        parts = f"Each of the {len(verdicts)} parts loses least from what the one before leaves."
+        words.append("No plan loses fewer: the checker says least." if len(verdicts) == 1 else parts)
     else:
         words += [f"The checker says: {verdict.line}." for verdict in verdicts if not verdict]
     return words

@@ -344,7 +344,8 @@ def _store_faults(mission: Mission, place: str) -> Iterable[Fault]:
         if not 1 <= made.size <= 1_000_000:
             yield Fault(f"{store.place}, size", f"{made.size:,} blocks of {mission.block} octets", "1 to 1,000,000 blocks")
         elif made.start > made.size:
-            yield Fault(f"{store.place}, holds", f"{made.start:,} packets of {mission.packet_of(store)} octets", f"at most its size, {made.size:,} blocks")
+            found = f"{made.start:,} packets of {mission.packet_of(store)} octets"
+            yield Fault(f"{store.place}, holds", found, f"at most its size, {made.size:,} blocks")
 
 
 def _name_faults(mission: Mission) -> Iterable[Fault]:
@@ -374,9 +375,11 @@ def _twice(names: Iterable[tuple[str, str]]) -> Iterable[Fault]:
 
 def _unit_faults(mission: Mission) -> Iterable[Fault]:
     """Units of 1000 beside those of 1024: one of them is a slip."""
-    volumes = [(store.size, f"{store.place}, size") for store in mission.stores] + [(store.holds, f"{store.place}, holds") for store in mission.stores]
+    volumes = [(store.size, f"{store.place}, size") for store in mission.stores]
+    volumes += [(store.holds, f"{store.place}, holds") for store in mission.stores]
     volumes += [(observation.volume, f"{observation.place}, volume") for observation in mission.observations if observation.volume]
     first = {kind: next(((volume.unit, place) for volume, place in volumes if volume.unit in units), None) for kind, units in enumerate(SIZES)}
     if first[0] and first[1]:
         (unit, place), (other, beside) = first[0], first[1]
-        yield Fault(beside, f"the unit {other}, beside {unit} at {place}", "units of 1000 octets (kB, MB, GB) alone, or of 1024 (KiB, MiB, GiB) alone")
+        meant = "units of 1000 octets (kB, MB, GB) alone, or of 1024 (KiB, MiB, GiB) alone"
+        yield Fault(beside, f"the unit {other}, beside {unit} at {place}", meant)

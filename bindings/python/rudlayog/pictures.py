@@ -125,7 +125,8 @@ def picture_of(study: Study, parameters: Sequence[str] = (), matplotlib: bool | 
             if matplotlib:
                 raise
         else:
-            return _by_matplotlib(Figure(figsize=(10, 4 + 0.15 * min(len(answers), 40) * (not parameters)), layout="constrained"), study, answers, parameters)
+            height = 4 if parameters else 3 + 0.2 * min(len(answers), MOST_BARS)
+            return _by_matplotlib(Figure(figsize=(10, height), layout="constrained"), study, answers, parameters)
     if len(parameters) == 2:
         return Picture(_map_svg(answers, parameters))
     return Picture(_bars_svg(study, _sorted(answers, parameters), parameters))
@@ -152,7 +153,8 @@ def _by_matplotlib(figure: Any, study: Study, answers: list[Answer], parameters:
     axes = figure.add_subplot()
     if len(parameters) == 2:
         first, second, losses = _axes_of(answers, parameters)
-        image = axes.imshow([[losses.get((x, y), float("nan")) for x in first] for y in second], origin="lower", aspect="auto", cmap="OrRd")
+        fields = [[losses.get((x, y), float("nan")) for x in first] for y in second]
+        image = axes.imshow(fields, origin="lower", aspect="auto", cmap="OrRd")
         axes.set_xticks(range(len(first)), [str(value) for value in first])
         axes.set_yticks(range(len(second)), [str(value) for value in second])
         axes.set_xlabel(parameters[0])
@@ -169,7 +171,8 @@ def _by_matplotlib(figure: Any, study: Study, answers: list[Answer], parameters:
         axes.barh([answer.name for answer in shown], [answer.loss for answer in shown], color="#2f6fb0")
         axes.set_xlabel("blocks lost")
     if len(parameters) < 2 and study.base.loss is not None:
-        (axes.axhline if parameters else axes.axvline)(study.base.loss, color="#444", linestyle="--", label=f"as it is: {study.base.loss:,}")
+        line = axes.axhline if parameters else axes.axvline
+        line(study.base.loss, color="#444", linestyle="--", label=f"as it is: {study.base.loss:,}")
         axes.legend()
     text = io.StringIO()
     figure.savefig(text, format="svg")

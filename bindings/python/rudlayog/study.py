@@ -19,6 +19,8 @@ from __future__ import annotations
 
 import csv
 import io
+import json
+import operator
 import os
 from collections.abc import Callable, Iterator, Mapping, Sequence
 from dataclasses import dataclass
@@ -28,6 +30,7 @@ from typing import TYPE_CHECKING, Any, TypeVar, Union
 
 from . import _library
 from ._base import Base, channel_of
+from ._data import Column
 from ._running import Progress, results
 from .forecasts import Forecast, ForecastLike
 from .mission import Mission
@@ -59,6 +62,7 @@ __all__ = [
 ]  # fmt: skip
 
 Made = TypeVar("Made")
+_less: Callable[[int, int], int] = operator.sub
 # How many variants a worker is given at a time.
 CHUNK = 64
 Given = Union[Mission, tuple[SetupLike, ForecastLike]]
@@ -185,7 +189,9 @@ def study(
     return Study(tuple(found[place] for place in sorted(found)), own, tuple(store.id for store in base.setup.stores), is_whole)
 
 
-def answers(given: Given, variants: VariantsLike, plan: Plan | None = None, executor: Any = None, *, chunk: int = CHUNK) -> Iterator[tuple[int, Answer]]:
+def answers(
+    given: Given, variants: VariantsLike, plan: Plan | None = None, executor: Any = None, *, chunk: int = CHUNK
+) -> Iterator[tuple[int, Answer]]:
     """The answers as they are done, each with its place among the variants, from 0."""
     base = _base(given)
     return _answers(base, variants, None if plan is None else _fixed(plan, base), executor, chunk)
@@ -221,7 +227,8 @@ def _fixed(plan: Any, base: Base) -> tuple[tuple[int, ...], ...]:
     made = plan.plan if hasattr(plan, "parts") else plan
     dumps = (made if isinstance(made, Plan) else Plan(plan_octets(made))).dumps
     if len(dumps) != len(base.forecast.windows) or len(dumps[0]) != len(base.setup.stores):
-        raise ValueError(f"the plan has {len(dumps)} steps of {len(dumps[0])} stores, and the mission {len(base.forecast.windows)} of {len(base.setup.stores)}")
+        wanted = f"{len(base.forecast.windows)} of {len(base.setup.stores)}"
+        raise ValueError(f"the plan has {len(dumps)} steps of {len(dumps[0])} stores, and the mission {wanted}")
     return dumps
 
 
@@ -254,11 +261,11 @@ def _planned(variant: Variant, setup: Setup, forecast: Forecast) -> Answer:
     text = _library.told(_library.rudlayog_plan, texts=(bytes(setup), bytes(forecast)))
     body, _, rest = text.partition(b"\nloss ")
     loss, *lines = rest.decode("ascii").split("\n")
-    width = len(setup.stores) + 2
-    cells = body[body.index(b"\ndump ") :].split()
+    # the numbers of all dump lines: the step, and the amount of each store
+    amounts = json.loads(b"[" + body[body.index(b"\ndump ") + len(b"\ndump ") :].replace(b"\ndump ", b",").replace(b" ", b",") + b"]")
+    width = len(setup.stores) + 1
     by_store = tuple(
-        lost_by(store.start, store.size, forecast.arrivals[store.id], list(map(int, cells[place::width])))
-        for place, store in enumerate(setup.stores, 2)
+        lost_by(store.start, store.size, forecast.arrivals[store.id], amounts[place::width]) for place, store in enumerate(setup.stores, 1)
     )
     bound = next(line for line in lines if line.startswith("bound "))
     return Answer(variant.name, int(loss), by_store, int(bound[6:]), "\n".join(lines[: lines.index(bound)]), "", variant.parameters)
@@ -267,9 +274,8 @@ def _planned(variant: Variant, setup: Setup, forecast: Forecast) -> Answer:
 def lost_by(start: int, size: int, arrivals: Sequence[int], dumps: Sequence[int]) -> int:
     """What a store loses, where each dump finds its blocks, as in a plan of the library: the most by which what came until a step was ever above
     the size and what had left before."""
-    came, left = accumulate(arrivals, initial=start - size), accumulate(dumps, initial=0)
-    next(came)
-    return max(0, max(map(int.__sub__, came, left)))
+    came = arrivals.sums if isinstance(arrivals, Column) else list(accumulate(arrivals))
+    return max(0, start - size + max(map(_less, came, accumulate(dumps, initial=0))))
 
 
 def _flown(setup: Setup, forecast: Forecast, dumps: tuple[tuple[int, ...], ...]) -> tuple[int, ...]:

@@ -9,7 +9,9 @@ import subprocess
 import sys
 import tempfile
 import unittest
+import unittest.mock
 import xml.etree.ElementTree as xml
+from dataclasses import dataclass
 from html.parser import HTMLParser
 from pathlib import Path
 
@@ -136,6 +138,37 @@ class Sheets(unittest.TestCase):
             words = ["chromium", "--headless", "--no-sandbox", "--disable-gpu", f"--user-data-dir={room}/profile", f"--print-to-pdf={drawn}", page.as_uri()]
             subprocess.run(words, check=True, capture_output=True, timeout=120)
             self.assertTrue(drawn.read_bytes().startswith(b"%PDF"))
+
+
+@dataclass(frozen=True)
+class Worth:
+    """A row of the library's sensitivity."""
+
+    item: str
+    name: str
+    step: int | None
+    now: int
+    next: int
+    most: int
+    without: int
+
+
+class Sensitivities(unittest.TestCase):
+    def test_with_the_time_of_each_step(self):
+        rows = [Worth("window", "", 2, 5, 1, 3, 0), Worth("size", "CAM", None, 9, 0, 0, 4)]
+        with unittest.mock.patch.object(rudlayog, "sensitivity", lambda setup, forecast: rows, create=True):
+            found = Mission.read(WEEK).sensitivity()
+        lines = found.text().splitlines()
+        # the first event after midnight is the first strip of the camera
+        self.assertEqual(lines[1], "window,,2,2031-03-03T01:10:00Z,2031-03-03T01:50:00Z,5,1,3,0")
+        self.assertEqual(lines[2], "size,CAM,,,,9,0,0,4")
+        self.assertEqual(found.to_dict()["most"], [3, 0])
+        self.assertIn("<td>CAM</td>", found._repr_html_())
+
+    def test_a_library_without(self):
+        if not hasattr(rudlayog, "sensitivity"):
+            with self.assertRaisesRegex(MissionError, "has no sensitivity"):
+                Mission.read(WEEK).sensitivity()
 
 
 class Command(unittest.TestCase):
