@@ -162,7 +162,10 @@ def _by_matplotlib(figure: Any, study: Study, answers: list[Answer], parameters:
         figure.colorbar(image, label="blocks lost")
     elif parameters:
         shown = _sorted(answers, parameters)
-        axes.plot([answer.parameters[parameters[0]] for answer in shown], [answer.loss for answer in shown], marker="o", color="#c4161c")
+        values = [answer.parameters[parameters[0]] for answer in shown]
+        # several answers for one value are points, and no line
+        style = "-" if len(values) == len(set(map(str, values))) else ""
+        axes.plot(values, [answer.loss for answer in shown], marker="o", linestyle=style, color="#c4161c")
         axes.set_xlabel(parameters[0])
         axes.set_ylabel("blocks lost")
         axes.set_ylim(bottom=0)
