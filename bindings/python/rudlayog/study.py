@@ -261,14 +261,19 @@ def _planned(variant: Variant, setup: Setup, forecast: Forecast) -> Answer:
     text = _library.told(_library.rudlayog_plan, texts=(bytes(setup), bytes(forecast)))
     body, _, rest = text.partition(b"\nloss ")
     loss, *lines = rest.decode("ascii").split("\n")
-    # the numbers of all dump lines: the step, and the amount of each store
-    amounts = json.loads(b"[" + body[body.index(b"\ndump ") + len(b"\ndump ") :].replace(b"\ndump ", b",").replace(b" ", b",") + b"]")
-    width = len(setup.stores) + 1
-    by_store = tuple(
-        lost_by(store.start, store.size, forecast.arrivals[store.id], amounts[place::width]) for place, store in enumerate(setup.stores, 1)
-    )
+    by_store = _lost_by_store(setup, forecast, body) if loss != "0" else (0,) * len(setup.stores)
     bound = next(line for line in lines if line.startswith("bound "))
     return Answer(variant.name, int(loss), by_store, int(bound[6:]), "\n".join(lines[: lines.index(bound)]), "", variant.parameters)
+
+
+def _lost_by_store(setup: Setup, forecast: Forecast, body: bytes) -> tuple[int, ...]:
+    """What each store loses, by the dump lines of a plan text."""
+    # the numbers of all lines: the step, and the amount of each store
+    amounts = json.loads(b"[" + body[body.index(b"\ndump ") + len(b"\ndump ") :].replace(b"\ndump ", b",").replace(b" ", b",") + b"]")
+    width = len(setup.stores) + 1
+    return tuple(
+        lost_by(store.start, store.size, forecast.arrivals[store.id], amounts[place::width]) for place, store in enumerate(setup.stores, 1)
+    )
 
 
 def lost_by(start: int, size: int, arrivals: Sequence[int], dumps: Sequence[int]) -> int:
