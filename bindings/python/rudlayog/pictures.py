@@ -108,6 +108,22 @@ class Picture:
             raise ValueError(f"{os.fspath(path)}: without matplotlib there is SVG alone")
 
 
+def windows_picture(worths: Sequence[tuple[datetime, datetime, int]], times: Sequence[datetime]) -> Picture:
+    """What each window is worth at most, over the time, as SVG."""
+    width, top, height = 720, 112, 160
+    most = max([blocks for _, _, blocks in worths] + [1])
+    lines = [_utc_axis(times, width, "100", str(top + height))]
+    for begin, end, blocks in worths:
+        left, right = (LEFT + width * ((moment - times[0]) / (times[-1] - times[0])) for moment in (begin, end))
+        tall = height * blocks / most
+        if blocks:
+            lines.append(f"<rect x='{left:.2f}' y='{top + height - tall:.1f}' width='{right - left:.2f}' height='{tall:.1f}' fill='#2f6fb0'/>")
+    lines.append(f"<rect x='{LEFT}' y='{top}' width='{width}' height='{height}' fill='none' stroke='#222' stroke-width='.5'/>")
+    lines.append(f"<text x='{LEFT - 8}' y='{top + 12}' text-anchor='end'>{most:,}</text>")
+    style = "<style>.k{text-anchor:middle;fill:#444}.i{fill:none;stroke:#bbb;stroke-width:.5}</style>"
+    return Picture(_svg(LEFT + width + 40, top + height + 20, "Blocks saved where one window is as wide as can be", [style, *lines]))
+
+
 def picture_of(study: Study, parameters: Sequence[str] = (), matplotlib: bool | None = None) -> Picture:
     """The picture of a study: by matplotlib where it is installed, unless `matplotlib` says otherwise."""
     answers = [answer for answer in study if answer.loss is not None]

@@ -19,6 +19,7 @@ from ._units import fault, written
 if TYPE_CHECKING:
     from ._timeline import Problem
     from .mission import Mission
+    from .pictures import Picture
 
 Made = TypeVar("Made")
 COLUMNS = ("item", "name", "step", "begin", "end", "now", "next", "most", "without")
@@ -66,6 +67,12 @@ class Sensitivity:
     def save(self, path: str | os.PathLike[str]) -> None:
         """Writes the table into a file."""
         Path(path).write_text(self.text(), encoding="utf-8", newline="")
+
+    def plot(self) -> Picture:
+        """A picture of the windows: how many blocks fewer are lost where one is as wide as can be, over the time."""
+        from .pictures import windows_picture
+
+        return windows_picture([(row["begin"], row["end"], row["most"]) for row in self.rows if row["item"] == "window"], self.problem.times)
 
     def _repr_html_(self) -> str:
         """What is worth anything, the most first."""

@@ -164,6 +164,7 @@ class Sensitivities(unittest.TestCase):
         self.assertEqual(lines[2], "size,CAM,,,,9,0,0,4")
         self.assertEqual(found.to_dict()["most"], [3, 0])
         self.assertIn("<td>CAM</td>", found._repr_html_())
+        xml.fromstring(found.plot().svg)
 
     def test_a_library_without(self):
         if not hasattr(rudlayog, "sensitivity"):
