@@ -11,6 +11,7 @@ pub mod Records
 pub mod Forecast
 pub mod StepLists
 pub mod Dumping
+pub mod Changed
 pub mod Data
 pub mod Rest
 pub mod Texts

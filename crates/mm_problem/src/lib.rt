@@ -2,6 +2,7 @@
 #![tactic(auto)]
 
 mod cells;
+mod changed;
 mod columns;
 mod data;
 mod document;

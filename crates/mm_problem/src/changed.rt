@@ -1,0 +1,69 @@
+//! A problem with one number changed.
+ghost use Rattle.std.specs.Prelude.{◌≡◌, ◌<◌, ◌≤◌, length, IfOk};
+ghost use Rattle.mm_base.specs.declared.limits.TheConstants.{MAX_BLOCKS};
+ghost use Rattle.mm_problem.specs.Changed.{with_window, with_limit, with_size};
+
+use crate::problem::Problem;
+use mm_base::{NoMemory, StoreRow};
+use std::alloc::Global;
+
+impl Problem {
+    // The same problem once more.
+    fn copy(&self, alloc: Global) -> Result<Problem, NoMemory>
+        ensures { IfOk result (λ problem. problem ≡ self.now) }
+    {
+        let rows = Vec::from_slice(alloc, self.rows.as_slice())?;
+        let windows = Vec::from_slice(alloc, self.windows.as_slice())?;
+        let arrived = Vec::from_slice(alloc, self.arrived.as_slice())?;
+        let limited = Vec::from_slice(alloc, self.limited.as_slice())?;
+        let step_limits = Vec::from_slice(alloc, self.step_limits.as_slice())?;
+        Ok(Problem {
+            rows,
+            limits: self.limits,
+            windows,
+            arrived,
+            limited,
+            step_limits,
+        })
+    }
+
+    /// The problem with this window in the step, in blocks.
+    pub fn with_window(&self, alloc: Global, step: u32, blocks: u32) -> Result<Problem, NoMemory>
+        requires first { 1 ≤ step }
+        requires last { step ≤ length self.now.windows }
+        requires most { blocks ≤ MAX_BLOCKS }
+        ensures problem { IfOk result (λ problem. problem ≡ with_window self.now step blocks) }
+    {
+        let mut problem = self.copy(alloc)?;
+        problem.windows[step as usize - 1] = blocks;
+        Ok(problem)
+    }
+
+    /// The problem with this limit of the channel in the setup, in blocks a step.
+    pub fn with_limit(&self, alloc: Global, channel: u8, blocks: u32) -> Result<Problem, NoMemory>
+        requires channel { channel < length self.now.limits }
+        requires most { blocks ≤ MAX_BLOCKS }
+        ensures problem { IfOk result (λ problem. problem ≡ with_limit self.now channel blocks) }
+    {
+        let mut problem = self.copy(alloc)?;
+        problem.limits[channel as usize] = Some(blocks);
+        Ok(problem)
+    }
+
+    /// The problem where the store has this size, in blocks, and begins with as many blocks as it then has room for.
+    pub fn with_size(&self, alloc: Global, store: usize, blocks: u32) -> Result<Problem, NoMemory>
+        requires store { store < length self.now.rows }
+        requires first { 1 ≤ blocks }
+        requires most { blocks ≤ MAX_BLOCKS }
+        ensures problem { IfOk result (λ problem. problem ≡ with_size self.now store blocks) }
+    {
+        let mut problem = self.copy(alloc)?;
+        let row = problem.rows[store];
+        problem.rows[store] = StoreRow {
+            size: blocks,
+            start: row.start.min(blocks),
+            ..row
+        };
+        Ok(problem)
+    }
+}
