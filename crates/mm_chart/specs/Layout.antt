@@ -19,9 +19,9 @@ abbrev pub one_if_some : Option ℕ → ℕ
 one_if_some (Some b) = 1
 one_if_some None = 0
 
--- 1 where the channel has a limit
+-- 1 where the channel has a limit: it has one in each step or in none, and so in the first
 abbrev pub has_limit : Dumping → ℕ → ℕ
-has_limit q c = one_if_some (limit q c)
+has_limit q c = one_if_some (limit q c 1)
 
 -- how many of the channels below this one have a limit
 abbrev pub limits_below : Dumping → ℕ → ℕ

@@ -48,8 +48,8 @@ pub record KeepsListed (p : Drawn) (r : Dumping) : Type 0 where
   -- the stores that the words name, as they have a stretch
   pub stores : (s : ℕ) → s < length p.problem.rows → IsTrue (has_stretch p s) → KeepsStore p r s
   pub windows : (t : ℕ) → IsTrue (is_marked p WindowCounts t) → window r t ≤ window p.problem t
-  pub limited : (t c : ℕ) → IsTrue (is_marked p LimitsCount t) → IsTrue (is_marked p (ChannelCounts c) t) → IsSome (limit r c)
-  pub limits : (t c : ℕ) → IsTrue (is_marked p LimitsCount t) → IsTrue (is_marked p (ChannelCounts c) t) → limit_or_0 r c ≤ limit_or_0 p.problem c
+  pub limited : (t c : ℕ) → IsTrue (is_marked p LimitsCount t) → IsTrue (is_marked p (ChannelCounts c) t) → IsSome (limit r c t)
+  pub limits : (t c : ℕ) → IsTrue (is_marked p LimitsCount t) → IsTrue (is_marked p (ChannelCounts c) t) → limit_or_0 r t c ≤ limit_or_0 p.problem t c
 
 -- where the chart says that no plan loses fewer, no plan that fits such a problem does
 abbrev pub OnlyListedHelps : Type 0

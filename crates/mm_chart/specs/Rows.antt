@@ -1,16 +1,15 @@
 -- The rows of a chart, and the document that they stand in.
 use Rattle.std.specs.Prelude.{ℕ, ◌+◌, ◌-◌, ◌/◌, ◌%◌, ◌==◌, ◌||◌, if◌then◌else◌, List, [], ◌∷◌, ◌++◌, length, codes, decimal, flat_map}
-use Rattle.std.specs.List.{sum_by}
+use Rattle.std.specs.List.{sum_by, list_any}
 use Rattle.mm_base.specs.Characters.{line_feed}
 use Rattle.mm_base.specs.Id.{id_text}
 use Rattle.mm_problem.specs.Dumping.{Dumping, row, size, start, channel, arrivals, steps, stores, channels}
-use Rattle.mm_cut.specs.Cuts.{limit_or_0}
 use Rattle.mm_chart.specs.declared.layout.TheConstants.{LEFT, WINDOW_BASE, TALL, THIN, NAME_AT, TICK_AT}
 use Rattle.mm_chart.specs.declared.pen.Style.{Style}
 use Rattle.mm_chart.specs.declared.pen.Style.TheVariants as style
 use Rattle.mm_chart.specs.declared.series.Series.TheVariants.{WindowCounts, Window, Used, ChannelCounts, Sent, Inner, Last, Written, Left, Lost}
 use Rattle.mm_chart.specs.Picture.{Drawn}
-use Rattle.mm_chart.specs.Series.{total_of, most_of}
+use Rattle.mm_chart.specs.Series.{total_of, most_of, most_limit}
 use Rattle.mm_chart.specs.Layout.{edge, step_width, has_limit, channel_base, store_base, bottom, tick_every}
 use Rattle.mm_chart.specs.Svg.{said, escaped, grouped, opened, closed, labelled, begun, line_at, profile}
 
@@ -46,11 +45,15 @@ windows_row p = profile p WindowCounts ++ profile p Window ++ profile p Used ++ 
 
 -- ---- the rows of the channels with a limit
 
--- the channel and its limit
+-- what stands before the limit of a channel: the limits of its column may differ from step to step
+abbrev pub limit_front : Dumping → ℕ → List ℕ
+limit_front q c = if list_any (λ k. k == c) q.limited then codes ": up to " else codes ": "
+
+-- the channel and its limit, the greatest of all steps
 unfoldable pub channel_side : Drawn → ℕ → List ℕ
 channel_side p c =
     opened style.Side NAME_AT (channel_base p.problem c - 5)
-    ++ said (codes "channel ") ++ decimal c ++ said (codes ": ") ++ grouped (limit_or_0 p.problem c) ++ said (codes " a step") ++ closed
+    ++ said (codes "channel ") ++ decimal c ++ said (limit_front p.problem c) ++ grouped (most_limit p.problem c) ++ said (codes " a step") ++ closed
 
 unfoldable pub channel_row : Drawn → ℕ → List ℕ
 channel_row p c =

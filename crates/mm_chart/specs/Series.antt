@@ -1,7 +1,7 @@
 -- The numbers that a chart draws: one for each step.
 use Rattle.std.specs.Prelude.{ℕ, ◌+◌, ◌-◌, ◌*◌, ◌/◌, ◌<◌, min, max, nat_le, Bool, ◌==◌, ◌&&◌, if◌then◌else◌, List, [], ◌∷◌, length}
 use Rattle.std.specs.List.{sum_by, list_any}
-use Rattle.mm_problem.specs.Dumping.{size, window, stores, stores_of, steps}
+use Rattle.mm_problem.specs.Dumping.{Dumping, size, window, stores, stores_of, steps}
 use Rattle.mm_plan.specs.Volumes.{written, left, lost}
 use Rattle.mm_cut.specs.Stretches.{store_of, goes_past, is_inner_on}
 use Rattle.mm_cut.specs.Cuts.{limit_or_0, counts_window, counts_limits}
@@ -81,11 +81,15 @@ most_lost_by p s = most_of p (Lost s)
 abbrev pub most_lost : Drawn → ℕ
 most_lost p = largest (most_lost_by p) (stores p.problem)
 
+-- the greatest limit of a channel in a step
+abbrev pub most_limit : Dumping → ℕ → ℕ
+most_limit q c = largest (λ t. limit_or_0 q t c) (steps q)
+
 -- the amount that is drawn in full height: the losses of all stores have one scale
 abbrev pub whole_of : Drawn → Series → ℕ
 whole_of p Window = most_of p Window
 whole_of p Used = most_of p Window
-whole_of p (Sent c) = limit_or_0 p.problem c
+whole_of p (Sent c) = most_limit p.problem c
 whole_of p (Written s) = size p.problem s
 whole_of p (Left s) = size p.problem s
 whole_of p (Lost s) = most_lost p

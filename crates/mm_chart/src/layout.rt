@@ -85,12 +85,14 @@ pub(crate) fn edge(problem: &Problem, step: u32) -> u32
     edge_at(step_width(problem), step)
 }
 
-// 1 where the channel has a limit.
+// 1 where the channel has a limit: in each step or in none.
 pub(crate) fn has_limit(problem: &Problem, channel: u8) -> u32
     ensures limit { result ≡ has_limit problem.now channel }
     ensures most { result ≤ 1 }
 {
-    if problem.limit(channel).is_some() {
+    // there is a first step
+    prove!(1 <= problem.steps());
+    if problem.limit(channel, 1).is_some() {
         1
     } else {
         0

@@ -4,9 +4,9 @@ ghost use Rattle.mm_base.specs.declared.limits.TheConstants.{MAX_STORES, MAX_STE
 ghost use Rattle.mm_base.specs.Id.{id_text};
 ghost use Rattle.mm_problem.specs.Dumping.{IsDumping, row, stores, steps, channels};
 ghost use Rattle.mm_chart.specs.declared.series.Series.TheVariants.{Window, Used, Lost};
-ghost use Rattle.mm_chart.specs.Series.{total_of, most_of, most_lost};
+ghost use Rattle.mm_chart.specs.Series.{total_of, most_of, most_limit, most_lost};
 ghost use Rattle.mm_chart.specs.Layout.{edge};
-ghost use Rattle.mm_chart.specs.Rows.{right, counted, frame, name, guide, numbered, windows_words, windows_row, channel_side, channel_row, channel_part, coming_to, all_coming, store_side, store_loss, store_words, store_bars, store_row, tick, rows};
+ghost use Rattle.mm_chart.specs.Rows.{right, counted, frame, name, guide, numbered, windows_words, windows_row, limit_front, channel_side, channel_row, channel_part, coming_to, all_coming, store_side, store_loss, store_words, store_bars, store_row, tick, rows};
 
 use crate::column::Column;
 use crate::layout::{
@@ -106,17 +106,40 @@ fn push_windows_row(text: &mut Vec<u8>, picture: &Picture) -> Pushed
     push_windows_words(text, picture, most, windows.total(), used.total())
 }
 
-// The channel and its limit.
+// The greatest limit of a channel in a step.
+#[tactic(auto, using(crate::proofs::Ranges::largest_next))]
+fn most_limit(problem: &Problem, channel: u8) -> u32
+    ensures { result ≡ most_limit problem.now channel }
+{
+    let mut most: u32 = 0;
+    for step in 1..problem.steps() + 1 {
+        most = most.max(problem.limit(channel, step).unwrap_or(0));
+    }
+    most
+}
+
+// What stands before the limit of a channel: the limits of its column may differ from step to step.
+fn limit_front(problem: &Problem, channel: u8) -> &'static [u8]
+    ensures { result.now ≡ limit_front problem.now channel }
+{
+    if problem.limited().contains(&channel) {
+        b": up to "
+    } else {
+        b": "
+    }
+}
+
+// The channel and its limit, the greatest of all steps.
 #[tactic(auto, using(std::proofs::Common::append_assoc), unfolding(crate::specs::Rows::channel_side))]
 fn push_channel_side(text: &mut Vec<u8>, picture: &Picture, channel: u8) -> Pushed
     ensures { OnOk result (text.new.items ≡ text.old.items ++ channel_side picture.now channel) }
 {
     let base = channel_base(picture.problem(), channel);
-    let limit = picture.problem().limit(channel).unwrap_or(0);
+    let problem = picture.problem();
     push_opened(text, Style::Side, NAME_AT, base - 5)?;
     push_value(text, b"channel ", u32::from(channel))?;
-    push_said(text, b": ")?;
-    push_grouped(text, u64::from(limit))?;
+    push_said(text, limit_front(problem, channel))?;
+    push_grouped(text, u64::from(most_limit(problem, channel)))?;
     push_said(text, b" a step")?;
     push_closed(text)
 }
@@ -128,7 +151,7 @@ fn push_channel_row(text: &mut Vec<u8>, picture: &Picture, channel: u8) -> Pushe
     let base = channel_base(picture.problem(), channel);
     push_profile(text, picture, Series::ChannelCounts(channel), 1)?;
     let sent = Column::new(picture, Series::Sent(channel));
-    let limit = picture.problem().limit(channel).unwrap_or(0);
+    let limit = most_limit(picture.problem(), channel);
     push_column(text, &sent, u64::from(limit))?;
     push_frame(text, picture.problem(), base, THIN)?;
     push_channel_side(text, picture, channel)?;
