@@ -79,13 +79,13 @@ class Base:
         limits = {name: falls(contact.channels.get(channel_of(name), contact.sends), edges) for name in self.forecast.limits}
         return Rooms(first, falls(contact.sends, edges), limits)
 
-    def without(self, forecast: Forecast, changed: Mapping[str, Pass | None]) -> Forecast:
-        """The forecast where passes are others, or are not there."""
+    def without(self, setup: Setup, forecast: Forecast, changed: Mapping[str, Pass | None]) -> tuple[Setup, Forecast]:
+        """The setup and the forecast where passes are others, or are not there."""
         mission = self.mission_of("a pass")
         for name in changed:
             mission.the_pass(name)
         if not self._adds_up or (self._lowers and any(changed.values())):
-            return self._anew(forecast, changed)
+            return self._anew(setup, forecast, changed)
         windows = list(forecast.windows)
         limits = {name: list(column) for name, column in forecast.limits.items()}
         for name, one in changed.items():
@@ -97,18 +97,17 @@ class Base:
                 rooms = self._rooms(contact)
                 for column, blocks in ((windows, rooms.windows), *((limits[each], rooms.limits[each]) for each in limits)):
                     column[rooms.first : rooms.first + len(blocks)] = blocks
-        return forecast.having(windows=windows, limits=limits)
+        return setup, forecast.having(windows=windows, limits=limits)
 
-    def _anew(self, forecast: Forecast, changed: Mapping[str, Pass | None]) -> Forecast:
+    def _anew(self, setup: Setup, forecast: Forecast, changed: Mapping[str, Pass | None]) -> tuple[Setup, Forecast]:
         """The same where passes overlap: all windows are made again."""
         mission = self.mission_of("a pass")
         passes = [changed.get(one.name, one) for one in mission.passes]
         problem = problem_of(replace(mission, passes=[one for one in passes if one]), edges=self.edges)
-        if self.setup.limits != problem.setup.limits and any(changed.values()):
-            raise fault("", "other limits of channels", "a library with limits by step")
         # where no pass is left that has a rate for a channel, its limit is the window
         limits = {name: problem.forecast.limits.get(name, problem.forecast.windows) for name in self.forecast.limits}
-        return forecast.having(windows=problem.forecast.windows, limits=limits)
+        limited = setup if setup.limits == problem.setup.limits else Setup(setup.stores, setup.routes, problem.setup.limits)
+        return limited, forecast.having(windows=problem.forecast.windows, limits=limits)
 
     def scaled(self, store: str, forecast: Forecast, factor: Fraction) -> list[int]:
         """What arrives in a store, this many times as much."""

@@ -33,7 +33,7 @@ class Lost:
 
     def of(self, base: Base, setup: Setup, forecast: Forecast) -> Texts:
         """The setup and the forecast that this makes of others of the base."""
-        return setup, base.without(forecast, dict.fromkeys(self.passes))
+        return base.without(setup, forecast, dict.fromkeys(self.passes))
 
 
 @dataclass(frozen=True)
@@ -50,8 +50,8 @@ class Shortened:
         late, early = (span_of(given, f"pass {self.one}") if given else timedelta(0) for given in (self.late, self.early))
         one = mission.the_pass(self.one)
         if one.begin + late >= one.end - early:
-            return setup, base.without(forecast, {self.one: None})
-        return setup, base.without(forecast, {self.one: replace(one, begin=one.begin + late, end=one.end - early)})
+            return base.without(setup, forecast, {self.one: None})
+        return base.without(setup, forecast, {self.one: replace(one, begin=one.begin + late, end=one.end - early)})
 
 
 @dataclass(frozen=True)
@@ -79,7 +79,7 @@ class Rated:
                 continue
             made = rate.times(factor) if self.rate is None else rate_of(self.rate, "rate")
             changed[one.name] = replace(one, rate=made, channels={channel: each.times(factor) for channel, each in channels.items()})
-        return setup, base.without(forecast, changed)
+        return base.without(setup, forecast, changed)
 
 
 @dataclass(frozen=True)

@@ -147,16 +147,16 @@ class Answers(unittest.TestCase):
 
     def test_grid(self):
         store = PLAIN.stores[0].id
-        found = study(PLAIN, grid(arrivals=(scaled, [0.5, 1, 2]), size=(lambda blocks: sized(store, f"{blocks} blocks"), [10, 40])))
-        self.assertEqual([answer.parameters for answer in found][:2], [{"arrivals": 0.5, "size": 10}, {"arrivals": 0.5, "size": 40}])
+        found = study(PLAIN, grid(arrivals=(scaled, [0.5, 1, 2]), size=(lambda blocks: sized(store, f"{blocks} blocks"), [45, 400])))
+        self.assertEqual([answer.parameters for answer in found][:2], [{"arrivals": 0.5, "size": 45}, {"arrivals": 0.5, "size": 400}])
         losses = {tuple(answer.parameters.values()): answer.loss for answer in found}
-        self.assertTrue(losses[0.5, 40] <= losses[1, 40] <= losses[2, 40] <= losses[2, 10])
+        self.assertTrue(losses[0.5, 400] <= losses[1, 400] <= losses[2, 400] <= losses[2, 45])
 
     def test_pictures(self):
         from rudlayog.pictures import picture_of
 
         store = PLAIN.stores[0].id
-        found = study(PLAIN, grid(arrivals=(scaled, [0.5, 1, 2]), size=(lambda blocks: sized(store, f"{blocks} blocks"), [10, 40])))
+        found = study(PLAIN, grid(arrivals=(scaled, [0.5, 1, 2]), size=(lambda blocks: sized(store, f"{blocks} blocks"), [45, 400])))
         for parameters in ((), ("arrivals",), ("arrivals", "size")):
             self.assertIn("<svg", picture_of(found, parameters, matplotlib=False).svg)
             self.assertIn("<svg", found.plot(*parameters).svg)
