@@ -2,6 +2,7 @@
 
 from __future__ import annotations
 
+import re
 from bisect import bisect_left, bisect_right
 from collections.abc import Mapping
 from dataclasses import dataclass, replace
@@ -13,15 +14,26 @@ from ._data import LIMIT
 from ._timeline import Contact, Flow, arrivals_of, contacts_of, falls, problem_of, rises, takes_limits
 from ._units import fault
 from .forecasts import Forecast
-from .setups import Setup
+from .setups import Setup, Store
 
 if TYPE_CHECKING:
     from .mission import Mission, Pass
 
 
+_SIZE = re.compile(rb"\nsize = \d+\n")
+
+
 def channel_of(column: str) -> int:
     """The channel of a column of limits."""
     return int(column.removeprefix(LIMIT))
+
+
+def sized_setup(setup: Setup, stores: list[Store]) -> Setup:
+    """The setup with these stores, which differ from its own in their sizes alone. Its text is made from that of the setup."""
+    made = Setup(tuple(stores), setup.routes, setup.limits)
+    sizes = iter(stores)
+    vars(made)["_octets"] = _SIZE.sub(lambda _: b"\nsize = %d\n" % next(sizes).size, bytes(setup))
+    return made
 
 
 class Rooms(NamedTuple):

@@ -44,22 +44,22 @@ class Flow:
 
     def falls(self, times: Sequence[int]) -> list[int]:
         """What flows in each step, where a block counts once it is whole."""
-        return self._steps(times, 1)
-
-    def rises(self, times: Sequence[int]) -> list[int]:
-        """What flows in each step, where a block that has begun is whole."""
-        return self._steps(times, -1)
-
-    def _steps(self, times: Sequence[int], sign: int) -> list[int]:
         column = [0] * (len(times) - 1)
+        self._add(times, column, 1)
+        return column
+
+    def rise(self, times: Sequence[int], column: list[int]) -> None:
+        """Adds what flows in each step, where a block that has begun is whole."""
+        self._add(times, column, -1)
+
+    def _add(self, times: Sequence[int], column: list[int], sign: int) -> None:
         first, last = max(bisect_right(times, self.begin) - 1, 0), min(bisect_left(times, self.end), len(times) - 1)
         above = sign * self.above
         before = above * (max(times[first], self.begin) - self.begin) // self.below
         for step in range(first, last):
             after = above * (min(times[step + 1], self.end) - self.begin) // self.below
-            column[step] = sign * (after - before)
+            column[step] += sign * (after - before)
             before = after
-        return column
 
     def exact(self, time: int) -> Fraction:
         """What has flowed at this time."""
@@ -182,8 +182,8 @@ class Problem:
         flows += [(f"{contact.one.name}, channel {channel}", flow, False) for contact in self.contacts for channel, flow in contact.channels.items()]
         flows += [(store, flow, True) for store, given in self.arrivals.items() for flow in given]
         found = []
-        for name, flow, rises in flows:
-            counts = flow.rises(self.edges) if rises else flow.falls(self.edges)
+        for name, flow, is_arrival in flows:
+            counts = rises([flow], self.edges) if is_arrival else flow.falls(self.edges)
             carried = Fraction(0)
             for step, ((begin, end), blocks) in enumerate(zip(pairwise(self.edges), counts), 1):
                 exact = flow.exact(end) - flow.exact(begin)
@@ -232,8 +232,10 @@ def column_of(mission: Mission, store: str, flows: list[Flow], times: Sequence[i
 
 def rises(flows: list[Flow], times: Sequence[int]) -> list[int]:
     """What flows in each step, where a block that has begun is whole."""
-    columns = [flow.rises(times) for flow in flows]
-    return list(map(sum, zip(*columns))) if columns else [0] * (len(times) - 1)
+    column = [0] * (len(times) - 1)
+    for flow in flows:
+        flow.rise(times, column)
+    return column
 
 
 def falls(flow: Flow, times: Sequence[int]) -> list[int]:

@@ -22,11 +22,12 @@ import io
 import json
 import operator
 import os
+import re
 from collections.abc import Callable, Iterator, Mapping, Sequence
 from dataclasses import dataclass
 from itertools import accumulate
 from pathlib import Path
-from typing import TYPE_CHECKING, Any, TypeVar, Union
+from typing import TYPE_CHECKING, Any, NamedTuple, TypeVar, Union
 
 from . import _library
 from ._base import Base, channel_of
@@ -62,6 +63,7 @@ __all__ = [
 ]  # fmt: skip
 
 Made = TypeVar("Made")
+_END = re.compile(rb"\nloss (\d+)\n((?:[sc].*\n)*)bound (.*)\nend\n")
 _less: Callable[[int, int], int] = operator.sub
 # How many variants a worker is given at a time.
 CHUNK = 64
@@ -89,7 +91,7 @@ class Answer:
     @property
     def cut(self) -> Cut:
         """The cut."""
-        lines = [line.split(" ") for line in self.shown.split("\n")]
+        lines = [line.split(" ") for line in self.shown.splitlines()]
         stretches = tuple(Stretch(line[1], int(line[2]), int(line[3])) for line in lines if line[0] == "stretch")
         return Cut(stretches, tuple(int(line[1]) for line in lines if line[0] == "count"), self.bound or 0)
 
@@ -163,13 +165,15 @@ def study(
     plan: Plan | None = None,
     executor: Any = None,
     *,
+    by_store: bool = True,
     chunk: int = CHUNK,
     progress: bool | None = None,
 ) -> Study:
     """The answers for variants of a mission, or of a setup and a forecast.
 
     Each variant is planned anew, with the least loss; or, with a `plan`, that one is flown, and where less can be sent than it says, the
-    stores give way in the reverse of their order. `executor` is any of `concurrent.futures`, or Dask's `Client`; without one threads of this
+    stores give way in the reverse of their order. The losses by store take longer than the plan: `by_store=False` leaves them out, but those
+    of a plan that is given. `executor` is any of `concurrent.futures`, or Dask's `Client`; without one threads of this
     machine are used. Whatever executes it, the table is the same. A worker that dies costs its variants a second try. A progress bar is shown
     where standard error is a terminal; `Ctrl-C` ends the study with what is done."""
     base = _base(given)
@@ -178,28 +182,36 @@ def study(
     is_whole = True
     bar = Progress(variants, progress)
     try:
-        for place, answer in _answers(base, variants, dumps, executor, chunk):
+        for place, answer in _answers(Task(base, dumps, by_store), variants, executor, chunk):
             found[place] = answer
             bar.add()
     except KeyboardInterrupt:
         is_whole = False
     finally:
         bar.close()
-    own = answer_of(base, Variant("as it is"), dumps)
+    own = answer_of(Task(base, dumps, by_store), Variant("as it is"))
     return Study(tuple(found[place] for place in sorted(found)), own, tuple(store.id for store in base.setup.stores), is_whole)
 
 
 def answers(
-    given: Given, variants: VariantsLike, plan: Plan | None = None, executor: Any = None, *, chunk: int = CHUNK
+    given: Given, variants: VariantsLike, plan: Plan | None = None, executor: Any = None, *, by_store: bool = True, chunk: int = CHUNK
 ) -> Iterator[tuple[int, Answer]]:
     """The answers as they are done, each with its place among the variants, from 0."""
     base = _base(given)
-    return _answers(base, variants, None if plan is None else _fixed(plan, base), executor, chunk)
+    return _answers(Task(base, None if plan is None else _fixed(plan, base), by_store), variants, executor, chunk)
 
 
-def _answers(base: Base, variants: VariantsLike, dumps: Any, executor: Any, chunk: int) -> Iterator[tuple[int, Answer]]:
+class Task(NamedTuple):
+    """What is asked of each variant: the `base`, the `dumps` of a plan that stays, if there is one, and whether losses `by_store` are told."""
+
+    base: Base
+    dumps: tuple[tuple[int, ...], ...] | None = None
+    by_store: bool = True
+
+
+def _answers(task: Task, variants: VariantsLike, executor: Any, chunk: int) -> Iterator[tuple[int, Answer]]:
     numbered = enumerate(variants_of(variants))
-    for given, done in results(executor, answer_chunk, (base, dumps), numbered, chunk):
+    for given, done in results(executor, answer_chunk, task, numbered, chunk):
         if isinstance(done, BaseException):
             done = [Answer(variant.name, None, (), None, "", f"{type(done).__name__}: {done}", variant.parameters) for _, variant in given]
         yield from zip((place for place, _ in given), done)
@@ -232,38 +244,39 @@ def _fixed(plan: Any, base: Base) -> tuple[tuple[int, ...], ...]:
     return dumps
 
 
-def answer_chunk(shared: tuple[Base, Any], given: list[tuple[int, Variant]]) -> list[Answer]:
+def answer_chunk(task: Task, given: list[tuple[int, Variant]]) -> list[Answer]:
     """The answers for some variants; a worker is given this call."""
-    base, dumps = shared
-    return [answer_of(base, variant, dumps) for _, variant in given]
+    return [answer_of(task, variant) for _, variant in given]
 
 
-def answer_of(base: Base, variant: Variant, dumps: Any = None) -> Answer:
+def answer_of(task: Task, variant: Variant) -> Answer:
     """The answer for one variant."""
     try:
-        changes = variant.changes
+        base, changes = task.base, variant.changes
         while changes and isinstance(changes[0], Changed):
             base, changes = changes[0].base_of(base), changes[1:]
         setup, forecast = base.setup, base.forecast
         for change in changes:
             setup, forecast = change.of(base, setup, forecast)
-        if dumps is not None:
-            by_store = _flown(setup, forecast, dumps)
+        if task.dumps is not None:
+            by_store = _flown(setup, forecast, task.dumps)
             return Answer(variant.name, sum(by_store), by_store, None, "", "", variant.parameters)
-        return _planned(variant, setup, forecast)
+        return _planned(variant, setup, forecast, task.by_store)
     except (Refusal, ValueError, TypeError, ArithmeticError, LookupError) as error:
         words = str(error) if isinstance(error, (Refusal, ValueError)) else f"{type(error).__name__}: {error}"
         return Answer(variant.name, None, (), None, "", words, variant.parameters)
 
 
-def _planned(variant: Variant, setup: Setup, forecast: Forecast) -> Answer:
+def _planned(variant: Variant, setup: Setup, forecast: Forecast, by_store: bool) -> Answer:
     """The answer of a least plan, read from its text."""
     text = _library.told(_library.rudlayog_plan, texts=(bytes(setup), bytes(forecast)))
-    body, _, rest = text.partition(b"\nloss ")
-    loss, *lines = rest.decode("ascii").split("\n")
-    by_store = _lost_by_store(setup, forecast, body) if loss != "0" else (0,) * len(setup.stores)
-    bound = next(line for line in lines if line.startswith("bound "))
-    return Answer(variant.name, int(loss), by_store, int(bound[6:]), "\n".join(lines[: lines.index(bound)]), "", variant.parameters)
+    # after the dumps come the loss, the lines of the cut, the bound, and the end
+    at = text.rindex(b"\nloss ")
+    loss, cut, bound = _END.fullmatch(text, at).groups()  # type: ignore[union-attr]
+    lost: tuple[int, ...] = ()
+    if by_store:
+        lost = _lost_by_store(setup, forecast, text[:at]) if loss != b"0" else (0,) * len(setup.stores)
+    return Answer(variant.name, int(loss), lost, int(bound), cut.decode("ascii"), "", variant.parameters)
 
 
 def _lost_by_store(setup: Setup, forecast: Forecast, body: bytes) -> tuple[int, ...]:

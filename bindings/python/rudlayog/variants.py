@@ -13,7 +13,7 @@ from fractions import Fraction
 from itertools import product
 from typing import TYPE_CHECKING, Any, Union
 
-from ._base import Base
+from ._base import Base, sized_setup
 from ._timeline import problem_of
 from ._units import Number, RateLike, VolumeLike, fault, number_of, rate_of, span_of, volume_of
 from .forecasts import Forecast
@@ -112,7 +112,7 @@ class Sized:
         if self.store not in [store.id for store in setup.stores]:
             raise fault("", f"the store {self.store!r}", f"one of the stores {', '.join(store.id for store in setup.stores)}")
         made = [replace(store, size=self._blocks(base, store.size)) if store.id == self.store else store for store in setup.stores]
-        return Setup(tuple(made), setup.routes, setup.limits), forecast
+        return sized_setup(setup, made), forecast
 
     def _blocks(self, base: Base, now: int) -> int:
         if self.size is not None:

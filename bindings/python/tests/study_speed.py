@@ -12,7 +12,7 @@ from pathlib import Path
 sys.path.insert(0, str(Path(__file__).resolve().parents[1]))
 sys.path.insert(0, str(Path(__file__).resolve().parent))
 from rudlayog.mission import Mission  # noqa: E402
-from rudlayog.study import Variant, _base, answer_of, each_pass_lost, each_store_sized, scaled, study  # noqa: E402
+from rudlayog.study import Task, Variant, _base, answer_of, each_pass_lost, each_store_sized, scaled, study  # noqa: E402
 from what_if import c_call, least_times  # noqa: E402
 
 EXAMPLE = Path(__file__).resolve().parents[3] / "examples" / "mars_week" / "mission.toml"
@@ -34,7 +34,7 @@ def a_second(mission, workers):
     with ThreadPoolExecutor(workers) as pool:
         begin = time.perf_counter()
         while time.perf_counter() - begin < SECONDS:
-            count += len(study(mission, kinds * 16, executor=pool, progress=False))
+            count += len(study(mission, kinds * 16, executor=pool, by_store=False, progress=False))
         return count / (time.perf_counter() - begin)
 
 
@@ -87,15 +87,20 @@ def main():
         "arrivals of one store scaled": [Variant(store.id, (scaled(1.1, store.id),)) for store in mission.stores],
         "a store larger": list(each_store_sized(mission, 1.25)),
     }
+    alone, whole = Task(base, by_store=False), Task(base)
     for kind, variants in kinds.items():
         for variant in variants:
-            answer_of(base, variant)
+            answer_of(whole, variant)
         for _ in range(3):
-            times = [least_times(lambda: answer_of(base, variant), c_call(*texts_of(base, variant))) for variant in variants]
-            in_python, in_c = (sum(column) / len(variants) for column in zip(*times))
+            calls = [(lambda: answer_of(alone, variant), lambda: answer_of(whole, variant), c_call(*texts_of(base, variant))) for variant in variants]
+            times = [least_times(*each) for each in calls]
+            in_python, by_store, in_c = (sum(column) / len(variants) for column in zip(*times))
             if in_python <= most * in_c:
                 break
-        print(f"study: {kind}: {in_python:.0f} us in Python, {in_c:.0f} us in C, {in_python / in_c:.2f} times")
+        print(
+            f"study: {kind}: {in_python:.0f} us in Python, {in_c:.0f} us in C, {in_python / in_c:.2f} times; "
+            f"with the losses by store {by_store:.0f} us, {by_store / in_c:.2f} times"
+        )
         failed |= in_python > most * in_c
     workers = os.cpu_count() or 1
     one, all_of_them = a_second(mission, 1), a_second(mission, workers)
@@ -104,7 +109,7 @@ def main():
     if found is None:
         print("study: linprog is passed over: no scipy")
     else:
-        answer = answer_of(base, Variant("as it is"))
+        answer = answer_of(Task(base), Variant("as it is"))
         print(f"study: linprog takes {found[0] * 1e3:.0f} ms for the same problem, and finds {found[1]}; the plan loses {answer.loss}")
     return failed
 
