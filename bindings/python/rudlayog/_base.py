@@ -8,10 +8,12 @@ from collections.abc import Mapping
 from dataclasses import dataclass, replace
 from fractions import Fraction
 from functools import cached_property
+from math import gcd
+from operator import add, sub
 from typing import TYPE_CHECKING, NamedTuple
 
-from ._data import LIMIT
-from ._timeline import Contact, Flow, arrivals_of, contacts_of, falls, problem_of, rises, takes_limits
+from ._data import LIMIT, Column
+from ._timeline import Contact, arrivals_of, contacts_of, falls, problem_of, takes_limits
 from ._units import fault
 from .forecasts import Forecast
 from .setups import Setup, Store
@@ -70,8 +72,20 @@ class Base:
         return {contact.one.name: self._rooms(contact) for contact in contacts_of(self.mission_of("a pass"))}
 
     @cached_property
-    def _arrivals(self) -> dict[str, list[Flow]]:
-        return arrivals_of(self.mission_of("an observation"))
+    def _less(self) -> dict[str, list[tuple[int, list[int], int]]]:
+        """For each observation of each store its first step, from 0, and what has come until the edges of its steps: below 0, as numerators of
+        fractions with one denominator."""
+        found: dict[str, list[tuple[int, list[int], int]]] = {}
+        for store, flows in arrivals_of(self.mission_of("an observation")).items():
+            found[store] = []
+            for flow in flows:
+                first, last = max(bisect_right(self.edges, flow.begin) - 1, 0), bisect_left(self.edges, flow.end)
+                edges = self.edges[first : last + 1]
+                less = [-flow.above * (min(max(edge, flow.begin), flow.end) - flow.begin) for edge in edges]
+                # small numbers take less time
+                common = gcd(flow.below, *less)
+                found[store].append((first, [numerator // common for numerator in less], flow.below // common))
+        return found
 
     @cached_property
     def _adds_up(self) -> bool:
@@ -121,9 +135,18 @@ class Base:
         limited = setup if setup.limits == problem.setup.limits else Setup(setup.stores, setup.routes, problem.setup.limits)
         return limited, forecast.having(windows=problem.forecast.windows, limits=limits)
 
-    def scaled(self, store: str, forecast: Forecast, factor: Fraction) -> list[int]:
+    def scaled(self, store: str, forecast: Forecast, factor: Fraction) -> Column:
         """What arrives in a store, this many times as much."""
         if self.mission is None:
-            return [-(-blocks * factor.numerator // factor.denominator) for blocks in forecast.arrivals[store]]
-        flows = [Flow(flow.begin, flow.end, flow.above * factor.numerator, flow.below * factor.denominator) for flow in self._arrivals[store]]
-        return rises(flows, self.edges)
+            return Column(-(-blocks * factor.numerator // factor.denominator) for blocks in forecast.arrivals[store])
+        column = [0] * len(forecast.windows)
+        for first, less, below in self._less[store]:
+            # what has come until each edge rises to whole blocks; it is below 0 here, and falls
+            above, whole = factor.numerator, below * factor.denominator
+            counts = [numerator * above // whole for numerator in less]
+            came = map(sub, counts, counts[1:])
+            if len(self._less[store]) == 1 and len(counts) > len(column):
+                return Column(came)
+            last = first + len(counts) - 1
+            column[first:last] = map(add, column[first:last], came)
+        return Column(column)

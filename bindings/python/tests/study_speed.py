@@ -1,7 +1,7 @@
 #!/usr/bin/env python3
 """Measures what a variant of a study takes: `study_speed.py [MOST]`. On one thread it is compared with the call in C, whose texts and buffer are
 there already; then all processors work at once; and scipy's linprog (HiGHS) solves the same problem, where it is installed. Prints a line for
-each, and fails where a variant takes more than MOST times (1.5) the C call."""
+each, and fails where a variant whose losses by store are left out takes more than MOST times (2) the C call."""
 
 import os
 import sys
@@ -78,7 +78,7 @@ def linprog_time(setup, forecast):
 
 def main():
     """The program."""
-    most = float(sys.argv[1]) if len(sys.argv) > 1 else 1.5
+    most = float(sys.argv[1]) if len(sys.argv) > 1 else 2.0
     mission = Mission.read(EXAMPLE)
     base = _base(mission)
     failed = 0
