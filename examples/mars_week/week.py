@@ -22,7 +22,7 @@ found.save(out / "study.csv")
 found.plot(matplotlib=False).save(out / "study.svg")
 (out / "chart.svg").write_text(made.charts()[0])
 
-# The third pass over Malargue is missed. On the next morning the stores are measured, and the rest of the week is planned again.
+# The third pass over Malargue is missed. In the night two stores are measured, and the rest of the week is planned again.
 gone = mission.without("Malargue 3").plan()
-again = mission.without("Malargue 3").between("2031-03-06T00:00:00Z", holds={"CAM": "231 MB", "SPEC": "150 MB"}).plan()
+again = gone.at("2031-03-06T00:00:00Z", holds={"CAM": "231 MB", "SPEC": "150 MB"}).plan()
 print(f"the week loses {made.loss}; without Malargue 3 {gone.loss}, and {again.loss} from Thursday on by what was measured")

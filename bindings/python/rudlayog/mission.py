@@ -269,7 +269,8 @@ class Mission:
         raise fault("", f"the pass {name!r}", f"one of the passes {', '.join(one.name for one in self.passes)}")
 
     def between(self, begin: Moment | None = None, end: Moment | None = None, holds: Mapping[str, VolumeLike] | None = None) -> Mission:
-        """The part of the mission from `begin` to `end`, whose stores hold this as it begins."""
+        """The part of the mission from `begin` to `end`, whose stores hold this as it begins; those that are not named hold what they do as the
+        mission begins. `MissionPlan.at` has what they hold by a plan."""
         begin, end = moment_of(begin or self.begin, "begin"), moment_of(end or self.end, "end")
         if not self.begin <= begin < end <= self.end:
             meant = f"a part of the mission, which goes from {written(self.begin)} to {written(self.end)}"
