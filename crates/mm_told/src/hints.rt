@@ -62,7 +62,7 @@ fn is_of_forecast(reason: Reason) -> bool {
         Refusal::ForecastText | Refusal::Header | Refusal::Cell | Refusal::StepNumber => true,
         Refusal::Limit => matches!(
             reason.spot,
-            Spot::Number(Name::Steps | Name::Window | Name::Arrivals)
+            Spot::Number(Name::Steps | Name::Window | Name::Arrivals | Name::Limit)
         ),
         _ => false,
     }

@@ -1,4 +1,5 @@
 //! Hints on a plan that does not fit.
+ghost use Rattle.std.specs.Prelude.{◌≤◌, length};
 
 use crate::hints::lines::line_at;
 use crate::hints::sentence::{Sentence, Shown};
@@ -30,8 +31,11 @@ fn dumped(problem: &Problem, line: &str, channel: Option<u8>) -> u64 {
 }
 
 // By how much the line of a step passes the limit of a channel.
-fn in_channel(problem: &Problem, line: &str, step: u32, channel: u8) -> Option<Sentence> {
-    let limit = u64::from(problem.limit(channel)?);
+fn in_channel(problem: &Problem, line: &str, step: u32, channel: u8) -> Option<Sentence>
+    requires first { 1 ≤ step }
+    requires last { step ≤ length problem.now.windows }
+{
+    let limit = u64::from(problem.limit(channel, step)?);
     let dumped = dumped(problem, line, Some(channel));
     if dumped <= limit {
         return None;

@@ -35,7 +35,12 @@ fn header_hint(alloc: Global, texts: Texts<'_>) -> Option<Sentence> {
     let setup = Setup::read(alloc, texts.setup).ok()?;
     let found = Shown::Text(Excerpt::of(header));
     let wanted = Shown::Text(wanted_header(&setup));
-    let words = "the header is {}, and {} is expected";
+    // No other column has a colon in its name.
+    let words = if header.contains(&b':') {
+        "the header is {}, and {} is expected, then limit:0 to limit:7 for limits, rising"
+    } else {
+        "the header is {}, and {} is expected"
+    };
     Some(Sentence::new(words, &[found, wanted]))
 }
 

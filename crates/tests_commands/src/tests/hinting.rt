@@ -82,7 +82,7 @@ static SETUP_HINTS: [(&str, &str); 18] = [
 ];
 
 // Forecasts that are refused, and what is found in each.
-static FORECAST_HINTS: [(&str, &str); 14] = [
+static FORECAST_HINTS: [(&str, &str); 17] = [
     (
         "step;window;A\n1;2;3\n",
         "semicolons separate the cells; save the file with commas",
@@ -104,6 +104,18 @@ static FORECAST_HINTS: [(&str, &str); 14] = [
         "the header is \"step,window,a\", and \"step,window,A\" is expected",
     ),
     ("", "the header is \"\", and \"step,window,A\" is expected"),
+    (
+        "step,window,A,limit:8\n1,2,3,4\n",
+        "the header is \"step,window,A,limit:8\", and \"step,window,A\" is expected, then limit:0 to limit:7 for limits, rising",
+    ),
+    (
+        "step,window,A,limit:0\n1,2,3,4,5\n",
+        "row 1 is line 2 of the file, whose header is line 1; cells: 5 there, 4 in the header",
+    ),
+    (
+        "step,window,A,limit:0\n1,2,3,1000001\n",
+        "line 2 of the file has \"1000001\"; 1,000,000 is the most",
+    ),
     (
         "[[store]]\nid = \"A\"\nsize = 4\ntype = \"bounded\"\nchannel = 0\n",
         "the files are in another order; name the setup first, then the forecast",
