@@ -57,9 +57,9 @@ pub record IsFirstUnknown (q : Dumping) (stores : List Held) (id : List ℕ) : T
   pub unknown : is_unknown q store ≡ true
   pub before : All (λ h. is_unknown q h ≡ false) (take at stores)
 
--- a channel of the problem has a limit
+-- a channel of the problem has a limit: it has one in each step or in none, and so in the first
 abbrev pub HasLimit : Dumping → Type 0
-HasLimit q = (c : ℕ) × (c < length q.limits) × (is_some (limit q c) ≡ true)
+HasLimit q = (c : ℕ) × (c < length q.limits) × (is_some (limit q c 1) ≡ true)
 
 -- there are sources and links, and not too many
 pub record AreCounts (sources links : ℕ) : Type 0 where

@@ -4,4 +4,4 @@ use Rattle.mm_problem.specs.Dumping.{limit}
 use Rattle.mm_exec.proofs.readiness.has_limit.Given as goal
 
 abbrev pub invariant-loop-channel : goal.invariant-loop-channel
-invariant-loop-channel l = (c : ℕ) → c < l.channel → is_some (limit l.problem c) ≡ false
+invariant-loop-channel l = (c : ℕ) → c < l.channel → is_some (limit l.problem c 1) ≡ false
