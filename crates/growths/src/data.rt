@@ -6,7 +6,7 @@ use mm_problem::{Fault, Problem};
 use mm_record::{Source, later_sources};
 use std::alloc::Global;
 
-// A problem of one store and two steps.
+// A problem of one store and two steps, with limits of its channel in them.
 fn new_problem(alloc: Global) -> Result<Problem, Fault> {
     let Ok(id) = StoreId::of_text(b"SCI") else {
         return Err(Fault::Header);
@@ -18,7 +18,8 @@ fn new_problem(alloc: Global) -> Result<Problem, Fault> {
         kind: Kind::Bounded,
         channel: 0,
     };
-    Problem::new(alloc, &[row], &[], &[2, 1], &[3, 4])
+    let problem = Problem::new(alloc, &[row], &[], &[2, 1], &[3, 4])?;
+    problem.with_step_limits(alloc, &[0], &[2, 1])
 }
 
 /// What came of a problem from data.

@@ -59,6 +59,19 @@ static BY_CHANNELS: [&str; 7] = [
     "<text class='w' x='16' y='418'>No wider window.</text>",
 ];
 
+const ONE_STORE_OF_A: &str =
+    "[[store]]\nid = \"A\"\nsize = 3\ntype = \"bounded\"\nchannel = 0\n";
+
+const LIMITED_STEPS_OF_A: &str = "step,window,A,limit:0\n1,5,3,1\n2,0,3,2\n";
+
+// The same where the limit is one of the step, and that of the next step is twice as high: 1 of 2 in a height of 18 is 9.
+static BY_LIMITS_OF_STEPS: [&str; 4] = [
+    "<path class='c' d='M180 178V152H276V178V178'/>",
+    "<path class='v' d='M180 174V165H276V174V174'/>",
+    "<text class='s' x='172' y='169'>channel 0: up to 2 a step</text>",
+    "<text class='w' x='16' y='338'>In step 1, at most 1 leave by the limits of the channels.</text>",
+];
+
 const THREE_SIZES: &str =
     "[[store]]\nid = \"A\"\nsize = 3\ntype = \"bounded\"\nchannel = 0\n[[store]]\nid = \"B\"\nsize = 1000000\ntype = \"bounded\"\nchannel = 0\n[[store]]\nid = \"C\"\nsize = 4\ntype = \"bounded\"\nchannel = 1\n[[limit]]\nchannel = 1\nblocks = 2\n";
 
@@ -106,6 +119,12 @@ fn charts_have_these_lines(rt: HostRuntime) {
     is_charted(&rt, alloc, (SCI, THREE_STEPS, FIRST_RUN), &SHOWN);
     let limited = (A_LIMITED, TWO_STEPS_OF_A, CHANNEL_LIMIT_CUT);
     is_charted(&rt, alloc, limited, &BY_CHANNELS);
+    let by_step = (
+        ONE_STORE_OF_A,
+        LIMITED_STEPS_OF_A,
+        CHANNEL_LIMIT_CUT,
+    );
+    is_charted(&rt, alloc, by_step, &BY_LIMITS_OF_STEPS);
     is_charted(
         &rt,
         alloc,

@@ -34,7 +34,7 @@ macro_rules! rows {
     };
 }
 
-static ROWS: [Row; 13] = rows! {
+static ROWS: [Row; 17] = rows! {
     name: "first_run",
     SCI, THREE_STEPS, FIRST_RUN =>
         misfit None, loss 2, bound Some(2), Least(2);
@@ -85,6 +85,23 @@ static ROWS: [Row; 13] = rows! {
     "[[store]]\nid = \"A\"\nsize = 3\ntype = \"bounded\"\nchannel = 0\n", TWO_STEPS_OF_A,
     CHANNEL_LIMIT_CUT =>
         misfit None, loss 2, bound None, BadCount(1);
+    name: "limits of the steps, of which the first counts",
+    "[[store]]\nid = \"A\"\nsize = 3\ntype = \"bounded\"\nchannel = 0\n", "step,window,A,limit:0\n1,5,3,1\n2,0,3,9\n",
+    CHANNEL_LIMIT_CUT =>
+        misfit None, loss 2, bound Some(2), Least(2);
+    name: "a limit of the setup below that of the step",
+    A_LIMITED, "step,window,A,limit:0\n1,5,3,2\n2,0,3,0\n",
+    CHANNEL_LIMIT_CUT =>
+        misfit None, loss 2, bound Some(2), Least(2);
+    name: "more than the limit of the second step, though not more than that of the first",
+    "[[store]]\nid = \"A\"\nsize = 3\ntype = \"bounded\"\nchannel = 0\n", "step,window,A,limit:0\n1,5,3,2\n2,5,3,1\n",
+    "mmplan 1\nstores A\ndump 1 2\ndump 2 2\nloss 1\nstretch A 1 2\nbound -2\nend\n" =>
+        misfit Some(2), loss 1, bound Some(-2), DoesNotFit(2);
+    name: "two channels with limits of the steps, one of them the setup's",
+    "[[store]]\nid = \"A\"\nsize = 3\ntype = \"bounded\"\nchannel = 0\n[[store]]\nid = \"B\"\nsize = 3\ntype = \"bounded\"\nchannel = 5\n[[limit]]\nchannel = 5\nblocks = 2\n",
+    "step,window,A,B,limit:0,limit:5\n1,9,3,3,1,3\n2,0,3,3,7,0\n",
+    "mmplan 2\nstores A B\ndump 1 1 2\ndump 2 0 0\nloss 3\nstretch A 1 2\nstretch B 1 2\ncount 1 channels\nbound 3\nend\n" =>
+        misfit None, loss 3, bound Some(3), Least(3);
 };
 
 // The cut's bound, where it is a cut of the problem.

@@ -118,6 +118,22 @@ fn one_store_loses_what_is_counted_by_hand(rt: HostRuntime) {
     lose_least(&rt, rt.alloc(), &ONE_STORE);
 }
 
+static LIMITED_STEPS: [Counted; 4] = counted! {
+    name: "the limits of the steps are those of the setup",
+    store "A" 3 0 0; "step,window,A,limit:0\n1,5,3,1\n2,0,3,1\n" => 2;
+    name: "the second step has the limit that counts",
+    store "A" 3 3 0; "step,window,A,limit:0\n1,3,0,3\n2,3,3,0\n3,0,3,3\n" => 3;
+    name: "a limit of the setup below that of the step",
+    store "A" 3 0 0; limit 0 1; "step,window,A,limit:0\n1,5,3,2\n2,0,3,0\n" => 2;
+    name: "one channel may send in the first step, the other in the second",
+    store "A" 2 2 0; store "B" 2 2 1; "step,window,A,B,limit:0,limit:1\n1,2,0,0,2,0\n2,2,1,1,0,2\n3,0,1,2,9,9\n" => 1;
+};
+
+#[test]
+fn limits_of_steps_lose_what_is_counted_by_hand(rt: HostRuntime) {
+    lose_least(&rt, rt.alloc(), &LIMITED_STEPS);
+}
+
 static TWO_STORES: [Counted; 4] = counted! {
     name: "foresight_beats_even_split",
     store "A" 3 0 0; store "B" 3 0 1; "step,window,A,B\n1,2,3,3\n2,0,2,0\n" => 0;

@@ -169,3 +169,50 @@ fn the_rest_is_the_problem_of_the_later_steps(rt: HostRuntime) {
     let fault = rest_of(&rt, rt.alloc(), &problem, [5, 0]).err();
     is_shown(&rt, rt.alloc(), fault, "33 Limit name start");
 }
+
+const LIMITED: &str =
+    "step,window,SCI,HK,limit:3,limit:6\n1,7,3,1,5,0\n2,0,0,8,9,1000000\n3,1000000,5,6,2,4\n";
+
+static STEP_LIMITS: [u32; 6] = [5, 0, 9, 1_000_000, 2, 4];
+
+#[test]
+fn limits_of_steps_are_those_of_the_text(rt: HostRuntime) {
+    let problem = from_data(&rt, rt.alloc());
+    let limited = problem.with_step_limits(rt.alloc(), &[3, 6], &STEP_LIMITS);
+    let limited = limited.expect(&rt, "a problem");
+    is_said(&rt, rt.alloc(), &limited, SETUP, LIMITED);
+    let without = limited.with_step_limits(rt.alloc(), &[], &[]);
+    let without = without.expect(&rt, "a problem");
+    is_said(&rt, rt.alloc(), &without, SETUP, FORECAST);
+}
+
+const LATER_LIMITED: &str =
+    "step,window,SCI,HK,limit:3,limit:6\n1,0,0,8,9,1000000\n2,1000000,5,6,2,4\n";
+
+#[test]
+fn the_rest_has_the_limits_of_the_later_steps(rt: HostRuntime) {
+    let problem = problem_of(&rt, rt.alloc(), SETUP, LIMITED);
+    let rest = rest_of(&rt, rt.alloc(), &problem, [4, 0]).expect(&rt, "a problem");
+    is_said(&rt, rt.alloc(), &rest, LATER_SETUP, LATER_LIMITED);
+}
+
+// Channels and limits of three steps, and the fault.
+static STEP_LIMITS_REFUSED: [(&[u8], &[u32], &str); 8] = [
+    (&[8], &[1, 1, 1], "30 Header"),
+    (&[3, 3], &[1; 6], "30 Header"),
+    (&[3, 0], &[1; 6], "30 Header"),
+    (&[0, 1, 2, 3, 4, 5, 6, 7, 8], &[1; 27], "30 Header"),
+    (&[3], &[1, 1], "29 ForecastText"),
+    (&[3], &[1, 1, 1, 1], "29 ForecastText"),
+    (&[], &[1], "29 ForecastText"),
+    (&[3], &[1, 1_000_001, 1], "33 Limit name limit"),
+];
+
+#[test]
+fn limits_of_steps_as_data_refused(rt: HostRuntime) {
+    let problem = from_data(&rt, rt.alloc());
+    for (channels, limits, fault) in &STEP_LIMITS_REFUSED {
+        let limited = problem.with_step_limits(rt.alloc(), channels, limits);
+        is_shown(&rt, rt.alloc(), limited.err(), fault);
+    }
+}

@@ -43,9 +43,13 @@ fn forecast_cells(rt: HostRuntime) {
     refused_each(&rt, rt.alloc(), &CELLS_REFUSED)
 }
 
-static HEADERS_REFUSED: [(&str, &str); 9] = refused! {
+static HEADERS_REFUSED: [(&str, &str); 20] = refused! {
     "30 Header": "", "\n\r\n", "1,2,3\n", "step,window\n", "step,window,SCI,HK\n", "step, window,SCI\n",
-        "Step,window,SCI\n", "step,window,sci\n", "step,window,HK\n1,2,3";
+        "Step,window,SCI\n", "step,window,sci\n", "step,window,HK\n1,2,3", "step,window,limit:0,SCI\n",
+        "step,window,SCI,limit\n", "step,window,SCI,limit:\n", "step,window,SCI,limit:8\n", "step,window,SCI,limit:01\n",
+        "step,window,SCI,limit: 1\n", "step,window,SCI,Limit:1\n", "step,window,SCI,limit:1,limit:1\n",
+        "step,window,SCI,limit:1,limit:0\n", "step,window,SCI,limit:0,HK\n",
+        "step,window,SCI,limit:0,limit:1,limit:2,limit:3,limit:4,limit:5,limit:6,limit:7,limit:8\n";
 };
 
 #[test]
@@ -148,10 +152,18 @@ fn is_store(rt: &impl Abort, problem: &Problem, place: usize, text: &str, number
 // Channels, and their limits; the last is no channel.
 static LIMITS: [(u8, Option<u32>); 3] = [(0, None), (3, Some(9)), (200, None)];
 
+// The limit of a channel in a step, which is none where there is no such step.
+fn limit_at(problem: &Problem, channel: u8, step: u32) -> Option<u32> {
+    if step < 1 || problem.steps() < step {
+        return None;
+    }
+    problem.limit(channel, step)
+}
+
 // The channels have these limits.
 fn has_limits(rt: &impl Abort, problem: &Problem) {
     for (channel, limit) in &LIMITS {
-        assert!(rt; problem.limit(*channel) == *limit, "channel {channel}");
+        assert!(rt; limit_at(problem, *channel, 1) == *limit, "channel {channel}");
     }
 }
 
@@ -180,4 +192,57 @@ fn comes(rt: &impl Abort, problem: &Problem, step: u32, wanted: [u32; 3]) {
     let (first, second) = (problem.arrivals(0, step), problem.arrivals(1, step));
     let found = [problem.window(step), first, second];
     assert!(rt; found == wanted, "step {step}");
+}
+
+// Records after a header with columns of limits, and the answer.
+static LIMITED_RECORDS: [(&str, &str); 9] = [
+    ("1,2,3,0,1000000\n", "read"),
+    ("1,2,3\n", "29 ForecastText"),
+    ("1,2,3,4\n", "29 ForecastText"),
+    ("1,2,3,4,5,6\n", "29 ForecastText"),
+    ("1,2,3,x,5\n", "31 Cell row 1 column 4"),
+    ("1,2,3,4,05\n", "31 Cell row 1 column 5"),
+    ("1,2,3,1000001,x\n", "33 Limit name limit"),
+    ("1,2,1000001,x,5\n", "33 Limit name arrivals"),
+    ("1,2,3,4,5\n2,2,3,4,\n", "31 Cell row 2 column 5"),
+];
+
+#[test]
+fn records_with_limits(rt: HostRuntime) {
+    for (rows, wanted) in &LIMITED_RECORDS {
+        let text = joined(&rt, rt.alloc(), &["step,window,SCI,limit:0,limit:7\n", rows]);
+        answered(&rt, rt.alloc(), text.as_bytes(), wanted);
+    }
+}
+
+const LIMITED_STEPS: &str = "step,window,SCI,HK,limit:0,limit:3\n1,2,1,1,5,7\n2,0,5,6,0,12\n";
+
+// Channels and steps, and the limits: of the step, the lesser where the setup has a limit of 9, and none.
+static LIMITS_BY_STEP: [(u8, u32, Option<u32>); 8] = [
+    (0, 1, Some(5)),
+    (3, 1, Some(7)),
+    (1, 1, None),
+    (0, 2, Some(0)),
+    (3, 2, Some(9)),
+    (1, 2, None),
+    (7, 2, None),
+    (200, 2, None),
+];
+
+// Each channel has the limits of these steps; what comes and the windows are beside them.
+fn has_limits_by_step(rt: &impl Abort, problem: &Problem) {
+    for (channel, step, limit) in &LIMITS_BY_STEP {
+        let found = limit_at(problem, *channel, *step);
+        assert!(rt; found == *limit, "channel {channel}, step {step}");
+    }
+    assert!(rt; problem.limited() == [0, 3].as_slice());
+    comes(rt, problem, 2, [0, 5, 6]);
+}
+
+#[test]
+fn limits_of_steps_are_read(rt: HostRuntime) {
+    let limits = "[[limit]]\nchannel = 3\nblocks = 9\n";
+    let setup = joined(&rt, rt.alloc(), &[SCI, SECOND, limits]);
+    let problem = problem_of(&rt, rt.alloc(), setup.as_str(), LIMITED_STEPS);
+    has_limits_by_step(&rt, &problem);
 }

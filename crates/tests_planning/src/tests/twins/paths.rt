@@ -152,3 +152,32 @@ fn both_paths_lose_what_the_slow_twin_loses(rt: HostRuntime) {
     }
     assert!(rt; some > 50);
 }
+
+// The same problem with limits of each step, of up to 2 blocks, for one or both channels.
+fn limited_by_step(rt: &impl Abort, alloc: Global, problem: &Problem, state: &mut u32) -> Problem {
+    let both = [0, 1];
+    let channels = &both[next_below(state, 2) as usize..];
+    let mut limits = Vec::new(alloc);
+    for _ in 0..problem.steps() {
+        for _ in channels {
+            limits.push(next_below(state, 3)).expect(rt, "memory");
+        }
+    }
+    let limited = problem.with_step_limits(alloc, channels, limits.as_slice());
+    limited.expect(rt, "a problem")
+}
+
+#[test]
+fn limits_by_step_lose_what_the_slow_twin_loses(rt: HostRuntime) {
+    let mut state = 5;
+    let mut more = 0_u32;
+    for _ in 0..100 {
+        let problem = random_problem(&rt, rt.alloc(), &mut state);
+        let limited = limited_by_step(&rt, rt.alloc(), &problem, &mut state);
+        let least = least_loss(&rt, rt.alloc(), &limited);
+        let unlimited = planned_loss(&rt, rt.alloc(), &problem);
+        assert!(rt; unlimited <= least, "limits help");
+        more = more.saturating_add(u32::from(unlimited < least));
+    }
+    assert!(rt; more > 30);
+}

@@ -279,7 +279,21 @@ impl Tally {
     }
 }
 
-// The proposal for a made problem and its plain form are the same.
+// The proposal for a problem and its plain form are the same.
+fn is_alike(rt: &impl Abort, alloc: Global, problem: &Problem, name: &str, tally: &mut Tally) {
+    let (stores, steps) = (problem.stores(), problem.steps());
+    let proposed = propose(alloc, problem).expect(rt, "memory");
+    let plain = propose_plain::propose(alloc, problem).expect(rt, "memory");
+    let plans = are_alike(problem, &proposed.plan, &plain.plan);
+    assert!(rt; plans, "the plan of {name}, {stores} stores, {steps} steps");
+    let cuts = proposed.cut == plain.cut && proposed.by_channels == plain.by_channels;
+    assert!(rt; cuts, "the cut of {name}, {stores} stores, {steps} steps");
+    let first = propose_plain::first_plan(alloc, problem).expect(rt, "memory");
+    let is_moved = !are_alike(problem, &proposed.plan, &first);
+    tally.count(&proposed, is_moved);
+}
+
+// So they are for a made problem.
 fn is_the_same(
     rt: &impl Abort,
     alloc: Global,
@@ -289,16 +303,39 @@ fn is_the_same(
     tally: &mut Tally,
 ) {
     let problem = made_problem(rt, alloc, family, shape, numbers);
-    let (name, stores, steps) = (family.name, shape.stores, shape.steps);
-    let proposed = propose(alloc, &problem).expect(rt, "memory");
-    let plain = propose_plain::propose(alloc, &problem).expect(rt, "memory");
-    let plans = are_alike(&problem, &proposed.plan, &plain.plan);
-    assert!(rt; plans, "the plan of {name}, {stores} stores, {steps} steps");
-    let cuts = proposed.cut == plain.cut && proposed.by_channels == plain.by_channels;
-    assert!(rt; cuts, "the cut of {name}, {stores} stores, {steps} steps");
-    let first = propose_plain::first_plan(alloc, &problem).expect(rt, "memory");
-    let is_moved = !are_alike(&problem, &proposed.plan, &first);
-    tally.count(&proposed, is_moved);
+    is_alike(rt, alloc, &problem, family.name, tally);
+}
+
+// The same problem with limits of each step for channels 0 and 2: up to twice the window.
+fn limited_by_step(rt: &impl Abort, alloc: Global, problem: &Problem, numbers: &mut Numbers) -> Problem {
+    let mut limits = Vec::new(alloc);
+    for step in 1..problem.steps() + 1 {
+        let most = problem.window(step).saturating_mul(2).min(MAX_BLOCKS);
+        for _ in 0..2u32 {
+            limits.push(numbers.upto(most)).expect(rt, "memory");
+        }
+    }
+    let limited = problem.with_step_limits(alloc, &[0, 2], limits.as_slice());
+    limited.expect(rt, "a problem")
+}
+
+#[test]
+fn proposals_with_limits_by_step_are_those_of_the_plain_form(rt: HostRuntime) {
+    let mut numbers = Numbers { state: 227 };
+    let mut tally = Tally::NONE;
+    for _ in 0..10u32 {
+        for family in &FAMILIES {
+            let shape = Shape {
+                stores: numbers.from(2, 14),
+                steps: numbers.from(2, 62),
+                channels: numbers.channels(),
+            };
+            let problem = made_problem(&rt, rt.alloc(), family, shape, &mut numbers);
+            let limited = limited_by_step(&rt, rt.alloc(), &problem, &mut numbers);
+            is_alike(&rt, rt.alloc(), &limited, family.name, &mut tally);
+        }
+    }
+    assert!(rt; tally.by_channels > 25);
 }
 
 #[test]
