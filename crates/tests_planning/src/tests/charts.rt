@@ -119,11 +119,7 @@ fn charts_have_these_lines(rt: HostRuntime) {
     is_charted(&rt, alloc, (SCI, THREE_STEPS, FIRST_RUN), &SHOWN);
     let limited = (A_LIMITED, TWO_STEPS_OF_A, CHANNEL_LIMIT_CUT);
     is_charted(&rt, alloc, limited, &BY_CHANNELS);
-    let by_step = (
-        ONE_STORE_OF_A,
-        LIMITED_STEPS_OF_A,
-        CHANNEL_LIMIT_CUT,
-    );
+    let by_step = (ONE_STORE_OF_A, LIMITED_STEPS_OF_A, CHANNEL_LIMIT_CUT);
     is_charted(&rt, alloc, by_step, &BY_LIMITS_OF_STEPS);
     is_charted(
         &rt,

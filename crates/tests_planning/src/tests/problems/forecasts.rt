@@ -210,7 +210,11 @@ static LIMITED_RECORDS: [(&str, &str); 9] = [
 #[test]
 fn records_with_limits(rt: HostRuntime) {
     for (rows, wanted) in &LIMITED_RECORDS {
-        let text = joined(&rt, rt.alloc(), &["step,window,SCI,limit:0,limit:7\n", rows]);
+        let text = joined(
+            &rt,
+            rt.alloc(),
+            &["step,window,SCI,limit:0,limit:7\n", rows],
+        );
         answered(&rt, rt.alloc(), text.as_bytes(), wanted);
     }
 }

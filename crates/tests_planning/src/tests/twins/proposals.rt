@@ -307,7 +307,12 @@ fn is_the_same(
 }
 
 // The same problem with limits of each step for channels 0 and 2: up to twice the window.
-fn limited_by_step(rt: &impl Abort, alloc: Global, problem: &Problem, numbers: &mut Numbers) -> Problem {
+fn limited_by_step(
+    rt: &impl Abort,
+    alloc: Global,
+    problem: &Problem,
+    numbers: &mut Numbers,
+) -> Problem {
     let mut limits = Vec::new(alloc);
     for step in 1..problem.steps() + 1 {
         let most = problem.window(step).saturating_mul(2).min(MAX_BLOCKS);
