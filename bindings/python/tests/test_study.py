@@ -202,7 +202,7 @@ class Executors(unittest.TestCase):
                 yield from self.variants
 
         main = threading.main_thread().ident
-        timer = threading.Timer(0.7, lambda: signal.pthread_kill(main, signal.SIGINT))
+        timer = threading.Timer(1.5, lambda: signal.pthread_kill(main, signal.SIGINT))
         timer.start()
         found = study(MIXED, endless())
         self.assertFalse(found.is_whole)
