@@ -81,6 +81,7 @@ enum {
     RUDLAYOG_CHECK_STACK = 114688,
     RUDLAYOG_CHART_STACK = 114688,
     RUDLAYOG_TABLE_STACK = 114688,
+    RUDLAYOG_SENSITIVITY_STACK = 114688,
     RUDLAYOG_ASK_STACK = 49152,
     RUDLAYOG_READ_STACK = 8192,
     RUDLAYOG_WORDS_STACK = 4096,
@@ -398,6 +399,13 @@ void rudlayog_chart(const uint8_t *setup, size_t setup_length, const uint8_t *fo
 void rudlayog_table(const uint8_t *setup, size_t setup_length, const uint8_t *forecast, size_t forecast_length, const uint8_t *plan,
                     size_t plan_length, uint8_t *out, size_t room, struct rudlayog_answer *answer);
 
+/* What each window, store size and limit is worth for a setup and a forecast, as comma separated values: how many blocks fewer the least plan
+ * loses if it is larger. It takes up to some hundred times rudlayog_plan. Stack: `RUDLAYOG_SENSITIVITY_STACK`.
+ *
+ * `RUDLAYOG_WRITTEN`, `RUDLAYOG_TOO_SMALL`, `RUDLAYOG_REFUSED`. */
+void rudlayog_sensitivity(const uint8_t *setup, size_t setup_length, const uint8_t *forecast, size_t forecast_length, uint8_t *out,
+                          size_t room, struct rudlayog_answer *answer);
+
 /* The lines that answer telecommands of the storage service, one a line, to the memory of a setup; and their outcome. Stack:
  * `RUDLAYOG_ASK_STACK`.
  *
@@ -418,7 +426,8 @@ void rudlayog_read(const uint8_t *packets, size_t packets_length, uint8_t *out, 
  * `RUDLAYOG_WRITTEN`, `RUDLAYOG_TOO_SMALL` (not where `room` is `RUDLAYOG_WORDS_ROOM` or more), `RUDLAYOG_REFUSED` out of memory. */
 void rudlayog_words(const struct rudlayog_refused *refused, uint8_t *out, size_t room, struct rudlayog_answer *answer);
 
-/* The hint on texts of which rudlayog_plan, rudlayog_check, rudlayog_chart, rudlayog_table or rudlayog_ask was refused so: what is found in
+/* The hint on texts of which rudlayog_plan, rudlayog_check, rudlayog_chart, rudlayog_table,
+ * rudlayog_sensitivity or rudlayog_ask was refused so: what is found in
  * them, in one line without its end, as `the cell is "x" in line 3 of the file, whose header is line 1`. A text that the call did not have
  * is given with the length 0. The text is empty where no more can be said. Stack: `RUDLAYOG_HINT_STACK`.
  *

@@ -4,6 +4,7 @@
  *   tool check SETUP FORECAST PLAN
  *   tool chart SETUP FORECAST PLAN
  *   tool table SETUP FORECAST PLAN
+ *   tool sensitivity SETUP FORECAST
  *   tool ask SETUP REQUESTS
  *   tool read PACKETS
  *
@@ -48,6 +49,10 @@ static void table(struct call *call, uint8_t *out, size_t room) {
                    out, room, &call->answer);
 }
 
+static void sensitivity(struct call *call, uint8_t *out, size_t room) {
+    rudlayog_sensitivity(call->setup.octets, call->setup.length, call->second.octets, call->second.length, out, room, &call->answer);
+}
+
 static void read_packets(struct call *call, uint8_t *out, size_t room) {
     rudlayog_read(call->setup.octets, call->setup.length, out, room, &call->outcome, &call->answer);
 }
@@ -70,6 +75,7 @@ static const struct command commands[] = {
     {"check", 3, RUDLAYOG_LINE_ROOM, check},
     {"chart", 3, 131072, chart},
     {"table", 3, 131072, table},
+    {"sensitivity", 2, 16384, sensitivity},
     {"ask", 2, 4096, ask},
     {"read", 1, 4096, read_packets},
 };

@@ -98,6 +98,10 @@ static void make_chart(uint8_t *out, size_t room, struct rudlayog_answer *answer
     rudlayog_chart(TEXT(setup), TEXT(forecast), plan, plan_length, out, room, answer);
 }
 
+static void make_sensitivity(uint8_t *out, size_t room, struct rudlayog_answer *answer) {
+    rudlayog_sensitivity(TEXT(setup), TEXT(forecast), out, room, answer);
+}
+
 static void make_table(uint8_t *out, size_t room, struct rudlayog_answer *answer) {
     rudlayog_table(TEXT(setup), TEXT(forecast), plan, plan_length, out, room, answer);
 }
@@ -144,6 +148,7 @@ static const struct {
     {"rudlayog_check", make_check, 0}, {"rudlayog_check of a bad cell", make_no_check, RUDLAYOG_REFUSAL_CELL},
     {"rudlayog_chart", make_chart, 0}, {"rudlayog_ask of no setup", make_no_ask, RUDLAYOG_REFUSAL_SETUP_TEXT},
     {"rudlayog_ask", make_ask, 0},     {"rudlayog_table", make_table, 0},
+    {"rudlayog_sensitivity", make_sensitivity, 0},
     {"rudlayog_read", make_read, 0},   {"rudlayog_words", make_words, 0},
     {"rudlayog_hint", make_hint, 0},   {"rudlayog_version", make_version, 0},
 };

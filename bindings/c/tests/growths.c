@@ -82,6 +82,10 @@ static void make_chart(uint8_t *out, struct rudlayog_answer *answer) {
     rudlayog_chart(TEXT(setup), TEXT(forecast), plan, plan_length, out, ROOM, answer);
 }
 
+static void make_sensitivity(uint8_t *out, struct rudlayog_answer *answer) {
+    rudlayog_sensitivity(TEXT(setup), TEXT(forecast), out, ROOM, answer);
+}
+
 static void make_table(uint8_t *out, struct rudlayog_answer *answer) {
     rudlayog_table(TEXT(setup), TEXT(forecast), plan, plan_length, out, ROOM, answer);
 }
@@ -118,6 +122,7 @@ static const struct part parts[] = {
     {"rudlayog_plan", make_plan, RUDLAYOG_WRITTEN},   {"rudlayog_plan of a bad cell", make_no_plan, RUDLAYOG_REFUSED},
     {"rudlayog_check", make_check, RUDLAYOG_WRITTEN}, {"rudlayog_chart", make_chart, RUDLAYOG_WRITTEN},
     {"rudlayog_table", make_table, RUDLAYOG_WRITTEN}, {"rudlayog_read", make_read, RUDLAYOG_WRITTEN},
+    {"rudlayog_sensitivity", make_sensitivity, RUDLAYOG_WRITTEN},
     {"rudlayog_ask", make_ask, RUDLAYOG_WRITTEN},     {"rudlayog_words", make_words, RUDLAYOG_WRITTEN},
     {"rudlayog_hint", make_hint, RUDLAYOG_WRITTEN},
 };

@@ -41,6 +41,8 @@ static void call_chart(void) { rudlayog_chart(GIVEN(setup), GIVEN(forecast), GIV
 
 static void call_table(void) { rudlayog_table(GIVEN(setup), GIVEN(forecast), GIVEN(plan), out, ROOM, &answer); }
 
+static void call_sensitivity(void) { rudlayog_sensitivity(GIVEN(setup), GIVEN(forecast), out, ROOM, &answer); }
+
 static void call_read(void) {
     uint32_t outcome;
     rudlayog_read(TEXT(requests), out, ROOM, &outcome, &answer);
@@ -163,6 +165,7 @@ static struct {
     {"rudlayog_check", call_check, RUDLAYOG_CHECK_STACK, 0},
     {"rudlayog_chart", call_chart, RUDLAYOG_CHART_STACK, 0},
     {"rudlayog_table", call_table, RUDLAYOG_TABLE_STACK, 0},
+    {"rudlayog_sensitivity", call_sensitivity, RUDLAYOG_SENSITIVITY_STACK, 0},
     {"rudlayog_read", call_read, RUDLAYOG_READ_STACK, 0},
     {"rudlayog_ask", call_ask, RUDLAYOG_ASK_STACK, 0},
     {"rudlayog_ask", call_ask_of_setup, RUDLAYOG_ASK_STACK, 0},

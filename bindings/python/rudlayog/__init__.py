@@ -16,7 +16,7 @@ not proved. A call lets go of Python's lock, so calls run in several threads at 
 with threads: start processes by `spawn`.
 """
 
-from .calls import Chart, PlanTable, Replies, Verdict, ask, chart, check, plan, read, table, version
+from .calls import Chart, PlanTable, Replies, Verdict, Worth, ask, chart, check, plan, read, sensitivity, table, version
 from .forecasts import Forecast, ForecastLike
 from .memory import Fate, Memory, Retrieval, StoreState, Tally
 from .plans import Cut, Plan, PlanLike, Stretch
@@ -49,11 +49,13 @@ __all__ = [
     "Stretch",
     "Tally",
     "Verdict",
+    "Worth",
     "ask",
     "chart",
     "check",
     "plan",
     "read",
+    "sensitivity",
     "table",
     "version",
 ]

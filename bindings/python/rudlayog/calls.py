@@ -74,6 +74,21 @@ class PlanTable:
 
 
 @dataclass(frozen=True)
+class Worth:
+    """What a number of a problem is worth, in blocks: the window of the `step`, the size of the store `name`, or the limit of the channel
+    `name`, as `item` says. The number is `now`; `next` is how many blocks fewer the least plan loses if it is one larger, `most` if it is
+    1,000,000, and `without` how many blocks more it loses if it is 0, or 1 for a size. A window that is larger by e saves `min(e, most)`."""
+
+    item: str
+    name: str
+    step: int | None
+    now: int
+    next: int
+    most: int
+    without: int
+
+
+@dataclass(frozen=True)
 class Replies:
     """What answers requests, or says packets in words: `text`, and `all_done`, whether nothing was refused."""
 
@@ -118,6 +133,13 @@ def chart(setup: SetupLike, forecast: ForecastLike, plan: PlanLike) -> Chart:
 def table(setup: SetupLike, forecast: ForecastLike, plan: PlanLike) -> PlanTable:
     """The table of a plan: what each step does to each store. Raises `Refusal`."""
     return PlanTable(_library.told(_library.rudlayog_table, texts=texts(setup=setup, forecast=forecast, plan=plan)).decode("ascii"))
+
+
+def sensitivity(setup: SetupLike, forecast: ForecastLike) -> list[Worth]:
+    """What each window, store size and limit is worth. Raises `Refusal`."""
+    text = _library.told(_library.rudlayog_sensitivity, texts=texts(setup=setup, forecast=forecast)).decode("ascii")
+    _, *records = csv.reader(io.StringIO(text))
+    return [Worth(item, name, int(step) if step else None, *map(int, numbers)) for item, name, step, *numbers in records]
 
 
 def read(packets: Text | Iterable[Packet]) -> Replies:

@@ -8,14 +8,15 @@ import subprocess
 import sys
 import tempfile
 from collections.abc import Callable
+from dataclasses import astuple
 from pathlib import Path
 
 sys.path.insert(0, str(Path(__file__).resolve().parents[1]))
-from rudlayog import Forecast, Limit, Plan, Refusal, Route, Setup, Store, ask, chart, check, plan, read, table  # noqa: E402
+from rudlayog import Forecast, Limit, Plan, Refusal, Route, Setup, Store, ask, chart, check, plan, read, sensitivity, table  # noqa: E402
 
 EXAMPLES = Path(__file__).resolve().parents[3] / "examples"
 REQUESTS = (EXAMPLES / "requests" / "requests.hex").read_text().split("\n")
-COMMANDS = {"plan": ("setup", "forecast"), "check": ("setup", "forecast", "plan"), "chart": ("setup", "forecast", "plan"), "table": ("setup", "forecast", "plan"), "ask": ("setup", "requests"), "read": ("requests",)}
+COMMANDS = {"plan": ("setup", "forecast"), "check": ("setup", "forecast", "plan"), "chart": ("setup", "forecast", "plan"), "table": ("setup", "forecast", "plan"), "sensitivity": ("setup", "forecast"), "ask": ("setup", "requests"), "read": ("requests",)}
 
 
 def setup(dice: random.Random) -> Setup:
@@ -73,6 +74,9 @@ def answered(command: str, given: list[bytes]) -> tuple[bytes, int, str, str | N
             return chart(*given).svg.encode(), 0, "", None
         if command == "table":
             return table(*given).text.encode(), 0, "", None
+        if command == "sensitivity":
+            records = (("" if cell is None else str(cell) for cell in astuple(worth)) for worth in sensitivity(*given))
+            return "\n".join(["item,name,step,now,next,most,without", *map(",".join, records), ""]).encode(), 0, "", None
         replies = read(*given) if command == "read" else ask(*given)
         return replies.text.encode(), 0 if replies.all_done else 1, "", None
     except Refusal as refusal:

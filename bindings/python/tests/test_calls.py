@@ -17,7 +17,7 @@ from pathlib import Path
 
 import rudlayog
 from interrupting import interrupted_by
-from rudlayog import Cut, Forecast, Plan, Refusal, Replies, Setup, Store, Stretch, _library, ask, chart, check, plan, read, table
+from rudlayog import Cut, Forecast, Plan, Refusal, Replies, Setup, Store, Stretch, Worth, _library, ask, chart, check, plan, read, sensitivity, table
 
 EXAMPLES = Path(__file__).resolve().parents[3] / "examples"
 FIRST = EXAMPLES / "first_run"
@@ -63,6 +63,15 @@ class Planning(unittest.TestCase):
             self.assertEqual(Path(room, "plan.csv").read_text(), made.text)
         whole = table(*files(MISSION), MISSION / "plan.txt").to_dict()
         self.assertEqual(sum(whole["lost"]), Plan(MISSION / "plan.txt").loss)
+
+    def test_sensitivity(self):
+        # docs/FORMATS.md, 'What each number is worth', has the table of the first run.
+        first = sensitivity(*files(FIRST))
+        self.assertEqual(first[1], Worth("window", "", 2, now=2, next=1, most=2, without=2))
+        self.assertEqual(first[-1], Worth("size", "SCI", None, now=4, next=1, most=2, without=5))
+        # docs/PLANNING.md, 'What a wider pass would save': no pass helps but from step 6 to step 21.
+        day = sensitivity(*files(EXAMPLES / "two_passes"))
+        self.assertEqual([worth.step for worth in day if worth.item == "window" and worth.most], list(range(6, 22)))
 
     def test_data_in_place_of_texts(self):
         setup = Setup.of([Store("SCI", 4)])

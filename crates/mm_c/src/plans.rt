@@ -3,12 +3,14 @@ ghost use Rattle.std.specs.Prelude.{◌≤◌, length};
 ghost use Rattle.mm_planner.specs.PlanTexts.{PlansLeast};
 ghost use Rattle.mm_chart.specs.Charts.{Charts};
 ghost use Rattle.mm_chart.specs.Table.{IsTableOf};
+ghost use Rattle.mm_sensitivity.specs.Table.{IsWorthTable};
 ghost use Rattle.mm_told.specs.Telling.{Tells};
 ghost use Rattle.mm_c.specs.Telling.{IsWhyUnplanned, IsWhyUnjudged, Judges, LeavesUnjudged, IsNotTooSmall};
 
 use mm_chart::{chart_bytes, table_bytes};
 use mm_cut::check_bytes;
 use mm_planner::plan_bytes;
+use mm_sensitivity::sensitivity_bytes;
 use mm_told::{Answer, PLAN_ROOM, Reason, VerdictTold, plan_texts_fit, tell_text};
 use std::alloc::Global;
 
@@ -103,6 +105,24 @@ pub extern "C" fn rudlayog_table(
         out.old out.new answer.new }
 {
     *answer = match table_bytes(alloc, setup, forecast, plan) {
+        Ok(text) => tell_text(&text, out),
+        Err(fault) => Answer::refused(Reason::of_texts(fault)),
+    };
+}
+
+/// What each window, store size and limit is worth for a setup and a forecast, as `sensitivity_bytes` of `mm_sensitivity` says it: comma
+/// separated values.
+#[unsafe(no_mangle)]
+pub extern "C" fn rudlayog_sensitivity(
+    alloc: Global,
+    setup: &[u8],
+    forecast: &[u8],
+    out: &mut [u8],
+    answer: &mut Answer,
+)
+    ensures told { Tells (IsWorthTable setup.now forecast.now) (IsWhyUnplanned setup.now forecast.now) out.old out.new answer.new }
+{
+    *answer = match sensitivity_bytes(alloc, setup, forecast) {
         Ok(text) => tell_text(&text, out),
         Err(fault) => Answer::refused(Reason::of_texts(fault)),
     };

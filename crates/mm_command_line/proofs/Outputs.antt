@@ -10,7 +10,7 @@ use Rattle.std.proofs.lemmas.List.Folds.{list_any-append}
 use Rattle.clap.proofs.WalkLemmas.{list_any-map}
 use Rattle.mm_command_line.specs.Lines.{EndsWithOutput, IsCommandLine, IsFileName, IsSplit, IsTaskLine, before_dashes, command_words, flags_of, flight_spelling, gives_text, is_dashes, is_flag, output_flag, output_names, output_of, output_words, plan_names, without_dashes}
 use Rattle.mm_command_line.specs.declared.task.Task.{Task}
-use Rattle.mm_command_line.specs.declared.task.Task.TheVariants.{Plan, Check, Chart, Table, Fly, Ask, Read}
+use Rattle.mm_command_line.specs.declared.task.Task.TheVariants.{Plan, Check, Chart, Table, Sensitivity, Fly, Ask, Read}
 use Rattle.mm_command_line.proofs.Walking.{is_value}
 
 abbrev Text : Type 0
@@ -92,6 +92,7 @@ no_flags (Plan setup forecast output) names = named (codes "plan") (setup.now �
 no_flags (Check files) names = named (codes "check") (plan_names files) refl names
 no_flags (Chart files output) names = named (codes "chart") (plan_names files) refl names
 no_flags (Table files output) names = named (codes "table") (plan_names files) refl names
+no_flags (Sensitivity setup forecast) names = named (codes "sensitivity") (setup.now ∷ forecast.now ∷ []) refl names
 no_flags (Fly f) names = named_flight f.setup.now f.forecast.now f.sources.now f.links.now f.plan names
 no_flags (Ask setup requests) names = named (codes "ask") (setup.now ∷ requests.now ∷ []) refl names
 no_flags (Read packets) names = named (codes "read") (packets.now ∷ []) refl names
@@ -121,6 +122,7 @@ gives (Plan setup forecast output) named = refl
 gives (Check files) named = absurd (true≢false (sym named))
 gives (Chart files output) named = refl
 gives (Table files output) named = refl
+gives (Sensitivity setup forecast) named = absurd (true≢false (sym named))
 gives (Fly files) named = absurd (true≢false (sym named))
 gives (Ask setup requests) named = absurd (true≢false (sym named))
 gives (Read packets) named = absurd (true≢false (sym named))

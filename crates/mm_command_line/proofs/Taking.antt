@@ -14,7 +14,7 @@ use Rattle.clap.proofs.WalkLemmas.{walk_stopped}
 use Rattle.mm_command_line.specs.Commands.{Entry, app_by, commands, line_found, tool}
 use Rattle.mm_command_line.specs.Lines.{IsCommandLine, IsFileName, command_words, flight_spelling, plan_names}
 use Rattle.mm_command_line.specs.declared.task.Task.{Task}
-use Rattle.mm_command_line.specs.declared.task.Task.TheVariants.{Plan, Check, Chart, Table, Fly, Ask, Read}
+use Rattle.mm_command_line.specs.declared.task.Task.TheVariants.{Plan, Check, Chart, Table, Sensitivity, Fly, Ask, Read}
 use Rattle.mm_command_line.proofs.Walking.{end_of, level_passing, level_places, rows_placed}
 
 -- the program as the parser builds it
@@ -179,6 +179,7 @@ read_task (Plan setup forecast output) names = row_read (codes "plan") (setup.no
 read_task (Check files) names = row_read (codes "check") (plan_names files) names _ refl refl
 read_task (Chart files output) names = row_read (codes "chart") (plan_names files) names _ refl refl
 read_task (Table files output) names = row_read (codes "table") (plan_names files) names _ refl refl
+read_task (Sensitivity setup forecast) names = row_read (codes "sensitivity") (setup.now ∷ forecast.now ∷ []) names _ refl refl
 read_task (Fly files) names = read_flight files.setup.now files.forecast.now files.sources.now files.links.now files.plan names
 read_task (Ask setup requests) names = row_read (codes "ask") (setup.now ∷ requests.now ∷ []) names _ refl refl
 read_task (Read packets) names = row_read (codes "read") (packets.now ∷ []) names _ refl refl

@@ -20,6 +20,7 @@ commands =
     ∷ (codes "check", codes "SETUP" ∷ codes "FORECAST" ∷ codes "PLAN" ∷ [])
     ∷ (codes "chart", codes "SETUP" ∷ codes "FORECAST" ∷ codes "PLAN" ∷ [])
     ∷ (codes "table", codes "SETUP" ∷ codes "FORECAST" ∷ codes "PLAN" ∷ [])
+    ∷ (codes "sensitivity", codes "SETUP" ∷ codes "FORECAST" ∷ [])
     ∷ (codes "run", codes "SETUP" ∷ codes "FORECAST" ∷ codes "PLAN" ∷ codes "SOURCES" ∷ codes "LINKS" ∷ [])
     ∷ (codes "fly", codes "SETUP" ∷ codes "FORECAST" ∷ codes "SOURCES" ∷ codes "LINKS" ∷ [])
     ∷ (codes "ask", codes "SETUP" ∷ codes "REQUESTS" ∷ [])

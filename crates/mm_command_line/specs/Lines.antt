@@ -4,7 +4,7 @@ use Rattle.std.specs.List.{All, list_any, starts_with}
 use Rattle.std.specs.Option.{option_map_or}
 use Rattle.mm_command_line.specs.declared.task.PlanFiles.{PlanFiles}
 use Rattle.mm_command_line.specs.declared.task.Task.{Task}
-use Rattle.mm_command_line.specs.declared.task.Task.TheVariants.{Plan, Check, Chart, Table, Fly, Ask, Read}
+use Rattle.mm_command_line.specs.declared.task.Task.TheVariants.{Plan, Check, Chart, Table, Sensitivity, Fly, Ask, Read}
 use Rattle.std.specs.Borrow.{Bor}
 
 -- the names of the files of a judged plan
@@ -24,6 +24,7 @@ command_words (Plan setup forecast output) = codes "plan" ∷ setup.now ∷ fore
 command_words (Check files) = codes "check" ∷ plan_names files
 command_words (Chart files output) = codes "chart" ∷ plan_names files
 command_words (Table files output) = codes "table" ∷ plan_names files
+command_words (Sensitivity setup forecast) = codes "sensitivity" ∷ setup.now ∷ forecast.now ∷ []
 command_words (Fly f) = flight_spelling f.setup.now f.forecast.now f.sources.now f.links.now f.plan
 command_words (Ask setup requests) = codes "ask" ∷ setup.now ∷ requests.now ∷ []
 command_words (Read packets) = codes "read" ∷ packets.now ∷ []

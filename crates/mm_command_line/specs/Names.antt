@@ -3,7 +3,7 @@ use Rattle.std.specs.Prelude.{Some, None}
 use Rattle.mm_command_line.specs.declared.task.FileNames.{FileNames}
 use Rattle.mm_command_line.specs.declared.task.PlanFiles.{PlanFiles}
 use Rattle.mm_command_line.specs.declared.task.Task.{Task}
-use Rattle.mm_command_line.specs.declared.task.Task.TheVariants.{Plan, Check, Chart, Table, Fly, Ask, Read}
+use Rattle.mm_command_line.specs.declared.task.Task.TheVariants.{Plan, Check, Chart, Table, Sensitivity, Fly, Ask, Read}
 
 abbrev pub no_names : FileNames
 no_names = record { setup = None; forecast = None; plan = None; sources = None; links = None; packets = None }
@@ -19,6 +19,7 @@ names_in (Plan setup forecast output) = record no_names { setup = Some setup; fo
 names_in (Check files) = names_of_plan files
 names_in (Chart files output) = names_of_plan files
 names_in (Table files output) = names_of_plan files
+names_in (Sensitivity setup forecast) = record no_names { setup = Some setup; forecast = Some forecast }
 names_in (Fly f) = record no_names {
   setup = Some f.setup;
   forecast = Some f.forecast;

@@ -36,6 +36,7 @@ Examples:
   mm_tool check setup.toml forecast.csv plan.txt
   mm_tool chart setup.toml forecast.csv plan.txt --output chart.svg
   mm_tool table setup.toml forecast.csv plan.txt --output table.csv
+  mm_tool sensitivity setup.toml forecast.csv
   mm_tool run setup.toml forecast.csv plan.txt sources.hex links.txt
   mm_tool fly setup.toml forecast.csv sources.hex links.txt
   mm_tool ask setup.toml requests.hex

@@ -1,7 +1,7 @@
 //! The commands of the program: a row for each, in the order in which help tells them.
 
 use crate::command::{File, Form};
-use crate::{chart, flight, read, table};
+use crate::{chart, flight, read, sensitivity, table};
 
 const SETUP: File = File {
     name: "SETUP",
@@ -43,7 +43,7 @@ const PACKETS: File = File {
     help: "The packets: one per line, in hexadecimal digits",
 };
 
-pub(crate) static COMMANDS: [Form; 8] = [
+pub(crate) static COMMANDS: [Form; 9] = [
     Form {
         word: "plan",
         about: PLAN_ABOUT,
@@ -67,6 +67,12 @@ pub(crate) static COMMANDS: [Form; 8] = [
         about: table::ABOUT,
         help: table::HELP,
         files: &[SETUP, FORECAST, PLAN],
+    },
+    Form {
+        word: "sensitivity",
+        about: sensitivity::ABOUT,
+        help: sensitivity::HELP,
+        files: &[SETUP, FORECAST],
     },
     Form {
         word: "run",

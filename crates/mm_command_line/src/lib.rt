@@ -7,6 +7,7 @@ mod commands;
 mod flight;
 mod line;
 mod read;
+mod sensitivity;
 mod table;
 mod task;
 mod version;

@@ -49,6 +49,7 @@ fn task_of<'a>(words: &[&'a str]) -> Option<Task<'a>>
             },
             output: None,
         }),
+        ["sensitivity", setup, forecast] => Some(Task::Sensitivity { setup, forecast }),
         ["run", setup, forecast, plan, sources, links] => Some(Task::Fly(FlightFiles {
             setup,
             forecast,

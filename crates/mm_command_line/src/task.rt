@@ -107,6 +107,11 @@ pub enum Task<'a> {
         files: PlanFiles<'a>,
         output: Option<&'a str>,
     },
+    /// Say what each window, size and limit is worth.
+    Sensitivity {
+        setup: &'a str,
+        forecast: &'a str,
+    },
     /// Carry out the plan, which is made first where there is no file of it.
     Fly(FlightFiles<'a>),
     /// Answer the requests of the storage service, one after another, in a memory of the setup.
@@ -130,7 +135,8 @@ impl<'a> Task<'a> {
                 setup,
                 forecast,
                 ..
-            } => FileNames {
+            }
+            | Task::Sensitivity { setup, forecast } => FileNames {
                 setup: Some(setup),
                 forecast: Some(forecast),
                 ..no_names()

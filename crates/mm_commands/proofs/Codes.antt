@@ -9,7 +9,7 @@ use Rattle.mm_commands.specs.Refusing.{Refuses}
 use Rattle.mm_commands.specs.Doing.{Does, DoesTask, IsDone, TellsVersion}
 use Rattle.mm_command_line.specs.Lines.{output_of, spelling, without_dashes}
 use Rattle.mm_command_line.specs.declared.task.Task.{Task}
-use Rattle.mm_command_line.specs.declared.task.Task.TheVariants.{Plan, Check, Chart, Table, Fly, Ask, Read}
+use Rattle.mm_command_line.specs.declared.task.Task.TheVariants.{Plan, Check, Chart, Table, Sensitivity, Fly, Ask, Read}
 
 -- a task that the words ask for was done or refused
 pub task-does : {E : Type 0} (old new : Contents) (words : List (List ℕ)) (task : Task) (before after : Option (List ℕ)) (r : Result Status E) → spelling task ≡ without_dashes words
@@ -48,6 +48,7 @@ refused-kept old new (Plan setup forecast output) status text before after other
 refused-kept old new (Check names) status text before after other answers given = given.0
 refused-kept old new (Chart names output) status text before after other answers given = absurd (other answers.0)
 refused-kept old new (Table names output) status text before after other answers given = absurd (other answers.0)
+refused-kept old new (Sensitivity setup forecast) status text before after other answers given = absurd (other answers.0)
 refused-kept old new (Fly names) status text before after other answers given = given.0
 refused-kept old new (Ask setup requests) status text before after other answers given = given.0
 refused-kept old new (Read packets) status text before after other answers given = given.0

@@ -4,7 +4,7 @@ use Rattle.mm_cut.specs.declared.verdict.Verdict.{Verdict}
 use Rattle.mm_cut.specs.declared.verdict.Verdict.TheVariants.{DoesNotFit, LossIs, BadStretch, BadCount, BoundIs, NotShown, Least}
 use Rattle.mm_ask.specs.declared.answering.Outcome.{Outcome as Replied}
 use Rattle.mm_ask.specs.declared.answering.Outcome.TheVariants as replied
-use Rattle.mm_command_line.specs.declared.task.Task.TheVariants.{Plan, Check, Chart, Table, Fly, Ask, Read}
+use Rattle.mm_command_line.specs.declared.task.Task.TheVariants.{Plan, Check, Chart, Table, Sensitivity, Fly, Ask, Read}
 use Rattle.mm_run.specs.declared.printed.Outcome.{Outcome as Ended}
 use Rattle.mm_run.specs.declared.printed.Outcome.TheVariants as ended
 use Rattle.mm_commands.specs.declared.status.Status.{Status}
@@ -54,6 +54,7 @@ no-bad-answer contents (Plan setup forecast output) text answers = absurd (let i
 no-bad-answer contents (Check names) text (s, hs, (f, hf, (p, hp, judges))) = no-bad-verdict judges.verdict judges.status_is
 no-bad-answer contents (Chart names output) text answers = absurd (let is = answers.0 in cc)
 no-bad-answer contents (Table names output) text answers = absurd (let is = answers.0 in cc)
+no-bad-answer contents (Sensitivity setup forecast) text answers = absurd (let is = answers.0 in cc)
 no-bad-answer contents (Fly names) text flown = no-bad-run flown.printed.outcome flown.status_is
 no-bad-answer contents (Ask setup requests) text (s, hs, (r, hr, replies)) = no-bad-reply replies.outcome replies.status_is
 no-bad-answer contents (Read packets) text (p, hp, says) = no-bad-reply says.outcome says.status_is

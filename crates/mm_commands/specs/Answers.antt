@@ -18,6 +18,7 @@ use Rattle.mm_run.specs.declared.printed.Outcome.TheVariants as ended
 use Rattle.mm_run.specs.declared.printed.Printed.{Printed}
 use Rattle.mm_run.specs.Printed.{text_of}
 use Rattle.mm_run.specs.Runs.{PrintsRun}
+use Rattle.mm_sensitivity.specs.Table.{IsWorthTable}
 use Rattle.mm_commands.specs.Contents.{Contents, IsStored, MayBe}
 use Rattle.mm_commands.specs.declared.status.Status.{Status}
 use Rattle.mm_commands.specs.declared.status.Status.TheVariants.{Done, Refused}
@@ -30,7 +31,7 @@ use Rattle.mm_command_line.specs.declared.task.FileNames.{FileNames}
 use Rattle.mm_command_line.specs.declared.task.PlanFiles.{PlanFiles}
 use Rattle.mm_command_line.specs.declared.task.FlightFiles.{FlightFiles}
 use Rattle.mm_command_line.specs.declared.task.Task.{Task}
-use Rattle.mm_command_line.specs.declared.task.Task.TheVariants.{Plan, Check, Chart, Table, Fly, Ask, Read}
+use Rattle.mm_command_line.specs.declared.task.Task.TheVariants.{Plan, Check, Chart, Table, Sensitivity, Fly, Ask, Read}
 
 -- the file of this name may have these bytes; a missing one has none
 abbrev pub Holds : Contents → List ℕ → List ℕ → Type 0
@@ -145,6 +146,7 @@ AnswersTask contents (Plan setup forecast output) status text = (status ≡ Done
 AnswersTask contents (Check names) status text = OfPlan contents names (Judges status text)
 AnswersTask contents (Chart names output) status text = (status ≡ Done) × OfPlan contents names (λ setup forecast plan. Charts setup forecast plan text)
 AnswersTask contents (Table names output) status text = (status ≡ Done) × OfPlan contents names (λ setup forecast plan. IsTableOf setup forecast plan text)
+AnswersTask contents (Sensitivity setup forecast) status text = (status ≡ Done) × Of contents setup.now (λ s. Of contents forecast.now (λ f. IsWorthTable s f text))
 AnswersTask contents (Fly names) status text = Flown contents names status text
 AnswersTask contents (Ask setup requests) status text = Of contents setup.now (λ s. Of contents requests.now (Replies status text s))
 AnswersTask contents (Read packets) status text = Of contents packets.now (Says status text)

@@ -25,7 +25,7 @@ use Rattle.mm_commands.specs.declared.fault.Fault.TheVariants.{NoMemory, NotRead
 use Rattle.mm_command_line.specs.Names.{names_in}
 use Rattle.mm_command_line.specs.declared.task.FileNames.{FileNames}
 use Rattle.mm_command_line.specs.declared.task.Task.{Task}
-use Rattle.mm_command_line.specs.declared.task.Task.TheVariants.{Plan, Check, Chart, Table, Fly, Ask}
+use Rattle.mm_command_line.specs.declared.task.Task.TheVariants.{Plan, Check, Chart, Table, Sensitivity, Fly, Ask}
 
 -- the name of a file, where one is named
 abbrev pub names_of : Option (Bor (List ℕ)) → List (List ℕ)
@@ -66,6 +66,8 @@ IsFaultOf contents (Plan setup forecast output) (Texts e) =
 IsFaultOf contents (Check names) (Texts e) = e ≢ check.NoMemory → OfPlan contents names (λ s f p. IsCheckFault s f p e)
 IsFaultOf contents (Chart names output) (Texts e) = e ≢ check.NoMemory → OfPlan contents names (λ s f p. IsCheckFault s f p e)
 IsFaultOf contents (Table names output) (Texts e) = e ≢ check.NoMemory → OfPlan contents names (λ s f p. IsCheckFault s f p e)
+IsFaultOf contents (Sensitivity setup forecast) (Texts e) =
+    e ≢ check.NoMemory → Of contents setup.now (λ s. Of contents forecast.now (λ f. IsPlanningFault s f e))
 IsFaultOf contents (Fly names) (Run e) = e ≢ flight.NoMemory → OfFlight contents names (λ plan. IsFlightFault plan e)
 IsFaultOf contents (Ask setup requests) (Setup e) = Of contents setup.now (λ s. IsSetupFault s e)
 IsFaultOf contents task fault = ⊥

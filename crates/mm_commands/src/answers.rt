@@ -18,6 +18,7 @@ use mm_command_line::{FlightFiles, Task};
 use mm_cut::{Verdict, check_bytes};
 use mm_planner::plan_bytes;
 use mm_run::{Printed, RunTexts, run_texts};
+use mm_sensitivity::sensitivity_bytes;
 use std::alloc::Global;
 use std::sync::Wait;
 use std::thread::Threads;
@@ -137,6 +138,10 @@ pub(crate) fn answer_to<'a, R: Threads + Wait + Sync>(
         Task::Table { output, .. } => {
             let text = table_bytes(alloc, &texts.setup, &texts.forecast, &texts.plan)?;
             Ok(Answer::Text { text, output })
+        }
+        Task::Sensitivity { .. } => {
+            let text = sensitivity_bytes(alloc, &texts.setup, &texts.forecast)?;
+            Ok(Answer::Text { text, output: None })
         }
         Task::Fly(files) => Ok(Answer::Run(carry_out(rt, alloc, files, texts)?)),
         Task::Ask { .. } => {

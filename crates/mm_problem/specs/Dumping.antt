@@ -43,6 +43,10 @@ start q s = (row q s).start
 abbrev pub channel : Dumping → ℕ → ℕ
 channel q s = (row q s).channel
 
+-- the channel's limit of the setup, which is the same in each step, where it has one
+abbrev pub setup_limit : Dumping → ℕ → Option ℕ
+setup_limit q c = slice_index_or q.limits c None
+
 -- what the column at a place says in the step, where there is that column
 abbrev pub in_column : Dumping → ℕ → ℕ → Option ℕ
 in_column q column t = if nat_lt column (length q.limited) then Some (cell (length q.limited) q.step_limits column t) else None
@@ -59,7 +63,7 @@ lesser (Some a) (Some b) = Some (min a b)
 
 -- the blocks that may leave the stores of a channel that there is in the step, where it has a limit: the setup's, the step's, or the lesser
 abbrev pub limit : Dumping → ℕ → ℕ → Option ℕ
-limit q c t = if nat_lt c (length q.limits) then lesser (slice_index_or q.limits c None) (step_limit q c t) else None
+limit q c t = if nat_lt c (length q.limits) then lesser (setup_limit q c) (step_limit q c t) else None
 
 -- the blocks that may leave all stores in the step
 abbrev pub window : Dumping → ℕ → ℕ

@@ -3,7 +3,7 @@ ghost use Rattle.std.specs.Prelude.{◌≡◌, ℕ, ◌+◌, ◌-◌, ◌*◌, �
 ghost use Rattle.std.specs.List.{position_or_len};
 ghost use Rattle.mm_base.specs.declared.limits.TheConstants.{MAX_STORES, MAX_STEPS, MAX_BLOCKS, MAX_CHANNEL, CHANNELS};
 ghost use Rattle.mm_base.specs.Id.{IsIdField};
-ghost use Rattle.mm_problem.specs.Dumping.{row, place_in, place, size, start, channel, step_limit, lesser, limit, window, arrivals, IsDumping};
+ghost use Rattle.mm_problem.specs.Dumping.{row, place_in, place, size, start, channel, setup_limit, step_limit, lesser, limit, window, arrivals, IsDumping};
 ghost use Rattle.mm_problem.specs.Forecast.{limit_of, limits_of, problem_of};
 ghost use Rattle.mm_problem.specs.Data.{problem_from, limited_by};
 ghost use Rattle.mm_problem.specs.Rest.{rows_from, starts_fit, rest_from};
@@ -336,6 +336,15 @@ impl Problem {
         ensures most { result ≤ MAX_CHANNEL }
     {
         self.rows[store].channel
+    }
+
+    /// The limit of a channel in the setup, in blocks a step; none where it has none.
+    #[must_use]
+    pub fn setup_limit(&self, channel: u8) -> Option<u32>
+        ensures limit { result ≡ setup_limit self.now channel }
+        ensures most { IfSome result (λ blocks. blocks ≤ MAX_BLOCKS) }
+    {
+        self.limits.get(channel as usize).copied().unwrap_or(None)
     }
 
     // The limit that the forecast has for a channel in a step.

@@ -15,4 +15,5 @@ mod refusing;
 mod samples;
 mod storing;
 mod tabling;
+mod weighing;
 mod words;

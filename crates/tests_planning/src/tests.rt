@@ -8,3 +8,4 @@ mod plans;
 mod problems;
 mod samples;
 mod twins;
+mod worths;

@@ -1,6 +1,6 @@
 use Rattle.std.proofs.Common.{◌≡◌, ℕ, List, Bor, Option, Some, None, map, arith}
 use Rattle.mm_command_line.specs.Lines.{flight_spelling}
-use Rattle.mm_command_line.specs.declared.task.Task.TheVariants.{Plan, Check, Chart, Table, Fly, Ask, Read}
+use Rattle.mm_command_line.specs.declared.task.Task.TheVariants.{Plan, Check, Chart, Table, Sensitivity, Fly, Ask, Read}
 use Rattle.mm_command_line.proofs.Plain.{count_is, first_is}
 use Rattle.mm_command_line.proofs.line.task_of.Goals.{In_default}
 use Rattle.mm_command_line.proofs.line.task_of.Goals as goal
@@ -15,6 +15,7 @@ returns-in_default-clause-none c (Plan setup forecast output) is = grind (arith,
 returns-in_default-clause-none c (Check files) is = grind (arith, count_is _ _ is, first_is _ _ is)
 returns-in_default-clause-none c (Chart files output) is = grind (arith, count_is _ _ is, first_is _ _ is)
 returns-in_default-clause-none c (Table files output) is = grind (arith, count_is _ _ is, first_is _ _ is)
+returns-in_default-clause-none c (Sensitivity setup forecast) is = grind (arith, count_is _ _ is, first_is _ _ is)
 returns-in_default-clause-none c (Fly files) is = no_flight c files.setup.now files.forecast.now files.sources.now files.links.now files.plan is
 returns-in_default-clause-none c (Ask setup requests) is = grind (arith, count_is _ _ is, first_is _ _ is)
 returns-in_default-clause-none c (Read packets) is = grind (arith, count_is _ _ is, first_is _ _ is)

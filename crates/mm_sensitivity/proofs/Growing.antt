@@ -1,0 +1,204 @@
+-- A problem with a larger number helps at least as much as one with a smaller.
+use Rattle.std.proofs.Common.{◌≡◌, ℕ, ◌+◌, ◌-◌, ◌<◌, ◌≤◌, Bool, true, false, cond, eqb, nat_lt, List, length, get_or, set, refl, sym, ap, ◌∙◌, subst, inl, inr, true≢false, arith}
+use Rattle.std.specs.Prelude.{◌≢◌, Option, Some, None, unwrap_or, IsSome, IsTrue}
+use Rattle.std.proofs.lemmas.Bool.{cases_eq, and_parts, eqb-true}
+use Rattle.std.proofs.lemmas.List.{length-set, get_or-set_same, get_or-set_other}
+use Rattle.std.proofs.lemmas.List.Elements.{All-contains}
+use Rattle.std.proofs.lemmas.List.Folds.{Any-from_list_any, position_or_len-set}
+use Rattle.std.specs.Str.{bytes_eq}
+use Rattle.mm_base.specs.declared.rows.StoreRow.{StoreRow}
+use Rattle.mm_base.specs.Grid.{cell}
+use Rattle.mm_problem.specs.Dumping.{Dumping, no_row, row, size, start, channel, limit, lesser, step_limit, window}
+use Rattle.mm_plan.specs.declared.stretch.Stretch.{Stretch}
+use Rattle.mm_cut.specs.Stretches.{store_of, channel_of, goes_past, goes_past_on, is_inner_on}
+use Rattle.mm_cut.specs.Counts.{is_listed, IsLimited, IsCounted}
+use Rattle.mm_cut.specs.Cuts.{IsCut}
+use Rattle.mm_cut.specs.Changes.{HelpsNowhere}
+use Rattle.mm_sensitivity.specs.declared.item.Item.{Item}
+use Rattle.mm_sensitivity.specs.declared.item.Item.TheVariants.{Window, Size, Limit}
+use Rattle.mm_sensitivity.specs.Items.{IsItem, resized, with_number}
+
+-- the channel of a store that is inner in a step which counts by channels has a limit
+has_limit_there : (q : Dumping) (ds : List Stretch) (ts : List ℕ) → IsCut q ds ts → (t c : ℕ) → is_listed ts t ≡ true → is_inner_on q ds t c ≡ true → IsSome (limit q c t)
+has_limit_there q ds ts cut t c listed inner =
+    let found = Any-from_list_any (λ k. eqb k t) ts listed in
+    let counted = All-contains (IsCounted q ds) ts found.1 cut.counted.each (found.0, found.2, found.3) in
+    let at = Any-from_list_any (goes_past_on q t c) ds inner in
+    let on = and_parts (goes_past t at.1) (eqb (channel_of q at.1) c) at.4 in
+    let limited = All-contains (IsLimited q found.1) ds at.1 counted.limited (at.0, at.2, at.3) in
+    let same = eqb-true found.1 t found.4 in
+    subst (λ e. IsSome (limit q e t)) (eqb-true (channel_of q at.1) c on.1) (subst (λ u. IsSome (limit q (channel_of q at.1) u)) same (limited (rw same on.0)))
+
+-- an element of two lists that differ at one place
+set-le : (xs : List ℕ) (i j a b : ℕ) → i < length xs → a ≤ b → get_or (set xs i a) j 0 ≤ get_or (set xs i b) j 0
+set-le xs i j a b inside le = elim (cases_eq j i) [
+  | inl here ↦ omega (arith, ap (λ k. get_or (set xs i a) k 0) here, ap (λ k. get_or (set xs i b) k 0) here, get_or-set_same xs i a 0 inside, get_or-set_same xs i b 0 inside)
+  | inr other ↦ omega (arith, get_or-set_other xs i j a 0 other, get_or-set_other xs i j b 0 other)
+]
+
+-- ---- a window
+
+grows_window : (q : Dumping) (t a b : ℕ) → 1 ≤ t → t ≤ length q.windows → a ≤ b → (ds : List Stretch) (ts : List ℕ) → IsCut (with_number q (Window t) b) ds ts → HelpsNowhere (with_number q (Window t) b) (with_number q (Window t) a) ds ts
+grows_window q t a b first last le ds ts cut = record {
+  steps = length-set q.windows (t - 1) a ∙ sym (length-set q.windows (t - 1) b);
+  channels = refl;
+  stretches = λ k d inside. record {
+    store = (cut.stretches.each k d inside).store;
+    start = λ _. omega arith;
+    arrivals = λ _ _. omega arith;
+    size = omega arith;
+    channel = λ _ _ _. refl;
+  };
+  windows = λ u _. set-le q.windows (t - 1) (u - 1) a b (omega arith) le;
+  limited = λ u c listed inner. has_limit_there (with_number q (Window t) b) ds ts cut u c listed inner;
+  limits = λ _ _ _ _. omega arith;
+}
+
+-- ---- a limit
+
+-- the lesser of two limits of which one grows
+lesser-le : (a b : ℕ) (o : Option ℕ) → a ≤ b → unwrap_or (lesser (Some a) o) 0 ≤ unwrap_or (lesser (Some b) o) 0
+lesser-le a b None le = le
+lesser-le a b (Some n) le = omega (arith, le)
+
+lesser_some : (a : ℕ) (o : Option ℕ) → IsSome (lesser (Some a) o)
+lesser_some a None = refl
+lesser_some a (Some n) = refl
+
+-- a limit that counts where the same test passes
+counted-le : (s t : Bool) (p r : Option ℕ) → s ≡ t → unwrap_or p 0 ≤ unwrap_or r 0 → unwrap_or (cond s p None) 0 ≤ unwrap_or (cond t r None) 0
+counted-le true true p r same le = le
+counted-le false false p r same le = omega arith
+counted-le true false p r same le = absurd (true≢false same)
+counted-le false true p r same le = absurd (true≢false (sym same))
+
+counted_too : (s t : Bool) (p r : Option ℕ) → s ≡ t → (IsSome p → IsSome r) → IsSome (cond s p None) → IsSome (cond t r None)
+counted_too true true p r same too some = too some
+counted_too false false p r same too some = some
+counted_too true false p r same too some = absurd (true≢false same)
+counted_too false true p r same too some = absurd (true≢false (sym same))
+
+module _ (xs : List (Option ℕ)) (i j a b : ℕ) (inside : i < length xs) where
+  -- the limits of two lists that differ at one place
+  limit_at : (n : ℕ) → j ≡ i → get_or (set xs i (Some n)) j None ≡ Some n
+  limit_at n here = ap (λ k. get_or (set xs i (Some n)) k None) here ∙ get_or-set_same xs i (Some n) None inside
+
+  limit_off : (n m : ℕ) → j ≢ i → get_or (set xs i (Some n)) j None ≡ get_or (set xs i (Some m)) j None
+  limit_off n m other = get_or-set_other xs i j (Some n) None other ∙ sym (get_or-set_other xs i j (Some m) None other)
+
+  -- beside another limit the larger is no smaller
+  lesser_of-le : (o : Option ℕ) → a ≤ b → unwrap_or (lesser (get_or (set xs i (Some a)) j None) o) 0 ≤ unwrap_or (lesser (get_or (set xs i (Some b)) j None) o) 0
+  lesser_of-le o le = elim (cases_eq j i) [
+    | inl here ↦ omega (arith, ap (λ p. unwrap_or (lesser p o) 0) (limit_at a here), ap (λ p. unwrap_or (lesser p o) 0) (limit_at b here), lesser-le a b o le)
+    | inr other ↦ omega (arith, ap (λ p. unwrap_or (lesser p o) 0) (limit_off a b other))
+  ]
+
+  -- the one has a limit where the other has
+  lesser_too : (o : Option ℕ) → IsSome (lesser (get_or (set xs i (Some b)) j None) o) → IsSome (lesser (get_or (set xs i (Some a)) j None) o)
+  lesser_too o some = elim (cases_eq j i) [
+    | inl here ↦ subst (λ p. IsSome (lesser p o)) (sym (limit_at a here)) (lesser_some a o)
+    | inr other ↦ subst (λ p. IsSome (lesser p o)) (limit_off b a other) some
+  ]
+
+-- both problems have the same channels
+same_count : (q : Dumping) (e c a b : ℕ) → nat_lt c (length (set q.limits e (Some a))) ≡ nat_lt c (length (set q.limits e (Some b)))
+same_count q e c a b = ap (nat_lt c) (length-set q.limits e (Some a) ∙ sym (length-set q.limits e (Some b)))
+
+grows_limit : (q : Dumping) (e a b : ℕ) → e < length q.limits → a ≤ b → (ds : List Stretch) (ts : List ℕ) → IsCut (with_number q (Limit e) b) ds ts → HelpsNowhere (with_number q (Limit e) b) (with_number q (Limit e) a) ds ts
+grows_limit q e a b inside le ds ts cut = record {
+  steps = refl;
+  channels = length-set q.limits e (Some a) ∙ sym (length-set q.limits e (Some b));
+  stretches = λ k d within. record {
+    store = (cut.stretches.each k d within).store;
+    start = λ _. omega arith;
+    arrivals = λ _ _. omega arith;
+    size = omega arith;
+    channel = λ _ _ _. refl;
+  };
+  windows = λ _ _. omega arith;
+  limited = λ u c listed inner.
+      counted_too (nat_lt c (length (set q.limits e (Some b)))) (nat_lt c (length (set q.limits e (Some a)))) _ _ (same_count q e c b a)
+      (lesser_too q.limits e c a b inside (step_limit q c u)) (has_limit_there (with_number q (Limit e) b) ds ts cut u c listed inner);
+  limits = λ u c _ _.
+      counted-le (nat_lt c (length (set q.limits e (Some a)))) (nat_lt c (length (set q.limits e (Some b)))) _ _ (same_count q e c a b)
+      (lesser_of-le q.limits e c a b inside (step_limit q c u) le);
+}
+
+-- ---- a size
+
+-- a store that is resized keeps all but its size
+module _ (q : Dumping) (s n : ℕ) (inside : s < length q.rows) where
+  abbrev r : Dumping
+  r = with_number q (Size s) n
+
+  -- the rows are as they were, but for one
+  row_other : (k : ℕ) → k ≢ s → row r k ≡ row q k
+  row_other k other = get_or-set_other q.rows s k (resized (row q s) n) no_row other
+
+  row_here : row r s ≡ resized (row q s) n
+  row_here = get_or-set_same q.rows s (resized (row q s) n) no_row inside
+
+  pub as_many_rows : length r.rows ≡ length q.rows
+  as_many_rows = length-set q.rows s (resized (row q s) n)
+
+  pub same_store : (d : Stretch) → store_of r d ≡ store_of q d
+  same_store d = position_or_len-set (λ w. bytes_eq w.id d.store) q.rows s (resized (row q s) n) no_row refl
+
+  pub same_start : (k : ℕ) → start r k ≡ start q k
+  same_start k = elim (cases_eq k s) [
+    | inl here ↦ subst (λ j. start r j ≡ start q j) (sym here) (ap (λ (w : StoreRow). w.start) row_here)
+    | inr other ↦ ap (λ (w : StoreRow). w.start) (row_other k other)
+  ]
+
+  pub same_channel : (k : ℕ) → channel r k ≡ channel q k
+  same_channel k = elim (cases_eq k s) [
+    | inl here ↦ subst (λ j. channel r j ≡ channel q j) (sym here) (ap (λ (w : StoreRow). w.channel) row_here)
+    | inr other ↦ ap (λ (w : StoreRow). w.channel) (row_other k other)
+  ]
+
+  pub size_here : size r s ≡ n
+  size_here = ap (λ (w : StoreRow). w.size) row_here
+
+  pub size_other : (k : ℕ) → k ≢ s → size r k ≡ size q k
+  size_other k other = ap (λ (w : StoreRow). w.size) (row_other k other)
+
+size-le : (q : Dumping) (s k a b : ℕ) → s < length q.rows → a ≤ b → size (with_number q (Size s) a) k ≤ size (with_number q (Size s) b) k
+size-le q s k a b inside le = elim (cases_eq k s) [
+  | inl here ↦
+      omega (arith, ap (size (with_number q (Size s) a)) here, ap (size (with_number q (Size s) b)) here, size_here q s a inside, size_here q s b inside, le)
+  | inr other ↦ omega (arith, size_other q s a inside k other, size_other q s b inside k other)
+]
+
+grows_size : (q : Dumping) (s a b : ℕ) → s < length q.rows → a ≤ b → (ds : List Stretch) (ts : List ℕ) → IsCut (with_number q (Size s) b) ds ts → HelpsNowhere (with_number q (Size s) b) (with_number q (Size s) a) ds ts
+grows_size q s a b inside le ds ts cut =
+    let small = with_number q (Size s) a in
+    let large = with_number q (Size s) b in
+    let store : (d : Stretch) → store_of small d ≡ store_of large d = λ d. same_store q s a inside d ∙ sym (same_store q s b inside d) in
+    let rows : length small.rows ≡ length large.rows = as_many_rows q s a inside ∙ sym (as_many_rows q s b inside) in
+    record {
+      steps = refl;
+      channels = refl;
+      stretches = λ k d within.
+          let e : Stretch = get_or ds k d in
+          let is = cut.stretches.each k d within in
+          let i = store_of small e in
+          let j = store_of large e in
+          let starts = same_start q s a inside i ∙ ap (start q) (store e) ∙ sym (same_start q s b inside j) in
+          record {
+            store = subst (λ m. i < m) (sym rows) (subst (λ m. m < length large.rows) (sym (store e)) is.store);
+            start = λ _. omega (arith, starts);
+            arrivals = λ u _. omega (arith, ap (λ m. cell m q.arrived i u) rows ∙ ap (λ m. cell (length large.rows) q.arrived m u) (store e));
+            size = omega (arith, ap (size small) (store e), size-le q s j a b inside le);
+            channel = λ _ _ _. same_channel q s a inside i ∙ ap (channel q) (store e) ∙ sym (same_channel q s b inside j);
+          };
+      windows = λ _ _. omega arith;
+      limited = λ u c listed inner. has_limit_there large ds ts cut u c listed inner;
+      limits = λ _ _ _ _. omega arith;
+    }
+
+-- ---- any of them
+
+pub grows : (q : Dumping) (i : Item) (a b : ℕ) → IsItem q i → a ≤ b → (ds : List Stretch) (ts : List ℕ) → IsCut (with_number q i b) ds ts → HelpsNowhere (with_number q i b) (with_number q i a) ds ts
+grows q (Window t) a b is le ds ts cut = grows_window q t a b is.0 is.1 le ds ts cut
+grows q (Size s) a b is le ds ts cut = grows_size q s a b is le ds ts cut
+grows q (Limit c) a b is le ds ts cut = grows_limit q c a b is.0 le ds ts cut

@@ -1,0 +1,6 @@
+pub mod Listing
+pub mod Windows
+pub mod Growing
+pub mod Losing
+pub mod Least
+pub mod Found

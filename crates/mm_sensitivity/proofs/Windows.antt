@@ -1,0 +1,66 @@
+-- A cut in a problem with another window.
+use Rattle.std.proofs.Common.{◌≡◌, ℕ, ◌+◌, ◌-◌, ◌<◌, ◌≤◌, Bool, true, false, cond, ◌&&◌, not, List, length, set, refl, ap, ◌∙◌, inl, inr, arith}
+use Rattle.std.specs.Prelude.{◌≢◌}
+use Rattle.std.specs.List.{sum_by, range_with_len}
+use Rattle.std.proofs.lemmas.Bool.{cases_Bool}
+use Rattle.std.proofs.lemmas.List.{length-set, get_or-set_same, get_or-set_other}
+use Rattle.mm_base.proofs.RangeSums.{sum_by_filter_range_changed}
+use Rattle.mm_problem.specs.Dumping.{Dumping, window}
+use Rattle.mm_problem.specs.Changed.{with_window}
+use Rattle.mm_plan.specs.declared.stretch.Stretch.{Stretch}
+use Rattle.mm_cut.specs.Stretches.{is_inner, IsStretch}
+use Rattle.mm_cut.specs.Counts.{is_listed, IsCounted}
+use Rattle.mm_cut.specs.Cuts.{IsCut, coming_sum, limit_sum, leaving, leaving_sum, counts_window}
+
+-- of the windows that count in an inner step, or the limits that do
+picked : (inner listed : Bool) (limits w n : ℕ) → cond inner (cond listed limits w) 0 + cond (inner && not listed) n 0 ≡ cond inner (cond listed limits n) 0 + cond (inner && not listed) w 0
+picked true true limits w n = refl
+picked true false limits w n = omega arith
+picked false listed limits w n = refl
+
+module _ (q : Dumping) (t n : ℕ) where
+  abbrev r : Dumping
+  r = with_window q t n
+
+  -- there are as many steps
+  pub as_many : length r.windows ≡ length q.windows
+  as_many = length-set q.windows (t - 1) n
+
+  -- each other step has its window
+  window_other : (u : ℕ) → 1 ≤ t → 1 ≤ u → u ≢ t → window r u ≡ window q u
+  window_other u first from other = get_or-set_other q.windows (t - 1) (u - 1) n 0 (λ same. other (omega (arith, same)))
+
+  window_here : 1 ≤ t → t ≤ length q.windows → window r t ≡ n
+  window_here first last = get_or-set_same q.windows (t - 1) n 0 (omega arith)
+
+  -- as much comes in
+  pub same_coming : (ds : List Stretch) → coming_sum r ds ≡ coming_sum q ds
+  same_coming ds = rw as_many refl
+
+  -- a cut is one of both problems
+  pub cut_there : (ds : List Stretch) (ts : List ℕ) → IsCut q ds ts → IsCut r ds ts
+  cut_there ds ts cut = record {
+    stretches = record {
+      each = λ k d inside. let is = cut.stretches.each k d inside in record { store = is.store; first = is.first; order = is.order; last = omega (arith, as_many, is.last) };
+      apart = cut.stretches.apart;
+    };
+    counted = record { each = λ k d inside. let is = cut.counted.each k d inside in record { inner = is.inner; limited = is.limited }; once = cut.counted.once };
+  }
+
+  pub cut_back : (ds : List Stretch) (ts : List ℕ) → IsCut r ds ts → IsCut q ds ts
+  cut_back ds ts cut = record {
+    stretches = record {
+      each = λ k d inside. let is = cut.stretches.each k d inside in record { store = is.store; first = is.first; order = is.order; last = omega (arith, as_many, is.last) };
+      apart = cut.stretches.apart;
+    };
+    counted = record { each = λ k d inside. let is = cut.counted.each k d inside in record { inner = is.inner; limited = is.limited }; once = cut.counted.once };
+  }
+
+  -- what may leave differs by the windows of the step, where it counts
+  pub leaving_changed : (ds : List Stretch) (ts : List ℕ) → 1 ≤ t → t ≤ length q.windows → leaving_sum r ds ts + cond (counts_window ds ts t) (window q t) 0 ≡ leaving_sum q ds ts + cond (counts_window ds ts t) n 0
+  leaving_changed ds ts first last =
+      let same : (u : ℕ) → 1 ≤ u → u < 1 + length q.windows → u ≢ t → leaving r ds ts u ≡ leaving q ds ts u =
+      λ u from to other. ap (λ w. cond (is_listed ts u) (limit_sum q ds u) w) (window_other u first from other) in
+      let changed = sum_by_filter_range_changed (is_inner ds) (leaving q ds ts) (leaving r ds ts) 1 (length q.windows) t first (omega arith) same in
+      let here = picked (is_inner ds t) (is_listed ts t) (limit_sum q ds t) (window q t) n in
+      rw as_many (omega (arith, changed, here, ap (λ w. cond (is_inner ds t) (cond (is_listed ts t) (limit_sum q ds t) w) 0) (window_here first last)))

@@ -1,0 +1,5 @@
+use Rattle.mm_sensitivity.proofs.Least.{wider_windows}
+use Rattle.mm_sensitivity.proofs.laws.wider_windows.Goals as goal
+
+pub returns : goal.returns
+returns c = wider_windows c.cuts_bound_losses.ensures

@@ -1,0 +1,43 @@
+-- The table of what the numbers of a problem are worth: comma separated values (RFC 4180), a header, and then a record for each number.
+use Rattle.std.specs.Prelude.{◌≡◌, ℕ, List, [], ◌∷◌, ◌++◌, map, All, codes, decimal, flat_map}
+use Rattle.mm_base.specs.Characters.{line_feed}
+use Rattle.mm_base.specs.Id.{id_text}
+use Rattle.mm_problem.specs.Dumping.{Dumping, row}
+use Rattle.mm_problem.specs.Texts.{SaysProblem}
+use Rattle.mm_sensitivity.specs.declared.item.Item.{Item}
+use Rattle.mm_sensitivity.specs.declared.item.Item.TheVariants.{Window, Size, Limit}
+use Rattle.mm_sensitivity.specs.declared.worth.Worth.{Worth}
+use Rattle.mm_sensitivity.specs.Items.{items}
+use Rattle.mm_sensitivity.specs.Worth.{IsWorth}
+
+-- the cells that say which number it is
+abbrev pub item_cells : Dumping → Item → List ℕ
+item_cells q (Window t) = codes "window,," ++ decimal t
+item_cells q (Size s) = codes "size," ++ id_text (row q s).id ++ codes ","
+item_cells q (Limit c) = codes "limit," ++ decimal c ++ codes ","
+
+-- the cells that say what it is worth, up to the end of the record
+unfoldable pub worth_cells : Worth → List ℕ
+worth_cells w =
+    codes "," ++ decimal w.now ++ codes "," ++ decimal w.next ++ codes "," ++ decimal w.most ++ codes "," ++ decimal w.without ++ codes "\n"
+
+-- the record of a number
+abbrev pub record_of : Dumping → Worth → List ℕ
+record_of q w = item_cells q w.item ++ worth_cells w
+
+-- the header, and the records
+unfoldable pub table : Dumping → List Worth → List ℕ
+table q ws = codes "item,name,step,now,next,most,without\n" ++ flat_map (record_of q) ws
+
+-- what each number of the problem is worth, in their order
+pub record AreWorths (q : Dumping) (ws : List Worth) : Type 0 where
+  pub items : map (λ w. w.item) ws ≡ items q
+  pub each : All (IsWorth q) ws
+
+-- the table of the problem that a setup and a forecast say
+pub record IsWorthTable (setup forecast text : List ℕ) : Type 0 where
+  pub problem : Dumping
+  pub worths : List Worth
+  pub says_problem : SaysProblem setup forecast problem
+  pub are_worths : AreWorths problem worths
+  pub table : text ≡ table problem worths

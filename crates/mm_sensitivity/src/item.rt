@@ -1,0 +1,137 @@
+//! The numbers of a problem that a mission can change.
+ghost use Rattle.std.specs.Prelude.{◌≡◌, ◌≤◌, ◌<◌, ◌++◌, ◌∷◌, [], if◌then◌else◌, length, map, filter, All, IfOk, OnOk};
+ghost use Rattle.mm_base.specs.declared.limits.TheConstants.{MAX_BLOCKS};
+ghost use Rattle.mm_problem.specs.Dumping.{IsDumping, steps, stores, channels};
+ghost use Rattle.mm_sensitivity.specs.Items.{IsItem, number, least_number, fitted, spilled, has_limit, items};
+ghost use Rattle.mm_sensitivity.specs.declared.item.Item.TheVariants.{Window, Size, Limit};
+
+use mm_base::NoMemory;
+use mm_problem::Problem;
+use std::alloc::Global;
+
+/// A number of a problem that a mission can change, in blocks.
+#[derive(Clone, Copy, Debug, PartialEq, Eq)]
+pub enum Item {
+    /// The window of this step.
+    Window(u32),
+    /// The size of the store in this place, from 0 in setup order.
+    Size(usize),
+    /// The limit of this virtual channel in the setup.
+    Limit(u8),
+}
+
+// What the number is.
+pub(crate) fn number(problem: &Problem, item: Item) -> u32
+    requires { IsItem problem.now item }
+    ensures number { result ≡ number problem.now item }
+    ensures most { result ≤ MAX_BLOCKS }
+{
+    match item {
+        Item::Window(step) => problem.window(step),
+        Item::Size(store) => problem.size(store),
+        Item::Limit(channel) => problem.setup_limit(channel).unwrap_or(0),
+    }
+}
+
+// The least number that may stand there.
+pub(crate) fn least_number(item: Item) -> u32
+    ensures least { result ≡ least_number item }
+    ensures most { result ≤ 1 }
+{
+    match item {
+        Item::Size(_) => 1,
+        _ => 0,
+    }
+}
+
+// The problem with this number there. A store begins with as many blocks as it then has room for.
+pub(crate) fn fitted(
+    alloc: Global,
+    problem: &Problem,
+    item: Item,
+    blocks: u32,
+) -> Result<Problem, NoMemory>
+    requires item { IsItem problem.now item }
+    requires least { least_number item ≤ blocks }
+    requires most { blocks ≤ MAX_BLOCKS }
+    ensures { IfOk result (λ changed. changed ≡ fitted problem.now item blocks) }
+{
+    match item {
+        Item::Window(step) => problem.with_window(alloc, step, blocks),
+        Item::Size(store) => problem.with_size(alloc, store, blocks),
+        Item::Limit(channel) => problem.with_limit(alloc, channel, blocks),
+    }
+}
+
+// The blocks with which a store of this size would begin and for which it has no room.
+pub(crate) fn spilled(problem: &Problem, item: Item, blocks: u32) -> u64
+    requires { IsItem problem.now item }
+    ensures spilled { result ≡ spilled problem.now item blocks }
+    ensures most { result ≤ MAX_BLOCKS }
+{
+    match item {
+        Item::Size(store) => u64::from(problem.start(store).saturating_sub(blocks)),
+        _ => 0,
+    }
+}
+
+// Adds the windows of the steps.
+#[tactic(auto, using(std::proofs::Common::append_assoc, crate::proofs::Listing::map_next))]
+fn add_windows(items: &mut Vec<Item>, problem: &Problem) -> Result<(), NoMemory>
+    ensures added { OnOk result (items.new.items ≡ items.old.items ++ map Window (steps problem.now)) }
+    ensures problem { IsDumping problem.now }
+{
+    for step in 1..problem.steps() + 1 {
+        items.push(Item::Window(step))?;
+    }
+    Ok(())
+}
+
+// Adds the sizes of the stores.
+#[tactic(auto, using(std::proofs::Common::append_assoc, crate::proofs::Listing::map_more))]
+fn add_sizes(items: &mut Vec<Item>, problem: &Problem) -> Result<(), NoMemory>
+    ensures added { OnOk result (items.new.items ≡ items.old.items ++ map Size (stores problem.now)) }
+{
+    for store in 0..problem.stores() {
+        items.push(Item::Size(store))?;
+    }
+    Ok(())
+}
+
+// Adds the limit of the channel, where it has one in the setup.
+fn add_limit(items: &mut Vec<Item>, problem: &Problem, channel: u8) -> Result<(), NoMemory>
+    ensures added { OnOk result (items.new.items
+        ≡ (if has_limit problem.now channel
+        then items.old.items ++ Limit channel ∷ []
+        else items.old.items)) }
+{
+    if problem.setup_limit(channel).is_some() {
+        items.push(Item::Limit(channel))?;
+    }
+    Ok(())
+}
+
+// Adds the limits of the channels that have one.
+fn add_limits(items: &mut Vec<Item>, problem: &Problem) -> Result<(), NoMemory>
+    ensures added { OnOk result (items.new.items
+        ≡ items.old.items ++ map Limit (filter (has_limit problem.now) (channels problem.now))) }
+{
+    for channel in 0..problem.channels() {
+        add_limit(items, problem, channel)?;
+    }
+    Ok(())
+}
+
+// All of them: the windows, the sizes of the stores in order, and the limits of the channels that have one.
+#[tactic(auto, using(std::proofs::Common::append_assoc, crate::proofs::Listing::all_items))]
+pub(crate) fn items(alloc: Global, problem: &Problem) -> Result<Vec<Item>, NoMemory>
+    ensures items { IfOk result (λ list. list.items ≡ items problem.now) }
+    ensures each { IfOk result (λ list. All (IsItem problem.now) list.items) }
+    ensures problem { IsDumping problem.now }
+{
+    let mut items = Vec::new(alloc);
+    add_windows(&mut items, problem)?;
+    add_sizes(&mut items, problem)?;
+    add_limits(&mut items, problem)?;
+    Ok(items)
+}

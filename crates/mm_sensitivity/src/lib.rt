@@ -1,0 +1,15 @@
+//! What each window, store size and limit of a problem is worth: how many blocks fewer the least plan loses if it is larger.
+#![tactic(auto)]
+
+mod base;
+mod item;
+mod laws;
+mod lowering;
+mod table;
+mod worth;
+
+pub use item::Item;
+pub use laws::wider_windows;
+pub use mm_cut::Fault;
+pub use table::sensitivity_bytes;
+pub use worth::{Worth, worths};

@@ -1,0 +1,90 @@
+//! What each number of a problem is worth.
+ghost use Rattle.std.specs.Prelude.{◌≡◌, ◌≤◌, map, All, IfOk};
+ghost use Rattle.mm_sensitivity.specs.Items.{IsItem, number, next_number, with_number, items};
+ghost use Rattle.mm_sensitivity.specs.Table.{AreWorths};
+ghost use Rattle.mm_sensitivity.specs.Worth.{IsPlanFor, Saves, IsSaved, IsWorth};
+
+use crate::base::{cost, saved};
+use crate::item::{Item, items, number};
+use crate::laws::wider_windows;
+use mm_base::{MAX_BLOCKS, NoMemory};
+use mm_planner::{Planned, plan};
+use mm_problem::Problem;
+use std::alloc::Global;
+
+/// What a number of a problem is worth, in blocks.
+#[derive(Clone, Copy, Debug, PartialEq, Eq)]
+pub struct Worth {
+    pub item: Item,
+    /// The number itself.
+    pub now: u32,
+    /// How many blocks fewer the least plan loses if the number is one larger.
+    pub next: u64,
+    /// How many blocks fewer it loses if the number is the largest that it may be, 1,000,000.
+    pub most: u64,
+    /// How many blocks more it loses if the number is 0, or for the size of a store 1.
+    pub without: u64,
+}
+
+// How many blocks fewer the least plan loses where a number is one larger. In a window one block more saves a block, or none.
+fn next_saved(
+    alloc: Global,
+    problem: &Problem,
+    base: &Planned,
+    item: Item,
+    most: u64,
+) -> Result<u64, NoMemory>
+    requires base { IsPlanFor problem.now base.now }
+    requires item { IsItem problem.now item }
+    requires most { IsSaved problem.now (with_number problem.now item MAX_BLOCKS) most }
+    ensures { IfOk result (Saves problem.now (with_number problem.now item (next_number (number problem.now item)))) }
+{
+    wider_windows();
+    let now = number(problem, item);
+    match item {
+        Item::Window(_) => Ok(most.min(1)),
+        _ => {
+            let next = saved(alloc, problem, base, item, (now + 1).min(MAX_BLOCKS))?;
+            Ok(next)
+        }
+    }
+}
+
+// What a number is worth.
+fn worth_of(
+    alloc: Global,
+    problem: &Problem,
+    base: &Planned,
+    item: Item,
+) -> Result<Worth, NoMemory>
+    requires base { IsPlanFor problem.now base.now }
+    requires item { IsItem problem.now item }
+    ensures item { IfOk result (λ worth. worth.item ≡ item) }
+    ensures worth { IfOk result (IsWorth problem.now) }
+{
+    let now = number(problem, item);
+    let most = saved(alloc, problem, base, item, MAX_BLOCKS)?;
+    let next = next_saved(alloc, problem, base, item, most)?;
+    let without = cost(alloc, problem, base, item)?;
+    Ok(Worth {
+        item,
+        now,
+        next,
+        most,
+        without,
+    })
+}
+
+/// What each window, each size and each limit of the problem is worth, in this order.
+pub fn worths(alloc: Global, problem: &Problem) -> Result<Vec<Worth>, NoMemory>
+    ensures { IfOk result (λ worths. AreWorths problem.now worths.items) }
+{
+    let base = plan(alloc, problem)?;
+    let items = items(alloc, problem)?;
+    let mut worths = Vec::new(alloc);
+    for item in &items {
+        let worth = worth_of(alloc, problem, &base, *item)?;
+        worths.push(worth)?;
+    }
+    Ok(worths)
+}
