@@ -16,4 +16,5 @@ pub mod Tabling
 pub mod Lowering
 pub mod Rests
 pub mod Fills
+pub mod Fronts
 pub mod Rows

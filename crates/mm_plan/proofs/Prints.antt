@@ -30,9 +30,11 @@ unfolding ended line_text
 ended_stores old ids = ended_words old (codes "stores") (map id_text ids)
 
 -- the pieces of a dump line
-pub ended_dump : (old : List ℕ) (t : ℕ) (xs : List ℕ) → old ++ codes "dump" ++ spaced (decimal t ∷ map decimal xs) ++ 10 ∷ [] ≡ old ++ ended (dump_line t xs)
+pub ended_dump : (old : List ℕ) (t : ℕ) (xs : List ℕ) → old ++ codes "dump" ++ 32 ∷ decimal t ++ spaced (map decimal xs) ++ 10 ∷ [] ≡ old ++ ended (dump_line t xs)
 unfolding ended line_text
-ended_dump old t xs = ended_words old (codes "dump") (decimal t ∷ map decimal xs)
+ended_dump old t xs =
+    ap (λ text. text ++ 10 ∷ []) (append_assoc (old ++ codes "dump") (32 ∷ decimal t) (spaced (map decimal xs)))
+    ∙ ended_words old (codes "dump") (decimal t ∷ map decimal xs)
 
 -- one step's line more
 pub record AreDumped (n t k : ℕ) (text rest all : List ℕ) : Type 0 where

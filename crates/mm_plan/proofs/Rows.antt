@@ -1,7 +1,8 @@
 -- Rows of amounts, read where they stand.
-use Rattle.std.proofs.Common.{◌≡◌, ℕ, ◌+◌, ◌<◌, ◌≤◌, true, ◌&&◌, ◌==◌, List, ◌∷◌, ◌++◌, length, map, Some, None, sym, ap, ◌∙◌, arith}
+use Rattle.std.proofs.Common.{◌≡◌, ℕ, ◌+◌, ◌<◌, ◌≤◌, true, ◌&&◌, ◌==◌, List, [], ◌∷◌, ◌++◌, length, map, Some, None, refl, sym, ap, ◌∙◌, arith, append_assoc, append-nil}
 use Rattle.std.specs.Prelude.{All, codes, decimal, option_and_then, if◌then◌else◌}
 use Rattle.std.proofs.lemmas.Bool.Decides.{nat_tests}
+use Rattle.std.proofs.lemmas.List.{map-append}
 use Rattle.mm_base.specs.declared.limits.TheConstants.{MAX_STORES, MAX_STEPS, MAX_BLOCKS}
 use Rattle.mm_plan.specs.declared.draft.Stage.TheVariants.{ToDumps}
 use Rattle.mm_plan.specs.Printing.{spaced}
@@ -10,10 +11,26 @@ use Rattle.mm_plan.specs.Reading.{DraftRows, read_line, may_follow, after, add_l
 use Rattle.mm_plan.proofs.Prints.{join-spaced}
 use Rattle.mm_plan.proofs.Lines.{read_line-line_text}
 
+-- words after words
+spaced-append : (xs ys : List (List ℕ)) → spaced (xs ++ ys) ≡ spaced xs ++ spaced ys
+spaced-append [] ys = refl
+spaced-append (x ∷ xs) ys = ap (λ rest. 32 ∷ x ++ rest) (spaced-append xs ys) ∙ sym (append_assoc (32 ∷ x) (spaced xs) (spaced ys))
+
+-- one amount more
+pub amount_more : (text rest after : List ℕ) (n : ℕ) (old new : List ℕ) → text ≡ spaced (map decimal old) ++ rest → rest ≡ 32 ∷ decimal n ++ after → new ≡ old ++ n ∷ []
+    → text ≡ spaced (map decimal new) ++ after
+amount_more text rest after n old new so_far here more =
+    so_far
+    ∙ ap (λ r. spaced (map decimal old) ++ r) here
+    ∙ sym (append_assoc (spaced (map decimal old)) (32 ∷ decimal n) after)
+    ∙ ap (λ ws. ws ++ after) (ap (λ r. spaced (map decimal old) ++ r) (sym (append-nil (32 ∷ decimal n))) ∙ sym (spaced-append (map decimal old) (decimal n ∷ [])))
+    ∙ ap (λ ws. spaced ws ++ after) (sym (map-append decimal old (n ∷ [])))
+    ∙ ap (λ xs. spaced (map decimal xs) ++ after) (sym more)
+
 -- the octets of a dump line
-pub is_dump_text : (text row : List ℕ) (t : ℕ) (xs : List ℕ) → text ≡ codes "dump" ++ row → row ≡ spaced (decimal t ∷ map decimal xs) → text ≡ line_text (dump_line t xs)
+pub dump_text : (t : ℕ) (xs : List ℕ) → line_text (dump_line t xs) ≡ codes "dump" ++ (32 ∷ decimal t ++ spaced (map decimal xs))
 unfolding line_text
-is_dump_text text row t xs keyword is = keyword ∙ ap (λ rest. codes "dump" ++ rest) is ∙ sym (join-spaced (codes "dump") (decimal t ∷ map decimal xs))
+dump_text t xs = join-spaced (codes "dump") (decimal t ∷ map decimal xs)
 
 -- the next step's line may follow
 next_may_follow : (d : DraftRows) (xs : List ℕ) → d.stage ≡ ToDumps → length xs ≡ length d.rows.stores → may_follow d.stage d.second d.rows (dump_line (d.rows.plan.steps + 1) xs) ≡ true

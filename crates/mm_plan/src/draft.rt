@@ -4,7 +4,7 @@ ghost use Rattle.mm_plan.specs.Reading.{may_follow, after, take_line, start};
 ghost use Rattle.mm_plan.specs.Seen.{seen};
 
 use crate::line::{Line, read_line};
-use crate::row::{is_dump, numbers_of};
+use crate::row::is_dump;
 use crate::stretch::{MAX_COUNTS, MAX_STRETCHES, Stretch};
 use mm_base::{MAX_STEPS, MAX_STORES, StoreId};
 use std::alloc::{AllocError, Global};
@@ -136,13 +136,12 @@ impl Draft {
         if stores > MAX_STORES || self.steps >= MAX_STEPS || !matches!(self.stage, Stage::ToDumps) {
             return Ok(false);
         }
-        let numbers = numbers_of(text);
-        let amounts = &numbers[2..2 + stores];
+        let mut amounts = [0; MAX_STORES];
         let step = self.steps + 1;
-        if !is_dump(text, step, amounts) {
+        if !is_dump(text, step, stores, &mut amounts) {
             return Ok(false);
         }
-        self.amounts.extend_from_slice(amounts)?;
+        self.amounts.extend_from_slice(&amounts[..stores])?;
         self.steps = step;
         Ok(true)
     }

@@ -88,28 +88,28 @@ fn write_amounts(octets: &mut [u8], end: usize, amounts: &[u32]) -> usize
     first
 }
 
-// A step and the amounts of all stores have room in as many octets.
-pub(crate) const ROW_ROOM: usize = 11 * (MAX_STORES + 1);
+// A step and the amounts of all stores have room in as many octets, with a line feed.
+const DUMP_ROOM: usize = 11 * (MAX_STORES + 1) + 1;
 
-// The words of a dump line after its keyword, written in these octets so that they end where the octets do.
-pub(crate) fn row_in<'a>(octets: &'a mut [u8; ROW_ROOM], step: u32, amounts: &[u32]) -> &'a [u8]
+// The words of a dump line after its keyword, written from the last to the first, and its line feed.
+#[tactic(auto, using(std::proofs::Common::append_assoc))]
+fn push_row(text: &mut Vec<u8>, step: u32, amounts: &[u32]) -> Pushed
     requires { length amounts.now ≤ MAX_STORES }
-    ensures { result.now ≡ spaced (decimal step ∷ map decimal amounts.now) }
+    ensures { OnOk result (text.new.items ≡ text.old.items
+        ++ space ∷ decimal step ++ spaced (map decimal amounts.now) ++ line_feed ∷ []) }
 {
-    let end = write_amounts(octets, ROW_ROOM, amounts);
-    let first = write_number(octets, end, b' ', step);
-    &octets[first..]
+    let mut octets = [b'\n'; DUMP_ROOM];
+    let end = write_amounts(&mut octets, DUMP_ROOM - 1, amounts);
+    let first = write_number(&mut octets, end, b' ', step);
+    text.extend_from_slice(&octets[first..])
 }
 
 fn push_dump(text: &mut Vec<u8>, step: u32, amounts: &[u32]) -> Pushed
     requires { length amounts.now ≤ MAX_STORES }
     ensures { OnOk result (text.new.items ≡ text.old.items ++ ended (dump_line step amounts.now)) }
 {
-    let mut octets = [b' '; ROW_ROOM];
     text.extend_from_slice(b"dump")?;
-    text.extend_from_slice(row_in(&mut octets, step, amounts))?;
-    text.push(b'\n')?;
-    Ok(())
+    push_row(text, step, amounts)
 }
 
 // A line for each step, with the amounts of as many stores.

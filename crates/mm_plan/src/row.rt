@@ -1,32 +1,76 @@
 //! The line of a step's amounts, read where it stands.
-ghost use Rattle.std.specs.Prelude.{◌≡◌, ◌≤◌, ◌++◌, All, IfSome, IsTrue, codes, length};
+ghost use Rattle.std.specs.Prelude.{◌≡◌, ◌≤◌, ◌*◌, ◌<◌, ◌++◌, ◌∷◌, All, IfSome, IsTrue, codes, decimal, length, map, take};
 ghost use Rattle.mm_base.specs.declared.limits.TheConstants.{MAX_STORES, MAX_BLOCKS};
+ghost use Rattle.mm_base.specs.Characters.{space};
+ghost use Rattle.mm_plan.specs.Printing.{spaced};
 ghost use Rattle.mm_plan.specs.Sheet.{dump_line, line_text};
 
-use crate::print::{ROW_ROOM, row_in};
 use mm_base::{MAX_BLOCKS, MAX_STORES};
 
-// A dump line has a keyword, a step and an amount for each store.
-const WORDS: usize = MAX_STORES + 2;
+// A number at the front of a text, and what follows it.
+#[derive(Clone, Copy)]
+struct Front<'a> {
+    number: u32,
+    rest: &'a [u8],
+}
 
-// The numbers that the words of a text are, where they are numbers, in their places.
-pub(crate) fn numbers_of(text: &[u8]) -> [u32; WORDS]
-    ensures { All (λ n. n ≤ MAX_BLOCKS) result }
+// The number that a text begins with: 0, or all its first digits.
+fn leading_number(text: &[u8]) -> Option<Front<'_>>
+    ensures { IfSome result (λ f. text.now ≡ decimal f.number ++ f.rest.now) }
 {
-    let mut numbers = [0; WORDS];
-    let mut place = 0;
-    let mut number: u32 = 0;
-    for octet in text {
-        if *octet == b' ' {
-            numbers[place] = number.min(MAX_BLOCKS);
-            place = (place + 1).min(WORDS - 1);
-            number = 0;
-        } else {
-            number = number.wrapping_mul(10).wrapping_add(u32::from(*octet & 15));
-        }
+    let [first, after @ ..] = text else {
+        return None;
+    };
+    if !first.is_ascii_digit() {
+        return None;
     }
-    numbers[place] = number.min(MAX_BLOCKS);
-    numbers
+    let mut number = u32::from(*first - b'0');
+    let mut rest = after;
+    if number == 0 {
+        return Some(Front { number, rest });
+    }
+    while let [digit, after @ ..] = rest {
+        if !digit.is_ascii_digit() {
+            return Some(Front { number, rest });
+        }
+        if number > MAX_BLOCKS {
+            return None;
+        }
+        number = number * 10 + u32::from(*digit - b'0');
+        rest = after;
+    }
+    Some(Front { number, rest })
+}
+
+// The amount that a text begins with, after a space.
+fn spaced_number(text: &[u8]) -> Option<Front<'_>>
+    ensures text { IfSome result (λ f. text.now ≡ space ∷ decimal f.number ++ f.rest.now) }
+    ensures most { IfSome result (λ f. f.number ≤ MAX_BLOCKS) }
+{
+    let [b' ', after @ ..] = text else {
+        return None;
+    };
+    match leading_number(after) {
+        Some(front) if front.number <= MAX_BLOCKS => Some(front),
+        _ => None,
+    }
+}
+
+// Whether a text is that many amounts, each after a space, which are in the first places then.
+fn read_row(text: &[u8], stores: usize, amounts: &mut [u32; MAX_STORES]) -> bool
+    requires { stores ≤ MAX_STORES }
+    ensures text { IsTrue result → text.now ≡ spaced (map decimal (take stores amounts.new)) }
+    ensures most { IsTrue result → All (λ n. n ≤ MAX_BLOCKS) (take stores amounts.new) }
+{
+    let mut rest = text;
+    for place in 0..stores {
+        let Some(front) = spaced_number(rest) else {
+            return false;
+        };
+        amounts[place] = front.number;
+        rest = front.rest;
+    }
+    rest.is_empty()
 }
 
 // What follows the keyword of a dump line.
@@ -39,15 +83,22 @@ fn after_keyword(text: &[u8]) -> Option<&[u8]>
     }
 }
 
-// Whether a text is the line of a step with these amounts.
-pub(crate) fn is_dump(text: &[u8], step: u32, amounts: &[u32]) -> bool
-    requires { length amounts.now ≤ MAX_STORES }
-    ensures { IsTrue result → text.now ≡ line_text (dump_line step amounts.now) }
+// Whether a text is the line of a step with that many amounts, which are in the first places then.
+pub(crate) fn is_dump(
+    text: &[u8],
+    step: u32,
+    stores: usize,
+    amounts: &mut [u32; MAX_STORES],
+) -> bool
+    requires { stores ≤ MAX_STORES }
+    ensures text { IsTrue result → text.now ≡ line_text (dump_line step (take stores amounts.new)) }
+    ensures most { IsTrue result → All (λ n. n ≤ MAX_BLOCKS) (take stores amounts.new) }
 {
-    let mut octets = [b' '; ROW_ROOM];
-    let row = row_in(&mut octets, step, amounts);
-    match after_keyword(text) {
-        Some(rest) => rest == row,
+    let Some(after) = after_keyword(text) else {
+        return false;
+    };
+    match spaced_number(after) {
+        Some(front) => front.number == step && read_row(front.rest, stores, amounts),
         None => false,
     }
 }

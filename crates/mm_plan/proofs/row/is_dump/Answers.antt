@@ -1,9 +1,10 @@
-use Rattle.std.proofs.Common.{sym, ◌∙◌}
-use Rattle.std.proofs.lemmas.Slice.Eq.{bytes_eq-Decides}
-use Rattle.mm_plan.proofs.Rows.{is_dump_text}
+use Rattle.std.proofs.Common.{◌++◌, ◌∙◌, ap, sym}
+use Rattle.std.specs.Prelude.{codes}
+use Rattle.mm_plan.proofs.Rows.{dump_text}
 use Rattle.mm_plan.proofs.row.is_dump.Goals as goal
 
-pub returns-in-Some : goal.returns-in-Some
-returns-in-Some c = λ is.
-    is_dump_text c.args.text.now c.in-Some.rest.now c.args.step c.args.amounts.now c.in-Some.ensures
-    ((bytes_eq-Decides c.in-Some.rest.now c.row_in-row.result.now).0 (sym c.eq.ensures ∙ is) ∙ c.row_in-row.ensures)
+pub returns-then-front-step-clause-text : goal.returns-then-front-step-clause-text
+returns-then-front-step-clause-text c = λ is.
+    let begins = c.in-Some.ensures in
+    let number = rw (c.if-front-step.true, c.read_row.ensures.text is) at c.in-Some-spaced_number.ensures.text in
+    begins ∙ ap (λ rest. codes "dump" ++ rest) number ∙ sym (dump_text c.args.step _)
