@@ -9,7 +9,7 @@ use mm_ask::{MOST_KEPT, Place, Replies};
 use mm_base::{Refusal, Refused};
 use mm_command_line::{Role, Task};
 use mm_cut::Verdict;
-use mm_run::{Cause, Given, Outcome, Printed, Untaken};
+use mm_run::{Cause, Outcome, Printed, Untaken};
 use mm_told::{
     EndsHint, Hint, RequestHints, Texts, Words, fit_hint, notes_on, opening_hint, refusal_numbered,
 };
@@ -149,6 +149,15 @@ fn tell_hint<E: Write>(hint: Option<Hint>, err: &mut E) -> io::Result<()> {
     }
 }
 
+// Why a run was not carried out and reported whole.
+fn refusal_of(outcome: &Outcome) -> Option<Refusal> {
+    match outcome {
+        Outcome::CarriedOut => None,
+        Outcome::Unreported => Some(Refusal::NoMemory),
+        Outcome::Stopped(cause) => Some(cause.refusal()),
+    }
+}
+
 // Says why a run did not begin or was halted, or that there is no memory for its report.
 fn tell_stop<E: Write>(
     alloc: Global,
@@ -157,16 +166,10 @@ fn tell_stop<E: Write>(
     texts: Texts<'_>,
     err: &mut E,
 ) -> io::Result<()> {
-    let (refusal, hint) = match printed.outcome {
-        Outcome::CarriedOut => return Ok(()),
-        Outcome::Unreported => (Refusal::NoMemory, None),
-        Outcome::Stopped(cause) => {
-            (
-                cause.refusal(),
-                hint_of_run(alloc, cause, printed.given, texts),
-            )
-        }
+    let Some(refusal) = refusal_of(&printed.outcome) else {
+        return Ok(());
     };
+    let hint = hint_of_run(alloc, printed, texts);
     writeln!(err, "{}", Advice::of_run(task, refusal, hint.as_ref()))?;
     tell_hint(hint, err)
 }
@@ -188,13 +191,17 @@ fn tell_verdict<E: Write>(
     }
 }
 
-// What is found where a run that was given this did not begin.
-fn hint_of_run(alloc: Global, cause: Cause, given: Given, texts: Texts<'_>) -> Option<Hint> {
+// What is found where a run did not begin.
+fn hint_of_run(alloc: Global, printed: &Printed, texts: Texts<'_>) -> Option<Hint> {
+    let Outcome::Stopped(cause) = &printed.outcome else {
+        return None;
+    };
+    let given = &printed.given;
     match cause {
         Cause::OpeningDiffers { store } => {
-            opening_hint(alloc, texts.setup, store, given.opening)
+            opening_hint(alloc, texts.setup, *store, given.opening)
         }
-        Cause::PlanDoesNotFit { step } => fit_hint(alloc, texts, step),
+        Cause::PlanDoesNotFit { step } => fit_hint(alloc, texts, *step),
         Cause::Counts => Some(Hint::Ends(EndsHint::of_counts(given.sources, given.links))),
         _ => None,
     }
