@@ -59,8 +59,7 @@ static BY_CHANNELS: [&str; 7] = [
     "<text class='w' x='16' y='418'>No wider window.</text>",
 ];
 
-const ONE_STORE_OF_A: &str =
-    "[[store]]\nid = \"A\"\nsize = 3\ntype = \"bounded\"\nchannel = 0\n";
+const ONE_STORE_OF_A: &str = "[[store]]\nid = \"A\"\nsize = 3\ntype = \"bounded\"\nchannel = 0\n";
 
 const LIMITED_STEPS_OF_A: &str = "step,window,A,limit:0\n1,5,3,1\n2,0,3,2\n";
 

@@ -163,7 +163,10 @@ fn limit_at(problem: &Problem, channel: u8, step: u32) -> Option<u32> {
 // The channels have these limits.
 fn has_limits(rt: &impl Abort, problem: &Problem) {
     for (channel, limit) in &LIMITS {
-        assert!(rt; limit_at(problem, *channel, 1) == *limit, "channel {channel}");
+        assert!(rt;
+            limit_at(problem, *channel, 1) == *limit,
+            "channel {channel}"
+        );
     }
 }
 
