@@ -1,11 +1,53 @@
--- Orders one after another, and why they broke.
-use Rattle.std.proofs.Common.{◌≡◌, List, [], ◌∷◌, length, map, All, refl, ap, subst, arith}
-use Rattle.std.specs.Prelude.{Option, None}
+-- Orders one after another, and the worst of the causes for which they broke.
+use Rattle.std.proofs.Common.{◌≡◌, ℕ, ◌+◌, ◌<◌, List, [], ◌∷◌, ◌++◌, length, get_or, map, take, refl, sym, ap, ◌∙◌, All, subst, arith}
+use Rattle.std.specs.Prelude.{Option, Some, None}
+use Rattle.std.proofs.lemmas.List.{map-append, take_more}
+use Rattle.mm_dump.specs.declared.order.OrderBroken.{OrderBroken}
+use Rattle.mm_dump.specs.declared.order.OrderBroken.TheVariants.{LinkFailed, NoMemory}
+use Rattle.mm_dump.specs.Courses.{worse, worst_of, Course, IsWhole, EndedAs, IsCourse, failed_by}
 use Rattle.std.proofs.lemmas.List.Elements.{All-nil, All-cons, All-head, All-tail}
 use Rattle.std.proofs.lemmas.List.Sums.{sum_by-cons}
-use Rattle.mm_dump.specs.declared.order.OrderBroken.{OrderBroken}
-use Rattle.mm_dump.specs.Courses.{Course, IsWhole, EndedAs, IsCourse, worst_of, failed_by}
-use Rattle.mm_dump.proofs.Causes.{worse-none}
+
+-- the worst of three is found in either order
+worse-assoc : (a b c : Option OrderBroken) → worse (worse a b) c ≡ worse a (worse b c)
+worse-assoc None b c = refl
+worse-assoc (Some NoMemory) b c = refl
+worse-assoc (Some LinkFailed) None c = refl
+worse-assoc (Some LinkFailed) (Some NoMemory) c = refl
+worse-assoc (Some LinkFailed) (Some LinkFailed) None = refl
+worse-assoc (Some LinkFailed) (Some LinkFailed) (Some why) = refl
+
+-- what is worse than nothing is itself
+pub worse-alone : (a : Option OrderBroken) → worse a None ≡ a
+worse-alone None = refl
+worse-alone (Some NoMemory) = refl
+worse-alone (Some LinkFailed) = refl
+
+-- nothing is worse than nothing
+pub worse-none : (a b : Option OrderBroken) → worse a b ≡ None → (a ≡ None) × (b ≡ None)
+worse-none None b none = (refl, none)
+worse-none (Some NoMemory) b none = absurd (cc none)
+worse-none (Some LinkFailed) None none = absurd (cc none)
+worse-none (Some LinkFailed) (Some why) none = absurd (cc none)
+
+-- the worst of causes and one more
+pub worst-push : (whys : List (Option OrderBroken)) (why : Option OrderBroken) → worst_of (whys ++ why ∷ []) ≡ worse (worst_of whys) why
+worst-push [] why = worse-alone why
+worst-push (one ∷ whys) why = ap (worse one) (worst-push whys why) ∙ sym (worse-assoc one (worst_of whys) why)
+
+-- the same of the first elements of a list
+pub worst_more : {X : Type 0} (cause : X → Option OrderBroken) (xs : List X) (i : ℕ) (d : X) → i < length xs
+    → worst_of (map cause (take (i + 1) xs)) ≡ worse (worst_of (map cause (take i xs))) (cause (get_or xs i d))
+worst_more cause xs i d within =
+    ap (λ ys. worst_of (map cause ys)) (take_more xs i d within) ∙ ap worst_of (map-append cause (take i xs) (get_or xs i d ∷ []))
+    ∙ worst-push (map cause (take i xs)) (cause (get_or xs i d))
+
+-- the same as a loop finds it
+pub worst_next : {X : Type 0} (cause : X → Option OrderBroken) (xs : List X) (i : ℕ) (x : X) (worst next : Option OrderBroken) → i < length xs → x ≡ get_or xs i x
+    → worst ≡ worst_of (map cause (take i xs)) → next ≡ worse worst (cause x) → next ≡ worst_of (map cause (take (i + 1) xs))
+worst_next cause xs i x worst next within at so_far found =
+    found ∙ ap (λ (w : Option OrderBroken). worse w (cause x)) so_far ∙ ap (λ y. worse (worst_of (map cause (take i xs))) (cause y)) at
+    ∙ sym (worst_more cause xs i x within)
 
 -- the causes of orders
 abbrev pub whys : List Course → List (Option OrderBroken)

@@ -23,7 +23,7 @@ use Rattle.mm_dump.specs.Dumped.{AllKept, used_by}
 use Rattle.mm_dump.specs.Sending.{Sent, all_sent}
 use Rattle.mm_dump.specs.Workers.{order_at, AreTried, TookAs, Sided, IsReady, AllWorked, calls_of}
 use Rattle.mm_dump.proofs.Finding.{calls_on-calls_of}
-use Rattle.mm_dump.proofs.Weighing.{below, all_below, not_below, is_it, last_taken}
+use Rattle.mm_dump.proofs.Ordered.{below, all_below, not_below, is_it, last_taken}
 
 -- an order is the one of some number
 pub record IsOrdered (orders : List Order) (o : Order) : Type 0 where

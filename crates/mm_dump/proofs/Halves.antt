@@ -41,20 +41,6 @@ sided_append (a ∷ ls) ms (b ∷ bs) bs' (c ∷ cs) cs' one two =
     let rest = sided_append ls ms bs bs' cs cs' (omega arith) (omega arith) in
     λ i. side a b c ∷ rest i
 
--- the links, the ports and the workers alone
-pub sided_links : {L : Type 0} (ls : List L) (bs : List PortView) (cs : List DumpWorker) → length bs ≡ length ls → length cs ≡ length ls → map (λ (s : Sided L). s.link) (sided ls bs cs) ≡ ls
-sided_links [] bs cs one two = refl
-sided_links (a ∷ ls) [] cs one two = absurd (omega arith)
-sided_links (a ∷ ls) (b ∷ bs) [] one two = absurd (omega arith)
-sided_links (a ∷ ls) (b ∷ bs) (c ∷ cs) one two = let rest = sided_links ls bs cs (omega arith) (omega arith) in λ i. a ∷ rest i
-
-pub sided_workers : {L : Type 0} (ls : List L) (bs : List PortView) (cs : List DumpWorker) → length bs ≡ length ls → length cs ≡ length ls → map (λ (s : Sided L). s.worker) (sided ls bs cs) ≡ cs
-sided_workers [] bs [] one two = refl
-sided_workers [] bs (c ∷ cs) one two = absurd (omega arith)
-sided_workers (a ∷ ls) [] cs one two = absurd (omega arith)
-sided_workers (a ∷ ls) (b ∷ bs) [] one two = absurd (omega arith)
-sided_workers (a ∷ ls) (b ∷ bs) (c ∷ cs) one two = let rest = sided_workers ls bs cs (omega arith) (omega arith) in λ i. c ∷ rest i
-
 module _ {L Q A : Type 0} (sent : L → List Sent) (failed : L → ℕ) (queue : Slotted (Option ℕ) (Doing ℕ QueueView) Q A) (stores : StoresView) (labels : List StoreLabel) (orders : List Order) where
   -- the halves are ready
   module _ (links low_links high_links : List L) (ports low_ports high_ports : List PortView) (workers low_workers high_workers : List DumpWorker)

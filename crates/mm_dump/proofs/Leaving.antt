@@ -1,5 +1,5 @@
--- What the calls of an order that broke leave of a state.
-use Rattle.std.proofs.Common.{◌≡◌, ℕ, List, [], ◌∷◌, ◌++◌, refl, sym, ap, subst, ◌∙◌}
+-- What the calls of an order that broke leave of a state, and stores at which no retrieval is on.
+use Rattle.std.proofs.Common.{◌≡◌, ℕ, List, [], ◌∷◌, ◌++◌, refl, sym, ap, subst, ◌∙◌, zero, suc, All}
 use Rattle.std.specs.Prelude.{Option, Some, None, Result, Ok, is_some}
 use Rattle.std.proofs.lemmas.Bool.{cond_both}
 use Rattle.mm_store.specs.declared.stored.Stored.{Stored}
@@ -11,8 +11,12 @@ use Rattle.mm_desk.specs.declared.reply.Reply.TheVariants as reply
 use Rattle.mm_desk.specs.declared.state.Retrieval.{Retrieval}
 use Rattle.mm_desk.specs.Machine.{State, give, next_of, step}
 use Rattle.mm_desk.specs.Orders.{begun, given}
-use Rattle.mm_desk.specs.Runs.{replay, IsLegal, IsRun}
+use Rattle.mm_desk.specs.Runs.{replay, IsLegal, IsRun, opening_at}
 use Rattle.mm_dump.specs.Broken.{aborted, IsBrokenOrder}
+use Rattle.std.proofs.lemmas.List.Elements.{All-head, All-tail}
+use Rattle.mm_desk.specs.declared.held.Held.{Held}
+use Rattle.mm_shared.specs.Stores.{states_of}
+use Rattle.mm_dump.specs.declared.order.Order.{Order}
 
 -- two states differ in the retrieval at most
 abbrev AreClose : State → State → Type 0
@@ -74,3 +78,17 @@ broken_keeps s t seat wanted gave calls order run =
     let close = close_on s (step s (Begin 1 clock_end)).1 _ (begin_keeps s) rest.0 in
     let none : t.retrieval ≡ None = ap (λ (u : State). u.retrieval) same.leaves ∙ rest.1 in
     (same.leaves ∙ close ∙ ap (λ (r : Option Retrieval). record s { retrieval = r }) (rest.1 ∙ sym off), none)
+
+-- whether no retrieval is on
+abbrev IsIdle : Held → Type 0
+IsIdle h = h.state.retrieval ≡ None
+
+idle_at : (stores : List Held) (k : ℕ) → All IsIdle stores → (opening_at (states_of stores) k).retrieval ≡ None
+idle_at [] k idle = refl
+idle_at (h ∷ stores) zero idle = All-head IsIdle h stores idle
+idle_at (h ∷ stores) (suc k) idle = idle_at stores k (All-tail IsIdle h stores idle)
+
+-- no retrieval is on at a store that an order names
+pub all_idle : (stores : List Held) (orders : List Order) → All (λ (h : Held). h.state.retrieval ≡ None) stores
+    → All (λ (o : Order). (opening_at (states_of stores) o.place).retrieval ≡ None) orders
+all_idle stores orders idle i d within = idle_at stores _ idle

@@ -4,10 +4,7 @@ mod Refusing
 mod Extending
 mod SoFar
 mod Whole
-mod OneOrder
-mod Causes
 mod Working
-mod Weighing
 mod Gathering
 mod Finding
 mod Ordered
@@ -15,8 +12,5 @@ mod Courses
 mod Settling
 mod Settled
 mod Halves
-mod Ready
-mod Idle
-mod Ending
 mod Leaves
 mod Nothing

@@ -1,15 +1,61 @@
--- Orders of which no two name one place, by their numbers.
-use Rattle.std.proofs.Common.{◌≡◌, ◌≢◌, ◌⊎◌, inl, inr, ℕ, zero, suc, ◌+◌, ◌<◌, ◌≤◌, ◌==◌, true, false, Bool, cond, eqb, List, [], ◌∷◌, length, filter, All, AllPairs, refl, sym, ap, subst, ◌∙◌, arith}
+-- Orders of which no two name one place, and what the numbers weigh that were taken of them.
+use Rattle.std.proofs.Common.{◌≡◌, ◌⊎◌, inl, inr, ℕ, zero, suc, ◌+◌, ◌-◌, ◌<◌, ◌≤◌, Bool, nat_lt, cond, eqb, List, [], ◌∷◌, ◌++◌, All, refl, sym, ap, ◌∙◌, arith, ◌≢◌, ◌==◌, true, false, length, filter, take, drop, AllPairs, subst}
 use Rattle.std.specs.List.{sum_by, range_with_len}
-use Rattle.std.proofs.lemmas.Bool.{eq-eqb, ne_eqb}
-use Rattle.std.proofs.lemmas.Bool.Decides.{eqb_tells}
+use Rattle.std.proofs.lemmas.Bool.{cases_lt, lt-ltb, le-ltb, eq-eqb, ne_eqb}
 use Rattle.std.proofs.lemmas.List.Elements.{All-head, All-tail, All-get_or}
-use Rattle.std.proofs.lemmas.List.Sums.{sum_by-cons}
+use Rattle.std.proofs.lemmas.List.Sums.{sum_by-cons, sum_by-append, sum_by_more}
+use Rattle.mm_base.proofs.RangeSums.{sum_by_range_more, sum_by_range_zeros}
+use Rattle.std.proofs.lemmas.Bool.Decides.{eqb_tells}
 use Rattle.mm_base.proofs.Pairs.{AllPairs-head, AllPairs-tail}
-use Rattle.mm_base.proofs.RangeSums.{sum_by_range_shift, sum_by_range_same}
+use Rattle.mm_base.proofs.Sums.{sum_by-map}
+use Rattle.std.proofs.lemmas.List.{take_all, take-append-drop}
 use Rattle.mm_dump.specs.declared.order.Order.{Order}
 use Rattle.mm_dump.specs.Workers.{order_at}
 use Rattle.mm_dump.specs.Dumped.{wanted, times, places_of}
+
+-- a weight below a number
+abbrev pub below : ℕ → (ℕ → ℕ) → ℕ → ℕ
+below n weight k = cond (nat_lt k n) (weight k) 0
+
+pub below_it : (n : ℕ) (weight : ℕ → ℕ) (k : ℕ) → k < n → below n weight k ≡ weight k
+below_it n weight k within = ap (λ (b : Bool). cond b (weight k) 0) (lt-ltb k n within)
+
+pub not_below : (n : ℕ) (weight : ℕ → ℕ) (k : ℕ) → n ≤ k → below n weight k ≡ 0
+not_below n weight k past = ap (λ (b : Bool). cond b (weight k) 0) (le-ltb k n past)
+
+-- numbers that are all below it weigh what they weigh
+pub all_below : (n : ℕ) (weight : ℕ → ℕ) (ks : List ℕ) → All (λ (k : ℕ). k < n) ks → sum_by (below n weight) ks ≡ sum_by weight ks
+all_below n weight [] within = refl
+all_below n weight (k ∷ ks) within =
+    omega (
+      arith,
+      sum_by-cons (below n weight) k ks,
+      sum_by-cons weight k ks,
+      below_it n weight k (All-head (λ (k : ℕ). k < n) k ks within),
+      all_below n weight ks (All-tail (λ (k : ℕ). k < n) k ks within),
+    )
+
+-- whether a number is this one
+abbrev pub is_it : ℕ → ℕ → ℕ
+is_it x k = cond (eqb k x) 1 0
+
+-- a number that stands among those taken, which are the numbers below another, each once, is below that
+pub reached : (next past : ℕ) (taken : (ℕ → ℕ) → ℕ) → ((weight : ℕ → ℕ) → sum_by weight (range_with_len 0 next) ≡ taken weight)
+    → 1 ≤ taken (is_it past) → past < next
+reached next past taken each was_taken = by_order (cases_lt past next)
+  where
+    by_order : (past < next) ⊎ (next ≤ past) → past < next
+    by_order (inl less) = less
+    by_order (inr beyond) =
+        let none : sum_by (is_it past) (range_with_len 0 next) ≡ 0 =
+        sum_by_range_zeros (is_it past) 0 next (λ t low high. ap (λ (b : Bool). cond {A = ℕ} b 1 0) (ne_eqb t past (λ same. omega arith))) in
+        absurd (omega (arith, none, each (is_it past), was_taken))
+
+-- the last of a list stands in it
+pub last_taken : (past : ℕ) (numbers taken : List ℕ) → taken ≡ numbers ++ past ∷ [] → 1 ≤ sum_by (is_it past) taken
+last_taken past numbers taken are =
+    let one : is_it past past ≡ 1 = ap (λ (b : Bool). cond {A = ℕ} b 1 0) (eq-eqb past past refl) in
+    omega (arith, ap (sum_by (is_it past)) are, sum_by-append (is_it past) numbers (past ∷ []), sum_by-cons (is_it past) past [], one)
 
 -- whether an order names a place
 abbrev pub names : ℕ → Order → ℕ
@@ -22,31 +68,52 @@ named p o same = ap (λ (b : Bool). cond {A = ℕ} b 1 0) (eq-eqb o.place p same
 pub not_named : (p : ℕ) (o : Order) → o.place ≢ p → names p o ≡ 0
 not_named p o off = ap (λ (b : Bool). cond {A = ℕ} b 1 0) (ne_eqb o.place p off)
 
--- a place stands as often among the places of orders as it is named by their numbers
-pub times_by_number : (p : ℕ) (orders : List Order) → sum_by (λ (k : ℕ). names p (order_at orders k)) (range_with_len 0 (length orders)) ≡ times p (places_of orders)
-times_by_number p [] = refl
-times_by_number p (o ∷ os) =
-    let here : ℕ → ℕ = λ k. names p (order_at (o ∷ os) k) in
-    let there : ℕ → ℕ = λ k. names p (order_at os k) in
-    let shifted : sum_by here (range_with_len 1 (length os)) ≡ sum_by there (range_with_len 0 (length os)) =
-    sum_by_range_shift here 0 (length os) ∙ sum_by_range_same (λ k. here (k + 1)) there 0 (length os) (λ k low high. next k) in
-    omega (arith, sum_by-cons here 0 (range_with_len 1 (length os)), shifted, times_by_number p os, sum_by-cons (λ (x : ℕ). cond {A = ℕ} (eqb x p) 1 0) o.place (places_of os))
+-- the numbers from 0 on weigh what the first orders weigh
+pub weighs_first : (f : Order → ℕ) (orders : List Order) (next : ℕ)
+    → sum_by (below (length orders) (λ (k : ℕ). f (order_at orders k))) (range_with_len 0 next) ≡ sum_by f (take next orders)
+weighs_first f orders zero = refl
+weighs_first f orders (suc next) = by_order (weighs_first f orders next) (cases_lt next (length orders))
   where
-    next : (k : ℕ) → names p (order_at (o ∷ os) (k + 1)) ≡ names p (order_at os k)
-    next k = let more : k + 1 ≡ suc k = omega arith in ap (λ (i : ℕ). names p (order_at (o ∷ os) i)) more
+    weight : ℕ → ℕ
+    weight k = below (length orders) (λ (k : ℕ). f (order_at orders k)) k
 
--- orders weigh what their numbers weigh
-pub by_number : (f : Order → ℕ) (orders : List Order) → sum_by (λ (k : ℕ). f (order_at orders k)) (range_with_len 0 (length orders)) ≡ sum_by f orders
-by_number f [] = refl
-by_number f (o ∷ os) =
-    let here : ℕ → ℕ = λ k. f (order_at (o ∷ os) k) in
-    let there : ℕ → ℕ = λ k. f (order_at os k) in
-    let shifted : sum_by here (range_with_len 1 (length os)) ≡ sum_by there (range_with_len 0 (length os)) =
-    sum_by_range_shift here 0 (length os) ∙ sum_by_range_same (λ k. here (k + 1)) there 0 (length os) (λ k low high. next k) in
-    omega (arith, sum_by-cons here 0 (range_with_len 1 (length os)), shifted, by_number f os, sum_by-cons f o os)
-  where
-    next : (k : ℕ) → f (order_at (o ∷ os) (k + 1)) ≡ f (order_at os k)
-    next k = let more : k + 1 ≡ suc k = omega arith in ap (λ (i : ℕ). f (order_at (o ∷ os) i)) more
+    more : suc next ≡ next + 1
+    more = omega arith
+
+    here : sum_by weight (range_with_len 0 (suc next)) ≡ sum_by weight (range_with_len 0 next) + weight next
+    here = ap (λ (n : ℕ). sum_by weight (range_with_len 0 n)) more ∙ sum_by_range_more weight 0 next next (omega arith)
+
+    by_order : sum_by weight (range_with_len 0 next) ≡ sum_by f (take next orders) → (next < length orders) ⊎ (length orders ≤ next)
+        → sum_by weight (range_with_len 0 (suc next)) ≡ sum_by f (take (suc next) orders)
+    by_order rest (inl less) =
+        omega (
+          arith,
+          here,
+          rest,
+          below_it (length orders) (λ (k : ℕ). f (order_at orders k)) next less,
+          sum_by_more f orders next (record { place = 0; amount = 0 }) less,
+          ap (λ (n : ℕ). sum_by f (take n orders)) more,
+        )
+    by_order rest (inr past) =
+        omega (
+          arith,
+          here,
+          rest,
+          not_below (length orders) (λ (k : ℕ). f (order_at orders k)) next past,
+          ap (sum_by f) (take_all next orders past),
+          ap (sum_by f) (take_all (suc next) orders (omega arith)),
+        )
+
+-- no more than all, and as much where they are all
+pub first_few : (f : Order → ℕ) (orders : List Order) (next : ℕ) → sum_by f (take next orders) ≤ sum_by f orders
+first_few f orders next = omega (arith, sum_by-append f (take next orders) (drop next orders), ap (sum_by f) (take-append-drop next orders))
+
+pub first_all : (f : Order → ℕ) (orders : List Order) (next : ℕ) → length orders ≤ next → sum_by f (take next orders) ≡ sum_by f orders
+first_all f orders next reach = ap (sum_by f) (take_all next orders reach)
+
+-- how often a place is named
+pub times_named : (p : ℕ) (orders : List Order) → times p (places_of orders) ≡ sum_by (names p) orders
+times_named p orders = sum_by-map (λ (x : ℕ). cond {A = ℕ} (eqb x p) 1 0) (λ (o : Order). o.place) orders
 
 -- no other order names a place
 none_names : (p : ℕ) (orders : List Order) → All (λ (o : Order). o.place ≢ p) orders → (times p (places_of orders) ≡ 0) × (wanted orders p ≡ 0)

@@ -1,5 +1,5 @@
 -- What a step's dump leaves, from what its workers did.
-use Rattle.std.proofs.Common.{◌≡◌, ◌≢◌, ℕ, zero, suc, ◌+◌, ◌<◌, ◌≤◌, List, [], ◌∷◌, ◌++◌, length, get_or, map, All, AllPairs, refl, sym, ap, subst, ◌∙◌, arith}
+use Rattle.std.proofs.Common.{◌≡◌, ◌≢◌, ℕ, zero, suc, ◌+◌, ◌<◌, ◌≤◌, List, [], ◌∷◌, ◌++◌, length, get_or, map, take, All, AllPairs, refl, sym, ap, subst, ◌∙◌, arith}
 use Rattle.std.specs.List.{AllZip, sum_by, range_with_len}
 use Rattle.std.specs.Prelude.{Any, Option, None, IfNone, Some}
 use Rattle.std.proofs.lemmas.List.{get_or-map, length-map}
@@ -23,14 +23,12 @@ use Rattle.mm_dump.specs.Courses.{Course, IsCourse, worst_of, spent_by}
 use Rattle.mm_dump.specs.Dumped.{times, places_of, AllDumped, AllSettled, CarriesOut, amount_of}
 use Rattle.mm_dump.specs.Sending.{Sent}
 use Rattle.mm_dump.specs.Workers.{order_at, IsTried, Sided}
-use Rattle.mm_dump.proofs.Causes.{worse-none}
-use Rattle.mm_dump.proofs.Courses.{whys}
+use Rattle.mm_dump.proofs.Courses.{worse-none, whys}
 use Rattle.mm_dump.proofs.Finding.{find, here, tally, flat, found_again}
 use Rattle.mm_dump.proofs.Gathering.{IsOrdered, IsOf, Gathered, all_kept, used_is}
 use Rattle.mm_dump.proofs.Moves.{counted}
-use Rattle.mm_dump.proofs.Ordered.{names, named_once, times_by_number, by_number}
+use Rattle.mm_dump.proofs.Ordered.{names, named_once, weighs_first, first_few, first_all, times_named, below, is_it, reached}
 use Rattle.mm_dump.proofs.Settling.{spots, Known, HaveEnded, AllAt, IsAt, flat_all, all_flat, spots_tally, all_tried, all_took, same_causes, all_unbroken, run_found, amount_found, tried, dumped}
-use Rattle.mm_dump.proofs.Weighing.{below, range_below, is_it, reached}
 
 -- what follows where there is nothing
 if_none : {A : Type 0} (P : Type 0) (o : Option A) → (o ≡ None → P) → IfNone o P
@@ -173,22 +171,22 @@ module _ {L Q A : Type 0} (sent : L → List Sent) (failed : L → ℕ) (queue :
   all = flat g.courses
 
   -- how much they weigh
-  weight_is : (f : Order → ℕ) → sum_by (λ (cs : List Course). sum_by (λ (c : Course). f c.order) cs) g.courses
-      ≡ sum_by (below (length orders) (λ (k : ℕ). f (order_at orders k))) (range_with_len 0 next)
-  weight_is f = weighed orders f g.courses news g.each ∙ sym (total (below (length orders) (λ (k : ℕ). f (order_at orders k))))
+  weight_is : (f : Order → ℕ) → sum_by (λ (cs : List Course). sum_by (λ (c : Course). f c.order) cs) g.courses ≡ sum_by f (take next orders)
+  weight_is f =
+      weighed orders f g.courses news g.each ∙ sym (total (below (length orders) (λ (k : ℕ). f (order_at orders k)))) ∙ weighs_first f orders next
 
-  tally_is : (p : ℕ) → tally p all ≡ sum_by (below (length orders) (λ (k : ℕ). names p (order_at orders k))) (range_with_len 0 next)
+  tally_is : (p : ℕ) → tally p all ≡ sum_by (names p) (take next orders)
   tally_is p = sum_by-flat_map (here p) (λ (cs : List Course). cs) g.courses ∙ weight_is (names p)
 
   -- no place has more orders than name it, and as many where all were taken
   tally_most : (p : ℕ) → tally p all ≤ times p (places_of orders)
-  tally_most p = omega (arith, tally_is p, (range_below (length orders) next (λ (k : ℕ). names p (order_at orders k))).0, times_by_number p orders)
+  tally_most p = omega (arith, tally_is p, first_few (names p) orders next, times_named p orders)
 
   tally_few : (p : ℕ) → tally p all ≤ 1
   tally_few p = omega (arith, tally_most p, named_once p orders apart)
 
   tally_all : length orders ≤ next → (p : ℕ) → tally p all ≡ times p (places_of orders)
-  tally_all reach p = tally_is p ∙ (range_below (length orders) next (λ (k : ℕ). names p (order_at orders k))).1 reach ∙ times_by_number p orders
+  tally_all reach p = tally_is p ∙ first_all (names p) orders next reach ∙ sym (times_named p orders)
 
   -- each order is found at its place
   found : All (IsAt (λ (p : ℕ). find p all)) all
@@ -240,8 +238,7 @@ module _ {L Q A : Type 0} (sent : L → List Sent) (failed : L → ℕ) (queue :
         arith,
         all_spend orders g.courses news g.each,
         weight_is (λ (o : Order). o.amount),
-        (range_below (length orders) next (λ (k : ℕ). (order_at orders k).amount)).0,
-        by_number (λ (o : Order). o.amount) orders,
+        first_few (λ (o : Order). o.amount) orders next,
       )
 
   module _ (why : Option OrderBroken) (worst : worst_of (map (λ (s : Sided L). s.worker.why) news) ≡ why) (many : 1 ≤ length news) where

@@ -16,8 +16,7 @@ use Rattle.mm_dump.specs.declared.order.OrderBroken.{OrderBroken}
 use Rattle.mm_dump.specs.Courses.{Course, IsCourse, worst_of, calls_at, sent_by, failed_by}
 use Rattle.mm_dump.specs.Dumped.{wanted, times, places_of, AreCourses, HasDumped, AllTook, HasTried, AllTried}
 use Rattle.mm_dump.specs.Sending.{Sent, all_sent}
-use Rattle.mm_dump.proofs.Causes.{worse-none}
-use Rattle.mm_dump.proofs.Courses.{whys, none_broke, whole_course, no_failures}
+use Rattle.mm_dump.proofs.Courses.{worse-none, whys, none_broke, whole_course, no_failures}
 use Rattle.mm_dump.proofs.Finding.{find, here, tally, flat, is_found, none_found, lone_list}
 use Rattle.mm_dump.proofs.Gathering.{IsOrdered, AllGrew}
 use Rattle.mm_dump.proofs.Halves.{all_left, all_right}

@@ -2,7 +2,7 @@ use Rattle.std.proofs.Common.{[], refl, sym}
 use Rattle.std.proofs.lemmas.List.{get_or-map}
 use Rattle.mm_shared.specs.declared.label.StoreLabel.{StoreLabel}
 use Rattle.mm_shared.specs.Stores.{ids_of}
-use Rattle.mm_dump.proofs.OneOrder.{carried_whole, carried_stopped}
+use Rattle.mm_dump.proofs.Working.{carried_whole, carried_stopped}
 use Rattle.mm_dump.proofs.dumper.carry_at.Goals as goal
 
 pub returns-in-Ok-clause-carried : goal.returns-in-Ok-clause-carried

@@ -13,10 +13,8 @@ use Rattle.mm_dump.specs.Dumped.{CarriesOut}
 use Rattle.mm_dump.specs.Queue.{Tells}
 use Rattle.mm_dump.specs.Steps.{IsHired, IsBack, AreBack}
 use Rattle.mm_dump.specs.Workers.{AreReady, causes_of}
-use Rattle.mm_dump.proofs.Ending.{lent, same_ids, sided_ends, sided_each}
-use Rattle.mm_dump.proofs.Leaves.{HasEndedAll, leaves}
+use Rattle.mm_dump.proofs.Leaves.{lent, same_ids, sided_ends, sided_each, HasEndedAll, leaves, step_ready, ends_same, all_back}
 use Rattle.mm_dump.proofs.Nothing.{nothing, with_idle}
-use Rattle.mm_dump.proofs.Ready.{step_ready, ends_same, all_back}
 use Rattle.mm_dump.proofs.step.dump.Given as given
 use Rattle.mm_dump.proofs.step.dump.Goals as goal
 use Rattle.mm_dump.proofs.step.dump.Goals.{After-deref_mut-2, After-dump_all}
@@ -76,7 +74,7 @@ same_workers g c rest =
 -- what the workers have
 back : (g : given.Over) (c : goal.After-dump_all g) → AsMany _ c.dump_all.new.links c.dump_all.new.ports c.dump_all.new.workers → All (IsBack c.in_ok-buffers.buffers.queue) c.dump_all.new.workers
 back g c many =
-    sided_each (IsBack c.in_ok-buffers.buffers.queue) c.dump_all.new.links c.dump_all.new.ports c.dump_all.new.workers many.ports_are many.workers_are
+    sided_each c.dump_all.new.links c.dump_all.new.ports c.dump_all.new.workers many.ports_are many.workers_are (IsBack c.in_ok-buffers.buffers.queue)
     (all_back g.L.Link.sent g.L.Link.failed c.in_ok-buffers.buffers.queue _ _ _ _ c.dump_all.ensures.worked)
 
 -- as many as were ready

@@ -1,5 +1,5 @@
 use Rattle.mm_dump.specs.declared.dumper.DumpWorker.{DumpWorker}
-use Rattle.mm_dump.proofs.Causes.{worst_next}
+use Rattle.mm_dump.proofs.Courses.{worst_next}
 use Rattle.mm_dump.proofs.worst.worst_broken.Goals as goal
 
 pub loop-worker-preserved : goal.loop-worker-preserved
