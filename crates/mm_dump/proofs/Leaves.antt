@@ -27,7 +27,7 @@ use Rattle.mm_dump.specs.declared.order.OrderBroken.{OrderBroken}
 use Rattle.mm_dump.specs.Courses.{worst_of}
 use Rattle.mm_dump.specs.Dumped.{CarriesOut}
 use Rattle.mm_dump.specs.Queue.{Tells}
-use Rattle.mm_dump.proofs.Gathering.{Gathered, gathered}
+use Rattle.mm_dump.proofs.Settling.{Gathered, gathered}
 use Rattle.mm_dump.proofs.Settled.{carries_out}
 
 -- the links, the ports and the workers alone

@@ -1,11 +1,8 @@
 mod Leaving
 mod Moves
 mod Refusing
-mod Extending
-mod SoFar
-mod Whole
+mod OneOrder
 mod Working
-mod Gathering
 mod Finding
 mod Ordered
 mod Courses

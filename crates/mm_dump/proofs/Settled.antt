@@ -25,10 +25,9 @@ use Rattle.mm_dump.specs.Sending.{Sent}
 use Rattle.mm_dump.specs.Workers.{order_at, IsTried, Sided}
 use Rattle.mm_dump.proofs.Courses.{worse-none, whys}
 use Rattle.mm_dump.proofs.Finding.{find, here, tally, flat, found_again}
-use Rattle.mm_dump.proofs.Gathering.{IsOrdered, IsOf, Gathered, all_kept, used_is}
+use Rattle.mm_dump.proofs.Settling.{IsOrdered, IsOf, Gathered, all_kept, used_is, spots, Known, HaveEnded, AllAt, IsAt, flat_all, all_flat, spots_tally, all_tried, all_took, same_causes, all_unbroken, run_found, amount_found, tried, dumped}
 use Rattle.mm_dump.proofs.Moves.{counted}
 use Rattle.mm_dump.proofs.Ordered.{names, named_once, weighs_first, first_few, first_all, times_named, below, is_it, reached}
-use Rattle.mm_dump.proofs.Settling.{spots, Known, HaveEnded, AllAt, IsAt, flat_all, all_flat, spots_tally, all_tried, all_took, same_causes, all_unbroken, run_found, amount_found, tried, dumped}
 
 -- what follows where there is nothing
 if_none : {A : Type 0} (P : Type 0) (o : Option A) → (o ≡ None → P) → IfNone o P

@@ -1,7 +1,7 @@
 use Rattle.std.proofs.lemmas.Result.{err_from_is_err_and}
 use Rattle.mm_dump.specs.OrderSteps.{order_store}
 use Rattle.mm_dump.specs.Sending.{link_state}
-use Rattle.mm_dump.proofs.Whole.{unbegun, stopped, unended, undeleted, whole}
+use Rattle.mm_dump.proofs.OneOrder.{unbegun, stopped, unended, undeleted, whole}
 use Rattle.mm_dump.proofs.carrying.carry.Goals as goal
 
 pub returns-in_err-begin-clause-err : goal.returns-in_err-begin-clause-err

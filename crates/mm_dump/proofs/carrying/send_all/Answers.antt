@@ -4,7 +4,7 @@ use Rattle.std.proofs.lemmas.Result.{err_from_is_err_and}
 use Rattle.mm_store.specs.declared.stored.Stored.{Stored}
 use Rattle.mm_dump.specs.OrderSteps.{order_store, SentNext}
 use Rattle.mm_dump.specs.Sending.{link_state}
-use Rattle.mm_dump.proofs.SoFar.{so_far_more, so_far_stopped, so_far_over}
+use Rattle.mm_dump.proofs.OneOrder.{so_far_more, so_far_stopped, so_far_over}
 use Rattle.mm_dump.proofs.carrying.send_all.Goals as goal
 
 pub loop-preserved : goal.loop-preserved

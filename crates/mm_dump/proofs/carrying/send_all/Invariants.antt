@@ -1,7 +1,7 @@
 use Rattle.std.proofs.Common.{◌≡◌}
 use Rattle.mm_dump.specs.OrderSteps.{order_store}
 use Rattle.mm_dump.specs.Sending.{link_state}
-use Rattle.mm_dump.proofs.SoFar.{SentSoFar}
+use Rattle.mm_dump.proofs.OneOrder.{SentSoFar}
 use Rattle.mm_dump.proofs.carrying.send_all.Given as goal
 
 abbrev pub invariant-loop : goal.invariant-loop

@@ -6,7 +6,7 @@ use Rattle.mm_desk.specs.declared.reply.Reply.TheVariants as reply
 use Rattle.mm_shared.specs.Views.{with_call}
 use Rattle.mm_dump.specs.OrderSteps.{order_store}
 use Rattle.mm_dump.specs.Sending.{link_state}
-use Rattle.mm_dump.proofs.SoFar.{no_memory_stops, link_failed_stops}
+use Rattle.mm_dump.proofs.OneOrder.{no_memory_stops, link_failed_stops}
 use Rattle.mm_dump.proofs.carrying.send_next.Goals as goal
 
 pub returns-in_err-stored-clause-err : goal.returns-in_err-stored-clause-err

@@ -1,0 +1,328 @@
+-- One order carried out: its begin, its packets, and its end.
+use Rattle.std.proofs.Common.{◌≡◌, ℕ, List, [], ◌∷◌, ◌++◌, map, refl, sym, ap, ◌∙◌, append_assoc, arith, length-append, ◌+◌, ◌<◌, true, false, length, subst, Bool, not, nat_lt}
+use Rattle.std.specs.Prelude.{Some, Ok, Option, None, Err}
+use Rattle.std.proofs.lemmas.List.{append-nil, map-append}
+use Rattle.mm_store.specs.declared.stored.Stored.{Stored}
+use Rattle.mm_desk.specs.declared.entry.Entry.{Entry}
+use Rattle.mm_desk.specs.declared.event.Event.TheVariants.{Next}
+use Rattle.mm_desk.specs.declared.reply.Reply.TheVariants as reply
+use Rattle.mm_desk.specs.Orders.{given, last_time, begun, ended, removed}
+use Rattle.mm_desk.specs.Runs.{entry}
+use Rattle.mm_shared.specs.Views.{PortView, with_call}
+use Rattle.mm_dump.specs.OrderSteps.{OrderStore, HasSent, with_calls, SentNext, AbortsAs, StopsAs, OrderStopped, SentAll, last_of, end_where, IsRefused, WasRefused, EndsAs, HasEnded, abort_where, deletion}
+use Rattle.mm_dump.specs.Sending.{Sent, LinkState, all_sent}
+use Rattle.std.proofs.lemmas.Bool.{lt-ltb, le-ltb}
+use Rattle.mm_desk.specs.declared.fault.Fault.{Fault}
+use Rattle.mm_dump.specs.declared.order.OrderBroken.TheVariants.{NoMemory, LinkFailed}
+use Rattle.mm_dump.specs.declared.stop.Stop.{Stop}
+use Rattle.mm_dump.specs.declared.stop.Stop.TheVariants.{Broken, Refused}
+use Rattle.mm_dump.specs.Broken.{aborted, unsent_at}
+use Rattle.mm_dump.proofs.Refusing.{next_refused, after_given, after_begun, after_end, after_abort}
+
+-- a port with calls more, and then others
+pub with_more : (place : ℕ) (port : PortView) (xs ys : List Entry) → with_calls place (with_calls place port xs) ys ≡ with_calls place port (xs ++ ys)
+with_more place port xs ys =
+    let there : Entry → ℕ × Entry = λ e. (place, e) in
+    ap (λ (calls : List (ℕ × Entry)). record port { list = calls })
+    (append_assoc port.list (map there xs) (map there ys) ∙ ap (λ (calls : List (ℕ × Entry)). port.list ++ calls) (sym (map-append there xs ys)))
+
+-- these packets sent, and then those
+pub sent_more : (id : List ℕ) (ps qs : List Stored) → all_sent id (ps ++ qs) ≡ all_sent id ps ++ all_sent id qs
+sent_more id [] qs = refl
+sent_more id (p ∷ ps) qs = ap (λ (x : List Sent). record { store = id; stored = p } ∷ x) (sent_more id ps qs)
+
+-- the packets given, and then others
+pub given_more : (seat : ℕ) (ps qs : List Stored) → given seat (ps ++ qs) ≡ given seat ps ++ given seat qs
+given_more seat [] qs = refl
+given_more seat (p ∷ ps) qs = ap (λ (x : List Entry). entry seat Next (reply.Given (Ok (Some p))) ∷ x) (given_more seat ps qs)
+
+-- it goes on
+pub went_on : (store : OrderStore) (first second : List Entry) (ps qs us : List Stored) (a b c : PortView) (l m n : LinkState)
+    → HasSent store first ps [] a b l m → HasSent store second qs us b c m n → HasSent store (first ++ second) (ps ++ qs) us a c l n
+went_on store first second ps qs us a b c l m n went more = record {
+  port = more.port ∙ ap (λ (p : PortView). with_calls store.place p second) went.port ∙ with_more store.place a first second;
+  all = more.all ∙ ap (λ (x : List Sent). x ++ all_sent store.id qs) went.all ∙ append_assoc l.sent (all_sent store.id ps) (all_sent store.id qs)
+      ∙ ap (λ (x : List Sent). l.sent ++ x) (sym (sent_more store.id ps qs));
+  failures = (let f = went.failures in let g = more.failures in omega arith);
+  blocks = (let f = went.blocks in let g = more.blocks in omega (arith, length-append ps qs));
+}
+
+-- calls alone
+pub called : (store : OrderStore) (calls : List Entry) (a b : PortView) (l : LinkState) → b ≡ with_calls store.place a calls → HasSent store calls [] [] a b l l
+called store calls a b l port = record {
+  port = port;
+  all = sym (append-nil l.sent);
+  failures = omega arith;
+  blocks = omega arith;
+}
+
+-- the seat's number stays
+pub same_seat : (store : OrderStore) (calls : List Entry) (ps us : List Stored) (a b : PortView) (l m : LinkState) → HasSent store calls ps us a b l m
+    → b.number ≡ a.number
+same_seat store calls ps us a b l m went = ap (λ (p : PortView). p.number) went.port
+
+-- this many packets were given and sent
+pub record SentSoFar (store : OrderStore) (many : ℕ) (last : Option ℕ) (old new : PortView) (before after : LinkState) : Type 0 where
+  pub gave : List Stored
+  pub count : length gave ≡ many
+  pub last_is : last ≡ last_of gave
+  pub has_sent : HasSent store (given old.number gave) gave [] old new before after
+
+-- none yet
+pub so_far_none : (store : OrderStore) (old : PortView) (before : LinkState) → SentSoFar store 0 None old old before before
+so_far_none store old before = record {
+  gave = [];
+  count = refl;
+  last_is = refl;
+  has_sent = called store [] old old before (ap (λ (l : List (ℕ × Entry)). record old { list = l }) (sym (append-nil old.list)));
+}
+
+-- the time of the last packet
+last_time_of : (time : ℕ) (ps : List Stored) (p : Stored) → last_time time (ps ++ p ∷ []) ≡ p.time
+last_time_of time [] p = refl
+last_time_of time (q ∷ ps) p = last_time_of q.time ps p
+
+last_of_more : (ps : List Stored) (p : Stored) → last_of (ps ++ p ∷ []) ≡ Some p.time
+last_of_more [] p = refl
+last_of_more (q ∷ ps) p = ap (λ (time : ℕ). Some time) (last_time_of q.time ps p)
+
+-- an order stopped with these calls and no packet more
+unsent_stops : (store : OrderStore) (stop : Stop) (calls : List Entry) (a b : PortView) (l : LinkState) → b ≡ with_calls store.place a calls → StopsAs stop a.number [] [] calls → OrderStopped store 1 stop a b l l
+unsent_stops store stop calls a b l port stops = record { sent = []; unsent = []; calls = calls; most = omega arith; has_sent = called store calls a b l port; stops = stops }
+
+-- it was aborted where there was no memory
+pub no_memory_stops : (store : OrderStore) (stop : Stop) (a b : PortView) (l : LinkState) → AbortsAs store.place NoMemory stop a b → OrderStopped store 1 stop a b l l
+no_memory_stops store (Broken why) a b l aborts = unsent_stops store (Broken why) (aborted a.number ∷ []) a b l aborts.1 (refl, ap unsent_at (sym aborts.0))
+no_memory_stops store Refused a b l aborts = unsent_stops store Refused aborts.0 a b l aborts.1 aborts.2
+
+-- a next was refused
+pub refused_stops : (store : OrderStore) (fault : Fault) (a b : PortView) (l : LinkState) → b ≡ with_call a store.place Next (reply.Given (Err fault)) → OrderStopped store 1 Refused a b l l
+refused_stops store fault a b l port = unsent_stops store Refused (entry a.number Next (reply.Given (Err fault)) ∷ []) a b l port (next_refused a.number fault)
+
+-- the link did not take a packet
+module _ (store : OrderStore) (p : Stored) (a b c : PortView) (l m : LinkState) (gave : b ≡ with_call a store.place Next (reply.Given (Ok (Some p))))
+    (same : m.sent ≡ l.sent) (failed : m.failed ≡ l.failed + 1) (spent : m.spent ≡ l.spent + 1) where
+  failed_with : (calls : List Entry) → c ≡ with_calls store.place b calls → HasSent store (given a.number (p ∷ []) ++ calls) [] (p ∷ []) a c l m
+  failed_with calls port = record {
+    port = port ∙ ap (λ (q : PortView). with_calls store.place q calls) gave ∙ with_more store.place a (given a.number (p ∷ [])) calls;
+    all = same ∙ sym (append-nil l.sent);
+    failures = omega (arith, failed);
+    blocks = omega (arith, spent);
+  }
+
+  pub link_failed_stops : (stop : Stop) → AbortsAs store.place LinkFailed stop b c → OrderStopped store 1 stop a c l m
+  link_failed_stops (Broken why) aborts =
+      let number : b.number ≡ a.number = ap (λ (q : PortView). q.number) gave in
+      let port : c ≡ with_calls store.place b (aborted a.number ∷ []) = aborts.1 ∙ ap (λ (n : ℕ). with_calls store.place b (aborted n ∷ [])) number in
+      record {
+        sent = [];
+        unsent = p ∷ [];
+        calls = given a.number (p ∷ []) ++ aborted a.number ∷ [];
+        most = omega arith;
+        has_sent = failed_with (aborted a.number ∷ []) port;
+        stops = (refl, ap unsent_at (sym aborts.0));
+      }
+  link_failed_stops Refused aborts = record {
+    sent = [];
+    unsent = p ∷ [];
+    calls = given a.number (p ∷ []) ++ aborts.0;
+    most = omega arith;
+    has_sent = failed_with aborts.0 aborts.1;
+    stops = after_given a.number (p ∷ []) aborts.0 aborts.2;
+  }
+
+-- packets given before those that were given when an order stopped
+stops_after : (stop : Stop) (seat : ℕ) (before sent unsent : List Stored) (calls : List Entry)
+    → StopsAs stop seat sent unsent calls → StopsAs stop seat (before ++ sent) unsent (given seat before ++ calls)
+stops_after (Broken why) seat before sent unsent calls stops =
+    let all : given seat before ++ (given seat (sent ++ unsent) ++ aborted seat ∷ []) ≡ given seat ((before ++ sent) ++ unsent) ++ aborted seat ∷ [] =
+    sym (append_assoc (given seat before) (given seat (sent ++ unsent)) (aborted seat ∷ []))
+    ∙ ap (λ (x : List Entry). x ++ aborted seat ∷ []) (sym (given_more seat before (sent ++ unsent)))
+    ∙ ap (λ (ps : List Stored). given seat ps ++ aborted seat ∷ []) (sym (append_assoc before sent unsent)) in
+    (ap (λ (x : List Entry). given seat before ++ x) stops.0 ∙ all, stops.1)
+stops_after Refused seat before sent unsent calls stops = after_given seat before calls stops
+
+module _ (store : OrderStore) (many : ℕ) (last : Option ℕ) (a b c : PortView) (l m n : LinkState) (so_far : SentSoFar store many last a b l m) where
+  seat_is : b.number ≡ a.number
+  seat_is = same_seat store _ _ [] a b l m so_far.has_sent
+
+  -- a packet more
+  pub so_far_more : (p : Stored) → SentNext store (Some p) b c m n → SentSoFar store (many + 1) (Some p.time) a c l n
+  so_far_more p next =
+      let P : ℕ → Type 0 = λ k. HasSent store (given k (p ∷ [])) (p ∷ []) [] b c m n in
+      let goes = went_on store (given a.number so_far.gave) (given a.number (p ∷ [])) so_far.gave (p ∷ []) [] a b c l m n so_far.has_sent (subst P seat_is next) in
+      record {
+        gave = so_far.gave ++ p ∷ [];
+        count = omega (arith, so_far.count, length-append so_far.gave (p ∷ []));
+        last_is = sym (last_of_more so_far.gave p);
+        has_sent = rw (given_more a.number so_far.gave (p ∷ [])) goes;
+      }
+
+  -- the order stopped
+  pub so_far_stopped : (wanted : ℕ) (stop : Stop) → many < wanted → OrderStopped store 1 stop b c m n → OrderStopped store wanted stop a c l n
+  so_far_stopped wanted stop fewer after =
+      let P : ℕ → Type 0 = λ k. StopsAs stop k after.sent after.unsent after.calls in
+      record {
+        sent = so_far.gave ++ after.sent;
+        unsent = after.unsent;
+        calls = given a.number so_far.gave ++ after.calls;
+        most = omega (arith, so_far.count, after.most, length-append (so_far.gave ++ after.sent) after.unsent, length-append so_far.gave after.sent, length-append after.sent after.unsent);
+        has_sent = went_on store (given a.number so_far.gave) after.calls so_far.gave after.sent after.unsent a b c l m n so_far.has_sent after.has_sent;
+        stops = stops_after stop a.number so_far.gave after.sent after.unsent after.calls (subst P seat_is after.stops);
+      }
+
+  -- the retrieval came to its end
+  pub so_far_over : (wanted : ℕ) → many < wanted → SentNext store None b c m n → SentAll store wanted last true a c l n
+  so_far_over wanted fewer next =
+      let P : ℕ → Type 0 = λ k. HasSent store (end_where k true) [] [] b c m n in
+      let goes = went_on store (given a.number so_far.gave) (end_where a.number true) so_far.gave [] [] a b c l m n so_far.has_sent (subst P seat_is next) in
+      record {
+        gave = so_far.gave;
+        most = omega (arith, so_far.count);
+        fewer = sym (lt-ltb (length so_far.gave) wanted (omega (arith, so_far.count)));
+        last_is = so_far.last_is;
+        has_sent = rw (append-nil so_far.gave) at goes;
+      }
+
+-- all wanted were given
+pub so_far_all : (store : OrderStore) (many : ℕ) (last : Option ℕ) (a b : PortView) (l m : LinkState) → SentSoFar store many last a b l m → SentAll store many last false a b l m
+so_far_all store many last a b l m so_far = record {
+  gave = so_far.gave;
+  most = omega (arith, so_far.count);
+  fewer = sym (le-ltb (length so_far.gave) many (omega (arith, so_far.count)));
+  last_is = so_far.last_is;
+  has_sent = rw (append-nil (given a.number so_far.gave)) so_far.has_sent;
+}
+
+-- how a retrieval ended
+ends_as : (seat wanted : ℕ) (gave : List Stored) (over : Bool) → over ≡ nat_lt (length gave) wanted
+    → end_where seat over ++ abort_where seat over ≡ ended seat wanted gave ∷ []
+ends_as seat wanted gave true fewer = rw (← fewer) refl
+ends_as seat wanted gave false fewer = rw (← fewer) refl
+
+-- which deletion was made
+deletes_as : (seat count : ℕ) (gave : List Stored) → deletion seat (last_of gave) count ≡ removed seat gave count
+deletes_as seat count [] = refl
+deletes_as seat count (p ∷ gave) = refl
+
+-- the calls from the first packet on, where the retrieval ended
+calls_are : (seat wanted : ℕ) (gave : List Stored) (over : Bool) (rest : List Entry) → over ≡ nat_lt (length gave) wanted
+    → (given seat gave ++ end_where seat over) ++ (abort_where seat over ++ rest) ≡ given seat gave ++ ended seat wanted gave ∷ rest
+calls_are seat wanted gave over rest fewer =
+    append_assoc (given seat gave) (end_where seat over) (abort_where seat over ++ rest)
+    ∙ ap (λ (x : List Entry). given seat gave ++ x) (sym (append_assoc (end_where seat over) (abort_where seat over) rest)
+    ∙ ap (λ (x : List Entry). x ++ rest) (ends_as seat wanted gave over fewer))
+
+-- calls that are refused after the end of a retrieval, where it came to it, and after the abort, where it did not
+after_end_where : (seat : ℕ) (over : Bool) (calls : List Entry) → IsRefused (not over) calls → IsRefused true (end_where seat over ++ calls)
+after_end_where seat true calls refused = after_end seat calls refused
+after_end_where seat false calls refused = refused
+
+after_abort_where : (seat : ℕ) (over : Bool) (calls : List Entry) → IsRefused false calls → IsRefused (not over) (abort_where seat over ++ calls)
+after_abort_where seat true calls refused = refused
+after_abort_where seat false calls refused = after_abort seat calls refused
+
+-- an order that could not be begun
+pub unbegun : (store : OrderStore) (wanted : ℕ) (stop : Stop) (a b : PortView) (l : LinkState) → stop ≡ Refused → WasRefused store.place false a b → HasEnded store wanted (Some stop) a b l l
+unbegun store wanted stop a b l is refused =
+    subst (λ (s : Stop). HasEnded store wanted (Some s) a b l l) (sym is)
+    (record { sent = []; unsent = []; calls = refused.0; most = omega arith; has_sent = called store refused.0 a b l refused.1; ends = refused.2 })
+
+-- an order that was begun
+module _ (store : OrderStore) (wanted : ℕ) (a b : PortView) (l : LinkState) (port : b ≡ with_calls store.place a (begun a.number ∷ [])) where
+  first : HasSent store (begun a.number ∷ []) [] [] a b l l
+  first = called store (begun a.number ∷ []) a b l port
+
+  number : b.number ≡ a.number
+  number = same_seat store _ [] [] a b l l first
+
+  -- it stopped in the retrieval
+  pub stopped : (stop : Stop) (c : PortView) (m : LinkState) → OrderStopped store wanted stop b c l m → HasEnded store wanted (Some stop) a c l m
+  stopped stop c m stops = record {
+    sent = stops.sent;
+    unsent = stops.unsent;
+    calls = begun a.number ∷ stops.calls;
+    most = stops.most;
+    has_sent = went_on store (begun a.number ∷ []) stops.calls [] stops.sent stops.unsent a b c l l m first stops.has_sent;
+    ends = by_stop stop (subst (λ (k : ℕ). StopsAs stop k stops.sent stops.unsent stops.calls) number stops.stops);
+  }
+    where
+      by_stop : (s : Stop) → StopsAs s a.number stops.sent stops.unsent stops.calls → EndsAs (Some s) a.number wanted stops.sent stops.unsent (begun a.number ∷ stops.calls)
+      by_stop (Broken why) so = (record { most = stops.most; are = ap (λ (x : List Entry). begun a.number ∷ x) so.0 }, so.1)
+      by_stop Refused so = after_begun a.number stops.calls so
+
+  -- its packets were sent
+  module _ (last : Option ℕ) (over : Bool) (c : PortView) (m : LinkState) (sends : SentAll store wanted last over b c l m) where
+    abbrev gave : List Stored
+    gave = sends.gave
+
+    abbrev n : ℕ
+    n = a.number
+
+    -- what the calls so far are
+    so_far : HasSent store (begun n ∷ (given n gave ++ end_where n over)) gave [] a c l m
+    so_far =
+        let P : ℕ → Type 0 = λ k. HasSent store (given k gave ++ end_where k over) gave [] b c l m in
+        went_on store (begun n ∷ []) (given n gave ++ end_where n over) [] gave [] a b c l l m first (subst P number sends.has_sent)
+
+    same_number : c.number ≡ n
+    same_number = same_seat store _ gave [] a c l m so_far
+
+    -- and calls more
+    then_called : (calls : List Entry) (d : PortView) → d ≡ with_calls store.place c calls → HasSent store (begun n ∷ ((given n gave ++ end_where n over) ++ calls)) gave [] a d l m
+    then_called calls d goes =
+        rw (append-nil gave) at (went_on store (begun n ∷ (given n gave ++ end_where n over)) calls gave [] [] a c d l m m so_far (called store calls c d m goes))
+
+    -- a call was refused then
+    refused_then : (calls : List Entry) (d : PortView) → d ≡ with_calls store.place c calls → IsRefused (not over) calls → HasEnded store wanted (Some Refused) a d l m
+    refused_then calls d goes refused = record {
+      sent = gave;
+      unsent = [];
+      calls = begun n ∷ ((given n gave ++ end_where n over) ++ calls);
+      most = rw (append-nil gave) sends.most;
+      has_sent = then_called calls d goes;
+      ends = after_begun n _ (subst (λ (es : List Entry). IsRefused true es) (sym (append_assoc (given n gave) (end_where n over) calls))
+          (after_given n gave (end_where n over ++ calls) (after_end_where n over calls refused)));
+    }
+
+    -- the retrieval could not be ended
+    pub unended : (stop : Stop) (d : PortView) → stop ≡ Refused → WasRefused store.place (not over) c d → HasEnded store wanted (Some stop) a d l m
+    unended stop d is refused =
+        subst (λ (s : Stop). HasEnded store wanted (Some s) a d l m) (sym is) (refused_then refused.0 d refused.1 refused.2)
+
+    -- it was ended
+    module _ (d : PortView) (ended_is : d ≡ with_calls store.place c (abort_where c.number over)) where
+      and_then : (calls : List Entry) (e : PortView) → e ≡ with_calls store.place d calls → e ≡ with_calls store.place c (abort_where n over ++ calls)
+      and_then calls e goes =
+          let end : d ≡ with_calls store.place c (abort_where n over) = subst (λ (k : ℕ). d ≡ with_calls store.place c (abort_where k over)) same_number ended_is in
+          goes ∙ ap (λ (p : PortView). with_calls store.place p calls) end ∙ with_more store.place c (abort_where n over) calls
+
+      -- what was sent could not be deleted
+      pub undeleted : (stop : Stop) (e : PortView) → stop ≡ Refused → WasRefused store.place false d e → HasEnded store wanted (Some stop) a e l m
+      undeleted stop e is refused =
+          subst (λ (s : Stop). HasEnded store wanted (Some s) a e l m) (sym is)
+          (refused_then (abort_where n over ++ refused.0) e (and_then refused.0 e refused.1) (after_abort_where n over refused.0 refused.2))
+
+      -- what was sent was deleted
+      pub whole : (e : PortView) → ((count : ℕ) × (e ≡ with_calls store.place d (deletion d.number last count))) → HasEnded store wanted None a e l m
+      whole e deleted =
+          let count = deleted.0 in
+          let at : d.number ≡ n = ap (λ (p : PortView). p.number) ended_is ∙ same_number in
+          let rest : deletion d.number last count ≡ removed n gave count =
+          ap (λ (k : ℕ). deletion k last count) at ∙ ap (λ (t : Option ℕ). deletion n t count) sends.last_is ∙ deletes_as n count gave in
+          let goes : e ≡ with_calls store.place d (removed n gave count) = deleted.1 ∙ ap (λ (x : List Entry). with_calls store.place d x) rest in
+          record {
+            sent = gave;
+            unsent = [];
+            calls = begun n ∷ ((given n gave ++ end_where n over) ++ (abort_where n over ++ removed n gave count));
+            most = rw (append-nil gave) sends.most;
+            has_sent = then_called (abort_where n over ++ removed n gave count) e (and_then (removed n gave count) e goes);
+            ends = (
+              record {
+                most = sends.most;
+                count = count;
+                are = ap (λ (x : List Entry). begun n ∷ x) (calls_are n wanted gave over (removed n gave count) sends.fewer);
+              },
+              refl,
+            );
+          }
