@@ -1,12 +1,11 @@
 -- What the least losses that are found say of a number of a problem.
-use Rattle.std.proofs.Common.{◌≡◌, ℕ, ℤ, ◌+◌, ◌-◌, ◌<◌, ◌≤◌, min, List, length, set, pos, refl, sym, ap, ◌∙◌, subst, inl, inr, true≢false, arith}
+use Rattle.std.proofs.Common.{◌≡◌, ℕ, ℤ, ◌+◌, ◌-◌, ◌≤◌, min, List, set, pos, refl, sym, ap, ◌∙◌, subst, inl, inr, true≢false, arith}
 use Rattle.std.specs.Prelude.{Option, Some, None, unwrap_or, IsSome}
 use Rattle.std.proofs.lemmas.Bool.{cases_lt}
 use Rattle.std.proofs.lemmas.Int.{ints}
 use Rattle.std.proofs.lemmas.List.{length-set, set-get_or}
 use Rattle.mm_base.specs.declared.limits.TheConstants.{MAX_BLOCKS}
-use Rattle.mm_base.specs.declared.rows.StoreRow.{StoreRow}
-use Rattle.mm_problem.specs.Dumping.{Dumping, IsDumping, no_row, row, size, start, window}
+use Rattle.mm_problem.specs.Dumping.{Dumping, IsDumping, no_row, row, start, window}
 use Rattle.mm_problem.specs.Changed.{with_window, sized}
 use Rattle.mm_plan.specs.Table.{Table, amount, HasShape}
 use Rattle.mm_plan.specs.Volumes.{Amounts, loss}
@@ -19,7 +18,7 @@ use Rattle.mm_planner.specs.Planned.{ShowsLeast}
 use Rattle.mm_planner.specs.declared.planner.Planned.{Planned}
 use Rattle.mm_sensitivity.specs.declared.item.Item.{Item}
 use Rattle.mm_sensitivity.specs.declared.item.Item.TheVariants.{Window, Size, Limit}
-use Rattle.mm_sensitivity.specs.Items.{IsItem, resized, number, with_number, fitted, spilled, least_number}
+use Rattle.mm_sensitivity.specs.Items.{IsItem, number, with_number, fitted, spilled, least_number}
 use Rattle.mm_sensitivity.specs.Worth.{IsLeastLoss, IsPlanFor, Saves, IsSaved, WiderWindows}
 use Rattle.mm_sensitivity.proofs.Growing.{grows}
 use Rattle.mm_sensitivity.proofs.Losing.{whole_loss, part_fits, whole_fits}

@@ -1,6 +1,6 @@
 -- A problem with a larger number helps at least as much as one with a smaller.
-use Rattle.std.proofs.Common.{◌≡◌, ℕ, ◌+◌, ◌-◌, ◌<◌, ◌≤◌, Bool, true, false, cond, eqb, nat_lt, List, length, get_or, set, refl, sym, ap, ◌∙◌, subst, inl, inr, true≢false, arith}
-use Rattle.std.specs.Prelude.{◌≢◌, Option, Some, None, unwrap_or, IsSome, IsTrue}
+use Rattle.std.proofs.Common.{◌≡◌, ℕ, ◌-◌, ◌<◌, ◌≤◌, Bool, true, false, cond, eqb, nat_lt, List, length, get_or, set, refl, sym, ap, ◌∙◌, subst, inl, inr, true≢false, arith}
+use Rattle.std.specs.Prelude.{◌≢◌, Option, Some, None, unwrap_or, IsSome}
 use Rattle.std.proofs.lemmas.Bool.{cases_eq, and_parts, eqb-true}
 use Rattle.std.proofs.lemmas.List.{length-set, get_or-set_same, get_or-set_other}
 use Rattle.std.proofs.lemmas.List.Elements.{All-contains}
@@ -8,7 +8,7 @@ use Rattle.std.proofs.lemmas.List.Folds.{Any-from_list_any, position_or_len-set}
 use Rattle.std.specs.Str.{bytes_eq}
 use Rattle.mm_base.specs.declared.rows.StoreRow.{StoreRow}
 use Rattle.mm_base.specs.Grid.{cell}
-use Rattle.mm_problem.specs.Dumping.{Dumping, no_row, row, size, start, channel, limit, lesser, step_limit, window}
+use Rattle.mm_problem.specs.Dumping.{Dumping, no_row, row, size, start, channel, limit, lesser, step_limit}
 use Rattle.mm_plan.specs.declared.stretch.Stretch.{Stretch}
 use Rattle.mm_cut.specs.Stretches.{store_of, channel_of, goes_past, goes_past_on, is_inner_on}
 use Rattle.mm_cut.specs.Counts.{is_listed, IsLimited, IsCounted}

@@ -1,6 +1,6 @@
 -- Least losses, and how a window changes them.
 use Rattle.std.specs.Prelude.{◌+ℤ◌, ◌≤ℤ◌}
-use Rattle.std.proofs.Common.{◌≡◌, ℕ, ◌+◌, ◌-◌, ◌<◌, ◌≤◌, Bool, true, false, cond, min, List, length, pos, refl, sym, ap, ◌∙◌, inl, inr, arith}
+use Rattle.std.proofs.Common.{◌≡◌, ℕ, ◌+◌, ◌≤◌, true, false, List, length, pos, ap, ◌∙◌, inl, inr, arith}
 use Rattle.std.proofs.lemmas.Bool.{cases_Bool}
 use Rattle.std.proofs.lemmas.Int.{ints}
 use Rattle.mm_base.specs.declared.limits.TheConstants.{MAX_BLOCKS}
@@ -8,7 +8,7 @@ use Rattle.mm_problem.specs.Dumping.{Dumping, window}
 use Rattle.mm_problem.specs.Changed.{with_window}
 use Rattle.mm_plan.specs.declared.stretch.Stretch.{Stretch}
 use Rattle.mm_cut.specs.Cuts.{IsCut, bound, counts_window, CutsBoundLosses}
-use Rattle.mm_sensitivity.specs.Worth.{IsLeastLoss, Saves, WiderWindows}
+use Rattle.mm_sensitivity.specs.Worth.{IsLeastLoss, WiderWindows}
 use Rattle.mm_sensitivity.proofs.Windows.{same_coming, cut_there, cut_back, leaving_changed}
 
 -- there is one least loss

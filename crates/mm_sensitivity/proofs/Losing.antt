@@ -1,5 +1,5 @@
 -- What a store loses of the blocks with which it begins, where its size is smaller.
-use Rattle.std.proofs.Common.{◌≡◌, ℕ, zero, suc, ◌+◌, ◌-◌, ◌<◌, ◌≤◌, Bool, eqb, min, List, length, get_or, set, refl, sym, ap, ◌∙◌, subst, inl, inr, arith}
+use Rattle.std.proofs.Common.{◌≡◌, ℕ, zero, suc, ◌+◌, ◌-◌, ◌<◌, ◌≤◌, eqb, min, length, refl, sym, ap, ◌∙◌, subst, inl, inr, arith}
 use Rattle.std.specs.Prelude.{◌≢◌, filter}
 use Rattle.std.specs.List.{sum_by, range_with_len}
 use Rattle.std.proofs.lemmas.Bool.{cases_eq}
@@ -10,7 +10,7 @@ use Rattle.mm_base.specs.Grid.{cell}
 use Rattle.mm_base.proofs.RangeSums.{sum_by_range_same, sum_by_range_changed}
 use Rattle.mm_problem.specs.Dumping.{Dumping, no_row, row, size, start, channel, window, arrivals, is_of, stores_of}
 use Rattle.mm_problem.specs.Changed.{sized}
-use Rattle.mm_plan.specs.Volumes.{Amounts, left, written, lost, store_loss, loss}
+use Rattle.mm_plan.specs.Volumes.{Amounts, left, lost, store_loss, loss}
 use Rattle.mm_plan.specs.Fit.{in_step, Fits}
 use Rattle.mm_plan.proofs.Steps.{left_step, left_start}
 use Rattle.mm_sensitivity.specs.declared.item.Item.TheVariants.{Size}

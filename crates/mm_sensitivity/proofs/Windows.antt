@@ -1,15 +1,13 @@
 -- A cut in a problem with another window.
-use Rattle.std.proofs.Common.{◌≡◌, ℕ, ◌+◌, ◌-◌, ◌<◌, ◌≤◌, Bool, true, false, cond, ◌&&◌, not, List, length, set, refl, ap, ◌∙◌, inl, inr, arith}
+use Rattle.std.proofs.Common.{◌≡◌, ℕ, ◌+◌, ◌-◌, ◌<◌, ◌≤◌, Bool, true, false, cond, ◌&&◌, not, List, length, refl, ap, arith}
 use Rattle.std.specs.Prelude.{◌≢◌}
-use Rattle.std.specs.List.{sum_by, range_with_len}
-use Rattle.std.proofs.lemmas.Bool.{cases_Bool}
 use Rattle.std.proofs.lemmas.List.{length-set, get_or-set_same, get_or-set_other}
 use Rattle.mm_base.proofs.RangeSums.{sum_by_filter_range_changed}
 use Rattle.mm_problem.specs.Dumping.{Dumping, window}
 use Rattle.mm_problem.specs.Changed.{with_window}
 use Rattle.mm_plan.specs.declared.stretch.Stretch.{Stretch}
-use Rattle.mm_cut.specs.Stretches.{is_inner, IsStretch}
-use Rattle.mm_cut.specs.Counts.{is_listed, IsCounted}
+use Rattle.mm_cut.specs.Stretches.{is_inner}
+use Rattle.mm_cut.specs.Counts.{is_listed}
 use Rattle.mm_cut.specs.Cuts.{IsCut, coming_sum, limit_sum, leaving, leaving_sum, counts_window}
 
 -- of the windows that count in an inner step, or the limits that do

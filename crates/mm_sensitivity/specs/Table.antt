@@ -1,6 +1,5 @@
 -- The table of what the numbers of a problem are worth: comma separated values (RFC 4180), a header, and then a record for each number.
-use Rattle.std.specs.Prelude.{◌≡◌, ℕ, List, [], ◌∷◌, ◌++◌, map, All, codes, decimal, flat_map}
-use Rattle.mm_base.specs.Characters.{line_feed}
+use Rattle.std.specs.Prelude.{◌≡◌, ℕ, List, ◌++◌, map, All, codes, decimal, flat_map}
 use Rattle.mm_base.specs.Id.{id_text}
 use Rattle.mm_problem.specs.Dumping.{Dumping, row}
 use Rattle.mm_problem.specs.Texts.{SaysProblem}

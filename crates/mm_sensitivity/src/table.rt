@@ -15,7 +15,12 @@ use mm_problem::{Problem, read_problem};
 use std::alloc::Global;
 
 // The cells that say which number it is.
-fn push_item(alloc: Global, text: &mut Vec<u8>, problem: &Problem, item: Item) -> Result<(), NoMemory>
+fn push_item(
+    alloc: Global,
+    text: &mut Vec<u8>,
+    problem: &Problem,
+    item: Item,
+) -> Result<(), NoMemory>
     requires { IsItem problem.now item }
     ensures { OnOk result (text.new.items ≡ text.old.items ++ item_cells problem.now item) }
 {
@@ -54,7 +59,12 @@ fn push_worth(alloc: Global, text: &mut Vec<u8>, worth: Worth) -> Result<(), NoM
 
 // The record of a number.
 #[tactic(auto, using(std::proofs::Common::append_assoc))]
-fn push_record(alloc: Global, text: &mut Vec<u8>, problem: &Problem, worth: Worth) -> Result<(), NoMemory>
+fn push_record(
+    alloc: Global,
+    text: &mut Vec<u8>,
+    problem: &Problem,
+    worth: Worth,
+) -> Result<(), NoMemory>
     requires { IsItem problem.now worth.item }
     ensures { OnOk result (text.new.items ≡ text.old.items ++ record_of problem.now worth) }
 {

@@ -51,12 +51,7 @@ fn next_saved(
 }
 
 // What a number is worth.
-fn worth_of(
-    alloc: Global,
-    problem: &Problem,
-    base: &Planned,
-    item: Item,
-) -> Result<Worth, NoMemory>
+fn worth_of(alloc: Global, problem: &Problem, base: &Planned, item: Item) -> Result<Worth, NoMemory>
     requires base { IsPlanFor problem.now base.now }
     requires item { IsItem problem.now item }
     ensures item { IfOk result (λ worth. worth.item ≡ item) }

@@ -1,7 +1,7 @@
 //! What windows, sizes and limits are worth: by hand, beside all plans of tiny problems, and beside plans that are made anew.
 use crate::tests::samples::{id, next_below};
 use mm_exhaustive::plan_below;
-use mm_planner::plan_by_flow;
+use mm_planner::plan;
 use mm_problem::{Kind, LimitRow, MAX_BLOCKS, Problem, StoreRow};
 use mm_sensitivity::{Item, sensitivity_bytes, worths};
 use std::alloc::Global;
@@ -118,12 +118,12 @@ fn least_number(item: Item) -> u32 {
     }
 }
 
-// What a plan loses that the network alone gives.
+// What a plan loses that is made anew.
 fn least_loss(rt: &impl Abort, alloc: Global, problem: &Problem) -> u64 {
-    plan_by_flow(alloc, problem).expect(rt, "memory").loss
+    plan(alloc, problem).expect(rt, "memory").loss
 }
 
-// Each number is worth what a plan of the changed problem, made anew by the network, loses fewer or more.
+// Each number is worth what a plan of the changed problem loses fewer or more.
 fn is_worth_what_plans_lose(rt: &impl Abort, alloc: Global, numbers: &Numbers) {
     let problem = numbers.problem(rt, alloc);
     let least = least_loss(rt, alloc, &problem);
@@ -138,15 +138,40 @@ fn is_worth_what_plans_lose(rt: &impl Abort, alloc: Global, numbers: &Numbers) {
     }
 }
 
+// So it is in a hundred problems that are made of a seed.
+fn are_worth_what_plans_lose(rt: &impl Abort, alloc: Global, seed: u32) {
+    let mut state = seed;
+    for _ in 0..100u32 {
+        let stores = next_below(&mut state, 3).saturating_add(1);
+        let steps = next_below(&mut state, 5).saturating_add(1);
+        let numbers = Numbers::made(rt, alloc, &mut state, stores, steps);
+        is_worth_what_plans_lose(rt, alloc, &numbers);
+    }
+}
+
 #[test]
 fn numbers_are_worth_what_plans_made_anew_lose(rt: HostRuntime) {
-    let mut state = 56;
-    for _ in 0..500u32 {
-        let stores = next_below(&mut state, 3).saturating_add(1);
-        let steps = next_below(&mut state, 6).saturating_add(1);
-        let numbers = Numbers::made(&rt, rt.alloc(), &mut state, stores, steps);
-        is_worth_what_plans_lose(&rt, rt.alloc(), &numbers);
-    }
+    are_worth_what_plans_lose(&rt, rt.alloc(), 56);
+}
+
+#[test]
+fn the_second_hundred_is_worth_what_plans_lose(rt: HostRuntime) {
+    are_worth_what_plans_lose(&rt, rt.alloc(), 57);
+}
+
+#[test]
+fn the_third_hundred_is_worth_what_plans_lose(rt: HostRuntime) {
+    are_worth_what_plans_lose(&rt, rt.alloc(), 58);
+}
+
+#[test]
+fn the_fourth_hundred_is_worth_what_plans_lose(rt: HostRuntime) {
+    are_worth_what_plans_lose(&rt, rt.alloc(), 59);
+}
+
+#[test]
+fn the_fifth_hundred_is_worth_what_plans_lose(rt: HostRuntime) {
+    are_worth_what_plans_lose(&rt, rt.alloc(), 60);
 }
 
 // No plan of the problem loses less than this, and one loses as much.
