@@ -138,9 +138,9 @@ fn opened_again<R: Wait>(
     requires one { length states.items ≡ 1 }
     requires room { (back.items ≡ []) × (1 ≤ vec_capacity back) }
 {
-    let same = states
-        .iter()
-        .all(|state| state.offered() == 0 && state.storage() && state.store().len() == 0);
+    let same = states.iter().all(|state| state.offered() == 0
+        && state.storage()
+        && state.store().len() == 0);
     let met = Met::Wanted.provided(same, "another state comes back");
     match SharedStores::open(alloc, states, 2) {
         Ok(opened) => met.and(made(rt, alloc, opened, label, back)),

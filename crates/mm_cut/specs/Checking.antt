@@ -1,6 +1,5 @@
 -- What the three texts of a check say together.
 use Rattle.std.specs.Prelude.{◌≡◌, ℕ, List, Err}
-use Rattle.mm_problem.specs.declared.fault.Fault.{Fault as ProblemFault}
 use Rattle.mm_problem.specs.declared.fault.Fault.TheVariants as problem
 use Rattle.mm_problem.specs.Dumping.{Dumping}
 use Rattle.mm_problem.specs.Texts.{problem_in, SaysProblem}

@@ -1,8 +1,7 @@
 -- Each line of a sheet is read from its text, and what is read is the text of a line.
-use Rattle.std.proofs.Common.{◌≡◌, ℕ, ◌<◌, ◌≤◌, Bool, true, false, cond, ◌==◌, List, [], ◌∷◌, length, map, take, drop, Some, None, refl, sym, ap, ◌∙◌, subst, arith, length-append, length-take, length-drop, ◌++◌, ◌-◌}
-use Rattle.std.specs.Prelude.{All, codes, decimal, ◌^◌, FitsSigned}
-use Rattle.std.specs.Int.{w64}
-use Rattle.std.specs.List.{slice_split, join_with_byte}
+use Rattle.std.proofs.Common.{◌≡◌, ℕ, ◌<◌, ◌≤◌, Bool, true, false, cond, ◌==◌, List, [], ◌∷◌, length, map, take, drop, Some, None, refl, sym, ap, ◌∙◌, subst, arith, length-append, length-take, length-drop, ◌-◌}
+use Rattle.std.specs.Prelude.{All, codes, decimal, ◌^◌}
+use Rattle.std.specs.List.{slice_split}
 use Rattle.std.specs.Str.{bytes_eq}
 use Rattle.std.proofs.lemmas.List.{length-map, take_all}
 use Rattle.std.proofs.lemmas.List.Elements.{All-from_recursion, All-nil, All-cons, All-head, All-tail, All-map, All-weaker}
@@ -11,7 +10,7 @@ use Rattle.std.proofs.lemmas.Option.{cond_some}
 use Rattle.std.proofs.lemmas.Slice.Eq.{bytes_eq-Decides}
 use Rattle.mm_base.specs.declared.limits.TheConstants.{MAX_STEPS, MAX_BLOCKS}
 use Rattle.mm_base.specs.Id.{IsIdField, id_text}
-use Rattle.mm_plan.specs.Sheet.{Line, title_line, stores_line, dump_line, loss_line, stretch_line, count_line, bound_line, end_line, IsLine, words, line_text, IsWritten}
+use Rattle.mm_plan.specs.Sheet.{Line, title_line, stores_line, dump_line, loss_line, stretch_line, count_line, bound_line, end_line, IsLine, words, line_text}
 use Rattle.mm_plan.specs.Reading.{MAX_U32, MAX_U64, line_words, number_of, id_of, word, line_of, read_line}
 use Rattle.mm_plan.specs.Printing.{ended}
 use Rattle.mm_plan.proofs.Spelled.{Lacks, IsBare, bare_lacks, bare_tested, bare_decimal, bare_signed, bare_id, slice_split-join, join_lacks}

@@ -1,11 +1,11 @@
 -- The arcs of the stores are opened one store after another, and what a flow brings to those whose arcs are open does not become less.
-use Rattle.std.proofs.Common.{◌≡◌, ℕ, zero, suc, ◌+◌, ◌-◌, ◌<◌, ◌≤◌, Bool, true, false, cond, eqb, ltb, Option, Some, None, List, [], ◌∷◌, ◌++◌, length, slice_index, pos, refl, sym, ap, ◌∙◌, subst, inl, inr, arith, add-one, length-append}
+use Rattle.std.proofs.Common.{◌≡◌, ℕ, zero, suc, ◌+◌, ◌-◌, ◌<◌, ◌≤◌, Bool, cond, eqb, ltb, Option, Some, None, List, [], ◌∷◌, ◌++◌, length, slice_index, pos, sym, ap, ◌∙◌, subst, inl, inr, arith, add-one, length-append}
 use Rattle.std.specs.Prelude.{is_some, slice_index_or}
-use Rattle.std.specs.List.{sum_by, range_with_len}
+use Rattle.std.specs.List.{sum_by}
 use Rattle.std.proofs.lemmas.Bool.{cases_Bool, cases_lt, cond-true, cond-false, eqb-true, lt-ltb, le-ltb, false≢true}
 use Rattle.std.proofs.lemmas.Int.{ints}
 use Rattle.std.proofs.lemmas.List.{get_or_past, get_or_append_left, get_or_push}
-use Rattle.mm_base.proofs.Grids.{grid, term-le-grid}
+use Rattle.mm_base.proofs.Grids.{term-le-grid}
 use Rattle.mm_base.proofs.RangeSums.{sum_by_range-le, sum_by_range_zeros, term-le-sum_by_range}
 use Rattle.mm_base.proofs.Sums.{sum_by-filter}
 use Rattle.mm_problem.specs.Dumping.{Dumping, IsDumping}
@@ -30,7 +30,7 @@ use Rattle.mm_planner.proofs.ArcLists.{length-arcs_of, net_all}
 use Rattle.mm_planner.proofs.KindSums.{come}
 use Rattle.mm_planner.proofs.Capacities.{over, over_none, come_within}
 use Rattle.mm_planner.proofs.Conserved.{come_is_value}
-use Rattle.mm_planner.proofs.FromFlow.{fits, first_loss_within}
+use Rattle.mm_planner.proofs.FromFlow.{first_loss_within}
 use Rattle.mm_planner.proofs.FromSide.{are_stretches, are_counted, of_first, inflow_within}
 use Rattle.mm_planner.proofs.Wider.{grid-narrow, grid-le}
 

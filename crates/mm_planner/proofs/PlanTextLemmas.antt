@@ -13,7 +13,7 @@ use Rattle.mm_cut.specs.Verdicts.{VerdictsExclude, IsVerdict}
 use Rattle.mm_cut.specs.declared.verdict.Verdict.TheVariants.{Least}
 use Rattle.mm_problem.specs.Texts.{SaysProblem}
 use Rattle.mm_planner.specs.Planned.{SheetShows}
-use Rattle.mm_planner.specs.PlanTexts.{PlansLeast, PlansFor, PlansCheckLeast}
+use Rattle.mm_planner.specs.PlanTexts.{PlansFor, PlansCheckLeast}
 use Rattle.mm_planner.proofs.CutOrder.{cut_in_order, bound_in_order}
 
 -- in the order in which it is printed, a sheet shows the same

@@ -79,7 +79,12 @@ fn next_solved(
 }
 
 // The cut of the first stores that a side says.
-fn cut_of(alloc: Global, problem: &Problem, first: usize, side: &[bool]) -> Result<FirstCut, NoMemory>
+fn cut_of(
+    alloc: Global,
+    problem: &Problem,
+    first: usize,
+    side: &[bool],
+) -> Result<FirstCut, NoMemory>
     requires { first ≤ length problem.now.rows }
     ensures stretches { IfOk result
         (λ c. c.stretches.items ≡ first_stretches first problem.now (side_of side.now)) }

@@ -22,11 +22,7 @@ use thiserror::Error;
 pub(crate) struct UnknownWords;
 
 // What the words ask for.
-fn said<R: Clock + Input + AllocGlobal>(
-    rt: &R,
-    alloc: Global,
-    words: &[String],
-) -> Result<String> {
+fn said<R: Clock + Input + AllocGlobal>(rt: &R, alloc: Global, words: &[String]) -> Result<String> {
     match words {
         [] => Ok(small(alloc)?),
         [name, words @ ..] if name.as_str() == "solve" => timed::run(rt, alloc, words),

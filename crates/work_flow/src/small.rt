@@ -76,7 +76,11 @@ fn push_refusal(alloc: Global, lines: &mut String, text: &str) -> Result<()> {
 /// What both solvers answer on each, and why each of some texts is none.
 pub(crate) fn small(alloc: Global) -> Result<String> {
     let mut lines = String::new(alloc);
-    for network in [text::read(alloc, TWO_WAYS)?, narrow(alloc)?, unbounded(alloc)?] {
+    for network in [
+        text::read(alloc, TWO_WAYS)?,
+        narrow(alloc)?,
+        unbounded(alloc)?,
+    ] {
         if network.node_count() > SINK as usize {
             push(alloc, &mut lines, solve(alloc, &network, SOURCE, SINK))?;
             push(

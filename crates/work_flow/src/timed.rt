@@ -1,9 +1,8 @@
 //! One network, solved by one solver between two looks at the clock.
 
-use crate::UnknownWords;
 use crate::build::{SINK, SOURCE};
 use crate::families::{random, stores};
-use crate::text;
+use crate::{UnknownWords, text};
 use anyhow::Result;
 use mm_flow::paths::solve_paths;
 use mm_flow::{Network, solve};

@@ -56,7 +56,9 @@ impl Numbers {
         let mut limits = Vec::new(alloc);
         if next_below(state, 2) == 0 {
             let blocks = next_below(state, 3);
-            limits.push(LimitRow { channel: 0, blocks }).expect(rt, "memory");
+            limits
+                .push(LimitRow { channel: 0, blocks })
+                .expect(rt, "memory");
         }
         let mut windows = Vec::new(alloc);
         let mut arrivals = Vec::new(alloc);
@@ -102,7 +104,9 @@ impl Numbers {
             }
             Item::Limit(channel) => {
                 limits.clear();
-                limits.push(LimitRow { channel, blocks }).expect(rt, "memory");
+                limits
+                    .push(LimitRow { channel, blocks })
+                    .expect(rt, "memory");
             }
         }
         let (rows, limits) = (rows.as_slice(), limits.as_slice());
@@ -129,10 +133,21 @@ fn is_worth_what_plans_lose(rt: &impl Abort, alloc: Global, numbers: &Numbers) {
     let least = least_loss(rt, alloc, &problem);
     for worth in worths(alloc, &problem).expect(rt, "memory").iter() {
         let (item, now) = (worth.item, worth.now);
-        let next = least_loss(rt, alloc, &numbers.with(rt, alloc, item, now.saturating_add(1)));
+        let next = least_loss(
+            rt,
+            alloc,
+            &numbers.with(rt, alloc, item, now.saturating_add(1)),
+        );
         let most = least_loss(rt, alloc, &numbers.with(rt, alloc, item, MAX_BLOCKS));
-        let without = least_loss(rt, alloc, &numbers.with(rt, alloc, item, least_number(item)));
-        let saved = (next.saturating_add(worth.next), most.saturating_add(worth.most));
+        let without = least_loss(
+            rt,
+            alloc,
+            &numbers.with(rt, alloc, item, least_number(item)),
+        );
+        let saved = (
+            next.saturating_add(worth.next),
+            most.saturating_add(worth.most),
+        );
         assert!(rt; saved == (least, least), "{worth:?}");
         assert!(rt; without == least.saturating_add(worth.without), "{worth:?}");
     }

@@ -1,4 +1,4 @@
-use Rattle.std.proofs.Common.{◌≡◌, ℕ, ◌*◌, List, length, slice_index, replicate, sym, ap, ◌∙◌, arith, rules}
+use Rattle.std.proofs.Common.{◌≡◌, ℕ, ◌*◌, List, length, slice_index, replicate, sym, ap, ◌∙◌, rules}
 use Rattle.std.proofs.lemmas.List.{length-replicate}
 use Rattle.mm_flow.proofs.Ends.{nothing_augmented}
 use Rattle.mm_flow.proofs.Marking.{slice_index-nothing}

@@ -1,4 +1,4 @@
-use Rattle.std.proofs.Common.{◌+◌, Bool, List, refl, ap, ◌∙◌, arith}
+use Rattle.std.proofs.Common.{◌+◌, Bool, List, ap, ◌∙◌, arith}
 use Rattle.mm_flow.specs.Solution.{side_of}
 use Rattle.mm_planner.specs.Runs.{first_stretches, first_counts}
 use Rattle.mm_planner.proofs.Opening.{opened_more}
