@@ -19,7 +19,7 @@ mod untaken;
 mod words;
 
 pub use fault::Fault;
-pub use link::ScriptedLink;
+pub use link::{MAX_SENT, ScriptedLink};
 pub use links::{Failing, MAX_SEND, MAX_WRITTEN, read_links};
 pub use mm_base::NoMemory;
 pub use mm_report::{Cause, MAX_SOURCES};

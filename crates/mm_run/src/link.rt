@@ -1,5 +1,6 @@
 //! Links that fail where the lines say so.
 ghost use Rattle.std.specs.Prelude.{◌≡◌, ◌+◌, ◌-◌, ◌^◌, ◌<◌, ◌==◌, ◌∷◌, ◌++◌, [], length, is_err, IfOk, OnOk, OnErr};
+ghost use Rattle.mm_run.specs.declared.link.TheConstants.{MAX_SENT};
 ghost use Rattle.std.specs.List.{list_any};
 ghost use Rattle.mm_run.specs.LinkView.{new_link, fails_next};
 ghost use Rattle.mm_dump.specs.Sending.{sent_at};
@@ -10,6 +11,9 @@ use mm_packet::BlockPacket;
 use std::alloc::Global;
 use std::marker::Model;
 use std::snapshot::Snapshot;
+
+/// The most packets that a link takes: so many values without bytes a list can have.
+pub const MAX_SENT: usize = 0x7fff_ffff_ffff_ffff;
 
 // A packet that was sent, for contracts alone: it has no bytes, and neither has a list of such.
 #[derive(Drop)]
@@ -29,14 +33,15 @@ pub struct ScriptedLink {
 }
 
 impl Model for ScriptedLink {
-    ghost use Rattle.std.specs.Prelude.{◌-◌, ◌^◌, ◌≤◌, map, vec_capacity};
+    ghost use Rattle.std.specs.Prelude.{◌≤◌, map, vec_capacity};
     ghost use Rattle.mm_run.specs.LinkView.{LinkView, sent_of};
+    ghost use Rattle.mm_run.specs.declared.link.TheConstants.{MAX_SENT};
 
     ghost Value = { LinkView };
 
     ghost view = { λ a. record { failing = a.failing.items; sent = map sent_of a.notes.items; failed = a.failed } };
 
-    ghost invariant = { λ a. 2 ^ 64 - 1 ≤ vec_capacity a.notes };
+    ghost invariant = { λ a. MAX_SENT ≤ vec_capacity a.notes };
 }
 
 // The number of the next send, after these that succeeded and this many that failed.
@@ -59,7 +64,7 @@ impl ScriptedLink {
     {
         Ok(ScriptedLink {
             failing: Vec::new(alloc),
-            notes: Vec::with_capacity(alloc, usize::MAX)?,
+            notes: Vec::with_capacity(alloc, MAX_SENT)?,
             failed: 0,
         })
     }
@@ -90,7 +95,7 @@ impl Link for ScriptedLink {
         requires room { self.old.failed < 2 ^ 64 - 1 }
         ensures ok { OnOk result (self.new ≡ record self.old { sent = self.old.sent ++ sent_at store.now time packet.now ∷ [] }) }
         ensures err { OnErr result (self.new ≡ record self.old { failed = self.old.failed + 1 }) }
-        ensures lines { length self.old.sent < 2 ^ 64 - 1 → is_err result ≡ fails_next self.old }
+        ensures lines { length self.old.sent < MAX_SENT → is_err result ≡ fails_next self.old }
     {
         let note = Note {
             store: Snapshot::of(store),
