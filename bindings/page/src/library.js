@@ -1,7 +1,7 @@
 // The calls of the library, as bindings/c/rudlayog.h says them, on texts as octets. Nothing outside this file knows of memory.
 //
-// The module takes its heap from here: blocks lie one after another and are never given back, and each call has an instance of its own, whose
-// memory goes with it. So no call sees what another one left, and after a fault nothing is called again.
+// The module takes its heap from here: blocks lie one after another, one that was given back serves the next of its size, and each call has an
+// instance of its own, whose memory goes with it. So no call sees what another one left, and after a fault nothing is called again.
 const WRITTEN = 0, TOO_SMALL = 1, REFUSED = 2; // RUDLAYOG_WRITTEN and so on
 const PLAN_ROOM = 204800, LINE_ROOM = 64, PICTURE_ROOM = 1 << 18, WORDS_ROOM = 512, HINT_ROOM = 1024, VERSION_ROOM = 16;
 const REFUSED_SIZE = 32, VERDICT_SIZE = 24, ANSWER_SIZE = 48, LENGTH_AT = 40;
@@ -10,9 +10,30 @@ const KINDS = ["no verdict", "least", "does not fit", "loss is", "bad stretch", 
 
 export class NoMemory extends Error {}
 
+// The blocks of a heap: one that was given back serves the next of its size.
+function blocksOver(takeNew) {
+  const sizes = new Map(), spare = new Map();
+  return {
+    // The place of a block, or 0. No two blocks have one place, so none is empty.
+    take(size) {
+      const whole = ((size || 1n) + ALIGN - 1n) & ~(ALIGN - 1n), at = spare.get(whole)?.pop() ?? takeNew(whole);
+      if (at) sizes.set(at, whole);
+      return at;
+    },
+    // A pointer that owns nothing is at no block.
+    giveBack(at) {
+      const size = sizes.get(at);
+      if (size === undefined) return;
+      if (!spare.has(size)) spare.set(size, []);
+      spare.get(size).push(at);
+    },
+  };
+}
+
 // An instance of the module with its heap: its calls, and what takes and reads blocks of its memory.
 function instantiate(module) {
   let memory, top = 0n, isWide = true;
+  const { take, giveBack } = blocksOver(takeNew);
 
   const view = () => new DataView(memory.buffer);
 
@@ -27,8 +48,8 @@ function instantiate(module) {
   }
 
   // The place of a new block, or 0 where there is no memory. The memory doubles, since some browsers move it where it grows.
-  function take(size) {
-    const at = top, end = at + ((size + ALIGN - 1n) & ~(ALIGN - 1n)), has = BigInt(memory.buffer.byteLength);
+  function takeNew(size) {
+    const at = top, end = at + size, has = BigInt(memory.buffer.byteLength);
     if (end > has && !(end - has < has && grows(has)) && !grows(end - has)) return 0n;
     top = end;
     return at;
@@ -44,10 +65,13 @@ function instantiate(module) {
     rattle_alloc: (out, size) => tell(out, take(size), ALIGN),
     rattle_realloc(out, old, kept, size) {
       const at = take(size);
-      if (at) new Uint8Array(memory.buffer).copyWithin(Number(at), Number(old), Number(old + kept));
+      if (at) {
+        new Uint8Array(memory.buffer).copyWithin(Number(at), Number(old), Number(old + kept));
+        giveBack(old);
+      }
       tell(out, at, old);
     },
-    rattle_dealloc() {},
+    rattle_dealloc: giveBack,
   };
   const { exports } = new WebAssembly.Instance(module, { heap });
   memory = exports.memory;
