@@ -1,5 +1,7 @@
 // What the library answers to a session, and what it says in a sentence.
-import { NOTHING, decode, digits, placeOf, recordsOf } from "./texts.js";
+import { NOTHING, decode, digits, placeOf, recordsOf, worthsIn } from "./texts.js";
+
+const LARGEST = 1_000_000; // MAX_BLOCKS of mm_base, which no window, size or limit is above
 
 // The plan, which is made or was given, and the verdict on it.
 export function judge(library, { setup, forecast, given }) {
@@ -10,14 +12,21 @@ export function judge(library, { setup, forecast, given }) {
   return { plan: planned.octets, verdict: checked.verdict, line: decode(checked.octets).trim(), refused: null };
 }
 
-// The same, where a fault of the module ends the call. No call is made again over what it left: each has an instance of its own.
-export function judgeSafely(library, session) {
+// An answer, also where a fault of the module ends the call. No call is made again over what it left: each has an instance of its own.
+function safely(answers) {
   try {
-    return judge(library, session);
+    return answers();
   } catch (fault) {
     return { refused: { number: null, words: `the planner stopped (${fault.message}): expected an answer; save the texts, and tell whoever gave you this page`, hint: "" } };
   }
 }
+
+export const judgeSafely = (library, session) => safely(() => judge(library, session));
+
+export const worthsSafely = (library, { setup, forecast }) => safely(() => {
+  const { octets, refused } = library.sensitivity(setup, forecast);
+  return refused ? { refused } : { octets, worths: worthsIn(octets), refused: null };
+});
 
 // The least loss for a setup and a forecast; null where it is not known.
 export function leastLoss(library, setup, forecast) {
@@ -51,6 +60,29 @@ export function refusalOf({ words, hint, ...at }, session) {
   const whose = at.number >= 34 && at.number <= 35 ? "plan" : at.number >= 29 && at.number <= 32 ? "forecast" : at.number === 27 || at.number === 28 ? "setup" : "";
   const place = placeOf({ ...at, words, hint }, session.setup, session.forecast);
   return { short, expected, advice, hint, place, whose: whose || (place?.row ? "forecast" : place?.array ? "setup" : "") };
+}
+
+// The name of a size or a limit.
+export function nameOf({ item, name, step }) {
+  return item === "size" ? `size of ${name}` : `limit of channel ${name}${step ? ` in step ${step}` : ""}`;
+}
+
+// What more of a window, size or limit saves.
+function largerSaves(worth) {
+  const { item, now, next, most } = worth, isWindow = item === "window";
+  if (now === LARGEST) return "It can be no larger";
+  const one = `One block more in ${isWindow ? "this window" : `the ${nameOf(worth)}`} saves`;
+  if (!most) return `${one} nothing`;
+  const saved = next ? `${digits(next)} ${next === 1 ? "block" : "blocks"}` : "nothing";
+  if (most === next) return `${one} ${saved}, and more of them save no more`;
+  return `${one} ${saved}, and ${isWindow ? `up to ${digits(most)} in all` : `a ${item} of ${digits(LARGEST)} saves ${digits(most)}`}`;
+}
+
+// What a window, size or limit is worth, in a sentence.
+export function worthSentence(worth) {
+  const { item, now, without } = worth, least = item === "size" ? 1 : 0, larger = largerSaves(worth);
+  const otherwise = item === "window" ? "without this window" : `with a ${item} of ${least},`, lost = without ? digits(without) : "no";
+  return now === least ? `${larger}.` : `${larger}; ${otherwise} ${lost} more ${without === 1 ? "is" : "are"} lost.`;
 }
 
 // How a loss differs from that of the reference.

@@ -139,6 +139,7 @@ export function libraryOf(module) {
     },
     chart: (setup, forecast, plan) => answerTo("chart", [setup, forecast, plan], PICTURE_ROOM),
     table: (setup, forecast, plan) => answerTo("table", [setup, forecast, plan], PICTURE_ROOM),
+    sensitivity: (setup, forecast) => answerTo("sensitivity", [setup, forecast], PICTURE_ROOM),
     version: () => ascii(call(module, "version", { room: VERSION_ROOM }).octets),
   };
 }

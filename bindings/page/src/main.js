@@ -8,11 +8,13 @@ import { TEXTS, fromJson, historyOf, keeperOf, toJson } from "./session.js";
 import { goTo, hold, moveBy, show, showSteps } from "./steps.js";
 import { NOTHING, decode, digits, encode, forecastOf, kindOf, setupOf, withCells, withNumber } from "./texts.js";
 import { showChart, showStores, showTexts, showVerdict, stepOnChart } from "./view.js";
+import { dateWorths, showWorths, worthsText } from "./worth.js";
 
 const SAVED = {
   plan: ["plan.txt", "text/plain"], chart: ["chart.svg", "image/svg+xml"], table: ["table.csv", "text/csv"], setup: ["setup.toml", "text/plain"],
   forecast: ["forecast.csv", "text/csv"], session: ["rudlayog.json", "application/json"],
 };
+const SAYING = 50; // milliseconds, after which what the page says is there to be read
 const json = id => JSON.parse(at(id).textContent);
 const note = words => { at("note").textContent = words; };
 
@@ -32,6 +34,7 @@ function changed() {
   mark(at("begins"), session.begins !== "" && momentOf(session.begins) === null);
   document.body.classList.toggle("timeless", momentOf(session.begins) === null);
   keeper.soon(session);
+  dateWorths(session);
   due++;
   isBusy = hasAll;
   if (hasAll) setTimeout(plan, 0, session, due);
@@ -74,6 +77,17 @@ function showLast(session, turn) {
   if (turn !== due) return;
   showPasses(library, session, answer, records);
   isBusy = false;
+}
+
+// What each number is worth, once the page has said that it answers nothing meanwhile.
+function ask() {
+  if (worthsText()) return;
+  at("asked").textContent = "It is planned anew for each number, and the page waits for that.";
+  setTimeout(() => {
+    const { now } = history;
+    showWorths(library, now);
+    showSteps(now, answer.refused ? null : records, place);
+  }, SAYING);
 }
 
 // ---- Changes
@@ -189,7 +203,7 @@ function listen() {
     }
   });
   const clicks = {
-    undo: history.undo, redo: history.redo, keep, print: () => window.print(), anew: () => history.change({ given: NOTHING }),
+    undo: history.undo, redo: history.redo, keep, print: () => window.print(), ask, anew: () => history.change({ given: NOTHING }),
     back: () => history.change({ ...history.now.reference.session }), go: () => goTo(Number(at("step").value)), rest: () => planRest(Number(at("step").value)),
   };
   for (const [id, does] of Object.entries(clicks)) at(id).addEventListener("click", does);
@@ -250,7 +264,7 @@ async function begin() {
     note("What was here last is here again, out of this browser.");
   } else if (given) history.open(given);
   // For tests.
-  window.rudlayog = { library, libraryOf, get state() { return { ...history.now, ...answer, chart, table, records, isBusy, taken, passes: passesShown(history.now, records) }; } };
+  window.rudlayog = { library, libraryOf, get state() { return { ...history.now, ...answer, chart, table, records, isBusy, taken, worths: worthsText(), passes: passesShown(history.now, records) }; } };
   document.documentElement.dataset.ready = "yes";
 }
 

@@ -1,27 +1,31 @@
 // The table of the steps: windows and arrivals to edit, and what is sent, held and lost.
+import { worthSentence } from "./answers.js";
 import { at, cellWith, fill, head, input, make, mark, number, row, write } from "./dom.js";
 import { beginOf, shown } from "./planning.js";
-import { forecastOf } from "./texts.js";
+import { digits, forecastOf } from "./texts.js";
+import { worthOf } from "./worth.js";
 
 // After the stores a forecast may have limits by step, which are edited whatever the stores' columns show.
 const isLimit = name => name.startsWith("limit:");
 const isEdited = name => shows === "arrived" || isLimit(name);
 // The rows as they stand in the table: the document is not asked for them again.
-let laid = "", lines = [], held = { row: 0, column: 1 };
+let laid = "", lines = [], names = [], held = { row: 0, column: 1 };
 export let shows = "arrived";
 
 function laySteps(header, count) {
   const form = JSON.stringify([header, count, shows]);
   if (form === laid) return;
   laid = form;
-  const grid = at("grid"), stores = header.slice(2);
-  grid.tHead.replaceChildren(row(head("step"), head("begins (UTC)", { className: "clock" }), ...["window", "sent", "lost", ...stores].map(it => head(it))));
+  names = header;
+  const grid = at("grid"), stores = header.slice(2), worths = ["one more saves", "at most"].map(it => head(it, { className: "asked", title: "What a larger window saves, in blocks" }));
+  grid.tHead.replaceChildren(row(head("step"), head("begins (UTC)", { className: "clock" }), head("window"), ...worths, ...["sent", "lost", ...stores].map(it => head(it))));
   lines = Array.from({ length: count }, (_, nth) => {
     const step = nth + 1, label = id => (isLimit(id) ? `Limit of channel ${id.slice(6)} in step ${step}, in blocks` : `Blocks that arrive in ${id} in step ${step}`);
-    const window = input(`${step} 1`, `Window of step ${step}, in blocks`, { className: "window" }), [begins, sent, lost] = [make("td"), make("td"), make("td")];
+    const window = input(`${step} 1`, `Window of step ${step}, in blocks`, { className: "window" }), [begins, next, most, sent, lost] = Array.from({ length: 5 }, () => make("td"));
     const own = stores.map((id, at) => (isEdited(id) ? input(`${step} ${at + 2}`, label(id)) : make("td")));
-    const tr = row(make("th", String(step), { scope: "row" }), begins, cellWith(window), sent, lost, ...own.map(it => (it.tagName === "TD" ? it : cellWith(it))));
-    return { tr, begins, window, sent, lost, own, isPass: false };
+    const tr = row(make("th", String(step), { scope: "row" }), begins, cellWith(window), next, most, sent, lost, ...own.map(it => (it.tagName === "TD" ? it : cellWith(it))));
+    for (const it of [next, most]) it.className = "asked";
+    return { tr, begins, window, next, most, sent, lost, own, isPass: false };
   });
   grid.tBodies[0].replaceChildren(...lines.map(it => it.tr));
   for (const it of grid.querySelectorAll("input")) it.tabIndex = -1;
@@ -41,6 +45,13 @@ export function hold(it) {
   if (last) last.tabIndex = -1;
   it.tabIndex = 0;
   held = { row: step - 1, column };
+  sayWorth(step, names[column], column === 1);
+}
+
+// What a window, or a limit by step, is worth in words, where it is known.
+function sayWorth(step, name, isWindow) {
+  const worth = isWindow ? worthOf("window", "", step) : isLimit(name) ? worthOf("limit", name.slice(6), step) : undefined;
+  at("held-worth").textContent = worth ? `Step ${step}: ${worthSentence(worth)}` : "";
 }
 
 export function moveBy(key, it) {
@@ -75,6 +86,8 @@ export function showSteps(session, records, place) {
     const line = lines[nth], told = records?.steps[nth], isPass = record[1] !== "0";
     write(line.begins, first === null ? "" : shown(first + nth * length), "text clock");
     if (line.isPass !== isPass) line.tr.classList.toggle("pass", (line.isPass = isPass));
+    const worth = worthOf("window", "", nth + 1);
+    for (const it of worth ? ["next", "most"] : []) write(line[it], digits(worth[it]), worth[it] ? "asked" : "asked none");
     if (told) {
       write(line.sent, ...number(told.dumped, ""));
       write(line.lost, ...number(told.lost, "lost"));

@@ -119,6 +119,14 @@ export function recordsOf(octets) {
   return { steps, stores };
 }
 
+// What each number is worth, of the library's table: the windows, sizes and limits, with the step of those that have one, or 0.
+export function worthsIn(octets) {
+  return cellsIn(decode(octets)).slice(1).map(([item, name, step, ...numbers]) => {
+    const [now, next, most, without] = numbers.map(Number);
+    return { item, name, step: Number(step), now, next, most, without };
+  });
+}
+
 // Which text a file has, by its name and its first words.
 export function kindOf(name, octets) {
   const text = decode(octets.slice(0, 65536)).replace(MARK, "");

@@ -22,7 +22,7 @@ export function showVerdict(session, answer) {
   at("keep").disabled = !!refused;
   at("back").disabled = !session.reference;
   for (const button of document.querySelectorAll("[data-saves]")) button.disabled = !!refused && PLANNED.includes(button.dataset.saves);
-  at("rest").disabled = !!refused;
+  for (const id of ["rest", "ask"]) at(id).disabled = !!refused;
   return said?.place ?? null;
 }
 

@@ -49,10 +49,12 @@ def problem(dice: random.Random) -> tuple[bytes, bytes]:
     for _ in range(dice.choice([0, 0, 3])):
         setup.append(f'[[route]]\napid = {dice.randrange(2047)}\nservice = {dice.randrange(256)}\nsubtype = {dice.randrange(256)}\nstore = "{dice.choice(names)}"\n')
     often, rich = dice.choice([0.1, 0.4, 1]), dice.choice([1, stores, 3 * stores])
-    rows = ["step,window," + ",".join(names)]
+    columns = [f"limit:{it}" for it in range(8) if dice.random() < limited / 8]
+    rows = ["step,window," + ",".join([*names, *columns])]
     for step in range(1, steps + 1):
         window = min(1_000_000, dice.randint(0, most * rich)) if dice.random() < often else 0
-        rows.append(f"{step},{window}," + ",".join(str(dice.randint(0, most) if dice.random() < 0.4 else 0) for _ in names))
+        cells = [dice.randint(0, most) if dice.random() < 0.4 else 0 for _ in names] + [dice.randint(0, most) for _ in columns]
+        rows.append(f"{step},{window}," + ",".join(map(str, cells)))
     end, mark = dice.choice(["\n", "\n", "\n", "\r\n"]), dice.choice([b"", b"", b"", MARK])
     return mark + end.join("\n".join(setup).split("\n")).encode(), mark + (end.join(rows) + end).encode()
 
@@ -102,6 +104,12 @@ def made(count: int, seed: int, plan: Callable[[bytes, bytes], bytes]) -> Iterat
         elif kind > 6:
             judged = (spoiled if kind == 7 else other_plan)(dice, plan(setup, forecast))
         yield f"problem {nth} of seed {seed}", setup, forecast, judged
+
+
+def is_short(case: Case) -> bool:
+    """Whether a case is a problem of an example, or one at random of few steps: what each of its numbers is worth is soon known."""
+    name, _, forecast, plan = case
+    return not plan and (name in EXAMPLES or (name.startswith("problem") and forecast.count(b"\n") < 30))
 
 
 def hard() -> Iterator[Case]:

@@ -10,22 +10,24 @@ from typing import Any
 
 from browsers import Browser, Chromium, Fault
 from cases import Case
-from program import answers
+from program import answers, told
 
 AT_ONCE = 20
-__all__ = ["Fault", "base64_of", "differences", "ready", "refused_in_turn", "wanted_of"]
+__all__ = ["ASK", "COMPARE", "Fault", "base64_of", "differences", "ready", "refused_in_turn", "wanted_of", "worths_of"]
 READ = "const octetsOf = text => Uint8Array.from(atob(text), it => it.charCodeAt(0)), { library } = window.rudlayog;"
-COMPARE = """
+SAY = """
 const written = octets => { let text = ""; for (let at = 0; at < octets.length; at += 32768) text += String.fromCharCode(...octets.subarray(at, at + 32768)); return btoa(text); };
 const told = it => (it.refused ? `${it.refused.words.split(": expected ")[0]}; ${it.refused.hint}` : [written(it.octets)]);
-return JSON.stringify(CASES.map(texts => {
-  try {
-    const [setup, forecast, given] = texts.map(octetsOf), planned = given.length ? { octets: given } : library.plan(setup, forecast), said = { plan: told(planned) };
-    if (!planned.refused) for (const task of ["check", "chart", "table"]) said[task] = told(library[task](setup, forecast, planned.octets));
-    return said;
-  } catch (fault) { return { plan: String(fault) }; }
-}));
+const say = answers => JSON.stringify(CASES.map(texts => { try { return answers(...texts.map(octetsOf)); } catch (fault) { return { plan: String(fault) }; } }));
 """
+COMPARE = """
+return say((setup, forecast, given) => {
+  const planned = given.length ? { octets: given } : library.plan(setup, forecast), said = { plan: told(planned) };
+  if (!planned.refused) for (const task of ["check", "chart", "table"]) said[task] = told(library[task](setup, forecast, planned.octets));
+  return said;
+});
+"""
+ASK = "return say((setup, forecast) => ({ sensitivity: told(library.sensitivity(setup, forecast)) }));"
 # Each allocation of each call is refused in turn, and then the memory is not let grow: the call answers as with enough memory, or out of memory.
 REFUSE = """
 const [setup, forecast] = CASE.map(octetsOf), Instance = WebAssembly.Instance, plan = library.plan(setup, forecast).octets;
@@ -41,9 +43,11 @@ WebAssembly.Instance = function (module, { heap }) {
   memory.grow = pages => { if (BigInt(memory.buffer.byteLength) / 65536n + BigInt(pages) > most) throw new RangeError("no memory"); return grow(pages); };
   return made;
 };
-const calls = { plan: () => library.plan(setup, forecast), check: () => library.check(setup, forecast, plan), chart: () => library.chart(setup, forecast, plan), table: () => library.table(setup, forecast, plan) };
+const calls = { plan: () => library.plan(setup, forecast), check: () => library.check(setup, forecast, plan), chart: () => library.chart(setup, forecast, plan),
+  table: () => library.table(setup, forecast, plan), sensitivity: () => library.sensitivity(setup, forecast) };
 const out = {};
-for (const [name, does] of Object.entries(calls)) {
+for (const name of CALLS) {
+  const does = calls[name];
   count = 0; refused = 0; most = Infinity;
   const wanted = does().octets, all = count, told = { all, none: 0, same: 0, other: [] };
   const note = (what, mayThrow) => {
@@ -80,13 +84,19 @@ def wanted_of(cases: Sequence[Case]) -> list[dict[str, bytes | str]]:
         return list(threads.map(answers, cases))
 
 
-def differences(browser: Browser, cases: Sequence[Case], wanted: Sequence[dict[str, bytes | str]], limit: int = 0) -> list[str]:
+def worths_of(cases: Sequence[Case]) -> list[dict[str, bytes | str]]:
+    """What the program says that each number of cases is worth."""
+    with ThreadPoolExecutor() as threads:
+        return list(threads.map(lambda case: {"sensitivity": told("sensitivity", *case[1:3])}, cases))
+
+
+def differences(browser: Browser, cases: Sequence[Case], wanted: Sequence[dict[str, bytes | str]], does: str = COMPARE, limit: int = 0) -> list[str]:
     """Where the page, which is open and ready, says something else than the program. A limit in milliseconds ends what takes longer, in
     Chromium."""
     found: list[str] = []
     for start in range(0, len(cases), AT_ONCE):
         given = [[base64_of(text) for text in case[1:]] for case in cases[start : start + AT_ONCE]]
-        script = f"const CASES = {json.dumps(given)};{READ}{COMPARE}"
+        script = f"const CASES = {json.dumps(given)};{READ}{SAY}{does}"
         said: list[dict[str, Any]] = json.loads(browser.run(script, limit) if limit and isinstance(browser, Chromium) else browser.run(script))
         for case, page, program in zip(cases[start:], said, wanted[start:]):
             texts = {task: base64.b64decode(it[0]) if isinstance(it, list) else it for task, it in page.items()}
@@ -94,10 +104,10 @@ def differences(browser: Browser, cases: Sequence[Case], wanted: Sequence[dict[s
     return found
 
 
-def refused_in_turn(browser: Browser, case: Case) -> tuple[int, list[str]]:
+def refused_in_turn(browser: Browser, case: Case, calls: Sequence[str]) -> tuple[int, list[str]]:
     """How many allocations were refused, and where a call then answered something else. Chromium alone lets a test take a heap's place."""
     given = [base64_of(text) for text in case[1:3]]
-    told: dict[str, dict[str, Any]] = json.loads(browser.run(f"const CASE = {json.dumps(given)};{READ}{REFUSE}"))
+    told: dict[str, dict[str, Any]] = json.loads(browser.run(f"const CASE = {json.dumps(given)}, CALLS = {json.dumps(calls)};{READ}{REFUSE}"))
     found = [f"{case[0]}, {call}: {it}" for call, said in told.items() for it in said["other"]]
     found += [f"{case[0]}, {call}: nothing was refused" for call, said in told.items() if not said["all"] or not said["none"]]
     return sum(said["all"] for said in told.values()), found

@@ -10,6 +10,7 @@ from compare import ready
 
 SETTLE = "await new Promise(done => setTimeout(done, 2500));"
 OPEN = f"const it = document.getElementById('example'); it.value = 'mission'; it.dispatchEvent(new Event('change', {{ bubbles: true }})); {SETTLE}"
+ASK = "document.getElementById('ask').click(); for (let turn = 0; turn < 3000 && !window.rudlayog.state.worths; turn++) await new Promise(done => setTimeout(done, 20));"
 # A clock, stations, a reference, and a pass that is cut short.
 CHANGE = f"""
 const at = id => document.getElementById(id), type = (it, value) => {{ it.value = value; it.dispatchEvent(new Event('input', {{ bubbles: true }})); }};
@@ -30,6 +31,7 @@ def take(found: Mapping[str, Callable[..., Browser]], page: str, folder: Path) -
         browser = kind()
         ready(browser, page)
         browser.run(OPEN)
+        browser.run(ASK)
         browser.picture(f"{folder}/{name}.png")
         browser.close()
     if "Chromium" not in found:

@@ -33,7 +33,7 @@ const { state } = rudlayog, octets = it => (it ? written(it) : null);
 return JSON.stringify({ said: at("said").textContent, line: at("line").textContent, more: at("more").textContent, expected: at("expected").textContent, before: at("before").textContent,
   note: at("note").textContent, box: at("verdict").className, isJudged: !at("judging").hidden, isDrawn: at("chart").complete && at("chart").naturalWidth > 0, alt: at("chart").alt,
   bad: [...document.querySelectorAll("[aria-invalid=true]")].map(it => it.dataset.cell),
-  setup: octets(state.setup), forecast: octets(state.forecast), given: octets(state.given), plan: octets(state.plan), chart: octets(state.chart), table: octets(state.table),
+  setup: octets(state.setup), forecast: octets(state.forecast), given: octets(state.given), plan: octets(state.plan), chart: octets(state.chart), table: octets(state.table), worths: octets(state.worths),
   stores: [...at("stores").tBodies[0].rows].map(row => [...row.cells].map(it => it.firstElementChild?.value ?? it.textContent)), all: [...at("stores").tFoot.rows[0].cells].map(it => it.textContent),
   passes: [...at("passes").tBodies[0].rows].map(row => [...row.cells].map(it => it.firstElementChild?.value || it.textContent)) });
 """
@@ -73,7 +73,7 @@ class Use:
 
     def state(self) -> dict[str, Any]:
         said: dict[str, Any] = json.loads(self.do(STATE))
-        for name in ("setup", "forecast", "given", "plan", "chart", "table"):
+        for name in ("setup", "forecast", "given", "plan", "chart", "table", "worths"):
             said[name] = base64.b64decode(said[name]) if said[name] is not None else None
         return said
 
@@ -214,6 +214,48 @@ def passes(use: Use, setup: bytes, forecast: bytes) -> None:
     use.planned("undone", setup, forecast)
 
 
+SHOWN = """
+const isSeen = it => it.offsetParent !== null, cells = place => [...at("grid").tBodies[0].rows].map(row => row.cells[place].textContent);
+return JSON.stringify({ isSeen: ["worths", "held-worth"].map(at).concat([at("grid").tHead.rows[0].cells[3], at("grid").tBodies[0].rows[7].cells[3]]).map(isSeen),
+  asked: at("asked").textContent, held: at("held-worth").textContent, caption: at("worths").caption.textContent, tab: at("worths").parentElement.tabIndex,
+  rows: [...at("worths").tBodies[0].rows].map(row => [...row.cells].map(it => it.textContent)), windows: [cells(3), cells(4)] });
+"""
+
+
+def worths(use: Use, setup: bytes, forecast: bytes) -> None:
+    """What each number is worth: asked for by the button, hidden by a change, and there again once that is undone."""
+    said = json.loads(use.do(SHOWN))
+    use.expect("worth: not asked", not any(said["isSeen"]) and not said["asked"], said["isSeen"], said["asked"])
+    use.do("at('ask').focus();")
+    if isinstance(use.browser, Chromium):
+        use.browser.key(" ")
+    else:
+        use.do("press('ask');")
+    use.do("for (let turn = 0; turn < 6000 && !rudlayog.state.worths; turn++) await wait(20);")
+    wanted = text("sensitivity", setup, forecast)
+    use.expect("worth: the program's", use.state()["worths"] == wanted)
+    rows = records(wanted)
+    windows, others = [row for row in rows if row[0] == "window"], [row for row in rows if row[0] != "window"]
+    step = next(int(row[2]) for row in windows if int(row[3]) and int(row[5]) > 1 and int(row[6]) > 1)
+    use.do(f"cell('{step} 1').dispatchEvent(new FocusEvent('focusin', {{ bubbles: true }}));")
+    said = json.loads(use.do(SHOWN))
+    use.expect("worth: shown", all(said["isSeen"]), said["isSeen"])
+    use.expect("worth: by keys", (said["caption"], said["tab"]) == ("What sizes and limits are worth, in blocks", 0), said["caption"], said["tab"])
+    use.expect("worth: windows", [[plain(it) for it in cells] for cells in said["windows"]] == [[int(row[column]) for row in windows] for column in (4, 5)])
+    names = [f"size of {row[1]}" if row[0] == "size" else f"limit of channel {row[1]}" for row in others]
+    use.expect("worth: sizes and limits", [[row[0], *map(plain, row[1:5])] for row in said["rows"]] == [[name, *map(int, row[3:])] for name, row in zip(names, others)], said["rows"])
+    _, _, _, _, _, most, without = windows[step - 1]
+    words = f"Step {step}: One block more in this window saves 1 block, and up to {int(most):,} in all; without this window {int(without):,} more are lost."
+    use.expect("worth: a window in words", said["held"] == words, said["held"], words)
+    use.type("90 1", "0")
+    use.expect("worth: after a change", use.state()["worths"] is None)
+    said = json.loads(use.do(SHOWN))
+    use.expect("worth: after a change, hidden", not any(said["isSeen"]) and said["asked"].startswith("Out of date"), said["isSeen"], said["asked"])
+    use.do("press('undo');")
+    use.expect("worth: undone", use.state()["worths"] == wanted and all(json.loads(use.do(SHOWN))["isSeen"]))
+    use.planned("worth: asked", setup, forecast)
+
+
 def has_start(setup: str, name: str) -> bool:
     """Whether the table of a store has a start."""
     own = setup.split(f'id = "{name}"')[1].split("[[")[0]
@@ -239,7 +281,7 @@ def columns(use: Use, setup: bytes, forecast: bytes) -> None:
     steps = int(table[-1][0])
     for what, column in (("dumped", 5), ("held", 6), ("lost", 4)):
         use.do(f"document.querySelector('[data-shows={what}]').click();")
-        shown = use.do("return [...at('grid').tBodies[0].rows].map(row => [...row.cells].slice(5).map(it => it.textContent.replaceAll(',', '')));")
+        shown = use.do("return [...at('grid').tBodies[0].rows].map(row => [...row.cells].slice(7).map(it => it.textContent.replaceAll(',', '')));")
         use.expect(f"the column {what}", shown == [[row[column] for row in table if int(row[0]) == step] for step in range(1, steps + 1)])
     for step in (1, 60, 175, 256):
         found = use.do(
@@ -341,6 +383,7 @@ def in_use(browser: Browser, page: str) -> tuple[int, Sequence[str]]:
     use = Use(browser, page)
     edits(use, setup, forecast)
     passes(use, setup, forecast)
+    worths(use, setup, forecast)
     judged(use, setup, forecast)
     columns(use, setup, forecast)
     if isinstance(browser, Chromium):
