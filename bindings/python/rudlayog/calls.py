@@ -76,8 +76,9 @@ class PlanTable:
 @dataclass(frozen=True)
 class Worth:
     """What a number of a problem is worth, in blocks: the window of the `step`, the size of the store `name`, or the limit of the channel
-    `name`, as `item` says. The number is `now`; `next` is how many blocks fewer the least plan loses if it is one larger, `most` if it is
-    1,000,000, and `without` how many blocks more it loses if it is 0, or 1 for a size. A window that is larger by e saves `min(e, most)`."""
+    `name`, of the setup or in the `step`, as `item` says. The number is `now`; `next` is how many blocks fewer the least plan loses if it is
+    one larger, `most` if it is 1,000,000, and `without` how many blocks more it loses if it is 0, or 1 for a size. A window that is larger by
+    e saves `min(e, most)`."""
 
     item: str
     name: str

@@ -72,6 +72,10 @@ class Planning(unittest.TestCase):
         # docs/PLANNING.md, 'What a wider pass would save': no pass helps but from step 6 to step 21.
         day = sensitivity(*files(EXAMPLES / "two_passes"))
         self.assertEqual([worth.step for worth in day if worth.item == "window" and worth.most], list(range(6, 22)))
+        # Of 6 blocks 2 are lost, 2 leave (the limit), and of 2 + 4 then 2 are lost; what leaves in step 2 comes too late.
+        by_step = sensitivity(SETUP, Forecast.of([3, 4], {"SCI": [6, 4]}, limits={"limit:0": [2, 1]}))
+        self.assertEqual(by_step[-2], Worth("limit", "0", 1, now=2, next=1, most=1, without=2))
+        self.assertEqual(by_step[-1], Worth("limit", "0", 2, now=1, next=0, most=0, without=0))
 
     def test_data_in_place_of_texts(self):
         setup = Setup.of([Store("SCI", 4)])

@@ -47,9 +47,13 @@ channel q s = (row q s).channel
 abbrev pub setup_limit : Dumping → ℕ → Option ℕ
 setup_limit q c = slice_index_or q.limits c None
 
--- what the column at a place says in the step, where there is that column
+-- what the column at a place, counted from 0, says in the step
+abbrev pub column_limit : Dumping → ℕ → ℕ → ℕ
+column_limit q column t = cell (length q.limited) q.step_limits column t
+
+-- the same, where there is that column
 abbrev pub in_column : Dumping → ℕ → ℕ → Option ℕ
-in_column q column t = if nat_lt column (length q.limited) then Some (cell (length q.limited) q.step_limits column t) else None
+in_column q column t = if nat_lt column (length q.limited) then Some (column_limit q column t) else None
 
 -- the channel's limit of this step alone, where it has one
 abbrev pub step_limit : Dumping → ℕ → ℕ → Option ℕ

@@ -1,9 +1,10 @@
 //! A problem with one number changed.
 ghost use Rattle.std.specs.Prelude.{◌≡◌, ◌<◌, ◌≤◌, length, IfOk};
 ghost use Rattle.mm_base.specs.declared.limits.TheConstants.{MAX_BLOCKS};
-ghost use Rattle.mm_problem.specs.Changed.{with_window, with_limit, with_size};
+ghost use Rattle.mm_problem.specs.Changed.{with_window, with_limit, with_column_limit, with_size};
 
 use crate::problem::Problem;
+use mm_base::grid::place;
 use mm_base::{NoMemory, StoreRow};
 use std::alloc::Global;
 
@@ -47,6 +48,25 @@ impl Problem {
     {
         let mut problem = self.copy(alloc)?;
         problem.limits[channel as usize] = Some(blocks);
+        Ok(problem)
+    }
+
+    /// The problem with this limit in the step for a channel, in blocks: for that in this place, from 0, of those of `limited`.
+    pub fn with_column_limit(
+        &self,
+        alloc: Global,
+        column: usize,
+        step: u32,
+        blocks: u32,
+    ) -> Result<Problem, NoMemory>
+        requires column { column < length self.now.limited }
+        requires first { 1 ≤ step }
+        requires last { step ≤ length self.now.windows }
+        requires most { blocks ≤ MAX_BLOCKS }
+        ensures problem { IfOk result (λ problem. problem ≡ with_column_limit self.now column step blocks) }
+    {
+        let mut problem = self.copy(alloc)?;
+        problem.step_limits[place(self.limited.len(), step, column)] = blocks;
         Ok(problem)
     }
 

@@ -3,7 +3,7 @@ ghost use Rattle.std.specs.Prelude.{◌≡◌, ℕ, ◌+◌, ◌-◌, ◌*◌, �
 ghost use Rattle.std.specs.List.{position_or_len};
 ghost use Rattle.mm_base.specs.declared.limits.TheConstants.{MAX_STORES, MAX_STEPS, MAX_BLOCKS, MAX_CHANNEL, CHANNELS};
 ghost use Rattle.mm_base.specs.Id.{IsIdField};
-ghost use Rattle.mm_problem.specs.Dumping.{row, place_in, place, size, start, channel, setup_limit, step_limit, lesser, limit, window, arrivals, IsDumping};
+ghost use Rattle.mm_problem.specs.Dumping.{row, place_in, place, size, start, channel, setup_limit, step_limit, column_limit, lesser, limit, window, arrivals, IsDumping};
 ghost use Rattle.mm_problem.specs.Forecast.{limit_of, limits_of, problem_of};
 ghost use Rattle.mm_problem.specs.Data.{problem_from, limited_by};
 ghost use Rattle.mm_problem.specs.Rest.{rows_from, starts_fit, rest_from};
@@ -354,10 +354,9 @@ impl Problem {
         ensures limit { result ≡ step_limit self.now channel step }
         ensures most { IfSome result (λ blocks. blocks ≤ MAX_BLOCKS) }
     {
-        let columns = self.limited.len();
         let column = column_of(self.limited.as_slice(), channel);
-        if column < columns {
-            Some(self.step_limits[place(columns, step, column)])
+        if column < self.limited.len() {
+            Some(self.column_limit(column, step))
         } else {
             None
         }
@@ -388,6 +387,18 @@ impl Problem {
         ensures channels { result.now ≡ self.now.limited }
     {
         self.limited.as_slice()
+    }
+
+    /// The limit that the forecast has in a step for a channel, in blocks: that in this place, from 0, of those of `limited`.
+    #[must_use]
+    pub fn column_limit(&self, column: usize, step: u32) -> u32
+        requires column { column < length self.now.limited }
+        requires first { 1 ≤ step }
+        requires last { step ≤ length self.now.windows }
+        ensures limit { result ≡ column_limit self.now column step }
+        ensures most { result ≤ MAX_BLOCKS }
+    {
+        self.step_limits[place(self.limited.len(), step, column)]
     }
 
     /// How many blocks come to a store in a step.

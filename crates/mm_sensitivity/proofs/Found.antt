@@ -1,10 +1,11 @@
 -- What the least losses that are found say of a number of a problem.
-use Rattle.std.proofs.Common.{◌≡◌, ℕ, ℤ, ◌+◌, ◌-◌, ◌≤◌, min, List, set, pos, refl, sym, ap, ◌∙◌, subst, inl, inr, true≢false, arith}
+use Rattle.std.proofs.Common.{◌≡◌, ℕ, ℤ, ◌+◌, ◌-◌, ◌≤◌, min, List, length, set, pos, refl, sym, ap, ◌∙◌, subst, inl, inr, true≢false, arith}
 use Rattle.std.specs.Prelude.{Option, Some, None, unwrap_or, IsSome}
 use Rattle.std.proofs.lemmas.Bool.{cases_lt}
 use Rattle.std.proofs.lemmas.Int.{ints}
 use Rattle.std.proofs.lemmas.List.{length-set, set-get_or}
 use Rattle.mm_base.specs.declared.limits.TheConstants.{MAX_BLOCKS}
+use Rattle.mm_base.specs.Grid.{grid_place}
 use Rattle.mm_problem.specs.Dumping.{Dumping, IsDumping, no_row, row, start, window}
 use Rattle.mm_problem.specs.Changed.{with_window, sized}
 use Rattle.mm_plan.specs.Table.{Table, amount, HasShape}
@@ -17,7 +18,7 @@ use Rattle.mm_cut.specs.declared.verdict.Verdict.TheVariants.{Least}
 use Rattle.mm_planner.specs.Planned.{ShowsLeast}
 use Rattle.mm_planner.specs.declared.planner.Planned.{Planned}
 use Rattle.mm_sensitivity.specs.declared.item.Item.{Item}
-use Rattle.mm_sensitivity.specs.declared.item.Item.TheVariants.{Window, Size, Limit}
+use Rattle.mm_sensitivity.specs.declared.item.Item.TheVariants.{Window, Size, Limit, StepLimit}
 use Rattle.mm_sensitivity.specs.Items.{IsItem, number, with_number, fitted, spilled, least_number}
 use Rattle.mm_sensitivity.specs.Worth.{IsLeastLoss, IsPlanFor, Saves, IsSaved, WiderWindows}
 use Rattle.mm_sensitivity.proofs.Growing.{grows}
@@ -56,6 +57,7 @@ with_own q (Window t) is = ap (λ ws. record q { windows = ws }) (set-get_or q.w
 with_own q (Size s) is = ap (λ rs. record q { rows = rs }) (set-get_or q.rows s no_row)
 with_own q (Limit c) is =
     ap (λ ls. record q { limits = ls }) (ap (λ o. set q.limits c o) (some_limit _ is.1) ∙ set-get_or q.limits c None)
+with_own q (StepLimit k t) is = ap (λ ls. record q { step_limits = ls }) (set-get_or q.step_limits (grid_place (length q.limited) t k) 0)
 
 -- where the number is no smaller, a store has room for all with which it begins
 pub fitted_whole : (q : Dumping) (i : Item) (b : ℕ) → IsDumping q → IsItem q i → number q i ≤ b → fitted q i b ≡ with_number q i b
@@ -65,34 +67,39 @@ fitted_whole q (Size s) b is item larger =
     let same : min (start q s) b ≡ start q s = omega (arith, fits, larger) in
     ap (λ n. record q { rows = set q.rows s (record { id = (row q s).id; size = b; start = n; kind = (row q s).kind; channel = (row q s).channel }) }) same
 fitted_whole q (Limit c) b is item larger = refl
+fitted_whole q (StepLimit k t) b is item larger = refl
 
 -- a plan for the problem has the shape of the other
 pub fitted_shape : (q : Dumping) (i : Item) (b : ℕ) (x : Table) → HasShape q x → HasShape (fitted q i b) x
 fitted_shape q (Window t) b x shape = record { stores = shape.stores; steps = shape.steps ∙ sym (length-set q.windows (t - 1) b) }
 fitted_shape q (Size s) b x shape = record { stores = shape.stores ∙ sym (length-set q.rows s (sized (row q s) b)); steps = shape.steps }
 fitted_shape q (Limit c) b x shape = record { stores = shape.stores; steps = shape.steps }
+fitted_shape q (StepLimit k t) b x shape = record { stores = shape.stores; steps = shape.steps }
 
 -- what a plan loses there, with what a store has no room for as it begins
 pub spilled_loss : (q : Dumping) (i : Item) (b : ℕ) (x : Amounts) → IsDumping q → IsItem q i → loss (with_number q i b) x ≡ loss (fitted q i b) x + spilled q i b
 spilled_loss q (Window t) b x is item = omega arith
 spilled_loss q (Size s) b x is item = whole_loss q s b item x is.steps.has_step
 spilled_loss q (Limit c) b x is item = omega arith
+spilled_loss q (StepLimit k t) b x is item = omega arith
 
 fits_whole : (q : Dumping) (i : Item) (b : ℕ) (x : Amounts) → IsItem q i → Fits (fitted q i b) x → Fits (with_number q i b) x
 fits_whole q (Window t) b x item fits = fits
 fits_whole q (Size s) b x item fits = whole_fits q s b item x fits
 fits_whole q (Limit c) b x item fits = fits
+fits_whole q (StepLimit k t) b x item fits = fits
 
 fits_part : (q : Dumping) (i : Item) (b : ℕ) (x : Amounts) → IsItem q i → Fits (with_number q i b) x → Fits (fitted q i b) x
 fits_part q (Window t) b x item fits = fits
 fits_part q (Size s) b x item fits = part_fits q s b item x fits
 fits_part q (Limit c) b x item fits = fits
+fits_part q (StepLimit k t) b x item fits = fits
 
-module _ (helps : OnlyCountedHelps) (q : Dumping) (i : Item) (item : IsItem q i) where
+module _ (helps : OnlyCountedHelps) (q : Dumping) (is_dumping : IsDumping q) (i : Item) (item : IsItem q i) where
   -- no plan that fits a problem with a smaller number loses less
   smaller_loses : (a b m : ℕ) → a ≤ b → IsLeastLoss (with_number q i b) m → (x : Amounts) → Fits (with_number q i a) x → m ≤ loss (with_number q i a) x
   smaller_loses a b m le is x fits =
-      let least = helps (with_number q i b) (with_number q i a) is.cut is.by_channels x is.planned.cut (grows q i a b item le is.cut is.by_channels is.planned.cut) fits in
+      let least = helps (with_number q i b) (with_number q i a) is.cut is.by_channels x is.planned.cut (grows q i a b is_dumping item le is.cut is.by_channels is.planned.cut) fits in
       omega (arith, ints, least, tight (with_number q i b) m is)
 
   -- a larger number saves what the least losses differ by
@@ -107,7 +114,7 @@ module _ (helps : OnlyCountedHelps) (q : Dumping) (i : Item) (item : IsItem q i)
       let same : n ≡ m + (n - m) = omega (arith, less_lost b n m larger is_n is_m) in
       record { after = m; first = subst (IsLeastLoss q) same is_n; second = is_m }
 
-  module _ (is_dumping : IsDumping q) (a n k : ℕ) (smaller : a ≤ number q i) (is_n : IsLeastLoss q n) (is_k : IsLeastLoss (fitted q i a) k) where
+  module _ (a n k : ℕ) (smaller : a ≤ number q i) (is_n : IsLeastLoss q n) (is_k : IsLeastLoss (fitted q i a) k) where
     -- with a smaller number no less is lost
     pub more_lost : n ≤ k + spilled q i a
     more_lost =
@@ -168,20 +175,21 @@ module _ (helps : OnlyCountedHelps) (q r : Dumping) (p : Planned) (i : Item) (b 
 
   pub less_there : number q i ≤ b → IsLeastLoss r m → m ≤ p.loss
   less_there larger least =
-      less_lost helps q i item b p.loss m larger least_here (subst (λ a. IsLeastLoss a m) (is ∙ fitted_whole q i b base.problem item larger) least)
+      less_lost helps q base.problem i item b p.loss m larger least_here (subst (λ a. IsLeastLoss a m) (is ∙ fitted_whole q i b base.problem item larger) least)
 
   pub saved_there : number q i ≤ b → IsLeastLoss r m → IsSaved q (with_number q i b) (p.loss - m)
   saved_there larger least =
-      is_saved helps q i item b p.loss m larger least_here (subst (λ a. IsLeastLoss a m) (is ∙ fitted_whole q i b base.problem item larger) least)
+      is_saved helps q base.problem i item b p.loss m larger least_here (subst (λ a. IsLeastLoss a m) (is ∙ fitted_whole q i b base.problem item larger) least)
 
   pub more_there : b ≤ number q i → IsLeastLoss r m → p.loss ≤ m + spilled q i b
-  more_there smaller least = more_lost helps q i item base.problem b p.loss m smaller least_here (subst (λ a. IsLeastLoss a m) is least)
+  more_there smaller least = more_lost helps q base.problem i item b p.loss m smaller least_here (subst (λ a. IsLeastLoss a m) is least)
 
   pub costs_there : b ≤ number q i → IsLeastLoss r m → Saves (with_number q i b) q (m + spilled q i b - p.loss)
-  costs_there smaller least = costs helps q i item base.problem b p.loss m smaller least_here (subst (λ a. IsLeastLoss a m) is least)
+  costs_there smaller least = costs helps q base.problem i item b p.loss m smaller least_here (subst (λ a. IsLeastLoss a m) is least)
 
 -- the least number is no larger than any
 pub least_first : (q : Dumping) (i : Item) → IsDumping q → IsItem q i → least_number i ≤ number q i
 least_first q (Window t) is item = omega arith
 least_first q (Size s) is item = let row = is.stores.each s no_row item in omega (arith, row.has_room)
 least_first q (Limit c) is item = omega arith
+least_first q (StepLimit k t) is item = omega arith

@@ -5,17 +5,19 @@ use Rattle.std.proofs.lemmas.Bool.{cases_eq, and_parts, eqb-true}
 use Rattle.std.proofs.lemmas.List.{length-set, get_or-set_same, get_or-set_other}
 use Rattle.std.proofs.lemmas.List.Elements.{All-contains}
 use Rattle.std.proofs.lemmas.List.Folds.{Any-from_list_any, position_or_len-set}
+use Rattle.std.specs.List.{position_or_len}
 use Rattle.std.specs.Str.{bytes_eq}
 use Rattle.mm_base.specs.declared.rows.StoreRow.{StoreRow}
-use Rattle.mm_base.specs.Grid.{cell}
-use Rattle.mm_problem.specs.Dumping.{Dumping, no_row, row, size, start, channel, limit, lesser, step_limit}
+use Rattle.mm_base.specs.Grid.{cell, grid_place}
+use Rattle.mm_problem.specs.Dumping.{Dumping, no_row, row, size, start, channel, IsDumping, limit, lesser, setup_limit, step_limit, in_column}
 use Rattle.mm_plan.specs.declared.stretch.Stretch.{Stretch}
+use Rattle.mm_plan.proofs.Places.{grid_place-lt}
 use Rattle.mm_cut.specs.Stretches.{store_of, channel_of, goes_past, goes_past_on, is_inner_on}
 use Rattle.mm_cut.specs.Counts.{is_listed, IsLimited, IsCounted}
 use Rattle.mm_cut.specs.Cuts.{IsCut}
 use Rattle.mm_cut.specs.Changes.{HelpsNowhere}
 use Rattle.mm_sensitivity.specs.declared.item.Item.{Item}
-use Rattle.mm_sensitivity.specs.declared.item.Item.TheVariants.{Window, Size, Limit}
+use Rattle.mm_sensitivity.specs.declared.item.Item.TheVariants.{Window, Size, Limit, StepLimit}
 use Rattle.mm_sensitivity.specs.Items.{IsItem, resized, with_number}
 
 -- the channel of a store that is inner in a step which counts by channels has a limit
@@ -124,6 +126,47 @@ grows_limit q e a b inside le ds ts cut = record {
       (lesser_of-le q.limits e c a b inside (step_limit q c u) le);
 }
 
+-- ---- a limit of a column
+
+-- the lesser of a limit and another that grows, where there is that other
+lesser_second-le : (o : Option ℕ) (there : Bool) (a b : ℕ) → a ≤ b → unwrap_or (lesser o (cond there (Some a) None)) 0 ≤ unwrap_or (lesser o (cond there (Some b) None)) 0
+lesser_second-le None true a b le = le
+lesser_second-le None false a b le = omega arith
+lesser_second-le (Some n) true a b le = omega (arith, le)
+lesser_second-le (Some n) false a b le = omega arith
+
+lesser_second_too : (o : Option ℕ) (there : Bool) (a b : ℕ) → IsSome (lesser o (cond there (Some b) None)) → IsSome (lesser o (cond there (Some a) None))
+lesser_second_too None true a b some = refl
+lesser_second_too None false a b some = some
+lesser_second_too (Some n) true a b some = refl
+lesser_second_too (Some n) false a b some = some
+
+grows_column : (q : Dumping) (k t a b : ℕ) → IsDumping q → k < length q.limited → 1 ≤ t → t ≤ length q.windows → a ≤ b → (ds : List Stretch) (ts : List ℕ) → IsCut (with_number q (StepLimit k t) b) ds ts → HelpsNowhere (with_number q (StepLimit k t) b) (with_number q (StepLimit k t) a) ds ts
+grows_column q k t a b is column first last le ds ts cut =
+    let n = length q.limited in
+    let at : ℕ → ℕ = λ c. position_or_len (λ e. eqb e c) q.limited in
+    let there : ℕ → Bool = λ c. nat_lt (at c) n in
+    let inside : grid_place n t k < length q.step_limits = omega (arith, grid_place-lt n (length q.windows) t k column first last, is.by_step.table) in
+    let cell_of : ℕ → ℕ → ℕ → ℕ = λ m c u. cell n (set q.step_limits (grid_place n t k) m) (at c) u in
+    record {
+      steps = refl;
+      channels = refl;
+      stretches = λ j d within. record {
+        store = (cut.stretches.each j d within).store;
+        start = λ _. omega arith;
+        arrivals = λ _ _. omega arith;
+        size = omega arith;
+        channel = λ _ _ _. refl;
+      };
+      windows = λ _ _. omega arith;
+      limited = λ u c listed inner.
+          let passes = nat_lt c (length q.limits) in
+          counted_too passes passes _ _ refl (lesser_second_too (setup_limit q c) (there c) (cell_of a c u) (cell_of b c u)) (has_limit_there (with_number q (StepLimit k t) b) ds ts cut u c listed inner);
+      limits = λ u c _ _.
+          let passes = nat_lt c (length q.limits) in
+          counted-le passes passes _ _ refl (lesser_second-le (setup_limit q c) (there c) (cell_of a c u) (cell_of b c u) (set-le q.step_limits (grid_place n t k) (grid_place n u (at c)) a b inside le));
+    }
+
 -- ---- a size
 
 -- a store that is resized keeps all but its size
@@ -198,7 +241,8 @@ grows_size q s a b inside le ds ts cut =
 
 -- ---- any of them
 
-pub grows : (q : Dumping) (i : Item) (a b : ℕ) → IsItem q i → a ≤ b → (ds : List Stretch) (ts : List ℕ) → IsCut (with_number q i b) ds ts → HelpsNowhere (with_number q i b) (with_number q i a) ds ts
-grows q (Window t) a b is le ds ts cut = grows_window q t a b is.0 is.1 le ds ts cut
-grows q (Size s) a b is le ds ts cut = grows_size q s a b is le ds ts cut
-grows q (Limit c) a b is le ds ts cut = grows_limit q c a b is.0 le ds ts cut
+pub grows : (q : Dumping) (i : Item) (a b : ℕ) → IsDumping q → IsItem q i → a ≤ b → (ds : List Stretch) (ts : List ℕ) → IsCut (with_number q i b) ds ts → HelpsNowhere (with_number q i b) (with_number q i a) ds ts
+grows q (Window t) a b is item le ds ts cut = grows_window q t a b item.0 item.1 le ds ts cut
+grows q (Size s) a b is item le ds ts cut = grows_size q s a b item le ds ts cut
+grows q (Limit c) a b is item le ds ts cut = grows_limit q c a b item.0 le ds ts cut
+grows q (StepLimit k t) a b is item le ds ts cut = grows_column q k t a b is item.0 item.1 item.2 le ds ts cut

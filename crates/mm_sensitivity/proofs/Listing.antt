@@ -1,16 +1,17 @@
 -- The numbers of a problem, as loops list them.
 use Rattle.std.proofs.Common.{◌≡◌, ℕ, ◌+◌, ◌-◌, ◌<◌, ◌≤◌, Bool, true, false, cond, List, [], ◌∷◌, ◌++◌, map, take, get_or, length, ◌∙◌, refl, sym, ap, subst, arith, add-one, append_assoc, append-nil}
 use Rattle.std.specs.Prelude.{filter, All}
-use Rattle.std.specs.List.{range_with_len}
+use Rattle.std.specs.List.{range_with_len, flat_map}
 use Rattle.std.proofs.lemmas.List.{map-append, take_more}
+use Rattle.std.proofs.lemmas.Grind.{flat_map-append}
 use Rattle.std.proofs.lemmas.List.Elements.{filter-append, All-append, All-map, All-push}
 use Rattle.std.proofs.lemmas.List.FromFn.{map-range_with_len_more}
-use Rattle.mm_base.proofs.Ranges.{range_with_len_more, All-range_with_len, All-filter-range_with_len}
+use Rattle.mm_base.proofs.Ranges.{range_with_len_more, All-range_with_len, All-filter-range_with_len, All-flat_map-range_with_len}
 use Rattle.mm_problem.specs.Dumping.{Dumping, steps, stores, channels}
 use Rattle.mm_sensitivity.specs.declared.item.Item.{Item}
-use Rattle.mm_sensitivity.specs.declared.item.Item.TheVariants.{Window, Size, Limit}
+use Rattle.mm_sensitivity.specs.declared.item.Item.TheVariants.{Window, Size, Limit, StepLimit}
 use Rattle.mm_sensitivity.specs.declared.worth.Worth.{Worth}
-use Rattle.mm_sensitivity.specs.Items.{IsItem, has_limit, items}
+use Rattle.mm_sensitivity.specs.Items.{IsItem, has_limit, column_items, items}
 use Rattle.mm_sensitivity.specs.Worth.{IsWorth}
 
 -- what is made of one number more
@@ -38,14 +39,25 @@ passed_more make p n front so_far next before added =
     ap (λ k. filter p (range_with_len 0 k)) (add-one n) ∙ ap (filter p) (range_with_len_more 0 n n (omega arith)) ∙ filter-append p (range_with_len 0 n) (n ∷ []) ∙ ap (λ xs. filter p (range_with_len 0 n) ++ xs) (passing p n) in
     made_more make (p n) front so_far next (filter p (range_with_len 0 n)) n before added ∙ ap (λ ns. front ++ map make ns) (sym one)
 
+-- one column more
+pub column_more : (q : Dumping) (n : ℕ) (front so_far next : List Item) → so_far ≡ front ++ flat_map (column_items q) (range_with_len 0 n) → next ≡ so_far ++ column_items q n → next ≡ front ++ flat_map (column_items q) (range_with_len 0 (n + 1))
+column_more q n front so_far next before added =
+    let make = column_items q in
+    let one : flat_map make (range_with_len 0 (n + 1)) ≡ flat_map make (range_with_len 0 n) ++ make n =
+    ap (λ k. flat_map make (range_with_len 0 k)) (add-one n) ∙ ap (flat_map make) (range_with_len_more 0 n n (omega arith)) ∙ flat_map-append make (range_with_len 0 n) (n ∷ []) ∙ ap (λ xs. flat_map make (range_with_len 0 n) ++ xs) (append-nil (make n)) in
+    added ∙ ap (λ xs. xs ++ make n) before ∙ append_assoc front (flat_map make (range_with_len 0 n)) (make n) ∙ ap (λ xs. front ++ xs) (sym one)
+
 -- each of them is one
 items_are : (q : Dumping) → All (IsItem q) (items q)
 items_are q =
     let windows = All-map (IsItem q) Window (steps q) (All-range_with_len (λ t. IsItem q (Window t)) 1 (length q.windows) (λ t from to. (from, omega (arith, to)))) in
     let sizes = All-map (IsItem q) Size (stores q) (All-range_with_len (λ s. IsItem q (Size s)) 0 (length q.rows) (λ s from to. omega (arith, to))) in
     let limits = All-map (IsItem q) Limit (filter (has_limit q) (channels q)) (All-filter-range_with_len (λ c. IsItem q (Limit c)) (has_limit q) 0 (length q.limits) (λ c from to passes. (omega (arith, to), passes))) in
-    All-append (IsItem q) (map Window (steps q) ++ map Size (stores q)) (map Limit (filter (has_limit q) (channels q)))
-    (All-append (IsItem q) (map Window (steps q)) (map Size (stores q)) windows sizes) limits
+    let columns = All-flat_map-range_with_len (IsItem q) (column_items q) 0 (length q.limited)
+    (λ k low high. All-map (IsItem q) (StepLimit k) (steps q) (All-range_with_len (λ t. IsItem q (StepLimit k t)) 1 (length q.windows) (λ t from to. (omega (arith, high), from, omega (arith, to))))) in
+    All-append (IsItem q) (map Window (steps q) ++ map Size (stores q) ++ map Limit (filter (has_limit q) (channels q))) (flat_map (column_items q) (range_with_len 0 (length q.limited)))
+    (All-append (IsItem q) (map Window (steps q) ++ map Size (stores q)) (map Limit (filter (has_limit q) (channels q)))
+    (All-append (IsItem q) (map Window (steps q)) (map Size (stores q)) windows sizes) limits) columns
 
 pub all_items : (q : Dumping) (xs : List Item) → xs ≡ items q → All (IsItem q) xs
 all_items q xs same = subst (All (IsItem q)) (sym same) (items_are q)

@@ -1,10 +1,10 @@
 -- The table of what the numbers of a problem are worth: comma separated values (RFC 4180), a header, and then a record for each number.
-use Rattle.std.specs.Prelude.{◌≡◌, ℕ, List, ◌++◌, map, All, codes, decimal, flat_map}
+use Rattle.std.specs.Prelude.{◌≡◌, ℕ, List, ◌++◌, map, All, codes, decimal, flat_map, slice_index}
 use Rattle.mm_base.specs.Id.{id_text}
 use Rattle.mm_problem.specs.Dumping.{Dumping, row}
 use Rattle.mm_problem.specs.Texts.{SaysProblem}
 use Rattle.mm_sensitivity.specs.declared.item.Item.{Item}
-use Rattle.mm_sensitivity.specs.declared.item.Item.TheVariants.{Window, Size, Limit}
+use Rattle.mm_sensitivity.specs.declared.item.Item.TheVariants.{Window, Size, Limit, StepLimit}
 use Rattle.mm_sensitivity.specs.declared.worth.Worth.{Worth}
 use Rattle.mm_sensitivity.specs.Items.{items}
 use Rattle.mm_sensitivity.specs.Worth.{IsWorth}
@@ -14,6 +14,7 @@ abbrev pub item_cells : Dumping → Item → List ℕ
 item_cells q (Window t) = codes "window,," ++ decimal t
 item_cells q (Size s) = codes "size," ++ id_text (row q s).id ++ codes ","
 item_cells q (Limit c) = codes "limit," ++ decimal c ++ codes ","
+item_cells q (StepLimit k t) = codes "limit," ++ decimal (slice_index q.limited k) ++ codes "," ++ decimal t
 
 -- the cells that say what it is worth, up to the end of the record
 unfoldable pub worth_cells : Worth → List ℕ

@@ -1,9 +1,10 @@
 //! The numbers of a problem that a mission can change.
-ghost use Rattle.std.specs.Prelude.{◌≡◌, ◌≤◌, ◌<◌, ◌++◌, ◌∷◌, [], if◌then◌else◌, length, map, filter, All, IfOk, OnOk};
+ghost use Rattle.std.specs.Prelude.{◌≡◌, ◌≤◌, ◌<◌, ◌++◌, ◌∷◌, [], if◌then◌else◌, length, map, filter, flat_map, All, IfOk, OnOk};
+ghost use Rattle.std.specs.List.{range_with_len};
 ghost use Rattle.mm_base.specs.declared.limits.TheConstants.{MAX_BLOCKS};
 ghost use Rattle.mm_problem.specs.Dumping.{IsDumping, steps, stores, channels};
-ghost use Rattle.mm_sensitivity.specs.Items.{IsItem, number, least_number, fitted, spilled, has_limit, items};
-ghost use Rattle.mm_sensitivity.specs.declared.item.Item.TheVariants.{Window, Size, Limit};
+ghost use Rattle.mm_sensitivity.specs.Items.{IsItem, number, least_number, fitted, spilled, has_limit, column_items, items};
+ghost use Rattle.mm_sensitivity.specs.declared.item.Item.TheVariants.{Window, Size, Limit, StepLimit};
 
 use mm_base::NoMemory;
 use mm_problem::Problem;
@@ -18,6 +19,8 @@ pub enum Item {
     Size(usize),
     /// The limit of this virtual channel in the setup.
     Limit(u8),
+    /// The limit of a virtual channel in a step: of that in this place, from 0, of those that have one in each step; and then the step.
+    StepLimit(usize, u32),
 }
 
 // What the number is.
@@ -30,6 +33,7 @@ pub(crate) fn number(problem: &Problem, item: Item) -> u32
         Item::Window(step) => problem.window(step),
         Item::Size(store) => problem.size(store),
         Item::Limit(channel) => problem.setup_limit(channel).unwrap_or(0),
+        Item::StepLimit(column, step) => problem.column_limit(column, step),
     }
 }
 
@@ -60,6 +64,7 @@ pub(crate) fn fitted(
         Item::Window(step) => problem.with_window(alloc, step, blocks),
         Item::Size(store) => problem.with_size(alloc, store, blocks),
         Item::Limit(channel) => problem.with_limit(alloc, channel, blocks),
+        Item::StepLimit(column, step) => problem.with_column_limit(alloc, column, step, blocks),
     }
 }
 
@@ -122,7 +127,29 @@ fn add_limits(items: &mut Vec<Item>, problem: &Problem) -> Result<(), NoMemory>
     Ok(())
 }
 
-// All of them: the windows, the sizes of the stores in order, and the limits of the channels that have one.
+// Adds the limits of a column.
+#[tactic(auto, using(std::proofs::Common::append_assoc, crate::proofs::Listing::map_next))]
+fn add_column(items: &mut Vec<Item>, problem: &Problem, column: usize) -> Result<(), NoMemory>
+    ensures { OnOk result (items.new.items ≡ items.old.items ++ column_items problem.now column) }
+{
+    for step in 1..problem.steps() + 1 {
+        items.push(Item::StepLimit(column, step))?;
+    }
+    Ok(())
+}
+
+// Adds the limits of each column.
+fn add_columns(items: &mut Vec<Item>, problem: &Problem) -> Result<(), NoMemory>
+    ensures { OnOk result (items.new.items ≡ items.old.items
+        ++ flat_map (column_items problem.now) (range_with_len 0 (length problem.now.limited))) }
+{
+    for column in 0..problem.limited().len() {
+        add_column(items, problem, column)?;
+    }
+    Ok(())
+}
+
+// All of them: the windows, the sizes of the stores in order, the limits of the channels that have one, and those of each column.
 #[tactic(auto, using(std::proofs::Common::append_assoc, crate::proofs::Listing::all_items))]
 pub(crate) fn items(alloc: Global, problem: &Problem) -> Result<Vec<Item>, NoMemory>
     ensures items { IfOk result (λ list. list.items ≡ items problem.now) }
@@ -133,5 +160,6 @@ pub(crate) fn items(alloc: Global, problem: &Problem) -> Result<Vec<Item>, NoMem
     add_windows(&mut items, problem)?;
     add_sizes(&mut items, problem)?;
     add_limits(&mut items, problem)?;
+    add_columns(&mut items, problem)?;
     Ok(items)
 }

@@ -36,6 +36,10 @@ fn push_item(
         Item::Limit(channel) => {
             text.extend_from_slice(format!(in alloc; "limit,{channel},")?.as_bytes())?;
         }
+        Item::StepLimit(column, step) => {
+            let channel = problem.limited()[column];
+            text.extend_from_slice(format!(in alloc; "limit,{channel},{step}")?.as_bytes())?;
+        }
     }
     Ok(())
 }

@@ -19,6 +19,23 @@ const EIGHT_STEPS: &str =
 const WORTH_3_THEN_NOTHING: &str =
     "item,name,step,now,next,most,without\nwindow,,1,1,1,1,1\nwindow,,2,1,1,3,1\nwindow,,3,2,0,0,0\nwindow,,4,6,0,0,0\nwindow,,5,3,0,0,0\nwindow,,6,0,1,2,0\nwindow,,7,0,0,0,0\nwindow,,8,5,0,0,0\nsize,CAM,,4,1,3,3\nsize,SPEC,,3,1,2,3\nsize,HK,,2,0,0,0\n";
 
+const ONE_STORE: &str =
+    "[[store]]\nid = \"CAM\"\nsize = 4\ntype = \"bounded\"\nchannel = 0\n[[limit]]\nchannel = 0\nblocks = 5\n";
+
+const LIMITS_BY_STEP: &str = "step,window,CAM,limit:0\n1,3,6,2\n2,4,4,1\n";
+
+// The least plan loses 4: of 6 blocks the store holds 4, step 1 sends 2, and of the 2 + 4 then it holds 4. With a limit of 3 in step 1 that
+// is 3, and its window lets no more through. Where step 1 sends nothing, it loses 2 + 4. What step 2 sends comes too late.
+const WORTH_BY_STEP: &str =
+    "item,name,step,now,next,most,without\nwindow,,1,3,0,0,2\nwindow,,2,4,0,0,0\nsize,CAM,,4,1,4,4\nlimit,0,,5,0,0,2\nlimit,0,1,2,1,1,2\nlimit,0,2,1,0,0,0\n";
+
+#[test]
+fn a_limit_of_a_step_is_worth_one_block(rt: HostRuntime) {
+    let made = sensitivity_bytes(rt.alloc(), ONE_STORE.as_bytes(), LIMITS_BY_STEP.as_bytes());
+    let text = made.expect(&rt, "a table");
+    assert!(&rt; text.as_slice() == WORTH_BY_STEP.as_bytes());
+}
+
 #[test]
 fn a_window_is_worth_3_and_then_nothing(rt: HostRuntime) {
     let made = sensitivity_bytes(rt.alloc(), THREE_STORES.as_bytes(), EIGHT_STEPS.as_bytes());
@@ -33,6 +50,9 @@ struct Numbers {
     limits: Vec<LimitRow>,
     windows: Vec<u32>,
     arrivals: Vec<u32>,
+    // the channels that have a limit in each step, and these limits, step by step
+    limited: Vec<u8>,
+    step_limits: Vec<u32>,
 }
 
 static NAMES: [&str; 3] = ["A", "B", "C"];
@@ -69,18 +89,40 @@ impl Numbers {
                 arrivals.push(blocks).expect(rt, "memory");
             }
         }
-        Numbers {
+        let mut numbers = Numbers {
             rows,
             limits,
             windows,
             arrivals,
+            limited: Vec::new(alloc),
+            step_limits: Vec::new(alloc),
+        };
+        numbers.add_columns(rt, state, steps);
+        numbers
+    }
+
+    // Adds limits in each step, of one channel, of two or of none.
+    fn add_columns(&mut self, rt: &impl Abort, state: &mut u32, steps: u32) {
+        for channel in 0..2u8 {
+            if next_below(state, 2) == 0 {
+                self.limited.push(channel).expect(rt, "memory");
+            }
+        }
+        for _ in 0..steps {
+            for _ in 0..self.limited.len() {
+                let blocks = next_below(state, 3);
+                self.step_limits.push(blocks).expect(rt, "memory");
+            }
         }
     }
 
     fn problem(&self, rt: &impl Abort, alloc: Global) -> Problem {
         let (rows, limits) = (self.rows.as_slice(), self.limits.as_slice());
         let (windows, arrivals) = (self.windows.as_slice(), self.arrivals.as_slice());
-        Problem::new(alloc, rows, limits, windows, arrivals).expect(rt, "a problem")
+        let problem = Problem::new(alloc, rows, limits, windows, arrivals).expect(rt, "a problem");
+        let (limited, step_limits) = (self.limited.as_slice(), self.step_limits.as_slice());
+        let limited = problem.with_step_limits(alloc, limited, step_limits);
+        limited.expect(rt, "a problem")
     }
 
     // The problem with another number in place of one. What a store begins with comes in the first step where it is smaller.
@@ -89,6 +131,8 @@ impl Numbers {
         let mut limits = Vec::from_slice(alloc, self.limits.as_slice()).expect(rt, "memory");
         let mut windows = Vec::from_slice(alloc, self.windows.as_slice()).expect(rt, "memory");
         let mut arrivals = Vec::from_slice(alloc, self.arrivals.as_slice()).expect(rt, "memory");
+        let mut step_limits =
+            Vec::from_slice(alloc, self.step_limits.as_slice()).expect(rt, "memory");
         match item {
             Item::Window(step) => {
                 let place = (step as usize).saturating_sub(1);
@@ -108,10 +152,23 @@ impl Numbers {
                     .push(LimitRow { channel, blocks })
                     .expect(rt, "memory");
             }
+            Item::StepLimit(column, step) => {
+                let row = (step as usize).saturating_sub(1);
+                let place = row.saturating_mul(self.limited.len());
+                let limit = step_limits.get_mut(place.saturating_add(column));
+                *limit.expect(rt, "a step") = blocks;
+            }
         }
-        let (rows, limits) = (rows.as_slice(), limits.as_slice());
-        let problem = Problem::new(alloc, rows, limits, windows.as_slice(), arrivals.as_slice());
-        problem.expect(rt, "a problem")
+        let limited = Vec::from_slice(alloc, self.limited.as_slice()).expect(rt, "memory");
+        let changed = Numbers {
+            rows,
+            limits,
+            windows,
+            arrivals,
+            limited,
+            step_limits,
+        };
+        changed.problem(rt, alloc)
     }
 }
 
