@@ -131,8 +131,9 @@ impl Numbers {
         let mut limits = Vec::from_slice(alloc, self.limits.as_slice()).expect(rt, "memory");
         let mut windows = Vec::from_slice(alloc, self.windows.as_slice()).expect(rt, "memory");
         let mut arrivals = Vec::from_slice(alloc, self.arrivals.as_slice()).expect(rt, "memory");
-        let mut step_limits =
-            Vec::from_slice(alloc, self.step_limits.as_slice()).expect(rt, "memory");
+        let mut step_limits = Vec::from_slice(alloc, self.step_limits.as_slice()).expect(
+            rt, "memory",
+        );
         match item {
             Item::Window(step) => {
                 let place = (step as usize).saturating_sub(1);
