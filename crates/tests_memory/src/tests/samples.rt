@@ -1,5 +1,5 @@
 //! Setups that the tests share, and how outcomes and refusals are compared.
-use mm_ask::Outcome;
+use mm_ask::{Outcome, Replies};
 use std::alloc::Global;
 use std::fmt::Display;
 use std::process::Abort;
