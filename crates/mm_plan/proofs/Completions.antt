@@ -36,6 +36,7 @@ whole_is_sheet b s rows at = record {
   each_count = rows.listed.each_count;
   loss = rows.loss;
   bound = rows.bound;
+  firsts = rows.firsts;
 }
 
 -- the lines of a whole sheet are those of its draft

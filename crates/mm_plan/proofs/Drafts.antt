@@ -1,5 +1,5 @@
 -- What a draft of a sheet says so far, and that each line that may come next adds just itself.
-use Rattle.std.proofs.Common.{◌≡◌, ℕ, zero, suc, ◌+◌, ◌*◌, ◌<◌, ◌≤◌, Bool, true, false, ◌==◌, List, [], ◌∷◌, ◌++◌, length, map, take, drop, ℤ, refl, sym, ap, ◌∙◌, arith, append_assoc, append-nil, length-append, length-drop}
+use Rattle.std.proofs.Common.{◌≡◌, ℕ, zero, suc, ◌+◌, ◌*◌, ◌<◌, ◌≤◌, Bool, true, false, ◌==◌, None, List, [], ◌∷◌, ◌++◌, length, map, take, drop, ℤ, refl, sym, ap, ◌∙◌, arith, append_assoc, append-nil, length-append, length-drop}
 use Rattle.std.specs.Prelude.{All, nat_le, nat_lt, ◌&&◌, ◌^◌, FitsSigned}
 use Rattle.std.specs.Int.{w64}
 use Rattle.std.proofs.lemmas.Bool.{and_parts, false≢true}
@@ -60,6 +60,7 @@ pub record IsRows (s : SheetRows) : Type 0 where
   pub listed : AreListed s.cut s.by_channels
   pub loss : s.loss < 2 ^ 64
   pub bound : FitsSigned w64 s.bound
+  pub firsts : s.firsts ≡ None
 
 -- no dumps, stretches and counts yet
 pub record IsBlank (s : SheetRows) : Type 0 where
@@ -185,6 +186,7 @@ added_stores b s ids line rows blank may =
           listed = rows.listed;
           loss = rows.loss;
           bound = rows.bound;
+          firsts = rows.firsts;
         };
         at = record { has_store = some_passes (length ids) p.0; cut = blank.cut; counts = blank.counts };
       };
@@ -222,6 +224,7 @@ added_dump b s t xs line rows uncut may =
           listed = rows.listed;
           loss = rows.loss;
           bound = rows.bound;
+          firsts = rows.firsts;
         };
         at = record { has_store = uncut.has_store; cut = uncut.cut; counts = uncut.counts };
       };
@@ -241,6 +244,7 @@ added_loss b s n line rows uncut may =
           listed = rows.listed;
           loss = line;
           bound = rows.bound;
+          firsts = rows.firsts;
         };
         at = record { has_store = uncut.has_store; has_step = some_passes s.plan.steps may; counts = λ _. uncut.counts };
       };
@@ -270,6 +274,7 @@ added_stretch b s d line rows planned may =
           };
           loss = rows.loss;
           bound = rows.bound;
+          firsts = rows.firsts;
         };
         at = record { has_store = planned.has_store; has_step = planned.has_step; counts = planned.counts };
       };
@@ -298,6 +303,7 @@ added_count b s t line rows planned may =
           };
           loss = rows.loss;
           bound = rows.bound;
+          firsts = rows.firsts;
         };
         at = record { has_store = planned.has_store; has_step = planned.has_step; counts = λ first. absurd (false≢true (sym first ∙ p.0)) };
       };
@@ -314,6 +320,7 @@ added_bound b s z line rows planned form =
           listed = rows.listed;
           loss = rows.loss;
           bound = line;
+          firsts = rows.firsts;
         };
         at = record { has_store = planned.has_store; has_step = planned.has_step; form = form };
       };

@@ -108,6 +108,7 @@ ordered_is_sheet s ds ts cut counts h = record {
   each_count = All-permutation (λ t. t < 2 ^ 32) s.by_channels ts counts.same h.each_count;
   loss = h.loss;
   bound = h.bound;
+  firsts = h.firsts;
 }
 
 -- the lines up to the dumps, and those from the loss on
@@ -123,7 +124,7 @@ pub is_printed : (s : SheetRows) (ids : List (List ℕ)) (cut ds : List Stretch)
 is_printed s ids cut ds counts ts second none front text ordered rising no_text same_ids same_cut same_counts form front_is text_is =
     let r : SheetRows = record s { cut = ds; by_channels = ts } in (
       r,
-      record { stores = refl; plan = refl; loss = refl; bound = refl; cut = ordered; counts = rising },
+      record { stores = refl; plan = refl; loss = refl; bound = refl; firsts = refl; cut = ordered; counts = rising },
       ordered_is_sheet s ds ts ordered rising,
       text_is
           ∙ ap (λ t. t ++ certificate_text s.loss cut counts s.bound) (front_is ∙ ap (λ t. t ++ front_text second ids s.plan) no_text)

@@ -145,8 +145,9 @@ go-lines_of s h =
     ∙ go-dump_lines (has_counts s) (opened s) 0 s.plan.steps [] s.plan.amounts after_dumps h.same_stores h.plan.table
     ∙ ap (λ k. go (dumping (has_counts s) (opened s) k s.plan.amounts) after_dumps) steps
     ∙ go_may (dumping (has_counts s) (opened s) s.plan.steps s.plan.amounts) (loss_line s.loss) (map stretch_line s.cut ++ counted) (some_may s.plan.steps h.plan.has_step)
-    ∙ go-stretch_lines (has_counts s) (record s { bound = pos 0 }) [] s.cut counted (omega (arith, h.cut))
-    ∙ go_ending (record s { bound = pos 0 }) (has_counts s) s.cut s.by_channels s.bound refl h.counts
+    ∙ go-stretch_lines (has_counts s) (record s { bound = pos 0; firsts = None }) [] s.cut counted (omega (arith, h.cut))
+    ∙ go_ending (record s { bound = pos 0; firsts = None }) (has_counts s) s.cut s.by_channels s.bound refl h.counts
+    ∙ ap (λ f. Some (record { stage = Done; second = has_counts s; rows = record s { firsts = f } })) (sym h.firsts)
 
 -- ---- each line of a sheet is within its ranges
 
@@ -272,6 +273,7 @@ start_sound = record {
     };
     loss = omega arith;
     bound = record { sfits = omega arith };
+    firsts = refl;
   };
   at = record { steps = refl; amounts = refl; cut = refl; counts = refl };
 }

@@ -38,6 +38,7 @@ pub record IsOrdered (old new : SheetRows) : Type 0 where
   pub plan : new.plan ≡ old.plan
   pub loss : new.loss ≡ old.loss
   pub bound : new.bound ≡ old.bound
+  pub firsts : new.firsts ≡ old.firsts
   pub cut : AreOrdered old.stores old.cut new.cut
   pub counts : AreRising old.by_channels new.by_channels
 

@@ -95,7 +95,7 @@ pub record DraftRows : Type 0 where
 
 -- a sheet that says nothing yet
 abbrev pub no_rows : SheetRows
-no_rows = record { stores = []; plan = record { stores = 0; steps = 0; amounts = [] }; loss = 0; cut = []; by_channels = []; bound = pos 0 }
+no_rows = record { stores = []; plan = record { stores = 0; steps = 0; amounts = [] }; loss = 0; cut = []; by_channels = []; bound = pos 0; firsts = None }
 
 -- nothing has been read
 abbrev pub start : DraftRows

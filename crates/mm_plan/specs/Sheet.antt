@@ -1,5 +1,5 @@
 -- The text of a plan with its certificate: what it says, its lines, and its octets.
-use Rattle.std.specs.Prelude.{◌≡◌, ◌≢◌, ℕ, zero, suc, ◌+◌, ◌-◌, ◌<◌, ◌≤◌, ◌^◌, ℤ, Bool, true, false, nat_lt, List, [], ◌∷◌, ◌++◌, length, map, take, drop, All, codes, decimal, FitsSigned}
+use Rattle.std.specs.Prelude.{◌≡◌, ◌≢◌, ℕ, zero, suc, ◌+◌, ◌-◌, ◌<◌, ◌≤◌, ◌^◌, ℤ, Bool, true, false, nat_lt, Option, None, List, [], ◌∷◌, ◌++◌, length, map, take, drop, All, codes, decimal, FitsSigned}
 use Rattle.std.specs.Fmt.{signed_decimal}
 use Rattle.std.specs.Int.{w64}
 use Rattle.std.specs.List.{join_with_byte}
@@ -12,6 +12,14 @@ use Rattle.mm_plan.specs.declared.stretch.Stretch.{Stretch}
 use Rattle.mm_plan.specs.declared.stretch.TheConstants.{MAX_STRETCHES, MAX_COUNTS}
 use Rattle.mm_plan.specs.Table.{Table, IsTable}
 
+-- a loss, and a cut with its bound
+pub record CertificateRows : Type 0 where
+  pub loss : ℕ
+  pub cut : List Stretch
+  -- the inner steps that are counted by channels
+  pub by_channels : List ℕ
+  pub bound : ℤ
+
 -- what a sheet says; each identifier as its field
 pub record SheetRows : Type 0 where
   pub stores : List (List ℕ)
@@ -21,6 +29,8 @@ pub record SheetRows : Type 0 where
   -- the inner steps that are counted by channels
   pub by_channels : List ℕ
   pub bound : ℤ
+  -- of the first store, of the first two and so on up to all but one, where the sheet says that the plan serves them in order
+  pub firsts : Option (List CertificateRows)
 
 -- a line of the text; `title_line true` is the second form's
 pub data Line : Type 0 where
@@ -92,6 +102,7 @@ sheet_text s = join_with_byte line_feed (map line_text (lines_of s) ++ [] ∷ []
 
 -- a sheet within the limits of the text
 pub record IsSheet (s : SheetRows) : Type 0 where
+  pub firsts : s.firsts ≡ None
   pub steps : s.plan.steps ≤ MAX_STEPS
   pub cut : length s.cut ≤ MAX_STRETCHES
   pub counts : length s.by_channels ≤ MAX_COUNTS

@@ -36,7 +36,7 @@ pub(crate) struct Draft {
 }
 
 impl Model for Draft {
-    ghost use Rattle.std.specs.Prelude.{length};
+    ghost use Rattle.std.specs.Prelude.{None, length};
     ghost use Rattle.mm_plan.specs.Reading.{DraftRows};
 
     ghost Value = { DraftRows };
@@ -51,6 +51,7 @@ impl Model for Draft {
         cut = a.cut.items;
         by_channels = a.by_channels.items;
         bound = a.bound;
+        firsts = None;
       };
     } };
 }

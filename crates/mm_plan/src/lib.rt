@@ -1,6 +1,7 @@
 //! Dump plans: volumes, losses, fit, and the text of a plan with its certificate.
 #![tactic(auto)]
 
+mod certificate;
 mod draft;
 mod fault;
 mod filling;
@@ -16,6 +17,7 @@ mod simulation;
 mod stretch;
 mod words;
 
+pub use certificate::Certificate;
 pub use fault::Fault;
 pub use filling::fill;
 pub use fit::fits;

@@ -1,5 +1,6 @@
 //! A plan with its certificate: what a plan text says.
-ghost use Rattle.std.specs.Prelude.{◌≡◌, ◌<◌, ◌↔◌, ◌∷◌, [], IfOk, IfErr, IfSome, IsOk, IsTrue, OnOk, MatchOption, MatchResult, length, map};
+ghost use Rattle.std.specs.Prelude.{◌≡◌, ◌<◌, ◌↔◌, ◌∷◌, [], Some, None, IfOk, IfErr, IfSome, IsOk, IsTrue, OnOk, MatchOption, MatchResult, length, map};
+ghost use Rattle.std.specs.Option.{option_map};
 ghost use Rattle.mm_plan.specs.Sheet.{SheetRows, IsSheet, IsShapedFor, sheet_text};
 ghost use Rattle.mm_plan.specs.Printing.{AreOrdered, AreRising, IsPrinted};
 ghost use Rattle.mm_plan.specs.Table.{HasShape};
@@ -8,6 +9,7 @@ ghost use Rattle.mm_plan.specs.Fault.{IsTextFault};
 ghost use Rattle.mm_plan.specs.declared.draft.Stage.TheVariants.{Done};
 ghost use Rattle.mm_plan.specs.declared.fault.Fault.TheVariants.{Shape};
 
+use crate::certificate::Certificate;
 use crate::draft::Draft;
 use crate::fault::Fault;
 use crate::plan::Plan;
@@ -28,9 +30,11 @@ pub struct Sheet {
     pub(crate) cut: Vec<Stretch>,
     pub(crate) by_channels: Vec<u32>,
     pub(crate) bound: i64,
+    pub(crate) firsts: Option<Vec<Certificate>>,
 }
 
 impl Model for Sheet {
+    ghost use Rattle.std.specs.Option.{option_map};
     ghost use Rattle.mm_plan.specs.Sheet.{SheetRows};
 
     ghost Value = { SheetRows };
@@ -42,6 +46,7 @@ impl Model for Sheet {
       cut = a.cut.items;
       by_channels = a.by_channels.items;
       bound = a.bound;
+      firsts = option_map (λ firsts. firsts.items) a.firsts;
     } };
 }
 
@@ -108,6 +113,7 @@ impl Sheet {
           cut = cut.items;
           by_channels = by_channels.items;
           bound = bound;
+          firsts = None;
         } }
     {
         Sheet {
@@ -117,6 +123,19 @@ impl Sheet {
             cut,
             by_channels,
             bound,
+            firsts: None,
+        }
+    }
+
+    /// The sheet with these certificates, in place of any that it has: of the first store, of the first two and so on. It says then that
+    /// the plan serves the stores in order.
+    #[must_use]
+    pub fn with_firsts(self, firsts: Vec<Certificate>) -> Sheet
+        ensures { result ≡ record self { firsts = Some firsts.items } }
+    {
+        Sheet {
+            firsts: Some(firsts),
+            ..self
         }
     }
 
@@ -233,5 +252,16 @@ impl Sheet {
         ensures { result ≡ self.now.bound }
     {
         self.bound
+    }
+
+    /// The certificates of the first store, of the first two and so on, where the sheet says that the plan serves the stores in order.
+    #[must_use]
+    pub fn firsts(&self) -> Option<&[Certificate]>
+        ensures { option_map (λ firsts. firsts.now) result ≡ self.now.firsts }
+    {
+        match &self.firsts {
+            Some(firsts) => Some(firsts.as_slice()),
+            None => None,
+        }
     }
 }

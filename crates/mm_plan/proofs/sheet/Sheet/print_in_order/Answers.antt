@@ -1,5 +1,6 @@
 use Rattle.std.proofs.Common.{not, refl, rules}
 use Rattle.std.specs.Prelude.{FitsSigned}
+use Rattle.std.specs.Option.{option_map}
 use Rattle.std.specs.Int.{w64}
 use Rattle.std.proofs.lemmas.Int.{to_z-of_z}
 use Rattle.mm_plan.specs.Sheet.{SheetRows}
@@ -9,7 +10,7 @@ use Rattle.mm_plan.proofs.sheet.Sheet.print_in_order.Goals as goal
 pub returns : goal.returns
 returns c =
     let inside = c.self.inside in
-    let seen : SheetRows = record { stores = inside.stores.items; plan = inside.plan; loss = inside.loss; cut = inside.cut.items; by_channels = inside.by_channels.items; bound = inside.bound } in
+    let seen : SheetRows = record { stores = inside.stores.items; plan = inside.plan; loss = inside.loss; cut = inside.cut.items; by_channels = inside.by_channels.items; bound = inside.bound; firsts = option_map (λ firsts. firsts.items) inside.firsts } in
     let fits : FitsSigned w64 inside.bound = search rules in
     rw (← c.self.view_is)
     (is_printed seen c.as_slice.result.now c.args.cut.now c.args.cut.now c.args.by_channels.now c.args.by_channels.now (not c.is_empty-second.result)
