@@ -100,6 +100,20 @@ lines_of s =
 unfoldable pub sheet_text : SheetRows → List ℕ
 sheet_text s = join_with_byte line_feed (map line_text (lines_of s) ++ [] ∷ [])
 
+-- a certificate within the limits of the text
+pub record IsCertificate (c : CertificateRows) : Type 0 where
+  pub cut : length c.cut ≤ MAX_STRETCHES
+  pub counts : length c.by_channels ≤ MAX_COUNTS
+  pub each_stretch : All IsWritten c.cut
+  pub each_count : All (λ t. t < 2 ^ 32) c.by_channels
+  pub loss : c.loss < 2 ^ 64
+  pub bound : FitsSigned w64 c.bound
+
+-- a certificate of the first store, of the first two and so on up to all but one, each within the limits of the text
+pub record AreFirsts (stores : ℕ) (cs : List CertificateRows) : Type 0 where
+  pub count : length cs + 1 ≡ stores
+  pub each : All IsCertificate cs
+
 -- a sheet within the limits of the text
 pub record IsSheet (s : SheetRows) : Type 0 where
   pub firsts : s.firsts ≡ None
