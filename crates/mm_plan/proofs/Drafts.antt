@@ -1,8 +1,8 @@
 -- What a draft of a sheet says so far, and that each line that may come next adds just itself.
-use Rattle.std.proofs.Common.{◌≡◌, ℕ, zero, suc, ◌+◌, ◌*◌, ◌<◌, ◌≤◌, Bool, true, false, not, ◌==◌, None, List, [], ◌∷◌, ◌++◌, length, map, take, drop, ℤ, pos, refl, sym, ap, ◌∙◌, subst, arith, append_assoc, append-nil, length-append, length-drop}
-use Rattle.std.specs.Prelude.{All, unwrap_or, nat_le, nat_lt, ◌&&◌, ◌||◌, ◌^◌, FitsSigned}
+use Rattle.std.proofs.Common.{◌≡◌, ℕ, zero, suc, ◌+◌, ◌*◌, ◌<◌, ◌≤◌, Bool, true, false, ◌==◌, None, List, [], ◌∷◌, ◌++◌, length, map, take, drop, ℤ, pos, refl, sym, ap, ◌∙◌, subst, arith, append_assoc, append-nil, length-append, length-drop}
+use Rattle.std.specs.Prelude.{All, unwrap_or, nat_le, nat_lt, ◌&&◌, ◌^◌, FitsSigned}
 use Rattle.std.specs.Int.{w64}
-use Rattle.std.proofs.lemmas.Bool.{and_parts, cases_Bool, false≢true}
+use Rattle.std.proofs.lemmas.Bool.{and_parts, false≢true}
 use Rattle.std.proofs.lemmas.Bool.Decides.{nat_tests}
 use Rattle.std.proofs.lemmas.List.{nil_from_length, take_all, map-append, take-append-le, drop-append-le}
 use Rattle.std.proofs.lemmas.List.Elements.{All-nil, All-append, All-push}
@@ -17,7 +17,7 @@ use Rattle.mm_plan.specs.declared.draft.Stage.{Stage}
 use Rattle.mm_plan.specs.declared.draft.Stage.TheVariants.{ToTitle, ToStores, ToDumps, ToLoss, ToCut, ToEnd, Done}
 use Rattle.mm_plan.specs.Table.{Table}
 use Rattle.mm_plan.specs.Sheet.{CertificateRows, IsCertificate, IsWritten, Line, title_line, stores_line, dump_line, loss_line, stretch_line, count_line, bound_line, first_line, end_line, dump_lines, form_by, form_of, certificates_of, certificate_lines, opening, first_lines, IsLine}
-use Rattle.mm_plan.specs.Reading.{ReadRows, DraftRows, no_rows, is_third, may_count, fits_form, may_begin, has_all, may_follow, part_of, with_part, after, firsts_in, sheet_of}
+use Rattle.mm_plan.specs.Reading.{ReadRows, DraftRows, no_rows, may_count, fits_form, may_begin, has_all, may_follow, part_of, with_part, after, firsts_in, sheet_of}
 
 -- the dump lines of the plan
 abbrev pub dumps_of : ReadRows → List Line

@@ -1,11 +1,10 @@
 -- Lines, printed piece by piece.
 use Rattle.mm_plan.specs.Table.{Table}
-use Rattle.std.proofs.Common.{◌≡◌, ℕ, ℤ, Bool, suc, not, ◌==◌, subst, ◌+◌, ◌-◌, ◌*◌, ◌<◌, ◌≤◌, List, [], ◌∷◌, ◌++◌, length, map, get_or, take, drop, refl, sym, ap, ◌∙◌, arith, append_assoc, append-nil, length-drop}
+use Rattle.std.proofs.Common.{◌≡◌, ℕ, ℤ, suc, subst, ◌+◌, ◌-◌, ◌*◌, ◌<◌, ◌≤◌, List, [], ◌∷◌, ◌++◌, length, map, get_or, take, drop, refl, sym, ap, ◌∙◌, arith, append_assoc, append-nil, length-drop}
 use denote.Param.Members.{Mut}
 use Rattle.std.specs.Prelude.{Option, unwrap_or, codes, decimal, nat_lt, ◌^◌}
 use Rattle.std.specs.Fn.{Called, ReturnsEach, AlwaysReturns}
 use Rattle.std.specs.List.{join_with_byte}
-use Rattle.std.proofs.lemmas.Bool.Decides.{nat_tests}
 use Rattle.std.proofs.lemmas.List.{take_all}
 use Rattle.std.proofs.lemmas.List.Sorted.{length_permutation, All-permutation}
 use Rattle.mm_base.specs.Id.{id_text}

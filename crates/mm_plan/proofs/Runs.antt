@@ -1,7 +1,7 @@
 -- The lines of a sheet run to its end, and what was taken begins some sheet.
-use Rattle.std.proofs.Common.{◌≡◌, ℕ, zero, suc, ◌+◌, ◌*◌, ◌<◌, ◌≤◌, Bool, true, false, cond, ◌==◌, List, [], ◌∷◌, ◌++◌, length, map, take, drop, Option, Some, None, ℤ, pos, refl, sym, ap, ◌∙◌, subst, inl, inr, arith, append_assoc, append-nil, length-append, length-drop}
+use Rattle.std.proofs.Common.{◌≡◌, ℕ, zero, suc, ◌+◌, ◌*◌, ◌<◌, ◌≤◌, Bool, true, false, cond, ◌==◌, List, [], ◌∷◌, ◌++◌, length, map, take, drop, Option, Some, None, refl, sym, ap, ◌∙◌, subst, inl, inr, arith, append_assoc, append-nil, length-append, length-drop}
 use Rattle.std.specs.Prelude.{All, IfSome, unwrap_or, nat_le, nat_lt, ◌&&◌, ◌^◌, option_and_then}
-use Rattle.std.proofs.lemmas.Bool.{cases_Bool, false≢true}
+use Rattle.std.proofs.lemmas.Bool.{cases_Bool}
 use Rattle.std.proofs.lemmas.Bool.Decides.{nat_tests}
 use Rattle.std.proofs.lemmas.List.{nil_from_length, take-append-drop, length-take-le}
 use Rattle.std.proofs.lemmas.List.Elements.{All-nil, All-cons, All-head, All-tail, All-append, All-take, All-drop, All-map}
@@ -15,7 +15,7 @@ use Rattle.mm_plan.specs.declared.draft.Stage.{Stage}
 use Rattle.mm_plan.specs.declared.draft.Stage.TheVariants.{ToStores, ToDumps, ToLoss, ToCut, ToEnd, Done}
 use Rattle.mm_plan.specs.declared.form.Form.{Form}
 use Rattle.mm_plan.specs.declared.form.Form.TheVariants.{First, Second, Third}
-use Rattle.mm_plan.specs.Sheet.{SheetRows, CertificateRows, IsSheet, IsCertificate, AreFirsts, IsWritten, Line, title_line, stores_line, dump_line, loss_line, stretch_line, count_line, bound_line, first_line, end_line, dump_lines, certificate_lines, opening, first_lines, has_counts, form_by, form_of, own, certificates_of, lines_of, line_text, Begins, IsLine}
+use Rattle.mm_plan.specs.Sheet.{SheetRows, CertificateRows, IsSheet, IsCertificate, AreFirsts, Line, title_line, stores_line, dump_line, loss_line, stretch_line, count_line, bound_line, first_line, end_line, dump_lines, certificate_lines, opening, first_lines, has_counts, form_by, form_of, own, certificates_of, lines_of, line_text, Begins, IsLine}
 use Rattle.mm_plan.specs.Reading.{ReadRows, DraftRows, no_rows, start, may_count, fits_form, may_follow, with_part, after, firsts_in, sheet_of, add_line, take_line, run, read_line}
 use Rattle.mm_plan.proofs.Options.{none_is_some, cond_then}
 use Rattle.mm_plan.proofs.Lines.{read_line-line_text, read_line_some}

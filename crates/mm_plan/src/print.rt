@@ -260,7 +260,13 @@ fn push_part(text: &mut Vec<u8>, number: u64, part: &Certificate) -> Pushed
         ++ (ended (first_line number) ++ all_ended (certificate_lines part.now))) }
 {
     push_first(text, number)?;
-    push_certificate(text, part.loss(), part.cut(), part.by_channels(), part.bound())?;
+    push_certificate(
+        text,
+        part.loss(),
+        part.cut(),
+        part.by_channels(),
+        part.bound(),
+    )?;
     Ok(())
 }
 
