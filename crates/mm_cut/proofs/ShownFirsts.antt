@@ -4,11 +4,12 @@ use Rattle.std.proofs.lemmas.Bool.{cases_lt}
 use Rattle.std.proofs.lemmas.Int.{ints}
 use Rattle.std.proofs.lemmas.List.{get_or-take, get_or_default, length-take}
 use Rattle.mm_problem.specs.Dumping.{Dumping}
-use Rattle.mm_plan.specs.Table.{amount}
+use Rattle.mm_plan.specs.Table.{amount, HasShape}
 use Rattle.mm_plan.specs.Volumes.{Amounts, loss, first_loss}
 use Rattle.mm_plan.specs.Fit.{Fits}
 use Rattle.mm_plan.specs.Least.{IsLeast, IsLeastInOrder}
-use Rattle.mm_plan.specs.Sheet.{SheetRows, CertificateRows}
+use Rattle.std.specs.Prelude.{IfSome}
+use Rattle.mm_plan.specs.Sheet.{SheetRows, CertificateRows, AreFirsts}
 use Rattle.mm_cut.specs.Firsts.{ShowsFirst, ShowFirsts}
 use Rattle.mm_cut.specs.Verdicts.{IsVerdictWith}
 use Rattle.mm_cut.specs.declared.verdict.Verdict.TheVariants.{Least, LeastInOrder}
@@ -66,3 +67,9 @@ least_with q s (Some cs) n is = absurd is
 pub in_order_with : (q : Dumping) (s : SheetRows) (firsts : Option (List CertificateRows)) (n : ℕ) → IsVerdictWith q s firsts (LeastInOrder n) → IsLeastInOrder q (amount s.plan) × (n ≡ loss q (amount s.plan))
 in_order_with q s None n is = absurd is
 in_order_with q s (Some cs) n is = (is.2, is.0.1 ∙ is.0.0.plan.loss)
+
+-- a sheet for the problem has certificates of all stores but the last
+pub all_but_last : (q : Dumping) (s : SheetRows) (firsts : Option (List CertificateRows)) (cs : List CertificateRows) → HasShape q s.plan → s.plan.stores ≡ length s.stores → IfSome firsts (AreFirsts (length s.stores)) → firsts ≡ Some cs → length cs + 1 ≡ length q.rows
+all_but_last q s firsts cs shape stores are is =
+    let these : IfSome (Some cs) (AreFirsts (length s.stores)) = subst (λ o. IfSome o (AreFirsts (length s.stores))) is are in
+    omega (arith, these.count, shape.stores, stores)
