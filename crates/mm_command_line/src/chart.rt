@@ -11,7 +11,7 @@ Or one line:
   refused NUMBER NAME ..      a file was not read, or is not what it should be
 
 Options, --worth right after `chart`, --output after the files:
-  --worth                     the windows are shaded by what one is worth: how many blocks fewer the least plan
+  --worth                     each window is shaded by what it is worth: how many blocks fewer the least plan
                               loses if it is one larger
   --output FILE               the picture goes into FILE, whole or not at all, and is not printed; FILE is
                               none of the files above

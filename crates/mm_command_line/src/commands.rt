@@ -111,14 +111,14 @@ Prints a plan text:
   stretch ID I J              the cut: steps I to J of a store
   count T channels            in step T of the cut the limits of channels count, and not the window
   bound N                     no plan that fits loses fewer than N blocks; it is the loss
-  first K                     form 3, for each K below the number of stores: the lines after it, from `loss` to
-                              `bound`, are of the first K stores
+  first K                     form 3, for each K below the number of stores: the loss, cut and bound of the
+                              first K stores follow, in lines as above
   end
 or one line:
   refused NUMBER NAME ..      a file was not read, or is not what it should be
 
 Options, --in-order right after `plan`, --output after the files:
-  --in-order                  of the plans that lose least, the one that serves the stores in the setup's order:
+  --in-order                  of the plans that lose least, one that serves the stores in the setup's order:
                               no plan that fits loses fewer of the first K stores, for each K
   --output FILE               the plan text goes into FILE, whole or not at all, and is not printed; FILE is
                               none of the files above
@@ -148,7 +148,8 @@ Prints one line:
 Example:
   mm_tool check setup.toml forecast.csv plan.txt
 
-The formats are described in docs/FORMATS.md. Exit status: 0 for `least N` and `least N in order`, 1 for any other line.";
+The formats are described in docs/FORMATS.md. Exit status: 0 for `least N` and `least N in order`, 1 for any
+other line.";
 
 const ASK_ABOUT: &str = "Answers requests of the storage service in a memory of the setup";
 
