@@ -2,15 +2,16 @@
 use Rattle.std.proofs.Common.{◌≡◌, ◌∙◌, ◌++◌, ◌||◌, ◌&&◌, ℕ, Bool, cond, not, true, false, true≢false, refl, sym, ap, ap₂, subst, drop, length, List, [], ◌∷◌, Option, Some, None, is_some, codes, append_assoc, arith, Bor, nat_eq, map, ◌<◌}
 use Rattle.std.specs.List.{All, filter, list_any, starts_with}
 use Rattle.std.specs.Option.{option_map_or, unwrap_or}
-use Rattle.std.specs.Str.{bytes_eq, chars}
+use Rattle.std.specs.Str.{chars}
 use Rattle.std.specs.Prelude.{slice_get}
 use Rattle.std.proofs.lemmas.List.{append-nil, length-append, length-map, map-append}
 use Rattle.std.proofs.lemmas.List.Elements.{All-cons, All-head, All-nil, All-tail, filter-append}
 use Rattle.std.proofs.lemmas.List.Folds.{list_any-append}
 use Rattle.clap.proofs.WalkLemmas.{list_any-map}
-use Rattle.mm_command_line.specs.Lines.{EndsWithOutput, IsCommandLine, IsFileName, IsSplit, IsTaskLine, before_dashes, command_words, flags_of, flight_spelling, gives_text, is_dashes, is_flag, output_flag, output_names, output_of, output_words, plan_names, without_dashes}
+use Rattle.mm_command_line.specs.Lines.{EndsWithOutput, IsCommandLine, IsFileName, IsSplit, IsTaskLine, before_dashes, command_words, flag_of, flagged, flags_of, flags_with, flight_spelling, gives_text, has_flag, is_dashes, is_flag, output_flag, output_names, output_of, output_words, plan_names, spelling, without_dashes, without_flag}
 use Rattle.mm_command_line.specs.declared.task.Task.{Task}
 use Rattle.mm_command_line.specs.declared.task.Task.TheVariants.{Plan, Check, Chart, Table, Sensitivity, Fly, Ask, Read}
+use Rattle.mm_command_line.proofs.Flags.{Stands, goes_back, names_stand, stands_undashed, task_stands, unflagged}
 use Rattle.mm_command_line.proofs.Walking.{is_value}
 
 abbrev Text : Type 0
@@ -54,14 +55,6 @@ undashed (word ∷ rest) none = go (is_dashes word) refl none (undashed rest)
       ap (λ b. cond b [] (word ∷ before_dashes rest)) is ∙ ap (λ ws. word ∷ ws) (later none).1,
     )
 
-pub none_kept : (test : Text → Bool) (words : List Text) → list_any test words ≡ false → filter test words ≡ []
-none_kept test [] none = refl
-none_kept test (word ∷ rest) none = go (test word) refl none (none_kept test rest)
-  where
-    go : (b : Bool) → test word ≡ b → (b || list_any test rest) ≡ false → (list_any test rest ≡ false → filter test rest ≡ []) → filter test (word ∷ rest) ≡ []
-    go true is none later = absurd (true≢false none)
-    go false is none later = ap (λ b. cond b (word ∷ filter test rest) (filter test rest)) is ∙ later none
-
 -- a name is no flag
 pub name_unflagged : (name : Text) → IsFileName name → is_flag name ≡ false
 unfolding chars
@@ -70,11 +63,6 @@ name_unflagged name is_name = go (starts_with nat_eq name (codes "-")) refl
     go : (b : Bool) → starts_with nat_eq name (codes "-") ≡ b → is_flag name ≡ false
     go true is = rw (is_name is) refl
     go false is = rw is refl
-
-names_undashed : (names : List Text) → All IsFileName names → list_any is_dashes names ≡ false
-names_undashed [] all = refl
-names_undashed (name ∷ rest) all =
-    ap₂ (λ b c. b || c) (is_value name (All-head IsFileName name rest all)).dashes (names_undashed rest (All-tail IsFileName name rest all))
 
 -- ---- the words of a task
 
@@ -88,9 +76,9 @@ named_flight setup forecast sources links (Some plan) names = named (codes "run"
 
 -- where no file is spelled like a flag, no word of a command is
 no_flags : (task : Task) → All IsFileName (drop 1 (command_words task)) → All IsFileName (command_words task)
-no_flags (Plan setup forecast output) names = named (codes "plan") (setup.now ∷ forecast.now ∷ []) refl names
+no_flags (Plan setup forecast in_order output) names = named (codes "plan") (setup.now ∷ forecast.now ∷ []) refl names
 no_flags (Check files) names = named (codes "check") (plan_names files) refl names
-no_flags (Chart files output) names = named (codes "chart") (plan_names files) refl names
+no_flags (Chart files worth output) names = named (codes "chart") (plan_names files) refl names
 no_flags (Table files output) names = named (codes "table") (plan_names files) refl names
 no_flags (Sensitivity setup forecast) names = named (codes "sensitivity") (setup.now ∷ forecast.now ∷ []) refl names
 no_flags (Fly f) names = named_flight f.setup.now f.forecast.now f.sources.now f.links.now f.plan names
@@ -103,24 +91,24 @@ line_names words line =
 
 -- and none is `--`
 pub line_whole : (words : List Text) → IsCommandLine words → without_dashes words ≡ words
-line_whole words line = (undashed words (names_undashed words (line_names words line))).0
+line_whole words line = (undashed words (stands_undashed words (names_stand words (line_names words line)))).0
 
 -- nor is one that of an output
-flag_is_no_name : IsFileName output_flag → ⊥
-flag_is_no_name name = true≢false (ap (λ word. bytes_eq word output_flag) (name refl))
+no_output : (words front : List Text) (name : Text) → All Stands words → words ≡ front ++ output_flag ∷ name ∷ [] → ⊥
+no_output words front name all ends =
+    (All-head Stands output_flag (name ∷ []) (All-back Stands front (output_flag ∷ name ∷ []) (subst (All Stands) ends all))).1 refl
 
-no_output : (words front : List Text) (name : Text) → All IsFileName words → words ≡ front ++ output_flag ∷ name ∷ [] → ⊥
-no_output words front name names ends =
-    flag_is_no_name (All-head IsFileName output_flag (name ∷ [])
-    (All-back IsFileName front (output_flag ∷ name ∷ []) (subst (All IsFileName) ends names)))
+-- with its flag
+line_stands : (task : Task) → All IsFileName (drop 1 (command_words task)) → All Stands (flagged (flag_of task) (command_words task))
+line_stands task names = task_stands task (no_flags task names)
 
 -- ---- a line of a task, and its parts
 
 -- a task with an output gives a text
 pub gives : (task : Task) → is_some (output_of task) ≡ true → gives_text (command_words task) ≡ true
-gives (Plan setup forecast output) named = refl
+gives (Plan setup forecast in_order output) named = refl
 gives (Check files) named = absurd (true≢false (sym named))
-gives (Chart files output) named = refl
+gives (Chart files worth output) named = refl
 gives (Table files output) named = refl
 gives (Sensitivity setup forecast) named = absurd (true≢false (sym named))
 gives (Fly files) named = absurd (true≢false (sym named))
@@ -139,46 +127,47 @@ no_output_lost task output words named is refused = go (is_some (output_of task)
     go false none = true≢false (sym lost ∙ ap (λ b. b && not (gives_text (command_words task))) none)
     go true some = true≢false (sym lost ∙ ap₂ (λ b t. b && not t) some (gives task some))
 
--- what stands before the output of a line is a line of the command, and the output is that of the task
+-- what stands before the output of a line is a line of the command with its flag, and the task has an output where one is found
 pub record HasParts (line : Task) (front : List Text) (output : Option (Bor Text)) : Type 0 where
-  pub command : command_words line ≡ front
-  pub names : All IsFileName (drop 1 front)
-  pub output_is : output_words output ≡ output_words (output_of line)
+  pub command : command_words line ≡ without_flag front
+  pub names : All IsFileName (drop 1 (without_flag front))
+  pub whole : without_dashes front ≡ front
   pub named : is_some output ≡ is_some (output_of line)
 
-parts : (words front : List Text) (output asked : Option (Bor Text)) (line : Task) → asked ≡ output_of line → IsSplit words front output
-    → command_words line ++ output_words asked ≡ words → All IsFileName (drop 1 (command_words line) ++ output_names asked) → HasParts line front output
-parts words front (Some name) (Some asked) line is split spelled names =
-    let same = last_two (command_words line) front output_flag asked.now output_flag name.now (spelled ∙ split.ends) in
+has_parts : (front : List Text) (output : Option (Bor Text)) (line : Task) → flagged (flag_of line) (command_words line) ≡ front → All IsFileName (drop 1 (command_words line))
+    → is_some output ≡ is_some (output_of line) → HasParts line front output
+has_parts front output line same names named =
+    let command = sym (unflagged line names) ∙ ap without_flag same in
     record {
-      command = same.0;
-      names = subst (λ ws. All IsFileName (drop 1 ws)) same.0 (All-front IsFileName (drop 1 (command_words line)) (asked.now ∷ []) names);
-      output_is = ap (λ word. output_flag ∷ word ∷ []) (sym same.2) ∙ ap output_words is;
-      named = ap is_some is;
+      command = command;
+      names = subst (λ ws. All IsFileName (drop 1 ws)) command names;
+      whole = (undashed front (stands_undashed front (subst (All Stands) same (line_stands line names)))).0;
+      named = named;
     }
+
+parts : (words front : List Text) (output asked : Option (Bor Text)) (line : Task) → asked ≡ output_of line → IsSplit words front output
+    → flagged (flag_of line) (command_words line) ++ output_words asked ≡ words → All IsFileName (drop 1 (command_words line) ++ output_names asked) → HasParts line front output
+parts words front (Some name) (Some asked) line is split spelled names =
+    let same = last_two (flagged (flag_of line) (command_words line)) front output_flag asked.now output_flag name.now (spelled ∙ split.ends) in
+    has_parts front (Some name) line same.0 (All-front IsFileName (drop 1 (command_words line)) (asked.now ∷ []) names) (ap is_some is)
 parts words front (Some name) None line is split spelled names =
-    absurd (no_output (command_words line) front name.now (no_flags line (All-front IsFileName (drop 1 (command_words line)) [] names))
-    (sym (append-nil (command_words line)) ∙ spelled ∙ split.ends))
+    absurd (no_output (flagged (flag_of line) (command_words line)) front name.now (line_stands line (All-front IsFileName (drop 1 (command_words line)) [] names))
+    (sym (append-nil (flagged (flag_of line) (command_words line))) ∙ spelled ∙ split.ends))
 parts words front None (Some asked) line is split spelled names =
     let named = All-front IsFileName (drop 1 (command_words line)) (asked.now ∷ []) names in
-    absurd (split.1 (command_words line) asked.now (record {
+    absurd (split.1 (flagged (flag_of line) (command_words line)) asked.now (record {
       ends = sym spelled;
       name_is = All-head IsFileName asked.now [] (All-back IsFileName (drop 1 (command_words line)) (asked.now ∷ []) names);
-      undashed = names_undashed (command_words line) (no_flags line named);
+      undashed = stands_undashed (flagged (flag_of line) (command_words line)) (line_stands line named);
     }))
 parts words front None None line is split spelled names =
-    let whole : command_words line ≡ front = sym (append-nil (command_words line)) ∙ spelled ∙ sym split.0 in
-    record {
-      command = whole;
-      names = subst (λ ws. All IsFileName (drop 1 ws)) whole (All-front IsFileName (drop 1 (command_words line)) [] names);
-      output_is = ap output_words is;
-      named = ap is_some is;
-    }
+    has_parts front None line (sym (append-nil (flagged (flag_of line) (command_words line))) ∙ spelled ∙ sym split.0)
+    (All-front IsFileName (drop 1 (command_words line)) [] names) (ap is_some is)
 
 pub line_parts : (words front : List Text) (output : Option (Bor Text)) (line : IsTaskLine words) → IsSplit words front output → HasParts line.task front output
 line_parts words front output line split = parts words front output (output_of line.task) line.task refl split line.spelled line.names
 
-pub line_command : (words front : List Text) (output : Option (Bor Text)) (line : IsTaskLine words) → IsSplit words front output → IsCommandLine front
+pub line_command : (words front : List Text) (output : Option (Bor Text)) (line : IsTaskLine words) → IsSplit words front output → IsCommandLine (without_flag front)
 line_command words front output line split =
     let has = line_parts words front output line split in
     record { task = line.task; spelled = has.command; names = has.names }
@@ -198,24 +187,40 @@ dashes_before words front (Some name) split =
     ap (λ ws. ws ++ output_flag ∷ name.now ∷ []) (undashed front split.undashed).0 ∙ sym (undashed (front ++ output_flag ∷ name.now ∷ []) none).0
     ∙ ap without_dashes (sym split.ends)
 
+-- no `--` is taken out of the line of a task
+pub task_whole : (words front : List Text) (output : Option (Bor Text)) (line : IsTaskLine words) → IsSplit words front output → without_dashes words ≡ words
+task_whole words front output line split =
+    sym (dashes_before words front output split) ∙ ap (λ ws. ws ++ output_words output) (line_parts words front output line split).whole ∙ whole_words words front output split
+
 -- the only flag of an output is its own
 last_flags : (name : Text) → is_flag name ≡ false → filter is_flag (output_flag ∷ name ∷ []) ≡ output_flag ∷ []
 unfolding chars
 last_flags name unflagged = ap (λ b. output_flag ∷ cond b (name ∷ []) []) unflagged
 
--- and their only flag is that of the output
-pub flags_before : (words front : List Text) (output : Option (Bor Text)) (task : Task) → output_of task ≡ output → IsSplit words front output
-    → list_any is_flag (before_dashes front) ≡ false → filter is_flag (before_dashes words) ≡ flags_of task
-flags_before words front None task is split unflagged =
-    ap (λ ws. filter is_flag (before_dashes ws)) (sym split.0) ∙ none_kept is_flag (before_dashes front) unflagged
-    ∙ ap (λ o. option_map_or (λ name. output_flag ∷ []) o []) (sym is)
-flags_before words front (Some name) task is split unflagged =
+-- and their only flags are that of the task and that of the output
+flags_before : (words front : List Text) (output : Option (Bor Text)) (task : Task) → output_of task ≡ output → IsSplit words front output
+    → filter is_flag (before_dashes front) ≡ flag_of task → filter is_flag (before_dashes words) ≡ flags_of task
+flags_before words front None task is split flags =
+    ap (λ ws. filter is_flag (before_dashes ws)) (sym split.0) ∙ flags ∙ sym (append-nil (flag_of task))
+    ∙ ap (λ o. flag_of task ++ option_map_or (λ name. output_flag ∷ []) o []) (sym is)
+flags_before words front (Some name) task is split flags =
     let none : list_any is_dashes (front ++ output_flag ∷ name.now ∷ []) ≡ false =
     list_any-append is_dashes front (output_flag ∷ name.now ∷ []) ∙ ap₂ (λ b c. b || c) split.undashed (ap (λ b. b || false) (is_value name.now split.name_is).dashes) in
-    let plain_front : list_any is_flag front ≡ false = ap (list_any is_flag) (sym (undashed front split.undashed).1) ∙ unflagged in
     ap (λ ws. filter is_flag (before_dashes ws)) split.ends ∙ ap (filter is_flag) (undashed (front ++ output_flag ∷ name.now ∷ []) none).1
-    ∙ filter-append is_flag front (output_flag ∷ name.now ∷ []) ∙ ap₂ (λ xs ys. xs ++ ys) (none_kept is_flag front plain_front) (last_flags name.now (name_unflagged name.now split.name_is))
-    ∙ ap (λ o. option_map_or (λ name. output_flag ∷ []) o []) (sym is)
+    ∙ filter-append is_flag front (output_flag ∷ name.now ∷ [])
+    ∙ ap₂ (λ xs ys. xs ++ ys) (ap (filter is_flag) (sym (undashed front split.undashed).1) ∙ flags) (last_flags name.now (name_unflagged name.now split.name_is))
+    ∙ ap (λ o. flag_of task ++ option_map_or (λ name. output_flag ∷ []) o []) (sym is)
+
+-- ---- the task that is read, with its flag and its output
+
+module _ (words front : List Text) (output : Option (Bor Text)) (task : Task) (split : IsSplit words front output) (named : output_of task ≡ output)
+    (read : command_words task ≡ without_dashes (without_flag front)) (flag : flag_of task ≡ flags_with (has_flag front) (without_dashes (without_flag front))) where
+  pub spelling_is : spelling task ≡ without_dashes words
+  spelling_is =
+      ap₂ (λ ws o. ws ++ output_words o) (ap₂ flagged flag read ∙ (goes_back front).0) named ∙ dashes_before words front output split
+
+  pub flags_are : list_any is_flag (before_dashes (without_flag front)) ≡ false → filter is_flag (before_dashes words) ≡ flags_of task
+  flags_are none = flags_before words front output task named split ((goes_back front).1 none ∙ sym flag)
 
 -- ---- what the code finds at the end of the words
 

@@ -1,5 +1,5 @@
 -- Words without the first `--`, read one after another.
-use Rattle.std.proofs.Common.{◌≡◌, ◌∙◌, ◌++◌, ◌||◌, ◌+◌, ◌<◌, ℕ, zero, suc, arith, Bool, Bor, cond, true, false, refl, sym, ap, ap₂, map, drop, length, slice_index_or, List, [], ◌∷◌, Option, Some, None, IfSome, append_assoc, subst}
+use Rattle.std.proofs.Common.{◌≡◌, ◌∙◌, ◌++◌, ◌||◌, ◌+◌, ◌<◌, ℕ, zero, suc, arith, Bool, Bor, cond, true, false, refl, sym, ap, ap₂, map, drop, length, slice_index_or, List, [], ◌∷◌, Option, Some, None, IfNone, IfSome, append_assoc, subst}
 use Rattle.std.specs.List.{All, list_any}
 use Rattle.std.proofs.lemmas.List.{append-nil, length-map, map-append}
 use Rattle.std.proofs.lemmas.List.Elements.{All-head, All-tail}
@@ -66,6 +66,10 @@ module _ {A : Type 0} (text : A → Text) where
   at_word P (w ∷ ws) zero word within is all = subst P (ap text (sym is)) (All-head P (text w) (map text ws) all)
   at_word P (w ∷ ws) (suc i) word within is all = at_word P ws i word (omega (arith, within)) is (All-tail P (text w) (map text ws) all)
 
+-- one word more is read of all
+pub word_read : (all read now rest : List Text) (word : Text) → read ++ word ∷ rest ≡ all → now ≡ read ++ word ∷ [] → now ++ rest ≡ all
+word_read all read now rest word so_far more = ap (λ ws. ws ++ rest) more ∙ append_assoc read (word ∷ []) rest ∙ so_far
+
 pub all_read : (all read : List Text) (after_dashes : Bool) → AreRead all read after_dashes [] → ArePlain all read
 all_read all read true so_far = record { same = sym (append-nil read) ∙ so_far.same; unflagged = sym so_far.flags }
 all_read all read false so_far = record { same = sym (append-nil read) ∙ so_far.same; unflagged = sym so_far.flags }
@@ -74,6 +78,11 @@ all_read all read false so_far = record { same = sym (append-nil read) ∙ so_fa
 pub task_read : (words plain : List Text) → ArePlain words plain → (task : Option Task) → IfSome task (λ task. command_words task ≡ plain) → IfSome task (λ task. ArePlain words (command_words task))
 task_read words plain is None spelled = tt
 task_read words plain is (Some task) spelled = subst (ArePlain words) (sym spelled) is
+
+-- where the words are no task, neither are those that equal them
+pub still_none : {X Y : Type 0} (task : Option Task) → IfNone task X → (X → Y) → IfNone task Y
+still_none None none gives = gives none
+still_none (Some task) none gives = tt
 
 -- words that spell a line
 module _ (words : List (Bor Text)) (line : List Text) (is : line ≡ map (λ word. word.now) words) where

@@ -175,9 +175,9 @@ read_flight setup forecast sources links None names = row_read (codes "fly") (se
 read_flight setup forecast sources links (Some plan) names = row_read (codes "run") (setup ∷ forecast ∷ plan.now ∷ sources ∷ links ∷ []) names _ refl refl
 
 read_task : (task : Task) → All IsFileName (drop 1 (command_words task)) → IsRead (command_words task)
-read_task (Plan setup forecast output) names = row_read (codes "plan") (setup.now ∷ forecast.now ∷ []) names _ refl refl
+read_task (Plan setup forecast in_order output) names = row_read (codes "plan") (setup.now ∷ forecast.now ∷ []) names _ refl refl
 read_task (Check files) names = row_read (codes "check") (plan_names files) names _ refl refl
-read_task (Chart files output) names = row_read (codes "chart") (plan_names files) names _ refl refl
+read_task (Chart files worth output) names = row_read (codes "chart") (plan_names files) names _ refl refl
 read_task (Table files output) names = row_read (codes "table") (plan_names files) names _ refl refl
 read_task (Sensitivity setup forecast) names = row_read (codes "sensitivity") (setup.now ∷ forecast.now ∷ []) names _ refl refl
 read_task (Fly files) names = read_flight files.setup.now files.forecast.now files.sources.now files.links.now files.plan names

@@ -10,12 +10,15 @@ is what `check` finds: where the cut does not show that the plan loses least, it
 Or one line:
   refused NUMBER NAME ..      a file was not read, or is not what it should be
 
-Option, after the files:
+Options, --worth right after `chart`, --output after the files:
+  --worth                     each window is shaded by what it is worth: how many blocks fewer the least plan
+                              loses if it is one larger
   --output FILE               the picture goes into FILE, whole or not at all, and is not printed; FILE is
                               none of the files above
 
-Example:
+Examples:
   mm_tool chart setup.toml forecast.csv plan.txt --output chart.svg
+  mm_tool chart --worth setup.toml forecast.csv plan.txt --output chart.svg
 
 examples/mission/README.md reads such a picture. Exit status: 0 for a picture, whatever its headline, 1 for a
 refusal.";

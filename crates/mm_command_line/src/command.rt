@@ -33,8 +33,10 @@ each file under a line `=== NAME`.
 
 Examples:
   mm_tool plan setup.toml forecast.csv --output plan.txt
+  mm_tool plan --in-order setup.toml forecast.csv --output plan.txt
   mm_tool check setup.toml forecast.csv plan.txt
   mm_tool chart setup.toml forecast.csv plan.txt --output chart.svg
+  mm_tool chart --worth setup.toml forecast.csv plan.txt --output chart.svg
   mm_tool table setup.toml forecast.csv plan.txt --output table.csv
   mm_tool sensitivity setup.toml forecast.csv
   mm_tool run setup.toml forecast.csv plan.txt sources.hex links.txt

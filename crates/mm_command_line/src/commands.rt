@@ -104,24 +104,29 @@ const PLAN_ABOUT: &str = "Plans the dumps so that the fewest blocks are lost";
 
 const PLAN_HELP: &str = "\
 Prints a plan text:
-  mmplan 1 or 2               the form; 2 has `count` lines
+  mmplan 1, 2 or 3            the form; 2 has `count` lines, and 3 is that of --in-order
   stores ID ..                the stores
   dump T N ..                 how many blocks leave each store in step T
   loss N                      how many blocks are lost
   stretch ID I J              the cut: steps I to J of a store
   count T channels            in step T of the cut the limits of channels count, and not the window
   bound N                     no plan that fits loses fewer than N blocks; it is the loss
+  first K                     form 3, for each K below the number of stores: the loss, cut and bound of the
+                              first K stores follow, in lines as above
   end
 or one line:
   refused NUMBER NAME ..      a file was not read, or is not what it should be
 
-Option, after the files:
+Options, --in-order right after `plan`, --output after the files:
+  --in-order                  of the plans that lose least, one that serves the stores in the setup's order:
+                              no plan that fits loses fewer of the first K stores, for each K
   --output FILE               the plan text goes into FILE, whole or not at all, and is not printed; FILE is
                               none of the files above
 
 Examples:
   mm_tool plan setup.toml forecast.csv
   mm_tool plan setup.toml forecast.csv --output plan.txt
+  mm_tool plan --in-order setup.toml forecast.csv --output plan.txt
 
 The formats are described in docs/FORMATS.md. Exit status: 0 for a plan text, 1 for a refusal.";
 
@@ -130,6 +135,8 @@ const CHECK_ABOUT: &str = "Says whether the cut of a dump plan shows that it los
 const CHECK_HELP: &str = "\
 Prints one line:
   least N                     no plan that fits loses fewer than N blocks, and the cut shows it
+  least N in order            besides, no plan that fits loses fewer of the first K stores, for each K
+  first K not shown           the cut of the first K stores does not show what they lose
   does not fit, step T        step T dumps more than its window or a channel's limit
   loss is N                   the plan loses N blocks, and not what its text says
   bad stretch K               the K-th stretch is none of the problem's, or overlaps an earlier one
@@ -141,7 +148,8 @@ Prints one line:
 Example:
   mm_tool check setup.toml forecast.csv plan.txt
 
-The formats are described in docs/FORMATS.md. Exit status: 0 for `least`, 1 for any other line.";
+The formats are described in docs/FORMATS.md. Exit status: 0 for `least N` and `least N in order`, 1 for any
+other line.";
 
 const ASK_ABOUT: &str = "Answers requests of the storage service in a memory of the setup";
 

@@ -12,6 +12,6 @@ mod table;
 mod task;
 mod version;
 
-pub use line::{has_misplaced_output, parse};
+pub use line::{has_misplaced_flag, has_misplaced_output, parse};
 pub use task::{FileNames, FlightFiles, PlanFiles, Role, Task};
 pub use version::{VERSION, asks_version};

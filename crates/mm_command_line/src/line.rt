@@ -4,7 +4,7 @@ ghost use Rattle.std.specs.List.{All, filter, list_any};
 ghost use Rattle.clap.specs.Words.{found_of, kind_of, rows_of, subcommand_rows_of};
 ghost use Rattle.clap.specs.declared.error.kind.ErrorKind.TheVariants.{OutOfMemory};
 ghost use Rattle.mm_command_line.specs.Commands.{entry_of, line_found, row_found, words_found};
-ghost use Rattle.mm_command_line.specs.Lines.{ArePlain, EndsWithOutput, IsCommandLine, IsFileName, IsSplit, IsTaskLine, before_dashes, command_words, flags_of, is_dashes, is_flag, spelling, without_dashes};
+ghost use Rattle.mm_command_line.specs.Lines.{ArePlain, EndsWithOutput, IsCommandLine, IsFileName, IsSplit, IsTaskLine, before_dashes, command_words, flags_of, has_flag, is_dashes, is_flag, is_flag_of, spelling, without_dashes, without_flag};
 
 use crate::command::{Form, form_of, tool_command};
 use crate::commands::COMMANDS;
@@ -17,7 +17,13 @@ use std::convert::AsStr;
 /// The word before the name of an output.
 const OUTPUT: &str = "--output";
 
-// The task that the words of a command ask for, without its output.
+/// The flag of `plan`: the stores are served in the setup's order.
+const IN_ORDER: &str = "--in-order";
+
+/// The flag of `chart`: the windows are shaded by what one is worth.
+const WORTH: &str = "--worth";
+
+// The task that the words of a command ask for, without its flag and its output.
 fn task_of<'a>(words: &[&'a str]) -> Option<Task<'a>>
     ensures spelled { IfSome result (λ task. command_words task ≡ map (λ word. word.now) words.now) }
     ensures none { IfNone result ((task : Task) → command_words task ≡ map (λ word. word.now) words.now → ⊥) }
@@ -26,6 +32,7 @@ fn task_of<'a>(words: &[&'a str]) -> Option<Task<'a>>
         ["plan", setup, forecast] => Some(Task::Plan {
             setup,
             forecast,
+            in_order: false,
             output: None,
         }),
         ["check", setup, forecast, plan] => Some(Task::Check(PlanFiles {
@@ -39,6 +46,7 @@ fn task_of<'a>(words: &[&'a str]) -> Option<Task<'a>>
                 forecast,
                 plan,
             },
+            worth: false,
             output: None,
         }),
         ["table", setup, forecast, plan] => Some(Task::Table {
@@ -78,17 +86,14 @@ fn is_file_name(word: &str) -> bool
 }
 
 // The words without the first `--`; none where a flag stands before that.
-fn plain_words<'a, S: AsStr>(
-    alloc: Global,
-    words: &'a [S],
-) -> Result<Option<Vec<&'a str>>, AllocError>
-    ensures plain { IfOk result (λ plain. IfSome plain (λ plain. ArePlain (map S.text words.entry.now) (map (λ word. word.now) plain.items))) }
-    ensures flagged { IfOk result (λ plain. IfNone plain (All IsFileName (map S.text words.entry.now) → ⊥)) }
+fn plain_words<'a>(alloc: Global, words: &[&'a str]) -> Result<Option<Vec<&'a str>>, AllocError>
+    ensures plain { IfOk result (λ plain. IfSome plain (λ plain. ArePlain (map (λ word. word.now) words.now) (map (λ word. word.now) plain.items))) }
+    ensures flagged { IfOk result (λ plain. IfNone plain (All IsFileName (map (λ word. word.now) words.now) → ⊥)) }
 {
     let mut plain = Vec::new(alloc);
     let mut after_dashes = false;
     for word in words {
-        let word = word.as_str();
+        let word = *word;
         if after_dashes {
             plain.push(word)?;
         } else if word == "--" {
@@ -129,14 +134,14 @@ fn words_in<'a>(
 }
 
 // The task that the matches ask for. They have to have the words that were given, but for the first `--`, and no flag stands before that.
-fn read_matches<'a, S: AsStr>(
+fn read_matches<'a>(
     alloc: Global,
-    words: &'a [S],
-    matches: &ArgMatches<'a>,
+    words: &[&'a str],
+    matches: &ArgMatches<'_>,
 ) -> Result<Option<Task<'a>>, AllocError>
-    ensures spelled { IfOk result (λ task. IfSome task (λ task. ArePlain (map S.text words.entry.now) (command_words task))) }
-    ensures none { IfOk result (λ task. IfNone task (IsCommandLine (map S.text words.entry.now)
-        → line_found (subcommand_rows_of matches.now) ≡ Some (map S.text words.entry.now) → ⊥)) }
+    ensures spelled { IfOk result (λ task. IfSome task (λ task. ArePlain (map (λ word. word.now) words.now) (command_words task))) }
+    ensures none { IfOk result (λ task. IfNone task (IsCommandLine (map (λ word. word.now) words.now)
+        → line_found (subcommand_rows_of matches.now) ≡ Some (map (λ word. word.now) words.now) → ⊥)) }
 {
     let Some((form, files)) = command_in(matches) else {
         return Ok(None);
@@ -146,7 +151,7 @@ fn read_matches<'a, S: AsStr>(
         return Ok(None);
     };
     if found == given {
-        Ok(task_of(&found))
+        Ok(task_of(&given))
     } else {
         Ok(None)
     }
@@ -162,18 +167,18 @@ fn refusal(command: &mut Command<'_>, kind: ErrorKind, message: &str) -> Error
     }
 }
 
-// What words without an output ask for: `clap` reads them. The error has the text for the user.
-fn parse_command<'a, S: AsStr>(alloc: Global, words: &'a [S]) -> Result<Task<'a>, Error>
+// What words without a flag of a task and an output ask for: `clap` reads them. The error has the text for the user.
+fn parse_command<'a>(alloc: Global, words: &[&'a str]) -> Result<Task<'a>, Error>
     // Words that spell a command give its task and nothing else.
-    ensures taken { IsCommandLine (map S.text words.entry.now)
-        → IfOk result (λ task. command_words task ≡ map S.text words.entry.now) }
+    ensures taken { IsCommandLine (map (λ word. word.now) words.now)
+        → IfOk result (λ task. command_words task ≡ map (λ word. word.now) words.now) }
     // Only want of memory can keep them from it.
-    ensures memory { IsCommandLine (map S.text words.entry.now)
+    ensures memory { IsCommandLine (map (λ word. word.now) words.now)
         → IfErr result (λ e. kind_of e ≡ OutOfMemory) }
     // Whatever the words, a task that is read is spelled by them, without the first `--`.
-    ensures spelled { IfOk result (λ task. command_words task ≡ without_dashes (map S.text words.entry.now)) }
+    ensures spelled { IfOk result (λ task. command_words task ≡ without_dashes (map (λ word. word.now) words.now)) }
     // No word before that is a flag, as a call for help is.
-    ensures unflagged { IfOk result (λ task. list_any is_flag (before_dashes (map S.text words.entry.now)) ≡ false) }
+    ensures unflagged { IfOk result (λ task. list_any is_flag (before_dashes (map (λ word. word.now) words.now)) ≡ false) }
 {
     let mut command = tool_command(alloc)?;
     let matches = command.try_get_matches_from_mut(words)?;
@@ -222,17 +227,75 @@ fn split_output<'a, S: AsStr>(words: &'a [S]) -> (&'a [S], Option<&'a str>)
     }
 }
 
+// Whether the word is the flag of this command.
+fn is_flag_of(command: &str, word: &str) -> bool
+    ensures { result ≡ is_flag_of command.now word.now }
+{
+    matches!((command, word), ("plan", IN_ORDER) | ("chart", WORTH))
+}
+
+// Whether the second word is the flag of the first.
+fn has_flag<S: AsStr>(words: &[S]) -> bool
+    ensures { result ≡ has_flag (map S.text words.now) }
+{
+    match words {
+        [command, word, ..] => is_flag_of(command.as_str(), word.as_str()),
+        _ => false,
+    }
+}
+
+fn texts_of<'a, S: AsStr>(alloc: Global, words: &'a [S]) -> Result<Vec<&'a str>, AllocError>
+    ensures texts { IfOk result (λ texts. map (λ word. word.now) texts.items ≡ map S.text words.entry.now) }
+{
+    let mut texts = Vec::new(alloc);
+    for word in words {
+        texts.push(word.as_str())?;
+    }
+    Ok(texts)
+}
+
+// The words without the flag that follows the word of its command, and whether there is one.
+#[tactic(auto, using(crate::proofs::Flags::without, crate::proofs::Flags::whole))]
+fn split_flag<'a, S: AsStr>(
+    alloc: Global,
+    words: &'a [S],
+) -> Result<(Vec<&'a str>, bool), AllocError>
+    ensures plain { IfOk result (λ split. map (λ word. word.now) split.0.items ≡ without_flag (map S.text words.entry.now)) }
+    ensures flag { IfOk result (λ split. split.1 ≡ has_flag (map S.text words.entry.now)) }
+{
+    let mut plain = texts_of(alloc, words)?;
+    if has_flag(words) {
+        plain.remove(1);
+        Ok((plain, true))
+    } else {
+        Ok((plain, false))
+    }
+}
+
+// Whether a word is meant as this option.
+fn is_option(word: &str, option: &str) -> bool {
+    word.strip_prefix(option)
+        .is_some_and(|rest| rest.is_empty() || rest.starts_with('='))
+}
+
 // Whether a word is meant as the option of an output.
 fn is_output(word: &str) -> bool {
-    word.strip_prefix(OUTPUT)
-        .is_some_and(|rest| rest.is_empty() || rest.starts_with('='))
-        || (word.starts_with("-o") && !word.starts_with("--"))
+    is_option(word, OUTPUT) || (word.starts_with("-o") && !word.starts_with("--"))
 }
 
 /// Whether the words have the option of an output where none is read: in one word, in short, or not as the last two words.
 pub fn has_misplaced_output<S: AsStr>(words: &[S]) -> bool {
     let (words, _) = split_output(words);
     words.iter().any(|word| is_output(word.as_str()))
+}
+
+/// Whether the words have the flag of a task where none is read: not right after the word of its command, or with a value.
+pub fn has_misplaced_flag<S: AsStr>(words: &[S]) -> bool {
+    let (words, _) = split_output(words);
+    let after = if has_flag(words) { &words[2..] } else { words };
+    after.iter().any(|word| {
+        is_option(word.as_str(), IN_ORDER) || is_option(word.as_str(), WORTH)
+    })
 }
 
 /// What the words ask for; the error has the text for the user.
@@ -245,12 +308,13 @@ pub fn parse<'a, S: AsStr>(alloc: Global, words: &'a [S]) -> Result<Task<'a>, Er
         → IfErr result (λ e. kind_of e ≡ OutOfMemory) }
     // Whatever the words, a task that is read is spelled by them, without the first `--`.
     ensures spelled { IfOk result (λ task. spelling task ≡ without_dashes (map S.text words.entry.now)) }
-    // No word before that is a flag, as a call for help is, but the `--output` of the task.
+    // No word before that is a flag, as a call for help is, but the flag and the `--output` of the task.
     ensures unflagged { IfOk result (λ task. filter is_flag (before_dashes (map S.text words.entry.now)) ≡ flags_of task) }
 {
     let (words, output) = split_output(words);
-    let task = parse_command(alloc, words)?;
-    match task.with_output(output) {
+    let (plain, flag) = split_flag(alloc, words)?;
+    let task = parse_command(alloc, &plain)?;
+    match task.with_options(flag, output) {
         Some(task) => Ok(task),
         None => Err(refusal(
             &mut tool_command(alloc)?,

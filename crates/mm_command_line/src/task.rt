@@ -1,6 +1,6 @@
 //! The tasks of the program, and their files.
-ghost use Rattle.std.specs.Prelude.{◌≡◌, ◌++◌, ◌&&◌, not, true, is_some, IfSome, IfNone};
-ghost use Rattle.mm_command_line.specs.Lines.{command_words, gives_text, output_of, output_words, spelling};
+ghost use Rattle.std.specs.Prelude.{◌≡◌, ◌&&◌, not, true, is_some, IfSome, IfNone};
+ghost use Rattle.mm_command_line.specs.Lines.{command_words, flag_of, flags_with, gives_text, output_of};
 ghost use Rattle.mm_command_line.specs.Names.{names_in, names_of_plan, no_names};
 ghost use Rattle.mm_command_line.specs.declared.task.Task.TheVariants.{Fly};
 
@@ -89,17 +89,19 @@ impl<'a> FlightFiles<'a> {
 /// What the program is asked to do. Of a task with an `output` the text goes into the file of that name, and is printed where there is none.
 #[derive(Clone, Copy)]
 pub enum Task<'a> {
-    /// Plan the dumps so that least is lost.
+    /// Plan the dumps so that least is lost, and `in_order` by the stores that stand first in the setup.
     Plan {
         setup: &'a str,
         forecast: &'a str,
+        in_order: bool,
         output: Option<&'a str>,
     },
     /// Say whether the plan loses least.
     Check(PlanFiles<'a>),
-    /// Draw the plan.
+    /// Draw the plan, with what each window is `worth` where that is asked.
     Chart {
         files: PlanFiles<'a>,
+        worth: bool,
         output: Option<&'a str>,
     },
     /// Say what the plan does to each store in each step.
@@ -169,9 +171,11 @@ impl<'a> Task<'a> {
         }
     }
 
-    // The task with this output; none for an output of a task that cannot have one.
-    pub(crate) fn with_output(self, output: Option<&'a str>) -> Option<Task<'a>>
-        ensures spelled { IfSome result (λ task. spelling task ≡ command_words self.entry ++ output_words output.entry) }
+    // The task with the flag of its command, where one is given and the command has one, and with this output; none for an output of a
+    // task that cannot have one.
+    pub(crate) fn with_options(self, flag: bool, output: Option<&'a str>) -> Option<Task<'a>>
+        ensures words { IfSome result (λ task. command_words task ≡ command_words self.entry) }
+        ensures flagged { IfSome result (λ task. flag_of task ≡ flags_with flag (command_words self.entry)) }
         ensures named { IfSome result (λ task. output_of task ≡ output.entry) }
         ensures none { IfNone result (is_some output.entry && not (gives_text (command_words self.entry)) ≡ true) }
     {
@@ -183,9 +187,14 @@ impl<'a> Task<'a> {
             } => Some(Task::Plan {
                 setup,
                 forecast,
+                in_order: flag,
                 output,
             }),
-            Task::Chart { files, .. } => Some(Task::Chart { files, output }),
+            Task::Chart { files, .. } => Some(Task::Chart {
+                files,
+                worth: flag,
+                output,
+            }),
             Task::Table { files, .. } => Some(Task::Table { files, output }),
             _ if output.is_none() => Some(self),
             _ => None,
