@@ -116,7 +116,7 @@ class Forecast:
             lines[place] = b"%b,%d,%b%b\n" % (number, windows[step], arrivals, rooms.encode())
         return self._varied(windows, self.arrivals, self.limits.with_others(limits), b"".join(lines))
 
-    def _varied(self, windows: Column, arrivals: Columns, limits: Columns, text: bytes) -> Forecast:
+    def _varied(self, windows: tuple[int, ...], arrivals: Columns, limits: Columns, text: bytes) -> Forecast:
         """Another forecast, whose text is made already."""
         made = object.__new__(Forecast)
         vars(made).update(windows=windows, arrivals=arrivals, limits=limits, _octets=text)
