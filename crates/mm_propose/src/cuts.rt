@@ -1,5 +1,5 @@
 //! The cut that a search says: runs of a store that the lost blocks could reach.
-ghost use Rattle.std.specs.Prelude.{◌<◌, length};
+ghost use Rattle.std.specs.Prelude.{◌<◌, ◌≤◌, length};
 
 use crate::node::Node;
 use crate::sets::{NodeSet, StoreSet};
@@ -54,15 +54,18 @@ fn stores_reached(spans: &[Span]) -> StoreSet {
     reached
 }
 
-/// The stretches of the cut.
+/// The stretches of the cut, of the first stores.
 pub(crate) fn stretches_of(
     alloc: Global,
     problem: &Problem,
     spans: &[Span],
-) -> Result<Vec<Stretch>, NoMemory> {
+    first: usize,
+) -> Result<Vec<Stretch>, NoMemory>
+    requires { first ≤ length problem.now.rows }
+{
     let mut cut = Vec::new(alloc);
     let reached = stores_reached(spans);
-    for store in 0..problem.stores() {
+    for store in 0..first {
         if reached.has(store) {
             add_runs(&mut cut, problem, spans, store)?;
         }

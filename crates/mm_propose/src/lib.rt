@@ -15,4 +15,4 @@ mod slots;
 mod spans;
 mod stores;
 
-pub use proposal::{Proposal, propose};
+pub use proposal::{OrderProposal, Proposal, ProposedCut, propose, propose_in_order};

@@ -1,8 +1,11 @@
 //! Moving lost blocks along the paths that a search found.
 use crate::paths::{Link, link_to, lost_to};
+use crate::search::found_in;
+use crate::sets::StoreSet;
 use crate::spans::Span;
 use crate::stores::Stores;
 use mm_plan::NoMemory;
+use mm_problem::MAX_STORES;
 use std::alloc::Global;
 
 // More than the arcs that one search lets be walked.
@@ -15,17 +18,26 @@ const DEAD_ENDS: u32 = 1024;
 #[derive(Drop)]
 pub(crate) struct Walks {
     path: Vec<Link>,
+    // the stores whose lost blocks are moved
+    losing: StoreSet,
     dead_ends: u32,
     have_moved: bool,
 }
 
 impl Walks {
-    pub(crate) fn new(alloc: Global) -> Walks {
+    pub(crate) fn new(alloc: Global, losing: StoreSet) -> Walks {
         Walks {
             path: Vec::new(alloc),
+            losing,
             dead_ends: 0,
             have_moved: false,
         }
+    }
+
+    // Begins anew, after a search.
+    fn begin(&mut self) {
+        self.dead_ends = 0;
+        self.have_moved = false;
     }
 
     // Whether blocks were moved, and a new search is the shorter way to more.
@@ -92,7 +104,7 @@ fn move_to(
         if walks.are_over() {
             break;
         }
-        if let Some(link) = lost_to(spans, place) {
+        if let Some(link) = lost_to(spans, place, walks.losing) {
             walks.walk(spans, link)?;
             walks.move_along(spans);
         } else if let Some(link) = link_to(stores, spans, place) {
@@ -119,8 +131,7 @@ pub(crate) fn move_lost(
     spans: &mut [Span],
     walks: &mut Walks,
 ) -> Result<bool, NoMemory> {
-    walks.dead_ends = 0;
-    walks.have_moved = false;
+    walks.begin();
     for at in 0..spans.len() {
         let pass = Link::into_window(at);
         if is_reached(spans, &pass) {
@@ -131,6 +142,31 @@ pub(crate) fn move_lost(
         let end = Link::keep_more(spans.len().saturating_sub(1), store);
         if is_reached(spans, &end) {
             move_to(stores, spans, walks, end)?;
+        }
+    }
+    Ok(walks.have_moved)
+}
+
+/// Moves lost blocks to where other stores give up as many. Answers whether any was moved.
+pub(crate) fn move_to_others(
+    stores: &Stores,
+    spans: &mut [Span],
+    walks: &mut Walks,
+) -> Result<bool, NoMemory> {
+    walks.begin();
+    for at in 0..spans.len() {
+        let mut rest = found_in(spans, at)
+            .stores_in()
+            .both(stores.others(walks.losing));
+        for _ in 0..MAX_STORES {
+            let Some(store) = rest.first() else {
+                break;
+            };
+            let last = Link::give_up(at, store);
+            if is_reached(spans, &last) {
+                move_to(stores, spans, walks, last)?;
+            }
+            rest = rest.rest();
         }
     }
     Ok(walks.have_moved)

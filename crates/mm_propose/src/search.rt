@@ -1,6 +1,6 @@
 //! The search for where lost blocks could go instead: over the nodes of all spans, along each arc that bears blocks.
 use crate::node::Node;
-use crate::sets::{NodeSet, SpanSet};
+use crate::sets::{NodeSet, SpanSet, StoreSet};
 use crate::slots::Row;
 use crate::spans::Span;
 use crate::stores::Stores;
@@ -95,12 +95,12 @@ impl Progress {
         true
     }
 
-    // Begins at the lost blocks of each span.
-    fn begin(&mut self, stores: &Stores, spans: &mut [Span]) {
+    // Begins at the blocks that some stores lose in each span.
+    fn begin(&mut self, stores: &Stores, spans: &mut [Span], some: StoreSet) {
         for at in 0..spans.len() {
             if let Some(span) = spans.get_mut(at) {
                 span.found.clear();
-                let losing = span.arcs.of_row(Row::Lost);
+                let losing = span.arcs.of_row(Row::Lost).both(some);
                 if !losing.is_empty() {
                     self.reach(stores, spans, at, NodeSet::ins(losing));
                 }
@@ -142,23 +142,23 @@ impl Progress {
     }
 }
 
-// The nodes found in a span.
-fn found_in(spans: &[Span], at: usize) -> NodeSet {
+/// The nodes found in a span.
+pub(crate) fn found_in(spans: &[Span], at: usize) -> NodeSet {
     match spans.get(at) {
         Some(span) => span.found.nodes(),
         None => NodeSet::NONE,
     }
 }
 
-/// Finds all nodes to which lost blocks could go. Each but the first ones has an arc to it from one of a lower batch. A sweep
+/// Finds all nodes to which blocks that some stores lose could go. Each but the first ones has an arc to it from one of a lower batch. A sweep
 /// looks only at the spans next to one in which nodes were found since it looked at them last.
-pub(crate) fn search(stores: &Stores, spans: &mut [Span]) {
+pub(crate) fn search(stores: &Stores, spans: &mut [Span], some: StoreSet) {
     let mut progress = Progress {
         batch: 0,
         on: SpanSet::NONE,
         back: SpanSet::NONE,
     };
-    progress.begin(stores, spans);
+    progress.begin(stores, spans, some);
     for _ in 0..ROUNDS {
         let on = progress.sweep_on(stores, spans);
         let back = progress.sweep_back(stores, spans);
