@@ -1,5 +1,5 @@
 //! The cut that a search says: runs of a store that the lost blocks could reach.
-ghost use Rattle.std.specs.Prelude.{◌<◌, ◌≤◌, length};
+ghost use Rattle.std.specs.Prelude.{◌<◌, length};
 
 use crate::node::Node;
 use crate::sets::{NodeSet, StoreSet};
@@ -54,18 +54,15 @@ fn stores_reached(spans: &[Span]) -> StoreSet {
     reached
 }
 
-/// The stretches of the cut, of the first stores.
-pub(crate) fn stretches_of(
+// The stretches of the cut.
+fn stretches_of(
     alloc: Global,
     problem: &Problem,
     spans: &[Span],
-    first: usize,
-) -> Result<Vec<Stretch>, NoMemory>
-    requires { first ≤ length problem.now.rows }
-{
+) -> Result<Vec<Stretch>, NoMemory> {
     let mut cut = Vec::new(alloc);
     let reached = stores_reached(spans);
-    for store in 0..first {
+    for store in 0..problem.stores() {
         if reached.has(store) {
             add_runs(&mut cut, problem, spans, store)?;
         }
@@ -78,8 +75,8 @@ fn is_by_channels(nodes: NodeSet) -> bool {
     !nodes.has(Node::PASS) && !nodes.stores_in().both(nodes.stores_out()).is_empty()
 }
 
-/// The steps of the cut that are counted by channels.
-pub(crate) fn counts_of(alloc: Global, spans: &[Span]) -> Result<Vec<u32>, NoMemory> {
+// The steps of the cut that are counted by channels.
+fn counts_of(alloc: Global, spans: &[Span]) -> Result<Vec<u32>, NoMemory> {
     let mut counts = Vec::new(alloc);
     for span in spans.iter() {
         if is_by_channels(span.found.nodes()) {
@@ -87,4 +84,23 @@ pub(crate) fn counts_of(alloc: Global, spans: &[Span]) -> Result<Vec<u32>, NoMem
         }
     }
     Ok(counts)
+}
+
+/// A cut with the steps that it counts by channels. Nothing is known of it.
+#[derive(Debug, Drop)]
+pub struct ProposedCut {
+    pub stretches: Vec<Stretch>,
+    pub by_channels: Vec<u32>,
+}
+
+/// The cut that the last search says.
+pub(crate) fn cut_of(
+    alloc: Global,
+    problem: &Problem,
+    spans: &[Span],
+) -> Result<ProposedCut, NoMemory> {
+    Ok(ProposedCut {
+        stretches: stretches_of(alloc, problem, spans)?,
+        by_channels: counts_of(alloc, spans)?,
+    })
 }

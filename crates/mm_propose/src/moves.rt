@@ -1,11 +1,9 @@
 //! Moving lost blocks along the paths that a search found.
 use crate::paths::{Link, link_to, lost_to};
-use crate::search::found_in;
 use crate::sets::StoreSet;
 use crate::spans::Span;
 use crate::stores::Stores;
 use mm_plan::NoMemory;
-use mm_problem::MAX_STORES;
 use std::alloc::Global;
 
 // More than the arcs that one search lets be walked.
@@ -32,12 +30,6 @@ impl Walks {
             dead_ends: 0,
             have_moved: false,
         }
-    }
-
-    // Begins anew, after a search.
-    fn begin(&mut self) {
-        self.dead_ends = 0;
-        self.have_moved = false;
     }
 
     // Whether blocks were moved, and a new search is the shorter way to more.
@@ -74,6 +66,33 @@ impl Walks {
         }
         self.path.truncate(bearing);
         self.have_moved = true;
+    }
+
+    // Walks back from an arc to lost blocks, and moves as many as the path bears.
+    pub(crate) fn move_once(
+        &mut self,
+        stores: &Stores,
+        spans: &mut [Span],
+        last: Link,
+    ) -> Result<(), NoMemory> {
+        self.path.clear();
+        self.walk(spans, last)?;
+        for _ in 0..WALKS {
+            let Some(link) = self.path.last() else {
+                break;
+            };
+            let place = link.from;
+            if let Some(link) = lost_to(spans, place, self.losing) {
+                self.walk(spans, link)?;
+                self.move_along(spans);
+                break;
+            }
+            let Some(link) = link_to(stores, spans, place) else {
+                break;
+            };
+            self.walk(spans, link)?;
+        }
+        Ok(())
     }
 
     // Forgets the node that the path has come back to, since no blocks come to it, and the arc from it.
@@ -131,7 +150,8 @@ pub(crate) fn move_lost(
     spans: &mut [Span],
     walks: &mut Walks,
 ) -> Result<bool, NoMemory> {
-    walks.begin();
+    walks.dead_ends = 0;
+    walks.have_moved = false;
     for at in 0..spans.len() {
         let pass = Link::into_window(at);
         if is_reached(spans, &pass) {
@@ -142,31 +162,6 @@ pub(crate) fn move_lost(
         let end = Link::keep_more(spans.len().saturating_sub(1), store);
         if is_reached(spans, &end) {
             move_to(stores, spans, walks, end)?;
-        }
-    }
-    Ok(walks.have_moved)
-}
-
-/// Moves lost blocks to where other stores give up as many. Answers whether any was moved.
-pub(crate) fn move_to_others(
-    stores: &Stores,
-    spans: &mut [Span],
-    walks: &mut Walks,
-) -> Result<bool, NoMemory> {
-    walks.begin();
-    for at in 0..spans.len() {
-        let mut rest = found_in(spans, at)
-            .stores_in()
-            .both(stores.others(walks.losing));
-        for _ in 0..MAX_STORES {
-            let Some(store) = rest.first() else {
-                break;
-            };
-            let last = Link::give_up(at, store);
-            if is_reached(spans, &last) {
-                move_to(stores, spans, walks, last)?;
-            }
-            rest = rest.rest();
         }
     }
     Ok(walks.have_moved)

@@ -40,12 +40,6 @@ impl Link {
         Link::new(span, out, Slot::ENDLESS, Slot::kept(store))
     }
 
-    // A store gives up what it got in a span.
-    pub(crate) fn give_up(span: usize, store: usize) -> Link {
-        let node = Node::into_store(store);
-        Link::new(span, node, Slot::come(store), Slot::lost(store))
-    }
-
     // How many blocks it bears.
     pub(crate) fn most(&self, spans: &[Span]) -> u32 {
         match spans.get(self.span) {

@@ -18,11 +18,6 @@ impl StoreSet {
         StoreSet(self.0 & !(1 << (store & 15)))
     }
 
-    // The set without the stores of another.
-    pub(crate) fn without_any(self, other: StoreSet) -> StoreSet {
-        StoreSet(self.0 & !other.0)
-    }
-
     // The set, with a store if something holds.
     pub(crate) fn with_if(self, holds: bool, store: usize) -> StoreSet {
         StoreSet(self.0 | u16::from(holds) << (store & 15))

@@ -51,11 +51,6 @@ impl Stores {
         first
     }
 
-    // All other stores.
-    pub(crate) fn others(&self, some: StoreSet) -> StoreSet {
-        self.first(self.count).without_any(some)
-    }
-
     // The channel of a store.
     pub(crate) fn channel(&self, store: usize) -> usize {
         self.channels[store & 15] as usize
