@@ -49,7 +49,7 @@ output_words None = []
 abbrev pub order_flag : List ℕ
 order_flag = codes "--in-order"
 
--- the flag of `chart`: the windows are shaded by what one is worth
+-- the flag of `chart`: the chart says what each window is worth
 abbrev pub worth_flag : List ℕ
 worth_flag = codes "--worth"
 

@@ -11,8 +11,8 @@ Or one line:
   refused NUMBER NAME ..      a file was not read, or is not what it should be
 
 Options, --worth right after `chart`, --output after the files:
-  --worth                     each window is shaded by what it is worth: how many blocks fewer the least plan
-                              loses if it is 1,000,000 blocks larger
+  --worth                     a bar above a window shows how many blocks it saves at most if it alone is
+                              wider, and the words tell them
   --output FILE               the picture goes into FILE, whole or not at all, and is not printed; FILE is
                               none of the files above
 

@@ -20,7 +20,7 @@ const OUTPUT: &str = "--output";
 /// The flag of `plan`: the stores are served in the setup's order.
 const IN_ORDER: &str = "--in-order";
 
-/// The flag of `chart`: the windows are shaded by what one is worth.
+/// The flag of `chart`: the chart says what each window is worth.
 const WORTH: &str = "--worth";
 
 // The task that the words of a command ask for, without its flag and its output.
