@@ -12,7 +12,7 @@ Or one line:
 
 Options, --worth right after `chart`, --output after the files:
   --worth                     each window is shaded by what it is worth: how many blocks fewer the least plan
-                              loses if it is one larger
+                              loses if it is 1,000,000 blocks larger
   --output FILE               the picture goes into FILE, whole or not at all, and is not printed; FILE is
                               none of the files above
 
