@@ -110,6 +110,14 @@ class Study(Sequence[Answer]):
         """All answers. They take more memory than the study."""
         return tuple(self)
 
+    def __repr__(self) -> str:
+        return f"<Study of {len(self)} variants; as it is {self.base.loss} blocks are lost>"
+
+    def __eq__(self, other: object) -> bool:
+        if not isinstance(other, Study):
+            return NotImplemented
+        return (self.base, self.stores, self.is_whole, self.answers) == (other.base, other.stores, other.is_whole, other.answers)
+
     def __len__(self) -> int:
         return len(self._rows)
 

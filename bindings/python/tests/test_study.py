@@ -136,7 +136,7 @@ class Answers(unittest.TestCase):
         self.assertEqual(study_of.worst(), [study_of[0]])
         self.assertEqual(study_of.text(), "variant,x,y,loss,change,A,B,bound,least,refused\na,,2.5,7,2,3,4,7,True,\nc,,1,,,,,,False,no\n")
         again = pickle.loads(pickle.dumps(study_of))
-        self.assertEqual((again.text(), again.answers), (study_of.text(), study_of.answers))
+        self.assertEqual((again, repr(again)), (study_of, "<Study of 2 variants; as it is 5 blocks are lost>"))
 
     def test_certificate(self):
         problem = MIXED.problem()
