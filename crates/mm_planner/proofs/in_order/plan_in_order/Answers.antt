@@ -1,4 +1,4 @@
-use Rattle.std.proofs.Common.{◌≡◌, ◌≤◌, length, arith}
+use Rattle.std.proofs.Common.{◌≤◌, length, arith}
 use Rattle.mm_planner.proofs.Certified.{last_at, last_shows_least}
 use Rattle.mm_planner.proofs.in_order.plan_in_order.Goals as goal
 
