@@ -5,12 +5,11 @@ use Rattle.std.proofs.lemmas.List.{get_or_append_left, get_or_push}
 use Rattle.mm_problem.specs.Dumping.{Dumping}
 use Rattle.mm_plan.specs.Table.{Table, amount}
 use Rattle.mm_plan.specs.Volumes.{Amounts, loss}
-use Rattle.mm_plan.specs.Least.{IsLeast, IsLeastInOrder}
 use Rattle.mm_plan.specs.Sheet.{CertificateRows}
 use Rattle.mm_cut.specs.Firsts.{ShowsFirst, ShowFirsts}
 use Rattle.mm_planner.specs.declared.in_order.FirstCut.{FirstCut}
 use Rattle.mm_planner.specs.Planned.{ShowsLeast}
-use Rattle.mm_planner.specs.InOrder.{CutShows, CutsShow, ShowsByCuts}
+use Rattle.mm_planner.specs.InOrder.{CutShows, ShowsByCuts}
 
 -- the first element of a rest, and what is left after it
 pub next_of : {X : Type 0} (xs rest : List X) (x : X) (n : ℕ) → drop n xs ≡ x ∷ rest → (n < length xs) × (get_or xs n x ≡ x) × (drop (n + 1) xs ≡ rest)

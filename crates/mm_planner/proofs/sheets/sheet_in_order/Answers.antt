@@ -1,11 +1,10 @@
-use Rattle.std.proofs.Common.{◌≡◌, Some, List, pos, sym, ap, ◌∙◌, rules, arith}
+use Rattle.std.proofs.Common.{◌≡◌, Some, pos, ap, ◌∙◌, rules, arith}
 use Rattle.std.specs.Prelude.{All}
 use Rattle.std.proofs.lemmas.Grind.{common_steps}
 use Rattle.mm_base.specs.Id.{IsIdField}
-use Rattle.mm_plan.specs.Table.{Table, amount, HasShape, IsTable}
-use Rattle.mm_plan.specs.Sheet.{SheetRows, CertificateRows, IsShapedFor}
+use Rattle.mm_plan.specs.Table.{amount, HasShape, IsTable}
+use Rattle.mm_plan.specs.Sheet.{SheetRows, IsShapedFor}
 use Rattle.mm_cut.specs.Cuts.{IsCut}
-use Rattle.mm_planner.specs.InOrder.{ShowsInOrder}
 use Rattle.mm_planner.proofs.SheetLimits.{are_firsts, planned_is_sheet}
 use Rattle.mm_planner.proofs.sheets.sheet_in_order.Goals as goal
 
