@@ -1,5 +1,5 @@
--- What a chart is drawn of: a problem, a sheet for it, and the verdict on the sheet.
-use Rattle.std.specs.Prelude.{Bool, true, false, List, [], if◌then◌else◌, ℕ}
+-- What a chart is drawn of: a problem, a sheet for it, the verdict on the sheet, and what the windows are worth where that is known.
+use Rattle.std.specs.Prelude.{Bool, true, false, Option, is_some, List, [], if◌then◌else◌, ℕ}
 use Rattle.mm_problem.specs.Dumping.{Dumping}
 use Rattle.mm_plan.specs.declared.stretch.Stretch.{Stretch}
 use Rattle.mm_plan.specs.Table.{amount, HasShape}
@@ -15,6 +15,16 @@ pub record Drawn : Type 0 where
   pub problem : Dumping
   pub sheet : SheetRows
   pub verdict : Verdict
+  -- of each step, how many blocks a larger window saves at most; a step after the end of the list has 0
+  pub worth : Option (List ℕ)
+
+-- the picture with these parts
+abbrev pub picture_of : Dumping → SheetRows → Verdict → Option (List ℕ) → Drawn
+picture_of q s v worth = record { problem = q; sheet = s; verdict = v; worth = worth }
+
+-- whether it is known what the windows are worth
+abbrev pub has_worth : Drawn → Bool
+has_worth p = is_some p.worth
 
 -- the amounts that the sheet's plan asks for
 abbrev pub amounts : Drawn → Amounts

@@ -3,7 +3,7 @@ ghost use Rattle.std.specs.Prelude.{◌≡◌, ◌<◌, ◌≤◌, ◌^◌, ◌+
 ghost use Rattle.mm_problem.specs.Dumping.{stores};
 ghost use Rattle.mm_cut.specs.declared.verdict.Verdict.TheVariants.{Least};
 ghost use Rattle.mm_chart.specs.Svg.{said, grouped, signed_grouped, closed};
-ghost use Rattle.mm_chart.specs.Words.{why_heading, words_of, at_most, sum_line, leaving, why, stretched, broken, stretched_at, stores_line, help, words, word_lines};
+ghost use Rattle.mm_chart.specs.Words.{why_heading, words_of, at_most, sum_line, leaving, why, stretched, broken, stretched_at, stores_line, help, worth_lines, worth_words, words, word_lines};
 
 use crate::layout::{LINE_PITCH, MARGIN, word_line};
 use crate::marked::push_steps_line;
@@ -13,7 +13,8 @@ use crate::pen::{
 };
 use crate::phrases::{
     AS_ENDS, AT_LEAST, BY_LIMITS, BY_WINDOWS, COME, FEWER, HELP, HIGHER, IN_STRETCHES, INDENT,
-    LARGER, NO_HIGHER, NO_LIMITS, NO_WIDER, NO_WINDOWS, STAND, WHY, WIDER,
+    LARGER, NO_HIGHER, NO_LIMITS, NO_OTHER, NO_WIDER, NO_WINDOWS, NONE_WIDER, ONE_WIDER, STAND,
+    WHY, WIDER,
 };
 use crate::picture::Picture;
 use crate::rows::{push_counted, push_name};
@@ -187,6 +188,29 @@ fn push_help(text: &mut Vec<u8>, picture: &Picture) -> Pushed
     push_stores_line(text, picture, word_line(problem, 11))
 }
 
+// Exactly the steps in which a wider window saves blocks by itself.
+#[tactic(auto, using(std::proofs::Common::append_assoc), unfolding(crate::specs::Words::worth_lines))]
+fn push_worth_lines(text: &mut Vec<u8>, picture: &Picture, line: u32) -> Pushed
+    requires { line ≤ 14 }
+    ensures { OnOk result (text.new.items ≡ text.old.items ++ worth_lines picture.now line) }
+{
+    let y = word_line(picture.problem(), line);
+    push_labelled(text, Style::Heading, MARGIN, y, ONE_WIDER)?;
+    push_steps_line(text, picture, Series::Worth, line + 1, NO_OTHER, NONE_WIDER)
+}
+
+// Nothing where that is not known.
+#[tactic(auto, unfolding(crate::specs::Words::worth_words))]
+fn push_worth_words(text: &mut Vec<u8>, picture: &Picture, line: u32) -> Pushed
+    requires { line ≤ 14 }
+    ensures { OnOk result (text.new.items ≡ text.old.items ++ worth_words picture.now line) }
+{
+    if !picture.has_worth() {
+        return Ok(());
+    }
+    push_worth_lines(text, picture, line)
+}
+
 // The sum and the help of a plan that loses least.
 #[tactic(auto, using(std::proofs::Common::append_assoc), unfolding(crate::specs::Words::words_of))]
 fn push_least_words(alloc: Global, text: &mut Vec<u8>, picture: &Picture, loss: u64) -> Pushed
@@ -198,16 +222,19 @@ fn push_least_words(alloc: Global, text: &mut Vec<u8>, picture: &Picture, loss: 
     let mut bound = Vec::new(alloc);
     push_grouped(&mut bound, loss)?;
     push_why(alloc, text, picture, bound.as_slice())?;
-    push_help(text, picture)
+    push_help(text, picture)?;
+    push_worth_words(text, picture, 13)
 }
 
 // The sum where the cut does not show that no plan loses fewer.
+#[tactic(auto, using(std::proofs::Common::append_assoc))]
 fn push_other_words(alloc: Global, text: &mut Vec<u8>, picture: &Picture, bound: i64) -> Pushed
-    ensures { OnOk result (text.new.items ≡ text.old.items ++ why picture.now (signed_grouped bound)) }
+    ensures { OnOk result (text.new.items ≡ text.old.items ++ (why picture.now (signed_grouped bound) ++ worth_words picture.now 7)) }
 {
     let mut number = Vec::new(alloc);
     push_signed_grouped(&mut number, bound)?;
-    push_why(alloc, text, picture, number.as_slice())
+    push_why(alloc, text, picture, number.as_slice())?;
+    push_worth_words(text, picture, 7)
 }
 
 /// Writes why no plan loses fewer than the cut's bound, and what may help.
@@ -223,13 +250,16 @@ pub(crate) fn push_words(alloc: Global, text: &mut Vec<u8>, picture: &Picture) -
 }
 
 /// How many lines the words have room for.
-pub(crate) fn word_lines(verdict: Verdict) -> u32
-    ensures lines { result ≡ word_lines verdict }
-    ensures most { result ≤ 13 }
+pub(crate) fn word_lines(picture: &Picture) -> u32
+    ensures lines { result ≡ word_lines picture.now picture.now.verdict }
+    ensures most { result ≤ 15 }
 {
-    match verdict {
+    let has_worth = picture.has_worth();
+    match picture.verdict() {
         Verdict::Least(0) => 0,
+        Verdict::Least(_) if has_worth => 15,
         Verdict::Least(_) => 13,
+        Verdict::NotShown { .. } if has_worth => 9,
         Verdict::NotShown { .. } => 6,
         _ => 0,
     }
