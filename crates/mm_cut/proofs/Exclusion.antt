@@ -1,5 +1,5 @@
 -- The verdicts exclude one another: each says how many of the tests are passed, and that the next one is not.
-use Rattle.std.proofs.Common.{◌≡◌, ℕ, ◌<◌, List, ℤ, pos, sym, ap, ◌∙◌, inl, inr, arith}
+use Rattle.std.proofs.Common.{◌≡◌, ℕ, ◌<◌, Option, Some, None, List, ℤ, pos, sym, ap, ◌∙◌, inl, inr, arith}
 use Rattle.std.proofs.lemmas.Bool.{cases_order}
 use Rattle.mm_problem.specs.Dumping.{Dumping}
 use Rattle.mm_plan.specs.Volumes.{Amounts}
@@ -7,9 +7,13 @@ use Rattle.mm_plan.specs.Fit.{Fits, IsFirstMisfit}
 use Rattle.mm_plan.specs.declared.stretch.Stretch.{Stretch}
 use Rattle.mm_cut.specs.Stretches.{AreStretches}
 use Rattle.mm_cut.specs.Counts.{AreCounted}
-use Rattle.mm_cut.specs.Verdicts.{LossIsRight, BoundIsRight, IsVerdict, VerdictsExclude}
+use Rattle.mm_plan.specs.Table.{amount}
+use Rattle.mm_plan.specs.Sheet.{SheetRows, CertificateRows}
+use Rattle.mm_cut.specs.Verdicts.{LossIsRight, BoundIsRight, IsVerdict, VerdictsExclude, IsOwnVerdict, IsVerdictWith, SheetVerdictsExclude}
+use Rattle.mm_cut.specs.Firsts.{ShowFirsts}
+use Rattle.mm_cut.proofs.ShownFirsts.{ShowFirsts-take}
 use Rattle.mm_cut.specs.declared.verdict.Verdict.{Verdict}
-use Rattle.mm_cut.specs.declared.verdict.Verdict.TheVariants.{DoesNotFit, LossIs, BadStretch, BadCount, BoundIs, NotShown, Least}
+use Rattle.mm_cut.specs.declared.verdict.Verdict.TheVariants.{DoesNotFit, LossIs, BadStretch, BadCount, BoundIs, NotShown, FirstNotShown, Least, LeastInOrder}
 use Rattle.mm_cut.proofs.Prefixes.{IsFirstBad-not_good, IsFirstBad-same, AreStretches-take, AreCounted-take}
 
 -- there is one first misfit at the most, and none where the plan fits
@@ -37,6 +41,8 @@ stage (BadCount k) = 3
 stage (BoundIs m) = 4
 stage (NotShown n m) = 5
 stage (Least n) = 6
+stage (FirstNotShown k) = 7
+stage (LeastInOrder n) = 8
 
 module _ (q : Dumping) (x : Amounts) (ds : List Stretch) (ts : List ℕ) (l : ℕ) (b : ℤ) where
   -- a wrong loss is not right
@@ -76,6 +82,8 @@ module _ (q : Dumping) (x : Amounts) (ds : List Stretch) (ts : List ℕ) (l : �
   not_both (BoundIs m) (NotShown n j) _ a c = other_bound m a c.0
   not_both (BoundIs m) (Least n) _ a c = other_bound m a c.0
   not_both (NotShown n m) (Least k) _ a c = a.3 (ap pos (a.1 ∙ sym c.1) ∙ c.2 ∙ sym a.2)
+  not_both v (FirstNotShown k) _ a c = absurd c
+  not_both v (LeastInOrder n) _ a c = absurd c
   not_both (Least n) (Least k) earlier a c = absurd (omega arith)
   not_both v w earlier a c = absurd (omega arith)
 
@@ -88,6 +96,8 @@ module _ (q : Dumping) (x : Amounts) (ds : List Stretch) (ts : List ℕ) (l : �
   same_stage (BoundIs m) (BoundIs j) _ a c = ap BoundIs (a.2 ∙ sym c.2)
   same_stage (NotShown n m) (NotShown k j) _ a c = ap (λ i. NotShown i m) (a.1 ∙ sym c.1) ∙ ap (λ i. NotShown k i) (a.2 ∙ sym c.2)
   same_stage (Least n) (Least k) _ a c = ap Least (a.1 ∙ sym c.1)
+  same_stage (FirstNotShown k) w _ a c = absurd a
+  same_stage (LeastInOrder n) w _ a c = absurd a
   same_stage v w same a c = absurd (omega arith)
 
 pub verdicts_exclude : VerdictsExclude
@@ -98,3 +108,35 @@ verdicts_exclude q x ds ts l b v w a c = elim (cases_order (stage v) (stage w)) 
     | inr after ↦ absurd (not_both q x ds ts l b w v after c a)
   ]
 ]
+
+-- ---- sheets
+
+-- two verdicts on a sheet say the same of its cut of all stores
+own_exclude : (q : Dumping) (s : SheetRows) (v w : Verdict) → IsOwnVerdict q s v → IsOwnVerdict q s w → v ≡ w
+own_exclude q s v w a c = verdicts_exclude q (amount s.plan) s.cut s.by_channels s.loss s.bound v w a c
+
+module _ (q : Dumping) (s : SheetRows) (cs : List CertificateRows) where
+  -- where a certificate does not show its loss, not each of them does
+  not_shown : (k n : ℕ) → IsVerdictWith q s (Some cs) (FirstNotShown k) → IsVerdictWith q s (Some cs) (LeastInOrder n) → ⊥
+  not_shown k n a c = IsFirstBad-not_good (ShowFirsts q (amount s.plan)) (ShowFirsts-take q (amount s.plan)) cs k a.1 c.1
+
+  -- with certificates of the first stores
+  with_exclude : (v w : Verdict) → IsVerdictWith q s (Some cs) v → IsVerdictWith q s (Some cs) w → v ≡ w
+  with_exclude (Least n) w a c = absurd a
+  with_exclude v (Least n) a c = absurd c
+  with_exclude (FirstNotShown k) (FirstNotShown j) a c = ap FirstNotShown (IsFirstBad-same (ShowFirsts q (amount s.plan)) (ShowFirsts-take q (amount s.plan)) cs k j a.1 c.1)
+  with_exclude (FirstNotShown k) (LeastInOrder n) a c = absurd (not_shown k n a c)
+  with_exclude (FirstNotShown k) w a c = let same : Least s.loss ≡ w = own_exclude q s (Least s.loss) w a.0 c in cc
+  with_exclude (LeastInOrder n) (FirstNotShown k) a c = absurd (not_shown k n c a)
+  with_exclude (LeastInOrder n) (LeastInOrder m) a c = let same = own_exclude q s (Least n) (Least m) a.0 c.0 in ap LeastInOrder (cc)
+  with_exclude (LeastInOrder n) w a c = let same : Least n ≡ w = own_exclude q s (Least n) w a.0 c in cc
+  with_exclude v (FirstNotShown k) a c = let same : v ≡ Least s.loss = own_exclude q s v (Least s.loss) a c.0 in cc
+  with_exclude v (LeastInOrder n) a c = let same : v ≡ Least n = own_exclude q s v (Least n) a c.0 in cc
+  with_exclude v w a c = own_exclude q s v w a c
+
+either_exclude : (q : Dumping) (s : SheetRows) (firsts : Option (List CertificateRows)) (v w : Verdict) → IsVerdictWith q s firsts v → IsVerdictWith q s firsts w → v ≡ w
+either_exclude q s None v w a c = own_exclude q s v w a c
+either_exclude q s (Some cs) v w a c = with_exclude q s cs v w a c
+
+pub sheet_verdicts_exclude : SheetVerdictsExclude
+sheet_verdicts_exclude q s v w a c = either_exclude q s s.firsts v w a c

@@ -4,6 +4,7 @@ pub mod Duality
 pub mod PartSums
 pub mod Counting
 pub mod Prefixes
+pub mod ShownFirsts
 pub mod Exclusion
 pub mod Helping
 mod Refusals

@@ -29,7 +29,7 @@ AllPairs-last R xs y pairs = λ k d inside.
     (subst (λ x. R x (get_or (xs ++ y ∷ []) (length xs) d)) (get_or_append_left xs (y ∷ []) d k inside) (pairs k (length xs) d inside (omega (arith, length_push xs y))))
 
 -- a front with the next element, as a loop reads it
-take_one_more : {X : Type 0} (xs : List X) (i : ℕ) (x d : X) → i < length xs → x ≡ get_or xs i d → take (i + 1) xs ≡ take i xs ++ x ∷ []
+pub take_one_more : {X : Type 0} (xs : List X) (i : ℕ) (x d : X) → i < length xs → x ≡ get_or xs i d → take (i + 1) xs ≡ take i xs ++ x ∷ []
 take_one_more xs i x d inside is = take_more xs i d inside ∙ ap (λ y. take i xs ++ y ∷ []) (sym is)
 
 module _ {X : Type 0} (AreGood : List X → Type 0) (fronts : (n : ℕ) (xs : List X) → AreGood xs → AreGood (take n xs)) where

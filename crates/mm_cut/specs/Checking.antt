@@ -7,10 +7,10 @@ use Rattle.mm_plan.specs.declared.fault.Fault.{Fault as PlanFault}
 use Rattle.mm_plan.specs.declared.fault.Fault.TheVariants as plan
 use Rattle.mm_plan.specs.Table.{amount}
 use Rattle.mm_plan.specs.Volumes.{loss}
-use Rattle.mm_plan.specs.Least.{IsLeast}
+use Rattle.mm_plan.specs.Least.{IsLeast, IsLeastInOrder}
 use Rattle.mm_plan.specs.Sheet.{SheetRows, IsSheet, sheet_text, IsFirstBadLine}
 use Rattle.mm_plan.specs.Sheet.{IsShapedFor}
-use Rattle.mm_cut.specs.Verdicts.{IsVerdict}
+use Rattle.mm_cut.specs.Verdicts.{IsSheetVerdict}
 use Rattle.mm_cut.specs.declared.verdict.Verdict.{Verdict}
 use Rattle.mm_cut.specs.declared.fault.Fault.{Fault}
 use Rattle.mm_cut.specs.declared.fault.Fault.TheVariants.{NoMemory, Problem, Plan}
@@ -21,13 +21,13 @@ pub record SaysSheet (q : Dumping) (octets : List ℕ) (s : SheetRows) : Type 0 
   pub text : octets ≡ sheet_text s
   pub shape : IsShapedFor q s
 
--- what `verify` says of the problem and the sheet that the texts say
+-- what `verdict_of` says of the problem and the sheet that the texts say
 pub record Checks (setup forecast text : List ℕ) (v : Verdict) : Type 0 where
   pub problem : Dumping
   pub sheet : SheetRows
   pub says_problem : SaysProblem setup forecast problem
   pub says_sheet : SaysSheet problem text sheet
-  pub verdict : IsVerdict problem (amount sheet.plan) sheet.cut sheet.by_channels sheet.loss sheet.bound v
+  pub verdict : IsSheetVerdict problem sheet v
 
 -- the plan that the texts say loses n blocks, and no plan that fits loses fewer
 pub record LosesLeast (setup forecast text : List ℕ) (n : ℕ) : Type 0 where
@@ -36,6 +36,15 @@ pub record LosesLeast (setup forecast text : List ℕ) (n : ℕ) : Type 0 where
   pub says_problem : SaysProblem setup forecast problem
   pub says_sheet : SaysSheet problem text sheet
   pub least : IsLeast problem (amount sheet.plan)
+  pub loss : n ≡ loss problem (amount sheet.plan)
+
+-- the plan that the texts say loses n blocks, and no plan that fits loses fewer of the first store, of the first two and so on to all of them
+pub record LosesLeastInOrder (setup forecast text : List ℕ) (n : ℕ) : Type 0 where
+  pub problem : Dumping
+  pub sheet : SheetRows
+  pub says_problem : SaysProblem setup forecast problem
+  pub says_sheet : SaysSheet problem text sheet
+  pub least : IsLeastInOrder problem (amount sheet.plan)
   pub loss : n ≡ loss problem (amount sheet.plan)
 
 -- the sheet that a plan text says is not for the problem

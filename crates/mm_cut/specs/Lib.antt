@@ -3,6 +3,7 @@ pub mod Counts
 pub mod Cuts
 pub mod Changes
 pub mod FirstBad
+pub mod Firsts
 pub mod Verdicts
 pub mod Fault
 pub mod Checking

@@ -3,7 +3,7 @@ use Rattle.std.specs.Prelude.{ℕ, List, [], ◌∷◌, ◌++◌, codes, decimal
 use Rattle.std.specs.Fmt.{signed_decimal}
 use Rattle.mm_base.specs.Characters.{line_feed}
 use Rattle.mm_cut.specs.declared.verdict.Verdict.{Verdict}
-use Rattle.mm_cut.specs.declared.verdict.Verdict.TheVariants.{DoesNotFit, LossIs, BadStretch, BadCount, BoundIs, NotShown, Least}
+use Rattle.mm_cut.specs.declared.verdict.Verdict.TheVariants.{DoesNotFit, LossIs, BadStretch, BadCount, BoundIs, NotShown, FirstNotShown, Least, LeastInOrder}
 
 -- what a verdict says
 abbrev pub text_of : Verdict → List ℕ
@@ -14,6 +14,8 @@ text_of (LossIs loss) = codes "loss is " ++ decimal loss
 text_of (BadStretch place) = codes "bad stretch " ++ decimal place
 text_of (BadCount place) = codes "bad count " ++ decimal place
 text_of (BoundIs bound) = codes "bound is " ++ signed_decimal bound
+text_of (FirstNotShown stores) = codes "first " ++ decimal stores ++ codes " not shown"
+text_of (LeastInOrder loss) = codes "least " ++ decimal loss ++ codes " in order"
 
 -- the line with its line end
 abbrev pub line_of : Verdict → List ℕ

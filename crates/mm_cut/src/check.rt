@@ -2,18 +2,17 @@
 ghost use Rattle.std.specs.Prelude.{◌≡◌, ℕ, IfOk};
 ghost use Rattle.mm_base.specs.Reading.{IfRefused};
 ghost use Rattle.mm_problem.specs.Texts.{SaysProblem};
-ghost use Rattle.mm_plan.specs.Sheet.{IsSheet};
-ghost use Rattle.mm_plan.specs.Table.{amount, HasShape};
+ghost use Rattle.mm_plan.specs.Table.{HasShape};
 ghost use Rattle.mm_plan.specs.declared.fault.Fault.TheVariants as plan_fault;
 ghost use Rattle.mm_cut.specs.declared.fault.Fault.TheVariants.{NoMemory};
-ghost use Rattle.mm_cut.specs.declared.verdict.Verdict.TheVariants.{Least};
-ghost use Rattle.mm_cut.specs.Checking.{Checks, SaysSheet, LosesLeast, IsFaultOf, IsPlanFault};
+ghost use Rattle.mm_cut.specs.declared.verdict.Verdict.TheVariants.{Least, LeastInOrder};
+ghost use Rattle.mm_cut.specs.Checking.{Checks, SaysSheet, LosesLeast, LosesLeastInOrder, IsFaultOf, IsPlanFault};
 ghost use Rattle.mm_cut.specs.Lines.{line_of};
-ghost use Rattle.mm_cut.specs.Verdicts.{IsVerdict};
 
 use crate::fault::Fault;
+use crate::firsts::verdict_of;
 use crate::lines::verdict_line;
-use crate::verdict::{Verdict, verify};
+use crate::verdict::Verdict;
 use mm_plan::Sheet;
 use mm_problem::{Problem, read_problem};
 use std::alloc::Global;
@@ -47,24 +46,6 @@ pub fn read_texts(
     Ok((problem, sheet))
 }
 
-/// The verdict on a sheet that is one for the problem.
-#[must_use]
-pub fn verdict_of(problem: &Problem, sheet: &Sheet) -> Verdict
-    requires shape { HasShape problem.now sheet.now.plan }
-    requires is_sheet { IsSheet sheet.now }
-    ensures { IsVerdict problem.now (amount sheet.now.plan) sheet.now.cut sheet.now.by_channels
-        sheet.now.loss sheet.now.bound result }
-{
-    verify(
-        problem,
-        sheet.plan(),
-        sheet.cut(),
-        sheet.by_channels(),
-        sheet.loss(),
-        sheet.bound(),
-    )
-}
-
 /// The verdict on the plan that the plan text says, for the problem that the setup and the forecast say, with the
 /// verdict's line. The faults come in this order: of the setup, of the forecast, of the plan text, of its shape.
 pub fn check_bytes(
@@ -76,6 +57,8 @@ pub fn check_bytes(
     ensures verdict { IfOk result (λ c. Checks setup.now forecast.now plan.now c.0) }
     ensures line { IfOk result (λ c. c.1.items ≡ line_of c.0) }
     ensures least { IfOk result (λ c. (n : ℕ) → c.0 ≡ Least n → LosesLeast setup.now forecast.now plan.now n) }
+    ensures in_order { IfOk result (λ c. (n : ℕ) → c.0 ≡ LeastInOrder n
+        → LosesLeastInOrder setup.now forecast.now plan.now n) }
     ensures refused { IfRefused NoMemory result (IsFaultOf setup.now forecast.now plan.now) }
 {
     let (problem, sheet) = read_texts(alloc, setup, forecast, plan)?;

@@ -1,7 +1,7 @@
 //! The laws of cuts and verdicts, over their definitions alone.
 ghost use Rattle.mm_cut.specs.Changes.{CutsCountAlike, OnlyCountedHelps};
 ghost use Rattle.mm_cut.specs.Cuts.{CutsBoundLosses, FirstCutsBoundLosses, CutsAreFew};
-ghost use Rattle.mm_cut.specs.Verdicts.{VerdictsExclude};
+ghost use Rattle.mm_cut.specs.Verdicts.{VerdictsExclude, SheetVerdictsExclude};
 
 /// No plan that fits loses less than the bound of any cut.
 pub fn cuts_bound_losses()
@@ -16,6 +16,11 @@ pub fn first_cuts_bound_losses()
 /// Of one plan, cut, printed loss and printed bound no two verdicts hold.
 pub fn verdicts_exclude()
     ensures { VerdictsExclude }
+{}
+
+/// Of one sheet no two verdicts hold.
+pub fn sheet_verdicts_exclude()
+    ensures { SheetVerdictsExclude }
 {}
 
 /// Two problems that agree in all that a cut counts give it the same bound.

@@ -5,6 +5,7 @@ mod bounds;
 mod check;
 mod counts;
 mod fault;
+mod firsts;
 mod laws;
 mod lines;
 mod marks;
@@ -12,12 +13,13 @@ mod stretches;
 mod verdict;
 
 pub use bounds::{Parts, bound, parts_of};
-pub use check::{check_bytes, read_sheet, read_texts, verdict_of};
+pub use check::{check_bytes, read_sheet, read_texts};
 pub use counts::{first_bad_count, is_inner};
 pub use fault::Fault;
+pub use firsts::{first_not_shown, shows_first, verdict_of};
 pub use laws::{
     cuts_are_few, cuts_bound_losses, cuts_count_alike, first_cuts_bound_losses, only_counted_helps,
-    verdicts_exclude,
+    sheet_verdicts_exclude, verdicts_exclude,
 };
 pub use lines::verdict_line;
 pub use marks::{STEP_PLACES, inner_steps, listed_steps};

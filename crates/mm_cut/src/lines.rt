@@ -14,6 +14,14 @@ fn numbered(alloc: Global, said: &str, number: u64) -> Result<Vec<u8>, NoMemory>
     Ok(format!(in alloc; "{said} {number}\n")?.into_bytes())
 }
 
+// The line that says this of a number, with words after it.
+fn number_between(alloc: Global, said: &str, number: u64, after: &str) -> Result<Vec<u8>, NoMemory>
+    ensures { IfOk result (λ line. line.items ≡ said.now ++ space ∷ decimal number ++ space ∷ after.now
+        ++ line_feed ∷ []) }
+{
+    Ok(format!(in alloc; "{said} {number} {after}\n")?.into_bytes())
+}
+
 /// The line of a verdict, with its line end.
 pub fn verdict_line(alloc: Global, verdict: Verdict) -> Result<Vec<u8>, NoMemory>
     ensures line { IfOk result (λ line. line.items ≡ line_of verdict) }
@@ -27,6 +35,10 @@ pub fn verdict_line(alloc: Global, verdict: Verdict) -> Result<Vec<u8>, NoMemory
         Verdict::NotShown { loss, bound } => {
             Ok(format!(in alloc; "not shown, loss {loss} bound {bound}\n")?.into_bytes())
         }
+        Verdict::FirstNotShown(stores) => {
+            number_between(alloc, "first", u64::from(stores), "not shown")
+        }
         Verdict::Least(loss) => numbered(alloc, "least", loss),
+        Verdict::LeastInOrder(loss) => number_between(alloc, "least", loss, "in order"),
     }
 }

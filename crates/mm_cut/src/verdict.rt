@@ -11,8 +11,8 @@ use crate::stretches::first_bad;
 use mm_plan::{Plan, Stretch, fits, loss_of};
 use mm_problem::Problem;
 
-/// What is said of a plan and a cut, with the loss and the bound that are printed beside them. Losses and bounds
-/// are in blocks, stretches and counted steps by their place from 1.
+/// What is said of a plan and a cut, with the loss and the bound that are printed beside them, and of a sheet. Losses and
+/// bounds are in blocks, stretches and counted steps by their place from 1.
 #[derive(Clone, Copy, Debug, PartialEq, Eq)]
 pub enum Verdict {
     /// The plan does not fit; the first step at which it does not.
@@ -27,8 +27,13 @@ pub enum Verdict {
     BoundIs(i64),
     /// The bound is not the loss, so that the cut does not show that the plan loses least.
     NotShown { loss: u64, bound: i64 },
+    /// No plan that fits loses less in all, but the sheet's certificate of that many of the first stores does not show what
+    /// they lose. Those of fewer stores do.
+    FirstNotShown(u32),
     /// No plan that fits loses less; the plan's loss.
     Least(u64),
+    /// No plan that fits loses less of the first store, of the first two and so on to all of them; the plan's loss.
+    LeastInOrder(u64),
 }
 
 // The plan's loss, where the printed one is another.
@@ -68,7 +73,7 @@ fn wrong_bound(
 }
 
 /// The first verdict that holds, in the order of `Verdict`, of a plan and a cut, with the loss and the bound that
-/// are printed beside them.
+/// are printed beside them. It is none of those that speak of the first stores.
 #[must_use]
 pub fn verify(
     problem: &Problem,

@@ -3,7 +3,7 @@ use Rattle.std.specs.List.{sum_by, range_with_len}
 use Rattle.mm_base.specs.declared.limits.TheConstants.{MAX_BLOCKS, MAX_STEPS}
 use Rattle.mm_plan.specs.Table.{amount}
 use Rattle.mm_plan.specs.Volumes.{store_loss}
-use Rattle.mm_plan.proofs.loss.loss_of.Given as goal
+use Rattle.mm_plan.proofs.loss.first_loss.Given as goal
 
 abbrev pub invariant-loop-store : goal.invariant-loop-store
 invariant-loop-store l = record {

@@ -2,7 +2,7 @@ use Rattle.std.proofs.Common.{ap, ◌∙◌, w64}
 use Rattle.std.proofs.lemmas.Int.{to_z-of_z}
 use mir.Val.{of_z, to_z}
 use Rattle.mm_cut.proofs.SameVerdict.{same_verdict}
-use Rattle.mm_cut.proofs.check.verdict_of.Goals as goal
+use Rattle.mm_cut.proofs.firsts.own_verdict.Goals as goal
 
 pub returns : goal.returns
 returns c =
