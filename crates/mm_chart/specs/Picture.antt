@@ -7,9 +7,9 @@ use Rattle.mm_plan.specs.Volumes.{Amounts, written, left, lost}
 use Rattle.mm_plan.specs.Simulated.{VolumeTables, written_in, left_in, lost_in, CoversProblem, AgreeEach}
 use Rattle.mm_plan.specs.Sheet.{SheetRows}
 use Rattle.mm_cut.specs.Cuts.{IsCut}
-use Rattle.mm_cut.specs.Verdicts.{IsVerdict}
+use Rattle.mm_cut.specs.Verdicts.{IsSheetVerdict}
 use Rattle.mm_cut.specs.declared.verdict.Verdict.{Verdict}
-use Rattle.mm_cut.specs.declared.verdict.Verdict.TheVariants.{BoundIs, NotShown, Least}
+use Rattle.mm_cut.specs.declared.verdict.Verdict.TheVariants.{BoundIs, NotShown, FirstNotShown, Least, LeastInOrder}
 
 pub record Drawn : Type 0 where
   pub problem : Dumping
@@ -34,7 +34,9 @@ amounts p = amount p.sheet.plan
 abbrev pub has_cut : Verdict → Bool
 has_cut (BoundIs m) = true
 has_cut (NotShown n m) = true
+has_cut (FirstNotShown k) = true
 has_cut (Least n) = true
+has_cut (LeastInOrder n) = true
 has_cut _ = false
 
 -- the cut that is drawn: the sheet's, or none where it is not one
@@ -48,7 +50,7 @@ counts p = if has_cut p.verdict then p.sheet.by_channels else []
 -- the sheet's plan is one for the problem, and the verdict is that on the sheet
 pub record IsDrawn (p : Drawn) : Type 0 where
   pub shape : HasShape p.problem p.sheet.plan
-  pub verdict : IsVerdict p.problem (amounts p) p.sheet.cut p.sheet.by_channels p.sheet.loss p.sheet.bound p.verdict
+  pub verdict : IsSheetVerdict p.problem p.sheet p.verdict
   pub is_cut : IsCut p.problem (cut p) (counts p)
 
 -- the tables are what the plan does to the stores

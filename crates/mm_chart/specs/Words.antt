@@ -2,16 +2,17 @@
 use Rattle.std.specs.Prelude.{ℕ, ◌+◌, ◌-◌, ◌==◌, nat_le, nat_lt, Bool, ◌&&◌, not, if◌then◌else◌, List, [], ◌++◌, codes, decimal, flat_map}
 use Rattle.std.specs.List.{sum_by}
 use Rattle.mm_problem.specs.Dumping.{steps, stores}
+use Rattle.mm_plan.specs.Volumes.{first_loss}
 use Rattle.mm_cut.specs.declared.verdict.Verdict.{Verdict}
-use Rattle.mm_cut.specs.declared.verdict.Verdict.TheVariants.{NotShown, Least}
+use Rattle.mm_cut.specs.declared.verdict.Verdict.TheVariants.{NotShown, Least, LeastInOrder}
 use Rattle.mm_cut.specs.Cuts.{coming_sum, held_sum, windows_sum, limits_sum}
 use Rattle.mm_cut.specs.Lines.{line_of}
 use Rattle.mm_chart.specs.declared.layout.TheConstants.{MARGIN, HEADLINE_AT, LINE_PITCH}
-use Rattle.mm_chart.specs.declared.phrases.TheConstants.{MANY_RANGES, INDENT, NO_FEWER, ONLY_SHOWN, MARKED_WINDOWS, MARKED_PASSES, MARKED_LIMITS, MARKED, AT_LEAST, WHY, IN_STRETCHES, COME, AS_ENDS, STAND, BY_WINDOWS, NO_WINDOWS, BY_LIMITS, NO_LIMITS, HELP, WIDER, NO_WIDER, HIGHER, NO_HIGHER, LARGER, FEWER, MARKED_WORTH, ONE_WIDER, NO_OTHER, NONE_WIDER}
+use Rattle.mm_chart.specs.declared.phrases.TheConstants.{MANY_RANGES, INDENT, NO_FEWER, ONLY_SHOWN, MARKED_WINDOWS, MARKED_PASSES, MARKED_LIMITS, MARKED, AT_LEAST, WHY, IN_STRETCHES, COME, AS_ENDS, STAND, BY_WINDOWS, NO_WINDOWS, BY_LIMITS, NO_LIMITS, HELP, WIDER, NO_WIDER, HIGHER, NO_HIGHER, LARGER, FEWER, MARKED_WORTH, ONE_WIDER, NO_OTHER, NONE_WIDER, IN_ORDER, FIRSTS, LOSE}
 use Rattle.mm_chart.specs.declared.pen.Style.TheVariants as style
 use Rattle.mm_chart.specs.declared.series.Series.{Series}
 use Rattle.mm_chart.specs.declared.series.Series.TheVariants.{WindowCounts, CountedWindow, LimitsCount, Worth}
-use Rattle.mm_chart.specs.Picture.{Drawn, has_worth, cut, counts}
+use Rattle.mm_chart.specs.Picture.{Drawn, amounts, has_worth, cut, counts}
 use Rattle.mm_chart.specs.Series.{one_if, amount_at, total_of, has_stretch}
 use Rattle.mm_chart.specs.Layout.{word_line}
 use Rattle.mm_chart.specs.Svg.{said, grouped, signed_grouped, opened, closed, labelled}
@@ -26,6 +27,7 @@ of_all p n = grouped n ++ said (codes " of ") ++ grouped (all_coming p)
 -- what the verdict lets the chart say
 unfoldable pub headline_of : Drawn → Verdict → List ℕ
 headline_of p (Least n) = opened style.Headline MARGIN HEADLINE_AT ++ of_all p n ++ said NO_FEWER.now ++ closed
+headline_of p (LeastInOrder n) = opened style.Headline MARGIN HEADLINE_AT ++ of_all p n ++ said IN_ORDER.now ++ closed
 headline_of p (NotShown n m) =
     opened style.Doubtful MARGIN HEADLINE_AT ++ of_all p n ++ said ONLY_SHOWN.now ++ signed_grouped m ++ closed
 headline_of p v = labelled style.Alarm MARGIN HEADLINE_AT (line_of v)
@@ -180,9 +182,34 @@ worth_lines p n =
 unfoldable pub worth_words : Drawn → ℕ → List ℕ
 worth_words p n = if has_worth p then worth_lines p n else []
 
+-- ---- what the first stores lose
+
+-- a store and what it and those before it lose, on a line of 8 stores
+unfoldable pub first_at : Drawn → ℕ → ℕ → List ℕ
+first_at p y s =
+    broken y s ++ said (codes " ") ++ name p.problem s ++ said (codes " (") ++ grouped (first_loss (s + 1) p.problem (amounts p)) ++ said (codes ")")
+
+-- what is said of them, and each of the stores
+unfoldable pub firsts_lines : Drawn → ℕ → List ℕ
+firsts_lines p n =
+    labelled style.Heading MARGIN (word_line p.problem n) FIRSTS.now
+    ++ opened style.Plain MARGIN (word_line p.problem (n + 1)) ++ said LOSE.now
+    ++ flat_map (first_at p (word_line p.problem (n + 1))) (stores p.problem) ++ closed
+
+-- ---- all of the words
+
+-- the first line after what one window is worth
+abbrev pub firsts_line : Drawn → ℕ
+firsts_line p = if has_worth p then 16 else 13
+
+-- the sum where the cut's bound is the loss, and the help
+unfoldable pub least_words : Drawn → ℕ → List ℕ
+least_words p n = why p (grouped n) ++ help p ++ worth_words p 13
+
 -- the sum where there is a cut to its bound, and the help where it is the loss and there is one
 unfoldable pub words_of : Drawn → Verdict → List ℕ
-words_of p (Least n) = if n == 0 then [] else why p (grouped n) ++ help p ++ worth_words p 13
+words_of p (Least n) = if n == 0 then [] else least_words p n
+words_of p (LeastInOrder n) = if n == 0 then [] else least_words p n ++ firsts_lines p (firsts_line p)
 words_of p (NotShown n m) = why p (signed_grouped m) ++ worth_words p 7
 words_of p v = []
 
@@ -192,5 +219,6 @@ words p = words_of p p.verdict
 -- how many lines they have room for
 abbrev pub word_lines : Drawn → Verdict → ℕ
 word_lines p (Least n) = if n == 0 then 0 else if has_worth p then 15 else 13
+word_lines p (LeastInOrder n) = if n == 0 then 0 else firsts_line p + 3
 word_lines p (NotShown n m) = if has_worth p then 9 else 6
 word_lines p v = 0

@@ -4,7 +4,7 @@ ghost use Rattle.mm_chart.specs.Listed.{SumsAddUp, OnlyListedHelps};
 ghost use Rattle.mm_chart.specs.Legend.{legend, worth_key};
 ghost use Rattle.mm_chart.specs.Table.{RecordsBalance};
 ghost use Rattle.mm_chart.specs.declared.document.TheConstants.{LEGEND};
-ghost use Rattle.mm_chart.specs.declared.phrases.TheConstants.{AS_ENDS, AT_LEAST, BY_LIMITS, BY_WINDOWS, COME, FEWER, HELP, HIGHER, IN_STRETCHES, LARGER, MARKED, MARKED_LIMITS, MARKED_PASSES, MARKED_WINDOWS, MARKED_WORTH, NONE_WIDER, NO_FEWER, NO_HIGHER, NO_LIMITS, NO_OTHER, NO_WIDER, NO_WINDOWS, ONE_WIDER, ONLY_SHOWN, SAVES, STAND, WHY, WIDER};
+ghost use Rattle.mm_chart.specs.declared.phrases.TheConstants.{AS_ENDS, AT_LEAST, BY_LIMITS, BY_WINDOWS, COME, FEWER, FIRSTS, HELP, HIGHER, IN_ORDER, IN_STRETCHES, LARGER, LOSE, MARKED, MARKED_LIMITS, MARKED_PASSES, MARKED_WINDOWS, MARKED_WORTH, NONE_WIDER, NO_FEWER, NO_HIGHER, NO_LIMITS, NO_OTHER, NO_WIDER, NO_WINDOWS, ONE_WIDER, ONLY_SHOWN, SAVES, STAND, WHY, WIDER};
 ghost use Rattle.mm_chart.specs.declared.rows.TheConstants.{WORTH_KEY};
 
 /// The four numbers of the sum give the number that follows it: the loss that no plan goes below, or the cut's bound.
@@ -29,6 +29,7 @@ pub fn records_balance()
 /// What the headline says of a cut, and what the colours mean.
 pub fn headline_words_are()
     ensures least { NO_FEWER.now ≡ codes " blocks are lost, and no plan loses fewer" }
+    ensures in_order { IN_ORDER.now ≡ codes " blocks are lost, and no plan loses fewer in the setup's order" }
     ensures shown { ONLY_SHOWN.now ≡ codes " blocks are lost; this cut shows only that no plan loses fewer than " }
     ensures legend { LEGEND.now ≡ legend }
 {}
@@ -78,4 +79,11 @@ pub fn worth_words_are()
         ≡ codes "What one wider window saves: a block for each block that it is wider, up to the number in brackets" }
     ensures others { NO_OTHER.now ≡ codes " and in no other." }
     ensures none { NONE_WIDER.now ≡ codes "In no step: no wider window saves a block by itself." }
+{}
+
+/// The words of what the first stores lose.
+pub fn firsts_words_are()
+    ensures heading { FIRSTS.now
+        ≡ codes "In the setup's order: what each store and those before it lose. No plan loses fewer of them." }
+    ensures stores { LOSE.now ≡ codes "Up to each store:" }
 {}

@@ -150,7 +150,7 @@ pub(crate) fn bottom(problem: &Problem) -> u32
 
 // A line of words below the rows.
 pub(crate) fn word_line(problem: &Problem, line: u32) -> u32
-    requires { line ≤ 15 }
+    requires { line ≤ 19 }
     ensures line { result ≡ word_line problem.now line }
     ensures most { result < 2 ^ 20 }
 {

@@ -94,3 +94,13 @@ pub const NO_OTHER: &[u8] = b" and in no other.";
 
 /// What is said where none does.
 pub const NONE_WIDER: &[u8] = b"In no step: no wider window saves a block by itself.";
+
+/// What is said of a plan that loses least of the first stores too.
+pub const IN_ORDER: &[u8] = b" blocks are lost, and no plan loses fewer in the setup's order";
+
+/// The heading of what the first stores lose.
+pub const FIRSTS: &[u8] =
+    b"In the setup's order: what each store and those before it lose. No plan loses fewer of them.";
+
+/// What comes before the stores.
+pub const LOSE: &[u8] = b"Up to each store:";

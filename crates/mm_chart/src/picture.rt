@@ -5,14 +5,14 @@ ghost use Rattle.std.specs.List.{sum_by};
 ghost use Rattle.mm_problem.specs.Dumping.{IsDumping, stores, stores_of};
 ghost use Rattle.mm_plan.specs.Sheet.{IsSheet};
 ghost use Rattle.mm_plan.specs.Table.{amount, HasShape};
-ghost use Rattle.mm_plan.specs.Volumes.{written, left, lost};
+ghost use Rattle.mm_plan.specs.Volumes.{first_loss, written, left, lost};
 ghost use Rattle.mm_plan.specs.Simulated.{written_in, left_in, lost_in, CoversProblem, AgreeEach};
 ghost use Rattle.mm_cut.specs.Stretches.{IsStretch, AreStretches};
 ghost use Rattle.mm_cut.specs.Cuts.{IsCut, coming_sum, held_sum, counts_window, counts_limits, windows_sum, limits_sum};
 ghost use Rattle.mm_cut.specs.declared.marks.TheConstants.{STEP_PLACES};
 ghost use Rattle.mm_chart.specs.declared.series.TheConstants.{AMOUNT_PLACES};
 ghost use Rattle.mm_chart.specs.Columns.{AreMarks, AreAmounts};
-ghost use Rattle.mm_chart.specs.Picture.{has_cut, has_worth, cut, counts, IsDrawn};
+ghost use Rattle.mm_chart.specs.Picture.{amounts, has_cut, has_worth, cut, counts, IsDrawn};
 ghost use Rattle.mm_chart.specs.declared.series.Series.TheVariants.{CountedWindow};
 ghost use Rattle.mm_chart.specs.Series.{one_if, sent, has_stretch, IsSeries, amount_of, scaled, worth_of};
 
@@ -20,7 +20,7 @@ use crate::series::{AMOUNT_PLACES, Series};
 use crate::shades::{Shade, has_stretch, inner_steps_of, inner_steps_on, last_steps_of, shades_of};
 use mm_base::{MAX_STEPS, NoMemory};
 use mm_cut::{Parts, STEP_PLACES, Verdict, inner_steps, listed_steps, parts_of, verdict_of};
-use mm_plan::{Sheet, Simulated, Stretch, simulate};
+use mm_plan::{Sheet, Simulated, Stretch, first_loss, simulate};
 use mm_problem::Problem;
 use std::alloc::Global;
 use std::fmt;
@@ -78,7 +78,11 @@ fn has_cut(verdict: Verdict) -> bool
     ensures { result ≡ has_cut verdict }
 {
     match verdict {
-        Verdict::BoundIs(_) | Verdict::NotShown { .. } | Verdict::Least(_) => true,
+        Verdict::BoundIs(_)
+        | Verdict::NotShown { .. }
+        | Verdict::FirstNotShown(_)
+        | Verdict::Least(_)
+        | Verdict::LeastInOrder(_) => true,
         _ => false,
     }
 }
@@ -190,6 +194,14 @@ impl Picture {
         ensures { result.now ≡ self.now.problem }
     {
         &self.problem
+    }
+
+    // What that many of the first stores lose.
+    pub(crate) fn first_loss(&self, stores: usize) -> u64
+        requires { stores ≤ length self.now.problem.rows }
+        ensures { result ≡ first_loss stores self.now.problem (amounts self.now) }
+    {
+        first_loss(&self.problem, self.sheet.plan(), stores)
     }
 
     // The stretches that are drawn.
