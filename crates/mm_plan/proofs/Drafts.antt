@@ -1,42 +1,45 @@
 -- What a draft of a sheet says so far, and that each line that may come next adds just itself.
-use Rattle.std.proofs.Common.{◌≡◌, ℕ, zero, suc, ◌+◌, ◌*◌, ◌<◌, ◌≤◌, Bool, true, false, ◌==◌, None, List, [], ◌∷◌, ◌++◌, length, map, take, drop, ℤ, refl, sym, ap, ◌∙◌, arith, append_assoc, append-nil, length-append, length-drop}
-use Rattle.std.specs.Prelude.{All, nat_le, nat_lt, ◌&&◌, ◌^◌, FitsSigned}
+use Rattle.std.proofs.Common.{◌≡◌, ℕ, zero, suc, ◌+◌, ◌*◌, ◌<◌, ◌≤◌, Bool, true, false, ◌==◌, None, List, [], ◌∷◌, ◌++◌, length, map, take, drop, ℤ, pos, refl, sym, ap, ◌∙◌, subst, arith, append_assoc, append-nil, length-append, length-drop}
+use Rattle.std.specs.Prelude.{All, unwrap_or, nat_le, nat_lt, ◌&&◌, ◌^◌, FitsSigned}
 use Rattle.std.specs.Int.{w64}
 use Rattle.std.proofs.lemmas.Bool.{and_parts, false≢true}
 use Rattle.std.proofs.lemmas.Bool.Decides.{nat_tests}
 use Rattle.std.proofs.lemmas.List.{nil_from_length, take_all, map-append, take-append-le, drop-append-le}
-use Rattle.std.proofs.lemmas.List.Elements.{All-append, All-push}
+use Rattle.std.proofs.lemmas.List.Elements.{All-nil, All-append, All-push}
 use Rattle.mm_base.specs.declared.limits.TheConstants.{MAX_STORES, MAX_STEPS, MAX_BLOCKS}
 use Rattle.mm_base.specs.Id.{IsIdField}
 use Rattle.mm_base.proofs.IdFields.{Decides-nat_le}
+use Rattle.mm_plan.specs.declared.form.Form.{Form}
+use Rattle.mm_plan.specs.declared.form.Form.TheVariants.{First, Second, Third}
 use Rattle.mm_plan.specs.declared.stretch.Stretch.{Stretch}
 use Rattle.mm_plan.specs.declared.stretch.TheConstants.{MAX_STRETCHES, MAX_COUNTS}
 use Rattle.mm_plan.specs.declared.draft.Stage.{Stage}
-use Rattle.mm_plan.specs.declared.draft.Stage.TheVariants.{ToTitle, ToStores, ToDumps, ToCut, ToEnd, Done}
+use Rattle.mm_plan.specs.declared.draft.Stage.TheVariants.{ToTitle, ToStores, ToDumps, ToLoss, ToCut, ToEnd, Done}
 use Rattle.mm_plan.specs.Table.{Table}
-use Rattle.mm_plan.specs.Sheet.{SheetRows, IsWritten, Line, title_line, stores_line, dump_line, loss_line, stretch_line, count_line, bound_line, end_line, dump_lines, has_counts, IsLine}
-use Rattle.mm_plan.specs.Reading.{DraftRows, may_follow, after}
+use Rattle.mm_plan.specs.Sheet.{CertificateRows, IsCertificate, IsWritten, Line, title_line, stores_line, dump_line, loss_line, stretch_line, count_line, bound_line, first_line, end_line, dump_lines, form_by, form_of, certificates_of, certificate_lines, opening, first_lines, IsLine}
+use Rattle.mm_plan.specs.Reading.{ReadRows, DraftRows, no_rows, may_count, fits_form, may_begin, has_all, may_follow, part_of, with_part, after, firsts_in, sheet_of}
 
 -- the dump lines of the plan
-abbrev pub dumps_of : SheetRows → List Line
+abbrev pub dumps_of : ReadRows → List Line
 dumps_of s = dump_lines s.plan.stores 1 s.plan.steps s.plan.amounts
 
--- the lines up to the loss
-abbrev pub upto_loss : Bool → SheetRows → List Line
-upto_loss b s = title_line b ∷ stores_line s.stores ∷ [] ++ dumps_of s ++ loss_line s.loss ∷ []
+-- the lines of what has been read to its end
+abbrev pub upto_whole : Form → ReadRows → List Line
+upto_whole f s = title_line f ∷ stores_line s.stores ∷ [] ++ dumps_of s ++ first_lines 0 s.certificates
 
--- the lines up to the last count
-abbrev pub upto_counts : Bool → SheetRows → List Line
-upto_counts b s = upto_loss b s ++ map stretch_line s.cut ++ map count_line s.by_channels
+-- the lines up to the next certificate
+abbrev pub upto_part : Form → ReadRows → List Line
+upto_part f s = upto_whole f s ++ opening (length s.certificates)
 
 -- the lines so far
-abbrev pub so_far : Stage → Bool → SheetRows → List Line
-so_far ToTitle b s = []
-so_far ToStores b s = title_line b ∷ []
-so_far ToDumps b s = title_line b ∷ stores_line s.stores ∷ [] ++ dumps_of s
-so_far ToCut b s = upto_counts b s
-so_far ToEnd b s = upto_counts b s ++ bound_line s.bound ∷ []
-so_far Done b s = upto_counts b s ++ bound_line s.bound ∷ [] ++ end_line ∷ []
+abbrev pub so_far : Stage → Form → ReadRows → List Line
+so_far ToTitle f s = []
+so_far ToStores f s = title_line f ∷ []
+so_far ToDumps f s = upto_whole f s
+so_far ToLoss f s = upto_part f s
+so_far ToCut f s = upto_part f s ++ loss_line s.loss ∷ [] ++ map stretch_line s.cut ++ map count_line s.by_channels
+so_far ToEnd f s = upto_whole f s
+so_far Done f s = upto_whole f s ++ end_line ∷ []
 
 -- the stores and their dumps are within the limits
 pub record AreDumps (ids : List (List ℕ)) (plan : Table) : Type 0 where
@@ -47,67 +50,72 @@ pub record AreDumps (ids : List (List ℕ)) (plan : Table) : Type 0 where
   pub each_amount : All (λ n. n ≤ MAX_BLOCKS) plan.amounts
   pub each_store : All IsIdField ids
 
--- the stretches and the counts are within the limits
-pub record AreListed (ds : List Stretch) (ts : List ℕ) : Type 0 where
-  pub cut : length ds ≤ MAX_STRETCHES
-  pub counts : length ts ≤ MAX_COUNTS
-  pub each_stretch : All IsWritten ds
-  pub each_count : All (λ t. t < 2 ^ 32) ts
-
 -- what holds of the rows at every stage
-pub record IsRows (s : SheetRows) : Type 0 where
+pub record IsRows (s : ReadRows) : Type 0 where
   pub dumps : AreDumps s.stores s.plan
-  pub listed : AreListed s.cut s.by_channels
-  pub loss : s.loss < 2 ^ 64
-  pub bound : FitsSigned w64 s.bound
-  pub firsts : s.firsts ≡ None
+  pub part : IsCertificate (part_of s (pos 0))
+  pub certificates : All IsCertificate s.certificates
 
--- no dumps, stretches and counts yet
-pub record IsBlank (s : SheetRows) : Type 0 where
-  pub steps : s.plan.steps ≡ 0
-  pub amounts : s.plan.amounts ≡ []
-  pub cut : s.cut ≡ []
-  pub counts : s.by_channels ≡ []
-
--- stores, and no stretches and counts yet
-pub record IsUncut (s : SheetRows) : Type 0 where
+-- stores, and no certificates yet
+pub record IsUncut (s : ReadRows) : Type 0 where
   pub has_store : 1 ≤ length s.stores
-  pub cut : s.cut ≡ []
-  pub counts : s.by_channels ≡ []
+  pub none : s.certificates ≡ []
 
--- a plan; counts in the second form alone
-pub record IsPlanned (b : Bool) (s : SheetRows) : Type 0 where
+-- room for one certificate more
+abbrev pub HasRoom : Form → ℕ → List CertificateRows → Type 0
+HasRoom Third n cs = length cs < n
+HasRoom _ n cs = cs ≡ []
+
+-- a plan, and room for one certificate more
+pub record IsOpened (f : Form) (ids : List (List ℕ)) (plan : Table) (cs : List CertificateRows) : Type 0 where
+  pub has_store : 1 ≤ length ids
+  pub has_step : 1 ≤ plan.steps
+  pub room : HasRoom f (length ids) cs
+
+-- the same, with counts in the forms that have some
+pub record IsPlanned (f : Form) (s : ReadRows) : Type 0 where
+  pub opened : IsOpened f s.stores s.plan s.certificates
+  pub counts : may_count f ≡ false → s.by_channels ≡ []
+
+-- certificates of the form, that of all stores first
+pub record AreInForm (f : Form) (n : ℕ) (s : ReadRows) : Type 0 where
+  pub form : form_of (sheet_of (record { stage = Done; form = f; rows = s })) ≡ f
+  pub all : certificates_of (sheet_of (record { stage = Done; form = f; rows = s })) ≡ s.certificates
+  pub few : length s.certificates ≤ n
+
+-- a plan and certificates of the form
+pub record IsWhole (f : Form) (s : ReadRows) : Type 0 where
   pub has_store : 1 ≤ length s.stores
   pub has_step : 1 ≤ s.plan.steps
-  pub counts : b ≡ false → s.by_channels ≡ []
+  pub certificates : AreInForm f (length s.stores) s
 
--- counts in the second form, and in that alone
-pub record IsWhole (b : Bool) (s : SheetRows) : Type 0 where
-  pub has_store : 1 ≤ length s.stores
-  pub has_step : 1 ≤ s.plan.steps
-  pub form : b ≡ has_counts s
+-- all certificates of the form
+pub record IsEnded (f : Form) (s : ReadRows) : Type 0 where
+  pub whole : IsWhole f s
+  pub all : has_all f s ≡ true
 
 -- what holds besides at a stage
-abbrev pub IsAt : Stage → Bool → SheetRows → Type 0
-IsAt ToTitle b s = IsBlank s
-IsAt ToStores b s = IsBlank s
-IsAt ToDumps b s = IsUncut s
-IsAt ToCut b s = IsPlanned b s
-IsAt ToEnd b s = IsWhole b s
-IsAt Done b s = IsWhole b s
+abbrev pub IsAt : Stage → Form → ReadRows → Type 0
+IsAt ToTitle f s = s ≡ no_rows
+IsAt ToStores f s = s ≡ no_rows
+IsAt ToDumps f s = IsUncut s
+IsAt ToLoss f s = IsOpened f s.stores s.plan s.certificates
+IsAt ToCut f s = IsPlanned f s
+IsAt ToEnd f s = IsWhole f s
+IsAt Done f s = IsEnded f s
 
 -- a draft with these parts
-abbrev pub at_stage : Stage → Bool → SheetRows → DraftRows
-at_stage stage b s = record { stage = stage; second = b; rows = s }
+abbrev pub at_stage : Stage → Form → ReadRows → DraftRows
+at_stage stage f s = record { stage = stage; form = f; rows = s }
 
 -- a draft that is sound
 pub record IsSound (d : DraftRows) : Type 0 where
   pub rows : IsRows d.rows
-  pub at : IsAt d.stage d.second d.rows
+  pub at : IsAt d.stage d.form d.rows
 
 -- the lines that a draft was read from
 abbrev pub lines_so_far : DraftRows → List Line
-lines_so_far d = so_far d.stage d.second d.rows
+lines_so_far d = so_far d.stage d.form d.rows
 
 -- a line adds just itself
 pub record IsAdded (d : DraftRows) (x : Line) : Type 0 where
@@ -133,13 +141,16 @@ dump_lines-push n t (suc k) xs row size width =
     ∙ ap (λ ls. dump_line t (take n xs) ∷ ls) (dump_lines-push n (t + 1) k (drop n xs) row left width)
     ∙ ap (λ j. dump_line t (take n xs) ∷ (dump_lines n (t + 1) k (drop n xs) ++ dump_line j row ∷ [])) step
 
--- without stretches and counts nothing is added
-no_cut : (front : List Line) (ds : List Stretch) (ts : List ℕ) → ds ≡ [] → ts ≡ [] → front ++ map stretch_line ds ++ map count_line ts ≡ front
-no_cut front ds ts no_ds no_ts =
-    ap (λ ds. front ++ map stretch_line ds ++ map count_line ts) no_ds
-    ∙ ap (λ ts. front ++ [] ++ map count_line ts) no_ts
-    ∙ append-nil (front ++ [])
-    ∙ append-nil front
+-- one certificate more
+pub first_lines-push : (k : ℕ) (cs : List CertificateRows) (c : CertificateRows) → first_lines k (cs ++ c ∷ []) ≡ first_lines k cs ++ opening (k + length cs) ++ certificate_lines c
+first_lines-push k [] c =
+    let here : k ≡ k + 0 = omega arith in
+    append-nil (opening k ++ certificate_lines c) ∙ ap (λ j. opening j ++ certificate_lines c) here
+first_lines-push k (d ∷ cs) c =
+    let here : suc k + length cs ≡ k + suc (length cs) = omega arith in
+    let front = opening k ++ certificate_lines d in
+    ap (λ ls. front ++ ls) (first_lines-push (suc k) cs c ∙ ap (λ j. first_lines (suc k) cs ++ opening j ++ certificate_lines c) here)
+    ∙ simp append_assoc
 
 -- one more stretch, where there is no count
 more_cut : (front : List Line) (ds : List Stretch) (ts : List ℕ) (d : Stretch) → ts ≡ [] → front ++ map stretch_line (ds ++ d ∷ []) ++ map count_line ts ≡ front ++ map stretch_line ds ++ map count_line ts ++ stretch_line d ∷ []
@@ -157,44 +168,45 @@ more_counts front ts t =
     ap (λ ls. front ++ ls) (map-append count_line ts (t ∷ []))
     ∙ sym (append_assoc front (map count_line ts) (count_line t ∷ []))
 
+-- the bound closes the certificate
+more_parts : (front : List Line) (s : ReadRows) (z : ℤ) → front ++ first_lines 0 (s.certificates ++ part_of s z ∷ []) ≡ front ++ first_lines 0 s.certificates ++ opening (length s.certificates) ++ loss_line s.loss ∷ [] ++ map stretch_line s.cut ++ map count_line s.by_channels ++ bound_line z ∷ []
+unfolding certificate_lines
+more_parts front s z =
+    let here : 0 + length s.certificates ≡ length s.certificates = omega arith in
+    ap (λ ls. front ++ ls) (first_lines-push 0 s.certificates (part_of s z) ∙ ap (λ j. first_lines 0 s.certificates ++ opening j ++ certificate_lines (part_of s z)) here)
+    ∙ simp append_assoc
+
 -- ---- one line more
 
 -- what passes the test is above 0
 some_passes : (n : ℕ) → nat_lt 0 n ≡ true → 1 ≤ n
 some_passes n e = grind (arith, nat_tests)
 
--- no steps have no amounts
-empty_table : (size k n : ℕ) → size ≡ 0 → k ≡ 0 → size ≡ k * n
-empty_table size k n none no_steps = omega (arith, ap (λ j. j * n) no_steps)
-
 -- the stores line adds just itself
-added_stores : (b : Bool) (s : SheetRows) (ids : List (List ℕ)) → IsLine (stores_line ids) → IsRows s → IsBlank s → (nat_lt 0 (length ids) && nat_le (length ids) MAX_STORES) ≡ true → IsAdded (at_stage ToStores b s) (stores_line ids)
-added_stores b s ids line rows blank may =
+added_stores : (f : Form) (ids : List (List ℕ)) → IsLine (stores_line ids) → IsRows no_rows → (nat_lt 0 (length ids) && nat_le (length ids) MAX_STORES) ≡ true → IsAdded (at_stage ToStores f no_rows) (stores_line ids)
+added_stores f ids line rows may =
     let p = and_parts (nat_lt 0 (length ids)) (nat_le (length ids) MAX_STORES) may in
-    let none : length s.plan.amounts ≡ 0 = ap length blank.amounts in
     record {
       sound = record {
         rows = record {
           dumps = record {
             stores = (Decides-nat_le (length ids) MAX_STORES).0 p.1;
-            steps = rows.dumps.steps;
+            steps = omega arith;
             same_stores = refl;
-            table = empty_table (length s.plan.amounts) s.plan.steps (length ids) none blank.steps;
-            each_amount = rows.dumps.each_amount;
+            table = omega arith;
+            each_amount = All-nil (λ n. n ≤ MAX_BLOCKS);
             each_store = line.1;
           };
-          listed = rows.listed;
-          loss = rows.loss;
-          bound = rows.bound;
-          firsts = rows.firsts;
+          part = rows.part;
+          certificates = rows.certificates;
         };
-        at = record { has_store = some_passes (length ids) p.0; cut = blank.cut; counts = blank.counts };
+        at = record { has_store = some_passes (length ids) p.0; none = refl };
       };
-      lines = ap (λ k. title_line b ∷ stores_line ids ∷ dump_lines (length ids) 1 k s.plan.amounts) blank.steps;
+      lines = refl;
     }
 
 -- what the test of a dump line says
-dump_follows : (s : SheetRows) (t : ℕ) (xs : List ℕ) → ((t == s.plan.steps + 1) && (length xs == length s.stores)) ≡ true → (t ≡ s.plan.steps + 1) × (length xs ≡ length s.stores)
+dump_follows : (s : ReadRows) (t : ℕ) (xs : List ℕ) → ((t == s.plan.steps + 1) && (length xs == length s.stores)) ≡ true → (t ≡ s.plan.steps + 1) × (length xs ≡ length s.stores)
 dump_follows s t xs may =
     let p = and_parts (t == s.plan.steps + 1) (length xs == length s.stores) may in
     (grind (arith, nat_tests, p.0), grind (arith, nat_tests, p.1))
@@ -203,9 +215,18 @@ dump_follows s t xs may =
 wider : (k n t old new : ℕ) → t ≡ suc k → old ≡ k * n → new ≡ n → old + new ≡ t * n
 wider k n t old new is_next table width = omega (arith, ap (λ j. j * n) is_next)
 
+-- a line at the end of the dumps, where there is no certificate
+more_dumps : (f : Form) (s : ReadRows) (plan : Table) (x : Line) → s.certificates ≡ [] → dumps_of (record s { plan = plan }) ≡ dumps_of s ++ x ∷ [] → upto_whole f (record s { plan = plan }) ≡ upto_whole f s ++ x ∷ []
+more_dumps f s plan x none more =
+    let front = title_line f ∷ stores_line s.stores ∷ [] in
+    ap (λ cs. front ++ dumps_of (record s { plan = plan }) ++ first_lines 0 cs) none
+    ∙ ap (λ ls. front ++ ls ++ []) more
+    ∙ (simp (append_assoc, append-nil))
+    ∙ ap (λ cs. front ++ dumps_of s ++ first_lines 0 cs ++ x ∷ []) (sym none)
+
 -- a dump line adds just itself
-added_dump : (b : Bool) (s : SheetRows) (t : ℕ) (xs : List ℕ) → IsLine (dump_line t xs) → IsRows s → IsUncut s → ((t == s.plan.steps + 1) && (length xs == length s.stores)) ≡ true → IsAdded (at_stage ToDumps b s) (dump_line t xs)
-added_dump b s t xs line rows uncut may =
+added_dump : (f : Form) (s : ReadRows) (t : ℕ) (xs : List ℕ) → IsLine (dump_line t xs) → IsRows s → IsUncut s → ((t == s.plan.steps + 1) && (length xs == length s.stores)) ≡ true → IsAdded (at_stage ToDumps f s) (dump_line t xs)
+added_dump f s t xs line rows uncut may =
     let p = dump_follows s t xs may in
     let is_next : t ≡ suc s.plan.steps = omega (arith, p.0) in
     let number : 1 + s.plan.steps ≡ t = omega (arith, p.0) in
@@ -221,125 +242,200 @@ added_dump b s t xs line rows uncut may =
             each_amount = All-append (λ n. n ≤ MAX_BLOCKS) s.plan.amounts xs rows.dumps.each_amount line.2;
             each_store = rows.dumps.each_store;
           };
-          listed = rows.listed;
-          loss = rows.loss;
-          bound = rows.bound;
-          firsts = rows.firsts;
+          part = rows.part;
+          certificates = rows.certificates;
         };
-        at = record { has_store = uncut.has_store; cut = uncut.cut; counts = uncut.counts };
+        at = record { has_store = uncut.has_store; none = uncut.none };
       };
-      lines =
-          ap (λ k. title_line b ∷ stores_line s.stores ∷ dump_lines s.plan.stores 1 k (s.plan.amounts ++ xs)) is_next
-          ∙ ap (λ ls. title_line b ∷ stores_line s.stores ∷ ls) (dump_lines-push s.plan.stores 1 s.plan.steps s.plan.amounts xs rows.dumps.table width)
-          ∙ ap (λ k. title_line b ∷ stores_line s.stores ∷ (dumps_of s ++ dump_line k xs ∷ [])) number;
+      lines = more_dumps f s (record s.plan { steps = t; amounts = s.plan.amounts ++ xs }) (dump_line t xs) uncut.none
+          (ap (λ k. dump_lines s.plan.stores 1 k (s.plan.amounts ++ xs)) is_next
+          ∙ dump_lines-push s.plan.stores 1 s.plan.steps s.plan.amounts xs rows.dumps.table width
+          ∙ ap (λ k. dumps_of s ++ dump_line k xs ∷ []) number);
     }
+
+-- the bound 0 fits
+pub zero_fits : FitsSigned w64 (pos 0)
+zero_fits = record { sfits = omega arith }
+
+-- a loss alone
+pub blank_part : (n : ℕ) → n < 2 ^ 64 → IsCertificate (record { loss = n; cut = []; by_channels = []; bound = pos 0 })
+blank_part n line = record { cut = omega arith; counts = omega arith; each_stretch = All-nil IsWritten; each_count = All-nil (λ t. t < 2 ^ 32); loss = line; bound = zero_fits }
+
+-- the rows after a loss
+lossy : (s : ReadRows) (n : ℕ) → IsLine (loss_line n) → IsRows s → IsRows (record s { loss = n; cut = []; by_channels = [] })
+lossy s n line rows = record {
+  dumps = rows.dumps;
+  part = blank_part n line;
+  certificates = rows.certificates;
+}
+
+-- before the first certificate there is room for one
+room_before : (f : Form) (n : ℕ) (cs : List CertificateRows) → 1 ≤ n → cs ≡ [] → HasRoom f n cs
+room_before First n cs some none = none
+room_before Second n cs some none = none
+room_before Third n cs some none = omega (arith, ap length none)
+
+-- without certificates, stretches and counts nothing is added
+no_part : (front : List Line) (x : Line) → front ++ [] ++ [] ++ x ∷ [] ++ [] ++ [] ≡ front ++ [] ++ x ∷ []
+no_part front x = simp append-nil
 
 -- the loss line adds just itself
-added_loss : (b : Bool) (s : SheetRows) (n : ℕ) → IsLine (loss_line n) → IsRows s → IsUncut s → nat_lt 0 s.plan.steps ≡ true → IsAdded (at_stage ToDumps b s) (loss_line n)
-added_loss b s n line rows uncut may =
-    record {
-      sound = record {
-        rows = record {
-          dumps = rows.dumps;
-          listed = rows.listed;
-          loss = line;
-          bound = rows.bound;
-          firsts = rows.firsts;
-        };
-        at = record { has_store = uncut.has_store; has_step = some_passes s.plan.steps may; counts = λ _. uncut.counts };
-      };
-      lines = no_cut (title_line b ∷ stores_line s.stores ∷ [] ++ dumps_of s ++ loss_line n ∷ []) s.cut s.by_channels uncut.cut uncut.counts;
-    }
+added_loss : (f : Form) (s : ReadRows) (n : ℕ) → IsLine (loss_line n) → IsRows s → IsUncut s → nat_lt 0 s.plan.steps ≡ true → IsAdded (at_stage ToDumps f s) (loss_line n)
+added_loss f s n line rows uncut may = record {
+  sound = record {
+    rows = lossy s n line rows;
+    at = record {
+      opened = record { has_store = uncut.has_store; has_step = some_passes s.plan.steps may; room = room_before f (length s.stores) s.certificates uncut.has_store uncut.none };
+      counts = λ _. refl;
+    };
+  };
+  lines =
+      ap (λ cs. title_line f ∷ stores_line s.stores ∷ [] ++ dumps_of s ++ first_lines 0 cs ++ opening (length cs) ++ loss_line n ∷ [] ++ [] ++ []) uncut.none
+      ∙ no_part (title_line f ∷ stores_line s.stores ∷ [] ++ dumps_of s) (loss_line n)
+      ∙ ap (λ cs. title_line f ∷ stores_line s.stores ∷ [] ++ dumps_of s ++ first_lines 0 cs ++ loss_line n ∷ []) (sym uncut.none);
+}
+
+-- the loss line of a certificate of the first stores adds just itself
+added_part : (f : Form) (s : ReadRows) (n : ℕ) → IsLine (loss_line n) → IsRows s → IsOpened f s.stores s.plan s.certificates → IsAdded (at_stage ToLoss f s) (loss_line n)
+added_part f s n line rows opened = record {
+  sound = record { rows = lossy s n line rows; at = record { opened = opened; counts = λ _. refl } };
+  lines = simp append-nil;
+}
 
 -- what the test of a stretch line says
-stretch_follows : (s : SheetRows) → (nat_lt (length s.cut) MAX_STRETCHES && (length s.by_channels == 0)) ≡ true → (length s.cut < MAX_STRETCHES) × (s.by_channels ≡ [])
+stretch_follows : (s : ReadRows) → (nat_lt (length s.cut) MAX_STRETCHES && (length s.by_channels == 0)) ≡ true → (length s.cut < MAX_STRETCHES) × (s.by_channels ≡ [])
 stretch_follows s may =
     let p = and_parts (nat_lt (length s.cut) MAX_STRETCHES) (length s.by_channels == 0) may in
     let none : length s.by_channels ≡ 0 = grind (arith, nat_tests, p.1) in
     (grind (arith, nat_tests, p.0), nil_from_length s.by_channels none)
 
 -- a stretch line adds just itself
-added_stretch : (b : Bool) (s : SheetRows) (d : Stretch) → IsLine (stretch_line d) → IsRows s → IsPlanned b s → (nat_lt (length s.cut) MAX_STRETCHES && (length s.by_channels == 0)) ≡ true → IsAdded (at_stage ToCut b s) (stretch_line d)
-added_stretch b s d line rows planned may =
+added_stretch : (f : Form) (s : ReadRows) (d : Stretch) → IsLine (stretch_line d) → IsRows s → IsPlanned f s → (nat_lt (length s.cut) MAX_STRETCHES && (length s.by_channels == 0)) ≡ true → IsAdded (at_stage ToCut f s) (stretch_line d)
+added_stretch f s d line rows planned may =
     let p = stretch_follows s may in
     record {
       sound = record {
         rows = record {
           dumps = rows.dumps;
-          listed = record {
+          part = record {
             cut = omega (arith, p.0, length-append s.cut (d ∷ []));
-            counts = rows.listed.counts;
-            each_stretch = All-push IsWritten s.cut d rows.listed.each_stretch line;
-            each_count = rows.listed.each_count;
+            counts = rows.part.counts;
+            each_stretch = All-push IsWritten s.cut d rows.part.each_stretch line;
+            each_count = rows.part.each_count;
+            loss = rows.part.loss;
+            bound = rows.part.bound;
           };
-          loss = rows.loss;
-          bound = rows.bound;
-          firsts = rows.firsts;
+          certificates = rows.certificates;
         };
-        at = record { has_store = planned.has_store; has_step = planned.has_step; counts = planned.counts };
+        at = record { opened = planned.opened; counts = planned.counts };
       };
-      lines = more_cut (upto_loss b s) s.cut s.by_channels d p.1;
+      lines = more_cut (upto_part f s ++ loss_line s.loss ∷ []) s.cut s.by_channels d p.1;
     }
 
 -- what the test of a count line says
-count_follows : (b : Bool) (s : SheetRows) → (b && nat_lt (length s.by_channels) MAX_COUNTS) ≡ true → (b ≡ true) × (length s.by_channels < MAX_COUNTS)
+count_follows : (b : Bool) (s : ReadRows) → (b && nat_lt (length s.by_channels) MAX_COUNTS) ≡ true → (b ≡ true) × (length s.by_channels < MAX_COUNTS)
 count_follows b s may =
     let p = and_parts b (nat_lt (length s.by_channels) MAX_COUNTS) may in
     (p.0, grind (arith, nat_tests, p.1))
 
 -- a count line adds just itself
-added_count : (b : Bool) (s : SheetRows) (t : ℕ) → IsLine (count_line t) → IsRows s → IsPlanned b s → (b && nat_lt (length s.by_channels) MAX_COUNTS) ≡ true → IsAdded (at_stage ToCut b s) (count_line t)
-added_count b s t line rows planned may =
-    let p = count_follows b s may in
+added_count : (f : Form) (s : ReadRows) (t : ℕ) → IsLine (count_line t) → IsRows s → IsPlanned f s → (may_count f && nat_lt (length s.by_channels) MAX_COUNTS) ≡ true → IsAdded (at_stage ToCut f s) (count_line t)
+added_count f s t line rows planned may =
+    let p = count_follows (may_count f) s may in
     record {
       sound = record {
         rows = record {
           dumps = rows.dumps;
-          listed = record {
-            cut = rows.listed.cut;
+          part = record {
+            cut = rows.part.cut;
             counts = omega (arith, p.1, length-append s.by_channels (t ∷ []));
-            each_stretch = rows.listed.each_stretch;
-            each_count = All-push (λ t. t < 2 ^ 32) s.by_channels t rows.listed.each_count line;
+            each_stretch = rows.part.each_stretch;
+            each_count = All-push (λ t. t < 2 ^ 32) s.by_channels t rows.part.each_count line;
+            loss = rows.part.loss;
+            bound = rows.part.bound;
           };
-          loss = rows.loss;
-          bound = rows.bound;
-          firsts = rows.firsts;
+          certificates = rows.certificates;
         };
-        at = record { has_store = planned.has_store; has_step = planned.has_step; counts = λ first. absurd (false≢true (sym first ∙ p.0)) };
+        at = record { opened = planned.opened; counts = λ first. absurd (false≢true (sym first ∙ p.0)) };
       };
-      lines = more_counts (upto_loss b s ++ map stretch_line s.cut) s.by_channels t;
-    }
-
--- the bound line adds just itself
-added_bound : (b : Bool) (s : SheetRows) (z : ℤ) → IsLine (bound_line z) → IsRows s → IsPlanned b s → b ≡ has_counts s → IsAdded (at_stage ToCut b s) (bound_line z)
-added_bound b s z line rows planned form =
-    record {
-      sound = record {
-        rows = record {
-          dumps = rows.dumps;
-          listed = rows.listed;
-          loss = rows.loss;
-          bound = line;
-          firsts = rows.firsts;
-        };
-        at = record { has_store = planned.has_store; has_step = planned.has_step; form = form };
-      };
-      lines = refl;
+      lines = more_counts (upto_part f s ++ loss_line s.loss ∷ [] ++ map stretch_line s.cut) s.by_channels t;
     }
 
 -- without counts it is the first form
-no_counts_form : (s : SheetRows) → (length s.by_channels == 0) ≡ true → false ≡ has_counts s
-no_counts_form s may = grind (arith, nat_tests)
+first_form : (n : ℕ) → (n == 0) ≡ true → false ≡ nat_lt 0 n
+first_form n may = grind (arith, nat_tests)
+
+-- the only certificate
+one_part : (f : Form) (n : ℕ) (s : ReadRows) (c : CertificateRows) → 1 ≤ n → firsts_in f (c ∷ []) ≡ None → s.certificates ≡ c ∷ [] → form_by None (nat_lt 0 (length c.by_channels)) ≡ f → AreInForm f n s
+one_part f n s c some no_firsts one form =
+    let sheet = λ (cs : List CertificateRows). sheet_of (at_stage Done f (record s { certificates = cs })) in
+    record {
+      form = ap (λ cs. form_of (sheet cs)) one ∙ ap (λ o. form_by o (nat_lt 0 (length c.by_channels))) no_firsts ∙ form;
+      all = ap (λ cs. certificates_of (sheet cs)) one ∙ ap (λ o. c ∷ unwrap_or o []) no_firsts ∙ sym one;
+      few = omega (arith, ap length one);
+    }
+
+-- certificates of the first stores, of which the last was added
+third_parts : (s : ReadRows) (cs : List CertificateRows) (c : CertificateRows) → certificates_of (sheet_of (at_stage Done Third (record s { certificates = cs ++ c ∷ [] }))) ≡ cs ++ c ∷ []
+third_parts s [] c = refl
+third_parts s (d ∷ cs) c = refl
+
+-- the certificate that the bound closes is of the form
+parts_in_form : (f : Form) (s : ReadRows) (c : CertificateRows) → 1 ≤ length s.stores → HasRoom f (length s.stores) s.certificates → fits_form f (length c.by_channels) ≡ true → AreInForm f (length s.stores) (with_part s c)
+parts_in_form First s c some room fits = one_part First (length s.stores) (with_part s c) c some refl (ap (λ cs. cs ++ c ∷ []) room) (ap (form_by None) (sym (first_form (length c.by_channels) fits)))
+parts_in_form Second s c some room fits = one_part Second (length s.stores) (with_part s c) c some refl (ap (λ cs. cs ++ c ∷ []) room) (ap (form_by None) fits)
+parts_in_form Third s c some room fits = record { form = refl; all = third_parts s s.certificates c; few = omega (arith, length-append s.certificates (c ∷ [])) }
+
+-- the bound line adds just itself
+added_bound : (f : Form) (s : ReadRows) (z : ℤ) → IsLine (bound_line z) → IsRows s → IsPlanned f s → fits_form f (length s.by_channels) ≡ true → IsAdded (at_stage ToCut f s) (bound_line z)
+added_bound f s z line rows planned fits =
+    let part : IsCertificate (part_of s z) = record { cut = rows.part.cut; counts = rows.part.counts; each_stretch = rows.part.each_stretch; each_count = rows.part.each_count; loss = rows.part.loss; bound = line } in
+    record {
+      sound = record {
+        rows = record { dumps = rows.dumps; part = blank_part 0 (omega arith); certificates = All-push IsCertificate s.certificates (part_of s z) rows.certificates part };
+        at = record {
+          has_store = planned.opened.has_store;
+          has_step = planned.opened.has_step;
+          certificates = parts_in_form f s (part_of s z) planned.opened.has_store planned.opened.room fits;
+        };
+      };
+      lines = more_parts (title_line f ∷ stores_line s.stores ∷ [] ++ dumps_of s) s z;
+    }
+
+-- what the test of a first line says
+begins : (f : Form) (k : ℕ) (s : ReadRows) → may_begin f k s ≡ true → (k ≡ length s.certificates) × HasRoom f (length s.stores) s.certificates
+begins First k s may = absurd (false≢true may)
+begins Second k s may = absurd (false≢true may)
+begins Third k s may =
+    let p = and_parts (k == length s.certificates) (nat_lt (length s.certificates) (length s.stores)) may in
+    (grind (arith, nat_tests, p.0), grind (arith, nat_tests, p.1))
+
+-- the line before a certificate that is not the first
+opening_is : (k : ℕ) → 1 ≤ k → opening k ≡ first_line k ∷ []
+opening_is zero some = absurd (omega arith)
+opening_is (suc k) some = refl
+
+-- a first line adds just itself
+added_first : (f : Form) (s : ReadRows) (k : ℕ) → IsRows s → IsWhole f s → may_begin f k s ≡ true → IsAdded (at_stage ToEnd f s) (first_line k)
+added_first f s k rows whole may =
+    let p = begins f k s may in
+    let some : 1 ≤ length s.certificates = omega (arith, ap length whole.certificates.all) in
+    record {
+      sound = record { rows = rows; at = record { has_store = whole.has_store; has_step = whole.has_step; room = p.1 } };
+      lines = ap (λ ls. upto_whole f s ++ ls) (opening_is (length s.certificates) some ∙ ap (λ j. first_line j ∷ []) (sym p.0));
+    }
 
 -- a line that may come next adds just itself
-pub added : (stage : Stage) (b : Bool) (s : SheetRows) (x : Line) → IsLine x → IsRows s → IsAt stage b s → may_follow stage b s x ≡ true → IsAdded (at_stage stage b s) x
-added ToTitle b s (title_line c) line rows at may = record { sound = record { rows = rows; at = at }; lines = refl }
-added ToStores b s (stores_line ids) line rows at may = added_stores b s ids line rows at may
-added ToDumps b s (dump_line t xs) line rows at may = added_dump b s t xs line rows at may
-added ToDumps b s (loss_line n) line rows at may = added_loss b s n line rows at may
-added ToCut b s (stretch_line d) line rows at may = added_stretch b s d line rows at may
-added ToCut b s (count_line t) line rows at may = added_count b s t line rows at may
-added ToCut true s (bound_line z) line rows at may = added_bound true s z line rows at (sym may)
-added ToCut false s (bound_line z) line rows at may = added_bound false s z line rows at (no_counts_form s may)
-added ToEnd b s end_line line rows at may = record { sound = record { rows = rows; at = at }; lines = refl }
-added _ b s x line rows at may = absurd (false≢true may)
+pub added : (stage : Stage) (f : Form) (s : ReadRows) (x : Line) → IsLine x → IsRows s → IsAt stage f s → may_follow stage f s x ≡ true → IsAdded (at_stage stage f s) x
+added ToTitle f s (title_line g) line rows at may = record { sound = record { rows = rows; at = at }; lines = refl }
+added ToStores f s (stores_line ids) line rows at may =
+    subst (λ r. IsAdded (at_stage ToStores f r) (stores_line ids)) (sym at) (added_stores f ids line (subst IsRows at rows) may)
+added ToDumps f s (dump_line t xs) line rows at may = added_dump f s t xs line rows at may
+added ToDumps f s (loss_line n) line rows at may = added_loss f s n line rows at may
+added ToLoss f s (loss_line n) line rows at may = added_part f s n line rows at
+added ToCut f s (stretch_line d) line rows at may = added_stretch f s d line rows at may
+added ToCut f s (count_line t) line rows at may = added_count f s t line rows at may
+added ToCut f s (bound_line z) line rows at may = added_bound f s z line rows at may
+added ToEnd f s (first_line k) line rows at may = added_first f s k rows at may
+added ToEnd f s end_line line rows at may = record { sound = record { rows = rows; at = record { whole = at; all = may } }; lines = refl }
+added _ f s x line rows at may = absurd (false≢true may)

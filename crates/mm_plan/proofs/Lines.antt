@@ -10,7 +10,9 @@ use Rattle.std.proofs.lemmas.Option.{cond_some}
 use Rattle.std.proofs.lemmas.Slice.Eq.{bytes_eq-Decides}
 use Rattle.mm_base.specs.declared.limits.TheConstants.{MAX_STEPS, MAX_BLOCKS}
 use Rattle.mm_base.specs.Id.{IsIdField, id_text}
-use Rattle.mm_plan.specs.Sheet.{Line, title_line, stores_line, dump_line, loss_line, stretch_line, count_line, bound_line, end_line, IsLine, words, line_text}
+use Rattle.mm_plan.specs.declared.form.Form.{Form}
+use Rattle.mm_plan.specs.declared.form.Form.TheVariants.{First, Second, Third}
+use Rattle.mm_plan.specs.Sheet.{Line, title_line, stores_line, dump_line, loss_line, stretch_line, count_line, bound_line, first_line, end_line, IsLine, form_word, words, line_text}
 use Rattle.mm_plan.specs.Reading.{MAX_U32, MAX_U64, line_words, number_of, id_of, word, line_of, read_line}
 use Rattle.mm_plan.specs.Printing.{ended}
 use Rattle.mm_plan.proofs.Spelled.{Lacks, IsBare, bare_lacks, bare_tested, bare_decimal, bare_signed, bare_id, slice_split-join, join_lacks}
@@ -26,10 +28,15 @@ bare_decimals xs h = All-map IsBare decimal xs (All-weaker (λ n. n ≤ MAX_BLOC
 bare_ids : (ids : List (List ℕ)) → All IsIdField ids → All IsBare (map id_text ids)
 bare_ids ids h = All-map IsBare id_text ids (All-weaker IsIdField (λ f. IsBare (id_text f)) bare_id ids h)
 
+-- the word of a form is bare
+bare_form : (f : Form) → IsBare (form_word f)
+bare_form First = bare_tested (codes "1") refl
+bare_form Second = bare_tested (codes "2") refl
+bare_form Third = bare_tested (codes "3") refl
+
 -- the words of a line are bare
 bare_words : (x : Line) → IsLine x → All IsBare (words x)
-bare_words (title_line false) h = All-from_recursion IsBare (words (title_line false)) (bare_tested (codes "mmplan") refl, (bare_tested (codes "1") refl, tt))
-bare_words (title_line true) h = All-from_recursion IsBare (words (title_line true)) (bare_tested (codes "mmplan") refl, (bare_tested (codes "2") refl, tt))
+bare_words (title_line f) h = All-from_recursion IsBare (words (title_line f)) (bare_tested (codes "mmplan") refl, (bare_form f, tt))
 bare_words (stores_line ids) h = All-cons IsBare (codes "stores") (map id_text ids) (bare_tested (codes "stores") refl) (bare_ids ids h.1)
 bare_words (dump_line t xs) h =
     let step : t ≤ MAX_STEPS = h.0 in
@@ -45,6 +52,7 @@ bare_words (count_line t) h =
     All-from_recursion IsBare (words (count_line t))
     (bare_tested (codes "count") refl, (bare_decimal t (omega (arith, h)), (bare_tested (codes "channels") refl, tt)))
 bare_words (bound_line z) h = All-from_recursion IsBare (words (bound_line z)) (bare_tested (codes "bound") refl, (bare_signed z h, tt))
+bare_words (first_line k) h = All-from_recursion IsBare (words (first_line k)) (bare_tested (codes "first") refl, (bare_decimal k (omega (arith, h)), tt))
 bare_words end_line h = All-from_recursion IsBare (words end_line) (bare_tested (codes "end") refl, tt)
 
 -- there are 1 to 18 of them
@@ -53,14 +61,14 @@ IsShort ws = (1 ≤ length ws) × (length ws ≤ 18)
 
 -- a line has 1 to 18 words
 short_words : (x : Line) → IsLine x → IsShort (words x)
-short_words (title_line false) h = (omega arith, omega arith)
-short_words (title_line true) h = (omega arith, omega arith)
+short_words (title_line f) h = (omega arith, omega arith)
 short_words (stores_line ids) h = (omega arith, omega (arith, h.0, length-map ids id_text))
 short_words (dump_line t xs) h = (omega arith, omega (arith, h.1, length-map xs decimal))
 short_words (loss_line n) h = (omega arith, omega arith)
 short_words (stretch_line d) h = (omega arith, omega arith)
 short_words (count_line t) h = (omega arith, omega arith)
 short_words (bound_line z) h = (omega arith, omega arith)
+short_words (first_line k) h = (omega arith, omega arith)
 short_words end_line h = (omega arith, omega arith)
 
 -- bare words lack white space
@@ -91,8 +99,9 @@ said_each said text P back (x ∷ xs) h =
 -- the words of a line say the line
 line_of-words : (x : Line) → IsLine x → line_of (words x) ≡ x
 unfolding line_of
-line_of-words (title_line false) h = refl
-line_of-words (title_line true) h = refl
+line_of-words (title_line First) h = refl
+line_of-words (title_line Second) h = refl
+line_of-words (title_line Third) h = refl
 line_of-words (stores_line ids) h = ap stores_line (said_each id_of id_text IsIdField id_of-id_text ids h.1)
 line_of-words (dump_line t xs) h =
     let step : t ≤ MAX_STEPS = h.0 in
@@ -105,6 +114,7 @@ line_of-words (stretch_line d) h =
     ∙ ap (λ n. stretch_line (record { store = d.store; first = d.first; last = n })) (number_of-decimal MAX_U32 d.last (omega (arith, h.last)) (omega arith))
 line_of-words (count_line t) h = ap count_line (number_of-decimal MAX_U32 t (omega (arith, h)) (omega arith))
 line_of-words (bound_line z) h = ap bound_line (signed_of-signed_decimal z h)
+line_of-words (first_line k) h = ap first_line (number_of-decimal MAX_U32 k (omega (arith, h)) (omega arith))
 line_of-words end_line h = refl
 
 -- either way
@@ -134,7 +144,8 @@ line_of-is (k ∷ ws) few =
     (cond_is IsLine (bytes_eq k (codes "loss")) _ _ (omega (arith, number_of-most MAX_U64 (w 0)))
     (cond_is IsLine (bytes_eq k (codes "stretch")) _ _ (record { store = id_of-is (w 0); first = u32 1; last = u32 2 })
     (cond_is IsLine (bytes_eq k (codes "count")) _ _ (u32 0)
-    (cond_is IsLine (bytes_eq k (codes "bound")) _ _ (signed_of-fits (w 0)) tt))))))
+    (cond_is IsLine (bytes_eq k (codes "bound")) _ _ (signed_of-fits (w 0))
+    (cond_is IsLine (bytes_eq k (codes "first")) _ _ (u32 0) tt)))))))
 
 -- ---- the line of a text
 

@@ -1,15 +1,17 @@
 -- Lines, printed piece by piece.
 use Rattle.mm_plan.specs.Table.{Table}
-use Rattle.std.proofs.Common.{◌≡◌, ℕ, ℤ, Bool, suc, not, ◌==◌, subst, ◌+◌, ◌*◌, ◌<◌, List, [], ◌∷◌, ◌++◌, length, map, take, drop, refl, sym, ap, ◌∙◌, arith, append_assoc, append-nil, length-drop}
+use Rattle.std.proofs.Common.{◌≡◌, ℕ, ℤ, suc, subst, ◌+◌, ◌-◌, ◌*◌, ◌<◌, ◌≤◌, List, [], ◌∷◌, ◌++◌, length, map, get_or, take, drop, refl, sym, ap, ◌∙◌, arith, append_assoc, append-nil, length-drop}
 use denote.Param.Members.{Mut}
-use Rattle.std.specs.Prelude.{codes, decimal, nat_lt, ◌^◌}
+use Rattle.std.specs.Prelude.{Option, unwrap_or, codes, decimal, nat_lt, ◌^◌}
 use Rattle.std.specs.Fn.{Called, ReturnsEach, AlwaysReturns}
 use Rattle.std.specs.List.{join_with_byte}
-use Rattle.std.proofs.lemmas.Bool.Decides.{nat_tests}
+use Rattle.std.proofs.lemmas.List.{take_all}
 use Rattle.std.proofs.lemmas.List.Sorted.{length_permutation, All-permutation}
 use Rattle.mm_base.specs.Id.{id_text}
 use Rattle.mm_plan.specs.declared.stretch.Stretch.{Stretch}
-use Rattle.mm_plan.specs.Sheet.{SheetRows, IsSheet, IsWritten, Line, title_line, stores_line, dump_line, loss_line, stretch_line, count_line, bound_line, end_line, line_text, lines_of, sheet_text, dump_lines, has_counts}
+use Rattle.mm_plan.specs.declared.form.Form.{Form}
+use Rattle.mm_plan.specs.Sheet.{SheetRows, CertificateRows, IsSheet, IsWritten, Line, title_line, stores_line, dump_line, loss_line, stretch_line, count_line, bound_line, first_line, end_line, line_text, certificate_lines, first_lines, form_by, form_of, own, lines_of, sheet_text, dump_lines}
+use Rattle.mm_plan.proofs.Runs.{lines_right}
 use Rattle.mm_plan.specs.Printing.{AreOrdered, AreRising, IsPrinted, ended, all_ended, spaced, plan_lines}
 
 -- the joined words, each but the first with its space
@@ -73,14 +75,55 @@ join_ended (x ∷ y ∷ ys) =
     ap (λ rest. line_text x ++ 10 ∷ rest) (join_ended (y ∷ ys))
     ∙ sym (append_assoc (line_text x) (10 ∷ []) (all_ended (y ∷ ys)))
 
--- the lines of a sheet, printed one after another
-pub sheet_text-printed : (s : SheetRows) → sheet_text s ≡ (ended (title_line (has_counts s)) ++ ended (stores_line s.stores) ++ all_ended (plan_lines s.plan)) ++ (ended (loss_line s.loss) ++ all_ended (map stretch_line s.cut) ++ all_ended (map count_line s.by_channels) ++ ended (bound_line s.bound) ++ ended end_line)
-unfolding sheet_text lines_of
-sheet_text-printed s = join_ended (lines_of s) ∙ simp (all_ended-append, append_assoc, append-nil)
+-- the lines of a certificate, printed one after another
+abbrev pub certificate_text : ℕ → List Stretch → List ℕ → ℤ → List ℕ
+certificate_text loss ds ts bound = ended (loss_line loss) ++ all_ended (map stretch_line ds) ++ all_ended (map count_line ts) ++ ended (bound_line bound)
 
--- whether there are some
-pub not_none : (n : ℕ) → not (n == 0) ≡ nat_lt 0 n
-not_none n = grind (arith, nat_tests)
+-- the lines of a certificate are printed so
+pub certificate_text-is : (c : CertificateRows) → all_ended (certificate_lines c) ≡ certificate_text c.loss c.cut c.by_channels c.bound
+unfolding certificate_lines
+certificate_text-is c = simp (all_ended-append, append_assoc, append-nil)
+
+-- the line before a certificate, and its lines
+pub printed_part : (old front text : List ℕ) (k : ℕ) (c : CertificateRows) → front ≡ old ++ ended (first_line k) → text ≡ front ++ certificate_text c.loss c.cut c.by_channels c.bound → text ≡ old ++ (ended (first_line k) ++ all_ended (certificate_lines c))
+printed_part old front text k c front_is text_is =
+    text_is
+    ∙ ap (λ t. t ++ certificate_text c.loss c.cut c.by_channels c.bound) front_is
+    ∙ append_assoc old (ended (first_line k)) (certificate_text c.loss c.cut c.by_channels c.bound)
+    ∙ ap (λ t. old ++ (ended (first_line k) ++ t)) (sym (certificate_text-is c))
+
+-- the first of certificates, and the others
+split_first : (text : List ℕ) (k : ℕ) (c : CertificateRows) (cs : List CertificateRows) → text ++ all_ended (first_lines (suc k) (c ∷ cs)) ≡ text ++ (ended (first_line (suc k)) ++ all_ended (certificate_lines c)) ++ all_ended (first_lines (suc (suc k)) cs)
+split_first text k c cs = simp (all_ended-append, append_assoc, append-nil)
+
+-- one certificate of the first stores more
+pub more_first : (text next all : List ℕ) (k : ℕ) (rest : List CertificateRows) (c : CertificateRows) → 1 ≤ length rest → c ≡ get_or rest 0 c → next ≡ text ++ (ended (first_line (k + 1)) ++ all_ended (certificate_lines c)) → text ++ all_ended (first_lines (suc k) rest) ≡ all
+    → next ++ all_ended (first_lines (suc (k + 1)) (take (length rest - 1) (drop 1 rest))) ≡ all
+more_first text next all k [] c some here printed lines = absurd (omega arith)
+more_first text next all k (d ∷ rest) c some here printed lines =
+    let place : k + 1 ≡ suc k = omega arith in
+    ap (λ cs. next ++ all_ended (first_lines (suc (k + 1)) cs)) (take_all (length (d ∷ rest) - 1) rest (omega arith))
+    ∙ ap (λ t. t ++ all_ended (first_lines (suc (k + 1)) rest)) (printed ∙ ap (λ e. text ++ (ended (first_line (k + 1)) ++ all_ended (certificate_lines e))) here)
+    ∙ ap (λ j. text ++ (ended (first_line j) ++ all_ended (certificate_lines d)) ++ all_ended (first_lines (suc j) rest)) place
+    ∙ sym (split_first text k d rest)
+    ∙ lines
+
+-- the lines up to the dumps
+abbrev pub front_text : Form → List (List ℕ) → Table → List ℕ
+front_text f ids x = ended (title_line f) ++ ended (stores_line ids) ++ all_ended (plan_lines x)
+
+-- the lines of the certificates of the first stores
+abbrev pub firsts_text : Option (List CertificateRows) → List ℕ
+firsts_text o = all_ended (first_lines 1 (unwrap_or o []))
+
+-- the lines of a sheet, printed one after another
+sheet_text-printed : (s : SheetRows) → sheet_text s ≡ front_text (form_of s) s.stores s.plan ++ certificate_text s.loss s.cut s.by_channels s.bound ++ firsts_text s.firsts ++ ended end_line
+unfolding sheet_text
+sheet_text-printed s =
+    join_ended (lines_of s)
+    ∙ ap all_ended (lines_right s)
+    ∙ (simp (all_ended-append, append_assoc, append-nil))
+    ∙ ap (λ t. front_text (form_of s) s.stores s.plan ++ t ++ firsts_text s.firsts ++ ended end_line) (certificate_text-is (own s))
 
 -- ---- the order
 
@@ -111,26 +154,15 @@ ordered_is_sheet s ds ts cut counts h = record {
   firsts = h.firsts;
 }
 
--- the lines up to the dumps, and those from the loss on
-abbrev pub front_text : Bool → List (List ℕ) → Table → List ℕ
-front_text second ids x = ended (title_line second) ++ ended (stores_line ids) ++ all_ended (plan_lines x)
-
--- the lines from the loss on
-abbrev pub certificate_text : ℕ → List Stretch → List ℕ → ℤ → List ℕ
-certificate_text loss ds ts bound = ended (loss_line loss) ++ all_ended (map stretch_line ds) ++ all_ended (map count_line ts) ++ ended (bound_line bound) ++ ended end_line
-
 -- what was printed piece by piece is the text of the sheet in order
-pub is_printed : (s : SheetRows) (ids : List (List ℕ)) (cut ds : List Stretch) (counts ts : List ℕ) (second : Bool) (none front text : List ℕ) → AreOrdered s.stores s.cut ds → AreRising s.by_channels ts → none ≡ [] → ids ≡ s.stores → cut ≡ ds → counts ≡ ts → second ≡ not (length ts == 0) → front ≡ none ++ front_text second ids s.plan → text ≡ front ++ certificate_text s.loss cut counts s.bound → IsPrinted s text
-is_printed s ids cut ds counts ts second none front text ordered rising no_text same_ids same_cut same_counts form front_is text_is =
+pub is_printed : (s : SheetRows) (ds : List Stretch) (ts : List ℕ) (none front certificate firsts text : List ℕ) → AreOrdered s.stores s.cut ds → AreRising s.by_channels ts → none ≡ [] → front ≡ none ++ front_text (form_by s.firsts (nat_lt 0 (length ts))) s.stores s.plan
+    → certificate ≡ front ++ certificate_text s.loss ds ts s.bound → firsts ≡ certificate ++ firsts_text s.firsts → text ≡ firsts ++ ended end_line → IsPrinted s text
+is_printed s ds ts none front certificate firsts text ordered rising no_text front_is certificate_is firsts_is text_is =
     let r : SheetRows = record s { cut = ds; by_channels = ts } in (
       r,
       record { stores = refl; plan = refl; loss = refl; bound = refl; firsts = refl; cut = ordered; counts = rising },
       ordered_is_sheet s ds ts ordered rising,
       text_is
-          ∙ ap (λ t. t ++ certificate_text s.loss cut counts s.bound) (front_is ∙ ap (λ t. t ++ front_text second ids s.plan) no_text)
-          ∙ ap (λ i. front_text second i s.plan ++ certificate_text s.loss cut counts s.bound) same_ids
-          ∙ ap (λ b. front_text b s.stores s.plan ++ certificate_text s.loss cut counts s.bound) (form ∙ not_none (length ts))
-          ∙ ap (λ d. front_text (nat_lt 0 (length ts)) s.stores s.plan ++ certificate_text s.loss d counts s.bound) same_cut
-          ∙ ap (λ c. front_text (nat_lt 0 (length ts)) s.stores s.plan ++ certificate_text s.loss ds c s.bound) same_counts
+          ∙ ap (λ t. t ++ ended end_line) (firsts_is ∙ ap (λ t. t ++ firsts_text s.firsts) (certificate_is ∙ ap (λ t. t ++ certificate_text s.loss ds ts s.bound) (front_is ∙ ap (λ t. t ++ front_text (form_of r) s.stores s.plan) no_text)))
           ∙ sym (sheet_text-printed r),
     )

@@ -33,10 +33,10 @@ unfolding line_text
 dump_text t xs = join-spaced (codes "dump") (decimal t ∷ map decimal xs)
 
 -- the next step's line may follow
-next_may_follow : (d : DraftRows) (xs : List ℕ) → d.stage ≡ ToDumps → length xs ≡ length d.rows.stores → may_follow d.stage d.second d.rows (dump_line (d.rows.plan.steps + 1) xs) ≡ true
+next_may_follow : (d : DraftRows) (xs : List ℕ) → d.stage ≡ ToDumps → length xs ≡ length d.rows.stores → may_follow d.stage d.form d.rows (dump_line (d.rows.plan.steps + 1) xs) ≡ true
 next_may_follow d xs stage size =
     let here : ((d.rows.plan.steps + 1 == d.rows.plan.steps + 1) && (length xs == length d.rows.stores)) ≡ true = grind (arith, nat_tests) in
-    ap (λ s. may_follow s d.second d.rows (dump_line (d.rows.plan.steps + 1) xs)) stage ∙ here
+    ap (λ s. may_follow s d.form d.rows (dump_line (d.rows.plan.steps + 1) xs)) stage ∙ here
 
 -- the next step's line is taken
 pub taken_dump : (d : DraftRows) (text xs : List ℕ) → d.stage ≡ ToDumps → d.rows.plan.steps < MAX_STEPS → length xs ≡ length d.rows.stores → length d.rows.stores ≤ MAX_STORES → All (λ n. n ≤ MAX_BLOCKS) xs

@@ -1,5 +1,5 @@
 -- From lines to octets: how far a text has been read, and where it ends.
-use Rattle.std.proofs.Common.{◌≡◌, ℕ, zero, suc, ◌+◌, ◌-◌, ◌≤◌, Bool, false, ◌==◌, List, [], ◌∷◌, ◌++◌, length, map, take, drop, Option, Some, None, refl, sym, ap, ◌∙◌, subst, arith, length-append, length-drop, length-take}
+use Rattle.std.proofs.Common.{◌≡◌, ℕ, zero, suc, ◌+◌, ◌-◌, ◌≤◌, false, ◌==◌, List, [], ◌∷◌, ◌++◌, length, map, take, drop, Option, Some, None, refl, sym, ap, ◌∙◌, subst, arith, length-append, length-drop, length-take}
 use Rattle.std.specs.Prelude.{All, option_and_then}
 use Rattle.std.specs.List.{join_with_byte}
 use Rattle.std.proofs.lemmas.List.{append_cancel_right, drop-drop, drop_at, take-append-drop, take-append-le, take_all}
@@ -10,11 +10,12 @@ use Rattle.mm_base.specs.Lines.{text_lines}
 use Rattle.mm_plan.specs.declared.draft.Stage.{Stage}
 use Rattle.mm_plan.specs.declared.draft.Stage.TheVariants.{Done}
 use Rattle.mm_plan.specs.Sheet.{SheetRows, IsSheet, lines_of, line_text, sheet_text, Begins, IsFirstBadLine, IsLine}
-use Rattle.mm_plan.specs.Reading.{DraftRows, start, take_line, run}
+use Rattle.mm_plan.specs.declared.form.Form.{Form}
+use Rattle.mm_plan.specs.Reading.{ReadRows, DraftRows, start, sheet_of, take_line, run}
 use Rattle.mm_plan.proofs.Spelled.{Lacks, slice_split-join}
 use Rattle.mm_plan.proofs.Lines.{line_text_lacks}
-use Rattle.mm_plan.proofs.Drafts.{so_far, IsAt, IsWhole, lines_so_far}
-use Rattle.mm_plan.proofs.Runs.{whole, lines_are, run-sheet, run-append, run_start, stops_begins}
+use Rattle.mm_plan.proofs.Drafts.{so_far, IsAt, IsEnded, lines_so_far}
+use Rattle.mm_plan.proofs.Runs.{whole, sheet_of-whole, lines_are, run-sheet, run-append, run_start, stops_begins}
 use Rattle.mm_plan.proofs.Completions.{whole_is_sheet, lines_of-whole, taken_begins, few_taken}
 
 -- the lines before this one were taken, and the rest is to be read
@@ -79,7 +80,7 @@ read_on text d e rest line front after h split taken =
     }
 
 -- only so many lines are taken
-pub few_read : (text : List ℕ) (d : DraftRows) (rest : List ℕ) (line : ℕ) → IsReadTo text d rest line → line ≤ 4614
+pub few_read : (text : List ℕ) (d : DraftRows) (rest : List ℕ) (line : ℕ) → IsReadTo text d rest line → line ≤ 69940
 few_read text d rest line h =
     omega (arith, h.first, few_taken d (take (line - 1) (text_lines text)) h.taken, length-take (line - 1) (text_lines text), length-drop (line - 1) (text_lines text), ap length h.left, some_lines rest)
 
@@ -100,7 +101,7 @@ pub one_sheet : (s r : SheetRows) → IsSheet s → IsSheet r → sheet_text s �
 one_sheet s r is_s is_r same =
     let split = sym (text_lines-sheet_text s is_s) ∙ ap text_lines same ∙ text_lines-sheet_text r is_r in
     let lines = append_cancel_right (map line_text (lines_of s)) (map line_text (lines_of r)) ([] ∷ []) split in
-    ap (λ d. d.rows) (same_Some (whole s) (whole r) (sym (run-sheet s is_s) ∙ ap (run start) lines ∙ run-sheet r is_r))
+    sym (sheet_of-whole s) ∙ ap sheet_of (same_Some (whole s) (whole r) (sym (run-sheet s is_s) ∙ ap (run start) lines ∙ run-sheet r is_r)) ∙ sheet_of-whole r
 
 -- its first lines begin a sheet
 front_begins : (s : SheetRows) → IsSheet s → (k : ℕ) → Begins (take k (map line_text (lines_of s)))
@@ -152,19 +153,25 @@ bad_end text d rest line h last bad =
     }
 
 -- what holds where the last line was taken
-done_whole : (stage : Stage) (b : Bool) (s : SheetRows) → stage ≡ Done → IsAt stage b s → IsWhole b s
-done_whole stage b s done at = let P : Stage → Type 0 = λ t. IsAt t b s in subst P done at
+done_ended : (stage : Stage) (f : Form) (s : ReadRows) → stage ≡ Done → IsAt stage f s → IsEnded f s
+done_ended stage f s done at = let P : Stage → Type 0 = λ t. IsAt t f s in subst P done at
 
 -- where the text ends after the last line, it is the sheet's
-pub good_end : (text : List ℕ) (d : DraftRows) (rest : List ℕ) (line : ℕ) → IsReadTo text d rest line → text_lines rest ≡ rest ∷ [] → d.stage ≡ Done → rest ≡ [] → IsSheet d.rows × (text ≡ sheet_text d.rows)
+pub good_end : (text : List ℕ) (d : DraftRows) (rest : List ℕ) (line : ℕ) → IsReadTo text d rest line → text_lines rest ≡ rest ∷ [] → d.stage ≡ Done → rest ≡ [] → IsSheet (sheet_of d) × (text ≡ sheet_text (sheet_of d))
 unfolding sheet_text
 good_end text d rest line h last done empty =
     let ls = text_lines text in
     let read = run_start d (take (line - 1) ls) h.taken in
-    let at : IsWhole d.second d.rows = done_whole d.stage d.second d.rows done read.1.at in
-    let lines : lines_so_far d ≡ lines_of d.rows = ap (λ stage. so_far stage d.second d.rows) done ∙ sym (lines_of-whole d.second d.rows at) in
-    let front : take (line - 1) ls ≡ map line_text (lines_of d.rows) = read.0 ∙ ap (map line_text) lines in
+    let at : IsEnded d.form d.rows = done_ended d.stage d.form d.rows done read.1.at in
+    let lines : lines_so_far d ≡ lines_of (sheet_of d) = ap (λ stage. so_far stage d.form d.rows) done ∙ sym (lines_of-whole d.form d.rows at) in
+    let front : take (line - 1) ls ≡ map line_text (lines_of (sheet_of d)) = read.0 ∙ ap (map line_text) lines in
     let back : drop (line - 1) ls ≡ [] ∷ [] = h.left ∙ last ∙ ap (λ r. r ∷ []) empty in
-    let all : ls ≡ map line_text (lines_of d.rows) ++ [] ∷ [] =
-    sym (take-append-drop (line - 1) ls) ∙ ap (λ ms. ms ++ drop (line - 1) ls) front ∙ ap (λ ms. map line_text (lines_of d.rows) ++ ms) back in
-    (whole_is_sheet d.second d.rows read.1.rows at, sym (join_with_byte-slice_split 10 text) ∙ ap (join_with_byte 10) all)
+    let all : ls ≡ map line_text (lines_of (sheet_of d)) ++ [] ∷ [] =
+    sym (take-append-drop (line - 1) ls) ∙ ap (λ ms. ms ++ drop (line - 1) ls) front ∙ ap (λ ms. map line_text (lines_of (sheet_of d)) ++ ms) back in
+    (whole_is_sheet d.form d.rows read.1.rows at, sym (join_with_byte-slice_split 10 text) ∙ ap (join_with_byte 10) all)
+
+-- a draft whose last line was taken has a plan and a certificate
+pub done_some : (text : List ℕ) (d : DraftRows) (rest : List ℕ) (line : ℕ) → IsReadTo text d rest line → d.stage ≡ Done → 1 ≤ length d.rows.certificates
+done_some text d rest line h done =
+    let read = run_start d (take (line - 1) (text_lines text)) h.taken in
+    omega (arith, ap length (done_ended d.stage d.form d.rows done read.1.at).whole.certificates.all)

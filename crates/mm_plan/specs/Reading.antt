@@ -1,5 +1,5 @@
 -- Reading a plan text line by line.
-use Rattle.std.specs.Prelude.{ℕ, zero, suc, ◌+◌, ℤ, pos, negsuc, Bool, true, false, ◌&&◌, ◌==◌, nat_le, nat_lt, if◌then◌else◌, List, [], ◌∷◌, ◌++◌, length, map, take, drop, slice_index_or, Option, Some, None, option_and_then, codes}
+use Rattle.std.specs.Prelude.{ℕ, zero, suc, ◌+◌, ℤ, pos, negsuc, Bool, true, false, not, ◌&&◌, ◌||◌, ◌==◌, nat_le, nat_lt, if◌then◌else◌, List, [], ◌∷◌, ◌++◌, length, map, take, drop, slice_index_or, Option, Some, None, option_and_then, codes}
 use Rattle.std.specs.List.{slice_split}
 use Rattle.std.specs.Str.{bytes_eq}
 use Rattle.mm_base.specs.declared.limits.TheConstants.{MAX_STORES, MAX_STEPS, MAX_BLOCKS}
@@ -8,11 +8,14 @@ use Rattle.mm_base.specs.Id.{is_id_text, field_of}
 use Rattle.mm_base.specs.Numbers.{numeral_of}
 use Rattle.mm_base.specs.declared.numbers.Numeral.{Numeral}
 use Rattle.mm_base.specs.declared.numbers.Numeral.TheVariants.{NotNumber, TooLarge, Number}
+use Rattle.mm_plan.specs.declared.form.Form.{Form}
+use Rattle.mm_plan.specs.declared.form.Form.TheVariants.{First, Second, Third}
 use Rattle.mm_plan.specs.declared.stretch.Stretch.{Stretch}
 use Rattle.mm_plan.specs.declared.stretch.TheConstants.{MAX_STRETCHES, MAX_COUNTS}
 use Rattle.mm_plan.specs.declared.draft.Stage.{Stage}
-use Rattle.mm_plan.specs.declared.draft.Stage.TheVariants.{ToTitle, ToStores, ToDumps, ToCut, ToEnd, Done}
-use Rattle.mm_plan.specs.Sheet.{SheetRows, Line, title_line, stores_line, dump_line, loss_line, stretch_line, count_line, bound_line, end_line, line_text}
+use Rattle.mm_plan.specs.declared.draft.Stage.TheVariants.{ToTitle, ToStores, ToDumps, ToLoss, ToCut, ToEnd, Done}
+use Rattle.mm_plan.specs.Table.{Table}
+use Rattle.mm_plan.specs.Sheet.{SheetRows, CertificateRows, Line, title_line, stores_line, dump_line, loss_line, stretch_line, count_line, bound_line, first_line, end_line, line_text}
 
 -- the greatest number of 32 bits
 abbrev pub MAX_U32 : ℕ
@@ -66,17 +69,25 @@ word ws k = slice_index_or ws k []
 abbrev pub stretch_of : List (List ℕ) → Stretch
 stretch_of ws = record { store = id_of (word ws 0); first = number_of MAX_U32 (word ws 1); last = number_of MAX_U32 (word ws 2) }
 
+-- the form that a word says
+abbrev pub form_said : List ℕ → Form
+form_said w =
+    if bytes_eq w (codes "2") then Second
+    else if bytes_eq w (codes "3") then Third
+    else First
+
 -- the line that words say: a keyword, and its words
 unfoldable pub line_of : List (List ℕ) → Line
 line_of [] = end_line
 line_of (k ∷ ws) =
-    if bytes_eq k (codes "mmplan") then title_line (bytes_eq (word ws 0) (codes "2"))
+    if bytes_eq k (codes "mmplan") then title_line (form_said (word ws 0))
     else if bytes_eq k (codes "stores") then stores_line (map id_of ws)
     else if bytes_eq k (codes "dump") then dump_line (number_of MAX_STEPS (word ws 0)) (map (number_of MAX_BLOCKS) (drop 1 ws))
     else if bytes_eq k (codes "loss") then loss_line (number_of MAX_U64 (word ws 0))
     else if bytes_eq k (codes "stretch") then stretch_line (stretch_of ws)
     else if bytes_eq k (codes "count") then count_line (number_of MAX_U32 (word ws 0))
     else if bytes_eq k (codes "bound") then bound_line (signed_of (word ws 0))
+    else if bytes_eq k (codes "first") then first_line (number_of MAX_U32 (word ws 0))
     else end_line
 
 -- the line whose text this is
@@ -87,47 +98,115 @@ read_line text =
 
 -- ---- what has been read so far
 
+-- what the lines so far say
+pub record ReadRows : Type 0 where
+  pub stores : List (List ℕ)
+  pub plan : Table
+  -- those that have been read to their bounds, that of all stores first
+  pub certificates : List CertificateRows
+  -- of the certificate that is being read
+  pub loss : ℕ
+  pub cut : List Stretch
+  pub by_channels : List ℕ
+
 -- the stage says which line comes next
 pub record DraftRows : Type 0 where
   pub stage : Stage
-  pub second : Bool
-  pub rows : SheetRows
+  pub form : Form
+  pub rows : ReadRows
 
--- a sheet that says nothing yet
-abbrev pub no_rows : SheetRows
-no_rows = record { stores = []; plan = record { stores = 0; steps = 0; amounts = [] }; loss = 0; cut = []; by_channels = []; bound = pos 0; firsts = None }
+-- nothing is said yet
+abbrev pub no_rows : ReadRows
+no_rows = record { stores = []; plan = record { stores = 0; steps = 0; amounts = [] }; certificates = []; loss = 0; cut = []; by_channels = [] }
 
 -- nothing has been read
 abbrev pub start : DraftRows
-start = record { stage = ToTitle; second = false; rows = no_rows }
+start = record { stage = ToTitle; form = First; rows = no_rows }
+
+-- whether the plan serves the stores in order
+abbrev pub is_third : Form → Bool
+is_third Third = true
+is_third _ = false
+
+-- whether steps may be counted by channels
+abbrev pub may_count : Form → Bool
+may_count First = false
+may_count _ = true
+
+-- whether a certificate of the form has that many counts
+abbrev pub fits_form : Form → ℕ → Bool
+fits_form First n = n == 0
+fits_form Second n = nat_lt 0 n
+fits_form Third n = true
+
+-- whether the certificate of that many stores comes next
+abbrev pub may_begin : Form → ℕ → ReadRows → Bool
+may_begin f k s = is_third f && (k == length s.certificates) && nat_lt (length s.certificates) (length s.stores)
+
+-- whether no certificate of the first stores is to come
+abbrev pub has_all : Form → ReadRows → Bool
+has_all f s = not (is_third f) || (length s.certificates == length s.stores)
 
 -- whether the line may come next
-abbrev pub may_follow : Stage → Bool → SheetRows → Line → Bool
-may_follow ToTitle b s (title_line c) = true
-may_follow ToStores b s (stores_line ids) = nat_lt 0 (length ids) && nat_le (length ids) MAX_STORES
-may_follow ToDumps b s (dump_line t xs) = (t == s.plan.steps + 1) && (length xs == length s.stores)
-may_follow ToDumps b s (loss_line n) = nat_lt 0 s.plan.steps
-may_follow ToCut b s (stretch_line d) = nat_lt (length s.cut) MAX_STRETCHES && (length s.by_channels == 0)
-may_follow ToCut b s (count_line t) = b && nat_lt (length s.by_channels) MAX_COUNTS
-may_follow ToCut true s (bound_line z) = nat_lt 0 (length s.by_channels)
-may_follow ToCut false s (bound_line z) = length s.by_channels == 0
-may_follow ToEnd b s end_line = true
-may_follow _ b s x = false
+abbrev pub may_follow : Stage → Form → ReadRows → Line → Bool
+may_follow ToTitle f s (title_line g) = true
+may_follow ToStores f s (stores_line ids) = nat_lt 0 (length ids) && nat_le (length ids) MAX_STORES
+may_follow ToDumps f s (dump_line t xs) = (t == s.plan.steps + 1) && (length xs == length s.stores)
+may_follow ToDumps f s (loss_line n) = nat_lt 0 s.plan.steps
+may_follow ToLoss f s (loss_line n) = true
+may_follow ToCut f s (stretch_line d) = nat_lt (length s.cut) MAX_STRETCHES && (length s.by_channels == 0)
+may_follow ToCut f s (count_line t) = may_count f && nat_lt (length s.by_channels) MAX_COUNTS
+may_follow ToCut f s (bound_line z) = fits_form f (length s.by_channels)
+may_follow ToEnd f s (first_line k) = may_begin f k s
+may_follow ToEnd f s end_line = has_all f s
+may_follow _ f s x = false
+
+-- the certificate that has been read to its bound
+abbrev pub part_of : ReadRows → ℤ → CertificateRows
+part_of s z = record { loss = s.loss; cut = s.cut; by_channels = s.by_channels; bound = z }
+
+-- one certificate more
+abbrev pub with_part : ReadRows → CertificateRows → ReadRows
+with_part s c = record s { certificates = s.certificates ++ c ∷ []; loss = 0; cut = []; by_channels = [] }
 
 -- the draft after a line
 abbrev pub after : DraftRows → Line → DraftRows
-after d (title_line b) = record d { stage = ToStores; second = b }
+after d (title_line f) = record d { stage = ToStores; form = f }
 after d (stores_line ids) = record d { stage = ToDumps; rows = record d.rows { stores = ids; plan = record d.rows.plan { stores = length ids } } }
 after d (dump_line t xs) = record d { rows = record d.rows { plan = record d.rows.plan { steps = t; amounts = d.rows.plan.amounts ++ xs } } }
-after d (loss_line n) = record d { stage = ToCut; rows = record d.rows { loss = n } }
+after d (loss_line n) = record d { stage = ToCut; rows = record d.rows { loss = n; cut = []; by_channels = [] } }
 after d (stretch_line e) = record d { rows = record d.rows { cut = d.rows.cut ++ e ∷ [] } }
 after d (count_line t) = record d { rows = record d.rows { by_channels = d.rows.by_channels ++ t ∷ [] } }
-after d (bound_line z) = record d { stage = ToEnd; rows = record d.rows { bound = z } }
+after d (bound_line z) = record d { stage = ToEnd; rows = with_part d.rows (part_of d.rows z) }
+after d (first_line k) = record d { stage = ToLoss }
 after d end_line = record d { stage = Done }
+
+-- the certificates after the first, in the third form
+abbrev pub firsts_in : Form → List CertificateRows → Option (List CertificateRows)
+firsts_in Third cs = Some (drop 1 cs)
+firsts_in _ cs = None
+
+-- no certificate
+abbrev no_part : CertificateRows
+no_part = record { loss = 0; cut = []; by_channels = []; bound = pos 0 }
+
+-- the sheet that has been read
+abbrev pub sheet_of : DraftRows → SheetRows
+sheet_of d =
+    let own = slice_index_or d.rows.certificates 0 no_part in
+    record {
+      stores = d.rows.stores;
+      plan = d.rows.plan;
+      loss = own.loss;
+      cut = own.cut;
+      by_channels = own.by_channels;
+      bound = own.bound;
+      firsts = firsts_in d.form d.rows.certificates;
+    }
 
 -- the draft with one line more, where it may come next
 unfoldable pub add_line : DraftRows → Line → Option DraftRows
-add_line d x = if may_follow d.stage d.second d.rows x then Some (after d x) else None
+add_line d x = if may_follow d.stage d.form d.rows x then Some (after d x) else None
 
 -- the draft after a text, where it is that of a line that may come next
 unfoldable pub take_line : DraftRows → List ℕ → Option DraftRows

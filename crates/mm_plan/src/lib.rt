@@ -6,6 +6,7 @@ mod draft;
 mod fault;
 mod filling;
 mod fit;
+mod form;
 pub mod laws;
 mod line;
 mod loss;

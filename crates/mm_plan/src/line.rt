@@ -2,26 +2,28 @@
 ghost use Rattle.std.specs.Prelude.{◌≡◌, bytes_eq, map, drop, IfOk};
 ghost use Rattle.std.specs.Option.{option_map};
 ghost use Rattle.mm_base.specs.declared.limits.TheConstants.{MAX_BLOCKS};
-ghost use Rattle.mm_plan.specs.Reading.{id_of, number_of, stretch_of, line_of, read_line};
+ghost use Rattle.mm_plan.specs.Reading.{id_of, number_of, stretch_of, form_said, line_of, read_line};
 ghost use Rattle.mm_plan.specs.Seen.{seen};
 ghost use Rattle.mm_plan.specs.Sheet.{IsLine, line_text};
 
+use crate::form::Form;
 use crate::print::push_line;
 use crate::stretch::Stretch;
 use crate::words::{id_of, line_words, number_of, signed_of, u32_of, word};
 use mm_base::{MAX_BLOCKS, MAX_STEPS, StoreId};
 use std::alloc::{AllocError, Global};
 
-// A line; the title of the second form counts steps by channels.
+// A line.
 #[derive(Drop)]
 pub(crate) enum Line {
-    Title { second: bool },
+    Title(Form),
     Stores(Vec<StoreId>),
     Dump { step: u32, amounts: Vec<u32> },
     Loss(u64),
     Cut(Stretch),
     Count(u32),
     Bound(i64),
+    First(u32),
     End,
 }
 
@@ -64,6 +66,16 @@ fn stretch_of(words: &[&[u8]]) -> Stretch
     }
 }
 
+fn form_said(word: &[u8]) -> Form
+    ensures { result ≡ form_said word.now }
+{
+    match word {
+        b"2" => Form::Second,
+        b"3" => Form::Third,
+        _ => Form::First,
+    }
+}
+
 // The line that words say.
 #[tactic(auto, unfolding(crate::specs::Reading::line_of))]
 fn line_of(alloc: Global, words: &[&[u8]]) -> Result<Line, AllocError>
@@ -75,9 +87,7 @@ fn line_of(alloc: Global, words: &[&[u8]]) -> Result<Line, AllocError>
     let keyword = *keyword;
     let first = word(rest, 0);
     Ok(if keyword == b"mmplan".as_slice() {
-        Line::Title {
-            second: first == b"2".as_slice(),
-        }
+        Line::Title(form_said(first))
     } else if keyword == b"stores".as_slice() {
         Line::Stores(ids_of(alloc, rest)?)
     } else if keyword == b"dump".as_slice() {
@@ -93,6 +103,8 @@ fn line_of(alloc: Global, words: &[&[u8]]) -> Result<Line, AllocError>
         Line::Count(u32_of(u32::MAX, first))
     } else if keyword == b"bound".as_slice() {
         Line::Bound(signed_of(first))
+    } else if keyword == b"first".as_slice() {
+        Line::First(u32_of(u32::MAX, first))
     } else {
         Line::End
     })

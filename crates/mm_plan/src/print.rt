@@ -1,14 +1,17 @@
 //! The lines of a plan text, as they are printed.
-ghost use Rattle.std.specs.Prelude.{◌≡◌, ◌-◌, ◌*◌, ◌+◌, ◌<◌, ◌≤◌, ◌++◌, ◌∷◌, [], length, map, drop, decimal, codes, IfOk, OnOk};
+ghost use Rattle.std.specs.Prelude.{◌≡◌, ◌-◌, ◌*◌, ◌+◌, ◌<◌, ◌≤◌, ◌++◌, ◌∷◌, [], length, map, drop, decimal, codes, unwrap_or, IfOk, OnOk};
+ghost use Rattle.std.specs.Option.{option_map};
 ghost use Rattle.std.specs.Fmt.{signed_decimal};
 ghost use Rattle.mm_base.specs.Characters.{line_feed, space};
 ghost use Rattle.mm_base.specs.declared.limits.TheConstants.{MAX_STORES};
 ghost use Rattle.mm_base.specs.Id.{id_text};
-ghost use Rattle.mm_plan.specs.Sheet.{title_line, stores_line, dump_line, loss_line, stretch_line, count_line, bound_line, end_line, dump_lines};
+ghost use Rattle.mm_plan.specs.Sheet.{title_line, stores_line, dump_line, loss_line, stretch_line, count_line, bound_line, end_line, first_line, certificate_lines, first_lines, dump_lines};
 ghost use Rattle.mm_plan.specs.Seen.{seen};
 ghost use Rattle.mm_plan.specs.Sheet.{IsLine};
 ghost use Rattle.mm_plan.specs.Printing.{place_of, stretch_key, AreOrdered, AreRising, ended, all_ended, spaced, plan_lines};
 
+use crate::certificate::Certificate;
+use crate::form::Form;
 use crate::line::Line;
 use crate::plan::Plan;
 use crate::stretch::Stretch;
@@ -40,13 +43,13 @@ fn push_number_word(text: &mut Vec<u8>, number: u32) -> Pushed
 }
 
 #[tactic(auto, using(std::proofs::Common::append_assoc), unfolding(crate::specs::Printing::ended, crate::specs::Sheet::line_text))]
-fn push_title(text: &mut Vec<u8>, second: bool) -> Pushed
-    ensures { OnOk result (text.new.items ≡ text.old.items ++ ended (title_line second)) }
+fn push_title(text: &mut Vec<u8>, form: Form) -> Pushed
+    ensures { OnOk result (text.new.items ≡ text.old.items ++ ended (title_line form)) }
 {
-    if second {
-        text.extend_from_slice(b"mmplan 2\n")?;
-    } else {
-        text.extend_from_slice(b"mmplan 1\n")?;
+    match form {
+        Form::First => text.extend_from_slice(b"mmplan 1\n")?,
+        Form::Second => text.extend_from_slice(b"mmplan 2\n")?,
+        Form::Third => text.extend_from_slice(b"mmplan 3\n")?,
     }
     Ok(())
 }
@@ -202,7 +205,7 @@ fn push_bound(text: &mut Vec<u8>, bound: i64) -> Pushed
 }
 
 #[tactic(auto, using(std::proofs::Common::append_assoc), unfolding(crate::specs::Printing::ended, crate::specs::Sheet::line_text))]
-fn push_end(text: &mut Vec<u8>) -> Pushed
+pub(crate) fn push_end(text: &mut Vec<u8>) -> Pushed
     ensures { OnOk result (text.new.items ≡ text.old.items ++ ended end_line) }
 {
     text.extend_from_slice(b"end\n")?;
@@ -211,17 +214,17 @@ fn push_end(text: &mut Vec<u8>) -> Pushed
 
 // The lines up to the dumps.
 #[tactic(auto, using(std::proofs::Common::append_assoc))]
-pub(crate) fn push_front(text: &mut Vec<u8>, second: bool, ids: &[StoreId], plan: &Plan) -> Pushed
+pub(crate) fn push_front(text: &mut Vec<u8>, form: Form, ids: &[StoreId], plan: &Plan) -> Pushed
     ensures { OnOk result (text.new.items ≡ text.old.items
-        ++ (ended (title_line second) ++ ended (stores_line ids.now) ++ all_ended (plan_lines plan.now))) }
+        ++ (ended (title_line form) ++ ended (stores_line ids.now) ++ all_ended (plan_lines plan.now))) }
 {
-    push_title(text, second)?;
+    push_title(text, form)?;
     push_stores(text, ids)?;
     push_plan(text, plan)?;
     Ok(())
 }
 
-// The lines from the loss on.
+// The lines of a certificate.
 #[tactic(auto, using(std::proofs::Common::append_assoc))]
 pub(crate) fn push_certificate(
     text: &mut Vec<u8>,
@@ -231,14 +234,64 @@ pub(crate) fn push_certificate(
     bound: i64,
 ) -> Pushed
     ensures { OnOk result (text.new.items ≡ text.old.items
-        ++ (ended (loss_line loss) ++ all_ended (map stretch_line cut.now) ++ all_ended (map count_line by_channels.now)
-        ++ ended (bound_line bound) ++ ended end_line)) }
+        ++ (ended (loss_line loss) ++ all_ended (map stretch_line cut.now)
+        ++ all_ended (map count_line by_channels.now) ++ ended (bound_line bound))) }
 {
     push_loss(text, loss)?;
     push_cut(text, cut)?;
     push_counts(text, by_channels)?;
     push_bound(text, bound)?;
-    push_end(text)?;
+    Ok(())
+}
+
+#[tactic(auto, using(std::proofs::Common::append_assoc), unfolding(crate::specs::Printing::ended, crate::specs::Sheet::line_text))]
+fn push_first(text: &mut Vec<u8>, number: u64) -> Pushed
+    ensures { OnOk result (text.new.items ≡ text.old.items ++ ended (first_line number)) }
+{
+    text.extend_from_slice(b"first ")?;
+    push_number(text, number)?;
+    text.push(b'\n')?;
+    Ok(())
+}
+
+// The line before a certificate, and its lines.
+fn push_part(text: &mut Vec<u8>, number: u64, part: &Certificate) -> Pushed
+    ensures { OnOk result (text.new.items ≡ text.old.items
+        ++ (ended (first_line number) ++ all_ended (certificate_lines part.now))) }
+{
+    push_first(text, number)?;
+    push_certificate(
+        text,
+        part.loss(),
+        part.cut(),
+        part.by_channels(),
+        part.bound(),
+    )?;
+    Ok(())
+}
+
+// The lines of the certificates of the first store, of the first two and so on.
+fn push_each(text: &mut Vec<u8>, firsts: &[Certificate]) -> Pushed
+    ensures { OnOk result (text.new.items ≡ text.old.items ++ all_ended (first_lines 1 firsts.now)) }
+{
+    let mut number = 0;
+    let mut rest = firsts;
+    while let [part, after @ ..] = rest {
+        number += 1;
+        push_part(text, number, part)?;
+        rest = after;
+    }
+    Ok(())
+}
+
+// The same, where there are some.
+pub(crate) fn push_firsts(text: &mut Vec<u8>, firsts: Option<&[Certificate]>) -> Pushed
+    ensures { OnOk result (text.new.items ≡ text.old.items
+        ++ all_ended (first_lines 1 (unwrap_or (option_map (λ cs. cs.now) firsts.entry) []))) }
+{
+    if let Some(firsts) = firsts {
+        push_each(text, firsts)?;
+    }
     Ok(())
 }
 
@@ -248,13 +301,14 @@ pub(crate) fn push_line(text: &mut Vec<u8>, line: &Line) -> Pushed
     ensures { OnOk result (text.new.items ≡ text.old.items ++ ended (seen line.now)) }
 {
     match line {
-        Line::Title { second } => push_title(text, *second),
+        Line::Title(form) => push_title(text, *form),
         Line::Stores(ids) => push_stores(text, ids.as_slice()),
         Line::Dump { step, amounts } => push_dump(text, *step, amounts.as_slice()),
         Line::Loss(loss) => push_loss(text, *loss),
         Line::Cut(stretch) => push_stretch(text, *stretch),
         Line::Count(step) => push_count(text, *step),
         Line::Bound(bound) => push_bound(text, *bound),
+        Line::First(number) => push_first(text, u64::from(*number)),
         Line::End => push_end(text),
     }
 }

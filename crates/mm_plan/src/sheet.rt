@@ -1,9 +1,10 @@
 //! A plan with its certificate: what a plan text says.
-ghost use Rattle.std.specs.Prelude.{◌≡◌, ◌<◌, ◌↔◌, ◌∷◌, [], Some, None, IfOk, IfErr, IfSome, IsOk, IsTrue, OnOk, MatchOption, MatchResult, length, map};
+ghost use Rattle.std.specs.Prelude.{◌≡◌, ◌<◌, ◌≤◌, ◌↔◌, ◌∷◌, [], Some, None, IfOk, IfErr, IfSome, IsOk, IsTrue, OnOk, MatchOption, MatchResult, length, map};
 ghost use Rattle.std.specs.Option.{option_map};
 ghost use Rattle.mm_plan.specs.Sheet.{SheetRows, IsSheet, IsShapedFor, sheet_text};
 ghost use Rattle.mm_plan.specs.Printing.{AreOrdered, AreRising, IsPrinted};
-ghost use Rattle.mm_plan.specs.Table.{HasShape};
+ghost use Rattle.mm_plan.specs.Table.{HasShape, IsTable};
+ghost use Rattle.mm_plan.specs.Reading.{sheet_of};
 ghost use Rattle.mm_base.specs.Reading.{IfRefused};
 ghost use Rattle.mm_plan.specs.Fault.{IsTextFault};
 ghost use Rattle.mm_plan.specs.declared.draft.Stage.TheVariants.{Done};
@@ -12,8 +13,9 @@ ghost use Rattle.mm_plan.specs.declared.fault.Fault.TheVariants.{Shape};
 use crate::certificate::Certificate;
 use crate::draft::Draft;
 use crate::fault::Fault;
+use crate::form::Form;
 use crate::plan::Plan;
-use crate::print::{ordered, push_certificate, push_front, rising};
+use crate::print::{ordered, push_certificate, push_end, push_firsts, push_front, rising};
 use crate::stretch::Stretch;
 use mm_base::lines::split_line;
 use mm_base::{NoMemory, StoreId};
@@ -22,6 +24,10 @@ use std::alloc::Global;
 use std::marker::Model;
 
 /// A dump plan with its certificate. Contracts see its parts, with its lists as lists.
+///
+/// Its text has one of three forms: `mmplan 1` where no step is counted by channels, and `mmplan 2` where some are. `mmplan 3` says that
+/// the plan serves the stores in order, and has certificates of the first store, of the first two and so on up to all but one; each may
+/// have counts.
 #[derive(Debug, Drop)]
 pub struct Sheet {
     pub(crate) stores: Vec<StoreId>,
@@ -72,19 +78,18 @@ fn ends(draft: &Draft, rest: &[u8]) -> bool
     rest.is_empty() && draft.is_done()
 }
 
-// The sheet of a draft that is whole.
+// The sheet of a draft with a certificate.
 fn finish(draft: Draft) -> Sheet
-    requires { IsSheet draft.rows }
-    ensures { result ≡ draft.rows }
+    requires plan { IsTable draft.rows.plan }
+    requires some { 1 ≤ length draft.rows.certificates }
+    ensures { result ≡ sheet_of draft }
 {
     let Draft {
+        form,
         stores,
         steps,
         amounts,
-        loss,
-        cut,
-        by_channels,
-        bound,
+        mut certificates,
         ..
     } = draft;
     let plan = Plan {
@@ -92,7 +97,21 @@ fn finish(draft: Draft) -> Sheet
         steps,
         amounts,
     };
-    Sheet::new(stores, plan, loss, cut, by_channels, bound)
+    let Certificate {
+        loss,
+        cut,
+        by_channels,
+        bound,
+    } = certificates.remove(0);
+    Sheet {
+        stores,
+        plan,
+        loss,
+        cut,
+        by_channels,
+        bound,
+        firsts: form.is_third().then_some(certificates),
+    }
 }
 
 impl Sheet {
@@ -180,7 +199,7 @@ impl Sheet {
     }
 
     /// The plan text of the sheet, with its stretches in store order, then by first and by last step, and its counted
-    /// steps in rising order.
+    /// steps in rising order. The certificates of the first stores are printed as they stand.
     pub fn print(&self, alloc: Global) -> Result<Vec<u8>, NoMemory>
         ensures { IfOk result (λ text. IsPrinted self.now text.items) }
     {
@@ -200,10 +219,12 @@ impl Sheet {
         requires by_channels { AreRising self.now.by_channels by_channels.now }
         ensures { IfOk result (λ text. IsPrinted self.now text.items) }
     {
-        let second = !by_channels.is_empty();
+        let form = Form::of(self.firsts(), by_channels);
         let mut text = Vec::new(alloc);
-        push_front(&mut text, second, self.stores.as_slice(), &self.plan)?;
-        push_certificate(&mut text, self.loss, cut, by_channels, self.bound)?;
+        push_front(&mut text, form, self.stores(), self.plan())?;
+        push_certificate(&mut text, self.loss(), cut, by_channels, self.bound())?;
+        push_firsts(&mut text, self.firsts())?;
+        push_end(&mut text)?;
         Ok(text)
     }
 

@@ -14,6 +14,7 @@ pub mod RunLists
 pub mod NoPath
 pub mod TakenAmounts
 pub mod Filling
+pub mod Certified
 pub mod CutOrder
 pub mod PlanTextLemmas
 pub mod SheetLimits

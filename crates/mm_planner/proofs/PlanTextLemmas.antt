@@ -2,18 +2,21 @@
 use Rattle.std.proofs.Common.{◌≡◌, ℕ, List, sym, ap, ◌∙◌, subst}
 use Rattle.std.specs.Prelude.{pos}
 use Rattle.mm_problem.specs.Dumping.{Dumping}
-use Rattle.mm_plan.specs.Table.{amount, HasShape}
+use Rattle.mm_plan.specs.Table.{Table, amount, HasShape}
 use Rattle.mm_plan.specs.Sheet.{SheetRows, IsSheet, IsShapedFor, OneTextOneSheet}
 use Rattle.std.specs.List.Sorted.{IsSortedByKey}
 use Rattle.mm_plan.specs.Printing.{IsOrdered, IsPrinted, stretch_key, key_cmp}
 use Rattle.mm_plan.specs.Filled.{IsFilled}
 use Rattle.mm_plan.specs.Volumes.{loss}
 use Rattle.mm_plan.specs.Least.{IsLeast}
-use Rattle.mm_cut.specs.Verdicts.{VerdictsExclude, IsVerdict}
-use Rattle.mm_cut.specs.declared.verdict.Verdict.TheVariants.{Least}
+use Rattle.mm_cut.specs.Checking.{SaysSheet, Checks}
+use Rattle.mm_cut.specs.Verdicts.{IsOwnVerdict, IsVerdictWith, IsSheetVerdict, SheetVerdictsExclude}
+use Rattle.mm_cut.specs.declared.verdict.Verdict.{Verdict}
+use Rattle.mm_cut.specs.declared.verdict.Verdict.TheVariants.{Least, LeastInOrder}
 use Rattle.mm_problem.specs.Texts.{SaysProblem}
 use Rattle.mm_planner.specs.Planned.{SheetShows}
-use Rattle.mm_planner.specs.PlanTexts.{PlansFor, PlansCheckLeast}
+use Rattle.mm_planner.specs.InOrder.{ShowsInOrder}
+use Rattle.mm_planner.specs.PlanTexts.{SheetShowsInOrder, PlansFor, PlansCheckLeast, PlansCheckLeastInOrder}
 use Rattle.mm_planner.proofs.CutOrder.{cut_in_order, bound_in_order}
 
 -- in the order in which it is printed, a sheet shows the same
@@ -50,14 +53,22 @@ printed_plans q s text is shaped shows tight printed =
       };
     }
 
--- ---- the law
+-- so does one that has certificates of the first stores
+pub printed_shows : (q : Dumping) (s r : SheetRows) → SheetShowsInOrder q s → IsOrdered s r → SheetShowsInOrder q r
+printed_shows q s r shows ordered = record {
+  certificates = shows.certificates;
+  has = ordered.firsts ∙ shows.has;
+  in_order = subst (λ (x : Table). ShowsInOrder q x shows.certificates) (sym ordered.plan) shows.in_order;
+}
+
+-- ---- the laws
 
 -- a problem for each setup and forecast
 one_problem : (setup forecast : List ℕ) (p q : Dumping) → SaysProblem setup forecast p → SaysProblem setup forecast q → p ≡ q
 one_problem setup forecast p q says_p says_q = cc
 
--- what is `Least` of a sheet that shows it
-least_verdict : (q : Dumping) (s : SheetRows) → SheetShows q s → s.bound ≡ pos s.loss → IsVerdict q (amount s.plan) s.cut s.by_channels s.loss s.bound (Least (loss q (amount s.plan)))
+-- what is `Least` of a sheet's own cut where it shows it
+least_verdict : (q : Dumping) (s : SheetRows) → SheetShows q s → s.bound ≡ pos s.loss → IsOwnVerdict q s (Least (loss q (amount s.plan)))
 least_verdict q s shows tight = (
   record { plan = record { fits = shows.least.fits; loss = sym shows.loss }; cut = shows.cut; bound = tight ∙ sym shows.bound },
   shows.loss,
@@ -65,14 +76,28 @@ least_verdict q s shows tight = (
   shows.least,
 )
 
--- from the laws that verdicts exclude one another, and that a text is that of one sheet
-pub plans_check_least : VerdictsExclude → OneTextOneSheet → PlansCheckLeast
+-- from the laws that verdicts on a sheet exclude one another, and that a text is that of one sheet: what is said of a text is what holds of its
+-- sheet
+says_one : SheetVerdictsExclude → OneTextOneSheet → (setup forecast text : List ℕ) (q : Dumping) (s : SheetRows) → SaysProblem setup forecast q → SaysSheet q text s → (w : Verdict) → IsSheetVerdict q s w → (v : Verdict) → Checks setup forecast text v → v ≡ w
+says_one exclude one_sheet setup forecast text q s says_problem says_sheet w is v checks =
+    let same_problem = one_problem setup forecast checks.problem q checks.says_problem says_problem in
+    let same_sheet = one_sheet checks.sheet s checks.says_sheet.is_sheet says_sheet.is_sheet (sym checks.says_sheet.text ∙ says_sheet.text) in
+    let said : IsSheetVerdict q s v = subst (λ r. IsSheetVerdict q r v) same_sheet (subst (λ p. IsSheetVerdict p checks.sheet v) same_problem checks.verdict) in
+    exclude q s v w said is
+
+pub plans_check_least : SheetVerdictsExclude → OneTextOneSheet → PlansCheckLeast
 plans_check_least exclude one_sheet setup forecast text planned v checks =
     let q = planned.problem in
     let s = planned.sheet in
-    let same_problem = one_problem setup forecast checks.problem q checks.says_problem planned.says_problem in
-    let same_sheet = one_sheet checks.sheet s checks.says_sheet.is_sheet planned.plans.says_sheet.is_sheet (sym checks.says_sheet.text ∙ planned.plans.says_sheet.text) in
-    let said : IsVerdict q (amount s.plan) s.cut s.by_channels s.loss s.bound v =
-    subst (λ r. IsVerdict q (amount r.plan) r.cut r.by_channels r.loss r.bound v) same_sheet
-    (subst (λ p. IsVerdict p (amount checks.sheet.plan) checks.sheet.cut checks.sheet.by_channels checks.sheet.loss checks.sheet.bound v) same_problem checks.verdict) in
-    exclude q (amount s.plan) s.cut s.by_channels s.loss s.bound v (Least (loss q (amount s.plan))) said (least_verdict q s planned.plans.shows_least planned.plans.tight)
+    let least = Least (loss q (amount s.plan)) in
+    let is : IsSheetVerdict q s least = subst (λ o. IsVerdictWith q s o least) (sym planned.plain) (least_verdict q s planned.plans.shows_least planned.plans.tight) in
+    says_one exclude one_sheet setup forecast text q s planned.says_problem planned.plans.says_sheet least is v checks
+
+pub plans_check_least_in_order : SheetVerdictsExclude → OneTextOneSheet → PlansCheckLeastInOrder
+plans_check_least_in_order exclude one_sheet setup forecast text planned v checks =
+    let q = planned.problem in
+    let s = planned.sheet in
+    let least = LeastInOrder (loss q (amount s.plan)) in
+    let in_order = planned.shows.in_order in
+    let is : IsSheetVerdict q s least = subst (λ o. IsVerdictWith q s o least) (sym planned.shows.has) (least_verdict q s planned.plans.shows_least planned.plans.tight, in_order.show, in_order.least) in
+    says_one exclude one_sheet setup forecast text q s planned.says_problem planned.plans.says_sheet least is v checks

@@ -1,6 +1,6 @@
 -- The sheet of a planned problem is within the limits of the text.
-use Rattle.std.proofs.Common.{◌≡◌, ℕ, ◌*◌, ◌<◌, ◌≤◌, ℤ, pos, List, [], length, get_or, map, sym, ap, ◌∙◌, subst, arith}
-use Rattle.std.specs.Prelude.{All, ◌^◌, FitsSigned}
+use Rattle.std.proofs.Common.{◌≡◌, ℕ, ◌+◌, ◌*◌, ◌<◌, ◌≤◌, ℤ, pos, List, [], length, get_or, map, sym, ap, ◌∙◌, subst, arith}
+use Rattle.std.specs.Prelude.{All, IfSome, ◌^◌, FitsSigned}
 use Rattle.std.specs.Int.{w64}
 use Rattle.std.specs.Str.{bytes_eq}
 use Rattle.std.proofs.lemmas.List.{length-map, get_or-map}
@@ -14,7 +14,9 @@ use Rattle.mm_problem.specs.Dumping.{Dumping, IsDumping, no_row}
 use Rattle.mm_base.specs.Id.{IsIdField}
 use Rattle.mm_plan.specs.declared.stretch.Stretch.{Stretch}
 use Rattle.mm_plan.specs.Table.{IsTable, HasShape}
-use Rattle.mm_plan.specs.Sheet.{SheetRows, IsSheet, IsShapedFor, IsWritten}
+use Rattle.mm_plan.specs.Volumes.{Amounts}
+use Rattle.mm_plan.specs.Sheet.{SheetRows, CertificateRows, IsCertificate, AreFirsts, IsSheet, IsShapedFor, IsWritten}
+use Rattle.mm_cut.specs.Firsts.{ShowFirsts}
 use Rattle.mm_cut.specs.Stretches.{store_of, goes_past, IsStretch, AreStretches}
 use Rattle.mm_cut.specs.Counts.{IsCounted}
 use Rattle.mm_cut.specs.Cuts.{IsCut, CutsAreFew}
@@ -43,23 +45,47 @@ counted_below q ds t are is =
     let passed = some.4 in
     grind (arith, nat_tests)
 
--- a sheet with the problem's stores and steps, a cut of the problem, and a loss and a bound that a problem may have
-pub planned_is_sheet : CutsAreFew → (q : Dumping) (s : SheetRows) → IsDumping q → IsShapedFor q s → HasShape q s.plan → IsTable s.plan → All IsIdField s.stores → IsCut q s.cut s.by_channels → s.loss ≤ 2 * MAX_BLOCKS * MAX_STEPS * MAX_STORES → s.bound ≡ pos s.loss → IsSheet s
-planned_is_sheet cuts_are_few q s is shaped shape table ids cut most tight =
-    let stores : length s.stores ≡ length q.rows = ap length shaped.stores ∙ length-map q.rows (λ r. r.id) in
+-- a certificate of a cut of the problem, with a loss and a bound that a problem may have
+pub is_certificate : CutsAreFew → (q : Dumping) (c : CertificateRows) → IsDumping q → All IsIdField (map (λ r. r.id) q.rows) → IsCut q c.cut c.by_channels → c.loss ≤ 2 * MAX_BLOCKS * MAX_STEPS * MAX_STORES → c.bound ≡ pos c.loss → IsCertificate c
+is_certificate cuts_are_few q c is named cut most tight =
     let few_steps = is.steps.at_most in
-    let few = cuts_are_few q s.cut s.by_channels is cut in
-    let named : All IsIdField (map (λ r. r.id) q.rows) = subst (All IsIdField) shaped.stores ids in
+    let few = cuts_are_few q c.cut c.by_channels is cut in
     record {
-      steps = omega (arith, shaped.steps, few_steps);
       cut = omega (arith, few.0);
       counts = omega (arith, few_steps, few.1);
+      each_stretch = All-weaker (IsStretch q) IsWritten (λ d is_stretch.
+          record { store = stretch_store q d is_stretch named; first = omega (arith, few_steps, is_stretch.order, is_stretch.last); last = omega (arith, few_steps, is_stretch.last) }) c.cut cut.stretches.each;
+      each_count = All-weaker (IsCounted q c.cut) (λ t. t < 2 ^ 32) (λ t counted. omega (arith, few_steps, counted_below q c.cut t cut.stretches counted)) c.by_channels cut.counted.each;
+      loss = omega (arith, most);
+      bound = fits_signed c.bound c.loss tight (omega (arith, most));
+    }
+
+-- certificates that show what the first stores lose, of all stores but the last
+pub are_firsts : CutsAreFew → (q : Dumping) (x : Amounts) (ids : List (List ℕ)) (cs : List CertificateRows) → IsDumping q → ids ≡ map (λ r. r.id) q.rows → All IsIdField ids → length cs + 1 ≡ length q.rows → ShowFirsts q x cs → All (λ c. c.loss ≤ 2 * MAX_BLOCKS * MAX_STEPS * MAX_STORES) cs → AreFirsts (length ids) cs
+are_firsts cuts_are_few q x ids cs is same named count show most = record {
+  count = count ∙ sym (length-map q.rows (λ r. r.id)) ∙ sym (ap length same);
+  each = λ k d inside.
+      is_certificate cuts_are_few q (get_or cs k d) is (subst (All IsIdField) same named) (show k d inside).cut.cut (most k d inside) (show k d inside).tight;
+}
+
+-- a sheet with the problem's stores and steps, a cut of the problem, and a loss and a bound that a problem may have
+pub planned_is_sheet : CutsAreFew → (q : Dumping) (s : SheetRows) → IsDumping q → IsShapedFor q s → HasShape q s.plan → IsTable s.plan → All IsIdField s.stores → IsCut q s.cut s.by_channels → s.loss ≤ 2 * MAX_BLOCKS * MAX_STEPS * MAX_STORES → s.bound ≡ pos s.loss
+    → IfSome s.firsts (AreFirsts (length s.stores)) → IsSheet s
+planned_is_sheet cuts_are_few q s is shaped shape table ids cut most tight firsts =
+    let stores : length s.stores ≡ length q.rows = ap length shaped.stores ∙ length-map q.rows (λ r. r.id) in
+    let few_steps = is.steps.at_most in
+    let named : All IsIdField (map (λ r. r.id) q.rows) = subst (All IsIdField) shaped.stores ids in
+    let own = is_certificate cuts_are_few q (record { loss = s.loss; cut = s.cut; by_channels = s.by_channels; bound = s.bound }) is named cut most tight in
+    record {
+      firsts = firsts;
+      steps = omega (arith, shaped.steps, few_steps);
+      cut = own.cut;
+      counts = own.counts;
       plan = table;
       same_stores = shape.stores ∙ sym stores;
       each_store = ids;
-      each_stretch = All-weaker (IsStretch q) IsWritten (λ d is_stretch.
-          record { store = stretch_store q d is_stretch named; first = omega (arith, few_steps, is_stretch.order, is_stretch.last); last = omega (arith, few_steps, is_stretch.last) }) s.cut cut.stretches.each;
-      each_count = All-weaker (IsCounted q s.cut) (λ t. t < 2 ^ 32) (λ t counted. omega (arith, few_steps, counted_below q s.cut t cut.stretches counted)) s.by_channels cut.counted.each;
-      loss = omega (arith, most);
-      bound = fits_signed s.bound s.loss tight (omega (arith, most));
+      each_stretch = own.each_stretch;
+      each_count = own.each_count;
+      loss = own.loss;
+      bound = own.bound;
     }

@@ -1,19 +1,20 @@
 -- The plan texts that answer a setup and a forecast.
-use Rattle.std.specs.Prelude.{◌≡◌, ℕ, List, Err, pos}
+use Rattle.std.specs.Prelude.{◌≡◌, ℕ, Some, None, List, Err, pos}
 use Rattle.std.specs.List.Sorted.{IsSortedByKey, IsNonDecreasing}
 use Rattle.mm_problem.specs.declared.fault.Fault.TheVariants as problem
 use Rattle.mm_problem.specs.Dumping.{Dumping}
 use Rattle.mm_plan.specs.Table.{amount}
 use Rattle.mm_plan.specs.Volumes.{loss}
-use Rattle.mm_plan.specs.Sheet.{SheetRows}
+use Rattle.mm_plan.specs.Sheet.{SheetRows, CertificateRows}
 use Rattle.mm_plan.specs.Printing.{stretch_key, key_cmp}
 use Rattle.mm_cut.specs.declared.verdict.Verdict.{Verdict}
-use Rattle.mm_cut.specs.declared.verdict.Verdict.TheVariants.{Least}
+use Rattle.mm_cut.specs.declared.verdict.Verdict.TheVariants.{Least, LeastInOrder}
 use Rattle.mm_cut.specs.declared.fault.Fault.{Fault}
 use Rattle.mm_cut.specs.declared.fault.Fault.TheVariants.{NoMemory, Problem, Plan}
 use Rattle.mm_problem.specs.Texts.{problem_in, SaysProblem}
 use Rattle.mm_cut.specs.Checking.{SaysSheet, Checks}
 use Rattle.mm_planner.specs.Planned.{ShowsLeast}
+use Rattle.mm_planner.specs.InOrder.{ShowsInOrder}
 use Rattle.mm_planner.specs.declared.texts.PrintedPlan.{PrintedPlan}
 
 -- the stretches stand in store order, then by first and by last step, and the counted steps rise
@@ -29,10 +30,24 @@ pub record PlansFor (q : Dumping) (text : List ℕ) (sheet : SheetRows) : Type 0
   pub tight : sheet.bound ≡ pos sheet.loss
   pub in_order : IsInOrder sheet
 
--- the plan and its text, which says the plan
+-- the sheet's certificates of the first stores show that its plan loses least in the order of the stores
+pub record SheetShowsInOrder (q : Dumping) (sheet : SheetRows) : Type 0 where
+  pub certificates : List CertificateRows
+  pub has : sheet.firsts ≡ Some certificates
+  pub in_order : ShowsInOrder q sheet.plan certificates
+
+-- the plan and its text, which says the plan, and nothing of the first stores
 pub record IsPrintedFor (q : Dumping) (printed : PrintedPlan) : Type 0 where
   pub sheet : SheetRows
   pub plans : PlansFor q printed.text.items sheet
+  pub plain : sheet.firsts ≡ None
+  pub plan_is : printed.sheet.plan ≡ sheet.plan
+
+-- the plan and its text, which says the plan, and shows that it loses least in the order of the stores
+pub record IsPrintedInOrder (q : Dumping) (printed : PrintedPlan) : Type 0 where
+  pub sheet : SheetRows
+  pub plans : PlansFor q printed.text.items sheet
+  pub shows : SheetShowsInOrder q sheet
   pub plan_is : printed.sheet.plan ≡ sheet.plan
 
 -- the text says a sheet for the problem that the setup and the forecast say, and the sheet shows that its plan loses least
@@ -41,6 +56,15 @@ pub record PlansLeast (setup forecast text : List ℕ) : Type 0 where
   pub sheet : SheetRows
   pub says_problem : SaysProblem setup forecast problem
   pub plans : PlansFor problem text sheet
+  pub plain : sheet.firsts ≡ None
+
+-- besides, the sheet shows that its plan loses least in the order of the stores
+pub record PlansLeastInOrder (setup forecast text : List ℕ) : Type 0 where
+  pub problem : Dumping
+  pub sheet : SheetRows
+  pub says_problem : SaysProblem setup forecast problem
+  pub plans : PlansFor problem text sheet
+  pub shows : SheetShowsInOrder problem sheet
 
 -- the first fault of the setup and the forecast; want of memory is none, whoever lacked it
 abbrev pub IsPlanningFault : List ℕ → List ℕ → Fault → Type 0
@@ -54,3 +78,9 @@ abbrev pub PlansCheckLeast : Type 0
 PlansCheckLeast =
     (setup forecast text : List ℕ) (planned : PlansLeast setup forecast text) (v : Verdict) → Checks setup forecast text v
     → v ≡ Least (loss planned.problem (amount planned.sheet.plan))
+
+-- of a text that plans least in the order of the stores it is `LeastInOrder`
+abbrev pub PlansCheckLeastInOrder : Type 0
+PlansCheckLeastInOrder =
+    (setup forecast text : List ℕ) (planned : PlansLeastInOrder setup forecast text) (v : Verdict) → Checks setup forecast text v
+    → v ≡ LeastInOrder (loss planned.problem (amount planned.sheet.plan))

@@ -1,40 +1,44 @@
 //! The planner that serves the stores in order.
-ghost use Rattle.std.specs.Prelude.{◌≡◌, ◌+◌, ◌-◌, ◌<◌, ◌≤◌, length, slice_index, IfOk};
+ghost use Rattle.std.specs.Prelude.{◌≡◌, ◌+◌, ◌-◌, ◌*◌, ◌<◌, ◌≤◌, length, slice_index, All, IfOk};
+ghost use Rattle.mm_base.specs.declared.limits.TheConstants.{MAX_STORES, MAX_STEPS, MAX_BLOCKS};
 ghost use Rattle.mm_problem.specs.Dumping.{IsDumping};
-ghost use Rattle.mm_plan.specs.Table.{IsTable};
+ghost use Rattle.mm_plan.specs.Table.{amount, HasShape, IsTable};
+ghost use Rattle.mm_cut.specs.Firsts.{ShowsFirst, ShowFirsts};
 ghost use Rattle.mm_flow.specs.Balance.{IsBegun, KeepsSource};
 ghost use Rattle.mm_flow.specs.Solution.{IsSolved, side_of};
 ghost use Rattle.mm_planner.specs.declared.nodes.TheConstants.{SOURCE, SINK};
 ghost use Rattle.mm_planner.specs.Network.{first_inflow, net_by};
 ghost use Rattle.mm_planner.specs.Runs.{first_stretches, first_counts};
-ghost use Rattle.mm_planner.specs.InOrder.{ShowsInOrder};
+ghost use Rattle.mm_planner.specs.InOrder.{CutShows, CutsShow, ShowsByCuts, ShowsInOrder};
+ghost use Rattle.mm_planner.specs.Planned.{ShowsLeast};
 ghost use Rattle.mm_planner.specs.Opening.{AreOpened};
 
 use crate::building::{first_network, step_width};
 use crate::nodes::{SINK, SOURCE};
+use crate::planner::Planned;
 use crate::runs::{counts, stretches};
 use crate::taken::taken_plan;
 use mm_base::NoMemory;
 use mm_cut::first_cuts_bound_losses;
 use mm_flow::{Fault, Solved, solve_from};
-use mm_plan::{Plan, Stretch, fill};
+use mm_plan::{Certificate, Plan, Stretch, fill, first_loss, loss_of};
 use mm_problem::Problem;
 use std::alloc::Global;
 
-/// A cut of the first stores of a problem.
+// A cut of the first stores of a problem.
 #[derive(Debug, Drop)]
-pub struct FirstCut {
+pub(crate) struct FirstCut {
     pub stretches: Vec<Stretch>,
-    /// The inner steps that count by channels.
+    // the inner steps that count by channels
     pub by_channels: Vec<u32>,
 }
 
-/// A dump plan that serves the stores in order; and for the first store, for the first two and so on to all of them a cut that shows how
-/// little they lose.
+/// A dump plan that serves the stores in order, with the cut of all stores.
 #[derive(Debug, Drop)]
 pub struct InOrder {
-    pub plan: Plan,
-    pub cuts: Vec<FirstCut>,
+    pub planned: Planned,
+    /// The certificates of the first store, of the first two and so on up to all but one.
+    pub firsts: Vec<Certificate>,
 }
 
 // A flow of nothing.
@@ -116,17 +120,78 @@ fn opened(alloc: Global, problem: &Problem) -> Result<(Solved, Vec<FirstCut>), N
     Ok((solved, cuts))
 }
 
-/// A dump plan that serves the stores in the setup's order, and leaves no window idle that a store could use: of the first store, of the first
-/// two and so on no plan that fits loses less, and so it loses least of all. For each of these a cut shows it. Which of several such plans and
-/// cuts it is stays open.
-pub fn plan_in_order(alloc: Global, problem: &Problem) -> Result<InOrder, NoMemory>
-    ensures shows { IfOk result
-        (λ planned. ShowsInOrder problem.now planned.plan planned.cuts.items) }
-    ensures is_table { IfOk result (λ planned. IsTable planned.plan) }
+// A plan that serves the stores in order, and the cut of the first store, of the first two and so on to all of them.
+fn plan_with_cuts(alloc: Global, problem: &Problem) -> Result<(Plan, Vec<FirstCut>), NoMemory>
+    ensures shows { IfOk result (λ planned. ShowsByCuts problem.now planned.0 planned.1.items) }
+    ensures is_table { IfOk result (λ planned. IsTable planned.0) }
+    ensures problem { IsDumping problem.now }
 {
     first_cuts_bound_losses();
     let all = opened(alloc, problem)?;
     let taken = taken_plan(alloc, problem, &all.0)?;
     let plan = fill(alloc, problem, &taken)?;
-    Ok(InOrder { plan, cuts: all.1 })
+    Ok((plan, all.1))
+}
+
+// The certificate of a cut that shows what that many of the first stores lose.
+fn certificate(problem: &Problem, plan: &Plan, stores: usize, cut: FirstCut) -> Certificate
+    requires shape { HasShape problem.now plan.now }
+    requires stores { stores ≤ length problem.now.rows }
+    requires shows { CutShows stores problem.now plan.now cut }
+    ensures shows { ShowsFirst stores problem.now (amount plan.now) result }
+    ensures most { result.loss ≤ 2 * MAX_BLOCKS * MAX_STEPS * MAX_STORES }
+{
+    let loss = first_loss(problem, plan, stores);
+    Certificate::new(loss, cut.stretches, cut.by_channels, loss as i64)
+}
+
+// The certificates of such cuts of the first store, of the first two and so on.
+fn certificates(
+    alloc: Global,
+    problem: &Problem,
+    plan: &Plan,
+    cuts: Vec<FirstCut>,
+) -> Result<Vec<Certificate>, NoMemory>
+    requires shape { HasShape problem.now plan.now }
+    requires few { length cuts.items ≤ length problem.now.rows }
+    requires show { CutsShow problem.now plan.now cuts.items }
+    ensures count { IfOk result (λ firsts. length firsts.items ≡ length cuts.items) }
+    ensures show { IfOk result
+        (λ firsts. ShowFirsts problem.now (amount plan.now) firsts.items) }
+    ensures most { IfOk result (λ firsts.
+        All (λ c. c.loss ≤ 2 * MAX_BLOCKS * MAX_STEPS * MAX_STORES) firsts.items) }
+{
+    let mut firsts = Vec::new(alloc);
+    for cut in cuts {
+        let first = certificate(problem, plan, firsts.len() + 1, cut);
+        firsts.push(first)?;
+    }
+    Ok(firsts)
+}
+
+/// A dump plan that serves the stores in the setup's order, and leaves no window idle that a store could use: of the first store, of the first
+/// two and so on no plan that fits loses less, and so it loses least of all. For each of these a cut shows it. Which of several such plans and
+/// cuts it is stays open.
+pub fn plan_in_order(alloc: Global, problem: &Problem) -> Result<InOrder, NoMemory>
+    ensures shows_least { IfOk result (λ all. ShowsLeast problem.now
+        all.planned.plan all.planned.cut.items all.planned.by_channels.items all.planned.loss) }
+    ensures shows_in_order { IfOk result
+        (λ all. ShowsInOrder problem.now all.planned.plan all.firsts.items) }
+    ensures is_table { IfOk result (λ all. IsTable all.planned.plan) }
+    ensures most { IfOk result
+        (λ all. all.planned.loss ≤ 2 * MAX_BLOCKS * MAX_STEPS * MAX_STORES) }
+    ensures most_each { IfOk result (λ all.
+        All (λ c. c.loss ≤ 2 * MAX_BLOCKS * MAX_STEPS * MAX_STORES) all.firsts.items) }
+{
+    let (plan, mut cuts) = plan_with_cuts(alloc, problem)?;
+    let last = cuts.pop().unwrap();
+    let firsts = certificates(alloc, problem, &plan, cuts)?;
+    let loss = loss_of(problem, &plan);
+    let planned = Planned {
+        plan,
+        cut: last.stretches,
+        by_channels: last.by_channels,
+        loss,
+    };
+    Ok(InOrder { planned, firsts })
 }

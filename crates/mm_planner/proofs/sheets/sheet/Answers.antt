@@ -20,4 +20,4 @@ returns-clause-is_sheet c =
     let ids : All IsIdField s.stores = rw c.new.ensures stores.each in
     let cut : IsCut q s.cut s.by_channels = rw c.new.ensures planned.shows_least.cut in
     let tight : s.bound ≡ pos s.loss = first_of (search rules, grind (arith, common_steps)) in
-    planned_is_sheet c.cuts_are_few.ensures q s c.store_ids.ensures.problem shaped shape table ids cut (rw c.new.ensures planned.most) tight
+    planned_is_sheet c.cuts_are_few.ensures q s c.store_ids.ensures.problem shaped shape table ids cut (rw c.new.ensures planned.most) tight (rw c.new.ensures tt)

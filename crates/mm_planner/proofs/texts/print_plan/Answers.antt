@@ -1,4 +1,4 @@
-use Rattle.std.proofs.Common.{sym}
+use Rattle.std.proofs.Common.{sym, ◌∙◌}
 use Rattle.mm_planner.proofs.PlanTextLemmas.{printed_plans}
 use Rattle.mm_planner.proofs.texts.print_plan.Goals as goal
 
@@ -9,5 +9,6 @@ returns c =
       sheet = c.in_ok-text.ensures.0;
       plans = printed_plans c.args.problem.now c.in_ok-sheet.sheet c.in_ok-text.text.items sheet.is_sheet sheet.stores sheet.shows_least
           sheet.tight c.in_ok-text.ensures;
+      plain = c.in_ok-text.ensures.1.firsts ∙ sheet.plain;
       plan_is = sym c.in_ok-text.ensures.1.plan;
     }

@@ -1,7 +1,9 @@
 use Rattle.std.proofs.Common.{◌≢◌, ℕ, arith, rules, ap, ◌∙◌}
 use Rattle.mm_plan.specs.declared.fault.Fault.TheVariants.{NoMemory, PlanText}
 use Rattle.mm_plan.proofs.Options.{when_true, when_false}
-use Rattle.mm_plan.proofs.Texts.{read_to_start, read_on, few_read, bad_line, bad_end, good_end, whole_at_end}
+use Rattle.mm_plan.specs.Reading.{sheet_of}
+use Rattle.mm_plan.proofs.Runs.{sheet_of-whole}
+use Rattle.mm_plan.proofs.Texts.{read_to_start, read_on, few_read, bad_line, bad_end, good_end, done_some, whole_at_end}
 use Rattle.mm_plan.proofs.sheet.Sheet.parse.Goals as goal
 
 -- a line that is refused is no want of memory
@@ -37,10 +39,15 @@ returns-then-not-ends-clause-bad c = λ _.
 pub returns-then-not-ends-clause-read : goal.returns-then-not-ends-clause-read
 returns-then-not-ends-clause-read c = λ s is e. absurd ((returns-then-not-ends-clause-bad c (no_want c.loop-front.line)).no_sheet s is e)
 
-pub finish-requires : goal.finish-requires
-finish-requires c =
+pub finish-requires-clause-plan : goal.finish-requires-clause-plan
+finish-requires-clause-plan c =
     let ends = c.ends.ensures.0 (search rules) in
-    (good_end c.args.text.now c.loop-front.draft c.loop-front.rest.now c.loop-front.line c.loop-front.invariant (search rules) ends.0 ends.1).0
+    (good_end c.args.text.now c.loop-front.draft c.loop-front.rest.now c.loop-front.line c.loop-front.invariant (search rules) ends.0 ends.1).0.plan
+
+pub finish-requires-clause-some : goal.finish-requires-clause-some
+finish-requires-clause-some c =
+    let ends = c.ends.ensures.0 (search rules) in
+    done_some c.args.text.now c.loop-front.draft c.loop-front.rest.now c.loop-front.line c.loop-front.invariant ends.0
 
 pub returns-clause-found : goal.returns-clause-found
 returns-clause-found c =
@@ -51,4 +58,5 @@ returns-clause-found c =
 pub returns-clause-read : goal.returns-clause-read
 returns-clause-read c = λ s is e.
     c.finish.ensures
-    ∙ ap (λ d. d.rows) (whole_at_end c.args.text.now c.loop-front.draft c.loop-front.rest.now c.loop-front.line s c.loop-front.invariant (search rules) is e).0
+    ∙ ap sheet_of (whole_at_end c.args.text.now c.loop-front.draft c.loop-front.rest.now c.loop-front.line s c.loop-front.invariant (search rules) is e).0
+    ∙ sheet_of-whole s

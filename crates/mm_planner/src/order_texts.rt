@@ -1,0 +1,32 @@
+//! From a problem, or the bytes of a setup and a forecast, to the text of a plan that serves the stores in order.
+ghost use Rattle.std.specs.Prelude.{IfOk};
+ghost use Rattle.mm_base.specs.Reading.{IfRefused};
+ghost use Rattle.mm_cut.specs.declared.fault.Fault.TheVariants as fault;
+ghost use Rattle.mm_planner.specs.PlanTexts.{IsPrintedInOrder, PlansLeastInOrder, IsPlanningFault};
+
+use crate::sheets::sheet_in_order;
+use crate::texts::PrintedPlan;
+use mm_base::NoMemory;
+use mm_cut::Fault;
+use mm_problem::{Problem, read_problem};
+use std::alloc::Global;
+
+/// Plans in the order of the stores, and prints the sheet.
+pub fn print_plan_in_order(alloc: Global, problem: &Problem) -> Result<PrintedPlan, NoMemory>
+    ensures { IfOk result (IsPrintedInOrder problem.now) }
+{
+    let sheet = sheet_in_order(alloc, problem)?;
+    let text = sheet.print(alloc)?;
+    Ok(PrintedPlan { sheet, text })
+}
+
+/// The text of a dump plan that serves the stores in the setup's order, with the cuts that show that it loses least of the first
+/// store, of the first two and so on to all of them. Otherwise the first fault, of the setup and then of the forecast.
+pub fn plan_in_order_bytes(alloc: Global, setup: &[u8], forecast: &[u8]) -> Result<Vec<u8>, Fault>
+    ensures text { IfOk result (λ text. PlansLeastInOrder setup.now forecast.now text.items) }
+    ensures refused { IfRefused fault.NoMemory result (IsPlanningFault setup.now forecast.now) }
+{
+    let problem = read_problem(alloc, setup, forecast)?;
+    let printed = print_plan_in_order(alloc, &problem)?;
+    Ok(printed.text)
+}
