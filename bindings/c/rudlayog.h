@@ -180,7 +180,9 @@ enum rudlayog_kind {
     RUDLAYOG_BAD_STRETCH = 4,  /* place is the first stretch that no cut has */
     RUDLAYOG_BAD_COUNT = 5,    /* place is the first counted step that no cut has */
     RUDLAYOG_BOUND_IS = 6,     /* the printed bound is wrong; bound is the cut's */
-    RUDLAYOG_NOT_SHOWN = 7     /* the cut does not show that the plan loses least; loss and bound */
+    RUDLAYOG_NOT_SHOWN = 7,    /* the cut does not show that the plan loses least; loss and bound */
+    RUDLAYOG_LEAST_IN_ORDER = 8, /* nor does any lose fewer of the first stores, however many; loss */
+    RUDLAYOG_FIRST_NOT_SHOWN = 9 /* it loses least; the cut of the first `place` stores does not show what they lose */
 };
 
 /* A verdict. Losses and bounds are in blocks, places count from 1. Fields that `kind` does not name are 0. */
@@ -380,6 +382,13 @@ RUDLAYOG_SAME(offsetof(struct rudlayog_entry, apid) == 32 && offsetof(struct rud
 void rudlayog_plan(const uint8_t *setup, size_t setup_length, const uint8_t *forecast, size_t forecast_length, uint8_t *out, size_t room,
                    struct rudlayog_answer *answer);
 
+/* The text of a dump plan that serves the stores in the setup's order: of the first store, of the first two and so on no plan that fits loses
+ * fewer blocks, and a cut of each shows it. Stack: `RUDLAYOG_PLAN_STACK`.
+ *
+ * `RUDLAYOG_WRITTEN`, `RUDLAYOG_TOO_SMALL`, `RUDLAYOG_REFUSED`. */
+void rudlayog_plan_in_order(const uint8_t *setup, size_t setup_length, const uint8_t *forecast, size_t forecast_length, uint8_t *out,
+                            size_t room, struct rudlayog_answer *answer);
+
 /* The verdict on a plan text, whoever made it: in `verdict`, and as its line in `out`. Stack: `RUDLAYOG_CHECK_STACK`.
  *
  * `RUDLAYOG_WRITTEN`, `RUDLAYOG_TOO_SMALL` (never where `room` is `RUDLAYOG_LINE_ROOM` or more): `verdict` is the verdict.
@@ -392,6 +401,12 @@ void rudlayog_check(const uint8_t *setup, size_t setup_length, const uint8_t *fo
  * `RUDLAYOG_WRITTEN`, `RUDLAYOG_TOO_SMALL`, `RUDLAYOG_REFUSED`. */
 void rudlayog_chart(const uint8_t *setup, size_t setup_length, const uint8_t *forecast, size_t forecast_length, const uint8_t *plan,
                     size_t plan_length, uint8_t *out, size_t room, struct rudlayog_answer *answer);
+
+/* The chart of a plan text with its windows shaded by what each is worth, as rudlayog_sensitivity says it. Stack: `RUDLAYOG_CHART_STACK`.
+ *
+ * `RUDLAYOG_WRITTEN`, `RUDLAYOG_TOO_SMALL`, `RUDLAYOG_REFUSED`. */
+void rudlayog_chart_worth(const uint8_t *setup, size_t setup_length, const uint8_t *forecast, size_t forecast_length, const uint8_t *plan,
+                          size_t plan_length, uint8_t *out, size_t room, struct rudlayog_answer *answer);
 
 /* The table of a plan text: what each step does to each store, as comma separated values. Stack: `RUDLAYOG_TABLE_STACK`.
  *
@@ -426,7 +441,7 @@ void rudlayog_read(const uint8_t *packets, size_t packets_length, uint8_t *out, 
  * `RUDLAYOG_WRITTEN`, `RUDLAYOG_TOO_SMALL` (not where `room` is `RUDLAYOG_WORDS_ROOM` or more), `RUDLAYOG_REFUSED` out of memory. */
 void rudlayog_words(const struct rudlayog_refused *refused, uint8_t *out, size_t room, struct rudlayog_answer *answer);
 
-/* The hint on texts of which rudlayog_plan, rudlayog_check, rudlayog_chart, rudlayog_table,
+/* The hint on texts of which rudlayog_plan, rudlayog_plan_in_order, rudlayog_check, rudlayog_chart, rudlayog_table,
  * rudlayog_sensitivity or rudlayog_ask was refused so: what is found in
  * them, in one line without its end, as `the cell is "x" in line 3 of the file, whose header is line 1`. A text that the call did not have
  * is given with the length 0. The text is empty where no more can be said. Stack: `RUDLAYOG_HINT_STACK`.

@@ -40,7 +40,8 @@ def run(*words, cwd=None):
 
 
 def recording_tools(work):
-    """A toolchain that is the kit's, but that its clang leaves the module that it is given, and its words, in the folder."""
+    """A toolchain that is the kit's, but that its clang leaves the module that it is given, and its words, in the folder, before it begins. Once
+    the module is there, both are whole."""
     os.makedirs(f"{work}/tools/bin")
     os.symlink(f"{KIT}/toolchain/lib", f"{work}/tools/lib")
     for tool in os.listdir(TOOLS):
@@ -48,13 +49,14 @@ def recording_tools(work):
             os.symlink(f"{TOOLS}/{tool}", f"{work}/tools/bin/{tool}")
     clang = f"{work}/tools/bin/clang"
     with open(clang, "w", encoding="utf-8") as file:
-        file.write(f'#!/bin/sh\nif [ -f module.bc ]; then cp module.bc "{work}/module.bc" && printf "%s\\n" "$@" >"{work}/words"; fi\nexec "{TOOLS}/clang" "$@"\n')
+        keep = f'cp module.bc "{work}/module.part" && printf "%s\\n" "$@" >"{work}/words" && mv "{work}/module.part" "{work}/module.bc"'
+        file.write(f'#!/bin/sh\nif [ -f module.bc ]; then {keep}; fi\nexec "{TOOLS}/clang" "$@"\n')
     os.chmod(clang, 0o755)
     return f"{work}/tools"
 
 
 def build(rt, folder, top, work, *more, jobs=2):
-    """Proves and builds a crate in the kit's way. Leaves the archive as lib.a, the module as module.ll and clang's words as words in the folder
+    """Proves and builds a crate in the kit's way. Leaves the archive as lib.a, the module as module.bc and clang's words as words in the folder
     for work, and gives rattle's last line."""
     crate = rt.Crate(folder, top, {})
     for below in crate.below():
@@ -64,9 +66,13 @@ def build(rt, folder, top, work, *more, jobs=2):
     words = [*crate.words(["--jobs", str(jobs)]), *more, "--toolchain", tools, "-o", f"{work}/lib.a"]
     said = run(f"{KIT}/bin/rattle", "build", *words, cwd=folder)
     verdict = re.search(r"^logic=proved .*$", said, re.M) or refuse(f"{crate.name} is not proved:\n{said[-2000:]}")
-    triple = WASM if crate.is_wasm else X86
-    run(f"{TOOLS}/clang", f"--target={triple}", "-S", "-emit-llvm", "-O0", "-Xclang", "-disable-llvm-passes", "-x", "ir", f"{work}/module.bc", "-o", f"{work}/module.ll")
     return verdict[0]
+
+
+def text_of_module(work, triple):
+    """The module in the folder for work, as text."""
+    run(f"{TOOLS}/clang", f"--target={triple}", "-S", "-emit-llvm", "-O0", "-Xclang", "-disable-llvm-passes", "-x", "ir", f"{work}/module.bc", "-o", f"{work}/module.ll")
+    return text_of(f"{work}/module.ll")
 
 
 def text_of(path):

@@ -98,6 +98,14 @@ static void make_chart(uint8_t *out, size_t room, struct rudlayog_answer *answer
     rudlayog_chart(TEXT(setup), TEXT(forecast), plan, plan_length, out, room, answer);
 }
 
+static void make_chart_worth(uint8_t *out, size_t room, struct rudlayog_answer *answer) {
+    rudlayog_chart_worth(TEXT(setup), TEXT(forecast), plan, plan_length, out, room, answer);
+}
+
+static void make_in_order(uint8_t *out, size_t room, struct rudlayog_answer *answer) {
+    rudlayog_plan_in_order(TEXT(setup), TEXT(forecast), out, room, answer);
+}
+
 static void make_sensitivity(uint8_t *out, size_t room, struct rudlayog_answer *answer) {
     rudlayog_sensitivity(TEXT(setup), TEXT(forecast), out, room, answer);
 }
@@ -149,6 +157,8 @@ static const struct {
     {"rudlayog_chart", make_chart, 0}, {"rudlayog_ask of no setup", make_no_ask, RUDLAYOG_REFUSAL_SETUP_TEXT},
     {"rudlayog_ask", make_ask, 0},     {"rudlayog_table", make_table, 0},
     {"rudlayog_sensitivity", make_sensitivity, 0},
+    {"rudlayog_plan_in_order", make_in_order, 0},
+    {"rudlayog_chart_worth", make_chart_worth, 0},
     {"rudlayog_read", make_read, 0},   {"rudlayog_words", make_words, 0},
     {"rudlayog_hint", make_hint, 0},   {"rudlayog_version", make_version, 0},
 };

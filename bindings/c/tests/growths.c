@@ -82,6 +82,14 @@ static void make_chart(uint8_t *out, struct rudlayog_answer *answer) {
     rudlayog_chart(TEXT(setup), TEXT(forecast), plan, plan_length, out, ROOM, answer);
 }
 
+static void make_chart_worth(uint8_t *out, struct rudlayog_answer *answer) {
+    rudlayog_chart_worth(TEXT(setup), TEXT(forecast), plan, plan_length, out, ROOM, answer);
+}
+
+static void make_in_order(uint8_t *out, struct rudlayog_answer *answer) {
+    rudlayog_plan_in_order(TEXT(setup), TEXT(forecast), out, ROOM, answer);
+}
+
 static void make_sensitivity(uint8_t *out, struct rudlayog_answer *answer) {
     rudlayog_sensitivity(TEXT(setup), TEXT(forecast), out, ROOM, answer);
 }
@@ -123,6 +131,8 @@ static const struct part parts[] = {
     {"rudlayog_check", make_check, RUDLAYOG_WRITTEN}, {"rudlayog_chart", make_chart, RUDLAYOG_WRITTEN},
     {"rudlayog_table", make_table, RUDLAYOG_WRITTEN}, {"rudlayog_read", make_read, RUDLAYOG_WRITTEN},
     {"rudlayog_sensitivity", make_sensitivity, RUDLAYOG_WRITTEN},
+    {"rudlayog_plan_in_order", make_in_order, RUDLAYOG_WRITTEN},
+    {"rudlayog_chart_worth", make_chart_worth, RUDLAYOG_WRITTEN},
     {"rudlayog_ask", make_ask, RUDLAYOG_WRITTEN},     {"rudlayog_words", make_words, RUDLAYOG_WRITTEN},
     {"rudlayog_hint", make_hint, RUDLAYOG_WRITTEN},
 };

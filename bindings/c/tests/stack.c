@@ -43,6 +43,10 @@ static void call_table(void) { rudlayog_table(GIVEN(setup), GIVEN(forecast), GIV
 
 static void call_sensitivity(void) { rudlayog_sensitivity(GIVEN(setup), GIVEN(forecast), out, ROOM, &answer); }
 
+static void call_in_order(void) { rudlayog_plan_in_order(GIVEN(setup), GIVEN(forecast), out, ROOM, &answer); }
+
+static void call_chart_worth(void) { rudlayog_chart_worth(GIVEN(setup), GIVEN(forecast), GIVEN(plan), out, ROOM, &answer); }
+
 static void call_read(void) {
     uint32_t outcome;
     rudlayog_read(TEXT(requests), out, ROOM, &outcome, &answer);
@@ -166,6 +170,8 @@ static struct {
     {"rudlayog_chart", call_chart, RUDLAYOG_CHART_STACK, 0},
     {"rudlayog_table", call_table, RUDLAYOG_TABLE_STACK, 0},
     {"rudlayog_sensitivity", call_sensitivity, RUDLAYOG_SENSITIVITY_STACK, 0},
+    {"rudlayog_plan_in_order", call_in_order, RUDLAYOG_PLAN_STACK, 0},
+    {"rudlayog_chart_worth", call_chart_worth, RUDLAYOG_CHART_STACK, 0},
     {"rudlayog_read", call_read, RUDLAYOG_READ_STACK, 0},
     {"rudlayog_ask", call_ask, RUDLAYOG_ASK_STACK, 0},
     {"rudlayog_ask", call_ask_of_setup, RUDLAYOG_ASK_STACK, 0},

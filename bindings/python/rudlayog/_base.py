@@ -38,6 +38,15 @@ def sized_setup(setup: Setup, stores: list[Store]) -> Setup:
     return made
 
 
+class Rise(NamedTuple):
+    """What `came` until the edges of the steps of some observations, as numerators of fractions with one denominator; and the step, from 0,
+    that begins at each edge, which is after the last one where the edge ends an observation. `is_one` says whether there is one of them."""
+
+    came: list[int]
+    steps: list[int]
+    is_one: bool
+
+
 class Rooms(NamedTuple):
     """What a pass can send in its steps, of which `first` is the first, from 0: all together, and by the columns of limits."""
 
@@ -72,19 +81,21 @@ class Base:
         return {contact.one.name: self._rooms(contact) for contact in contacts_of(self.mission_of("a pass"))}
 
     @cached_property
-    def _less(self) -> dict[str, list[tuple[int, list[int], int]]]:
-        """For each observation of each store its first step, from 0, and what has come until the edges of its steps: below 0, as numerators of
-        fractions with one denominator."""
-        found: dict[str, list[tuple[int, list[int], int]]] = {}
+    def _rises(self) -> dict[str, dict[int, Rise]]:
+        """What comes of the observations of each store, by the denominators of its fractions."""
+        found: dict[str, dict[int, Rise]] = {}
         for store, flows in arrivals_of(self.mission_of("an observation")).items():
-            found[store] = []
+            found[store] = {}
             for flow in flows:
                 first, last = max(bisect_right(self.edges, flow.begin) - 1, 0), bisect_left(self.edges, flow.end)
                 edges = self.edges[first : last + 1]
-                less = [-flow.above * (min(max(edge, flow.begin), flow.end) - flow.begin) for edge in edges]
+                came = [flow.above * (min(max(edge, flow.begin), flow.end) - flow.begin) for edge in edges]
                 # small numbers take less time
-                common = gcd(flow.below, *less)
-                found[store].append((first, [numerator // common for numerator in less], flow.below // common))
+                common = gcd(flow.below, *came)
+                before = found[store].get(flow.below // common)
+                rise = found[store][flow.below // common] = Rise(before.came, before.steps, False) if before else Rise([], [], True)
+                rise.came.extend(numerator // common for numerator in came)
+                rise.steps.extend([*range(first, last), len(self.edges) - 1])
         return found
 
     @cached_property
@@ -114,16 +125,19 @@ class Base:
             return self._anew(setup, forecast, changed)
         windows = list(forecast.windows)
         limits = {name: list(column) for name, column in forecast.limits.items()}
+        steps: list[int] = []
         for name, one in changed.items():
             own = self._own[name]
             end = own.first + len(own.windows)
+            steps += range(own.first, end)
             for column in (windows, *limits.values()):
                 column[own.first : end] = [0] * len(own.windows)
             for contact in contacts_of(replace(mission, passes=(one,))) if one else ():
                 rooms = self._rooms(contact)
+                steps += range(rooms.first, rooms.first + len(rooms.windows))
                 for column, blocks in ((windows, rooms.windows), *((limits[each], rooms.limits[each]) for each in limits)):
                     column[rooms.first : rooms.first + len(blocks)] = blocks
-        return setup, forecast.having(windows=windows, limits=limits)
+        return setup, forecast.with_rooms(Column(windows), {name: Column(column) for name, column in limits.items()}, steps)
 
     def _anew(self, setup: Setup, forecast: Forecast, changed: Mapping[str, Pass | None]) -> tuple[Setup, Forecast]:
         """The same where passes overlap: all windows are made again."""
@@ -139,14 +153,16 @@ class Base:
         """What arrives in a store, this many times as much."""
         if self.mission is None:
             return Column(-(-blocks * factor.numerator // factor.denominator) for blocks in forecast.arrivals[store])
-        column = [0] * len(forecast.windows)
-        for first, less, below in self._less[store]:
-            # what has come until each edge rises to whole blocks; it is below 0 here, and falls
-            above, whole = factor.numerator, below * factor.denominator
-            counts = [numerator * above // whole for numerator in less]
-            came = map(sub, counts, counts[1:])
-            if len(self._less[store]) == 1 and len(counts) > len(column):
-                return Column(came)
-            last = first + len(counts) - 1
-            column[first:last] = map(add, column[first:last], came)
-        return Column(column)
+        column = [0] * len(self.edges)
+        for below, rise in self._rises[store].items():
+            # what has come until each edge rises to whole blocks
+            above, whole = factor.numerator, factor.denominator * below
+            counts = [(numerator * above + whole - 1) // whole for numerator in rise.came]
+            came = map(sub, counts[1:], counts)
+            if rise.is_one:
+                steps = slice(rise.steps[0], rise.steps[0] + len(counts) - 1)
+                column[steps] = map(add, column[steps], came)
+                continue
+            for step, blocks in zip(rise.steps, came):
+                column[step] += blocks
+        return Column(column[:-1])

@@ -59,21 +59,30 @@ class Column(tuple[int, ...]):
         return Column, (tuple(self),)
 
 
-class Columns(Mapping[str, tuple[int, ...]]):
+class Columns(Mapping[str, Column]):
     """Columns of whole numbers, by their names and in their order. They stay as they are."""
 
     def __init__(self, named: Mapping[str, Iterable[int]]) -> None:
         self._named = MappingProxyType({name: column if type(column) is Column else Column(column) for name, column in named.items()})
         self._forms: dict[tuple[str, ...], bytes] = {}
 
-    def __getitem__(self, name: str) -> tuple[int, ...]:
+    def __getitem__(self, name: str) -> Column:
         return self._named[name]
+
+    def __contains__(self, name: object) -> bool:
+        return name in self._named
 
     def __iter__(self) -> Iterator[str]:
         return iter(self._named)
 
     def __len__(self) -> int:
         return len(self._named)
+
+    def with_others(self, others: Mapping[str, Column]) -> Columns:
+        """These columns, with others added, or in the place of those with their names."""
+        made = Columns({})
+        made._named = MappingProxyType(self._named | others)
+        return made
 
     def __hash__(self) -> int:
         return hash(frozenset(self._named.items()))
@@ -84,7 +93,7 @@ class Columns(Mapping[str, tuple[int, ...]]):
     def __reduce__(self) -> tuple[object, ...]:
         return Columns, (dict(self._named),)
 
-    def items(self) -> ItemsView[str, tuple[int, ...]]:
+    def items(self) -> ItemsView[str, Column]:
         return self._named.items()
 
     def form(self, steps: int, open_names: tuple[str, ...] = ()) -> bytes:

@@ -186,24 +186,27 @@ _MOST_ROOMS = 16
 def told(call: Callable[..., None], *given: object, texts: tuple[bytes, ...] = (), more: tuple[object, ...] = ()) -> bytes:
     """The text that a call writes. The texts and what else is given stand before the buffer, `more` after it. Where the buffer is too small
     for the text, the call is made again. Raises what `Refusal` says."""
-    given = (*(part for text in texts for part in (text, len(text))), *given)
+    words: list[object] = []
+    for text in texts:
+        words += text, len(text)
+    words += given
     answer = Answer()
     try:
         room = _rooms.pop()
     except IndexError:
         room = ctypes.create_string_buffer(PLAN_ROOM)
     try:
-        call(*given, room, len(room), *more, answer)
+        call(*words, room, len(room), *more, answer)
         while answer.status == TOO_SMALL:
             room = ctypes.create_string_buffer(answer.length)
-            call(*given, room, len(room), *more, answer)
-        text = ctypes.string_at(room, answer.length)
+            call(*words, room, len(room), *more, answer)
+        written = ctypes.string_at(room, answer.length)
     finally:
         if len(_rooms) < _MOST_ROOMS:
             _rooms.append(room)
     if answer.status == REFUSED:
         raise refusal_in(answer.refused, *texts)
-    return text
+    return written
 
 
 def _words(refused: RefusedAt) -> str:

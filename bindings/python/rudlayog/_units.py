@@ -7,6 +7,7 @@ from collections.abc import Callable, Iterable
 from dataclasses import dataclass
 from datetime import date, datetime, timedelta, timezone
 from fractions import Fraction
+from functools import lru_cache
 from typing import Any, SupportsIndex, TypeVar, Union
 
 Made = TypeVar("Made")
@@ -124,11 +125,16 @@ def _decimal(value: Fraction) -> str:
     return str(value.numerator) if value.denominator == 1 else f"{float(value):.10g}"
 
 
+@lru_cache
+def _fraction(written: str) -> Fraction:
+    return Fraction(written.strip())
+
+
 def number_of(given: Any, place: str, meant: str) -> Fraction:
     """A number of 0 or more, as it is written: 2.048 is 2048/1000."""
     try:
         # a float, also one of numpy, is taken as the decimal that it is printed as
-        value = Fraction(str(given).strip())
+        value = _fraction(str(given))
     except (ValueError, ZeroDivisionError) as error:
         raise fault(place, given, meant) from error
     if value < 0 or isinstance(given, bool):

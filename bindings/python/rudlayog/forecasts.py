@@ -4,14 +4,14 @@ from __future__ import annotations
 
 import csv
 import io
-from collections.abc import Callable, Iterable, Iterator
+from collections.abc import Callable, Iterable, Iterator, Mapping
 from dataclasses import dataclass
 from functools import cached_property
 from itertools import chain
 from typing import Any, SupportsIndex, TypeVar, Union
 
 from . import _library
-from ._data import LIMIT, STEP, WINDOW, Columns, Table, Text, is_text, numbers, octets, whole
+from ._data import LIMIT, STEP, WINDOW, Column, Columns, Table, Text, is_text, numbers, octets, whole
 from ._steps import by_step
 from .setups import setup_with
 
@@ -92,22 +92,52 @@ class Forecast:
             strange = [name for name in named if name not in own]
             if strange:
                 raise ValueError(f"the forecast has no {kind} {', '.join(strange)}")
-        changed = {**arriving, **limiting}
-        if not changed:
-            return Forecast(self.windows if windows is None else windows, self.arrivals, self.limits)  # type: ignore[arg-type]
-        merged = [Columns({**own, **named}) if named else own for own, named in ((self.arrivals, arriving), (self.limits, limiting))]
+        merged = [own.with_others(named) if named else own for own, named in ((self.arrivals, arriving), (self.limits, limiting))]
         forecast = Forecast(self.windows if windows is None else windows, *merged)  # type: ignore[arg-type]
-        if len(forecast.windows) == len(self.windows):
-            open_names = tuple(name for name in self._columns if name in changed)
-            form = self._form(open_names) if windows is None else self._columns.form(len(self.windows), open_names) % forecast.windows
-            in_order = changed[open_names[0]] if len(open_names) == 1 else chain.from_iterable(zip(*(changed[store] for store in open_names)))
-            vars(forecast)["_octets"] = form % tuple(in_order)
+        changed = {**arriving, **limiting}
+        if changed and len(forecast.windows) == len(self.windows):
+            vars(forecast)["_octets"] = self._text_having(None if windows is None else forecast.windows, changed)
         return forecast
+
+    def with_arrivals(self, arrivals: Mapping[str, Column]) -> Forecast:
+        """The same as `having`, of columns with as many steps in stores of the forecast, neither of which is tested."""
+        return self._varied(self.windows, self.arrivals.with_others(arrivals), self.limits, self._text_having(None, arrivals))
+
+    def with_rooms(self, windows: Column, limits: Mapping[str, Column], steps: Iterable[int]) -> Forecast:
+        """The same with other windows, and other limits in all their columns, where none but these steps, from 0, have others. Nothing of
+        this is tested."""
+        lines = list(self._lines)
+        for step in steps:
+            # the header is one line or more
+            place = step - len(windows)
+            number, _, rest = lines[place].split(b",", 2)
+            arrivals = rest.rsplit(b",", len(limits))[0] if limits else rest[:-1]
+            rooms = "".join([f",{column[step]}" for column in limits.values()])
+            lines[place] = b"%b,%d,%b%b\n" % (number, windows[step], arrivals, rooms.encode())
+        return self._varied(windows, self.arrivals, self.limits.with_others(limits), b"".join(lines))
+
+    def _varied(self, windows: tuple[int, ...], arrivals: Columns, limits: Columns, text: bytes) -> Forecast:
+        """Another forecast, whose text is made already."""
+        made = object.__new__(Forecast)
+        vars(made).update(windows=windows, arrivals=arrivals, limits=limits, _octets=text)
+        return made
+
+    def _text_having(self, windows: tuple[int, ...] | None, changed: Mapping[str, Column]) -> bytes:
+        """The text with other windows, if there are any, and these columns in the place of those with their names."""
+        open_names = tuple([name for name in self._columns if name in changed]) if len(changed) > 1 else tuple(changed)
+        form = self._form(open_names) if windows is None else self._columns.form(len(self.windows), open_names) % windows
+        in_order = changed[open_names[0]] if len(open_names) == 1 else tuple(chain.from_iterable(zip(*(changed[name] for name in open_names))))
+        return form % in_order
 
     @cached_property
     def _columns(self) -> Columns:
         """The columns after the windows."""
-        return Columns({**self.arrivals, **self.limits}) if self.limits else self.arrivals
+        return self.arrivals.with_others(dict(self.limits.items())) if self.limits else self.arrivals
+
+    @cached_property
+    def _lines(self) -> list[bytes]:
+        """The lines of the text, with their ends."""
+        return self._octets.splitlines(keepends=True)
 
     @cached_property
     def _forms(self) -> dict[tuple[str, ...], bytes]:

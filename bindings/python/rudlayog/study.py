@@ -19,19 +19,20 @@ from __future__ import annotations
 
 import csv
 import io
-import json
-import operator
 import os
 import re
+from array import array
+from bisect import bisect_left
 from collections.abc import Callable, Iterator, Mapping, Sequence
 from dataclasses import dataclass
-from itertools import accumulate
-from pathlib import Path
-from typing import TYPE_CHECKING, Any, NamedTuple, TypeVar, Union
+from functools import partial
+from heapq import nsmallest
+from itertools import compress
+from typing import TYPE_CHECKING, Any, NamedTuple, TextIO, TypeVar, Union
 
 from . import _library
 from ._base import Base, channel_of
-from ._data import Column
+from ._found import Found, FoundTable
 from ._running import Progress, results
 from .forecasts import Forecast, ForecastLike
 from .mission import Mission
@@ -64,7 +65,6 @@ __all__ = [
 
 Made = TypeVar("Made")
 _END = re.compile(rb"\nloss (\d+)\n((?:[sc].*\n)*)bound (.*)\nend\n")
-_less: Callable[[int, int], int] = operator.sub
 # How many variants a worker is given at a time.
 CHUNK = 64
 Given = Union[Mission, tuple[SetupLike, ForecastLike]]
@@ -96,60 +96,91 @@ class Answer:
         return Cut(stretches, tuple(int(line[1]) for line in lines if line[0] == "count"), self.bound or 0)
 
 
-@dataclass(frozen=True)
 class Study(Sequence[Answer]):
     """What a study found: an answer for each variant, in their order, beside the `base`, which is the mission as it is. `stores` are the
     identifiers to which `by_store` belongs. Where it was interrupted, `is_whole` is false, and only what is done is here."""
 
-    answers: tuple[Answer, ...]
-    base: Answer
-    stores: tuple[str, ...]
-    is_whole: bool = True
+    def __init__(self, table: FoundTable, base: Answer, stores: tuple[str, ...], is_whole: bool = True) -> None:
+        self._table, self.base, self.stores, self.is_whole = table, base, stores, is_whole
+        # the rows of the table that are there
+        self._rows: Sequence[int] = range(len(table)) if is_whole else array("q", table.rows())
+
+    @property
+    def answers(self) -> tuple[Answer, ...]:
+        """All answers. They take more memory than the study."""
+        return tuple(self)
+
+    def __repr__(self) -> str:
+        return f"<Study of {len(self)} variants; as it is {self.base.loss} blocks are lost>"
+
+    def __eq__(self, other: object) -> bool:
+        if not isinstance(other, Study):
+            return NotImplemented
+        return (self.base, self.stores, self.is_whole, self.answers) == (other.base, other.stores, other.is_whole, other.answers)
 
     def __len__(self) -> int:
-        return len(self.answers)
+        return len(self._rows)
 
     def __getitem__(self, place: Any) -> Any:
-        return self.answers[place]
+        if isinstance(place, slice):
+            return tuple(map(self._answer, self._rows[place]))
+        return self._answer(self._rows[place])
+
+    def _answer(self, row: int) -> Answer:
+        return Answer(self._table.names[row], *self._table.found(row), self._table.parameters(row))
 
     def change(self, answer: Answer) -> int | None:
         """How many blocks more than the base a variant loses."""
-        return None if answer.loss is None or self.base.loss is None else answer.loss - self.base.loss
+        return self._change(answer.loss)
+
+    def _change(self, loss: int | None) -> int | None:
+        return None if loss is None or self.base.loss is None else loss - self.base.loss
+
+    def _columns(self) -> dict[str, Iterator[Any]]:
+        """The columns of the table."""
+        table, rows = self._table, self._rows
+        return {
+            "variant": (table.names[row] for row in rows),
+            **{name: map(partial(table.parameter, name), rows) for name in table.parameter_names()},
+            "loss": map(table.loss, rows),
+            "change": (self._change(table.loss(row)) for row in rows),
+            **{store: map(partial(table.loss_of, place), rows) for place, store in enumerate(self.stores)},
+            "bound": map(table.bound, rows),
+            "least": (table.loss(row) is not None and table.loss(row) == table.bound(row) for row in rows),
+            "refused": map(table.refused, rows),
+        }
 
     def to_dict(self) -> dict[str, list[Any]]:
         """The columns: the variant, its parameters, its loss and the change, the loss of each store, whether that is least, and the refusal."""
-        names = list(dict.fromkeys(name for answer in self.answers for name in answer.parameters))
-        return {
-            "variant": [answer.name for answer in self.answers],
-            **{name: [answer.parameters.get(name) for answer in self.answers] for name in names},
-            "loss": [answer.loss for answer in self.answers],
-            "change": [self.change(answer) for answer in self.answers],
-            **{store: [answer.by_store[place] if answer.by_store else None for answer in self.answers] for place, store in enumerate(self.stores)},
-            "bound": [answer.bound for answer in self.answers],
-            "least": [answer.is_least for answer in self.answers],
-            "refused": [answer.refused for answer in self.answers],
-        }
+        return {name: list(column) for name, column in self._columns().items()}
 
     def to_frame(self, make: Callable[[dict[str, list[Any]]], Made]) -> Made:
         """The table as a data frame, made by `make`, as `pandas.DataFrame`."""
         return make(self.to_dict())
 
+    def _write(self, lines: TextIO) -> None:
+        """Writes the table as comma separated values."""
+        writer = csv.writer(lines, lineterminator="\n")
+        columns = self._columns()
+        writer.writerow(columns)
+        writer.writerows(zip(*columns.values()))
+
     def text(self) -> str:
         """The table as comma separated values."""
         lines = io.StringIO()
-        writer = csv.writer(lines, lineterminator="\n")
-        columns = self.to_dict()
-        writer.writerow(columns)
-        writer.writerows(zip(*columns.values()))
+        self._write(lines)
         return lines.getvalue()
 
     def save(self, path: str | os.PathLike[str]) -> None:
         """Writes the table into a file."""
-        Path(path).write_text(self.text(), encoding="utf-8", newline="")
+        with open(path, "w", encoding="utf-8", newline="") as file:
+            self._write(file)
 
     def worst(self, count: int = 10) -> list[Answer]:
         """The variants that lose most."""
-        return sorted((answer for answer in self.answers if answer.loss is not None), key=lambda answer: -(answer.loss or 0))[:count]
+        losses = ((row, self._table.loss(row)) for row in self._rows)
+        lost = ((loss, row) for row, loss in losses if loss is not None)
+        return [self._answer(row) for _, row in nsmallest(count, lost, key=lambda each: -each[0])]
 
     def plot(self, *parameters: str, matplotlib: bool | None = None) -> Picture:
         """A picture: the loss of each variant, sorted; or over one or two parameters. It is drawn by matplotlib where that is installed, unless
@@ -177,20 +208,19 @@ def study(
     machine are used. Whatever executes it, the table is the same. A worker that dies costs its variants a second try. A progress bar is shown
     where standard error is a terminal; `Ctrl-C` ends the study with what is done."""
     base = _base(given)
-    dumps = None if plan is None else _fixed(plan, base)
-    found: dict[int, Answer] = {}
+    task = Task(base, None if plan is None else _fixed(plan, base), by_store)
+    table = FoundTable(len(base.setup.stores))
     is_whole = True
     bar = Progress(variants, progress)
     try:
-        for place, answer in _answers(Task(base, dumps, by_store), variants, executor, chunk):
-            found[place] = answer
+        for place, variant, found in _all_found(task, variants, executor, chunk):
+            table.put(place, variant, found)
             bar.add()
     except KeyboardInterrupt:
         is_whole = False
     finally:
         bar.close()
-    own = answer_of(Task(base, dumps, by_store), Variant("as it is"))
-    return Study(tuple(found[place] for place in sorted(found)), own, tuple(store.id for store in base.setup.stores), is_whole)
+    return Study(table, answer_of(task, Variant("as it is")), tuple(store.id for store in base.setup.stores), is_whole)
 
 
 def answers(
@@ -198,7 +228,8 @@ def answers(
 ) -> Iterator[tuple[int, Answer]]:
     """The answers as they are done, each with its place among the variants, from 0."""
     base = _base(given)
-    return _answers(Task(base, None if plan is None else _fixed(plan, base), by_store), variants, executor, chunk)
+    task = Task(base, None if plan is None else _fixed(plan, base), by_store)
+    return ((place, _answer(variant, found)) for place, variant, found in _all_found(task, variants, executor, chunk))
 
 
 class Task(NamedTuple):
@@ -209,12 +240,18 @@ class Task(NamedTuple):
     by_store: bool = True
 
 
-def _answers(task: Task, variants: VariantsLike, executor: Any, chunk: int) -> Iterator[tuple[int, Answer]]:
+def _all_found(task: Task, variants: VariantsLike, executor: Any, chunk: int) -> Iterator[tuple[int, Variant, Found]]:
+    """What is found of each variant, with its place, as it is done."""
     numbered = enumerate(variants_of(variants))
-    for given, done in results(executor, answer_chunk, task, numbered, chunk):
+    for given, done in results(executor, found_of_all, task, numbered, chunk):
         if isinstance(done, BaseException):
-            done = [Answer(variant.name, None, (), None, "", f"{type(done).__name__}: {done}", variant.parameters) for _, variant in given]
-        yield from zip((place for place, _ in given), done)
+            done = [Found(None, refused=f"{type(done).__name__}: {done}")] * len(given)
+        for (place, variant), found in zip(given, done):
+            yield place, variant, found
+
+
+def _answer(variant: Variant, found: Found) -> Answer:
+    return Answer(variant.name, *found, variant.parameters)
 
 
 def _base(given: Given) -> Base:
@@ -244,13 +281,18 @@ def _fixed(plan: Any, base: Base) -> tuple[tuple[int, ...], ...]:
     return dumps
 
 
-def answer_chunk(task: Task, given: list[tuple[int, Variant]]) -> list[Answer]:
-    """The answers for some variants; a worker is given this call."""
-    return [answer_of(task, variant) for _, variant in given]
+def found_of_all(task: Task, given: list[tuple[int, Variant]]) -> list[Found]:
+    """What is found of some variants; a worker is given this call."""
+    return [found_of(task, variant) for _, variant in given]
 
 
 def answer_of(task: Task, variant: Variant) -> Answer:
     """The answer for one variant."""
+    return _answer(variant, found_of(task, variant))
+
+
+def found_of(task: Task, variant: Variant) -> Found:
+    """What is found of one variant."""
     try:
         base, changes = task.base, variant.changes
         while changes and isinstance(changes[0], Changed):
@@ -260,40 +302,46 @@ def answer_of(task: Task, variant: Variant) -> Answer:
             setup, forecast = change.of(base, setup, forecast)
         if task.dumps is not None:
             by_store = _flown(setup, forecast, task.dumps)
-            return Answer(variant.name, sum(by_store), by_store, None, "", "", variant.parameters)
-        return _planned(variant, setup, forecast, task.by_store)
+            return Found(sum(by_store), by_store)
+        return _planned(setup, forecast, task.by_store)
     except (Refusal, ValueError, TypeError, ArithmeticError, LookupError) as error:
         words = str(error) if isinstance(error, (Refusal, ValueError)) else f"{type(error).__name__}: {error}"
-        return Answer(variant.name, None, (), None, "", words, variant.parameters)
+        return Found(None, refused=words)
 
 
-def _planned(variant: Variant, setup: Setup, forecast: Forecast, by_store: bool) -> Answer:
-    """The answer of a least plan, read from its text."""
+def _planned(setup: Setup, forecast: Forecast, by_store: bool) -> Found:
+    """What is found of a least plan, read from its text."""
     text = _library.told(_library.rudlayog_plan, texts=(bytes(setup), bytes(forecast)))
     # after the dumps come the loss, the lines of the cut, the bound, and the end
     at = text.rindex(b"\nloss ")
     loss, cut, bound = _END.fullmatch(text, at).groups()  # type: ignore[union-attr]
+    shown = cut.decode("ascii")
     lost: tuple[int, ...] = ()
     if by_store:
-        lost = _lost_by_store(setup, forecast, text[:at]) if loss != b"0" else (0,) * len(setup.stores)
-    return Answer(variant.name, int(loss), lost, int(bound), cut.decode("ascii"), "", variant.parameters)
+        lost = _lost_by_store(setup, forecast, text[:at].decode("ascii"), shown.splitlines()) if loss != b"0" else (0,) * len(setup.stores)
+    return Found(int(loss), lost, int(bound), shown)
 
 
-def _lost_by_store(setup: Setup, forecast: Forecast, body: bytes) -> tuple[int, ...]:
-    """What each store loses, by the dump lines of a plan text."""
-    # the numbers of all lines: the step, and the amount of each store
-    amounts = json.loads(b"[" + body[body.index(b"\ndump ") + len(b"\ndump ") :].replace(b"\ndump ", b",").replace(b" ", b",") + b"]")
-    width = len(setup.stores) + 1
-    return tuple(
-        lost_by(store.start, store.size, forecast.arrivals[store.id], amounts[place::width]) for place, store in enumerate(setup.stores, 1)
-    )
-
-
-def lost_by(start: int, size: int, arrivals: Sequence[int], dumps: Sequence[int]) -> int:
-    """What a store loses, where each dump finds its blocks, as in a plan of the library: the most by which what came until a step was ever above
-    the size and what had left before."""
-    came = arrivals.sums if isinstance(arrivals, Column) else list(accumulate(arrivals))
-    return max(0, start - size + max(map(_less, came, accumulate(dumps, initial=0))))
+def _lost_by_store(setup: Setup, forecast: Forecast, body: str, cut: list[str]) -> tuple[int, ...]:
+    """What each store loses, by the dump lines of a least plan and the lines of its cut. The loss is the bound of the cut; so nothing is lost
+    outside its stretches, and in each of them what it adds to the bound, with the dumps in its inner steps for the windows."""
+    lines = body.split("\n")[-len(forecast.windows) :]
+    # where a window is 0, so are the amounts
+    steps = list(compress(range(len(lines)), forecast.windows))
+    words = " ".join(compress(lines, forecast.windows)).split(" ")
+    # a line has its word, its step, and the amounts
+    width = len(setup.stores) + 2
+    places = {store.id: place for place, store in enumerate(setup.stores)}
+    lost = [0] * len(places)
+    for line in cut:
+        word, name, *ends = line.split(" ")
+        if word == "stretch":
+            place, first, last = places[name], int(ends[0]), int(ends[1])
+            store, sums = setup.stores[place], forecast.arrivals[name].sums
+            came = sums[last - 1] - sums[first - 2] if first > 1 else sums[last - 1] + store.start
+            inner = words[width * bisect_left(steps, first - 1) + 2 + place : width * bisect_left(steps, last - 1) : width]
+            lost[place] += came - store.size - sum(map(int, filter("0".__ne__, inner)))
+    return tuple(lost)
 
 
 def _flown(setup: Setup, forecast: Forecast, dumps: tuple[tuple[int, ...], ...]) -> tuple[int, ...]:

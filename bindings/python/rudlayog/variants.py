@@ -92,11 +92,11 @@ class Scaled:
     def of(self, base: Base, setup: Setup, forecast: Forecast) -> Texts:
         """The setup and the forecast that this makes of others of the base."""
         factor = number_of(self.factor, "factor", "a factor of 0 or more")
-        names = self.stores or tuple(store.id for store in setup.stores)
+        names = self.stores or tuple([store.id for store in setup.stores])
         strange = [name for name in names if name not in forecast.arrivals]
         if strange:
             raise fault("", f"the store {strange[0]!r}", f"one of the stores {', '.join(store.id for store in setup.stores)}")
-        return setup, forecast.having(arrivals={name: base.scaled(name, forecast, factor) for name in names})
+        return setup, forecast.with_arrivals({name: base.scaled(name, forecast, factor) for name in names})
 
 
 @dataclass(frozen=True)

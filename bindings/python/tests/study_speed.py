@@ -1,22 +1,27 @@
 #!/usr/bin/env python3
 """Measures what a variant of a study takes: `study_speed.py [MOST]`. On one thread it is compared with the call in C, whose texts and buffer are
-there already; then all processors work at once; and scipy's linprog (HiGHS) solves the same problem, where it is installed. Prints a line for
-each, and fails where a variant whose losses by store are left out takes more than MOST times (2) the C call."""
+there already: each of many variants is answered once in a round, after the others, and the least time of some rounds counts. Then threads for
+all processors work at once, beside as many that make C calls alone: on a busy machine both get the same share of it. And scipy's linprog
+(HiGHS) solves the same problem, where it is installed. Prints a line for each, and fails where a variant whose losses by store are left out
+takes more than MOST times (1.5) the C call, and with them one more."""
 
 import os
 import sys
 import time
 from concurrent.futures import ThreadPoolExecutor
+from itertools import combinations
 from pathlib import Path
 
 sys.path.insert(0, str(Path(__file__).resolve().parents[1]))
 sys.path.insert(0, str(Path(__file__).resolve().parent))
+from rudlayog import study as studies  # noqa: E402
 from rudlayog.mission import Mission  # noqa: E402
-from rudlayog.study import Task, Variant, _base, answer_of, each_pass_lost, each_store_sized, scaled, study  # noqa: E402
-from what_if import c_call, least_times  # noqa: E402
+from rudlayog.study import Task, Variant, answer_of, each_pass_lost, each_store_sized, lost, scaled, study  # noqa: E402
+from what_if import c_call  # noqa: E402
 
 EXAMPLE = Path(__file__).resolve().parents[3] / "examples" / "mars_week" / "mission.toml"
-SECONDS = 2.0
+SECONDS = 1.0
+ROUNDS = 5
 
 
 def texts_of(base, variant):
@@ -27,15 +32,51 @@ def texts_of(base, variant):
     return bytes(setup), bytes(forecast)
 
 
-def a_second(mission, workers):
-    """How many variants a second that many threads answer."""
-    kinds = list(each_pass_lost(mission))
-    count = 0
+def times_of(base, variants):
+    """What a variant takes without and with its losses by store, and what the C call takes: the mean of the least processor times, in
+    microseconds."""
+    alone, whole = Task(base, by_store=False), Task(base)
+    calls = [(lambda v=v: answer_of(alone, v), lambda v=v: answer_of(whole, v), c_call(*texts_of(base, v))) for v in variants]
+    least = [[float("inf")] * 3 for _ in calls]
+    for _ in range(ROUNDS):
+        for times, kinds in zip(least, calls):
+            for place, call in enumerate(kinds):
+                begin = time.thread_time()
+                call()
+                times[place] = min(times[place], time.thread_time() - begin)
+    return [sum(column) / len(variants) * 1e6 for column in zip(*least)]
+
+
+def a_second(work, workers):
+    """How many variants a second that many threads answer, where `work` answers some and says how many."""
+    count, begin = 0, time.perf_counter()
     with ThreadPoolExecutor(workers) as pool:
-        begin = time.perf_counter()
         while time.perf_counter() - begin < SECONDS:
-            count += len(study(mission, kinds * 16, executor=pool, by_store=False, progress=False))
+            count += work(pool, workers)
         return count / (time.perf_counter() - begin)
+
+
+def gains(mission, base, workers):
+    """How many times as many variants, without and with the losses by store, and C calls that many threads answer as one does. They take turns,
+    and the greatest gain counts."""
+    kinds = list(each_pass_lost(mission)) * 16
+    texts = [texts_of(base, variant) for variant in kinds[:14]]
+
+    def in_c(pool, threads):
+        def calls(_):
+            for each in texts:
+                c_call(*each)()
+
+        list(pool.map(calls, range(16)))
+        return 16 * len(texts)
+
+    works = [
+        lambda pool, threads: len(study(mission, kinds, executor=pool, by_store=False, progress=False)),
+        lambda pool, threads: len(study(mission, kinds, executor=pool, progress=False)),
+        in_c,
+    ]
+    rates = [[(a_second(work, 1), a_second(work, workers)) for work in works] for _ in range(2)]
+    return [(max(one for one, _ in column), max(many for _, many in column)) for column in zip(*rates)]
 
 
 def linprog_time(setup, forecast):
@@ -78,33 +119,34 @@ def linprog_time(setup, forecast):
 
 def main():
     """The program."""
-    most = float(sys.argv[1]) if len(sys.argv) > 1 else 2.0
+    most = float(sys.argv[1]) if len(sys.argv) > 1 else 1.5
     mission = Mission.read(EXAMPLE)
-    base = _base(mission)
+    base = studies._base(mission)
     failed = 0
+    names = [one.name for one in mission.passes]
     kinds = {
-        "a pass lost": list(each_pass_lost(mission))[:8],
-        "arrivals of one store scaled": [Variant(store.id, (scaled(1.1, store.id),)) for store in mission.stores],
-        "a store larger": list(each_store_sized(mission, 1.25)),
+        "two passes lost": [Variant("", (lost(*pair),)) for pair in combinations(names, 2)][::2],
+        "arrivals of one store scaled": [Variant("", (scaled(k / 100, store.id),)) for k in range(97, 104) for store in mission.stores],
+        "a store larger": [variant for k in range(101, 108) for variant in each_store_sized(mission, k / 100)],
     }
-    alone, whole = Task(base, by_store=False), Task(base)
     for kind, variants in kinds.items():
-        for variant in variants:
-            answer_of(whole, variant)
+        # On a busy machine a measurement may be wrong: it is taken again where it is above the most.
         for _ in range(3):
-            calls = [(lambda: answer_of(alone, variant), lambda: answer_of(whole, variant), c_call(*texts_of(base, variant))) for variant in variants]
-            times = [least_times(*each) for each in calls]
-            in_python, by_store, in_c = (sum(column) / len(variants) for column in zip(*times))
-            if in_python <= most * in_c:
+            in_python, by_store, in_c = times_of(base, variants)
+            fails = in_python > most * in_c or by_store > (most + 1) * in_c
+            if not fails:
                 break
         print(
             f"study: {kind}: {in_python:.0f} us in Python, {in_c:.0f} us in C, {in_python / in_c:.2f} times; "
             f"with the losses by store {by_store:.0f} us, {by_store / in_c:.2f} times"
         )
-        failed |= in_python > most * in_c
+        failed |= fails
     workers = os.cpu_count() or 1
-    one, all_of_them = a_second(mission, 1), a_second(mission, workers)
-    print(f"study: {one:.0f} variants a second in one thread, {all_of_them:.0f} in {workers}, {all_of_them / one / workers:.2f} times as many for each")
+    (one, many), (one_by_store, many_by_store), (one_in_c, many_in_c) = gains(mission, base, workers)
+    print(
+        f"study: in {workers} threads {many / one:.2f} times as many variants a second as in one, {many_by_store / one_by_store:.2f} times with "
+        f"the losses by store; C calls alone {many_in_c / one_in_c:.2f} times; in one thread {one:.0f}, {one_by_store:.0f} and {one_in_c:.0f}"
+    )
     found = linprog_time(base.setup, base.forecast)
     if found is None:
         print("study: linprog is passed over: no scipy")

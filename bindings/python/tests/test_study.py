@@ -3,6 +3,7 @@
 import concurrent.futures
 import multiprocessing
 import os
+import pickle
 import signal
 import tempfile
 import threading
@@ -12,7 +13,9 @@ from fractions import Fraction
 from pathlib import Path
 
 from made_missions import made_mission
-from rudlayog import check, plan, table
+from rudlayog import Forecast, Setup, check, plan, table
+from rudlayog import study as studies
+from rudlayog._found import Found, FoundTable
 from rudlayog._timeline import problem_of
 from rudlayog.study import Changed, Replaced, Variant, answers, each_pass_lost, each_store_sized, grid, lost, rated, scaled, shortened, sized, study
 
@@ -95,6 +98,45 @@ class Answers(unittest.TestCase):
             halves = tuple(replace(one, rate=one.rate and one.rate.times(Fraction(1, 2)), volume=one.volume and replace(one.volume, amount=one.volume.amount / 2)) for one in mission.observations)
             half = replace(mission, observations=halves)
             self.assertEqual(named["all half"].loss, plan(*problem_of(half, edges=edges)).loss)
+
+    def test_losses_by_store_are_those_of_the_table(self):
+        for mission in (PLAIN, MIXED):
+            base = studies._base(mission)
+            for variant in variants_of(mission):
+                answer = studies.answer_of(studies.Task(base), variant)
+                setup, forecast = base.setup, base.forecast
+                for change in variant.changes:
+                    setup, forecast = change.of(base, setup, forecast)
+                columns = table(setup, forecast, plan(setup, forecast)).to_dict()
+                by_store = {store.id: 0 for store in setup.stores}
+                for name, gone in zip(columns["store"], columns["lost"]):
+                    by_store[name] += gone
+                self.assertEqual(list(answer.by_store), list(by_store.values()), variant.name)
+
+    def test_changed_texts_are_those_of_their_columns(self):
+        for mission in (PLAIN, MIXED):
+            base = studies._base(mission)
+            for variant in variants_of(mission):
+                setup, forecast = base.setup, base.forecast
+                for change in variant.changes:
+                    setup, forecast = change.of(base, setup, forecast)
+                self.assertEqual(bytes(forecast), bytes(Forecast(tuple(forecast.windows), dict(forecast.arrivals), dict(forecast.limits))), variant.name)
+                self.assertEqual(bytes(setup), bytes(Setup(setup.stores, setup.routes, setup.limits)), variant.name)
+
+    def test_rows_that_come_in_any_order(self):
+        found = FoundTable(2)
+        found.put(2, Variant("c", parameters={"y": 1}), Found(None, refused="no"))
+        found.put(0, Variant("a", parameters={"x": None, "y": 2.5}), Found(7, (3, 4), 7, "cut"))
+        self.assertEqual((len(found), list(found.rows())), (3, [0, 2]))
+        study_of = studies.Study(found, studies.Answer("as it is", 5, (5, 0), 5, "", "", {}), ("A", "B"), False)
+        self.assertEqual(len(study_of), 2)
+        self.assertEqual(study_of[0], studies.Answer("a", 7, (3, 4), 7, "cut", "", {"x": None, "y": 2.5}))
+        self.assertEqual(study_of[-1], studies.Answer("c", None, (), None, "", "no", {"y": 1}))
+        self.assertEqual(study_of[:1], (study_of[0],))
+        self.assertEqual(study_of.worst(), [study_of[0]])
+        self.assertEqual(study_of.text(), "variant,x,y,loss,change,A,B,bound,least,refused\na,,2.5,7,2,3,4,7,True,\nc,,1,,,,,,False,no\n")
+        again = pickle.loads(pickle.dumps(study_of))
+        self.assertEqual((again, repr(again)), (study_of, "<Study of 2 variants; as it is 5 blocks are lost>"))
 
     def test_certificate(self):
         problem = MIXED.problem()

@@ -1,6 +1,6 @@
 //! Plans, verdicts on them, and their charts.
 ghost use Rattle.std.specs.Prelude.{◌≤◌, length};
-ghost use Rattle.mm_planner.specs.PlanTexts.{PlansLeast};
+ghost use Rattle.mm_planner.specs.PlanTexts.{PlansLeast, PlansLeastInOrder};
 ghost use Rattle.mm_chart.specs.Charts.{Charts};
 ghost use Rattle.mm_chart.specs.Table.{IsTableOf};
 ghost use Rattle.mm_sensitivity.specs.Table.{IsWorthTable};
@@ -9,7 +9,7 @@ ghost use Rattle.mm_c.specs.Telling.{IsWhyUnplanned, IsWhyUnjudged, Judges, Leav
 
 use mm_chart::{chart_bytes, table_bytes};
 use mm_cut::check_bytes;
-use mm_planner::plan_bytes;
+use mm_planner::{plan_bytes, plan_in_order_bytes};
 use mm_sensitivity::sensitivity_bytes;
 use mm_told::{Answer, PLAN_ROOM, Reason, VerdictTold, plan_texts_fit, tell_text};
 use std::alloc::Global;
@@ -41,6 +41,24 @@ pub extern "C" fn rudlayog_plan(
     ensures room { PLAN_ROOM ≤ length out.old → IsNotTooSmall answer.new }
 {
     *answer = plan_told(alloc, setup, forecast, out);
+}
+
+/// The text of a dump plan that serves the stores in the setup's order, as `plan_in_order_bytes` of `mm_planner` gives it.
+#[unsafe(no_mangle)]
+pub extern "C" fn rudlayog_plan_in_order(
+    alloc: Global,
+    setup: &[u8],
+    forecast: &[u8],
+    out: &mut [u8],
+    answer: &mut Answer,
+)
+    ensures told { Tells (PlansLeastInOrder setup.now forecast.now) (IsWhyUnplanned setup.now forecast.now)
+        out.old out.new answer.new }
+{
+    *answer = match plan_in_order_bytes(alloc, setup, forecast) {
+        Ok(text) => tell_text(&text, out),
+        Err(fault) => Answer::refused(Reason::of_texts(fault)),
+    };
 }
 
 /// The verdict on a plan text for a setup and a forecast, as `check_bytes` of `mm_cut` gives it: in `verdict`, and as its line in

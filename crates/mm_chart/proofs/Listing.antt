@@ -1,5 +1,6 @@
 -- The sum of a chart is its cut's bound, and what its words list is all that its cut counts.
 use Rattle.std.proofs.Common.{◌≡◌, ℕ, ◌<◌, ◌≤◌, Bool, true, false, eqb, leb, ltb, not, cond, ◌&&◌, ◌||◌, List, [], length, get_or, ◌⊎◌, inl, inr, refl, sym, ap, ◌∙◌, subst, arith}
+use Rattle.std.specs.Prelude.{pos}
 use Rattle.std.proofs.lemmas.Int.{ints}
 use Rattle.std.proofs.lemmas.Bool.{cases_lt, and_parts}
 use Rattle.std.proofs.lemmas.Bool.Decides.{nat_tests}
@@ -10,21 +11,21 @@ use Rattle.std.proofs.lemmas.Slice.Eq.{bytes_eq-Decides}
 use Rattle.std.specs.Str.{bytes_eq}
 use Rattle.mm_base.proofs.Sums.{sum_by-filter_parts}
 use Rattle.mm_problem.specs.Dumping.{Dumping, no_row, row, place, size, start, channel, window, arrivals, steps}
-use Rattle.mm_plan.specs.Table.{amount}
 use Rattle.mm_plan.specs.declared.stretch.Stretch.{Stretch}
 use Rattle.mm_cut.specs.Stretches.{store_of, channel_of, covers, goes_past, goes_past_on, is_inner, is_inner_on, IsStretch}
 use Rattle.mm_cut.specs.Counts.{is_listed}
 use Rattle.mm_cut.specs.Cuts.{bound, limit_sum, counts_window, counts_limits}
 use Rattle.mm_cut.specs.Changes.{ChangesStretch, HelpsNowhere, OnlyCountedHelps}
-use Rattle.mm_cut.specs.Verdicts.{IsVerdict}
+use Rattle.mm_cut.specs.Verdicts.{IsSheetVerdict}
 use Rattle.mm_cut.specs.declared.verdict.Verdict.{Verdict}
-use Rattle.mm_cut.specs.declared.verdict.Verdict.TheVariants.{NotShown, Least}
+use Rattle.mm_cut.specs.declared.verdict.Verdict.TheVariants.{NotShown, Least, LeastInOrder}
 use Rattle.mm_chart.specs.declared.series.Series.{Series}
 use Rattle.mm_chart.specs.declared.series.Series.TheVariants.{WindowCounts, ChannelCounts, LimitsCount, Inner, Last}
 use Rattle.mm_chart.specs.Picture.{Drawn, IsDrawn, has_cut, cut, counts}
 use Rattle.mm_chart.specs.Series.{one_if, amount_of, has_stretch, is_inner_of, is_last_of, counts_channel}
 use Rattle.mm_chart.specs.Words.{is_marked}
-use Rattle.mm_chart.specs.Listed.{sum_of, SumsAddUp, is_shaded, place_of, KeepsListed, OnlyListedHelps}
+use Rattle.mm_chart.proofs.Shown.{own_least, own_in_order, own_not_shown}
+use Rattle.mm_chart.specs.Listed.{sum_of, SumsAddUp, SaysLeast, is_shaded, place_of, KeepsListed, OnlyListedHelps}
 
 -- the numbers of the sum are the parts of the bound
 sum_is_bound : (p : Drawn) → sum_of p ≡ bound p.problem (cut p) (counts p)
@@ -41,12 +42,22 @@ shown_bound p v here has =
 pub sums_add_up : SumsAddUp
 sums_add_up p is = record {
   least = λ n here.
-      let said = subst (IsVerdict p.problem (amount p.sheet.plan) p.sheet.cut p.sheet.by_channels p.sheet.loss p.sheet.bound) here is.verdict in
+      let said = own_least p.problem p.sheet p.sheet.firsts n (subst (IsSheetVerdict p.problem p.sheet) here is.verdict) in
       sum_is_bound p ∙ shown_bound p (Least n) here refl ∙ sym said.0.bound ∙ sym said.2;
+  in_order = λ n here.
+      let said = own_in_order p.problem p.sheet p.sheet.firsts n (subst (IsSheetVerdict p.problem p.sheet) here is.verdict) in
+      sum_is_bound p ∙ shown_bound p (LeastInOrder n) here refl ∙ sym said.0.bound ∙ sym said.2;
   not_shown = λ n m here.
-      let said = subst (IsVerdict p.problem (amount p.sheet.plan) p.sheet.cut p.sheet.by_channels p.sheet.loss p.sheet.bound) here is.verdict in
+      let said = own_not_shown p.problem p.sheet p.sheet.firsts n m (subst (IsSheetVerdict p.problem p.sheet) here is.verdict) in
       sum_is_bound p ∙ shown_bound p (NotShown n m) here refl ∙ sym said.0.bound ∙ sym said.2;
 }
+
+-- the loss of a plan of which the chart says that none loses fewer
+sum_least : (p : Drawn) (n : ℕ) → IsDrawn p → SaysLeast p n → sum_of p ≡ pos n
+sum_least p n is here = elim here [
+  | inl least ↦ (sums_add_up p is).least n least
+  | inr in_order ↦ (sums_add_up p is).in_order n in_order
+]
 
 -- ---- marks
 
@@ -202,4 +213,4 @@ module _ (p : Drawn) (is : IsDrawn p) where
 pub only_listed_helps : OnlyCountedHelps → OnlyListedHelps
 only_listed_helps only_counted_helps p n r x is here h fits =
     let least = only_counted_helps p.problem r (cut p) (counts p) x is.is_cut (listed_kept p is r h) fits in
-    omega (arith, ints, least, sum_is_bound p, (sums_add_up p is).least n here)
+    omega (arith, ints, least, sum_is_bound p, sum_least p n is here)

@@ -1,15 +1,14 @@
 -- The document of a chart, and the chart of three texts.
-use Rattle.std.specs.Prelude.{◌≡◌, ℕ, List, [], ◌∷◌, ◌++◌, codes, decimal}
+use Rattle.std.specs.Prelude.{◌≡◌, ℕ, None, List, [], ◌∷◌, ◌++◌, codes, decimal}
 use Rattle.mm_base.specs.Characters.{line_feed}
 use Rattle.mm_problem.specs.Texts.{SaysProblem}
 use Rattle.mm_cut.specs.Checking.{SaysSheet}
-use Rattle.mm_plan.specs.Table.{amount}
 use Rattle.mm_plan.specs.Sheet.{SheetRows}
 use Rattle.mm_problem.specs.Dumping.{Dumping}
-use Rattle.mm_cut.specs.Verdicts.{IsVerdict}
+use Rattle.mm_cut.specs.Verdicts.{IsSheetVerdict}
 use Rattle.mm_cut.specs.declared.verdict.Verdict.{Verdict}
 use Rattle.mm_chart.specs.declared.document.TheConstants.{OPENING, FONT, STYLES, LEGEND}
-use Rattle.mm_chart.specs.Picture.{Drawn}
+use Rattle.mm_chart.specs.Picture.{Drawn, picture_of}
 use Rattle.mm_chart.specs.Layout.{word_line}
 use Rattle.mm_chart.specs.Rows.{rows}
 use Rattle.mm_chart.specs.Svg.{said}
@@ -18,7 +17,7 @@ use Rattle.mm_chart.specs.Words.{headline, words, word_lines}
 -- the first line of the document, with the size of the picture
 unfoldable pub head : Drawn → List ℕ
 head p =
-    said OPENING.now ++ decimal (word_line p.problem (word_lines p.verdict))
+    said OPENING.now ++ decimal (word_line p.problem (word_lines p p.verdict))
     ++ said FONT.now
 
 -- the document of a picture
@@ -32,5 +31,5 @@ pub record Charts (setup forecast text octets : List ℕ) : Type 0 where
   pub verdict : Verdict
   pub says_problem : SaysProblem setup forecast problem
   pub says_sheet : SaysSheet problem text sheet
-  pub is_verdict : IsVerdict problem (amount sheet.plan) sheet.cut sheet.by_channels sheet.loss sheet.bound verdict
-  pub drawn : octets ≡ chart (record { problem = problem; sheet = sheet; verdict = verdict })
+  pub is_verdict : IsSheetVerdict problem sheet verdict
+  pub drawn : octets ≡ chart (picture_of problem sheet verdict None)

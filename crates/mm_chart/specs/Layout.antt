@@ -3,9 +3,9 @@ use Rattle.std.specs.Prelude.{ℕ, ◌+◌, ◌-◌, ◌*◌, ◌/◌, ◌<◌, 
 use Rattle.std.specs.List.{sum_by, range_with_len}
 use Rattle.mm_base.specs.declared.limits.TheConstants.{MAX_STORES}
 use Rattle.mm_problem.specs.Dumping.{Dumping, limit}
-use Rattle.mm_chart.specs.declared.layout.TheConstants.{LEFT, ROOM, MAX_WIDTH, WINDOW_BASE, CHANNEL_PITCH, STORE_PITCH, TALL, THIN, LOSS, OVER, WORDS_BELOW, LINE_PITCH}
+use Rattle.mm_chart.specs.declared.layout.TheConstants.{LEFT, ROOM, MAX_WIDTH, WINDOW_BASE, CHANNEL_PITCH, STORE_PITCH, TALL, THIN, LOSS, SAVED, OVER, WORDS_BELOW, LINE_PITCH}
 use Rattle.mm_chart.specs.declared.series.Series.{Series}
-use Rattle.mm_chart.specs.declared.series.Series.TheVariants.{WindowCounts, ChannelCounts, Sent, Inner, Last, Written, Left, Lost}
+use Rattle.mm_chart.specs.declared.series.Series.TheVariants.{WindowCounts, ChannelCounts, Sent, Inner, Last, Written, Left, Lost, Worth}
 
 -- the width of a step
 abbrev pub step_width : Dumping → ℕ
@@ -51,6 +51,7 @@ room_of (Last s) = TALL + 2 * OVER
 room_of (ChannelCounts c) = THIN + 2 * OVER
 room_of (Sent c) = THIN
 room_of (Lost s) = LOSS
+room_of Worth = SAVED
 room_of _ = TALL
 
 -- the line on which it stands
@@ -61,6 +62,7 @@ base_of q (Sent c) = channel_base q c
 base_of q (Inner s) = store_base q s + OVER
 base_of q (Last s) = store_base q s + OVER
 base_of q (Lost s) = store_base q s - TALL
+base_of q Worth = WINDOW_BASE - TALL
 base_of q (Written s) = store_base q s
 base_of q (Left s) = store_base q s
 base_of q _ = WINDOW_BASE

@@ -2,7 +2,7 @@
 use Rattle.std.specs.Prelude.{ℕ, List, ◌∷◌, [], ◌++◌, codes}
 use Rattle.mm_base.specs.Characters.{line_feed}
 use Rattle.mm_chart.specs.declared.series.Series.{Series}
-use Rattle.mm_chart.specs.declared.series.Series.TheVariants.{Last, Left, Lost, Sent, Used, Window, WindowCounts, Written}
+use Rattle.mm_chart.specs.declared.series.Series.TheVariants.{Last, Left, Lost, Sent, Used, Window, WindowCounts, Worth, Written}
 use Rattle.mm_chart.specs.Svg.{series_name}
 
 -- at the first place a small box that looks like the series, and at the second what it means
@@ -23,4 +23,11 @@ legend =
     ++ key WindowCounts (codes "x='16' y='62'") (codes "x='32' y='72'") (codes "counts in the cut")
     ++ key (Last 0) (codes "x='170' y='62'") (codes "x='186' y='72'") (codes "last step of a stretch: the size of the store counts")
     ++ key (Sent 0) (codes "x='710' y='62'") (codes "x='726' y='72'") (codes "sent on a channel with a limit")
+    ++ codes "</g>" ++ line_feed ∷ []
+
+-- the key of what windows are worth, with the colour
+abbrev pub worth_key : List ℕ
+worth_key =
+    codes "<style>.q{fill:#1e8a4c;stroke:#000;stroke-width:.5}</style>\n<g class='t'>"
+    ++ key Worth (codes "x='870' y='44'") (codes "x='886' y='54'") (codes "saved by a wider window")
     ++ codes "</g>" ++ line_feed ∷ []

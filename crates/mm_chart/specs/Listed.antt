@@ -1,10 +1,10 @@
 -- What the words of a chart show: the sum is the cut's bound, and only what they list can help.
-use Rattle.std.specs.Prelude.{◌≡◌, ℕ, ◌+◌, ◌<◌, ◌≤◌, Bool, ◌||◌, length, IsTrue, IsSome, ℤ, pos, ◌-ℤ◌}
+use Rattle.std.specs.Prelude.{◌≡◌, ◌⊎◌, ℕ, ◌+◌, ◌<◌, ◌≤◌, Bool, ◌||◌, length, IsTrue, IsSome, ℤ, pos, ◌-ℤ◌}
 use Rattle.mm_problem.specs.Dumping.{Dumping, row, place, size, start, channel, limit, window, arrivals}
 use Rattle.mm_plan.specs.Volumes.{Amounts, loss}
 use Rattle.mm_plan.specs.Fit.{Fits}
 use Rattle.mm_cut.specs.Cuts.{coming_sum, held_sum, windows_sum, limits_sum, limit_or_0}
-use Rattle.mm_cut.specs.declared.verdict.Verdict.TheVariants.{NotShown, Least}
+use Rattle.mm_cut.specs.declared.verdict.Verdict.TheVariants.{NotShown, Least, LeastInOrder}
 use Rattle.mm_chart.specs.declared.series.Series.TheVariants.{WindowCounts, ChannelCounts, LimitsCount, Inner, Last}
 use Rattle.mm_chart.specs.Picture.{Drawn, IsDrawn, cut, counts}
 use Rattle.mm_chart.specs.Series.{has_stretch}
@@ -19,6 +19,7 @@ sum_of p =
 -- the number after the sum is what the sum gives
 pub record AddsUp (p : Drawn) : Type 0 where
   pub least : (n : ℕ) → p.verdict ≡ Least n → sum_of p ≡ pos n
+  pub in_order : (n : ℕ) → p.verdict ≡ LeastInOrder n → sum_of p ≡ pos n
   pub not_shown : (n : ℕ) (m : ℤ) → p.verdict ≡ NotShown n m → sum_of p ≡ m
 
 abbrev pub SumsAddUp : Type 0
@@ -51,7 +52,11 @@ pub record KeepsListed (p : Drawn) (r : Dumping) : Type 0 where
   pub limited : (t c : ℕ) → IsTrue (is_marked p LimitsCount t) → IsTrue (is_marked p (ChannelCounts c) t) → IsSome (limit r c t)
   pub limits : (t c : ℕ) → IsTrue (is_marked p LimitsCount t) → IsTrue (is_marked p (ChannelCounts c) t) → limit_or_0 r t c ≤ limit_or_0 p.problem t c
 
+-- the chart says that no plan loses fewer than n
+abbrev pub SaysLeast : Drawn → ℕ → Type 0
+SaysLeast p n = (p.verdict ≡ Least n) ⊎ (p.verdict ≡ LeastInOrder n)
+
 -- where the chart says that no plan loses fewer, no plan that fits such a problem does
 abbrev pub OnlyListedHelps : Type 0
 OnlyListedHelps =
-    (p : Drawn) (n : ℕ) (r : Dumping) (x : Amounts) → IsDrawn p → p.verdict ≡ Least n → KeepsListed p r → Fits r x → n ≤ loss r x
+    (p : Drawn) (n : ℕ) (r : Dumping) (x : Amounts) → IsDrawn p → SaysLeast p n → KeepsListed p r → Fits r x → n ≤ loss r x

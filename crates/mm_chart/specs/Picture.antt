@@ -1,5 +1,5 @@
--- What a chart is drawn of: a problem, a sheet for it, and the verdict on the sheet.
-use Rattle.std.specs.Prelude.{Bool, true, false, List, [], if◌then◌else◌, ℕ}
+-- What a chart is drawn of: a problem, a sheet for it, the verdict on the sheet, and what the windows are worth where that is known.
+use Rattle.std.specs.Prelude.{Bool, true, false, Option, is_some, List, [], if◌then◌else◌, ℕ}
 use Rattle.mm_problem.specs.Dumping.{Dumping}
 use Rattle.mm_plan.specs.declared.stretch.Stretch.{Stretch}
 use Rattle.mm_plan.specs.Table.{amount, HasShape}
@@ -7,14 +7,24 @@ use Rattle.mm_plan.specs.Volumes.{Amounts, written, left, lost}
 use Rattle.mm_plan.specs.Simulated.{VolumeTables, written_in, left_in, lost_in, CoversProblem, AgreeEach}
 use Rattle.mm_plan.specs.Sheet.{SheetRows}
 use Rattle.mm_cut.specs.Cuts.{IsCut}
-use Rattle.mm_cut.specs.Verdicts.{IsVerdict}
+use Rattle.mm_cut.specs.Verdicts.{IsSheetVerdict}
 use Rattle.mm_cut.specs.declared.verdict.Verdict.{Verdict}
-use Rattle.mm_cut.specs.declared.verdict.Verdict.TheVariants.{BoundIs, NotShown, Least}
+use Rattle.mm_cut.specs.declared.verdict.Verdict.TheVariants.{BoundIs, NotShown, FirstNotShown, Least, LeastInOrder}
 
 pub record Drawn : Type 0 where
   pub problem : Dumping
   pub sheet : SheetRows
   pub verdict : Verdict
+  -- of each step, how many blocks a larger window saves at most; a step after the end of the list has 0
+  pub worth : Option (List ℕ)
+
+-- the picture with these parts
+abbrev pub picture_of : Dumping → SheetRows → Verdict → Option (List ℕ) → Drawn
+picture_of q s v worth = record { problem = q; sheet = s; verdict = v; worth = worth }
+
+-- whether it is known what the windows are worth
+abbrev pub has_worth : Drawn → Bool
+has_worth p = is_some p.worth
 
 -- the amounts that the sheet's plan asks for
 abbrev pub amounts : Drawn → Amounts
@@ -24,7 +34,9 @@ amounts p = amount p.sheet.plan
 abbrev pub has_cut : Verdict → Bool
 has_cut (BoundIs m) = true
 has_cut (NotShown n m) = true
+has_cut (FirstNotShown k) = true
 has_cut (Least n) = true
+has_cut (LeastInOrder n) = true
 has_cut _ = false
 
 -- the cut that is drawn: the sheet's, or none where it is not one
@@ -38,7 +50,7 @@ counts p = if has_cut p.verdict then p.sheet.by_channels else []
 -- the sheet's plan is one for the problem, and the verdict is that on the sheet
 pub record IsDrawn (p : Drawn) : Type 0 where
   pub shape : HasShape p.problem p.sheet.plan
-  pub verdict : IsVerdict p.problem (amounts p) p.sheet.cut p.sheet.by_channels p.sheet.loss p.sheet.bound p.verdict
+  pub verdict : IsSheetVerdict p.problem p.sheet p.verdict
   pub is_cut : IsCut p.problem (cut p) (counts p)
 
 -- the tables are what the plan does to the stores

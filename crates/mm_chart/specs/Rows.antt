@@ -4,11 +4,13 @@ use Rattle.std.specs.List.{sum_by, list_any}
 use Rattle.mm_base.specs.Characters.{line_feed}
 use Rattle.mm_base.specs.Id.{id_text}
 use Rattle.mm_problem.specs.Dumping.{Dumping, row, size, start, channel, arrivals, steps, stores, channels}
-use Rattle.mm_chart.specs.declared.layout.TheConstants.{LEFT, WINDOW_BASE, TALL, THIN, NAME_AT, TICK_AT}
+use Rattle.mm_chart.specs.declared.layout.TheConstants.{LEFT, WINDOW_BASE, TALL, THIN, NAME_AT, TICK_AT, SAVED_AT}
+use Rattle.mm_chart.specs.declared.phrases.TheConstants.{SAVES}
+use Rattle.mm_chart.specs.declared.rows.TheConstants.{WORTH_KEY}
 use Rattle.mm_chart.specs.declared.pen.Style.{Style}
 use Rattle.mm_chart.specs.declared.pen.Style.TheVariants as style
-use Rattle.mm_chart.specs.declared.series.Series.TheVariants.{WindowCounts, Window, Used, ChannelCounts, Sent, Inner, Last, Written, Left, Lost}
-use Rattle.mm_chart.specs.Picture.{Drawn}
+use Rattle.mm_chart.specs.declared.series.Series.TheVariants.{WindowCounts, Window, Used, ChannelCounts, Sent, Inner, Last, Written, Left, Lost, Worth}
+use Rattle.mm_chart.specs.Picture.{Drawn, has_worth}
 use Rattle.mm_chart.specs.Series.{total_of, most_of, most_limit}
 use Rattle.mm_chart.specs.Layout.{edge, step_width, has_limit, channel_base, store_base, bottom, tick_every}
 use Rattle.mm_chart.specs.Svg.{said, escaped, grouped, opened, closed, labelled, begun, line_at, profile}
@@ -42,6 +44,14 @@ windows_words p =
 
 unfoldable pub windows_row : Drawn → List ℕ
 windows_row p = profile p WindowCounts ++ profile p Window ++ profile p Used ++ frame p.problem WINDOW_BASE TALL ++ windows_words p
+
+-- what the windows are worth, above them, and what its colour means
+unfoldable pub worth_bars : Drawn → List ℕ
+worth_bars p = said WORTH_KEY.now ++ profile p Worth ++ counted style.Side NAME_AT SAVED_AT SAVES.now (most_of p Worth) []
+
+-- nothing where that is not known
+unfoldable pub worth_part : Drawn → List ℕ
+worth_part p = if has_worth p then worth_bars p else []
 
 -- ---- the rows of the channels with a limit
 
@@ -119,4 +129,4 @@ tick p t =
 unfoldable pub rows : Drawn → List ℕ
 rows p =
     labelled style.Side NAME_AT TICK_AT (codes "step") ++ flat_map (tick p) (steps p.problem)
-    ++ windows_row p ++ flat_map (channel_part p) (channels p.problem) ++ flat_map (store_row p) (stores p.problem)
+    ++ windows_row p ++ worth_part p ++ flat_map (channel_part p) (channels p.problem) ++ flat_map (store_row p) (stores p.problem)

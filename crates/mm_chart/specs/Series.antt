@@ -1,12 +1,12 @@
 -- The numbers that a chart draws: one for each step.
-use Rattle.std.specs.Prelude.{ℕ, ◌+◌, ◌-◌, ◌*◌, ◌/◌, ◌<◌, min, max, nat_le, Bool, ◌==◌, ◌&&◌, if◌then◌else◌, List, [], ◌∷◌, length}
+use Rattle.std.specs.Prelude.{ℕ, Option, Some, None, slice_index_or, ◌+◌, ◌-◌, ◌*◌, ◌/◌, ◌<◌, min, max, nat_le, Bool, ◌==◌, ◌&&◌, if◌then◌else◌, List, [], ◌∷◌, length}
 use Rattle.std.specs.List.{sum_by, list_any}
 use Rattle.mm_problem.specs.Dumping.{Dumping, size, window, stores, stores_of, steps}
 use Rattle.mm_plan.specs.Volumes.{written, left, lost}
 use Rattle.mm_cut.specs.Stretches.{store_of, goes_past, is_inner_on}
 use Rattle.mm_cut.specs.Cuts.{limit_or_0, counts_window, counts_limits}
 use Rattle.mm_chart.specs.declared.series.Series.{Series}
-use Rattle.mm_chart.specs.declared.series.Series.TheVariants.{WindowCounts, Window, Used, ChannelCounts, Sent, LimitsCount, CountedWindow, Inner, Last, Written, Left, Lost}
+use Rattle.mm_chart.specs.declared.series.Series.TheVariants.{WindowCounts, Window, Used, ChannelCounts, Sent, LimitsCount, CountedWindow, Inner, Last, Written, Left, Lost, Worth}
 use Rattle.mm_chart.specs.Picture.{Drawn, amounts, cut, counts}
 
 abbrev pub one_if : Bool → ℕ
@@ -32,6 +32,11 @@ is_last_of p s t = list_any (λ d. (store_of p.problem d == s) && (d.last == t))
 abbrev pub has_stretch : Drawn → ℕ → Bool
 has_stretch p s = list_any (λ d. store_of p.problem d == s) (cut p)
 
+-- what the window of a step is worth, and 0 where that is not known
+abbrev pub worth_of : Option (List ℕ) → ℕ → ℕ
+worth_of (Some ns) t = slice_index_or ns (t - 1) 0
+worth_of None t = 0
+
 -- the store or the channel is there
 abbrev pub IsSeries : Drawn → Series → Type 0
 IsSeries p (Inner s) = s < length p.problem.rows
@@ -55,6 +60,7 @@ amount_of p (Last s) t = one_if (is_last_of p s t)
 amount_of p (Written s) t = written p.problem (amounts p) s t
 amount_of p (Left s) t = left p.problem (amounts p) s t
 amount_of p (Lost s) t = lost p.problem (amounts p) s t
+amount_of p Worth t = worth_of p.worth t
 
 -- the number of a step, and 0 at what is no step
 abbrev pub amount_at : Drawn → Series → ℕ → ℕ
@@ -93,6 +99,7 @@ whole_of p (Sent c) = most_limit p.problem c
 whole_of p (Written s) = size p.problem s
 whole_of p (Left s) = size p.problem s
 whole_of p (Lost s) = most_lost p
+whole_of p Worth = most_of p Worth
 whole_of p _ = 1
 
 -- an amount in a scale in which the whole has this height: amount * height / whole, rounded up, and at most the height

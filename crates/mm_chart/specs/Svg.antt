@@ -5,7 +5,7 @@ use Rattle.mm_problem.specs.Dumping.{steps}
 use Rattle.mm_chart.specs.declared.pen.Style.{Style}
 use Rattle.mm_chart.specs.declared.pen.Style.TheVariants as style
 use Rattle.mm_chart.specs.declared.series.Series.{Series}
-use Rattle.mm_chart.specs.declared.series.Series.TheVariants.{WindowCounts, Window, Used, ChannelCounts, Sent, Inner, Last, Written, Left, Lost}
+use Rattle.mm_chart.specs.declared.series.Series.TheVariants.{WindowCounts, Window, Used, ChannelCounts, Sent, Inner, Last, Written, Left, Lost, Worth}
 use Rattle.mm_chart.specs.Picture.{Drawn}
 use Rattle.mm_chart.specs.Series.{amount_at, total_of, whole_of, scaled}
 use Rattle.mm_chart.specs.Layout.{edge, room_of, base_of}
@@ -118,6 +118,7 @@ series_name (Sent c) = codes "v"
 series_name (Written s) = codes "g"
 series_name (Left s) = codes "f"
 series_name (Lost s) = codes "l"
+series_name Worth = codes "q"
 series_name _ = codes "o"
 
 -- the beginning of its outline

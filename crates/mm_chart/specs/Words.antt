@@ -2,16 +2,17 @@
 use Rattle.std.specs.Prelude.{ℕ, ◌+◌, ◌-◌, ◌==◌, nat_le, nat_lt, Bool, ◌&&◌, not, if◌then◌else◌, List, [], ◌++◌, codes, decimal, flat_map}
 use Rattle.std.specs.List.{sum_by}
 use Rattle.mm_problem.specs.Dumping.{steps, stores}
+use Rattle.mm_plan.specs.Volumes.{first_loss}
 use Rattle.mm_cut.specs.declared.verdict.Verdict.{Verdict}
-use Rattle.mm_cut.specs.declared.verdict.Verdict.TheVariants.{NotShown, Least}
+use Rattle.mm_cut.specs.declared.verdict.Verdict.TheVariants.{NotShown, Least, LeastInOrder}
 use Rattle.mm_cut.specs.Cuts.{coming_sum, held_sum, windows_sum, limits_sum}
 use Rattle.mm_cut.specs.Lines.{line_of}
 use Rattle.mm_chart.specs.declared.layout.TheConstants.{MARGIN, HEADLINE_AT, LINE_PITCH}
-use Rattle.mm_chart.specs.declared.phrases.TheConstants.{MANY_RANGES, INDENT, NO_FEWER, ONLY_SHOWN, MARKED_WINDOWS, MARKED_PASSES, MARKED_LIMITS, MARKED, AT_LEAST, WHY, IN_STRETCHES, COME, AS_ENDS, STAND, BY_WINDOWS, NO_WINDOWS, BY_LIMITS, NO_LIMITS, HELP, WIDER, NO_WIDER, HIGHER, NO_HIGHER, LARGER, FEWER}
+use Rattle.mm_chart.specs.declared.phrases.TheConstants.{MANY_RANGES, INDENT, NO_FEWER, ONLY_SHOWN, MARKED_WINDOWS, MARKED_PASSES, MARKED_LIMITS, MARKED, AT_LEAST, WHY, IN_STRETCHES, COME, AS_ENDS, STAND, BY_WINDOWS, NO_WINDOWS, BY_LIMITS, NO_LIMITS, HELP, WIDER, NO_WIDER, HIGHER, NO_HIGHER, LARGER, FEWER, MARKED_WORTH, ONE_WIDER, NO_OTHER, NONE_WIDER, IN_ORDER, FIRSTS, LOSE}
 use Rattle.mm_chart.specs.declared.pen.Style.TheVariants as style
 use Rattle.mm_chart.specs.declared.series.Series.{Series}
-use Rattle.mm_chart.specs.declared.series.Series.TheVariants.{WindowCounts, CountedWindow, LimitsCount}
-use Rattle.mm_chart.specs.Picture.{Drawn, cut, counts}
+use Rattle.mm_chart.specs.declared.series.Series.TheVariants.{WindowCounts, CountedWindow, LimitsCount, Worth}
+use Rattle.mm_chart.specs.Picture.{Drawn, amounts, has_worth, cut, counts}
 use Rattle.mm_chart.specs.Series.{one_if, amount_at, total_of, has_stretch}
 use Rattle.mm_chart.specs.Layout.{word_line}
 use Rattle.mm_chart.specs.Svg.{said, grouped, signed_grouped, opened, closed, labelled}
@@ -26,6 +27,7 @@ of_all p n = grouped n ++ said (codes " of ") ++ grouped (all_coming p)
 -- what the verdict lets the chart say
 unfoldable pub headline_of : Drawn → Verdict → List ℕ
 headline_of p (Least n) = opened style.Headline MARGIN HEADLINE_AT ++ of_all p n ++ said NO_FEWER.now ++ closed
+headline_of p (LeastInOrder n) = opened style.Headline MARGIN HEADLINE_AT ++ of_all p n ++ said IN_ORDER.now ++ closed
 headline_of p (NotShown n m) =
     opened style.Doubtful MARGIN HEADLINE_AT ++ of_all p n ++ said ONLY_SHOWN.now ++ signed_grouped m ++ closed
 headline_of p v = labelled style.Alarm MARGIN HEADLINE_AT (line_of v)
@@ -39,9 +41,18 @@ headline p = headline_of p p.verdict
 abbrev pub is_marked : Drawn → Series → ℕ → Bool
 is_marked p x t = nat_lt 0 (amount_at p x t)
 
+-- whether two numbers of a series are of one range, where the second is one: in what windows are worth they are the same
+abbrev pub is_joined : Series → ℕ → ℕ → Bool
+is_joined Worth before here = nat_lt 0 here && (before == here)
+is_joined _ before here = nat_lt 0 before && nat_lt 0 here
+
+-- whether a step is in the range of the step before
+abbrev pub goes_on : Drawn → Series → ℕ → Bool
+goes_on p x t = is_joined x (amount_at p x (t - 1)) (amount_at p x t)
+
 -- 1 where a range of such steps begins
 abbrev pub begins : Drawn → Series → ℕ → ℕ
-begins p x t = one_if (is_marked p x t && not (is_marked p x (t - 1)))
+begins p x t = one_if (is_marked p x t && not (goes_on p x t))
 
 -- how many ranges there are
 abbrev pub ranges_of : Drawn → Series → ℕ
@@ -51,14 +62,25 @@ ranges_of p x = sum_by (begins p x) (steps p.problem)
 unfoldable pub range_first : Bool → ℕ → List ℕ
 range_first before t = if before then [] else said (codes " ") ++ decimal t
 
--- its last step, where the step after is not in it: its number, where it has several, and a comma
-unfoldable pub range_last : Bool → Bool → ℕ → List ℕ
-range_last before after t = if after then [] else (if before then said (codes "&#8211;") ++ decimal t else []) ++ said (codes ",")
+-- the number of each of its steps, where they have one
+unfoldable pub range_amount : Series → ℕ → List ℕ
+range_amount Worth n = said (codes " (") ++ grouped n ++ said (codes ")")
+range_amount _ n = []
+
+-- its last step, where it has several
+unfoldable pub range_end : Bool → ℕ → List ℕ
+range_end before t = if before then said (codes "&#8211;") ++ decimal t else []
+
+-- what stands at its last step, after which the step is not in it, and a comma
+unfoldable pub range_last : Drawn → Series → ℕ → List ℕ
+range_last p x t =
+    if goes_on p x (t + 1) then []
+    else range_end (goes_on p x t) t ++ range_amount x (amount_at p x t) ++ said (codes ",")
 
 -- what a step adds to the ranges
 unfoldable pub range_part : Drawn → Series → ℕ → List ℕ
 range_part p x t =
-    if is_marked p x t then range_first (is_marked p x (t - 1)) t ++ range_last (is_marked p x (t - 1)) (is_marked p x (t + 1)) t else []
+    if is_marked p x t then range_first (goes_on p x t) t ++ range_last p x t else []
 
 -- how many such steps there are
 abbrev pub marks : Drawn → Series → ℕ
@@ -69,6 +91,7 @@ abbrev pub marked_where : Series → List ℕ
 marked_where WindowCounts = MARKED_WINDOWS.now
 marked_where CountedWindow = MARKED_PASSES.now
 marked_where LimitsCount = MARKED_LIMITS.now
+marked_where Worth = MARKED_WORTH.now
 marked_where _ = MARKED.now
 
 -- before one step or several
@@ -147,17 +170,55 @@ help p =
     ++ labelled style.Plain MARGIN (word_line p.problem 10) FEWER.now
     ++ stores_line p (word_line p.problem 11)
 
+-- ---- what one window is worth
+
+-- exactly the steps in which a wider window saves blocks by itself, and how many at most
+unfoldable pub worth_lines : Drawn → ℕ → List ℕ
+worth_lines p n =
+    labelled style.Heading MARGIN (word_line p.problem n) ONE_WIDER.now
+    ++ steps_line p Worth (word_line p.problem (n + 1)) NO_OTHER.now NONE_WIDER.now
+
+-- nothing where that is not known
+unfoldable pub worth_words : Drawn → ℕ → List ℕ
+worth_words p n = if has_worth p then worth_lines p n else []
+
+-- ---- what the first stores lose
+
+-- a store and what it and those before it lose, on a line of 8 stores
+unfoldable pub first_at : Drawn → ℕ → ℕ → List ℕ
+first_at p y s =
+    broken y s ++ said (codes " ") ++ name p.problem s ++ said (codes " (") ++ grouped (first_loss (s + 1) p.problem (amounts p)) ++ said (codes ")")
+
+-- what is said of them, and each of the stores
+unfoldable pub firsts_lines : Drawn → ℕ → List ℕ
+firsts_lines p n =
+    labelled style.Heading MARGIN (word_line p.problem n) FIRSTS.now
+    ++ opened style.Plain MARGIN (word_line p.problem (n + 1)) ++ said LOSE.now
+    ++ flat_map (first_at p (word_line p.problem (n + 1))) (stores p.problem) ++ closed
+
+-- ---- all of the words
+
+-- the first line after what one window is worth
+abbrev pub firsts_line : Drawn → ℕ
+firsts_line p = if has_worth p then 16 else 13
+
+-- the sum where the cut's bound is the loss, and the help
+unfoldable pub least_words : Drawn → ℕ → List ℕ
+least_words p n = why p (grouped n) ++ help p ++ worth_words p 13
+
 -- the sum where there is a cut to its bound, and the help where it is the loss and there is one
 unfoldable pub words_of : Drawn → Verdict → List ℕ
-words_of p (Least n) = if n == 0 then [] else why p (grouped n) ++ help p
-words_of p (NotShown n m) = why p (signed_grouped m)
+words_of p (Least n) = if n == 0 then [] else least_words p n
+words_of p (LeastInOrder n) = if n == 0 then [] else least_words p n ++ firsts_lines p (firsts_line p)
+words_of p (NotShown n m) = why p (signed_grouped m) ++ worth_words p 7
 words_of p v = []
 
 abbrev pub words : Drawn → List ℕ
 words p = words_of p p.verdict
 
 -- how many lines they have room for
-abbrev pub word_lines : Verdict → ℕ
-word_lines (Least n) = if n == 0 then 0 else 13
-word_lines (NotShown n m) = 6
-word_lines v = 0
+abbrev pub word_lines : Drawn → Verdict → ℕ
+word_lines p (Least n) = if n == 0 then 0 else if has_worth p then 15 else 13
+word_lines p (LeastInOrder n) = if n == 0 then 0 else firsts_line p + 3
+word_lines p (NotShown n m) = if has_worth p then 9 else 6
+word_lines p v = 0

@@ -35,7 +35,7 @@ pub const LEGEND: &[u8] =
 fn push_head(text: &mut Vec<u8>, picture: &Picture) -> Pushed
     ensures { OnOk result (text.new.items ≡ text.old.items ++ head picture.now) }
 {
-    let height = word_line(picture.problem(), word_lines(picture.verdict()));
+    let height = word_line(picture.problem(), word_lines(picture));
     push_value(text, OPENING, height)?;
     push_said(text, FONT)
 }

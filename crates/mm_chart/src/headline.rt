@@ -1,6 +1,6 @@
 //! The headline of a chart.
 ghost use Rattle.std.specs.Prelude.{◌≡◌, ◌++◌, OnOk};
-ghost use Rattle.mm_cut.specs.declared.verdict.Verdict.TheVariants.{NotShown, Least};
+ghost use Rattle.mm_cut.specs.declared.verdict.Verdict.TheVariants.{NotShown, Least, LeastInOrder};
 ghost use Rattle.mm_chart.specs.Words.{of_all, headline_of, headline};
 
 use crate::layout::{HEADLINE_AT, MARGIN};
@@ -8,7 +8,7 @@ use crate::pen::{
     Pushed, Style, push_closed, push_grouped, push_labelled, push_opened, push_said,
     push_signed_grouped,
 };
-use crate::phrases::{NO_FEWER, ONLY_SHOWN};
+use crate::phrases::{IN_ORDER, NO_FEWER, ONLY_SHOWN};
 use crate::picture::Picture;
 use crate::rows::all_coming;
 use mm_base::NoMemory;
@@ -36,6 +36,17 @@ fn push_least(text: &mut Vec<u8>, picture: &Picture, loss: u64) -> Pushed
     push_closed(text)
 }
 
+// The headline where no plan loses fewer of the first stores.
+#[tactic(auto, using(std::proofs::Common::append_assoc), unfolding(crate::specs::Words::headline_of))]
+fn push_in_order(text: &mut Vec<u8>, picture: &Picture, loss: u64) -> Pushed
+    ensures { OnOk result (text.new.items ≡ text.old.items ++ headline_of picture.now (LeastInOrder loss)) }
+{
+    push_opened(text, Style::Headline, MARGIN, HEADLINE_AT)?;
+    push_of_all(text, picture, loss)?;
+    push_said(text, IN_ORDER)?;
+    push_closed(text)
+}
+
 // The headline where the cut does not show it.
 #[tactic(auto, using(std::proofs::Common::append_assoc), unfolding(crate::specs::Words::headline_of))]
 fn push_not_shown(text: &mut Vec<u8>, picture: &Picture, loss: u64, bound: i64) -> Pushed
@@ -59,6 +70,7 @@ pub(crate) fn push_headline(
 {
     match picture.verdict() {
         Verdict::Least(loss) => push_least(text, picture, loss)?,
+        Verdict::LeastInOrder(loss) => push_in_order(text, picture, loss)?,
         Verdict::NotShown { loss, bound } => push_not_shown(text, picture, loss, bound)?,
         other => {
             let line = verdict_line(alloc, other)?;

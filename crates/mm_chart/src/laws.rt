@@ -1,10 +1,11 @@
 //! What the words of a chart and the records of a table show, over their definitions alone.
 ghost use Rattle.std.specs.Prelude.{◌≡◌, codes};
 ghost use Rattle.mm_chart.specs.Listed.{SumsAddUp, OnlyListedHelps};
-ghost use Rattle.mm_chart.specs.Legend.{legend};
+ghost use Rattle.mm_chart.specs.Legend.{legend, worth_key};
 ghost use Rattle.mm_chart.specs.Table.{RecordsBalance};
 ghost use Rattle.mm_chart.specs.declared.document.TheConstants.{LEGEND};
-ghost use Rattle.mm_chart.specs.declared.phrases.TheConstants.{AS_ENDS, AT_LEAST, BY_LIMITS, BY_WINDOWS, COME, FEWER, HELP, HIGHER, IN_STRETCHES, LARGER, MARKED, MARKED_LIMITS, MARKED_PASSES, MARKED_WINDOWS, NO_FEWER, NO_HIGHER, NO_LIMITS, NO_WIDER, NO_WINDOWS, ONLY_SHOWN, STAND, WHY, WIDER};
+ghost use Rattle.mm_chart.specs.declared.phrases.TheConstants.{AS_ENDS, AT_LEAST, BY_LIMITS, BY_WINDOWS, COME, FEWER, FIRSTS, HELP, HIGHER, IN_ORDER, IN_STRETCHES, LARGER, LOSE, MARKED, MARKED_LIMITS, MARKED_PASSES, MARKED_WINDOWS, MARKED_WORTH, NONE_WIDER, NO_FEWER, NO_HIGHER, NO_LIMITS, NO_OTHER, NO_WIDER, NO_WINDOWS, ONE_WIDER, ONLY_SHOWN, SAVES, STAND, WHY, WIDER};
+ghost use Rattle.mm_chart.specs.declared.rows.TheConstants.{WORTH_KEY};
 
 /// The four numbers of the sum give the number that follows it: the loss that no plan goes below, or the cut's bound.
 pub fn sums_add_up()
@@ -28,6 +29,7 @@ pub fn records_balance()
 /// What the headline says of a cut, and what the colours mean.
 pub fn headline_words_are()
     ensures least { NO_FEWER.now ≡ codes " blocks are lost, and no plan loses fewer" }
+    ensures in_order { IN_ORDER.now ≡ codes " blocks are lost, and no plan loses fewer in the setup's order" }
     ensures shown { ONLY_SHOWN.now ≡ codes " blocks are lost; this cut shows only that no plan loses fewer than " }
     ensures legend { LEGEND.now ≡ legend }
 {}
@@ -65,5 +67,23 @@ pub fn marked_words_are()
     ensures windows { MARKED_WINDOWS.now ≡ codes " steps marked in the row of the windows," }
     ensures passes { MARKED_PASSES.now ≡ codes " steps marked in the row of the windows that have one," }
     ensures limits { MARKED_LIMITS.now ≡ codes " steps marked in the rows of the channels," }
+    ensures worth { MARKED_WORTH.now ≡ codes " steps that have a bar above the windows," }
     ensures others { MARKED.now ≡ codes " steps," }
+{}
+
+/// The words of what one window is worth, and what its colour means.
+pub fn worth_words_are()
+    ensures key { WORTH_KEY.now ≡ worth_key }
+    ensures most { SAVES.now ≡ codes "saves up to " }
+    ensures heading { ONE_WIDER.now
+        ≡ codes "What one wider window saves: a block for each block that it is wider, up to the number in brackets" }
+    ensures others { NO_OTHER.now ≡ codes " and in no other." }
+    ensures none { NONE_WIDER.now ≡ codes "In no step: no wider window saves a block by itself." }
+{}
+
+/// The words of what the first stores lose.
+pub fn firsts_words_are()
+    ensures heading { FIRSTS.now
+        ≡ codes "In the setup's order: what each store and those before it lose. No plan loses fewer of them." }
+    ensures stores { LOSE.now ≡ codes "Up to each store:" }
 {}

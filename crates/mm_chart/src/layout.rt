@@ -35,6 +35,12 @@ pub const THIN: u32 = 18;
 /// The height of the greatest loss of any store.
 pub const LOSS: u32 = 10;
 
+/// The height of the most that a larger window saves.
+pub const SAVED: u32 = 12;
+
+/// The line of the words on it.
+pub const SAVED_AT: u32 = 111;
+
 /// How far the marks of a cut reach over a row, above and below.
 pub const OVER: u32 = 4;
 
@@ -144,7 +150,7 @@ pub(crate) fn bottom(problem: &Problem) -> u32
 
 // A line of words below the rows.
 pub(crate) fn word_line(problem: &Problem, line: u32) -> u32
-    requires { line ≤ 13 }
+    requires { line ≤ 19 }
     ensures line { result ≡ word_line problem.now line }
     ensures most { result < 2 ^ 20 }
 {
@@ -161,6 +167,7 @@ pub(crate) fn room_of(series: Series) -> u32
         Series::ChannelCounts(_) => THIN + 2 * OVER,
         Series::Sent(_) => THIN,
         Series::Lost(_) => LOSS,
+        Series::Worth => SAVED,
         _ => TALL,
     }
 }
@@ -178,6 +185,7 @@ pub(crate) fn base_of(problem: &Problem, series: Series) -> u32
         Series::Sent(channel) => channel_base(problem, channel),
         Series::Inner(store) | Series::Last(store) => store_base(problem, store) + OVER,
         Series::Lost(store) => store_base(problem, store) - TALL,
+        Series::Worth => WINDOW_BASE - TALL,
         Series::Written(store) | Series::Left(store) => store_base(problem, store),
         _ => WINDOW_BASE,
     }

@@ -19,8 +19,8 @@ mod words;
 pub use column::Column;
 pub use document::{chart_bytes, draw};
 pub use laws::{
-    headline_words_are, helping_words_are, marked_words_are, only_listed_helps, records_balance,
-    sum_words_are, sums_add_up,
+    firsts_words_are, headline_words_are, helping_words_are, marked_words_are, only_listed_helps,
+    records_balance, sum_words_are, sums_add_up, worth_words_are,
 };
 pub use mm_cut::Fault;
 pub use picture::Picture;

@@ -5,14 +5,16 @@ ghost use Rattle.mm_problem.specs.Dumping.{steps};
 ghost use Rattle.mm_chart.specs.declared.series.TheConstants.{AMOUNT_PLACES};
 ghost use Rattle.mm_chart.specs.Layout.{word_line};
 ghost use Rattle.mm_chart.specs.Series.{IsSeries};
-ghost use Rattle.mm_chart.specs.Words.{is_marked, begins, ranges_of, range_first, range_last, range_part, marks, marked_where, step_word, in_steps, steps_line};
+ghost use Rattle.mm_chart.specs.Words.{is_marked, goes_on, begins, ranges_of, range_first, range_amount, range_end, range_last, range_part, marks, marked_where, step_word, in_steps, steps_line};
 
 use crate::column::Column;
 use crate::layout::{MARGIN, word_line};
 use crate::pen::{
     Pushed, Style, push_closed, push_grouped, push_labelled, push_opened, push_said, push_value,
 };
-use crate::phrases::{MANY_RANGES, MARKED, MARKED_LIMITS, MARKED_PASSES, MARKED_WINDOWS};
+use crate::phrases::{
+    MANY_RANGES, MARKED, MARKED_LIMITS, MARKED_PASSES, MARKED_WINDOWS, MARKED_WORTH,
+};
 use crate::picture::{Picture, one_if};
 use crate::series::Series;
 
@@ -22,6 +24,20 @@ fn is_marked(column: &Column<'_>, step: u32) -> bool
     ensures { result ≡ is_marked column.now.picture.now column.now.series step }
 {
     column.amount_at(step) > 0
+}
+
+// Whether a step is in the range of the step before.
+fn goes_on(column: &Column<'_>, step: u32) -> bool
+    requires first { 1 ≤ step }
+    requires place { step < AMOUNT_PLACES }
+    ensures { result ≡ goes_on column.now.picture.now column.now.series step }
+{
+    let before = column.amount_at(step - 1);
+    let here = column.amount_at(step);
+    match column.series {
+        Series::Worth => here > 0 && before == here,
+        _ => before > 0 && here > 0,
+    }
 }
 
 // How many such steps there are, and how many ranges they make.
@@ -41,7 +57,7 @@ fn marks_of(column: &Column<'_>) -> Marks
     let mut ranges: u64 = 0;
     for step in 1..column.picture.problem().steps() + 1 {
         let here = is_marked(column, step);
-        let before = is_marked(column, step - 1);
+        let before = goes_on(column, step);
         steps += one_if(here);
         ranges += one_if(here && !before);
     }
@@ -59,17 +75,45 @@ fn push_range_first(text: &mut Vec<u8>, before: bool, step: u32) -> Pushed
     push_value(text, b" ", step)
 }
 
-// Its last step, where the step after is not in it: its number, where it has several, and a comma.
-#[tactic(auto, using(std::proofs::Common::append_assoc), unfolding(crate::specs::Words::range_last))]
-fn push_range_last(text: &mut Vec<u8>, before: bool, after: bool, step: u32) -> Pushed
-    ensures { OnOk result (text.new.items ≡ text.old.items ++ range_last before after step) }
+// The number of each of its steps, where they have one.
+#[tactic(auto, using(std::proofs::Common::append_assoc), unfolding(crate::specs::Words::range_amount))]
+fn push_range_amount(text: &mut Vec<u8>, series: Series, number: u64) -> Pushed
+    ensures { OnOk result (text.new.items ≡ text.old.items ++ range_amount series number) }
 {
-    if after {
+    match series {
+        Series::Worth => {
+            push_said(text, b" (")?;
+            push_grouped(text, number)?;
+            push_said(text, b")")
+        }
+        _ => Ok(()),
+    }
+}
+
+// Its last step, where it has several.
+#[tactic(auto, unfolding(crate::specs::Words::range_end))]
+fn push_range_end(text: &mut Vec<u8>, before: bool, step: u32) -> Pushed
+    ensures { OnOk result (text.new.items ≡ text.old.items ++ range_end before step) }
+{
+    if !before {
         return Ok(());
     }
-    if before {
-        push_value(text, b"&#8211;", step)?;
+    push_value(text, b"&#8211;", step)
+}
+
+// What stands at its last step, after which the step is not in it, and a comma.
+#[tactic(auto, using(std::proofs::Common::append_assoc), unfolding(crate::specs::Words::range_last))]
+fn push_range_last(text: &mut Vec<u8>, column: &Column<'_>, before: bool, step: u32) -> Pushed
+    requires first { 1 ≤ step }
+    requires last { step ≤ MAX_STEPS }
+    requires before { before ≡ goes_on column.now.picture.now column.now.series step }
+    ensures { OnOk result (text.new.items ≡ text.old.items ++ range_last column.now.picture.now column.now.series step) }
+{
+    if goes_on(column, step + 1) {
+        return Ok(());
     }
+    push_range_end(text, before, step)?;
+    push_range_amount(text, column.series, column.amount_at(step))?;
     push_said(text, b",")
 }
 
@@ -83,9 +127,9 @@ fn push_range_part(text: &mut Vec<u8>, column: &Column<'_>, step: u32) -> Pushed
     if !is_marked(column, step) {
         return Ok(());
     }
-    let before = is_marked(column, step - 1);
+    let before = goes_on(column, step);
     push_range_first(text, before, step)?;
-    push_range_last(text, before, is_marked(column, step + 1), step)
+    push_range_last(text, column, before, step)
 }
 
 #[tactic(auto, using(std::proofs::Common::append_assoc, crate::proofs::Ranges::flat_map_next))]
@@ -107,6 +151,7 @@ fn marked_where(series: Series) -> &'static [u8]
         Series::WindowCounts => MARKED_WINDOWS,
         Series::CountedWindow => MARKED_PASSES,
         Series::LimitsCount => MARKED_LIMITS,
+        Series::Worth => MARKED_WORTH,
         _ => MARKED,
     }
 }
@@ -149,7 +194,7 @@ pub(crate) fn push_steps_line(
     none: &[u8],
 ) -> Pushed
     requires series { IsSeries picture.now series }
-    requires line { line ≤ 13 }
+    requires line { line ≤ 15 }
     ensures { OnOk result (text.new.items ≡ text.old.items
         ++ steps_line picture.now series (word_line picture.now.problem line) words.now none.now) }
 {

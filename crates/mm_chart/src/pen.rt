@@ -254,6 +254,7 @@ fn series_name(series: Series) -> &'static [u8]
         Series::Written(_) => b"g",
         Series::Left(_) => b"f",
         Series::Lost(_) => b"l",
+        Series::Worth => b"q",
         _ => b"o",
     }
 }

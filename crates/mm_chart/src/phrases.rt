@@ -22,6 +22,9 @@ pub const MARKED_PASSES: &[u8] = b" steps marked in the row of the windows that 
 /// of those that count by the limits of channels,
 pub const MARKED_LIMITS: &[u8] = b" steps marked in the rows of the channels,";
 
+/// of those in which a wider window helps,
+pub const MARKED_WORTH: &[u8] = b" steps that have a bar above the windows,";
+
 /// and of any others.
 pub const MARKED: &[u8] = b" steps,";
 
@@ -78,3 +81,26 @@ pub const LARGER: &[u8] = b"Larger stores, and only these:";
 /// Arrivals that may help.
 pub const FEWER: &[u8] =
     b"In the shaded stretches, and only there, fewer blocks that come, or stand there as step 1 begins.";
+
+/// What comes before the most that a larger window saves.
+pub const SAVES: &[u8] = b"saves up to ";
+
+/// The heading of what one window is worth.
+pub const ONE_WIDER: &[u8] =
+    b"What one wider window saves: a block for each block that it is wider, up to the number in brackets";
+
+/// What follows the steps in which one saves blocks.
+pub const NO_OTHER: &[u8] = b" and in no other.";
+
+/// What is said where none does.
+pub const NONE_WIDER: &[u8] = b"In no step: no wider window saves a block by itself.";
+
+/// What is said of a plan that loses least of the first stores too.
+pub const IN_ORDER: &[u8] = b" blocks are lost, and no plan loses fewer in the setup's order";
+
+/// The heading of what the first stores lose.
+pub const FIRSTS: &[u8] =
+    b"In the setup's order: what each store and those before it lose. No plan loses fewer of them.";
+
+/// What comes before the stores.
+pub const LOSE: &[u8] = b"Up to each store:";

@@ -1,38 +1,40 @@
 //! A plan to be drawn, and the numbers of its chart.
-ghost use Rattle.std.specs.Prelude.{◌≡◌, ℕ, ◌^◌, ◌+◌, ◌*◌, ◌<◌, ◌≤◌, [], if◌then◌else◌, All, IfOk, length, slice_index_or};
+ghost use Rattle.std.specs.Prelude.{◌≡◌, ℕ, ◌^◌, ◌+◌, ◌*◌, ◌<◌, ◌≤◌, [], if◌then◌else◌, All, IfOk, Some, None, length, slice_index_or};
 ghost use Rattle.mm_base.specs.declared.limits.TheConstants.{MAX_STORES, MAX_STEPS, MAX_BLOCKS};
 ghost use Rattle.std.specs.List.{sum_by};
 ghost use Rattle.mm_problem.specs.Dumping.{IsDumping, stores, stores_of};
 ghost use Rattle.mm_plan.specs.Sheet.{IsSheet};
 ghost use Rattle.mm_plan.specs.Table.{amount, HasShape};
-ghost use Rattle.mm_plan.specs.Volumes.{written, left, lost};
+ghost use Rattle.mm_plan.specs.Volumes.{first_loss, written, left, lost};
 ghost use Rattle.mm_plan.specs.Simulated.{written_in, left_in, lost_in, CoversProblem, AgreeEach};
 ghost use Rattle.mm_cut.specs.Stretches.{IsStretch, AreStretches};
 ghost use Rattle.mm_cut.specs.Cuts.{IsCut, coming_sum, held_sum, counts_window, counts_limits, windows_sum, limits_sum};
 ghost use Rattle.mm_cut.specs.declared.marks.TheConstants.{STEP_PLACES};
 ghost use Rattle.mm_chart.specs.declared.series.TheConstants.{AMOUNT_PLACES};
 ghost use Rattle.mm_chart.specs.Columns.{AreMarks, AreAmounts};
-ghost use Rattle.mm_chart.specs.Picture.{has_cut, cut, counts, IsDrawn};
+ghost use Rattle.mm_chart.specs.Picture.{amounts, has_cut, has_worth, cut, counts, IsDrawn};
 ghost use Rattle.mm_chart.specs.declared.series.Series.TheVariants.{CountedWindow};
-ghost use Rattle.mm_chart.specs.Series.{one_if, sent, has_stretch, IsSeries, amount_of, scaled};
+ghost use Rattle.mm_chart.specs.Series.{one_if, sent, has_stretch, IsSeries, amount_of, scaled, worth_of};
 
 use crate::series::{AMOUNT_PLACES, Series};
 use crate::shades::{Shade, has_stretch, inner_steps_of, inner_steps_on, last_steps_of, shades_of};
 use mm_base::{MAX_STEPS, NoMemory};
 use mm_cut::{Parts, STEP_PLACES, Verdict, inner_steps, listed_steps, parts_of, verdict_of};
-use mm_plan::{Sheet, Simulated, Stretch, simulate};
+use mm_plan::{Sheet, Simulated, Stretch, first_loss, simulate};
 use mm_problem::Problem;
 use std::alloc::Global;
 use std::fmt;
 use std::marker::Model;
 
-/// A problem, a sheet for it, the verdict on the sheet, and what its plan does to the stores.
+/// A problem, a sheet for it, the verdict on the sheet, what its plan does to the stores, and what the windows are worth where that is known.
 #[derive(Drop)]
 pub struct Picture {
     problem: Problem,
     sheet: Sheet,
     verdict: Verdict,
     volumes: Simulated,
+    // How many blocks a larger window saves at most, step by step.
+    worth: Option<Vec<u32>>,
     // The stretches that are drawn.
     shades: Vec<Shade>,
     // Whether each step is inner in some of them.
@@ -49,6 +51,7 @@ impl fmt::Debug for Picture {
             .field("sheet", &self.sheet)
             .field("verdict", &self.verdict)
             .field("volumes", &self.volumes)
+            .field("worth", &self.worth)
             .field("shades", &self.shades)
             .finish()
     }
@@ -56,25 +59,30 @@ impl fmt::Debug for Picture {
 
 impl Model for Picture {
     ghost use Rattle.std.specs.Prelude.{◌≡◌, map};
-    ghost use Rattle.mm_chart.specs.Picture.{Drawn, cut, IsDrawn, AreVolumesOf};
+    ghost use Rattle.std.specs.Option.{option_map};
+    ghost use Rattle.mm_chart.specs.Picture.{Drawn, picture_of, cut, IsDrawn, AreVolumesOf};
     ghost use Rattle.mm_chart.specs.Shading.{shade_of};
     ghost use Rattle.mm_chart.specs.Columns.{AreStepMarks};
 
     ghost Value = { Drawn };
 
-    ghost view = { λ a. record { problem = a.problem; sheet = a.sheet; verdict = a.verdict } };
+    ghost view = { λ a. picture_of a.problem a.sheet a.verdict (option_map (λ worth. worth.items) a.worth) };
 
-    ghost invariant = { λ a. IsDrawn (record { problem = a.problem; sheet = a.sheet; verdict = a.verdict })
-        × AreVolumesOf (record { problem = a.problem; sheet = a.sheet; verdict = a.verdict }) a.volumes
-        × (a.shades.items ≡ map (shade_of a.problem) (cut (record { problem = a.problem; sheet = a.sheet; verdict = a.verdict })))
-        × AreStepMarks (record { problem = a.problem; sheet = a.sheet; verdict = a.verdict }) a.inner a.listed };
+    ghost invariant = { λ a. IsDrawn (picture_of a.problem a.sheet a.verdict (option_map (λ worth. worth.items) a.worth))
+        × AreVolumesOf (picture_of a.problem a.sheet a.verdict (option_map (λ worth. worth.items) a.worth)) a.volumes
+        × (a.shades.items ≡ map (shade_of a.problem) (cut (picture_of a.problem a.sheet a.verdict (option_map (λ worth. worth.items) a.worth))))
+        × AreStepMarks (picture_of a.problem a.sheet a.verdict (option_map (λ worth. worth.items) a.worth)) a.inner a.listed };
 }
 
 fn has_cut(verdict: Verdict) -> bool
     ensures { result ≡ has_cut verdict }
 {
     match verdict {
-        Verdict::BoundIs(_) | Verdict::NotShown { .. } | Verdict::Least(_) => true,
+        Verdict::BoundIs(_)
+        | Verdict::NotShown { .. }
+        | Verdict::FirstNotShown(_)
+        | Verdict::Least(_)
+        | Verdict::LeastInOrder(_) => true,
         _ => false,
     }
 }
@@ -122,6 +130,7 @@ impl Picture {
         requires is_sheet { IsSheet sheet }
         ensures problem { IfOk result (λ p. p.problem ≡ problem) }
         ensures sheet { IfOk result (λ p. p.sheet ≡ sheet) }
+        ensures worth { IfOk result (λ p. p.worth ≡ None) }
     {
         let verdict = verdict_of(&problem, &sheet);
         let volumes = volumes_of(alloc, &problem, &sheet)?;
@@ -133,10 +142,42 @@ impl Picture {
             sheet,
             verdict,
             volumes,
+            worth: None,
             shades,
             inner,
             listed,
         })
+    }
+
+    /// The same, with how many blocks a larger window saves at most, step by step from step 1 on.
+    #[must_use]
+    pub fn with_worth(self, worth: Vec<u32>) -> Picture
+        ensures { result ≡ record self { worth = Some worth.items } }
+    {
+        Picture {
+            worth: Some(worth),
+            ..self
+        }
+    }
+
+    /// Whether it is known what the windows are worth.
+    #[must_use]
+    pub fn has_worth(&self) -> bool
+        ensures { result ≡ has_worth self.now }
+    {
+        self.worth.is_some()
+    }
+
+    // What the window of a step is worth.
+    fn worth_of(&self, step: u32) -> u64
+        requires { 1 ≤ step }
+        ensures worth { result ≡ worth_of self.now.worth step }
+        ensures most { result < 2 ^ 32 }
+    {
+        match &self.worth {
+            Some(worth) => u64::from(worth.get(step as usize - 1).copied().unwrap_or(0)),
+            None => 0,
+        }
     }
 
     /// The verdict on the sheet.
@@ -153,6 +194,14 @@ impl Picture {
         ensures { result.now ≡ self.now.problem }
     {
         &self.problem
+    }
+
+    // What that many of the first stores lose.
+    pub(crate) fn first_loss(&self, stores: usize) -> u64
+        requires { stores ≤ length self.now.problem.rows }
+        ensures { result ≡ first_loss stores self.now.problem (amounts self.now) }
+    {
+        first_loss(&self.problem, self.sheet.plan(), stores)
     }
 
     // The stretches that are drawn.
@@ -302,6 +351,7 @@ impl Picture {
             Series::Written(store) => u64::from(self.volumes.written(store, step)),
             Series::Left(store) => u64::from(self.volumes.left(store, step)),
             Series::Lost(store) => u64::from(self.volumes.lost(store, step)),
+            Series::Worth => self.worth_of(step),
         }
     }
 

@@ -6,17 +6,18 @@ ghost use Rattle.mm_problem.specs.Dumping.{IsDumping, row, stores, steps, channe
 ghost use Rattle.mm_chart.specs.declared.series.Series.TheVariants.{Window, Used, Lost};
 ghost use Rattle.mm_chart.specs.Series.{total_of, most_of, most_limit, most_lost};
 ghost use Rattle.mm_chart.specs.Layout.{edge};
-ghost use Rattle.mm_chart.specs.Rows.{right, counted, frame, name, guide, numbered, windows_words, windows_row, limit_front, channel_side, channel_row, channel_part, coming_to, all_coming, store_side, store_loss, store_words, store_bars, store_row, tick, rows};
+ghost use Rattle.mm_chart.specs.Rows.{right, counted, frame, name, guide, numbered, windows_words, windows_row, worth_bars, worth_part, limit_front, channel_side, channel_row, channel_part, coming_to, all_coming, store_side, store_loss, store_words, store_bars, store_row, tick, rows};
 
 use crate::column::Column;
 use crate::layout::{
-    LEFT, NAME_AT, TALL, THIN, TICK_AT, WINDOW_BASE, bottom, channel_base, edge, has_limit,
-    step_width, store_base, tick_every,
+    LEFT, NAME_AT, SAVED_AT, TALL, THIN, TICK_AT, WINDOW_BASE, bottom, channel_base, edge,
+    has_limit, step_width, store_base, tick_every,
 };
 use crate::pen::{
     Line, Pushed, Style, push_begun, push_closed, push_column, push_grouped, push_labelled,
     push_line, push_opened, push_profile, push_said, push_value,
 };
+use crate::phrases::SAVES;
 use crate::picture::Picture;
 use crate::series::Series;
 use mm_base::numbers::push_number;
@@ -104,6 +105,33 @@ fn push_windows_row(text: &mut Vec<u8>, picture: &Picture) -> Pushed
     push_column(text, &used, most)?;
     push_frame(text, picture.problem(), WINDOW_BASE, TALL)?;
     push_windows_words(text, picture, most, windows.total(), used.total())
+}
+
+/// The key of what windows are worth, with its colour.
+pub const WORTH_KEY: &[u8] =
+    b"<style>.q{fill:#1e8a4c;stroke:#000;stroke-width:.5}</style>\n<g class='t'><rect class='q' x='870' y='44' width='12' height='12'/><text x='886' y='54'>saved by a wider window</text></g>\n";
+
+// What the windows are worth.
+#[tactic(auto, using(std::proofs::Common::append_assoc), unfolding(crate::specs::Rows::worth_bars))]
+fn push_worth_bars(text: &mut Vec<u8>, picture: &Picture) -> Pushed
+    ensures { OnOk result (text.new.items ≡ text.old.items ++ worth_bars picture.now) }
+{
+    let worth = Column::new(picture, Series::Worth);
+    let most = worth.most();
+    push_said(text, WORTH_KEY)?;
+    push_column(text, &worth, most)?;
+    push_counted(text, Style::Side.at(NAME_AT, SAVED_AT), SAVES, most, b"")
+}
+
+// Nothing where that is not known.
+#[tactic(auto, unfolding(crate::specs::Rows::worth_part))]
+fn push_worth_part(text: &mut Vec<u8>, picture: &Picture) -> Pushed
+    ensures { OnOk result (text.new.items ≡ text.old.items ++ worth_part picture.now) }
+{
+    if !picture.has_worth() {
+        return Ok(());
+    }
+    push_worth_bars(text, picture)
 }
 
 // The greatest limit of a channel in a step.
@@ -362,6 +390,7 @@ pub fn push_rows(text: &mut Vec<u8>, picture: &Picture) -> Pushed
     push_labelled(text, Style::Side, NAME_AT, TICK_AT, b"step")?;
     push_ticks(text, picture)?;
     push_windows_row(text, picture)?;
+    push_worth_part(text, picture)?;
     push_channels(text, picture)?;
     push_stores(text, picture)
 }

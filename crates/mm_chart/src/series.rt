@@ -30,4 +30,6 @@ pub enum Series {
     /// What stands in a store as the step ends.
     Left(usize),
     Lost(usize),
+    /// How many blocks a larger window saves at most; 0 where that is not known.
+    Worth,
 }

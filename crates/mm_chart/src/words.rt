@@ -1,9 +1,10 @@
 //! What a chart says in words: why no plan loses fewer, and what may help.
 ghost use Rattle.std.specs.Prelude.{◌≡◌, ◌<◌, ◌≤◌, ◌^◌, ◌++◌, ◌∷◌, [], IfOk, OnOk, length, codes, flat_map};
+ghost use Rattle.mm_base.specs.declared.limits.TheConstants.{MAX_STORES};
 ghost use Rattle.mm_problem.specs.Dumping.{stores};
-ghost use Rattle.mm_cut.specs.declared.verdict.Verdict.TheVariants.{Least};
+ghost use Rattle.mm_cut.specs.declared.verdict.Verdict.TheVariants.{LeastInOrder};
 ghost use Rattle.mm_chart.specs.Svg.{said, grouped, signed_grouped, closed};
-ghost use Rattle.mm_chart.specs.Words.{why_heading, words_of, at_most, sum_line, leaving, why, stretched, broken, stretched_at, stores_line, help, words, word_lines};
+ghost use Rattle.mm_chart.specs.Words.{why_heading, words_of, at_most, sum_line, leaving, why, stretched, broken, stretched_at, stores_line, help, worth_lines, worth_words, first_at, firsts_lines, firsts_line, least_words, words, word_lines};
 
 use crate::layout::{LINE_PITCH, MARGIN, word_line};
 use crate::marked::push_steps_line;
@@ -12,8 +13,9 @@ use crate::pen::{
     push_signed_grouped,
 };
 use crate::phrases::{
-    AS_ENDS, AT_LEAST, BY_LIMITS, BY_WINDOWS, COME, FEWER, HELP, HIGHER, IN_STRETCHES, INDENT,
-    LARGER, NO_HIGHER, NO_LIMITS, NO_WIDER, NO_WINDOWS, STAND, WHY, WIDER,
+    AS_ENDS, AT_LEAST, BY_LIMITS, BY_WINDOWS, COME, FEWER, FIRSTS, HELP, HIGHER, IN_STRETCHES,
+    INDENT, LARGER, LOSE, NO_HIGHER, NO_LIMITS, NO_OTHER, NO_WIDER, NO_WINDOWS, NONE_WIDER,
+    ONE_WIDER, STAND, WHY, WIDER,
 };
 use crate::picture::Picture;
 use crate::rows::{push_counted, push_name};
@@ -187,27 +189,118 @@ fn push_help(text: &mut Vec<u8>, picture: &Picture) -> Pushed
     push_stores_line(text, picture, word_line(problem, 11))
 }
 
-// The sum and the help of a plan that loses least.
+// Exactly the steps in which a wider window saves blocks by itself.
+#[tactic(auto, using(std::proofs::Common::append_assoc), unfolding(crate::specs::Words::worth_lines))]
+fn push_worth_lines(text: &mut Vec<u8>, picture: &Picture, line: u32) -> Pushed
+    requires { line ≤ 14 }
+    ensures { OnOk result (text.new.items ≡ text.old.items ++ worth_lines picture.now line) }
+{
+    let y = word_line(picture.problem(), line);
+    push_labelled(text, Style::Heading, MARGIN, y, ONE_WIDER)?;
+    push_steps_line(text, picture, Series::Worth, line + 1, NO_OTHER, NONE_WIDER)
+}
+
+// Nothing where that is not known.
+#[tactic(auto, unfolding(crate::specs::Words::worth_words))]
+fn push_worth_words(text: &mut Vec<u8>, picture: &Picture, line: u32) -> Pushed
+    requires { line ≤ 14 }
+    ensures { OnOk result (text.new.items ≡ text.old.items ++ worth_words picture.now line) }
+{
+    if !picture.has_worth() {
+        return Ok(());
+    }
+    push_worth_lines(text, picture, line)
+}
+
+// A store and what it and those before it lose, on a line of 8 stores.
+#[tactic(auto, using(std::proofs::Common::append_assoc), unfolding(crate::specs::Words::first_at))]
+fn push_first_at(text: &mut Vec<u8>, picture: &Picture, y: u32, store: usize) -> Pushed
+    requires store { store < length picture.now.problem.rows }
+    requires few { store < MAX_STORES }
+    requires height { y < 2 ^ 20 }
+    ensures { OnOk result (text.new.items ≡ text.old.items ++ first_at picture.now y store) }
+{
+    push_broken(text, y, store)?;
+    push_said(text, b" ")?;
+    push_name(text, picture.problem(), store)?;
+    push_said(text, b" (")?;
+    push_grouped(text, picture.first_loss(store + 1))?;
+    push_said(text, b")")
+}
+
+#[tactic(auto, using(std::proofs::Common::append_assoc, crate::proofs::Ranges::flat_map_range_more))]
+fn push_all_firsts(text: &mut Vec<u8>, picture: &Picture, y: u32) -> Pushed
+    requires { y < 2 ^ 20 }
+    ensures { OnOk result (text.new.items ≡ text.old.items ++ flat_map (first_at picture.now y) (stores picture.now.problem)) }
+{
+    for store in 0..picture.problem().stores() {
+        push_first_at(text, picture, y, store)?;
+    }
+    Ok(())
+}
+
+// What is said of what the first stores lose, and each of the stores.
+#[tactic(auto, using(std::proofs::Common::append_assoc), unfolding(crate::specs::Words::firsts_lines))]
+fn push_firsts_lines(text: &mut Vec<u8>, picture: &Picture, line: u32) -> Pushed
+    requires { line ≤ 16 }
+    ensures { OnOk result (text.new.items ≡ text.old.items ++ firsts_lines picture.now line) }
+{
+    let problem = picture.problem();
+    push_labelled(
+        text,
+        Style::Heading,
+        MARGIN,
+        word_line(problem, line),
+        FIRSTS,
+    )?;
+    let y = word_line(problem, line + 1);
+    push_opened(text, Style::Plain, MARGIN, y)?;
+    push_said(text, LOSE)?;
+    push_all_firsts(text, picture, y)?;
+    push_closed(text)
+}
+
+// The first line after what one window is worth.
+fn firsts_line(picture: &Picture) -> u32
+    ensures line { result ≡ firsts_line picture.now }
+    ensures most { result ≤ 16 }
+{
+    if picture.has_worth() { 16 } else { 13 }
+}
+
+// The sum and the help of a plan that loses least of the first stores too.
 #[tactic(auto, using(std::proofs::Common::append_assoc), unfolding(crate::specs::Words::words_of))]
-fn push_least_words(alloc: Global, text: &mut Vec<u8>, picture: &Picture, loss: u64) -> Pushed
-    ensures { OnOk result (text.new.items ≡ text.old.items ++ words_of picture.now (Least loss)) }
+fn push_in_order_words(alloc: Global, text: &mut Vec<u8>, picture: &Picture, loss: u64) -> Pushed
+    ensures { OnOk result (text.new.items ≡ text.old.items ++ words_of picture.now (LeastInOrder loss)) }
 {
     if loss == 0 {
         return Ok(());
     }
+    push_least_words(alloc, text, picture, loss)?;
+    push_firsts_lines(text, picture, firsts_line(picture))
+}
+
+// The sum and the help of a plan that loses least.
+#[tactic(auto, using(std::proofs::Common::append_assoc), unfolding(crate::specs::Words::least_words))]
+fn push_least_words(alloc: Global, text: &mut Vec<u8>, picture: &Picture, loss: u64) -> Pushed
+    ensures { OnOk result (text.new.items ≡ text.old.items ++ least_words picture.now loss) }
+{
     let mut bound = Vec::new(alloc);
     push_grouped(&mut bound, loss)?;
     push_why(alloc, text, picture, bound.as_slice())?;
-    push_help(text, picture)
+    push_help(text, picture)?;
+    push_worth_words(text, picture, 13)
 }
 
 // The sum where the cut does not show that no plan loses fewer.
+#[tactic(auto, using(std::proofs::Common::append_assoc))]
 fn push_other_words(alloc: Global, text: &mut Vec<u8>, picture: &Picture, bound: i64) -> Pushed
-    ensures { OnOk result (text.new.items ≡ text.old.items ++ why picture.now (signed_grouped bound)) }
+    ensures { OnOk result (text.new.items ≡ text.old.items ++ (why picture.now (signed_grouped bound) ++ worth_words picture.now 7)) }
 {
     let mut number = Vec::new(alloc);
     push_signed_grouped(&mut number, bound)?;
-    push_why(alloc, text, picture, number.as_slice())
+    push_why(alloc, text, picture, number.as_slice())?;
+    push_worth_words(text, picture, 7)
 }
 
 /// Writes why no plan loses fewer than the cut's bound, and what may help.
@@ -216,20 +309,26 @@ pub(crate) fn push_words(alloc: Global, text: &mut Vec<u8>, picture: &Picture) -
     ensures { OnOk result (text.new.items ≡ text.old.items ++ words picture.now) }
 {
     match picture.verdict() {
+        Verdict::Least(0) => Ok(()),
         Verdict::Least(loss) => push_least_words(alloc, text, picture, loss),
+        Verdict::LeastInOrder(loss) => push_in_order_words(alloc, text, picture, loss),
         Verdict::NotShown { bound, .. } => push_other_words(alloc, text, picture, bound),
         _ => Ok(()),
     }
 }
 
 /// How many lines the words have room for.
-pub(crate) fn word_lines(verdict: Verdict) -> u32
-    ensures lines { result ≡ word_lines verdict }
-    ensures most { result ≤ 13 }
+pub(crate) fn word_lines(picture: &Picture) -> u32
+    ensures lines { result ≡ word_lines picture.now picture.now.verdict }
+    ensures most { result ≤ 19 }
 {
-    match verdict {
-        Verdict::Least(0) => 0,
+    let has_worth = picture.has_worth();
+    match picture.verdict() {
+        Verdict::Least(0) | Verdict::LeastInOrder(0) => 0,
+        Verdict::LeastInOrder(_) => firsts_line(picture) + 3,
+        Verdict::Least(_) if has_worth => 15,
         Verdict::Least(_) => 13,
+        Verdict::NotShown { .. } if has_worth => 9,
         Verdict::NotShown { .. } => 6,
         _ => 0,
     }

@@ -169,10 +169,8 @@ fn certificates(
     Ok(firsts)
 }
 
-/// A dump plan that serves the stores in the setup's order, and leaves no window idle that a store could use: of the first store, of the first
-/// two and so on no plan that fits loses less, and so it loses least of all. For each of these a cut shows it. Which of several such plans and
-/// cuts it is stays open.
-pub fn plan_in_order(alloc: Global, problem: &Problem) -> Result<InOrder, NoMemory>
+/// What `plan_in_order` answers, found by the network of the problem alone. It takes longer.
+pub fn plan_in_order_by_flow(alloc: Global, problem: &Problem) -> Result<InOrder, NoMemory>
     ensures shows_least { IfOk result (λ all. ShowsLeast problem.now
         all.planned.plan all.planned.cut.items all.planned.by_channels.items all.planned.loss) }
     ensures shows_in_order { IfOk result

@@ -6,7 +6,8 @@ ghost use Rattle.mm_plan.specs.Sheet.{IsSheet, IsShapedFor};
 ghost use Rattle.mm_planner.specs.Planned.{ShowsLeast};
 ghost use Rattle.mm_planner.specs.PlanTexts.{SheetShowsInOrder};
 
-use crate::in_order::{InOrder, plan_in_order};
+use crate::in_order::InOrder;
+use crate::ordered::plan_in_order;
 use crate::planner::{Planned, plan};
 use mm_base::NoMemory;
 use mm_cut::cuts_are_few;

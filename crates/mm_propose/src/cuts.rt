@@ -54,8 +54,8 @@ fn stores_reached(spans: &[Span]) -> StoreSet {
     reached
 }
 
-/// The stretches of the cut.
-pub(crate) fn stretches_of(
+// The stretches of the cut.
+fn stretches_of(
     alloc: Global,
     problem: &Problem,
     spans: &[Span],
@@ -75,8 +75,8 @@ fn is_by_channels(nodes: NodeSet) -> bool {
     !nodes.has(Node::PASS) && !nodes.stores_in().both(nodes.stores_out()).is_empty()
 }
 
-/// The steps of the cut that are counted by channels.
-pub(crate) fn counts_of(alloc: Global, spans: &[Span]) -> Result<Vec<u32>, NoMemory> {
+// The steps of the cut that are counted by channels.
+fn counts_of(alloc: Global, spans: &[Span]) -> Result<Vec<u32>, NoMemory> {
     let mut counts = Vec::new(alloc);
     for span in spans.iter() {
         if is_by_channels(span.found.nodes()) {
@@ -84,4 +84,23 @@ pub(crate) fn counts_of(alloc: Global, spans: &[Span]) -> Result<Vec<u32>, NoMem
         }
     }
     Ok(counts)
+}
+
+/// A cut with the steps that it counts by channels. Nothing is known of it.
+#[derive(Debug, Drop)]
+pub struct ProposedCut {
+    pub stretches: Vec<Stretch>,
+    pub by_channels: Vec<u32>,
+}
+
+/// The cut that the last search says.
+pub(crate) fn cut_of(
+    alloc: Global,
+    problem: &Problem,
+    spans: &[Span],
+) -> Result<ProposedCut, NoMemory> {
+    Ok(ProposedCut {
+        stretches: stretches_of(alloc, problem, spans)?,
+        by_channels: counts_of(alloc, spans)?,
+    })
 }

@@ -3,7 +3,7 @@ ghost use Rattle.std.specs.Prelude.{◌≤◌, length, IfOk};
 ghost use Rattle.mm_plan.specs.Table.{HasShape};
 
 use crate::arcs::Arcs;
-use crate::cuts::{counts_of, stretches_of};
+use crate::cuts::{ProposedCut, cut_of};
 use crate::greedy::dump_by_next_overflow;
 use crate::moves::{Walks, move_lost};
 use crate::search::search;
@@ -43,8 +43,8 @@ fn write_span(plan: &mut Plan, problem: &Problem, span: &Span)
     }
 }
 
-// The plan that the spans say.
-fn plan_of(alloc: Global, problem: &Problem, spans: &[Span]) -> Result<Plan, NoMemory>
+/// The plan that the spans say.
+pub(crate) fn plan_of(alloc: Global, problem: &Problem, spans: &[Span]) -> Result<Plan, NoMemory>
     ensures { IfOk result (HasShape problem.now) }
 {
     let mut plan = Plan::zero(alloc, problem)?;
@@ -54,8 +54,8 @@ fn plan_of(alloc: Global, problem: &Problem, spans: &[Span]) -> Result<Plan, NoM
     Ok(plan)
 }
 
-// Looks at which arcs of each span bear blocks.
-fn look_at_arcs(stores: &Stores, spans: &mut [Span]) {
+/// Looks at which arcs of each span bear blocks.
+pub(crate) fn look_at_arcs(stores: &Stores, spans: &mut [Span]) {
     for span in spans.iter_mut() {
         let arcs = Arcs::of(stores, &span.table);
         span.arcs = arcs;
@@ -65,10 +65,11 @@ fn look_at_arcs(stores: &Stores, spans: &mut [Span]) {
 // Moves lost blocks as long as a search finds where to. The last search finds what the cut is made of. Where nothing is lost,
 // there is nothing to move.
 fn improve(alloc: Global, stores: &Stores, spans: &mut [Span]) -> Result<(), NoMemory> {
-    let mut walks = Walks::new(alloc);
+    let all = stores.first(stores.count());
+    let mut walks = Walks::new(alloc, all);
     look_at_arcs(stores, spans);
     for _ in 0..SEARCHES {
-        search(stores, spans);
+        search(stores, spans, all);
         if !move_lost(stores, spans, &mut walks)? {
             break;
         }
@@ -86,9 +87,14 @@ pub fn propose(alloc: Global, problem: &Problem) -> Result<Proposal, NoMemory>
     if dump_by_next_overflow(&stores, spans.as_mut_slice()) {
         improve(alloc, &stores, spans.as_mut_slice())?;
     }
+    let plan = plan_of(alloc, problem, spans.as_slice())?;
+    let ProposedCut {
+        stretches: cut,
+        by_channels,
+    } = cut_of(alloc, problem, spans.as_slice())?;
     Ok(Proposal {
-        plan: plan_of(alloc, problem, spans.as_slice())?,
-        cut: stretches_of(alloc, problem, spans.as_slice())?,
-        by_channels: counts_of(alloc, spans.as_slice())?,
+        plan,
+        cut,
+        by_channels,
     })
 }

@@ -104,7 +104,7 @@ fn shown_by_fields(rt: &impl Abort, alloc: Global, picture: &Picture) -> String 
     let sheet = read_sheet(alloc, problem, FIRST_RUN.as_bytes()).expect(rt, "a plan");
     let volumes = simulate(alloc, problem, sheet.plan()).expect(rt, "memory");
     let shown = format!(in alloc;
-        "Picture {{ problem: {problem:?}, sheet: {sheet:?}, verdict: {verdict:?}, volumes: {volumes:?}, shades: [Shade {{ store: 0, channel: 0, first: 1, last: 3 }}] }}"
+        "Picture {{ problem: {problem:?}, sheet: {sheet:?}, verdict: {verdict:?}, volumes: {volumes:?}, worth: None, shades: [Shade {{ store: 0, channel: 0, first: 1, last: 3 }}] }}"
     );
     shown.expect(rt, "memory")
 }

@@ -1,6 +1,6 @@
 use Rattle.std.proofs.Common.{◌≤◌, length, arith}
 use Rattle.mm_planner.proofs.Certified.{last_at, last_shows_least}
-use Rattle.mm_planner.proofs.in_order.plan_in_order.Goals as goal
+use Rattle.mm_planner.proofs.in_order.plan_in_order_by_flow.Goals as goal
 
 pub returns-clause-shows_least : goal.returns-clause-shows_least
 returns-clause-shows_least c =
