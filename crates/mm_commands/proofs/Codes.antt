@@ -44,9 +44,9 @@ code-done old new words before after (Err e) code is failed does zero = absurd (
 -- an answer that tells a refusal is no text for a file
 refused-kept : (old new : Contents) (task : Task) (status : Status) (text : List ℕ) (before after : Option (List ℕ)) → status ≢ Done
     → AnswersTask old task status text → Gives (output_of task) text old new before after → new ≡ old
-refused-kept old new (Plan setup forecast output) status text before after other answers given = absurd (other answers.0)
+refused-kept old new (Plan setup forecast in_order output) status text before after other answers given = absurd (other answers.0)
 refused-kept old new (Check names) status text before after other answers given = given.0
-refused-kept old new (Chart names output) status text before after other answers given = absurd (other answers.0)
+refused-kept old new (Chart names worth output) status text before after other answers given = absurd (other answers.0)
 refused-kept old new (Table names output) status text before after other answers given = absurd (other answers.0)
 refused-kept old new (Sensitivity setup forecast) status text before after other answers given = absurd (other answers.0)
 refused-kept old new (Fly names) status text before after other answers given = given.0

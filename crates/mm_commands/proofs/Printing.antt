@@ -50,9 +50,9 @@ no-bad-run (ended.Stopped cause) e = absurd (cc)
 
 -- what answers a task is no bad command line
 no-bad-answer : (contents : Contents) (task : Task) (text : List ℕ) → AnswersTask contents task BadCommandLine text → ⊥
-no-bad-answer contents (Plan setup forecast output) text answers = absurd (let is = answers.0 in cc)
+no-bad-answer contents (Plan setup forecast in_order output) text answers = absurd (let is = answers.0 in cc)
 no-bad-answer contents (Check names) text (s, hs, (f, hf, (p, hp, judges))) = no-bad-verdict judges.verdict judges.status_is
-no-bad-answer contents (Chart names output) text answers = absurd (let is = answers.0 in cc)
+no-bad-answer contents (Chart names worth output) text answers = absurd (let is = answers.0 in cc)
 no-bad-answer contents (Table names output) text answers = absurd (let is = answers.0 in cc)
 no-bad-answer contents (Sensitivity setup forecast) text answers = absurd (let is = answers.0 in cc)
 no-bad-answer contents (Fly names) text flown = no-bad-run flown.printed.outcome flown.status_is

@@ -1,14 +1,14 @@
 -- What answers a task, by what its files hold.
-use Rattle.std.specs.Prelude.{◌≡◌, ◌≢◌, ℕ, List, Option, Some, None, IfSome}
+use Rattle.std.specs.Prelude.{◌≡◌, ◌≢◌, ℕ, Bool, true, false, List, Option, Some, None, IfSome}
 use Rattle.std.specs.Borrow.{Bor}
 use Rattle.std.specs.Io.KnownBytes.{Appends}
 use Rattle.mm_cut.specs.declared.verdict.Verdict.{Verdict}
-use Rattle.mm_cut.specs.declared.verdict.Verdict.TheVariants.{Least}
-use Rattle.mm_cut.specs.Checking.{Checks, LosesLeast}
+use Rattle.mm_cut.specs.declared.verdict.Verdict.TheVariants.{Least, LeastInOrder}
+use Rattle.mm_cut.specs.Checking.{Checks, LosesLeast, LosesLeastInOrder}
 use Rattle.mm_cut.specs.Lines.{line_of}
-use Rattle.mm_chart.specs.Charts.{Charts}
+use Rattle.mm_chart.specs.Charts.{Charts, WorthCharts}
 use Rattle.mm_chart.specs.Table.{IsTableOf}
-use Rattle.mm_planner.specs.PlanTexts.{PlansLeast}
+use Rattle.mm_planner.specs.PlanTexts.{PlansLeast, PlansLeastInOrder}
 use Rattle.mm_ask.specs.declared.answering.Outcome.{Outcome as Replied}
 use Rattle.mm_ask.specs.declared.answering.Outcome.TheVariants as replied
 use Rattle.mm_ask.specs.Asking.{Answers}
@@ -62,21 +62,36 @@ pub record HoldsTexts (contents : Contents) (names : FileNames) (texts : TaskTex
 
 -- ---- `plan`
 
+-- the text plans least, in the order of the stores where that is asked
+abbrev pub PlansText : Bool → List ℕ → List ℕ → List ℕ → Type 0
+PlansText true = PlansLeastInOrder
+PlansText false = PlansLeast
+
 -- a plan text that loses least is printed
-abbrev pub Plans : Contents → List ℕ → List ℕ → List ℕ → Type 0
-Plans contents setup forecast text = Of contents setup (λ s. Of contents forecast (λ f. PlansLeast s f text))
+abbrev pub Plans : Contents → Bool → List ℕ → List ℕ → List ℕ → Type 0
+Plans contents in_order setup forecast text = Of contents setup (λ s. Of contents forecast (λ f. PlansText in_order s f text))
+
+-- ---- `chart`
+
+-- the text is the chart of the plan, with what each window is worth where that is asked
+abbrev pub DrawsPlan : Bool → List ℕ → List ℕ → List ℕ → List ℕ → Type 0
+DrawsPlan true = WorthCharts
+DrawsPlan false = Charts
 
 -- ---- `check`
 
 abbrev pub status_of : Verdict → Status
 status_of (Least n) = Done
+status_of (LeastInOrder n) = Done
 status_of verdict = Refused
 
--- the line is that of the verdict on the plan, which is `Least` only where no plan that fits loses fewer blocks
+-- the line is that of the verdict on the plan, which is `Least` only where no plan that fits loses fewer blocks, and `LeastInOrder` only
+-- where none loses fewer of the first stores either
 pub record Judges (status : Status) (line setup forecast plan : List ℕ) : Type 0 where
   pub verdict : Verdict
   pub checks : Checks setup forecast plan verdict
   pub least : (n : ℕ) → verdict ≡ Least n → LosesLeast setup forecast plan n
+  pub in_order : (n : ℕ) → verdict ≡ LeastInOrder n → LosesLeastInOrder setup forecast plan n
   pub line_is : line ≡ line_of verdict
   pub status_is : status ≡ status_of verdict
 
@@ -142,9 +157,9 @@ pub record Flown (contents : Contents) (names : FlightFiles) (status : Status) (
 
 -- the task is done, or the answer says what is not well: this text answers it, and the run of the program ends in this status
 abbrev pub AnswersTask : Contents → Task → Status → List ℕ → Type 0
-AnswersTask contents (Plan setup forecast output) status text = (status ≡ Done) × Plans contents setup.now forecast.now text
+AnswersTask contents (Plan setup forecast in_order output) status text = (status ≡ Done) × Plans contents in_order setup.now forecast.now text
 AnswersTask contents (Check names) status text = OfPlan contents names (Judges status text)
-AnswersTask contents (Chart names output) status text = (status ≡ Done) × OfPlan contents names (λ setup forecast plan. Charts setup forecast plan text)
+AnswersTask contents (Chart names worth output) status text = (status ≡ Done) × OfPlan contents names (λ setup forecast plan. DrawsPlan worth setup forecast plan text)
 AnswersTask contents (Table names output) status text = (status ≡ Done) × OfPlan contents names (λ setup forecast plan. IsTableOf setup forecast plan text)
 AnswersTask contents (Sensitivity setup forecast) status text = (status ≡ Done) × Of contents setup.now (λ s. Of contents forecast.now (λ f. IsWorthTable s f text))
 AnswersTask contents (Fly names) status text = Flown contents names status text

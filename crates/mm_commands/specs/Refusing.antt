@@ -61,10 +61,10 @@ IsUnread contents names fault = ⊥
 abbrev pub IsFaultOf : Contents → Task → Fault → Type 0
 IsFaultOf contents task NoMemory = Unit {0}
 IsFaultOf contents task (NotRead name obstacle) = IsUnread contents (files_of task) (NotRead name obstacle)
-IsFaultOf contents (Plan setup forecast output) (Texts e) =
+IsFaultOf contents (Plan setup forecast in_order output) (Texts e) =
     e ≢ check.NoMemory → Of contents setup.now (λ s. Of contents forecast.now (λ f. IsPlanningFault s f e))
 IsFaultOf contents (Check names) (Texts e) = e ≢ check.NoMemory → OfPlan contents names (λ s f p. IsCheckFault s f p e)
-IsFaultOf contents (Chart names output) (Texts e) = e ≢ check.NoMemory → OfPlan contents names (λ s f p. IsCheckFault s f p e)
+IsFaultOf contents (Chart names worth output) (Texts e) = e ≢ check.NoMemory → OfPlan contents names (λ s f p. IsCheckFault s f p e)
 IsFaultOf contents (Table names output) (Texts e) = e ≢ check.NoMemory → OfPlan contents names (λ s f p. IsCheckFault s f p e)
 IsFaultOf contents (Sensitivity setup forecast) (Texts e) =
     e ≢ check.NoMemory → Of contents setup.now (λ s. Of contents forecast.now (λ f. IsPlanningFault s f e))

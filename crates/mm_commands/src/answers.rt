@@ -5,18 +5,21 @@ ghost use Rattle.mm_base.specs.Reading.{IfRefused};
 ghost use Rattle.mm_command_line.specs.Lines.{output_of};
 ghost use Rattle.mm_command_line.specs.Names.{names_in};
 ghost use Rattle.mm_run.specs.declared.fault.Fault.TheVariants as flight_fault;
+ghost use Rattle.mm_cut.specs.Checking.{IsFaultOf as IsCheckFault};
+ghost use Rattle.mm_cut.specs.declared.fault.Fault.TheVariants as cut_fault;
+ghost use Rattle.mm_planner.specs.PlanTexts.{IsPlanningFault};
 ghost use Rattle.mm_commands.specs.Contents.{Contents};
-ghost use Rattle.mm_commands.specs.Answers.{FliesBytes, HoldsTexts, IsAnswerTo, given_plan, output_in, status_in, status_of, status_of_replies};
+ghost use Rattle.mm_commands.specs.Answers.{DrawsPlan, FliesBytes, HoldsTexts, IsAnswerTo, PlansText, given_plan, output_in, status_in, status_of, status_of_replies};
 ghost use Rattle.mm_commands.specs.Refusing.{IsFlightFault, IsFaultOf};
 
 use crate::fault::Fault;
 use crate::status::Status;
 use crate::texts::TaskTexts;
 use mm_ask::{Outcome, Replies, ask_bytes, read_bytes};
-use mm_chart::{chart_bytes, table_bytes};
+use mm_chart::{chart_bytes, table_bytes, worth_chart_bytes};
 use mm_command_line::{FlightFiles, Task};
 use mm_cut::{Verdict, check_bytes};
-use mm_planner::plan_bytes;
+use mm_planner::{plan_bytes, plan_in_order_bytes};
 use mm_run::{Printed, RunTexts, run_texts};
 use mm_sensitivity::sensitivity_bytes;
 use std::alloc::Global;
@@ -47,7 +50,7 @@ fn status_of(verdict: Verdict) -> Status
     ensures { result ≡ status_of verdict }
 {
     match verdict {
-        Verdict::Least(_) => Status::Done,
+        Verdict::Least(_) | Verdict::LeastInOrder(_) => Status::Done,
         _ => Status::Refused,
     }
 }
@@ -76,6 +79,32 @@ impl Answer<'_> {
                 mm_run::Outcome::Unreported | mm_run::Outcome::Stopped(_) => Status::Refused,
             },
         }
+    }
+}
+
+// The text of a plan, which serves the stores in order where that is asked.
+fn plan_text(alloc: Global, in_order: bool, texts: &TaskTexts) -> Result<Vec<u8>, mm_cut::Fault>
+    ensures plans { IfOk result (λ text. PlansText in_order texts.now.setup.items texts.now.forecast.items text.items) }
+    ensures refused { IfRefused cut_fault.NoMemory result (IsPlanningFault texts.now.setup.items texts.now.forecast.items) }
+{
+    if in_order {
+        plan_in_order_bytes(alloc, &texts.setup, &texts.forecast)
+    } else {
+        plan_bytes(alloc, &texts.setup, &texts.forecast)
+    }
+}
+
+// The chart of a plan, with what each window is worth where that is asked.
+fn chart_text(alloc: Global, worth: bool, texts: &TaskTexts) -> Result<Vec<u8>, mm_cut::Fault>
+    ensures charts { IfOk result (λ text. DrawsPlan worth
+        texts.now.setup.items texts.now.forecast.items texts.now.plan.items text.items) }
+    ensures refused { IfRefused cut_fault.NoMemory result (IsCheckFault
+        texts.now.setup.items texts.now.forecast.items texts.now.plan.items) }
+{
+    if worth {
+        worth_chart_bytes(alloc, &texts.setup, &texts.forecast, &texts.plan)
+    } else {
+        chart_bytes(alloc, &texts.setup, &texts.forecast, &texts.plan)
     }
 }
 
@@ -123,16 +152,18 @@ pub(crate) fn answer_to<'a, R: Threads + Wait + Sync>(
     ensures refused { (contents : Contents) → HoldsTexts contents (names_in task.entry) texts.now → IfErr result (IsFaultOf contents task.entry) }
 {
     match task {
-        Task::Plan { output, .. } => {
-            let text = plan_bytes(alloc, &texts.setup, &texts.forecast)?;
+        Task::Plan {
+            in_order, output, ..
+        } => {
+            let text = plan_text(alloc, in_order, texts)?;
             Ok(Answer::Text { text, output })
         }
         Task::Check(_) => {
             let (verdict, line) = check_bytes(alloc, &texts.setup, &texts.forecast, &texts.plan)?;
             Ok(Answer::Line { verdict, line })
         }
-        Task::Chart { output, .. } => {
-            let text = chart_bytes(alloc, &texts.setup, &texts.forecast, &texts.plan)?;
+        Task::Chart { worth, output, .. } => {
+            let text = chart_text(alloc, worth, texts)?;
             Ok(Answer::Text { text, output })
         }
         Task::Table { output, .. } => {

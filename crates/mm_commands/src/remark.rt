@@ -21,7 +21,8 @@ use std::io::{self, Write};
 const PLAN_MISPLACED: &str =
     "the files are in another order; name the setup first, then the forecast, then the plan";
 
-/// What is said of a verdict that is not `Least`. It is shown in one line: the file of the plan with the place in it, and the words.
+/// What is said of a verdict that is neither `Least` nor `LeastInOrder`. It is shown in one line: the file of the plan with the place in it,
+/// and the words.
 #[derive(Clone, Copy)]
 pub(crate) struct Remark<'a> {
     plan: &'a str,
@@ -30,7 +31,7 @@ pub(crate) struct Remark<'a> {
 }
 
 impl<'a> Remark<'a> {
-    /// What is said of the verdict, where it is on a plan in a file and not `Least`.
+    /// What is said of the verdict, where it is on a plan in a file and has words.
     pub(crate) fn of(task: Task<'a>, verdict: Verdict) -> Option<Remark<'a>> {
         Some(Remark {
             plan: task.file(Role::Plan)?,
@@ -47,6 +48,7 @@ impl fmt::Display for Remark<'_> {
             Verdict::DoesNotFit(step) => write!(f, ", step {step}")?,
             Verdict::BadStretch(place) => write!(f, ", stretch {place}")?,
             Verdict::BadCount(place) => write!(f, ", count {place}")?,
+            Verdict::FirstNotShown(stores) => write!(f, ", first {stores}")?,
             _ => {}
         }
         write!(f, ": {}", self.words)
@@ -174,7 +176,7 @@ fn tell_stop<E: Write>(
     tell_hint(hint, err)
 }
 
-// Says what a verdict means that is not `Least`.
+// Says what a verdict means that is neither `Least` nor `LeastInOrder`.
 fn tell_verdict<E: Write>(
     alloc: Global,
     task: Task<'_>,
@@ -296,8 +298,8 @@ fn tell_refused<E: Write>(
     }
 }
 
-/// Says more of an answer: what it means where something is refused, a verdict is not `Least`, or a run did not begin or was halted; and of a
-/// task that is done, what in its files has no effect.
+/// Says more of an answer: what it means where something is refused, a verdict is neither `Least` nor `LeastInOrder`, or a run did not begin
+/// or was halted; and of a task that is done, what in its files has no effect.
 pub(crate) fn tell_more<E: Write>(
     alloc: Global,
     task: Task<'_>,

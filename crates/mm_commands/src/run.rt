@@ -10,7 +10,7 @@ use crate::script::{ScriptFiles, first_line};
 use crate::status::{Status, Unwritten};
 use crate::tasks::{self, do_task};
 use clap::error::ErrorKind;
-use mm_command_line::{VERSION, asks_version, has_misplaced_output, parse};
+use mm_command_line::{VERSION, asks_version, has_misplaced_flag, has_misplaced_output, parse};
 use std::alloc::{AllocError, Global};
 use std::convert::AsStr;
 use std::io::{self, Write};
@@ -20,6 +20,12 @@ use std::thread::Threads;
 // What is said of an output that is not read as one.
 const OUTPUT_MISPLACED: &str = "\
 error: --output FILE stands last, as two words, after the files of plan, chart or table, and with no -- before it
+
+For more information, try '--help'.";
+
+// What is said of a flag of a task that is not read as one.
+const FLAG_MISPLACED: &str = "\
+error: --in-order stands right after plan, and --worth right after chart
 
 For more information, try '--help'.";
 
@@ -53,6 +59,15 @@ pub fn run_words<R: Threads + Wait + Sync, S: AsStr, F: Files, W: Write, E: Writ
     }
 }
 
+// What is said of words in which an option of a task stands where none is read.
+fn misplaced<S: AsStr>(kind: ErrorKind, words: &[S]) -> Option<&'static str> {
+    match kind {
+        ErrorKind::UnknownArgument if has_misplaced_flag(words) => Some(FLAG_MISPLACED),
+        ErrorKind::UnknownArgument if has_misplaced_output(words) => Some(OUTPUT_MISPLACED),
+        _ => None,
+    }
+}
+
 // Says what is wrong with words that spell no task, or the help that they ask for.
 fn refuse_bad_words<S: AsStr, E: Write>(
     error: &clap::Error,
@@ -61,10 +76,9 @@ fn refuse_bad_words<S: AsStr, E: Write>(
 ) -> Result<Status, Unwritten>
     ensures status { IfOk result (λ status. status ≡ BadCommandLine) }
 {
-    let said = if error.kind() == ErrorKind::UnknownArgument && has_misplaced_output(words) {
-        writeln!(err, "{OUTPUT_MISPLACED}")
-    } else {
-        write!(err, "{error}")
+    let said = match misplaced(error.kind(), words) {
+        Some(misplaced) => writeln!(err, "{misplaced}"),
+        None => write!(err, "{error}"),
     };
     said.map_err(|_| Unwritten::Messages)?;
     Ok(Status::BadCommandLine)
@@ -83,7 +97,7 @@ fn end<E: Write>(run: Result<Status, Unwritten>, err: &mut E) -> u8
 }
 
 /// Runs the program on its words, as `run_words` does. The exit status is 0 where the task is done or the version is told, 1
-/// where something is refused, a verdict is not `Least` or a write failed, and 2 for a bad command line or a call for help.
+/// where something is refused, a verdict is neither `Least` nor `LeastInOrder` or a write failed, and 2 for a bad command line or a call for help.
 /// Where `out` could not be written, a line on `err` says so.
 pub fn run_tool<R: Threads + Wait + Sync, S: AsStr, F: Files, W: Write, E: Write>(
     rt: &R,

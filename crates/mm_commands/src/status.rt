@@ -6,7 +6,7 @@ ghost use Rattle.mm_commands.specs.Statuses.{exit_code};
 #[derive(Clone, Copy)]
 pub enum Status {
     Done,
-    /// Something is refused, a verdict is not `Least`, a run was halted, or a write failed.
+    /// Something is refused, a verdict is neither `Least` nor `LeastInOrder`, a run was halted, or a write failed.
     Refused,
     /// The command line is invalid, or help was asked for.
     BadCommandLine,

@@ -189,7 +189,7 @@ fn do_with<R: Threads + Wait + Sync, F: Files, W: Write, E: Write>(
 
 /// Does a task. What answers it goes to `out`, or into the file of the task's output, and nothing of it to `out` then. The line that says why
 /// a task is refused goes to `out`; what is said of an answer or of a refusal goes to `err`. The status is `Done` where the task is done,
-/// and `Refused` where something is refused, a verdict is not `Least`, or a run was halted. The error says what could not be written. No file
+/// and `Refused` where something is refused, a verdict is neither `Least` nor `LeastInOrder`, or a run was halted. The error says what could not be written. No file
 /// is changed but that of the output of a task that is done.
 pub fn do_task<R: Threads + Wait + Sync, F: Files, W: Write, E: Write>(
     rt: &R,

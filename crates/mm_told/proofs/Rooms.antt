@@ -1,17 +1,17 @@
 -- How long a plan text is at most.
-use Rattle.std.proofs.Common.{◌≡◌, ℕ, zero, suc, ◌+◌, ◌*◌, ◌<◌, ◌≤◌, ◌^◌, ℤ, Bool, true, false, List, [], ◌∷◌, ◌++◌, length, map, take, drop, codes, decimal, refl, arith, length-append, length-take}
+use Rattle.std.proofs.Common.{◌≡◌, ℕ, zero, suc, ◌+◌, ◌*◌, ◌<◌, ◌≤◌, ◌^◌, ℤ, Bool, true, false, Option, Some, None, unwrap_or, ap, ◌∙◌, List, [], ◌∷◌, ◌++◌, length, map, take, drop, codes, decimal, refl, arith, length-append, length-take}
 use Rattle.std.specs.Prelude.{All, FitsSigned}
 use Rattle.std.specs.Fmt.{signed_decimal}
 use Rattle.std.specs.Int.{w64}
 use Rattle.std.specs.Int.Signed.{mag}
 use Rattle.std.specs.List.{join_with_byte}
-use Rattle.std.proofs.lemmas.List.{map-append}
+use Rattle.std.proofs.lemmas.List.{append-nil, map-append}
 use Rattle.std.proofs.lemmas.List.Elements.{All-head, All-tail, All-take, All-drop}
 use Rattle.std.proofs.lemmas.Fmt.{length-decimal-le, length_signed_le}
 use Rattle.mm_base.specs.Characters.{line_feed, space}
 use Rattle.mm_base.specs.declared.limits.TheConstants.{MAX_STORES, MAX_STEPS, MAX_BLOCKS}
 use Rattle.mm_base.specs.Id.{IsIdField, id_text}
-use Rattle.mm_plan.specs.Sheet.{SheetRows, Line, title_line, stores_line, dump_line, loss_line, stretch_line, count_line, bound_line, end_line, words, line_text, dump_lines, has_counts, lines_of, sheet_text, IsWritten, IsSheet}
+use Rattle.mm_plan.specs.Sheet.{CertificateRows, SheetRows, Line, title_line, stores_line, dump_line, loss_line, stretch_line, count_line, bound_line, end_line, words, line_text, dump_lines, form_by, form_of, has_counts, own, certificates_of, certificate_lines, first_lines, lines_of, sheet_text, IsWritten, IsSheet}
 use Rattle.mm_plan.specs.declared.stretch.Stretch.{Stretch}
 use Rattle.mm_told.specs.declared.room.TheConstants.{PLAN_ROOM}
 
@@ -87,10 +87,11 @@ line-below : (line : Line) (x : List ℕ) (xs : List (List ℕ)) → words line 
 unfolding line_text
 line-below line x xs is = rw is (join-below space x xs)
 
-title-most : (b : Bool) → length (line_text (title_line b)) ≤ 8
+title-most : (firsts : Option (List CertificateRows)) (b : Bool) → length (line_text (title_line (form_by firsts b))) ≤ 8
 unfolding line_text
-title-most true = omega arith
-title-most false = omega arith
+title-most None true = omega arith
+title-most None false = omega arith
+title-most (Some firsts) b = omega arith
 
 end-most : length (line_text end_line) ≤ 3
 unfolding line_text
@@ -173,44 +174,54 @@ unfolding sheet_text cost total
 sheet-cost s =
     omega (arith, join-most line_feed (map line_text (lines_of s) ++ [] ∷ []), total-append (map line_text (lines_of s)) ([] ∷ []))
 
-costs-add : (a b c d e f g : List Line)
-    → cost (a ++ b ++ c ++ d ++ e ++ f ++ g) ≡ cost a + cost b + cost c + cost d + cost e + cost f + cost g
-costs-add a b c d e f g = simp cost-append
+costs-add : (a b c d : List Line) → cost (a ++ b ++ c ++ d) ≡ cost a + cost b + cost c + cost d
+costs-add a b c d = simp cost-append
+
+-- where a sheet has no certificates of the first stores, only that of all stores takes room
+own-cost : (s : SheetRows) → s.firsts ≡ None → cost (first_lines 0 (certificates_of s)) ≡ cost (certificate_lines (own s))
+own-cost s plain = ap (λ firsts. cost (first_lines 0 (own s ∷ unwrap_or firsts []))) plain ∙ ap cost (append-nil (certificate_lines (own s)))
 
 -- one line
 one-cost : (x : Line) (m : ℕ) → length (line_text x) ≤ m → cost (x ∷ []) ≤ m + 1
 unfolding cost total
 one-cost x m most = omega (arith, most)
 
-title-cost : (b : Bool) (ids : List (List ℕ)) → length ids ≤ MAX_STORES → All IsIdField ids → cost (title_line b ∷ stores_line ids ∷ []) ≤ 160
+title-cost : (firsts : Option (List CertificateRows)) (b : Bool) (ids : List (List ℕ)) → length ids ≤ MAX_STORES → All IsIdField ids
+    → cost (title_line (form_by firsts b) ∷ stores_line ids ∷ []) ≤ 160
 unfolding cost total
-title-cost b ids few each = omega (arith, title-most b, stores-most ids few each)
+title-cost firsts b ids few each = omega (arith, title-most firsts b, stores-most ids few each)
 
 few-steps : (s : SheetRows) → IsSheet s → 1 + s.plan.steps ≤ MAX_STEPS + 1
 few-steps s sheet = omega (arith, sheet.steps)
 
--- a plan text fits
-pub plan_text_fits : (s : SheetRows) → IsSheet s → length (sheet_text s) ≤ PLAN_ROOM
-unfolding sheet_text lines_of
-plan_text_fits s sheet =
-    let title : List Line = title_line (has_counts s) ∷ stores_line s.stores ∷ [] in
-    let dumps : List Line = dump_lines s.plan.stores 1 s.plan.steps s.plan.amounts in
+-- the certificate of all stores
+certificate-cost : (s : SheetRows) → IsSheet s → cost (certificate_lines (own s)) ≤ length s.cut * 39 + length s.by_channels * 26 + 53
+unfolding certificate_lines
+certificate-cost s sheet =
     let loss : List Line = loss_line s.loss ∷ [] in
     let stretches : List Line = map stretch_line s.cut in
     let counts : List Line = map count_line s.by_channels in
     let bound : List Line = bound_line s.bound ∷ [] in
-    let last : List Line = end_line ∷ [] in
-    let whole : length (sheet_text s) ≤ cost (lines_of s) + 1 = sheet-cost s in
-    let costs : cost (lines_of s) ≡ cost title + cost dumps + cost loss + cost stretches + cost counts + cost bound + cost last =
-    costs-add title dumps loss stretches counts bound last in
-    let titles : cost title ≤ 160 = title-cost (has_counts s) s.stores (omega (arith, sheet.plan.few, sheet.same_stores)) sheet.each_store in
-    let rows : cost dumps ≤ s.plan.steps * 137 =
-    dumps-most s.plan.stores 1 s.plan.steps s.plan.amounts sheet.plan.few (few-steps s sheet) sheet.plan.each in
     let losses : cost loss ≤ 26 = one-cost (loss_line s.loss) 25 (loss-most s.loss sheet.loss) in
     let cuts : cost stretches ≤ length s.cut * 39 =
     each-most stretch_line IsWritten 39 (λ d written. omega (arith, stretch-most d written)) s.cut sheet.each_stretch in
     let counted : cost counts ≤ length s.by_channels * 26 =
     each-most count_line (λ t. t < 2 ^ 32) 26 (λ t fits. omega (arith, count-most t fits)) s.by_channels sheet.each_count in
     let bounds : cost bound ≤ 27 = one-cost (bound_line s.bound) 26 (bound-most s.bound sheet.bound) in
+    omega (arith, costs-add loss stretches counts bound, losses, cuts, counted, bounds)
+
+-- a plan text that says nothing of the first stores fits
+pub plan_text_fits : (s : SheetRows) → IsSheet s → s.firsts ≡ None → length (sheet_text s) ≤ PLAN_ROOM
+unfolding sheet_text lines_of
+plan_text_fits s sheet plain =
+    let title : List Line = title_line (form_of s) ∷ stores_line s.stores ∷ [] in
+    let dumps : List Line = dump_lines s.plan.stores 1 s.plan.steps s.plan.amounts in
+    let last : List Line = end_line ∷ [] in
+    let whole : length (sheet_text s) ≤ cost (lines_of s) + 1 = sheet-cost s in
+    let costs : cost (lines_of s) ≡ cost title + cost dumps + cost (first_lines 0 (certificates_of s)) + cost last =
+    costs-add title dumps (first_lines 0 (certificates_of s)) last in
+    let titles : cost title ≤ 160 = title-cost s.firsts (has_counts s) s.stores (omega (arith, sheet.plan.few, sheet.same_stores)) sheet.each_store in
+    let rows : cost dumps ≤ s.plan.steps * 137 =
+    dumps-most s.plan.stores 1 s.plan.steps s.plan.amounts sheet.plan.few (few-steps s sheet) sheet.plan.each in
     let ends : cost last ≤ 4 = one-cost end_line 3 end-most in
-    omega (arith, whole, costs, titles, rows, losses, cuts, counted, bounds, ends, sheet.steps, sheet.cut, sheet.counts)
+    omega (arith, whole, costs, titles, rows, own-cost s plain, certificate-cost s sheet, ends, sheet.steps, sheet.cut, sheet.counts)

@@ -1,7 +1,7 @@
 -- A verdict, as codes and numbers.
 use Rattle.std.specs.Prelude.{ℕ, ℤ, pos}
 use Rattle.mm_cut.specs.declared.verdict.Verdict.{Verdict}
-use Rattle.mm_cut.specs.declared.verdict.Verdict.TheVariants.{DoesNotFit, LossIs, BadStretch, BadCount, BoundIs, NotShown, Least}
+use Rattle.mm_cut.specs.declared.verdict.Verdict.TheVariants.{DoesNotFit, LossIs, BadStretch, BadCount, BoundIs, NotShown, FirstNotShown, Least, LeastInOrder}
 use Rattle.mm_told.specs.declared.verdict.VerdictKind.{VerdictKind}
 use Rattle.mm_told.specs.declared.verdict.VerdictKind.TheVariants as kind
 use Rattle.mm_told.specs.declared.verdict.VerdictTold.{VerdictTold}
@@ -16,6 +16,8 @@ code_of_kind kind.BadStretch = 4
 code_of_kind kind.BadCount = 5
 code_of_kind kind.BoundIs = 6
 code_of_kind kind.NotShown = 7
+code_of_kind kind.LeastInOrder = 8
+code_of_kind kind.FirstNotShown = 9
 
 -- what is told by a kind and these numbers
 abbrev pub told_by : VerdictKind → ℕ → ℕ → ℤ → VerdictTold
@@ -34,3 +36,5 @@ told_of (BadStretch place) = told_by kind.BadStretch place 0 (pos 0)
 told_of (BadCount place) = told_by kind.BadCount place 0 (pos 0)
 told_of (BoundIs bound) = told_by kind.BoundIs 0 0 bound
 told_of (NotShown loss bound) = told_by kind.NotShown 0 loss bound
+told_of (LeastInOrder loss) = told_by kind.LeastInOrder 0 loss (pos 0)
+told_of (FirstNotShown stores) = told_by kind.FirstNotShown stores 0 (pos 0)

@@ -6,7 +6,7 @@ use crate::words::Words;
 use mm_cut::Verdict;
 
 impl Words {
-    /// The words of a verdict, but of `Least`, which wants nothing.
+    /// The words of a verdict, but of `Least` and `LeastInOrder`, which want nothing.
     #[must_use]
     pub fn of_verdict(verdict: Verdict) -> Option<Words>
         ensures expected { IfSome result (λ words. IsTrue (is_phrase words.expected.now)) }
@@ -37,7 +37,11 @@ impl Words {
                 expected: "a cut whose bound is the loss of the plan",
                 advice: "plan again; this plan fits, and loses at most the difference more than the best",
             }),
-            Verdict::Least(_) => None,
+            Verdict::FirstNotShown(_) => Some(Words {
+                expected: "a cut of that many of the first stores whose bound is what they lose",
+                advice: "plan again with --in-order; this plan fits, and loses least in all",
+            }),
+            Verdict::Least(_) | Verdict::LeastInOrder(_) => None,
         }
     }
 }

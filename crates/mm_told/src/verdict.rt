@@ -16,6 +16,8 @@ pub enum VerdictKind {
     BadCount,
     BoundIs,
     NotShown,
+    LeastInOrder,
+    FirstNotShown,
 }
 
 impl VerdictKind {
@@ -29,7 +31,7 @@ impl VerdictKind {
 }
 
 /// A verdict. `kind` is the code of a `VerdictKind`, and says which of the further fields say something; the others are 0. Losses and
-/// bounds are in blocks; `place` is a step, or the place of a stretch or of a counted step, from 1.
+/// bounds are in blocks; `place` is a step, or the place of a stretch or of a counted step, from 1, or a number of first stores.
 #[repr(C)]
 #[derive(Clone, Copy)]
 pub struct VerdictTold {
@@ -73,7 +75,11 @@ impl VerdictTold {
             Verdict::NotShown { loss, bound } => {
                 VerdictTold::new(VerdictKind::NotShown, 0, loss, bound)
             }
+            Verdict::FirstNotShown(stores) => {
+                VerdictTold::new(VerdictKind::FirstNotShown, stores, 0, 0)
+            }
             Verdict::Least(loss) => VerdictTold::new(VerdictKind::Least, 0, loss, 0),
+            Verdict::LeastInOrder(loss) => VerdictTold::new(VerdictKind::LeastInOrder, 0, loss, 0),
         }
     }
 }
