@@ -8,6 +8,7 @@ mod failing;
 mod failing_system;
 mod flying;
 mod hinting;
+mod in_order;
 mod inputs;
 mod planning;
 mod reading;

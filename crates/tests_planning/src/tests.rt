@@ -3,6 +3,7 @@
 mod charts;
 mod cuts;
 mod flows;
+mod in_order;
 mod planners;
 mod plans;
 mod problems;

@@ -64,7 +64,7 @@ static ADVICE: [(&str, &str); 21] = [
         "F, row 1: expected the number of the next step, where the first is 1; number the records 1, 2, 3 and so on\n",
     ),
     (
-        "check S F P\n=== S\n[[store]]\nid = \"A\"\nsize = 1\ntype = \"bounded\"\nchannel = 0\n=== F\nstep,window,A\n1,0,0\n=== P\nmmplan 3\n",
+        "check S F P\n=== S\n[[store]]\nid = \"A\"\nsize = 1\ntype = \"bounded\"\nchannel = 0\n=== F\nstep,window,A\n1,0,0\n=== P\nmmplan 4\n",
         "P, line 1: expected the line that a plan text has there, with a line feed at its end; compare it with the table 'Plan text' of docs/FORMATS.md, or plan again\n",
     ),
     (

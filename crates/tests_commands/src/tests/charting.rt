@@ -21,7 +21,7 @@ static CHARTS: [(&str, &str, bool); 2] = [
 ];
 
 // Whether a text is one document of this format.
-fn is_document(text: &str) -> bool {
+pub(crate) fn is_document(text: &str) -> bool {
     text.starts_with("<svg xmlns='http://www.w3.org/2000/svg' version='1.1'")
         && text.ends_with("</svg>\n")
 }

@@ -74,8 +74,10 @@ where
 }
 
 // Tasks whose text is stored, each with the file and with one that is not left over. A file that is not there yet is made.
-static STORED: [(&str, &str, &str); 4] = [
+static STORED: [(&str, &str, &str); 6] = [
     ("chart @/S @/F @/P", "OLD", "OLD.new1"),
+    ("chart --worth @/S @/F @/P", "OLD", "OLD.new1"),
+    ("plan --in-order @/S @/F", "OLD", "OLD.new1"),
     ("table @/S @/F @/P", "OLD", "OLD.new1"),
     ("plan @/S @/F", "NEW", "NEW.new2"),
     ("plan @/S @/F", "OLD", "OLD.new1"),

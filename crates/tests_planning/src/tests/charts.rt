@@ -184,7 +184,7 @@ fn a_forged_text_has_the_headline_of_its_verdict(rt: HostRuntime) {
 pub(crate) static FAULTY: [(&str, &str, &str, &str); 4] = [
     ("store = 1", "", "", "28 SetupField row 0 name store"),
     (SCI, "step,window,HK\n1,2,3\n", "", "30 Header"),
-    (SCI, THREE_STEPS, "mmplan 3\n", "34 PlanText line 1"),
+    (SCI, THREE_STEPS, "mmplan 4\n", "34 PlanText line 1"),
     (A_LIMITED, TWO_STEPS_OF_A, FIRST_RUN, "35 Shape"),
 ];
 

@@ -9,7 +9,7 @@ use mm_problem::Problem;
 use std::alloc::Global;
 use std::process::Abort;
 
-mod sheets;
+pub(crate) mod sheets;
 
 const SCI_LIMITED_TO_3: &str =
     "[[store]]\nid = \"SCI\"\nsize = 5\ntype = \"bounded\"\nchannel = 0\n\n[[limit]]\nchannel = 0\nblocks = 3\n";

@@ -41,7 +41,7 @@ macro_rules! counted {
 
 mod flows;
 mod paths;
-mod proposals;
+pub(crate) mod proposals;
 mod sides;
 
 // What a planned dump loses: its plan fits, and its cut shows that no plan loses less.
@@ -160,15 +160,15 @@ macro_rules! beside_b {
     };
 }
 
-static STORES: [&str; 6] = beside_b! { 1 0, 1 1, 2 0, 2 1, 3 0, 3 1, };
+pub(crate) static STORES: [&str; 6] = beside_b! { 1 0, 1 1, 2 0, 2 1, 3 0, 3 1, };
 
-static LIMITS: [&str; 3] = [
+pub(crate) static LIMITS: [&str; 3] = [
     "",
     "[[limit]]\nchannel = 0\nblocks = 0\n",
     "[[limit]]\nchannel = 0\nblocks = 1\n",
 ];
 
-static FORECASTS: [&str; 5] = [
+pub(crate) static FORECASTS: [&str; 5] = [
     "step,window,A,B\n1,2,3,1\n2,1,0,2\n3,2,2,2\n",
     "step,window,A,B\n1,0,2,2\n2,3,1,0\n3,1,3,3\n",
     "step,window,A,B\n1,3,0,4\n2,0,4,0\n3,2,1,1\n",

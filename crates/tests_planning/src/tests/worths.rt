@@ -45,7 +45,7 @@ fn a_window_is_worth_3_and_then_nothing(rt: HostRuntime) {
 
 /// The numbers that a problem is made of.
 #[derive(Drop)]
-struct Numbers {
+pub(crate) struct Numbers {
     rows: Vec<StoreRow>,
     limits: Vec<LimitRow>,
     windows: Vec<u32>,
@@ -59,7 +59,13 @@ static NAMES: [&str; 3] = ["A", "B", "C"];
 
 impl Numbers {
     // Numbers of so many stores and steps, none larger than a few blocks.
-    fn made(rt: &impl Abort, alloc: Global, state: &mut u32, stores: u32, steps: u32) -> Numbers {
+    pub(crate) fn made(
+        rt: &impl Abort,
+        alloc: Global,
+        state: &mut u32,
+        stores: u32,
+        steps: u32,
+    ) -> Numbers {
         let mut rows = Vec::new(alloc);
         for name in NAMES.iter().take(stores as usize) {
             let size = next_below(state, 4).saturating_add(1);
@@ -116,7 +122,7 @@ impl Numbers {
         }
     }
 
-    fn problem(&self, rt: &impl Abort, alloc: Global) -> Problem {
+    pub(crate) fn problem(&self, rt: &impl Abort, alloc: Global) -> Problem {
         let (rows, limits) = (self.rows.as_slice(), self.limits.as_slice());
         let (windows, arrivals) = (self.windows.as_slice(), self.arrivals.as_slice());
         let problem = Problem::new(alloc, rows, limits, windows, arrivals).expect(rt, "a problem");

@@ -30,7 +30,7 @@ const REFUSED: Run = Run {
 static RUNS_REFUSED: [Run; 14] = [
     Run {
         example: "no plan text, a packet cut short and a hundred links",
-        plan: "mmplan 3\n",
+        plan: "mmplan 4\n",
         sources: &["1 3 08\n"],
         links: "links 100",
         prints: "refused 34 PlanText line 1\n",

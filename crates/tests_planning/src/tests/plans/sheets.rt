@@ -14,7 +14,7 @@ fn line_of(alloc: Global, text: &[u8]) -> u32 {
 }
 
 // The text is refused with this line; 0 where it is a sheet's.
-fn is_refused(rt: &impl Abort, alloc: Global, text: &[u8], line: u32) {
+pub(crate) fn is_refused(rt: &impl Abort, alloc: Global, text: &[u8], line: u32) {
     assert!(rt; line_of(alloc, text) == line, "line {line}");
 }
 
@@ -52,7 +52,7 @@ fn is_printed(rt: &impl Abort, alloc: Global, sheet: &Sheet, printed: &str) {
 }
 
 // The text is a sheet's, and the sheet is printed as this one.
-fn read_and_printed(rt: &impl Abort, alloc: Global, text: &str, printed: &str) {
+pub(crate) fn read_and_printed(rt: &impl Abort, alloc: Global, text: &str, printed: &str) {
     let sheet = sheet_of(rt, alloc, text);
     is_printed(rt, alloc, &sheet, printed);
 }
@@ -145,7 +145,7 @@ static REFUSED: [(&[u8], u32); 52] = [
         b"\xEF\xBB\xBFmmplan 1\nstores A\ndump 1 0\nloss 0\nbound 0\nend\n",
         1,
     ),
-    (b"mmplan 3\nstores A\ndump 1 0\nloss 0\nbound 0\nend\n", 1),
+    (b"mmplan 4\nstores A\ndump 1 0\nloss 0\nbound 0\nend\n", 1),
     (b"mmplan\nstores A\ndump 1 0\nloss 0\nbound 0\nend\n", 1),
     (b"mmplan 01\nstores A\ndump 1 0\nloss 0\nbound 0\nend\n", 1),
     (b" mmplan 1\nstores A\ndump 1 0\nloss 0\nbound 0\nend\n", 1),
@@ -239,7 +239,7 @@ static REFUSED: [(&[u8], u32); 52] = [
 ];
 
 // Each text is refused with its line.
-fn are_refused(rt: &impl Abort, alloc: Global, rows: &[(&[u8], u32)]) {
+pub(crate) fn are_refused(rt: &impl Abort, alloc: Global, rows: &[(&[u8], u32)]) {
     for (text, line) in rows {
         is_refused(rt, alloc, text, *line);
     }
@@ -262,7 +262,7 @@ fn line_feeds(text: &[u8]) -> u32 {
 }
 
 // Each proper prefix is refused with the line on which it ends.
-fn prefixes_refused(rt: &impl Abort, alloc: Global, text: &[u8]) {
+pub(crate) fn prefixes_refused(rt: &impl Abort, alloc: Global, text: &[u8]) {
     for len in 0..text.len() {
         let prefix = &text[..len];
         let last = line_feeds(prefix).saturating_add(1);

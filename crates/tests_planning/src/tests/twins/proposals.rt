@@ -13,11 +13,15 @@ use std::process::Abort;
 
 /// Numbers by SplitMix64 (Steele, Lea and Flood, 2014).
 #[derive(Drop)]
-struct Numbers {
+pub(crate) struct Numbers {
     state: u64,
 }
 
 impl Numbers {
+    pub(crate) fn seeded(state: u64) -> Numbers {
+        Numbers { state }
+    }
+
     // 64 bits.
     fn bits(&mut self) -> u64 {
         self.state = self.state.wrapping_add(0x9e37_79b9_7f4a_7c15);
@@ -35,12 +39,12 @@ impl Numbers {
     }
 
     // A number from the least on, up to which there are so many more.
-    fn from(&mut self, least: u32, more: u32) -> u32 {
+    pub(crate) fn from(&mut self, least: u32, more: u32) -> u32 {
         least.saturating_add(self.upto(more))
     }
 
     // One to four channels, most often four.
-    fn channels(&mut self) -> u32 {
+    pub(crate) fn channels(&mut self) -> u32 {
         4u32.saturating_sub(self.upto(5).saturating_sub(2))
     }
 
@@ -52,7 +56,7 @@ impl Numbers {
 
 /// What problems of one kind have in common. The chances are of eight.
 #[derive(Clone, Copy)]
-struct Family {
+pub(crate) struct Family {
     name: &'static str,
     /// The least size of a store, and by how much it may be more.
     size: u32,
@@ -88,7 +92,7 @@ macro_rules! families {
     };
 }
 
-static FAMILIES: [Family; 8] = families! {
+pub(crate) static FAMILIES: [Family; 8] = families! {
     "bursts": 300 + 300, 7 300 in 4, 7 of 4 + 6;
     "waves": 5000 + 40000, 8 10000 in 16, 7 of 5 + 5;
     "showers": 75 + 300, 4 300 in 1, 8 of 6 + 4;
@@ -120,10 +124,10 @@ impl Family {
 
 /// How many stores and steps a problem has, and on how many channels the stores stand.
 #[derive(Clone, Copy)]
-struct Shape {
-    stores: u32,
-    steps: u32,
-    channels: u32,
+pub(crate) struct Shape {
+    pub(crate) stores: u32,
+    pub(crate) steps: u32,
+    pub(crate) channels: u32,
 }
 
 // Stores on any of the channels.
@@ -222,7 +226,7 @@ fn made_arrivals(
 }
 
 // A problem of a family.
-fn made_problem(
+pub(crate) fn made_problem(
     rt: &impl Abort,
     alloc: Global,
     family: &Family,
@@ -307,7 +311,7 @@ fn is_the_same(
 }
 
 // The same problem with limits of each step for channels 0 and 2: up to twice the window.
-fn limited_by_step(
+pub(crate) fn limited_by_step(
     rt: &impl Abort,
     alloc: Global,
     problem: &Problem,
@@ -326,7 +330,7 @@ fn limited_by_step(
 
 #[test]
 fn proposals_with_limits_by_step_are_those_of_the_plain_form(rt: HostRuntime) {
-    let mut numbers = Numbers { state: 227 };
+    let mut numbers = Numbers::seeded(227);
     let mut tally = Tally::NONE;
     for _ in 0..10u32 {
         for family in &FAMILIES {
@@ -345,7 +349,7 @@ fn proposals_with_limits_by_step_are_those_of_the_plain_form(rt: HostRuntime) {
 
 #[test]
 fn proposals_are_those_of_the_plain_form(rt: HostRuntime) {
-    let mut numbers = Numbers { state: 223 };
+    let mut numbers = Numbers::seeded(223);
     let mut tally = Tally::NONE;
     for _ in 0..40u32 {
         for family in &FAMILIES {
@@ -367,7 +371,7 @@ static STEPS: [u32; 10] = [63, 64, 65, 127, 128, 129, 192, 193, 255, 256];
 
 #[test]
 fn long_proposals_are_those_of_the_plain_form(rt: HostRuntime) {
-    let mut numbers = Numbers { state: 223 };
+    let mut numbers = Numbers::seeded(223);
     let mut tally = Tally::NONE;
     for (number, family) in FAMILIES.iter().enumerate() {
         for (place, steps) in STEPS.iter().enumerate() {

@@ -1,0 +1,224 @@
+//! Plans that serve the stores in the setup's order: a problem that is worked by hand, and what the checker says of changed texts.
+ghost use Rattle.mm_plan.specs.Table.{HasShape};
+
+use crate::tests::samples::{FIRST_RUN, SCI, THREE_STEPS, problem_of};
+use mm_cut::{Verdict, check_bytes};
+use mm_plan::{Plan, first_loss};
+use mm_planner::{plan_in_order, plan_in_order_bytes, print_plan_in_order};
+use mm_problem::Problem;
+use std::alloc::Global;
+use std::process::Abort;
+
+mod sheets;
+mod twins;
+
+const THREE_STORES: &str =
+    "[[store]]\nid = \"HK\"\nsize = 6\ntype = \"bounded\"\nchannel = 0\n[[store]]\nid = \"SCI\"\nsize = 8\ntype = \"bounded\"\nchannel = 0\n[[store]]\nid = \"CAM\"\nsize = 10\ntype = \"bounded\"\nchannel = 1\n";
+
+const EIGHT_STEPS: &str =
+    "step,window,HK,SCI,CAM\n1,0,2,2,0\n2,0,2,2,6\n3,0,2,2,0\n4,10,2,2,0\n5,0,2,2,0\n6,0,2,2,6\n7,10,2,2,0\n8,0,2,2,6\n";
+
+// Of the 4 * 2 blocks that come to HK in steps 1 to 4 it holds 6, and no window is open before step 4: 2 are lost. It loses no more only
+// where step 4 empties it. Then 4 blocks of SCI leave in step 4. Of the 7 * 2 + 7 * 2 blocks that come to both in steps 1 to 7 they hold
+// 6 + 8, and the window of step 4 takes 10: 4 are lost. Of the 6 + 6 blocks that come to CAM in steps 2 and 6 it holds 10, and for the
+// three stores that is 28 + 12 - 14 - 10 - 10 = 6. What comes in step 8 fits where step 7 sends 2, 2 and 6 blocks, which fill its window.
+// So there is one such plan.
+const FRONT: &str =
+    "mmplan 3\nstores HK SCI CAM\ndump 1 0 0 0\ndump 2 0 0 0\ndump 3 0 0 0\ndump 4 6 4 0\ndump 5 0 0 0\ndump 6 0 0 0\ndump 7 2 2 6\ndump 8 0 0 0\nloss 6\n";
+
+// The plan, with cuts of these sums.
+pub(crate) const THREE_IN_ORDER: &str =
+    "mmplan 3\nstores HK SCI CAM\ndump 1 0 0 0\ndump 2 0 0 0\ndump 3 0 0 0\ndump 4 6 4 0\ndump 5 0 0 0\ndump 6 0 0 0\ndump 7 2 2 6\ndump 8 0 0 0\nloss 6\nstretch HK 1 7\nstretch SCI 1 7\nstretch CAM 1 6\nbound 6\nfirst 1\nloss 2\nstretch HK 1 4\nbound 2\nfirst 2\nloss 4\nstretch HK 1 7\nstretch SCI 1 7\nbound 4\nend\n";
+
+static LOSSES: [u64; 3] = [2, 4, 6];
+
+// The first store, the first two and so on lose this.
+fn firsts_lose(rt: &impl Abort, problem: &Problem, plan: &Plan)
+    requires { HasShape problem.now plan.now }
+{
+    for (place, loss) in LOSSES.iter().enumerate() {
+        assert!(rt; place < problem.stores());
+        assert!(rt; first_loss(problem, plan, place + 1) == *loss, "{place}");
+    }
+}
+
+// The plan in order loses what is counted by hand.
+fn loses_in_order(rt: &impl Abort, alloc: Global, problem: &Problem) {
+    let all = plan_in_order(alloc, problem).expect(rt, "memory");
+    let planned = &all.planned;
+    assert!(rt; (planned.loss, all.firsts.len()) == (6, 2));
+    assert!(rt; planned.plan.has_shape(problem));
+    firsts_lose(rt, problem, &planned.plan);
+}
+
+#[test]
+fn three_stores_are_served_in_order(rt: HostRuntime) {
+    let problem = problem_of(&rt, rt.alloc(), THREE_STORES, EIGHT_STEPS);
+    loses_in_order(&rt, rt.alloc(), &problem);
+}
+
+// The checker says this of a plan text.
+fn is_judged(
+    rt: &impl Abort,
+    alloc: Global,
+    texts: (&str, &str),
+    plan: &[u8],
+    wanted: Verdict,
+    name: &str,
+) {
+    let checked = check_bytes(alloc, texts.0.as_bytes(), texts.1.as_bytes(), plan);
+    let (verdict, _line) = checked.expect(rt, name);
+    assert!(rt; verdict == wanted, "{name}: {verdict:?}");
+}
+
+#[test]
+fn the_printed_plan_is_least_in_order(rt: HostRuntime) {
+    let problem = problem_of(&rt, rt.alloc(), THREE_STORES, EIGHT_STEPS);
+    let printed = print_plan_in_order(rt.alloc(), &problem).expect(&rt, "memory");
+    let text = printed.text.as_slice();
+    assert!(&rt; text.starts_with(FRONT.as_bytes()));
+    let texts = (THREE_STORES, EIGHT_STEPS);
+    let least = Verdict::LeastInOrder(6);
+    is_judged(&rt, rt.alloc(), texts, text, least, "the printed plan");
+}
+
+// Its one plan and its one cut are those of the plan without order.
+const ONE_STORE_IN_ORDER: &str =
+    "mmplan 3\nstores SCI\ndump 1 2\ndump 2 2\ndump 3 0\nloss 2\nstretch SCI 1 3\nbound 2\nend\n";
+
+#[test]
+fn the_plan_of_one_store_has_no_part(rt: HostRuntime) {
+    let (setup, forecast) = (SCI.as_bytes(), THREE_STEPS.as_bytes());
+    let text = plan_in_order_bytes(rt.alloc(), setup, forecast).expect(&rt, "a plan");
+    assert!(&rt; text.as_slice() == ONE_STORE_IN_ORDER.as_bytes());
+}
+
+// A store with a limit of 1 before another one. In step 1 one block of A leaves by the limit, and it holds 3 of 2 + 3: 2 are lost. All of B
+// leaves in step 1. The window of 5 would count too much.
+const A_LIMITED_AND_B: &str =
+    "[[store]]\nid = \"A\"\nsize = 3\ntype = \"bounded\"\nchannel = 0\n[[store]]\nid = \"B\"\nsize = 3\ntype = \"bounded\"\nchannel = 1\n[[limit]]\nchannel = 0\nblocks = 1\n";
+
+const TWO_STEPS_OF_BOTH: &str = "step,window,A,B\n1,5,3,3\n2,0,3,3\n";
+
+pub(crate) const COUNTS_IN_ORDER: &str =
+    "mmplan 3\nstores A B\ndump 1 1 3\ndump 2 0 0\nloss 2\nstretch A 1 2\ncount 1 channels\nbound 2\nfirst 1\nloss 2\nstretch A 1 2\ncount 1 channels\nbound 2\nend\n";
+
+// Problems with a plan text each, and what is said of it.
+static JUDGED: [(&str, &str, &str, Verdict); 5] = [
+    (
+        THREE_STORES,
+        EIGHT_STEPS,
+        THREE_IN_ORDER,
+        Verdict::LeastInOrder(6),
+    ),
+    (
+        A_LIMITED_AND_B,
+        TWO_STEPS_OF_BOTH,
+        COUNTS_IN_ORDER,
+        Verdict::LeastInOrder(2),
+    ),
+    (
+        SCI,
+        THREE_STEPS,
+        ONE_STORE_IN_ORDER,
+        Verdict::LeastInOrder(2),
+    ),
+    (SCI, THREE_STEPS, FIRST_RUN, Verdict::Least(2)),
+    (
+        A_LIMITED_AND_B,
+        TWO_STEPS_OF_BOTH,
+        "mmplan 2\nstores A B\ndump 1 1 3\ndump 2 0 0\nloss 2\nstretch A 1 2\ncount 1 channels\nbound 2\nend\n",
+        Verdict::Least(2),
+    ),
+];
+
+#[test]
+fn texts_by_hand_are_judged(rt: HostRuntime) {
+    for (setup, forecast, plan, verdict) in &JUDGED {
+        let plan = plan.as_bytes();
+        is_judged(
+            &rt,
+            rt.alloc(),
+            (*setup, *forecast),
+            plan,
+            *verdict,
+            "by hand",
+        );
+    }
+}
+
+// What is changed in the text of the three stores, each with the text in its place, and what is said then.
+struct Changed {
+    name: &'static str,
+    old: &'static str,
+    new: &'static str,
+    verdict: Verdict,
+}
+
+// Changes by name.
+macro_rules! changes {
+    ($($name:literal: $old:literal to $new:literal => $verdict:expr;)+) => {
+        [$(Changed { name: $name, old: $old, new: $new, verdict: $verdict }),+]
+    };
+}
+
+static CHANGED: [Changed; 14] = changes! {
+    "the certificates of one store and of two exchanged":
+        "loss 2\nstretch HK 1 4\nbound 2\nfirst 2\nloss 4\nstretch HK 1 7\nstretch SCI 1 7\nbound 4\n" to
+        "loss 4\nstretch HK 1 7\nstretch SCI 1 7\nbound 4\nfirst 2\nloss 2\nstretch HK 1 4\nbound 2\n"
+        => Verdict::FirstNotShown(1);
+    // SCI holds the 4 * 2 blocks that come to it in steps 1 to 4, so that the bound is 2 as before
+    "a later store in the cut of the first":
+        "stretch HK 1 4\n" to "stretch HK 1 4\nstretch SCI 1 4\n" => Verdict::FirstNotShown(1);
+    // HK loses 4 then, and CAM nothing
+    "a plan that is least and serves CAM before HK":
+        "dump 4 6 4 0" to "dump 4 4 4 2" => Verdict::FirstNotShown(1);
+    "a wrong loss of one store": "loss 2\n" to "loss 3\n" => Verdict::FirstNotShown(1);
+    "a wrong loss of two stores": "loss 4\n" to "loss 5\n" => Verdict::FirstNotShown(2);
+    "a wrong bound of two stores": "bound 4\n" to "bound 5\n" => Verdict::FirstNotShown(2);
+    "a cut of two stores that shows less":
+        "loss 4\nstretch HK 1 7\nstretch SCI 1 7\nbound 4\n" to
+        "loss 4\nstretch HK 1 4\nbound 2\n" => Verdict::FirstNotShown(2);
+    "a stretch past the last step":
+        "stretch SCI 1 7\nbound 4\n" to "stretch SCI 1 9\nbound 4\n" => Verdict::FirstNotShown(2);
+    "a step without limits, counted by channels":
+        "bound 4\n" to "count 4 channels\nbound 4\n" => Verdict::FirstNotShown(2);
+    "a wrong loss of all stores": "loss 6\n" to "loss 7\n" => Verdict::LossIs(6);
+    "a wrong bound of all stores": "bound 6\n" to "bound 5\n" => Verdict::BoundIs(6);
+    "a cut of all stores that shows less":
+        "stretch CAM 1 6\nbound 6\n" to "bound 4\n" => Verdict::NotShown { loss: 6, bound: 4 };
+    "a plan that does not fit": "dump 4 6 4 0" to "dump 4 6 4 1" => Verdict::DoesNotFit(4);
+    "a wrong bound of all stores, and one of one store":
+        "bound 6\nfirst 1\nloss 2\n" to "bound 5\nfirst 1\nloss 3\n" => Verdict::BoundIs(6);
+};
+
+#[test]
+fn changed_texts_are_judged(rt: HostRuntime) {
+    for row in &CHANGED {
+        let text = THREE_IN_ORDER.replace(rt.alloc(), row.old, row.new);
+        let text = text.expect(&rt, "memory");
+        let texts = (THREE_STORES, EIGHT_STEPS);
+        is_judged(
+            &rt,
+            rt.alloc(),
+            texts,
+            text.as_bytes(),
+            row.verdict,
+            row.name,
+        );
+    }
+}
+
+// What is said of the three stores is printed in one line.
+#[test]
+fn verdicts_in_order_are_lines(rt: HostRuntime) {
+    let (setup, forecast) = (THREE_STORES.as_bytes(), EIGHT_STEPS.as_bytes());
+    let text = THREE_IN_ORDER.replace(rt.alloc(), "loss 4\n", "loss 5\n");
+    let text = text.expect(&rt, "memory");
+    let least = check_bytes(rt.alloc(), setup, forecast, THREE_IN_ORDER.as_bytes());
+    let unshown = check_bytes(rt.alloc(), setup, forecast, text.as_bytes());
+    let (_, least) = least.expect(&rt, "a verdict");
+    let (_, unshown) = unshown.expect(&rt, "a verdict");
+    assert!(&rt; least.as_slice() == b"least 6 in order\n".as_slice());
+    assert!(&rt; unshown.as_slice() == b"first 2 not shown\n".as_slice());
+}
