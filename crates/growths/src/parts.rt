@@ -7,7 +7,7 @@ use crate::requests::{created, deleted};
 use crate::runs::{ALONE, CROWD, flight, run};
 use crate::seats::desk;
 use crate::shared::shared;
-use crate::texts::{checked, planned};
+use crate::texts::{checked, checked_in_order, planned, planned_in_order};
 use std::alloc::Global;
 use std::sync::Wait;
 use std::thread::Threads;
@@ -18,7 +18,9 @@ enum Part {
     Rest,
     Later,
     PlanBytes,
+    PlanInOrder,
     CheckBytes,
+    CheckInOrder,
     Apply,
     Create,
     Seats,
@@ -30,12 +32,14 @@ enum Part {
     Fly,
 }
 
-static NAMES: [(&[u8], Part); 14] = [
+static NAMES: [(&[u8], Part); 16] = [
     (b"new", Part::New),
     (b"rest", Part::Rest),
     (b"later", Part::Later),
     (b"plan_bytes", Part::PlanBytes),
+    (b"plan_in_order", Part::PlanInOrder),
     (b"check_bytes", Part::CheckBytes),
+    (b"check_in_order", Part::CheckInOrder),
     (b"apply", Part::Apply),
     (b"create", Part::Create),
     (b"seats", Part::Seats),
@@ -67,7 +71,9 @@ pub fn part_named<R: Threads + Wait + Sync>(rt: &R, alloc: Global, name: &[u8]) 
         Part::Rest => rest(alloc),
         Part::Later => later(alloc),
         Part::PlanBytes => planned(alloc),
+        Part::PlanInOrder => planned_in_order(alloc),
         Part::CheckBytes => checked(alloc),
+        Part::CheckInOrder => checked_in_order(alloc),
         Part::Apply => deleted(alloc),
         Part::Create => created(alloc),
         Part::Seats => desk(rt, alloc),
