@@ -40,6 +40,7 @@ from .plans import Cut, Plan, Stretch, plan_octets
 from .refusals import Refusal
 from .setups import Setup, SetupLike, setup_octets
 from .variants import (
+    Change,
     Changed,
     Replaced,
     Variant,
@@ -297,9 +298,11 @@ def found_of(task: Task, variant: Variant) -> Found:
         base, changes = task.base, variant.changes
         while changes and isinstance(changes[0], Changed):
             base, changes = changes[0].base_of(base), changes[1:]
-        setup, forecast = base.setup, base.forecast
-        for change in changes:
-            setup, forecast = change.of(base, setup, forecast)
+        if base is task.base and task.dumps is None:
+            found = _found_by_joined(base, changes, task.by_store)
+            if found is not None:
+                return found
+        setup, forecast = _changed(base, changes)
         if task.dumps is not None:
             by_store = _flown(setup, forecast, task.dumps)
             return Found(sum(by_store), by_store)
@@ -307,6 +310,26 @@ def found_of(task: Task, variant: Variant) -> Found:
     except (Refusal, ValueError, TypeError, ArithmeticError, LookupError) as error:
         words = str(error) if isinstance(error, (Refusal, ValueError)) else f"{type(error).__name__}: {error}"
         return Found(None, refused=words)
+
+
+def _changed(base: Base, changes: tuple[Change, ...]) -> tuple[Setup, Forecast]:
+    """The setup and the forecast of the base with these changes."""
+    setup, forecast = base.setup, base.forecast
+    for change in changes:
+        setup, forecast = change.of(base, setup, forecast)
+    return setup, forecast
+
+
+def _found_by_joined(base: Base, changes: tuple[Change, ...], by_store: bool) -> Found | None:
+    """What is found with joined steps, where there are some, the variant is not refused with them, and no change is a function."""
+    joined = base.joined
+    if joined is None or any(isinstance(change, (Changed, Replaced)) for change in changes):
+        return None
+    try:
+        found = _planned(*_changed(joined.base, changes), by_store)
+    except (Refusal, ValueError, TypeError, ArithmeticError, LookupError):
+        return None
+    return found._replace(shown=joined.unjoined(found.shown))
 
 
 def _planned(setup: Setup, forecast: Forecast, by_store: bool) -> Found:
