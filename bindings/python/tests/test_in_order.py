@@ -79,7 +79,7 @@ class Texts(unittest.TestCase):
     def test_certificates_are_read(self):
         made = Plan(TEXT)
         self.assertEqual((made.loss, made.cut, made.firsts), (2, ALL, FIRSTS))
-        self.assertEqual(made.by_store, DUMPS)
+        self.assertEqual(made.by_store, {store: tuple(column) for store, column in DUMPS.items()})
         self.assertEqual(repr(made), "<Plan of 3 steps for A, B, C: loses 2>")
 
     def test_they_are_written(self):
