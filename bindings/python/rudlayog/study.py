@@ -311,14 +311,14 @@ def found_of(task: Task, variant: Variant) -> Found:
         while changes and isinstance(changes[0], Changed):
             base, changes = changes[0].base_of(base), changes[1:]
         if base is task.base and task.dumps is None:
-            found = _found_by_joined(base, changes, task.by_store)
+            found = _found_by_joined(task, changes)
             if found is not None:
                 return found
         setup, forecast = _changed(base, changes)
         if task.dumps is not None:
             by_store = _flown(setup, forecast, task.dumps)
             return Found(sum(by_store), by_store)
-        return _served_in_order(setup, forecast) if task.in_order else _planned(setup, forecast, task.by_store)
+        return _planned_for(task, setup, forecast)
     except (Refusal, ValueError, TypeError, ArithmeticError, LookupError) as error:
         words = str(error) if isinstance(error, (Refusal, ValueError)) else f"{type(error).__name__}: {error}"
         return Found(None, refused=words)
@@ -332,13 +332,18 @@ def _changed(base: Base, changes: tuple[Change, ...]) -> tuple[Setup, Forecast]:
     return setup, forecast
 
 
-def _found_by_joined(base: Base, changes: tuple[Change, ...], by_store: bool) -> Found | None:
+def _planned_for(task: Task, setup: Setup, forecast: Forecast) -> Found:
+    """What is found of a plan of the kind that is asked for."""
+    return _served_in_order(setup, forecast) if task.in_order else _planned(setup, forecast, task.by_store)
+
+
+def _found_by_joined(task: Task, changes: tuple[Change, ...]) -> Found | None:
     """What is found with joined steps, where there are some, the variant is not refused with them, and no change is a function."""
-    joined = base.joined
+    joined = task.base.joined
     if joined is None or any(isinstance(change, (Changed, Replaced)) for change in changes):
         return None
     try:
-        found = _planned(*_changed(joined.base, changes), by_store)
+        found = _planned_for(task, *_changed(joined.base, changes))
     except (Refusal, ValueError, TypeError, ArithmeticError, LookupError):
         return None
     return found._replace(shown=joined.unjoined(found.shown))
