@@ -19,13 +19,14 @@ with threads: start processes by `spawn`.
 from .calls import Chart, PlanTable, Replies, Verdict, Worth, ask, chart, check, plan, read, sensitivity, table, version
 from .forecasts import Forecast, ForecastLike
 from .memory import Fate, Memory, Retrieval, StoreState, Tally
-from .plans import Cut, Plan, PlanLike, Stretch
+from .plans import Certificate, Cut, Plan, PlanLike, Stretch
 from .refusals import Refusal
 from .reports import Report
 from .requests import Request
 from .setups import Limit, Route, Setup, SetupLike, Store
 
 __all__ = [
+    "Certificate",
     "Chart",
     "Cut",
     "Fate",

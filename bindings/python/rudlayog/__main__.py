@@ -30,6 +30,7 @@ options:
   --output FILE     write into FILE, and print nothing
   --step MINUTES    steps of this length; without it they go from event to event
   --horizon MINUTES plan in parts of this length (plan, passes)
+  --in-order        serve the stores in the mission's order: the first loses least, the first two together, and so on (plan, passes)
   --lost            study: each pass lost (this is done if no other variant is named)
   --sizes FACTOR    study: each store this many times as large
   --arrivals FACTOR study: all that arrives this many times as much; may be said again
@@ -56,7 +57,7 @@ def _read_words(given: list[str]) -> Namespace:
         words.add_argument(name, default=None)
     for name in ("--arrivals", "--rates"):
         words.add_argument(name, action="append", default=[])
-    for name in ("--lost", "--quiet", "--help", "-h", "--version", "-V"):
+    for name in ("--in-order", "--lost", "--quiet", "--help", "-h", "--version", "-V"):
         words.add_argument(name, action="store_true", default=False)
     found = words.parse_intermixed_args(given)
     if found.help or found.h:
@@ -109,7 +110,7 @@ def _done(words: Namespace) -> None:
     if words.command == "sensitivity":
         _put(words, mission.sensitivity(step).text())
         return
-    made = mission.plan(step, horizon)
+    made = mission.plan(step, horizon, in_order=words.in_order)
     if words.command == "plan":
         if kind == ".svg":
             _put(words, made.charts()[0])

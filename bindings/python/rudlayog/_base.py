@@ -47,6 +47,25 @@ class Rise(NamedTuple):
     is_one: bool
 
 
+class Joined(NamedTuple):
+    """A base with joined steps, and the place that each of its edges has among those of the steps that were joined."""
+
+    base: Base
+    places: list[int]
+
+    def unjoined(self, cut: str) -> str:
+        """The lines of a cut with the steps that were joined. Its bound is the same."""
+        lines = []
+        for line in cut.splitlines():
+            word, name, *ends = line.split(" ")
+            if word == "stretch":
+                first, last = map(int, ends)
+                lines.append(f"stretch {name} {self.places[first - 1] + 1} {self.places[last]}\n")
+            else:
+                lines.append(f"{word} {self.places[int(name)]} {' '.join(ends)}\n")
+        return "".join(lines)
+
+
 class Rooms(NamedTuple):
     """What a pass can send in its steps, of which `first` is the first, from 0: all together, and by the columns of limits."""
 
@@ -74,6 +93,26 @@ class Base:
         if self.mission is None:
             raise fault("", f"{what}, of a setup and a forecast", "a study of a mission")
         return self.mission
+
+    @cached_property
+    def joined(self) -> Joined | None:
+        """The base with steps joined to one that follow one another and have no pass in them. In such steps only what comes is counted, so each
+        variant loses the same, all together and by store. None where there are none, or more arrive in one than a step may have."""
+        if self.mission is None:
+            return None
+        is_used = [False] * (len(self.edges) + 1)
+        for contact in contacts_of(self.mission):
+            first, last = bisect_right(self.edges, contact.sends.begin), bisect_left(self.edges, contact.sends.end)
+            is_used[first : last + 1] = [True] * (last + 1 - first)
+        # the step before an edge, and the one after it
+        places = [place for place in range(len(self.edges)) if is_used[place] or is_used[place + 1] or place in (0, len(self.edges) - 1)]
+        if len(places) == len(self.edges):
+            return None
+        try:
+            problem = problem_of(self.mission, edges=tuple(self.edges[place] for place in places))
+        except ValueError:
+            return None
+        return Joined(Base(problem.setup, problem.forecast, self.mission, problem.edges), places)
 
     @cached_property
     def _own(self) -> dict[str, Rooms]:

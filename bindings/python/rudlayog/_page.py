@@ -60,6 +60,8 @@ def _summary(sheet: Sheet) -> list[str]:
     if all(verdicts):
         parts = f"Each of the {len(verdicts)} parts loses least from what the one before leaves."
         words.append("No plan loses fewer: the checker says least." if len(verdicts) == 1 else parts)
+        if all(verdict.kind == "least in order" for verdict in verdicts):
+            words.append("So does the first store, and so do the first two together, and so on.")
     else:
         words += [f"The checker says: {verdict.line}." for verdict in verdicts if not verdict]
     return words

@@ -18,15 +18,17 @@ from .plans import Plan, PlanLike, plan_octets, request_octets
 from .setups import Setup, SetupLike, setup_octets
 
 Made = TypeVar("Made")
-KINDS = ("", "least", "does not fit", "loss is", "bad stretch", "bad count", "bound is", "not shown")
+KINDS = ("", "least", "does not fit", "loss is", "bad stretch", "bad count", "bound is", "not shown", "least in order", "first not shown")
 PLACED = ("bad stretch", "bad count")
+LEAST = ("least", "least in order")
 
 
 @dataclass(frozen=True)
 class Verdict:
-    """A verdict on a plan: its `kind`, and its `line`. It is true where the plan loses least. `step` is the first step at which the plan
-    does not fit, `place` the place of the first bad stretch or count, from 1; `loss` and `bound` are in blocks. Each is `None` where it
-    says nothing."""
+    """A verdict on a plan: its `kind`, and its `line`. It is true where the plan loses least, and also where of its first stores it loses least
+    (`least in order`). `step` is the first step at which the plan does not fit, `place` the place of the first bad stretch or count, from 1;
+    `stores` is how many of the first stores it does not show to lose least, though all together do; `loss` and `bound` are in blocks. Each is
+    `None` where it says nothing."""
 
     kind: str
     line: str
@@ -34,9 +36,10 @@ class Verdict:
     place: int | None = None
     loss: int | None = None
     bound: int | None = None
+    stores: int | None = None
 
     def __bool__(self) -> bool:
-        return self.kind == "least"
+        return self.kind in LEAST
 
 
 @dataclass(frozen=True)
@@ -102,13 +105,15 @@ class Replies:
         return tuple(self.text.splitlines())
 
 
-def plan(setup: SetupLike, forecast: ForecastLike) -> Plan:
-    """A plan that loses least, with the cut that shows it.
+def plan(setup: SetupLike, forecast: ForecastLike, *, in_order: bool = False) -> Plan:
+    """A plan that loses least, with the cut that shows it. With `in_order` the first store of the setup loses least too, the first two together,
+    and so on, with a cut for each (`Plan.firsts`).
 
     A setup is a text (octets, a str of several lines, or a path), a `Setup`, a dict of its tables, or a table of stores. A forecast is a
     text, a `Forecast`, or a table: dicts with `window` and the stores, a dict of columns, or a data frame. Raises `Refusal`."""
     problem = texts(setup=setup, forecast=forecast)
-    return Plan._made(_library.told(_library.rudlayog_plan, texts=problem), problem)
+    call = _library.rudlayog_plan_in_order if in_order else _library.rudlayog_plan
+    return Plan._made(_library.told(call, texts=problem), problem)
 
 
 def check(setup: SetupLike, forecast: ForecastLike, plan: PlanLike) -> Verdict:
@@ -121,14 +126,17 @@ def check(setup: SetupLike, forecast: ForecastLike, plan: PlanLike) -> Verdict:
         line,
         step=told.place if kind == "does not fit" else None,
         place=told.place if kind in PLACED else None,
-        loss=told.loss if kind in ("least", "loss is", "not shown") else None,
+        loss=told.loss if kind in (*LEAST, "loss is", "not shown") else None,
         bound=told.bound if kind in ("bound is", "not shown") else None,
+        stores=told.place if kind == "first not shown" else None,
     )
 
 
-def chart(setup: SetupLike, forecast: ForecastLike, plan: PlanLike) -> Chart:
-    """The chart of a plan. Raises `Refusal`."""
-    return Chart(_library.told(_library.rudlayog_chart, texts=texts(setup=setup, forecast=forecast, plan=plan)).decode("utf-8"))
+def chart(setup: SetupLike, forecast: ForecastLike, plan: PlanLike, *, worth: bool = False) -> Chart:
+    """The chart of a plan. With `worth` its windows are shaded by what they are worth at most, which takes up to some hundred times as long.
+    Raises `Refusal`."""
+    call = _library.rudlayog_chart_worth if worth else _library.rudlayog_chart
+    return Chart(_library.told(call, texts=texts(setup=setup, forecast=forecast, plan=plan)).decode("utf-8"))
 
 
 def table(setup: SetupLike, forecast: ForecastLike, plan: PlanLike) -> PlanTable:

@@ -290,12 +290,13 @@ class Mission:
 
         return problem_of(self, None if step is None else span_of(step, "step"))
 
-    def plan(self, step: timedelta | float | None = None, horizon: timedelta | float | None = None) -> MissionPlan:
+    def plan(self, step: timedelta | float | None = None, horizon: timedelta | float | None = None, *, in_order: bool = False) -> MissionPlan:
         """A plan that loses least. With a `horizon` (a `timedelta`, or minutes) the first part, of this length, is planned, and then the next
-        one from what it leaves: each loses least by itself, and not the whole."""
+        one from what it leaves: each loses least by itself, and not the whole. With `in_order` the mission's stores are served in their order:
+        the first one loses least too, the first two together, and so on."""
         from .sheets import MissionPlan
 
-        return MissionPlan.of(self, step, None if horizon is None else span_of(horizon, "horizon"))
+        return MissionPlan.of(self, step, None if horizon is None else span_of(horizon, "horizon"), in_order)
 
     def sensitivity(self, step: timedelta | float | None = None) -> Sensitivity:
         """What each window, size and limit is worth. Raises `MissionError` where the library does not say it."""

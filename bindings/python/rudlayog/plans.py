@@ -2,7 +2,8 @@
 
 from __future__ import annotations
 
-from collections.abc import Callable
+import re
+from collections.abc import Callable, Iterable
 from dataclasses import dataclass
 from datetime import timedelta
 from functools import cached_property
@@ -44,6 +45,16 @@ class Cut:
     bound: int
 
 
+@dataclass(frozen=True)
+class Certificate:
+    """What shows that no plan that fits loses less of the first stores of a setup: how many `stores` they are, their `loss` in blocks, and a `cut`
+    of them, whose bound is the loss."""
+
+    stores: int
+    loss: int
+    cut: Cut
+
+
 class Plan:
     """A plan text. When something of it is asked for the library reads it, and raises `Refusal` where it is no plan text. A plan that `plan`
     made knows its setup and its forecast, and is shown in a notebook as its chart."""
@@ -60,20 +71,20 @@ class Plan:
         return plan
 
     @classmethod
-    def of(cls, dumps: Table, loss: SupportsIndex = 0, cut: Cut | None = None) -> Plan:
+    def of(cls, dumps: Table, loss: SupportsIndex = 0, cut: Cut | None = None, firsts: Iterable[Certificate] | None = None) -> Plan:
         """The plan with these dumps: a table with a column for each store, and a row for each step. With a column `step` the rows may stand
-        in any order. Raises `Refusal` where the steps are not 1, 2, 3 and so on. `loss` and `cut` are what the text says; `check` tells
-        whether they are right."""
+        in any order. Raises `Refusal` where the steps are not 1, 2, 3 and so on. `loss` and `cut` are what the text says, and so are the
+        certificates of the `firsts` stores, where the text is to say that stores are served in order; `check` tells whether they are right."""
         named = by_step(dumps)
         cut = cut or Cut((), (), 0)
-        lines = [f"mmplan {2 if cut.by_channels else 1}", " ".join(["stores", *named])]
+        form = 3 if firsts is not None else 2 if cut.by_channels else 1
+        lines = [f"mmplan {form}", " ".join(["stores", *named])]
         for step, amounts in enumerate(zip(*named.values(), strict=True), 1):
             lines.append(" ".join(["dump", str(step), *map(str, amounts)]))
-        lines.append(f"loss {whole(loss, 'loss')}")
-        lines += [f"stretch {stretch.store} {stretch.first} {stretch.last}" for stretch in cut.stretches]
-        lines += [f"count {step} channels" for step in cut.by_channels]
-        lines += [f"bound {whole(cut.bound, 'bound')}", "end", ""]
-        return cls("\n".join(lines).encode())
+        lines += _certificate_lines(whole(loss, "loss"), cut)
+        for first in firsts or ():
+            lines += [f"first {whole(first.stores, 'stores')}", *_certificate_lines(whole(first.loss, "loss"), first.cut)]
+        return cls("\n".join([*lines, "end", ""]).encode())
 
     def __bytes__(self) -> bytes:
         return self._octets
@@ -106,8 +117,8 @@ class Plan:
         return self._octets
 
     def _line(self, word: bytes) -> bytes:
-        """What stands after this word in the line that it begins."""
-        at = self._read.rfind(b"\n" + word) + 1 + len(word)
+        """What stands after this word in the first line that it begins."""
+        at = self._read.find(b"\n" + word) + 1 + len(word)
         return self._octets[at : self._octets.find(b"\n", at)]
 
     def _lines(self, word: str) -> list[list[str]]:
@@ -136,10 +147,20 @@ class Plan:
 
     @cached_property
     def cut(self) -> Cut:
-        """The cut that the text has."""
-        stretches = tuple(Stretch(store, int(first), int(last)) for store, first, last in self._lines("stretch "))
-        by_channels = tuple(int(step) for step, _ in self._lines("count "))
-        return Cut(stretches, by_channels, int(self._line(b"bound ")))
+        """The cut that the text has, of all stores."""
+        return self._certificates[0].cut
+
+    @cached_property
+    def firsts(self) -> tuple[Certificate, ...] | None:
+        """Where the text says that stores are served in order, the certificates of the first store, of the first two and so on, but for all."""
+        return self._certificates[1:] if self._read.startswith(b"mmplan 3\n") else None
+
+    @cached_property
+    def _certificates(self) -> tuple[Certificate, ...]:
+        """That of all stores, and then those of the first ones."""
+        tail = self._read[self._read.index(b"\nloss ") + 1 :].decode("ascii").removesuffix("end\n")
+        all_stores, *firsts = re.split(r"^first (?=\d+\n)", tail, flags=re.MULTILINE)
+        return (_certificate(f"{len(self.stores)}\n{all_stores}"), *map(_certificate, firsts))
 
     def to_dict(self) -> dict[str, list[int]]:
         """The steps and the dumps, as columns."""
@@ -168,6 +189,28 @@ class Plan:
 
         setup, forecast = self._problem
         return chart(setup, forecast, self).svg
+
+
+def _certificate(text: str) -> Certificate:
+    """The certificate that the lines say, of which the first is the number of stores."""
+    stores, *lines = text.splitlines()
+    words: dict[str, list[list[str]]] = {"loss": [], "stretch": [], "count": [], "bound": []}
+    for line in lines:
+        word, *rest = line.split(" ")
+        words[word].append(rest)
+    stretches = tuple(Stretch(store, int(first), int(last)) for store, first, last in words["stretch"])
+    by_channels = tuple(int(step) for step, _ in words["count"])
+    return Certificate(int(stores), int(words["loss"][0][0]), Cut(stretches, by_channels, int(words["bound"][0][0])))
+
+
+def _certificate_lines(loss: int, cut: Cut) -> list[str]:
+    """The lines of a loss and a cut."""
+    return [
+        f"loss {loss}",
+        *(f"stretch {stretch.store} {stretch.first} {stretch.last}" for stretch in cut.stretches),
+        *(f"count {step} channels" for step in cut.by_channels),
+        f"bound {whole(cut.bound, 'bound')}",
+    ]
 
 
 # What is taken as a plan.

@@ -140,8 +140,10 @@ class MissionPlan:
     parts: tuple[tuple[Problem, Plan], ...]
 
     @classmethod
-    def of(cls, mission: Mission, step: timedelta | float | None = None, horizon: timedelta | None = None) -> MissionPlan:
-        """The plan of a mission, in parts of this horizon if there is one."""
+    def of(
+        cls, mission: Mission, step: timedelta | float | None = None, horizon: timedelta | None = None, in_order: bool = False
+    ) -> MissionPlan:
+        """The plan of a mission, in parts of this horizon if there is one, which serves the stores in order or not."""
         parts: list[tuple[Problem, Plan]] = []
         begin = mission.begin
         while begin < mission.end:
@@ -149,7 +151,7 @@ class MissionPlan:
             left = _flown(*parts[-1])[-1].held if parts else {}
             holds = {store: Volume(Fraction(held), True) for store, held in left.items()}
             problem = mission.between(begin, end, holds).problem(step)
-            parts.append((problem, plan(problem.setup, problem.forecast)))
+            parts.append((problem, plan(problem.setup, problem.forecast, in_order=in_order)))
             begin = end
         return cls(mission, tuple(parts))
 

@@ -28,6 +28,7 @@ from dataclasses import dataclass
 from functools import partial
 from heapq import nsmallest
 from itertools import compress
+from operator import sub
 from typing import TYPE_CHECKING, Any, NamedTuple, TextIO, TypeVar, Union
 
 from . import _library
@@ -40,6 +41,7 @@ from .plans import Cut, Plan, Stretch, plan_octets
 from .refusals import Refusal
 from .setups import Setup, SetupLike, setup_octets
 from .variants import (
+    Change,
     Changed,
     Replaced,
     Variant,
@@ -64,7 +66,8 @@ __all__ = [
 ]  # fmt: skip
 
 Made = TypeVar("Made")
-_END = re.compile(rb"\nloss (\d+)\n((?:[sc].*\n)*)bound (.*)\nend\n")
+_LOSS = re.compile(rb"\nloss (\d+)\n")
+_CERTIFICATE = re.compile(rb"\nloss (\d+)\n((?:[sc].*\n)*)bound (.*)\n")
 # How many variants a worker is given at a time.
 CHUNK = 64
 Given = Union[Mission, tuple[SetupLike, ForecastLike]]
@@ -197,6 +200,7 @@ def study(
     executor: Any = None,
     *,
     by_store: bool = True,
+    in_order: bool = False,
     chunk: int = CHUNK,
     progress: bool | None = None,
 ) -> Study:
@@ -204,11 +208,11 @@ def study(
 
     Each variant is planned anew, with the least loss; or, with a `plan`, that one is flown, and where less can be sent than it says, the
     stores give way in the reverse of their order. The losses by store take longer than the plan: `by_store=False` leaves them out, but those
-    of a plan that is given. `executor` is any of `concurrent.futures`, or Dask's `Client`; without one threads of this
+    of a plan that is given. With `in_order` the stores are served in their order, and the losses by store cost nothing. `executor` is any of `concurrent.futures`, or Dask's `Client`; without one threads of this
     machine are used. Whatever executes it, the table is the same. A worker that dies costs its variants a second try. A progress bar is shown
     where standard error is a terminal; `Ctrl-C` ends the study with what is done."""
     base = _base(given)
-    task = Task(base, None if plan is None else _fixed(plan, base), by_store)
+    task = Task(base, None if plan is None else _fixed(plan, base), by_store, in_order)
     table = FoundTable(len(base.setup.stores))
     is_whole = True
     bar = Progress(variants, progress)
@@ -224,20 +228,29 @@ def study(
 
 
 def answers(
-    given: Given, variants: VariantsLike, plan: Plan | None = None, executor: Any = None, *, by_store: bool = True, chunk: int = CHUNK
+    given: Given,
+    variants: VariantsLike,
+    plan: Plan | None = None,
+    executor: Any = None,
+    *,
+    by_store: bool = True,
+    in_order: bool = False,
+    chunk: int = CHUNK,
 ) -> Iterator[tuple[int, Answer]]:
     """The answers as they are done, each with its place among the variants, from 0."""
     base = _base(given)
-    task = Task(base, None if plan is None else _fixed(plan, base), by_store)
+    task = Task(base, None if plan is None else _fixed(plan, base), by_store, in_order)
     return ((place, _answer(variant, found)) for place, variant, found in _all_found(task, variants, executor, chunk))
 
 
 class Task(NamedTuple):
-    """What is asked of each variant: the `base`, the `dumps` of a plan that stays, if there is one, and whether losses `by_store` are told."""
+    """What is asked of each variant: the `base`, the `dumps` of a plan that stays, if there is one, whether losses `by_store` are told, and
+    whether stores are served `in_order`."""
 
     base: Base
     dumps: tuple[tuple[int, ...], ...] | None = None
     by_store: bool = True
+    in_order: bool = False
 
 
 def _all_found(task: Task, variants: VariantsLike, executor: Any, chunk: int) -> Iterator[tuple[int, Variant, Found]]:
@@ -297,29 +310,70 @@ def found_of(task: Task, variant: Variant) -> Found:
         base, changes = task.base, variant.changes
         while changes and isinstance(changes[0], Changed):
             base, changes = changes[0].base_of(base), changes[1:]
-        setup, forecast = base.setup, base.forecast
-        for change in changes:
-            setup, forecast = change.of(base, setup, forecast)
+        if base is task.base and task.dumps is None:
+            found = _found_by_joined(task, changes)
+            if found is not None:
+                return found
+        setup, forecast = _changed(base, changes)
         if task.dumps is not None:
             by_store = _flown(setup, forecast, task.dumps)
             return Found(sum(by_store), by_store)
-        return _planned(setup, forecast, task.by_store)
+        return _planned_for(task, setup, forecast)
     except (Refusal, ValueError, TypeError, ArithmeticError, LookupError) as error:
         words = str(error) if isinstance(error, (Refusal, ValueError)) else f"{type(error).__name__}: {error}"
         return Found(None, refused=words)
 
 
+def _changed(base: Base, changes: tuple[Change, ...]) -> tuple[Setup, Forecast]:
+    """The setup and the forecast of the base with these changes."""
+    setup, forecast = base.setup, base.forecast
+    for change in changes:
+        setup, forecast = change.of(base, setup, forecast)
+    return setup, forecast
+
+
+def _planned_for(task: Task, setup: Setup, forecast: Forecast) -> Found:
+    """What is found of a plan of the kind that is asked for."""
+    return _served_in_order(setup, forecast) if task.in_order else _planned(setup, forecast, task.by_store)
+
+
+def _found_by_joined(task: Task, changes: tuple[Change, ...]) -> Found | None:
+    """What is found with joined steps, where there are some, the variant is not refused with them, and no change is a function."""
+    joined = task.base.joined
+    if joined is None or any(isinstance(change, (Changed, Replaced)) for change in changes):
+        return None
+    try:
+        found = _planned_for(task, *_changed(joined.base, changes))
+    except (Refusal, ValueError, TypeError, ArithmeticError, LookupError):
+        return None
+    return found._replace(shown=joined.unjoined(found.shown))
+
+
 def _planned(setup: Setup, forecast: Forecast, by_store: bool) -> Found:
     """What is found of a least plan, read from its text."""
     text = _library.told(_library.rudlayog_plan, texts=(bytes(setup), bytes(forecast)))
-    # after the dumps come the loss, the lines of the cut, the bound, and the end
     at = text.rindex(b"\nloss ")
-    loss, cut, bound = _END.fullmatch(text, at).groups()  # type: ignore[union-attr]
-    shown = cut.decode("ascii")
+    loss, shown, bound = _shown(text, at)
     lost: tuple[int, ...] = ()
     if by_store:
-        lost = _lost_by_store(setup, forecast, text[:at].decode("ascii"), shown.splitlines()) if loss != b"0" else (0,) * len(setup.stores)
-    return Found(int(loss), lost, int(bound), shown)
+        lost = _lost_by_store(setup, forecast, text[:at].decode("ascii"), shown.splitlines()) if loss else (0,) * len(setup.stores)
+    return Found(loss, lost, bound, shown)
+
+
+def _shown(text: bytes, at: int) -> tuple[int, str, int]:
+    """The loss, the lines of the cut, and the bound, which come after the dumps."""
+    loss, cut, bound = _CERTIFICATE.match(text, at).groups()  # type: ignore[union-attr]
+    return int(loss), cut.decode("ascii"), int(bound)
+
+
+def _served_in_order(setup: Setup, forecast: Forecast) -> Found:
+    """What is found of a plan that serves the stores in order. What the first ones lose up to a store, less what they lose before it, is what it
+    loses."""
+    text = _library.told(_library.rudlayog_plan_in_order, texts=(bytes(setup), bytes(forecast)))
+    at = text.index(b"\nloss ")
+    loss, shown, bound = _shown(text, at)
+    _, *firsts = map(int, _LOSS.findall(text, at))
+    return Found(loss, tuple(map(sub, [*firsts, loss], [0, *firsts])), bound, shown)
 
 
 def _lost_by_store(setup: Setup, forecast: Forecast, body: str, cut: list[str]) -> tuple[int, ...]:

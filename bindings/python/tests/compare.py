@@ -16,7 +16,13 @@ from rudlayog import Forecast, Limit, Plan, Refusal, Route, Setup, Store, ask, c
 
 EXAMPLES = Path(__file__).resolve().parents[3] / "examples"
 REQUESTS = (EXAMPLES / "requests" / "requests.hex").read_text().split("\n")
-COMMANDS = {"plan": ("setup", "forecast"), "check": ("setup", "forecast", "plan"), "chart": ("setup", "forecast", "plan"), "table": ("setup", "forecast", "plan"), "sensitivity": ("setup", "forecast"), "ask": ("setup", "requests"), "read": ("requests",)}
+PROBLEM, PLANNED = ("setup", "forecast"), ("setup", "forecast", "plan")
+COMMANDS = {
+    **dict.fromkeys(("plan", "plan --in-order", "sensitivity"), PROBLEM),
+    **dict.fromkeys(("check", "chart", "chart --worth", "table"), PLANNED),
+    "ask": ("setup", "requests"),
+    "read": ("requests",),
+}
 
 
 def setup(dice: random.Random) -> Setup:
@@ -56,7 +62,7 @@ def spoiled(dice: random.Random, text: bytes) -> bytes:
 def texts(dice: random.Random) -> dict[str, bytes]:
     good = setup(dice)
     coming = forecast(dice, good)
-    made = bytes(plan(good, coming))
+    made = bytes(plan(good, coming, in_order=dice.random() < 0.5))
     lines = [dice.choice(REQUESTS) for _ in range(dice.randint(0, 6))]
     found = {"setup": bytes(good), "forecast": bytes(coming), "plan": made, "requests": "\n".join(lines).encode()}
     return {name: spoiled(dice, text) for name, text in found.items()}
@@ -65,13 +71,13 @@ def texts(dice: random.Random) -> dict[str, bytes]:
 def answered(command: str, given: list[bytes]) -> tuple[bytes, int, str, str | None]:
     """What the package answers: as standard output, as a status, as words, and as a hint."""
     try:
-        if command == "plan":
-            return bytes(plan(*given)), 0, "", None
+        if command.startswith("plan"):
+            return bytes(plan(*given, in_order=command == "plan --in-order")), 0, "", None
         if command == "check":
             verdict = check(*given)
             return f"{verdict.line}\n".encode(), 0 if verdict else 1, "", None
-        if command == "chart":
-            return chart(*given).svg.encode(), 0, "", None
+        if command.startswith("chart"):
+            return chart(*given, worth=command == "chart --worth").svg.encode(), 0, "", None
         if command == "table":
             return table(*given).text.encode(), 0, "", None
         if command == "sensitivity":
@@ -98,7 +104,7 @@ def are_read(found: dict[str, bytes]) -> bool:
     if direct != "30 Header" and told(lambda: plan(Setup.read(setup), Forecast.read(forecast))) != direct:
         return False
     verdict = told(lambda: check(setup, forecast, made).kind)
-    again = told(lambda: Plan.of(made.to_dict(), made.loss, made.cut) == made)
+    again = told(lambda: Plan.of(made.to_dict(), made.loss, made.cut, made.firsts) == made)
     return isinstance(direct, str) or again == verdict or (again is True and not str(verdict).startswith("34"))
 
 
@@ -117,7 +123,7 @@ def main() -> int:
             names = [str(Path(room, name)) for name in COMMANDS[command]]
             for name, text in zip(names, given, strict=True):
                 Path(name).write_bytes(text)
-            ran = subprocess.run([program, command, *names], capture_output=True, check=False)
+            ran = subprocess.run([program, *command.split(" "), *names], capture_output=True, check=False)
             # of a verdict, and of a line that `ask` refuses, the program says more on standard error than the package keeps
             words = ran.stderr.decode() if ran.stdout.startswith(b"refused ") else ""
             said = words[words.index("expected ") :].split("\n", 1)[0] if words else ""

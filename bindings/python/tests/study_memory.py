@@ -1,7 +1,7 @@
 #!/usr/bin/env python3
 """Measures the memory of a study: `study_memory.py [COUNT] [MOST]`. Of a grid over the mission of the example COUNT variants (100,000) are
 answered, with their losses by store. Prints what the process holds more after them than before, beside the table as comma separated values, and
-fails where that is more than MOST octets (400) a variant."""
+fails where that is more than MOST bytes (400) a variant."""
 
 import resource
 import sys
@@ -17,7 +17,7 @@ EXAMPLE = Path(__file__).resolve().parents[3] / "examples" / "mars_week" / "miss
 
 
 def held():
-    """The most octets that the process has had."""
+    """The most bytes that the process has had."""
     return resource.getrusage(resource.RUSAGE_SELF).ru_maxrss * 1024
 
 
@@ -35,7 +35,7 @@ def main():
     found = study(mission, islice(variants(), count), progress=False)
     grown = held() - before
     assert len(found) == count and all(found._table.loss(row) is not None for row in range(count))
-    print(f"study: {count} variants in {time.perf_counter() - begin:.0f} s take {grown / 1e6:.1f} MB more, {grown / count:.0f} octets each; {before / 1e6:.1f} MB before; as text they have {len(found.text()) / count:.0f} octets each")
+    print(f"study: {count} variants in {time.perf_counter() - begin:.0f} s take {grown / 1e6:.1f} MB more, {grown / count:.0f} bytes each; {before / 1e6:.1f} MB before; as text they have {len(found.text()) / count:.0f} bytes each")
     return grown > most * count
 
 

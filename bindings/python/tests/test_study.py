@@ -13,7 +13,7 @@ from fractions import Fraction
 from pathlib import Path
 
 from made_missions import made_mission
-from rudlayog import Forecast, Setup, check, plan, table
+from rudlayog import Forecast, Plan, Setup, check, plan, table
 from rudlayog import study as studies
 from rudlayog._found import Found, FoundTable
 from rudlayog._timeline import problem_of
@@ -138,12 +138,18 @@ class Answers(unittest.TestCase):
         again = pickle.loads(pickle.dumps(study_of))
         self.assertEqual((again, repr(again)), (study_of, "<Study of 2 variants; as it is 5 blocks are lost>"))
 
-    def test_certificate(self):
-        problem = MIXED.problem()
-        (answer,) = study(MIXED, {"as it is": ()})
-        made = plan(*problem)
-        self.assertEqual((answer.loss, answer.cut), (made.loss, made.cut))
-        self.assertTrue(answer.is_least)
+    def test_certificates_are_for_the_steps_of_the_mission(self):
+        joined = 0
+        for mission in (PLAIN, MIXED, *map(made_mission, range(20))):
+            base = studies._base(mission)
+            joined += base.joined is not None
+            for variant in variants_of(mission):
+                answer = studies.answer_of(studies.Task(base), variant)
+                setup, forecast = studies._changed(base, variant.changes)
+                made = plan(setup, forecast)
+                self.assertEqual(check(setup, forecast, Plan.of(made.to_dict(), answer.loss, answer.cut)).line, f"least {made.loss}", variant.name)
+                self.assertEqual(answer.by_store, studies._planned(setup, forecast, True).by_store if sum(answer.by_store) != made.loss else answer.by_store)
+        self.assertGreater(joined, 10)
 
     def test_functions(self):
         name = PLAIN.passes[0].name

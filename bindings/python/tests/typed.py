@@ -30,6 +30,9 @@ def planned() -> tuple[int, Mapping[str, tuple[int, ...]]]:
     assert made == Plan.of(made.to_dict(), made.loss, Cut(made.cut.stretches, made.cut.by_channels, made.cut.bound))
     assert check(setup, forecast, made) and check(setup, forecast, made.to_dict()).loss == made.loss
     assert chart(setup, forecast, bytes(made)).svg == made._repr_svg_()
+    served = plan(setup, forecast, in_order=True)
+    losses: list[int] = [first.loss for first in served.firsts or ()]
+    assert len(losses) == 1 and check(setup, forecast, served).stores is None and chart(setup, forecast, served, worth=True).svg
     return made.loss, made.by_store
 
 
@@ -65,11 +68,11 @@ def flown() -> tuple[int, list[Answer]]:
         [Station("Malargue", rate=9000)],
         packet=1000,
     )
-    made = mission.plan(step=timedelta(minutes=10))
+    made = mission.plan(step=timedelta(minutes=10), in_order=True)
     rows: list[int] = [row.blocks for row in made.passes()]
     again = made.at(begin, holds={"CAM": "1 MB"}).plan(horizon=30)
     variants: list[Variant] = [*each_pass_lost(mission), *grid(size=(lambda mb: sized("CAM", mb), ["1 MB", "3 MB"])), Variant("more", (Changed(lambda other: other), scaled(1.5)))]
-    found = study(mission, variants, plan=None)
+    found = study(mission, variants, plan=None, in_order=True)
     return sum(rows) + again.loss, list(found)
 
 
