@@ -366,7 +366,7 @@ check_refusals() {
 check_findings() {
   local verdict expected advice
   findings >"$work/findings"
-  [ "$(wc -l <"$work/findings")" = 6 ] || fail "crates/mm_told/src/findings.rt: not one row of words for each verdict but the least"
+  [ "$(wc -l <"$work/findings")" = 7 ] || fail "crates/mm_told/src/findings.rt: not one row of words for each verdict but the least"
   while IFS=$'\t' read -r verdict expected advice; do
     grep -qF -- "| $expected | $advice |" "$top/docs/FORMATS.md" || fail "docs/FORMATS.md: no row has the words of mm_told for $verdict"
   done <"$work/findings"

@@ -131,13 +131,14 @@ fn refusals_are_found_by_their_numbers(rt: HostRuntime) {
     assert!(rt; Words::of_number(54).is_none(), "a number of no refusal");
 }
 
-static FINDINGS: [Verdict; 6] = [
+static FINDINGS: [Verdict; 7] = [
     Verdict::DoesNotFit(1),
     Verdict::LossIs(2),
     Verdict::BadStretch(3),
     Verdict::BadCount(4),
     Verdict::BoundIs(-5),
     Verdict::NotShown { loss: 6, bound: 5 },
+    Verdict::FirstNotShown(7),
 ];
 
 fn words_of(rt: &impl Abort, verdict: Verdict) -> Words {
@@ -158,10 +159,9 @@ fn findings_have_words_of_their_own(rt: HostRuntime) {
         have_no_full_stop(&rt, words);
         are_of_no_finding(&rt, words, &FINDINGS[..i]);
     }
-    assert!(rt;
-        Words::of_verdict(Verdict::Least(1)).is_none(),
-        "a least plan"
-    );
+    for least in [Verdict::Least(1), Verdict::LeastInOrder(1)] {
+        assert!(rt; Words::of_verdict(least).is_none(), "a least plan");
+    }
 }
 
 static SHOWN: [(Refusal, &str); 3] = refusals! {
