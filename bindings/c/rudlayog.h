@@ -402,7 +402,8 @@ void rudlayog_check(const uint8_t *setup, size_t setup_length, const uint8_t *fo
 void rudlayog_chart(const uint8_t *setup, size_t setup_length, const uint8_t *forecast, size_t forecast_length, const uint8_t *plan,
                     size_t plan_length, uint8_t *out, size_t room, struct rudlayog_answer *answer);
 
-/* The chart of a plan text with its windows shaded by what each is worth, as rudlayog_sensitivity says it. Stack: `RUDLAYOG_CHART_STACK`.
+/* The chart of a plan text with what each window is worth, as a bar above it (`most` of rudlayog_sensitivity). It takes up to some hundred
+ * times rudlayog_plan. Stack: `RUDLAYOG_CHART_STACK`.
  *
  * `RUDLAYOG_WRITTEN`, `RUDLAYOG_TOO_SMALL`, `RUDLAYOG_REFUSED`. */
 void rudlayog_chart_worth(const uint8_t *setup, size_t setup_length, const uint8_t *forecast, size_t forecast_length, const uint8_t *plan,
