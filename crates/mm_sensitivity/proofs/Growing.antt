@@ -9,7 +9,7 @@ use Rattle.std.specs.List.{position_or_len}
 use Rattle.std.specs.Str.{bytes_eq}
 use Rattle.mm_base.specs.declared.rows.StoreRow.{StoreRow}
 use Rattle.mm_base.specs.Grid.{cell, grid_place}
-use Rattle.mm_problem.specs.Dumping.{Dumping, no_row, row, size, start, channel, IsDumping, limit, lesser, setup_limit, step_limit, in_column}
+use Rattle.mm_problem.specs.Dumping.{Dumping, no_row, row, size, start, channel, IsDumping, limit, lesser, setup_limit, step_limit}
 use Rattle.mm_plan.specs.declared.stretch.Stretch.{Stretch}
 use Rattle.mm_plan.proofs.Places.{grid_place-lt}
 use Rattle.mm_cut.specs.Stretches.{store_of, channel_of, goes_past, goes_past_on, is_inner_on}

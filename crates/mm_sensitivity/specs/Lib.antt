@@ -1,3 +1,4 @@
 pub mod Items
 pub mod Worth
 pub mod Table
+pub mod Charts

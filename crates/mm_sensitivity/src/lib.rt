@@ -2,12 +2,14 @@
 #![tactic(auto)]
 
 mod base;
+mod charts;
 mod item;
 mod laws;
 mod lowering;
 mod table;
 mod worth;
 
+pub use charts::worth_chart_bytes;
 pub use item::Item;
 pub use laws::wider_windows;
 pub use mm_cut::Fault;
