@@ -1,8 +1,8 @@
 -- What the calls tell, by the definitions of the crates that answer.
 use Rattle.std.specs.Prelude.{◌≡◌, ◌≢◌, ℕ, ⊤, List}
 use Rattle.mm_cut.specs.declared.verdict.Verdict.{Verdict}
-use Rattle.mm_cut.specs.declared.verdict.Verdict.TheVariants.{Least}
-use Rattle.mm_cut.specs.Checking.{Checks, LosesLeast, IsFaultOf}
+use Rattle.mm_cut.specs.declared.verdict.Verdict.TheVariants.{Least, LeastInOrder}
+use Rattle.mm_cut.specs.Checking.{Checks, LosesLeast, LosesLeastInOrder, IsFaultOf}
 use Rattle.mm_cut.specs.Lines.{line_of}
 use Rattle.mm_cut.specs.declared.fault.Fault.{Fault}
 use Rattle.mm_cut.specs.declared.fault.Fault.TheVariants.{NoMemory}
@@ -32,11 +32,13 @@ IsWhyUnplanned setup forecast = IsOf (IsPlanningFault setup forecast)
 abbrev pub IsWhyUnjudged : List ℕ → List ℕ → List ℕ → Reason → Type 0
 IsWhyUnjudged setup forecast plan = IsOf (IsFaultOf setup forecast plan)
 
--- the verdict on a plan text is told, also as its line; it is `Least` only where no plan that fits loses fewer blocks
+-- the verdict on a plan text is told, also as its line; it is `Least` only where no plan that fits loses fewer blocks, and `LeastInOrder`
+-- only where none loses fewer of the first stores either
 pub record Judges (setup forecast plan : List ℕ) (told : VerdictTold) (line : List ℕ) : Type 0 where
   pub verdict : Verdict
   pub checks : Checks setup forecast plan verdict
   pub least : (n : ℕ) → verdict ≡ Least n → LosesLeast setup forecast plan n
+  pub in_order : (n : ℕ) → verdict ≡ LeastInOrder n → LosesLeastInOrder setup forecast plan n
   pub told_is : told ≡ told_of verdict
   pub line_is : line ≡ line_of verdict
 

@@ -3,6 +3,7 @@ ghost use Rattle.std.specs.Prelude.{◌≤◌, length};
 ghost use Rattle.mm_planner.specs.PlanTexts.{PlansLeast, PlansLeastInOrder};
 ghost use Rattle.mm_chart.specs.Charts.{Charts};
 ghost use Rattle.mm_chart.specs.Table.{IsTableOf};
+ghost use Rattle.mm_sensitivity.specs.Charts.{ChartsWorth};
 ghost use Rattle.mm_sensitivity.specs.Table.{IsWorthTable};
 ghost use Rattle.mm_told.specs.Telling.{Tells};
 ghost use Rattle.mm_c.specs.Telling.{IsWhyUnplanned, IsWhyUnjudged, Judges, LeavesUnjudged, IsNotTooSmall};
@@ -10,7 +11,7 @@ ghost use Rattle.mm_c.specs.Telling.{IsWhyUnplanned, IsWhyUnjudged, Judges, Leav
 use mm_chart::{chart_bytes, table_bytes};
 use mm_cut::check_bytes;
 use mm_planner::{plan_bytes, plan_in_order_bytes};
-use mm_sensitivity::sensitivity_bytes;
+use mm_sensitivity::{sensitivity_bytes, worth_chart_bytes};
 use mm_told::{Answer, PLAN_ROOM, Reason, VerdictTold, plan_texts_fit, tell_text};
 use std::alloc::Global;
 
@@ -103,6 +104,25 @@ pub extern "C" fn rudlayog_chart(
         out.old out.new answer.new }
 {
     *answer = match chart_bytes(alloc, setup, forecast, plan) {
+        Ok(text) => tell_text(&text, out),
+        Err(fault) => Answer::refused(Reason::of_texts(fault)),
+    };
+}
+
+/// The chart of a plan text with what each window is worth, as `worth_chart_bytes` of `mm_sensitivity` draws it.
+#[unsafe(no_mangle)]
+pub extern "C" fn rudlayog_chart_worth(
+    alloc: Global,
+    setup: &[u8],
+    forecast: &[u8],
+    plan: &[u8],
+    out: &mut [u8],
+    answer: &mut Answer,
+)
+    ensures told { Tells (ChartsWorth setup.now forecast.now plan.now) (IsWhyUnjudged setup.now forecast.now plan.now)
+        out.old out.new answer.new }
+{
+    *answer = match worth_chart_bytes(alloc, setup, forecast, plan) {
         Ok(text) => tell_text(&text, out),
         Err(fault) => Answer::refused(Reason::of_texts(fault)),
     };

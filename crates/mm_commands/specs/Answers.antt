@@ -6,7 +6,7 @@ use Rattle.mm_cut.specs.declared.verdict.Verdict.{Verdict}
 use Rattle.mm_cut.specs.declared.verdict.Verdict.TheVariants.{Least, LeastInOrder}
 use Rattle.mm_cut.specs.Checking.{Checks, LosesLeast, LosesLeastInOrder}
 use Rattle.mm_cut.specs.Lines.{line_of}
-use Rattle.mm_chart.specs.Charts.{Charts, WorthCharts}
+use Rattle.mm_chart.specs.Charts.{Charts}
 use Rattle.mm_chart.specs.Table.{IsTableOf}
 use Rattle.mm_planner.specs.PlanTexts.{PlansLeast, PlansLeastInOrder}
 use Rattle.mm_ask.specs.declared.answering.Outcome.{Outcome as Replied}
@@ -18,6 +18,7 @@ use Rattle.mm_run.specs.declared.printed.Outcome.TheVariants as ended
 use Rattle.mm_run.specs.declared.printed.Printed.{Printed}
 use Rattle.mm_run.specs.Printed.{text_of}
 use Rattle.mm_run.specs.Runs.{PrintsRun}
+use Rattle.mm_sensitivity.specs.Charts.{ChartsWorth}
 use Rattle.mm_sensitivity.specs.Table.{IsWorthTable}
 use Rattle.mm_commands.specs.Contents.{Contents, IsStored, MayBe}
 use Rattle.mm_commands.specs.declared.status.Status.{Status}
@@ -75,7 +76,7 @@ Plans contents in_order setup forecast text = Of contents setup (λ s. Of conten
 
 -- the text is the chart of the plan, with what each window is worth where that is asked
 abbrev pub DrawsPlan : Bool → List ℕ → List ℕ → List ℕ → List ℕ → Type 0
-DrawsPlan true = WorthCharts
+DrawsPlan true = ChartsWorth
 DrawsPlan false = Charts
 
 -- ---- `check`
