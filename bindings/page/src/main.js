@@ -302,7 +302,7 @@ async function begin() {
     note("What was here last is here again, out of this browser.");
   } else if (given) history.open(given);
   // For tests.
-  window.rudlayog = { library, libraryOf, get state() { return { ...history.now, ...answer, chart, table, records, isBusy, taken, worths: worthsText(), passes: passesShown(history.now, records) }; } };
+  window.rudlayog = { library, libraryOf, get state() { return { ...history.now, ...answer, chart, table, records, isBusy, taken, worths: worthsText(), shaded: shadedChart(history.now), passes: passesShown(history.now, records) }; } };
   document.documentElement.dataset.ready = "yes";
 }
 

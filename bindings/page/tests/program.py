@@ -34,8 +34,8 @@ def text(task: str, *texts: bytes) -> bytes:
     return said
 
 
-def plan_or_nothing(setup: bytes, forecast: bytes) -> bytes:
-    said = told(PLAN, setup, forecast)
+def plan_or_nothing(task: str, setup: bytes, forecast: bytes) -> bytes:
+    said = told(task, setup, forecast)
     return b"" if isinstance(said, str) else said
 
 
