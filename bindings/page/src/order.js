@@ -33,6 +33,6 @@ const listOf = words => (words.length > 1 ? `${words.slice(0, -1).join(", ")} an
 
 // Why a store loses blocks, in a sentence.
 export function lossSentence(id, lost, count, certificate) {
-  const all = count === 1 ? `${id} loses ${digits(lost)}` : `${id} loses ${digits(lost)}, and the first ${count} stores ${digits(certificate.loss)} together`;
-  return `${all}. It can be no less: more comes to ${stretchesIn(certificate)} than can stay there and leave.`;
+  const all = count === 1 ? ", as few as it can" : `, and the first ${count} stores ${digits(certificate.loss)} together, as few as they can`;
+  return `${id} loses ${digits(lost)}${all}: more comes to ${stretchesIn(certificate)} than can stay there and leave.`;
 }

@@ -142,7 +142,7 @@ class Use:
         shown = [plain(store[9]) for store in said["stores"]]
         self.expect(f"{what}: what the first stores lose", shown == [*firsts, whole] == list(accumulate(lost)), shown, firsts, lost)
         begins = [f"{store[0]} loses {store[8]}" for store in said["stores"] if plain(store[8])]
-        self.expect(f"{what}: why stores lose", [re.split("[,.] ", it)[0] for it in said["losses"]] == begins, said["losses"], begins)
+        self.expect(f"{what}: why stores lose", [it.split(", ")[0] for it in said["losses"]] == begins, said["losses"], begins)
 
 
 def edits(use: Use, setup: bytes, forecast: bytes) -> None:
@@ -437,14 +437,16 @@ def reloaded(use: Use, setup: bytes, forecast: bytes) -> None:
     use.planned("keys", setup, more)
     use.press("#in-order")
     use.plan = IN_ORDER
-    use.planned("keys, in order", setup, more)
+    use.press("[data-act='down 4']", "Enter")
+    moved = moved_down(setup, more, 4)
+    use.planned("keys, in order", *moved)
     use.do("await wait(500);")
     if isinstance(browser, Chromium):
         use.expect("no faults in the console", not (found := browser.faults()), found)
     ready(browser, use.page)
     if isinstance(browser, Chromium):
         use.expect("a warning before what was typed is left", browser.dialogs() == ["beforeunload"], browser.dialogs())
-    use.planned("reloaded, in order", setup, more)
+    use.planned("reloaded, in order", *moved)
     use.expect("reloaded: the clock", use.do("return at('begins').value;") == "2026-11-27 06:00")
     use.drop(("setup.toml", setup), ("forecast.csv", forecast))
 
@@ -475,6 +477,8 @@ def saved(use: Use, browser: Chromium, setup: bytes, forecast: bytes) -> None:
     """Files that are saved, and one that is opened again."""
     use.do("at('begins').value = '2026-11-27 06:00'; at('begins').dispatchEvent(new Event('input', { bubbles: true })); press('in-order');")
     use.plan = IN_ORDER
+    use.press("[data-act='down 4']", "Enter")
+    setup, forecast = moved_down(setup, forecast, 4)
     use.planned("before saving", setup, forecast)
     plan = text(IN_ORDER, setup, forecast)
     wanted = {"plan.txt": plan, "chart.svg": text("chart", setup, forecast, plan), "table.csv": text("table", setup, forecast, plan), "setup.toml": setup, "forecast.csv": forecast}
@@ -500,7 +504,7 @@ def saved(use: Use, browser: Chromium, setup: bytes, forecast: bytes) -> None:
     use.drop(("broken.json", b'{"rudlayog": 2}'))
     use.expect("no session", "no file that this page saved" in use.state()["note"], use.state()["note"])
     use.planned("kept", setup, forecast)
-    use.do("press('in-order');")
+    use.do("for (let turn = 0; turn < 5; turn++) press('undo');")
     use.plan = PLAN
 
 
