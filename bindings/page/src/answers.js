@@ -1,16 +1,32 @@
 // What the library answers to a session, and what it says in a sentence.
-import { NOTHING, decode, digits, placeOf, recordsOf, worthsIn } from "./texts.js";
+import { NOTHING, certificatesOf, decode, digits, placeOf, recordsOf, worthsIn } from "./texts.js";
 
 const LARGEST = 1_000_000; // MAX_BLOCKS of mm_base, which no window, size or limit is above
 
-// The plan, which is made or was given, and the verdict on it.
-export function judge(library, { setup, forecast, given }) {
-  const planned = given.length ? { octets: given, refused: null } : library.plan(setup, forecast);
+function planOf(library, { setup, forecast, given, isInOrder }) {
+  if (given.length) return { octets: given, refused: null };
+  return isInOrder ? library.planInOrder(setup, forecast) : library.plan(setup, forecast);
+}
+
+// How many blocks a plan loses, where the verdict on it lets that be known; null where it does not.
+function lossOf({ kind, loss }, plan) {
+  // This verdict does not name the loss; it is the one that the plan says.
+  if (kind === "first not shown") return certificatesOf(plan)[0].loss;
+  return ["least", "least in order", "loss is", "not shown"].includes(kind) ? loss : null;
+}
+
+// The plan, which is made or was given, the verdict on it, and what it loses.
+export function judge(library, session) {
+  const { setup, forecast } = session, planned = planOf(library, session);
   if (planned.refused) return { refused: planned.refused };
   const checked = library.check(setup, forecast, planned.octets);
   if (checked.refused) return { refused: checked.refused };
-  return { plan: planned.octets, verdict: checked.verdict, line: decode(checked.octets).trim(), refused: null };
+  const { verdict } = checked, plan = planned.octets;
+  return { plan, verdict, loss: lossOf(verdict, plan), line: decode(checked.octets).trim(), refused: null };
 }
+
+// Whether no plan that fits loses fewer blocks than this one.
+export const isLeast = ({ refused, verdict }) => !refused && ["least", "least in order", "first not shown"].includes(verdict.kind);
 
 // An answer, also where a fault of the module ends the call. No call is made again over what it left: each has an instance of its own.
 function safely(answers) {
@@ -28,13 +44,15 @@ export const worthsSafely = (library, { setup, forecast }) => safely(() => {
   return refused ? { refused } : { octets, worths: worthsIn(octets), refused: null };
 });
 
-// The least loss for a setup and a forecast; null where it is not known.
+// The least loss for a setup and a forecast, in whatever order stores are served; null where it is not known.
 export function leastLoss(library, setup, forecast) {
-  const { refused, verdict } = judgeSafely(library, { setup, forecast, given: NOTHING });
-  return !refused && verdict.kind === "least" ? verdict.loss : null;
+  const answer = judgeSafely(library, { setup, forecast, given: NOTHING, isInOrder: false });
+  return isLeast(answer) ? answer.loss : null;
 }
 
 export const chartOf = (library, { setup, forecast }, plan) => library.chart(setup, forecast, plan).octets;
+
+export const shadedSafely = (library, { setup, forecast }, plan) => safely(() => library.chartWorth(setup, forecast, plan));
 
 export function tableOf(library, { setup, forecast }, plan) {
   const table = library.table(setup, forecast, plan).octets;
@@ -45,12 +63,14 @@ export function sentenceOf({ kind, place, loss, bound }) {
   const blocks = `${digits(loss)} ${loss === 1 ? "block is" : "blocks are"} lost`;
   switch (kind) {
     case "least": return loss ? `${blocks}, and no plan that fits loses fewer` : "Nothing is lost";
+    case "least in order": return loss ? `${blocks}, and no plan that fits loses fewer, nor does any lose fewer of the first stores, however many` : "Nothing is lost";
     case "does not fit": return `The plan does not fit: step ${place} sends more than its window or a channel's limit`;
     case "loss is": return `The loss that the plan says is wrong: ${blocks}`;
     case "bad stretch": return `The cut of the plan is none: stretch ${place} can be in no cut`;
     case "bad count": return `The cut of the plan is none: counted step ${place} can be in no cut`;
     case "bound is": return `The bound that the plan says is wrong: it is ${digits(bound)}`;
     case "not shown": return `The plan fits, and ${blocks}; its cut shows only that no plan loses fewer than ${digits(bound)}`;
+    case "first not shown": return `No plan that fits loses fewer blocks; but what the plan says of its first ${place === 1 ? "store" : `${place} stores`} does not show that none loses fewer of ${place === 1 ? "it" : "them"}`;
   }
 }
 

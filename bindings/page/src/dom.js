@@ -55,6 +55,20 @@ export function input(cell, label, more = {}) {
   return made;
 }
 
+// A button that says by `data-act` what it does.
+export function button(text, act, label) {
+  const made = make("button", text, { "aria-label": label, title: label, className: "act" });
+  made.dataset.act = act;
+  return made;
+}
+
+// Lays something anew, with the focus where it was: on what is called the same.
+export function keepingFocus(lays) {
+  const { act, cell } = document.activeElement?.dataset ?? {}, name = act ? `[data-act="${act}"]` : cell ? `[data-cell="${cell}"]` : null;
+  lays();
+  if (name) document.querySelector(name)?.focus({ preventScroll: true });
+}
+
 export function cellWith(...inside) {
   const made = make("td");
   made.append(...inside);

@@ -6,7 +6,8 @@ const WRITTEN = 0, TOO_SMALL = 1, REFUSED = 2; // RUDLAYOG_WRITTEN and so on
 const PLAN_ROOM = 204800, LINE_ROOM = 64, PICTURE_ROOM = 1 << 18, WORDS_ROOM = 512, HINT_ROOM = 1024, VERSION_ROOM = 16;
 const REFUSED_SIZE = 32, VERDICT_SIZE = 24, ANSWER_SIZE = 48, LENGTH_AT = 40;
 const PAGE = 65536n, ALIGN = 16n;
-const KINDS = ["no verdict", "least", "does not fit", "loss is", "bad stretch", "bad count", "bound is", "not shown"]; // RUDLAYOG_LEAST and so on
+// RUDLAYOG_LEAST and so on
+const KINDS = ["no verdict", "least", "does not fit", "loss is", "bad stretch", "bad count", "bound is", "not shown", "least in order", "first not shown"];
 
 export class NoMemory extends Error {}
 
@@ -132,12 +133,14 @@ export function libraryOf(module) {
 
   return {
     plan: (setup, forecast) => answerTo("plan", [setup, forecast], PLAN_ROOM),
+    planInOrder: (setup, forecast) => answerTo("plan_in_order", [setup, forecast], PLAN_ROOM),
     check(setup, forecast, plan) {
       const { told: [it], ...answer } = answerTo("check", [setup, forecast, plan], LINE_ROOM, [VERDICT_SIZE]);
       const [kind, place] = [KINDS[it.getUint32(0, true)], it.getUint32(4, true)];
       return { ...answer, verdict: { kind, place, loss: Number(it.getBigUint64(8, true)), bound: Number(it.getBigInt64(16, true)) } };
     },
     chart: (setup, forecast, plan) => answerTo("chart", [setup, forecast, plan], PICTURE_ROOM),
+    chartWorth: (setup, forecast, plan) => answerTo("chart_worth", [setup, forecast, plan], PICTURE_ROOM),
     table: (setup, forecast, plan) => answerTo("table", [setup, forecast, plan], PICTURE_ROOM),
     sensitivity: (setup, forecast) => answerTo("sensitivity", [setup, forecast], PICTURE_ROOM),
     version: () => ascii(call(module, "version", { room: VERSION_ROOM }).octets),

@@ -2,13 +2,14 @@
 import { chartOf, judgeSafely, tableOf } from "./answers.js";
 import { at, fill, make, mark, notice } from "./dom.js";
 import { libraryOf } from "./library.js";
+import { withOrder } from "./order.js";
 import { passesShown, showPasses } from "./passes.js";
 import { momentOf, restOf, withPass, withoutPass } from "./planning.js";
 import { TEXTS, fromJson, historyOf, keeperOf, toJson } from "./session.js";
 import { goTo, hold, moveBy, show, showSteps } from "./steps.js";
 import { NOTHING, decode, digits, encode, forecastOf, kindOf, setupOf, withCells, withNumber } from "./texts.js";
-import { showChart, showStores, showTexts, showVerdict, stepOnChart } from "./view.js";
-import { dateWorths, showWorths, worthsText } from "./worth.js";
+import { followStore, showChart, showSetup, showStores, showTexts, showVerdict, stepOnChart } from "./view.js";
+import { dateWorths, say, shadeChart, shadedChart, showWorths, worthsText } from "./worth.js";
 
 const SAVED = {
   plan: ["plan.txt", "text/plain"], chart: ["chart.svg", "image/svg+xml"], table: ["table.csv", "text/csv"], setup: ["setup.toml", "text/plain"],
@@ -31,6 +32,8 @@ function changed() {
   at("all").hidden = !hasAll;
   at("start").hidden = hasAll;
   for (const which of ["begins", "minutes"]) if (at(which) !== document.activeElement) fill(at(which), String(session[which]));
+  at("in-order").checked = session.isInOrder;
+  at("in-order").disabled = session.given.length > 0;
   mark(at("begins"), session.begins !== "" && momentOf(session.begins) === null);
   document.body.classList.toggle("timeless", momentOf(session.begins) === null);
   keeper.soon(session);
@@ -52,7 +55,7 @@ function plan(session, turn) {
 
 function draw(session, turn) {
   if (turn !== due) return;
-  chart = chartOf(library, session, answer.plan);
+  chart = shadedChart(session) ?? chartOf(library, session, answer.plan);
   if (chart) showChart(chart);
   setTimeout(tabulate, 0, session, turn);
 }
@@ -66,7 +69,7 @@ function tabulate(session, turn) {
 function showTables(session, turn) {
   if (turn !== due) return;
   const known = answer.refused ? null : records;
-  showStores(session, known, place);
+  showStores(session, answer, known, place);
   showSteps(session, known, place);
   showTexts(session, answer.plan);
   if (known) setTimeout(showLast, 0, session, turn);
@@ -79,15 +82,38 @@ function showLast(session, turn) {
   isBusy = false;
 }
 
-// What each number is worth, once the page has said that it answers nothing meanwhile.
+// What each number is worth, once the page has said that it answers nothing meanwhile; and the shaded chart where that is wanted.
 function ask() {
-  if (worthsText()) return;
-  at("asked").textContent = "It is planned anew for each number, and the page waits for that.";
+  const isShading = at("shade").checked;
+  if (worthsText() && (!isShading || shadedChart(history.now))) return;
+  say("It is planned anew for each number, and the page waits for that.");
   setTimeout(() => {
-    const { now } = history;
-    showWorths(library, now);
+    const { now } = history, isKnown = showWorths(library, now);
     showSteps(now, answer.refused ? null : records, place);
+    if (isKnown && isShading) shade(now);
   }, SAYING);
+}
+
+// A change that comes first ends what was asked for.
+function shade(session) {
+  say("The windows of the chart are shaded, and the page waits for that.");
+  setTimeout(whenShown, SAYING, () => {
+    if (session !== history.now || answer.refused) return;
+    shadeChart(library, session, answer.plan);
+    draw(session, due);
+  });
+}
+
+// Does something once the page shows what was changed last.
+function whenShown(does) {
+  if (isBusy) setTimeout(whenShown, SAYING, does);
+  else does();
+}
+
+function toggleShade() {
+  dateWorths(history.now);
+  if (at("shade").checked && !shadedChart(history.now)) ask();
+  else whenShown(() => !answer.refused && draw(history.now, due));
 }
 
 // ---- Changes
@@ -111,13 +137,22 @@ function nameStation(from, to, name) {
   history.change({ stations });
 }
 
+// The row of a moved store is there at once, so that the next press moves the same store.
+function move(nth, way) {
+  const { now } = history, to = way === "up" ? nth - 1 : nth + 1, { store } = setupOf(now.setup);
+  history.change(withOrder(now, Math.min(nth, to)));
+  showSetup(history.now, null);
+  followStore(to, way);
+  note(`${store[nth].keys.id} is store ${to + 1} of ${store.length} now.`);
+}
+
 function keep() {
   const { reference, ...session } = history.now;
-  history.change({ reference: { loss: answer.verdict.loss, session } });
+  history.change({ reference: { loss: answer.loss, session } });
 }
 
 function cancel(from, to) {
-  if (!history.now.reference && !answer.refused) keep();
+  if (!history.now.reference && !at("keep").disabled) keep();
   history.change({ forecast: withoutPass(history.now.forecast, { from, to }) });
 }
 
@@ -185,6 +220,7 @@ function listen() {
     note("");
     notice(it);
     if (TEXTS.includes(it.id)) history.change({ [it.id]: encode(it.value) }, it.id);
+    else if (it.id === "in-order") history.change({ isInOrder: it.checked });
     else if (it.id === "begins") history.change({ begins: it.value }, it.id);
     else if (it.id === "minutes" && Number(it.value) > 0) history.change({ minutes: Number(it.value) }, it.id);
     else if (it.dataset.cell && !it.dataset.cell.startsWith("station")) changeCell(it);
@@ -196,6 +232,7 @@ function listen() {
   document.addEventListener("click", ({ target: it }) => {
     const [act, from, to] = it.dataset.act?.split(" ") ?? [];
     if (act === "cancel") cancel(Number(from), Number(to));
+    else if (act) move(Number(from), act);
     else if (it.dataset.saves) save(it.dataset.saves);
     else if (it.dataset.shows) {
       show(it.dataset.shows);
@@ -216,6 +253,7 @@ function listen() {
     else if (!(it.closest("#grid") && it.dataset.cell && !event.ctrlKey && !event.shiftKey && moveBy(event.key, it))) return;
     event.preventDefault();
   });
+  at("shade").addEventListener("change", toggleShade);
   at("pass").addEventListener("submit", event => {
     event.preventDefault();
     addPass(event.target);
@@ -264,7 +302,7 @@ async function begin() {
     note("What was here last is here again, out of this browser.");
   } else if (given) history.open(given);
   // For tests.
-  window.rudlayog = { library, libraryOf, get state() { return { ...history.now, ...answer, chart, table, records, isBusy, taken, worths: worthsText(), passes: passesShown(history.now, records) }; } };
+  window.rudlayog = { library, libraryOf, get state() { return { ...history.now, ...answer, chart, table, records, isBusy, taken, worths: worthsText(), shaded: shadedChart(history.now), passes: passesShown(history.now, records) }; } };
   document.documentElement.dataset.ready = "yes";
 }
 

@@ -1,6 +1,6 @@
 // The passes: what each sends, of which store, and what is lost without it.
-import { leastLoss } from "./answers.js";
-import { at, cellWith, fill, head, input, make, number, row, write } from "./dom.js";
+import { isLeast, leastLoss } from "./answers.js";
+import { at, button, cellWith, fill, head, input, make, number, row, write } from "./dom.js";
 import { beginOf, passesOf, shown, withoutPass } from "./planning.js";
 import { forecastOf } from "./texts.js";
 
@@ -8,12 +8,6 @@ const AT_ONCE = 12; // milliseconds, after which the page answers other events
 let turn = 0, shownOf = "";
 
 export const passesShown = (session, records) => (records && forecastOf(session.forecast) ? passesOf(records.steps, session.stations) : []);
-
-function button(text, act, label) {
-  const made = make("button", text, { "aria-label": label, className: "act" });
-  made.dataset.act = act;
-  return made;
-}
 
 function layPasses(passes, stores) {
   const form = JSON.stringify([passes.map(({ from, to }) => [from, to]), stores]);
@@ -53,7 +47,7 @@ export function showPasses(library, session, answer, records) {
 function tellWorth(library, session, answer, passes, ofTurn) {
   if (ofTurn !== turn) return;
   const { setup, forecast } = session, body = at("passes").tBodies[0];
-  const least = answer.verdict.kind === "least" ? answer.verdict.loss : leastLoss(library, setup, forecast);
+  const least = isLeast(answer) ? answer.loss : leastLoss(library, setup, forecast);
   const next = nth => {
     if (ofTurn !== turn) return;
     const until = performance.now() + AT_ONCE;

@@ -1,10 +1,10 @@
-// What a planner works on: three texts, the clock, the names of stations, and what was kept for comparison. A session is never changed: each
-// change makes another, and the one before it can be had again.
+// What a planner works on: three texts, whether stores are served in order, the clock, the names of stations, and what was kept for comparison.
+// A session is never changed: each change makes another, and the one before it can be had again.
 import { NOTHING, decode, encode } from "./texts.js";
 
 const MOST_KEPT = 500;
 export const TEXTS = ["setup", "forecast", "given"];
-const EMPTY = { setup: NOTHING, forecast: NOTHING, given: NOTHING, begins: "", minutes: 60, stations: {}, before: null, reference: null };
+const EMPTY = { setup: NOTHING, forecast: NOTHING, given: NOTHING, isInOrder: false, begins: "", minutes: 60, stations: {}, before: null, reference: null };
 
 // Octets as JSON: their text, or numbers where they are none in UTF-8.
 function written(octets) {
@@ -26,6 +26,7 @@ export function fromJson(text) {
   const read = it => ({
     ...EMPTY,
     ...Object.fromEntries(TEXTS.map(which => [which, readOctets(it[which])])),
+    isInOrder: it.isInOrder === true,
     begins: String(it.begins ?? ""),
     minutes: Number(it.minutes) > 0 ? Number(it.minutes) : 60,
     stations: Object.fromEntries(Object.entries(it.stations ?? {}).map(([step, name]) => [Number(step), String(name)])),

@@ -98,6 +98,40 @@ export function withNumber(octets, array, nth, key, value) {
   return encode(lines.join("\n"));
 }
 
+// The lines of a store: its table, and the comments right above it, but for those that the text begins with, which are of the whole text.
+function linesOfStore(lines, { line, lines: keys }) {
+  let from = line;
+  while (from > 0 && lines[from - 1].trimStart().startsWith("#")) from--;
+  return [from || line, Math.max(line, ...Object.values(keys)) + 1];
+}
+
+// The text of a setup in which a store and the next one have changed places. The last line gets its end, since it may come before others.
+export function withStoresSwapped(octets, nth) {
+  const text = decode(octets), mark = text.startsWith(MARK) ? MARK : "", end = text.endsWith("\n") ? "" : text.includes("\r\n") ? "\r\n" : "\n";
+  const lines = (text.slice(mark.length) + end).split("\n"), { store } = setupOf(octets);
+  const [[first, ends], [next, last]] = [store[nth], store[nth + 1]].map(it => linesOfStore(lines, it));
+  return encode(mark + [...lines.slice(0, first), ...lines.slice(next, last), ...lines.slice(ends, next), ...lines.slice(first, ends), ...lines.slice(last)].join("\n"));
+}
+
+// The text of a forecast in which the columns of two stores have changed places.
+export function withColumnsSwapped(octets, ids) {
+  const { header, records } = forecastOf(octets), [one, other] = ids.map(id => header.indexOf(id, 2));
+  const swap = record => record.map((cell, at) => (at === one ? record[other] : at === other ? record[one] : cell));
+  return one < 0 || other < 0 ? octets : forecastText(octets, { header: swap(header), records: records.map(swap) });
+}
+
+// The certificates of a plan: that of all stores, and of a plan in order then those of the first store, of the first two and so on. Of each
+// how many blocks are lost, and the stretches of its cut.
+export const certificatesOf = once(octets => {
+  const found = [];
+  for (const line of decode(octets).split("\n")) {
+    const [kind, first, ...rest] = line.split(" ");
+    if (kind === "loss") found.push({ loss: Number(first), stretches: [] });
+    else if (kind === "stretch") found.at(-1)?.stretches.push({ id: first, steps: rest.map(Number) });
+  }
+  return found;
+});
+
 // What the table of a plan says: what each step does to each store, with the sums over stores and over steps.
 export function recordsOf(octets) {
   const steps = [], stores = new Map();

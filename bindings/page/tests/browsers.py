@@ -109,7 +109,7 @@ class Chromium:
 
     def key(self, key: str, modifiers: int = 0) -> None:
         """Presses a key, as a planner does; 2 is Control, 8 is Shift."""
-        text = {"text": key} if len(key) == 1 and not modifiers else {}
+        text = {"text": "\r" if key == "Enter" else key} if (len(key) == 1 or key == "Enter") and not modifiers else {}
         codes = {"Tab": 9, "Enter": 13, "ArrowUp": 38, "ArrowDown": 40, "ArrowLeft": 37, "ArrowRight": 39, "Backspace": 8}
         more = {"windowsVirtualKeyCode": codes.get(key, ord(key.upper()[0]))}
         self.ask("Input.dispatchKeyEvent", type="keyDown", key=key, modifiers=modifiers, **text, **more)

@@ -10,24 +10,30 @@ from typing import Any
 
 from browsers import Browser, Chromium, Fault
 from cases import Case
-from program import answers, told
+from program import IN_ORDER, answers, worths
 
 AT_ONCE = 20
-__all__ = ["ASK", "COMPARE", "Fault", "base64_of", "differences", "ready", "refused_in_turn", "wanted_of", "worths_of"]
+__all__ = ["ASK", "COMPARE", "Fault", "IN_TURN", "base64_of", "differences", "in_order_of", "ready", "refused_in_turn", "wanted_of", "worths_of"]
 READ = "const octetsOf = text => Uint8Array.from(atob(text), it => it.charCodeAt(0)), { library } = window.rudlayog;"
 SAY = """
 const written = octets => { let text = ""; for (let at = 0; at < octets.length; at += 32768) text += String.fromCharCode(...octets.subarray(at, at + 32768)); return btoa(text); };
 const told = it => (it.refused ? `${it.refused.words.split(": expected ")[0]}; ${it.refused.hint}` : [written(it.octets)]);
 const say = answers => JSON.stringify(CASES.map(texts => { try { return answers(...texts.map(octetsOf)); } catch (fault) { return { plan: String(fault) }; } }));
 """
-COMPARE = """
+JUDGE = """
 return say((setup, forecast, given) => {
-  const planned = given.length ? { octets: given } : library.plan(setup, forecast), said = { plan: told(planned) };
+  const planned = given.length ? { octets: given } : library.PLANS(setup, forecast), said = { plan: told(planned) };
   if (!planned.refused) for (const task of ["check", "chart", "table"]) said[task] = told(library[task](setup, forecast, planned.octets));
   return said;
 });
 """
-ASK = "return say((setup, forecast) => ({ sensitivity: told(library.sensitivity(setup, forecast)) }));"
+COMPARE, IN_TURN = JUDGE.replace("PLANS", "plan"), JUDGE.replace("PLANS", "planInOrder")
+ASK = """
+return say((setup, forecast) => {
+  const { octets, refused } = library.plan(setup, forecast), said = { sensitivity: told(library.sensitivity(setup, forecast)) };
+  return refused ? said : { ...said, chart: told(library.chartWorth(setup, forecast, octets)) };
+});
+"""
 # Each allocation of each call is refused in turn, and then the memory is not let grow: the call answers as with enough memory, or out of memory.
 REFUSE = """
 const [setup, forecast] = CASE.map(octetsOf), Instance = WebAssembly.Instance, plan = library.plan(setup, forecast).octets;
@@ -43,11 +49,10 @@ WebAssembly.Instance = function (module, { heap }) {
   memory.grow = pages => { if (BigInt(memory.buffer.byteLength) / 65536n + BigInt(pages) > most) throw new RangeError("no memory"); return grow(pages); };
   return made;
 };
-const calls = { plan: () => library.plan(setup, forecast), check: () => library.check(setup, forecast, plan), chart: () => library.chart(setup, forecast, plan),
-  table: () => library.table(setup, forecast, plan), sensitivity: () => library.sensitivity(setup, forecast) };
+const texts = { plan: [], planInOrder: [], sensitivity: [] };
 const out = {};
 for (const name of CALLS) {
-  const does = calls[name];
+  const does = () => library[name](setup, forecast, ...(texts[name] ?? [plan]));
   count = 0; refused = 0; most = Infinity;
   const wanted = does().octets, all = count, told = { all, none: 0, same: 0, other: [] };
   const note = (what, mayThrow) => {
@@ -84,10 +89,16 @@ def wanted_of(cases: Sequence[Case]) -> list[dict[str, bytes | str]]:
         return list(threads.map(answers, cases))
 
 
+def in_order_of(cases: Sequence[Case]) -> list[dict[str, bytes | str]]:
+    """What the program says of cases where the stores are served in order."""
+    with ThreadPoolExecutor() as threads:
+        return list(threads.map(lambda case: answers(case, IN_ORDER), cases))
+
+
 def worths_of(cases: Sequence[Case]) -> list[dict[str, bytes | str]]:
     """What the program says that each number of cases is worth."""
     with ThreadPoolExecutor() as threads:
-        return list(threads.map(lambda case: {"sensitivity": told("sensitivity", *case[1:3])}, cases))
+        return list(threads.map(worths, cases))
 
 
 def differences(browser: Browser, cases: Sequence[Case], wanted: Sequence[dict[str, bytes | str]], does: str = COMPARE, limit: int = 0) -> list[str]:

@@ -1,4 +1,5 @@
-"""Pictures of the page with the example `mission`, to be looked at: in both browsers, at four widths, dark, and as it is printed."""
+"""Pictures of the page with the example `mission`, to be looked at: in both browsers with the stores in order and a shaded chart, at four widths,
+dark, and as it is printed."""
 
 from __future__ import annotations
 
@@ -10,7 +11,7 @@ from compare import ready
 
 SETTLE = "await new Promise(done => setTimeout(done, 2500));"
 OPEN = f"const it = document.getElementById('example'); it.value = 'mission'; it.dispatchEvent(new Event('change', {{ bubbles: true }})); {SETTLE}"
-ASK = "document.getElementById('ask').click(); for (let turn = 0; turn < 3000 && !window.rudlayog.state.worths; turn++) await new Promise(done => setTimeout(done, 20));"
+ASK = f"document.getElementById('in-order').click(); {SETTLE} document.getElementById('shade').click(); for (let turn = 0; turn < 3000 && !window.rudlayog.state.shaded; turn++) await new Promise(done => setTimeout(done, 20)); {SETTLE}"
 # A clock, stations, a reference, and a pass that is cut short.
 CHANGE = f"""
 const at = id => document.getElementById(id), type = (it, value) => {{ it.value = value; it.dispatchEvent(new Event('input', {{ bubbles: true }})); }};

@@ -9,13 +9,14 @@ import re
 import tempfile
 import time
 from collections.abc import Sequence
+from itertools import accumulate
 from pathlib import Path
 from typing import Any
 
 from browsers import Browser, Chromium
 from cases import TOP
 from compare import base64_of, ready
-from program import text
+from program import IN_ORDER, PLAN, WORTH, text
 
 HELPERS = """
 const at = id => document.getElementById(id), { rudlayog } = window;
@@ -33,7 +34,8 @@ const { state } = rudlayog, octets = it => (it ? written(it) : null);
 return JSON.stringify({ said: at("said").textContent, line: at("line").textContent, more: at("more").textContent, expected: at("expected").textContent, before: at("before").textContent,
   note: at("note").textContent, box: at("verdict").className, isJudged: !at("judging").hidden, isDrawn: at("chart").complete && at("chart").naturalWidth > 0, alt: at("chart").alt,
   bad: [...document.querySelectorAll("[aria-invalid=true]")].map(it => it.dataset.cell),
-  setup: octets(state.setup), forecast: octets(state.forecast), given: octets(state.given), plan: octets(state.plan), chart: octets(state.chart), table: octets(state.table), worths: octets(state.worths),
+  setup: octets(state.setup), forecast: octets(state.forecast), given: octets(state.given), plan: octets(state.plan), chart: octets(state.chart), table: octets(state.table), worths: octets(state.worths), shaded: octets(state.shaded),
+  isInOrder: at("in-order").checked, isStill: at("in-order").disabled, isOrdered: !document.body.classList.contains("unordered"), losses: [...at("losses").children].map(it => it.textContent),
   stores: [...at("stores").tBodies[0].rows].map(row => [...row.cells].map(it => it.firstElementChild?.value ?? it.textContent)), all: [...at("stores").tFoot.rows[0].cells].map(it => it.textContent),
   passes: [...at("passes").tBodies[0].rows].map(row => [...row.cells].map(it => it.firstElementChild?.value || it.textContent)) });
 """
@@ -61,6 +63,8 @@ class Use:
 
     def __init__(self, browser: Browser, page: str) -> None:
         self.browser, self.page, self.count, self.found = browser, page, 0, list[str]()
+        # What the program is asked for: how it plans, and how it draws.
+        self.plan, self.chart = PLAN, "chart"
         ready(browser, page)
 
     def do(self, script: str) -> Any:
@@ -73,7 +77,7 @@ class Use:
 
     def state(self) -> dict[str, Any]:
         said: dict[str, Any] = json.loads(self.do(STATE))
-        for name in ("setup", "forecast", "given", "plan", "chart", "table", "worths"):
+        for name in ("setup", "forecast", "given", "plan", "chart", "table", "worths", "shaded"):
             said[name] = base64.b64decode(said[name]) if said[name] is not None else None
         return said
 
@@ -88,15 +92,25 @@ class Use:
     def type(self, cell: str, value: str) -> None:
         self.do(f"type(cell({json.dumps(cell)}), {json.dumps(value)});")
 
+    def press(self, found: str, key: str = " ") -> None:
+        """Presses a button or a switch, by a key where the browser lets a test do so."""
+        self.do(f"document.querySelector({json.dumps(found)}).focus();")
+        if isinstance(self.browser, Chromium):
+            self.browser.key(key)
+        else:
+            self.do("document.activeElement.click();")
+
     def planned(self, what: str, setup: bytes, forecast: bytes, judged: bytes = b"") -> dict[str, Any]:
         """Expects that all that is shown is what the program prints for these texts."""
         said = self.state()
-        plan = judged or text("plan", setup, forecast)
+        plan = judged or text(self.plan, setup, forecast)
         for name, wanted in (("setup", setup), ("forecast", forecast), ("given", judged), ("plan", plan)):
             self.expect(f"{what}: {name}", said[name] == wanted, said[name][:300] if said[name] else None)
         self.expect(f"{what}: line", said["line"] == text("check", setup, forecast, plan).decode().strip(), said["line"])
-        for name in ("chart", "table"):
-            self.expect(f"{what}: {name}", said[name] == text(name, setup, forecast, plan))
+        for name, task in (("chart", self.chart), ("table", "table")):
+            self.expect(f"{what}: {name}", said[name] == text(task, setup, forecast, plan))
+        if not judged:
+            self.expect(f"{what}: the order", said["isInOrder"] == said["isOrdered"] == (self.plan == IN_ORDER), said["isInOrder"], said["isOrdered"])
         self.expect(f"{what}: drawn", said["isDrawn"])
         self.added_up(what, said)
         return said
@@ -109,13 +123,26 @@ class Use:
             own = [row for row in rows if row[2] == store[0]]
             wanted = [sum(int(row[sums[name]]) for row in own) for name in ("arrives", "sent", "lost")]
             wanted += [int(own[-1][6]), max(int(row[6]) for row in own)]
-            self.expect(f"{what}: sums of {store[0]}", [plain(it) for it in store[5:]] == wanted, store, wanted)
+            self.expect(f"{what}: sums of {store[0]}", [plain(it) for it in store[6:9] + store[10:]] == wanted, store, wanted)
+        if said["isOrdered"] and said["box"] == "least":
+            self.in_order(what, said)
         for cells in said["passes"]:
             steps = [int(it) for it in cells[0].split(" to ")]
             own = [row for row in rows if steps[0] <= int(row[0]) <= steps[-1]]
             self.expect(f"{what}: sent in pass {cells[0]}", plain(cells[5]) == sum(int(row[5]) for row in own), cells)
             by_store = [sum(int(row[5]) for row in own if row[2] == store[0]) for store in said["stores"]]
             self.expect(f"{what}: sent by store in pass {cells[0]}", [plain(it) for it in cells[9:]] == by_store, cells)
+
+
+    def in_order(self, what: str, said: dict[str, Any]) -> None:
+        """Expects that what the first stores are said to lose are the plan's certificates and the sums of the table, and a sentence for each that
+        loses."""
+        whole, *firsts = map(int, re.findall(rb"^loss (\d+)$", said["plan"], re.M))
+        lost = [plain(store[8]) for store in said["stores"]]
+        shown = [plain(store[9]) for store in said["stores"]]
+        self.expect(f"{what}: what the first stores lose", shown == [*firsts, whole] == list(accumulate(lost)), shown, firsts, lost)
+        begins = [f"{store[0]} loses {store[8]}" for store in said["stores"] if plain(store[8])]
+        self.expect(f"{what}: why stores lose", [it.split(", ")[0] for it in said["losses"]] == begins, said["losses"], begins)
 
 
 def edits(use: Use, setup: bytes, forecast: bytes) -> None:
@@ -172,7 +199,7 @@ def passes(use: Use, setup: bytes, forecast: bytes) -> None:
     """What a pass is worth, one that is cancelled, one more, names, times, and the rest from a step on."""
     use.do("await settle(); for (let turn = 0; turn < 900 && at('passes').dataset.worth !== 'known'; turn++) await wait(20);")
     worth = [cells[7] for cells in use.state()["passes"]]
-    use.do("document.querySelectorAll('[data-act]')[4].click();")
+    use.do("document.querySelectorAll('[data-act^=cancel]')[4].click();")
     lacking = forecast
     for step in range(79, 84):
         lacking = with_cell(lacking, step, 2, "0")
@@ -226,11 +253,7 @@ def worths(use: Use, setup: bytes, forecast: bytes) -> None:
     """What each number is worth: asked for by the button, hidden by a change, and there again once that is undone."""
     said = json.loads(use.do(SHOWN))
     use.expect("worth: not asked", not any(said["isSeen"]) and not said["asked"], said["isSeen"], said["asked"])
-    use.do("at('ask').focus();")
-    if isinstance(use.browser, Chromium):
-        use.browser.key(" ")
-    else:
-        use.do("press('ask');")
+    use.press("#ask")
     use.do("for (let turn = 0; turn < 6000 && !rudlayog.state.worths; turn++) await wait(20);")
     wanted = text("sensitivity", setup, forecast)
     use.expect("worth: the program's", use.state()["worths"] == wanted)
@@ -256,6 +279,90 @@ def worths(use: Use, setup: bytes, forecast: bytes) -> None:
     use.planned("worth: asked", setup, forecast)
 
 
+SHADED = "for (let turn = 0; turn < 6000 && !rudlayog.state.shaded; turn++) await wait(20);"
+
+
+def shaded(use: Use, setup: bytes, forecast: bytes) -> None:
+    """The chart whose windows are shaded by what they are worth: asked for by a switch, and plain after each change."""
+    use.press("#shade")
+    use.do(SHADED)
+    use.chart = WORTH
+    use.planned("shaded", setup, forecast)
+    use.expect("shaded: said", re.search(r"The shaded chart took [\d.]+ s\.$", said := json.loads(use.do(SHOWN))["asked"]) is not None, said)
+    use.press("#shade")
+    use.chart = "chart"
+    use.planned("shaded no more", setup, forecast)
+    use.press("#shade")
+    use.chart = WORTH
+    use.planned("shaded as before", setup, forecast)
+    use.type("90 1", "0")
+    use.chart = "chart"
+    use.planned("shaded: after a change, plain", setup, with_cell(forecast, 90, 2, "0"))
+    use.do("press('undo');")
+    use.chart = WORTH
+    use.planned("shaded: undone", setup, forecast)
+    use.press("#in-order")
+    use.plan, use.chart = IN_ORDER, "chart"
+    use.planned("shaded: another plan, plain", setup, forecast)
+    use.press("#ask")
+    use.do(SHADED)
+    use.chart = WORTH
+    use.planned("shaded: another plan, asked again", setup, forecast)
+    use.do("press('undo');")
+    use.press("#shade")
+    use.plan, use.chart = PLAN, "chart"
+    use.planned("shaded: the switch is off", setup, forecast)
+
+
+def moved_down(setup: bytes, forecast: bytes, nth: int) -> tuple[bytes, bytes]:
+    """The mission in which a store has changed places with the next one. The first line is a comment."""
+    first, rest = setup.decode().split("\n", 1)
+    tables, rows = rest.split("\n\n"), [line.split(",") for line in forecast.decode().split("\n")]
+    for row, at in ((tables, nth), *((row, nth + 2) for row in rows if len(row) > 1)):
+        row[at], row[at + 1] = row[at + 1], row[at]
+    return "\n".join([first, "\n\n".join(tables)]).encode(), "\n".join(map(",".join, rows)).encode()
+
+
+def in_order(use: Use, setup: bytes, forecast: bytes) -> None:
+    """A plan that serves the stores in order, and stores that are moved."""
+    use.planned("before the order", setup, forecast)
+    use.press("#in-order")
+    use.plan = IN_ORDER
+    said = use.planned("in order", setup, forecast)
+    words = "26,260 blocks are lost, and no plan that fits loses fewer, nor does any lose fewer of the first stores, however many"
+    use.expect("in order: said", (said["said"], said["box"]) == (words, "least"), said["said"], said["box"])
+    other = with_cell(forecast, 90, 2, "0")
+    use.type("90 1", "0")
+    use.planned("in order: a window", setup, other)
+    use.do("press('undo');")
+    texts = setup, forecast
+    for press, nth, key, focus in (("down 8", 8, "Enter", "up 9"), ("up 9", 8, " ", "up 8"), ("up 8", 7, "Enter", "up 7"), ("down 0", 0, " ", "down 1")):
+        texts = moved_down(*texts, nth)
+        use.press(f"[data-act='{press}']", key)
+        said = use.planned(f"moved {press}", *texts)
+        held = use.do("return [document.activeElement.dataset.act, document.activeElement.getAttribute('aria-label')];")
+        way, place = focus.split()
+        use.expect(f"moved {press}: the focus", held == [focus, f"Move {said['stores'][int(place)][0]} {way}"], held)
+        use.expect(f"moved {press}: said", said["note"] == f"{said['stores'][int(place)][0]} is store {int(place) + 1} of 10 now.", said["note"])
+    for _ in range(4):
+        use.do("press('undo');")
+    use.planned("moved back by undo", setup, forecast)
+    use.do("press('undo');")
+    use.plan = PLAN
+    use.planned("the order undone", setup, forecast)
+    use.do("press('redo');")
+    use.plan = IN_ORDER
+    use.planned("the order again", setup, forecast)
+    use.do("press('in-order');")
+    use.plan = PLAN
+    marked = "\ufeff# all\r\n[[store]] # one\r\nid = \"A\"\r\nsize = 4\r\ntype = \"bounded\"\r\nchannel = 0\r\n\r\n# of B\r\n[[store]]\r\nid = \"B\"\r\nsize = 5\r\ntype = \"circular\"\r\nchannel = 1"
+    swapped = "\ufeff# all\r\n# of B\r\n[[store]]\r\nid = \"B\"\r\nsize = 5\r\ntype = \"circular\"\r\nchannel = 1\r\n\r\n[[store]] # one\r\nid = \"A\"\r\nsize = 4\r\ntype = \"bounded\"\r\nchannel = 0\r\n"
+    use.drop(("setup.toml", marked.encode()), ("forecast.csv", b"step,window,A,B\r\n1,2,30,40\r\n"))
+    use.press("[data-act='up 1']")
+    use.planned("moved with comments", swapped.encode(), b"step,window,B,A\r\n1,2,40,30\r\n")
+    use.drop(("setup.toml", setup), ("forecast.csv", forecast))
+
+
 def has_start(setup: str, name: str) -> bool:
     """Whether the table of a store has a start."""
     own = setup.split(f'id = "{name}"')[1].split("[[")[0]
@@ -273,6 +380,20 @@ def judged(use: Use, setup: bytes, forecast: bytes) -> None:
     use.expect("another plan", use.state()["line"] == "refused 35 Shape", use.state()["line"])
     use.do("press('anew');")
     use.planned("anew", setup, forecast)
+    third = text(IN_ORDER, setup, forecast)
+    use.drop(("plan.txt", third))
+    said = use.planned("given in order", setup, forecast, third)
+    use.expect("given in order: said", said["isOrdered"] and said["isStill"] and said["box"] == "least" and said["said"].endswith("however many"), said["said"])
+    other = re.sub(rb"(\nfirst 3\nloss )\d+", rb"\g<1>999999", third)
+    use.drop(("plan.txt", other))
+    said = use.planned("first not shown", setup, forecast, other)
+    words = "No plan that fits loses fewer blocks; but what the plan says of its first 3 stores does not show that none loses fewer of them"
+    use.expect("first not shown: said", (said["line"], said["said"], said["box"]) == ("first 3 not shown", words, "wrong"), said["said"], said["line"])
+    whole, *firsts = map(int, re.findall(rb"^loss (\d+)$", third, re.M))
+    shown = [store[9] for store in said["stores"]]
+    use.expect("first not shown: the stores", shown == [f"{firsts[0]:,}", f"{firsts[1]:,}", *["not shown"] * 7, f"{whole:,}"], shown)
+    use.do("press('anew');")
+    use.planned("anew again", setup, forecast)
 
 
 def columns(use: Use, setup: bytes, forecast: bytes) -> None:
@@ -314,13 +435,18 @@ def reloaded(use: Use, setup: bytes, forecast: bytes) -> None:
     else:
         use.type("5 1", "77")
     use.planned("keys", setup, more)
+    use.press("#in-order")
+    use.plan = IN_ORDER
+    use.press("[data-act='down 4']", "Enter")
+    moved = moved_down(setup, more, 4)
+    use.planned("keys, in order", *moved)
     use.do("await wait(500);")
     if isinstance(browser, Chromium):
         use.expect("no faults in the console", not (found := browser.faults()), found)
     ready(browser, use.page)
     if isinstance(browser, Chromium):
         use.expect("a warning before what was typed is left", browser.dialogs() == ["beforeunload"], browser.dialogs())
-    use.planned("reloaded", setup, more)
+    use.planned("reloaded, in order", *moved)
     use.expect("reloaded: the clock", use.do("return at('begins').value;") == "2026-11-27 06:00")
     use.drop(("setup.toml", setup), ("forecast.csv", forecast))
 
@@ -349,9 +475,12 @@ def keyboard(use: Use, browser: Chromium, setup: bytes, forecast: bytes) -> None
 
 def saved(use: Use, browser: Chromium, setup: bytes, forecast: bytes) -> None:
     """Files that are saved, and one that is opened again."""
-    use.do("at('begins').value = '2026-11-27 06:00'; at('begins').dispatchEvent(new Event('input', { bubbles: true }));")
+    use.do("at('begins').value = '2026-11-27 06:00'; at('begins').dispatchEvent(new Event('input', { bubbles: true })); press('in-order');")
+    use.plan = IN_ORDER
+    use.press("[data-act='down 4']", "Enter")
+    setup, forecast = moved_down(setup, forecast, 4)
     use.planned("before saving", setup, forecast)
-    plan = text("plan", setup, forecast)
+    plan = text(IN_ORDER, setup, forecast)
     wanted = {"plan.txt": plan, "chart.svg": text("chart", setup, forecast, plan), "table.csv": text("table", setup, forecast, plan), "setup.toml": setup, "forecast.csv": forecast}
     with tempfile.TemporaryDirectory() as folder:
         browser.downloads(folder)
@@ -368,12 +497,15 @@ def saved(use: Use, browser: Chromium, setup: bytes, forecast: bytes) -> None:
         use.expect("saved rudlayog.json", session.exists())
         whole = session.read_bytes() if session.exists() else b""
     use.drop(("setup.toml", (TOP / "examples" / "tight" / "setup.toml").read_bytes()), ("forecast.csv", (TOP / "examples" / "tight" / "forecast.csv").read_bytes()))
+    use.do("press('in-order');")
     use.drop(("rudlayog.json", whole))
-    use.planned("opened again", setup, forecast)
+    use.planned("opened again, in order", setup, forecast)
     use.expect("opened again: the clock", use.do("return at('begins').value;") == "2026-11-27 06:00")
     use.drop(("broken.json", b'{"rudlayog": 2}'))
     use.expect("no session", "no file that this page saved" in use.state()["note"], use.state()["note"])
     use.planned("kept", setup, forecast)
+    use.do("for (let turn = 0; turn < 5; turn++) press('undo');")
+    use.plan = PLAN
 
 
 def in_use(browser: Browser, page: str) -> tuple[int, Sequence[str]]:
@@ -384,6 +516,8 @@ def in_use(browser: Browser, page: str) -> tuple[int, Sequence[str]]:
     edits(use, setup, forecast)
     passes(use, setup, forecast)
     worths(use, setup, forecast)
+    shaded(use, setup, forecast)
+    in_order(use, setup, forecast)
     judged(use, setup, forecast)
     columns(use, setup, forecast)
     if isinstance(browser, Chromium):
