@@ -153,7 +153,9 @@ pub(crate) fn answer_to<'a, R: Threads + Wait + Sync>(
 {
     match task {
         Task::Plan {
-            in_order, output, ..
+            in_order,
+            output,
+            ..
         } => {
             let text = plan_text(alloc, in_order, texts)?;
             Ok(Answer::Text { text, output })
