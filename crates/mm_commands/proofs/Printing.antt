@@ -1,7 +1,7 @@
 -- What was printed of an answer.
 use Rattle.std.proofs.Common.{◌≡◌, ◌≢◌, ◌⊎◌, List, ℕ, Option, Result, Ok, Err, IfOk, IfSome, sym, subst, inl, ◌∙◌}
 use Rattle.mm_cut.specs.declared.verdict.Verdict.{Verdict}
-use Rattle.mm_cut.specs.declared.verdict.Verdict.TheVariants.{DoesNotFit, LossIs, BadStretch, BadCount, BoundIs, NotShown, Least}
+use Rattle.mm_cut.specs.declared.verdict.Verdict.TheVariants.{DoesNotFit, LossIs, BadStretch, BadCount, BoundIs, NotShown, Least, FirstNotShown, LeastInOrder}
 use Rattle.mm_ask.specs.declared.answering.Outcome.{Outcome as Replied}
 use Rattle.mm_ask.specs.declared.answering.Outcome.TheVariants as replied
 use Rattle.mm_command_line.specs.declared.task.Task.TheVariants.{Plan, Check, Chart, Table, Sensitivity, Fly, Ask, Read}
@@ -37,7 +37,9 @@ no-bad-verdict (BadStretch k) e = absurd (cc)
 no-bad-verdict (BadCount k) e = absurd (cc)
 no-bad-verdict (BoundIs bound) e = absurd (cc)
 no-bad-verdict (NotShown loss bound) e = absurd (cc)
+no-bad-verdict (FirstNotShown k) e = absurd (cc)
 no-bad-verdict (Least n) e = absurd (cc)
+no-bad-verdict (LeastInOrder n) e = absurd (cc)
 
 no-bad-reply : (o : Replied) → BadCommandLine ≡ status_of_replies o → ⊥
 no-bad-reply replied.AllDone e = absurd (cc)

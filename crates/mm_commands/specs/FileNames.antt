@@ -1,5 +1,5 @@
 -- How the name of a file is shown.
-use Rattle.std.specs.Prelude.{◌≡◌, ℕ, List, map, if◌then◌else◌, chars, encode_utf8_all}
+use Rattle.std.specs.Prelude.{ℕ, List, map, if◌then◌else◌, chars, encode_utf8_all}
 use Rattle.std.specs.Char.{is_ascii_control}
 
 -- a control character of ASCII is shown as `?`
