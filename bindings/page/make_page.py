@@ -12,7 +12,7 @@ from pathlib import Path
 
 HERE = Path(__file__).resolve().parent
 TOP = HERE.parents[1]
-EXAMPLES = ("mission", "two_passes", "tight", "channel_limit", "first_run")
+EXAMPLES = ("mission", "two_passes", "in_order", "tight", "channel_limit", "first_run")
 IMPORT = re.compile(r'^import \{[^}]*\} from "\./(\w+)\.js";\n', re.M)
 
 

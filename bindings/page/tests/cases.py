@@ -11,7 +11,7 @@ from collections.abc import Callable, Iterator
 from pathlib import Path
 
 TOP = Path(__file__).resolve().parents[3]
-EXAMPLES = ("mission", "tight", "two_passes", "channel_limit", "first_run")
+EXAMPLES = ("mission", "tight", "two_passes", "channel_limit", "in_order", "first_run")
 LETTERS = "ABCDEFGHIJKLMNOPQRSTUVWXYZ0123456789_-"
 MARK = b"\xef\xbb\xbf"
 Case = tuple[str, bytes, bytes, bytes]
