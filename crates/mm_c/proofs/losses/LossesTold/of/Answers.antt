@@ -9,5 +9,4 @@ returns c =
     let told = c.loop-store.invariant in
     let few : length c.args.problem.now.rows ≤ MAX_STORES = c.stores-store-end.ensures.is_dumping.stores.at_most in
     let all : c.loop-store.store ≡ length c.args.problem.now.rows = omega arith in
-    are_losses c.args.problem.now (amount c.args.plan.now) c.loop-store.by_store few told.places
-        (λ s below. told.lost s (omega arith)) (λ s past within. told.rest s (omega arith) within)
+    are_losses c.args.problem.now (amount c.args.plan.now) c.loop-store.by_store few told.places (λ s below. told.lost s (omega arith)) (λ s past within. told.rest s (omega arith) within)
