@@ -19,10 +19,10 @@
  * The library keeps nothing between two calls but what a handle holds, starts no thread and takes no lock: calls may be made in several
  * threads at once.
  *
- * Whatever it answers, a call writes its `answer` whole, and each value beside it (`verdict`, `outcome`, `fate`, `tally`, `time`, `state`,
- * `reports`, `report`), which is all 0 but where the call says another. It writes into its buffer only where it tells `RUDLAYOG_WRITTEN`,
- * and then only the `answer.length` octets of the text, or the first `answer.length` entries. A call on a handle that tells another status
- * has changed nothing, but that the retrieval is over where rudlayog_memory_next tells `RUDLAYOG_END`. */
+ * Whatever it answers, a call writes its `answer` whole, and each value beside it (`losses`, `verdict`, `outcome`, `fate`, `tally`, `time`,
+ * `state`, `reports`, `report`), which is all 0 but where the call says another. It writes into its buffer only where it tells
+ * `RUDLAYOG_WRITTEN`, and then only the `answer.length` octets of the text, or the first `answer.length` entries. A call on a handle that
+ * tells another status has changed nothing, but that the retrieval is over where rudlayog_memory_next tells `RUDLAYOG_END`. */
 #ifndef RUDLAYOG_H
 #define RUDLAYOG_H
 
@@ -170,6 +170,14 @@ struct rudlayog_answer {
     uint32_t status;
     struct rudlayog_refused refused;
     size_t length;
+};
+
+/* The most stores of a setup. */
+enum { RUDLAYOG_STORES = 16 };
+
+/* What each store of a setup loses in a plan, in blocks: its stores in their order, and 0 at the places after them. */
+struct rudlayog_losses {
+    uint64_t by_store[RUDLAYOG_STORES];
 };
 
 enum rudlayog_kind {
@@ -353,6 +361,7 @@ RUDLAYOG_SAME(offsetof(struct rudlayog_refused, line) == 16 && offsetof(struct r
 RUDLAYOG_SAME(sizeof(struct rudlayog_answer) == 48);
 RUDLAYOG_SAME(offsetof(struct rudlayog_answer, status) == 0 && offsetof(struct rudlayog_answer, refused) == 8);
 RUDLAYOG_SAME(offsetof(struct rudlayog_answer, length) == 40);
+RUDLAYOG_SAME(sizeof(struct rudlayog_losses) == 128);
 RUDLAYOG_SAME(sizeof(struct rudlayog_verdict) == 24);
 RUDLAYOG_SAME(offsetof(struct rudlayog_verdict, kind) == 0 && offsetof(struct rudlayog_verdict, place) == 4);
 RUDLAYOG_SAME(offsetof(struct rudlayog_verdict, loss) == 8 && offsetof(struct rudlayog_verdict, bound) == 16);
@@ -381,6 +390,14 @@ RUDLAYOG_SAME(offsetof(struct rudlayog_entry, apid) == 32 && offsetof(struct rud
  * `RUDLAYOG_WRITTEN`, `RUDLAYOG_TOO_SMALL` (never where `room` is `RUDLAYOG_PLAN_ROOM` or more), `RUDLAYOG_REFUSED`. */
 void rudlayog_plan(const uint8_t *setup, size_t setup_length, const uint8_t *forecast, size_t forecast_length, uint8_t *out, size_t room,
                    struct rudlayog_answer *answer);
+
+/* The text that rudlayog_plan gives, and what each store loses in that plan: in sum the loss that the text says. Stack:
+ * `RUDLAYOG_PLAN_STACK`.
+ *
+ * `RUDLAYOG_WRITTEN`, `RUDLAYOG_TOO_SMALL` (never where `room` is `RUDLAYOG_PLAN_ROOM` or more): `losses` is what the stores lose.
+ * `RUDLAYOG_REFUSED`: it is all 0. */
+void rudlayog_plan_losses(const uint8_t *setup, size_t setup_length, const uint8_t *forecast, size_t forecast_length, uint8_t *out,
+                          size_t room, struct rudlayog_losses *losses, struct rudlayog_answer *answer);
 
 /* The text of a dump plan that serves the stores in the setup's order: of the first store, of the first two and so on no plan that fits loses
  * fewer blocks, and a cut of each shows it. Stack: `RUDLAYOG_PLAN_STACK`.
@@ -442,7 +459,7 @@ void rudlayog_read(const uint8_t *packets, size_t packets_length, uint8_t *out, 
  * `RUDLAYOG_WRITTEN`, `RUDLAYOG_TOO_SMALL` (not where `room` is `RUDLAYOG_WORDS_ROOM` or more), `RUDLAYOG_REFUSED` out of memory. */
 void rudlayog_words(const struct rudlayog_refused *refused, uint8_t *out, size_t room, struct rudlayog_answer *answer);
 
-/* The hint on texts of which rudlayog_plan, rudlayog_plan_in_order, rudlayog_check, rudlayog_chart, rudlayog_table,
+/* The hint on texts of which rudlayog_plan, rudlayog_plan_losses, rudlayog_plan_in_order, rudlayog_check, rudlayog_chart, rudlayog_table,
  * rudlayog_sensitivity or rudlayog_ask was refused so: what is found in
  * them, in one line without its end, as `the cell is "x" in line 3 of the file, whose header is line 1`. A text that the call did not have
  * is given with the length 0. The text is empty where no more can be said. Stack: `RUDLAYOG_HINT_STACK`.

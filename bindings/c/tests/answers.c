@@ -81,6 +81,21 @@ static void make_no_plan(uint8_t *out, size_t room, struct rudlayog_answer *answ
     rudlayog_plan(TEXT(setup), TEXT(bad_forecast), out, room, answer);
 }
 
+static void make_losses(uint8_t *out, size_t room, struct rudlayog_answer *answer) {
+    struct rudlayog_losses losses;
+    memset(&losses, 0xA5, sizeof losses);
+    rudlayog_plan_losses(TEXT(setup), TEXT(forecast), out, room, &losses, answer);
+    expect(losses.by_store[0] == 2 && is_all(&losses.by_store[1], sizeof losses - sizeof losses.by_store[0], 0), "rudlayog_plan_losses",
+           "other losses");
+}
+
+static void make_no_losses(uint8_t *out, size_t room, struct rudlayog_answer *answer) {
+    struct rudlayog_losses losses;
+    memset(&losses, 0xA5, sizeof losses);
+    rudlayog_plan_losses(TEXT(setup), TEXT(bad_forecast), out, room, &losses, answer);
+    expect(is_all(&losses, sizeof losses, 0), "rudlayog_plan_losses", "losses where it is refused");
+}
+
 static void make_check(uint8_t *out, size_t room, struct rudlayog_answer *answer) {
     memset(&verdict, 0xA5, sizeof verdict);
     rudlayog_check(TEXT(setup), TEXT(forecast), plan, plan_length, out, room, &verdict, answer);
@@ -156,6 +171,8 @@ static const struct {
     {"rudlayog_check", make_check, 0}, {"rudlayog_check of a bad cell", make_no_check, RUDLAYOG_REFUSAL_CELL},
     {"rudlayog_chart", make_chart, 0}, {"rudlayog_ask of no setup", make_no_ask, RUDLAYOG_REFUSAL_SETUP_TEXT},
     {"rudlayog_ask", make_ask, 0},     {"rudlayog_table", make_table, 0},
+    {"rudlayog_plan_losses", make_losses, 0},
+    {"rudlayog_plan_losses of a bad cell", make_no_losses, RUDLAYOG_REFUSAL_CELL},
     {"rudlayog_sensitivity", make_sensitivity, 0},
     {"rudlayog_plan_in_order", make_in_order, 0},
     {"rudlayog_chart_worth", make_chart_worth, 0},
@@ -185,6 +202,23 @@ static void try_text(const char *name, make *call, uint32_t refusal) {
             expect(memcmp(out, text, written) == 0 && is_all(out + written, ROOM - written, 0xA5), name, "other octets are written");
         }
     }
+}
+
+/* Two stores of which one plan loses least: HK has 5 blocks in the first step and holds 3, whatever leaves it; SCI has room for 10 of 4 and 9
+ * blocks, and the window of the first step takes 2 away. The text is that of rudlayog_plan. */
+static void try_losses(void) {
+    static const char stores[] = "[[store]]\nid = \"HK\"\nsize = 3\ntype = \"bounded\"\nchannel = 0\n"
+                                 "[[store]]\nid = \"SCI\"\nsize = 10\ntype = \"bounded\"\nchannel = 0\n";
+    static const char steps[] = "step,window,HK,SCI\n1,2,5,4\n2,0,0,9\n";
+    static uint8_t alone[ROOM], beside[ROOM];
+    struct rudlayog_answer one, other;
+    struct rudlayog_losses losses;
+    rudlayog_plan(TEXT(stores), TEXT(steps), alone, ROOM, &one);
+    rudlayog_plan_losses(TEXT(stores), TEXT(steps), beside, ROOM, &losses, &other);
+    expect(one.status == RUDLAYOG_WRITTEN && other.status == one.status && other.length == one.length, "rudlayog_plan_losses",
+           "another answer");
+    expect(memcmp(alone, beside, one.length) == 0, "rudlayog_plan_losses", "another text");
+    expect(losses.by_store[0] == 2 && losses.by_store[1] == 1 && losses.by_store[2] == 0, "rudlayog_plan_losses", "losses of other stores");
 }
 
 /* The calls on a closed handle: each tells so, and writes nothing else. */
@@ -437,6 +471,7 @@ int main(void) {
     for (size_t k = 0; k < sizeof texts / sizeof texts[0]; k++) {
         try_text(texts[k].name, texts[k].call, texts[k].refusal);
     }
+    try_losses();
     rudlayog_version(version, sizeof version, &answer);
     expect(answer.length == strlen(RUDLAYOG_VERSION) && memcmp(version, RUDLAYOG_VERSION, answer.length) == 0, "rudlayog_version",
            "another than the header's");

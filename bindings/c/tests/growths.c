@@ -70,6 +70,17 @@ static void make_no_plan(uint8_t *out, struct rudlayog_answer *answer) {
     rudlayog_plan(TEXT(setup), TEXT(bad_forecast), out, ROOM, answer);
 }
 
+/* Where the call is refused no loss is told. */
+static void make_losses(uint8_t *out, struct rudlayog_answer *answer) {
+    static const struct rudlayog_losses none;
+    struct rudlayog_losses losses;
+    memset(&losses, 0xA5, sizeof losses);
+    rudlayog_plan_losses(TEXT(setup), TEXT(forecast), out, ROOM, &losses, answer);
+    if ((answer->status == RUDLAYOG_WRITTEN) != (memcmp(&losses, &none, sizeof none) != 0)) {
+        answer->status = 99;
+    }
+}
+
 static void make_check(uint8_t *out, struct rudlayog_answer *answer) {
     struct rudlayog_verdict verdict;
     rudlayog_check(TEXT(setup), TEXT(forecast), plan, plan_length, out, ROOM, &verdict, answer);
@@ -130,6 +141,7 @@ static const struct part parts[] = {
     {"rudlayog_plan", make_plan, RUDLAYOG_WRITTEN},   {"rudlayog_plan of a bad cell", make_no_plan, RUDLAYOG_REFUSED},
     {"rudlayog_check", make_check, RUDLAYOG_WRITTEN}, {"rudlayog_chart", make_chart, RUDLAYOG_WRITTEN},
     {"rudlayog_table", make_table, RUDLAYOG_WRITTEN}, {"rudlayog_read", make_read, RUDLAYOG_WRITTEN},
+    {"rudlayog_plan_losses", make_losses, RUDLAYOG_WRITTEN},
     {"rudlayog_sensitivity", make_sensitivity, RUDLAYOG_WRITTEN},
     {"rudlayog_plan_in_order", make_in_order, RUDLAYOG_WRITTEN},
     {"rudlayog_chart_worth", make_chart_worth, RUDLAYOG_WRITTEN},

@@ -32,6 +32,11 @@ static void nothing(void) {}
 
 static void call_plan(void) { rudlayog_plan(GIVEN(setup), GIVEN(forecast), out, ROOM, &answer); }
 
+static void call_plan_losses(void) {
+    struct rudlayog_losses losses;
+    rudlayog_plan_losses(GIVEN(setup), GIVEN(forecast), out, ROOM, &losses, &answer);
+}
+
 static void call_check(void) {
     struct rudlayog_verdict verdict;
     rudlayog_check(GIVEN(setup), GIVEN(forecast), GIVEN(plan), out, ROOM, &verdict, &answer);
@@ -166,6 +171,7 @@ static struct {
     size_t told, most; /* what the header says, and the most that was met */
 } calls[] = {
     {"rudlayog_plan", call_plan, RUDLAYOG_PLAN_STACK, 0},
+    {"rudlayog_plan_losses", call_plan_losses, RUDLAYOG_PLAN_STACK, 0},
     {"rudlayog_check", call_check, RUDLAYOG_CHECK_STACK, 0},
     {"rudlayog_chart", call_chart, RUDLAYOG_CHART_STACK, 0},
     {"rudlayog_table", call_table, RUDLAYOG_TABLE_STACK, 0},

@@ -8,7 +8,6 @@ import operator
 import os
 from collections.abc import ItemsView, Iterable, Iterator, Mapping
 from functools import cached_property
-from itertools import accumulate
 from pathlib import Path
 from types import MappingProxyType
 from typing import Any, Protocol, SupportsIndex
@@ -49,11 +48,6 @@ class Column(tuple[int, ...]):
     def texts(self) -> list[str]:
         """The text of each number."""
         return list(map(str, self))
-
-    @cached_property
-    def sums(self) -> list[int]:
-        """The sum of the numbers up to each one."""
-        return list(accumulate(self))
 
     def __reduce__(self) -> tuple[object, ...]:
         return Column, (tuple(self),)

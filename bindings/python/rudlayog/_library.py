@@ -14,6 +14,7 @@ WRITTEN, TOO_SMALL, REFUSED, CLOSED, OPEN, END = range(6)
 ROW = 2  # RUDLAYOG_ROW
 NO_MEMORY, SHORT, HEADER, STEP_NUMBER, PLAN_TEXT, HEX_LINE = 0, 1, 30, 32, 34, 49  # RUDLAYOG_REFUSAL_NO_MEMORY and so on
 PLAN_ROOM = 204800  # RUDLAYOG_PLAN_ROOM
+STORES = 16  # RUDLAYOG_STORES
 LINE_ROOM = 64  # RUDLAYOG_LINE_ROOM
 INSTRUCTIONS = 255  # RUDLAYOG_INSTRUCTIONS
 BLOCK = 1024  # RUDLAYOG_BLOCK
@@ -42,6 +43,12 @@ class Answer(ctypes.Structure):
     """struct rudlayog_answer"""
 
     _fields_ = [("status", ctypes.c_uint32), ("refused", RefusedAt), ("length", _size)]
+
+
+class LossesTold(ctypes.Structure):
+    """struct rudlayog_losses"""
+
+    _fields_ = [("by_store", ctypes.c_uint64 * STORES)]
 
 
 class VerdictTold(ctypes.Structure):
@@ -149,6 +156,7 @@ def _call(name: str, *types: object) -> Callable[..., None]:
 _text = (_octets, _size)
 _out = (_buffer, _size)
 rudlayog_plan = _call("rudlayog_plan", *_text, *_text, *_out)
+rudlayog_plan_losses = _call("rudlayog_plan_losses", *_text, *_text, *_out, ctypes.POINTER(LossesTold))
 rudlayog_plan_in_order = _call("rudlayog_plan_in_order", *_text, *_text, *_out)
 rudlayog_check = _call("rudlayog_check", *_text, *_text, *_text, *_out, ctypes.POINTER(VerdictTold))
 rudlayog_chart = _call("rudlayog_chart", *_text, *_text, *_text, *_out)

@@ -22,12 +22,10 @@ import io
 import os
 import re
 from array import array
-from bisect import bisect_left
 from collections.abc import Callable, Iterator, Mapping, Sequence
 from dataclasses import dataclass
 from functools import partial
 from heapq import nsmallest
-from itertools import compress
 from operator import sub
 from typing import TYPE_CHECKING, Any, NamedTuple, TextIO, TypeVar, Union
 
@@ -207,8 +205,8 @@ def study(
     """The answers for variants of a mission, or of a setup and a forecast.
 
     Each variant is planned anew, with the least loss; or, with a `plan`, that one is flown, and where less can be sent than it says, the
-    stores give way in the reverse of their order. The losses by store take longer than the plan: `by_store=False` leaves them out, but those
-    of a plan that is given. With `in_order` the stores are served in their order, and the losses by store cost nothing. `executor` is any of `concurrent.futures`, or Dask's `Client`; without one threads of this
+    stores give way in the reverse of their order. `by_store=False` leaves the losses by store out, but those of a plan that is given. With
+    `in_order` the stores are served in their order. `executor` is any of `concurrent.futures`, or Dask's `Client`; without one threads of this
     machine are used. Whatever executes it, the table is the same. A worker that dies costs its variants a second try. A progress bar is shown
     where standard error is a terminal; `Ctrl-C` ends the study with what is done."""
     base = _base(given)
@@ -350,14 +348,11 @@ def _found_by_joined(task: Task, changes: tuple[Change, ...]) -> Found | None:
 
 
 def _planned(setup: Setup, forecast: Forecast, by_store: bool) -> Found:
-    """What is found of a least plan, read from its text."""
-    text = _library.told(_library.rudlayog_plan, texts=(bytes(setup), bytes(forecast)))
-    at = text.rindex(b"\nloss ")
-    loss, shown, bound = _shown(text, at)
-    lost: tuple[int, ...] = ()
-    if by_store:
-        lost = _lost_by_store(setup, forecast, text[:at].decode("ascii"), shown.splitlines()) if loss else (0,) * len(setup.stores)
-    return Found(loss, lost, bound, shown)
+    """What is found of a least plan, read from its text; its losses by store come with it."""
+    losses = _library.LossesTold()
+    text = _library.told(_library.rudlayog_plan_losses, texts=(bytes(setup), bytes(forecast)), more=(losses,))
+    loss, shown, bound = _shown(text, text.rindex(b"\nloss "))
+    return Found(loss, tuple(losses.by_store[: len(setup.stores)]) if by_store else (), bound, shown)
 
 
 def _shown(text: bytes, at: int) -> tuple[int, str, int]:
@@ -374,28 +369,6 @@ def _served_in_order(setup: Setup, forecast: Forecast) -> Found:
     loss, shown, bound = _shown(text, at)
     _, *firsts = map(int, _LOSS.findall(text, at))
     return Found(loss, tuple(map(sub, [*firsts, loss], [0, *firsts])), bound, shown)
-
-
-def _lost_by_store(setup: Setup, forecast: Forecast, body: str, cut: list[str]) -> tuple[int, ...]:
-    """What each store loses, by the dump lines of a least plan and the lines of its cut. The loss is the bound of the cut; so nothing is lost
-    outside its stretches, and in each of them what it adds to the bound, with the dumps in its inner steps for the windows."""
-    lines = body.split("\n")[-len(forecast.windows) :]
-    # where a window is 0, so are the amounts
-    steps = list(compress(range(len(lines)), forecast.windows))
-    words = " ".join(compress(lines, forecast.windows)).split(" ")
-    # a line has its word, its step, and the amounts
-    width = len(setup.stores) + 2
-    places = {store.id: place for place, store in enumerate(setup.stores)}
-    lost = [0] * len(places)
-    for line in cut:
-        word, name, *ends = line.split(" ")
-        if word == "stretch":
-            place, first, last = places[name], int(ends[0]), int(ends[1])
-            store, sums = setup.stores[place], forecast.arrivals[name].sums
-            came = sums[last - 1] - sums[first - 2] if first > 1 else sums[last - 1] + store.start
-            inner = words[width * bisect_left(steps, first - 1) + 2 + place : width * bisect_left(steps, last - 1) : width]
-            lost[place] += came - store.size - sum(map(int, filter("0".__ne__, inner)))
-    return tuple(lost)
 
 
 def _flown(setup: Setup, forecast: Forecast, dumps: tuple[tuple[int, ...], ...]) -> tuple[int, ...]:

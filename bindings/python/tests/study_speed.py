@@ -2,8 +2,8 @@
 """Measures what a variant of a study takes: `study_speed.py [MOST]`. On one thread it is compared with the call in C, whose texts and buffer are
 there already: each of many variants is answered once in a round, after the others, and the least time of some rounds counts. Then threads for
 all processors work at once, beside as many that make C calls alone: on a busy machine both get the same share of it. And scipy's linprog
-(HiGHS) solves the same problem, where it is installed. Prints a line for each, and fails where a variant whose losses by store are left out
-takes more than MOST times (1.5) the C call, and with them one more."""
+(HiGHS) solves the same problem, where it is installed. Prints a line for each, and fails where a variant takes more than MOST times (1.5) the
+C call that plans, with its losses by store or without them."""
 
 import os
 import sys
@@ -133,7 +133,7 @@ def main():
         # On a busy machine a measurement may be wrong: it is taken again where it is above the most.
         for _ in range(3):
             in_python, by_store, in_c = times_of(base, variants)
-            fails = in_python > most * in_c or by_store > (most + 1) * in_c
+            fails = max(in_python, by_store) > most * in_c
             if not fails:
                 break
         print(

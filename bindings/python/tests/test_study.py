@@ -4,6 +4,7 @@ import concurrent.futures
 import multiprocessing
 import os
 import pickle
+import random
 import signal
 import tempfile
 import threading
@@ -12,11 +13,13 @@ from dataclasses import replace
 from fractions import Fraction
 from pathlib import Path
 
+import compare
 from made_missions import made_mission
-from rudlayog import Forecast, Plan, Setup, check, plan, table
+from rudlayog import Forecast, Plan, Refusal, Setup, Store, _library, check, plan, table
 from rudlayog import study as studies
 from rudlayog._found import Found, FoundTable
 from rudlayog._timeline import problem_of
+from rudlayog.mission import Mission
 from rudlayog.study import Changed, Replaced, Variant, answers, each_pass_lost, each_store_sized, grid, lost, rated, scaled, shortened, sized, study
 
 try:
@@ -24,6 +27,7 @@ try:
 except ImportError:
     distributed = None
 
+EXAMPLES = Path(__file__).resolve().parents[3] / "examples"
 # A mission whose passes overlap nowhere and whose channels have no rates, and one with both.
 PLAIN = made_mission(3, apart=True, channels=False)
 MIXED = next(mission for mission in map(made_mission, range(9, 99)) if len(mission.passes) > 3 and any(mission.rates(one)[1] for one in mission.passes))
@@ -72,6 +76,60 @@ def variants_of(mission):
         Variant("one rate", (rated("2 kbit/s", of=[mission.passes[0].station]),)),
         Variant("two changes", (lost(mission.passes[0].name), sized(stores[0], "70 blocks"))),
     ]
+
+
+def lost_by(setup, forecast, text):
+    """What each store loses by a plan text, by the table of the library."""
+    columns = table(setup, forecast, text).to_dict()
+    return [sum(gone for gone, name in zip(columns["lost"], columns["store"]) if name == store.id) for store in setup.stores]
+
+
+class Losses(unittest.TestCase):
+    """The losses by store that come with a plan."""
+
+    def agree(self, setup, forecast):
+        texts, losses = (bytes(setup), bytes(forecast)), _library.LossesTold()
+        text = _library.told(_library.rudlayog_plan_losses, texts=texts, more=(losses,))
+        self.assertEqual(text, _library.told(_library.rudlayog_plan, texts=texts))
+        by_store = lost_by(setup, forecast, Plan(text))
+        self.assertEqual(list(losses.by_store), by_store + [0] * (_library.STORES - len(by_store)))
+        self.assertEqual(sum(losses.by_store), Plan(text).loss)
+        return by_store
+
+    def test_they_are_those_of_the_plan_that_is_printed(self):
+        for setup in sorted(EXAMPLES.glob("*/setup.toml")):
+            if setup.with_name("forecast.csv").exists():
+                self.agree(Setup.read(setup), Forecast.read(setup.with_name("forecast.csv")))
+        self.agree(*Mission.read(EXAMPLES / "mars_week" / "mission.toml").problem())
+        dice = random.Random(7)
+        losing = 0
+        for _ in range(200):
+            stores = compare.setup(dice)
+            losing += sum(map(bool, self.agree(stores, compare.forecast(dice, stores)))) > 1
+        self.assertGreater(losing, 20)
+
+    def test_as_many_stores_and_steps_as_there_may_be(self):
+        dice = random.Random(3)
+        stores = Setup.of([Store(f"S{place}", dice.randint(1, 60), channel=place % 8) for place in range(_library.STORES)])
+        windows = [dice.choice([0, 0, 90]) for _ in range(256)]
+        by_store = self.agree(stores, Forecast.of(windows, {store.id: [dice.randint(0, 9) for _ in windows] for store in stores.stores}))
+        self.assertEqual((len(by_store), min(by_store) > 0, len(set(by_store)) > 8), (16, True, True))
+
+    def test_a_study_tells_them(self):
+        # HK has 5 blocks in step 1, and holds 3, whatever leaves it. SCI holds 10 of 4 and 9, but for those that leave it in step 1.
+        stores = Setup.of([Store("HK", 3), Store("SCI", 10)])
+        forecast = Forecast.of([2, 0], {"HK": [5, 0], "SCI": [4, 9]})
+        wider = Replaced(lambda setup, forecast: (setup, forecast.having(windows=[3, 0])))
+        found = study((stores, forecast), {"wider": wider, "none": scaled(0), "larger": sized("HK", "4 blocks")}, progress=False)
+        self.assertEqual((found.base.loss, found.base.by_store), (3, (2, 1)))
+        self.assertEqual([(answer.loss, answer.by_store) for answer in found], [(2, (2, 0)), (0, (0, 0)), (2, (1, 1))])
+        self.assertEqual(study((stores, forecast), {}, by_store=False, progress=False).base.by_store, ())
+
+    def test_a_refused_call_tells_none(self):
+        losses = _library.LossesTold((7,) * _library.STORES)
+        with self.assertRaises(Refusal):
+            _library.told(_library.rudlayog_plan_losses, texts=(bytes(PLAIN.problem().setup), b"step,window\n"), more=(losses,))
+        self.assertEqual(list(losses.by_store), [0] * _library.STORES)
 
 
 class Answers(unittest.TestCase):

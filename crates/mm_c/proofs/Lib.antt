@@ -2,3 +2,4 @@ pub mod Rooms
 pub mod Values
 pub mod Held
 pub mod Small
+pub mod LossLists

@@ -4,3 +4,4 @@ pub mod Serving
 pub mod Showing
 pub mod Fields
 pub mod Bounding
+pub mod Losses

@@ -6,6 +6,7 @@ pub mod bounding;
 pub mod fields;
 pub mod handle;
 pub mod hinting;
+pub mod losses;
 pub mod memory;
 mod parts;
 pub mod plans;
