@@ -1,9 +1,7 @@
 //! A plan with what each store loses in it.
-ghost use Rattle.std.specs.Prelude.{◌≡◌, ◌*◌, ◌<◌, ◌≤◌, length, IfOk};
-ghost use Rattle.mm_base.specs.declared.limits.TheConstants.{MAX_STEPS, MAX_BLOCKS};
+ghost use Rattle.std.specs.Prelude.{◌≡◌, ◌≤◌, length, IfOk};
 ghost use Rattle.mm_base.specs.Reading.{IfRefused};
 ghost use Rattle.mm_plan.specs.Table.{amount, HasShape};
-ghost use Rattle.mm_plan.specs.Volumes.{store_loss};
 ghost use Rattle.mm_cut.specs.declared.fault.Fault.TheVariants as fault;
 ghost use Rattle.mm_planner.specs.PlanTexts.{IsPlanningFault};
 ghost use Rattle.mm_told.specs.Telling.{Tells};
@@ -12,7 +10,7 @@ ghost use Rattle.mm_c.specs.Losses.{losses_in, no_losses, PlansWithLosses, Leave
 
 use mm_base::MAX_STORES;
 use mm_cut::Fault;
-use mm_plan::Plan;
+use mm_plan::{Plan, store_loss};
 use mm_planner::print_plan;
 use mm_problem::{Problem, read_problem};
 use mm_told::{Answer, PLAN_ROOM, Reason, plan_texts_fit, tell_text};
@@ -30,25 +28,6 @@ pub struct LossesTold {
 struct Planned {
     text: Vec<u8>,
     losses: LossesTold,
-}
-
-// What one store loses in a plan, over all steps.
-fn store_loss(problem: &Problem, plan: &Plan, store: usize) -> u64
-    requires shape { HasShape problem.now plan.now }
-    requires store { store < length problem.now.rows }
-    ensures loss { result ≡ store_loss problem.now (amount plan.now) store }
-    ensures most { result ≤ 2 * MAX_BLOCKS * MAX_STEPS }
-{
-    let size = problem.size(store);
-    let mut left = problem.start(store);
-    let mut lost: u64 = 0;
-    for step in 1..problem.steps() + 1 {
-        let coming = left + problem.arrivals(store, step);
-        let written = coming.min(size);
-        lost += u64::from(coming - written);
-        left = written - plan.amount(store, step).min(written);
-    }
-    lost
 }
 
 impl LossesTold {

@@ -22,7 +22,7 @@ pub use certificate::Certificate;
 pub use fault::Fault;
 pub use filling::fill;
 pub use fit::fits;
-pub use loss::{first_loss, loss_of};
+pub use loss::{first_loss, loss_of, store_loss};
 pub use mm_base::NoMemory;
 pub use plan::Plan;
 pub use sheet::Sheet;

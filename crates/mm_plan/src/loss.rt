@@ -9,8 +9,9 @@ use crate::plan::Plan;
 use mm_base::MAX_STORES;
 use mm_problem::Problem;
 
-// How many blocks one store loses over all steps.
-fn store_loss(problem: &Problem, plan: &Plan, store: usize) -> u64
+/// How many blocks one store loses over all steps, where the plan is carried out and what arrives is the problem's arrivals.
+#[must_use]
+pub fn store_loss(problem: &Problem, plan: &Plan, store: usize) -> u64
     requires shape { HasShape problem.now plan.now }
     requires store { store < length problem.now.rows }
     ensures loss { result ≡ store_loss problem.now (amount plan.now) store }
@@ -28,7 +29,7 @@ fn store_loss(problem: &Problem, plan: &Plan, store: usize) -> u64
     lost
 }
 
-/// How many blocks that many of the first stores lose, where the plan is carried out and what arrives is the problem's arrivals.
+/// How many blocks that many of the first stores lose.
 #[tactic(auto, using(mm_base::proofs::RangeSums::sum_by_range_more))]
 #[must_use]
 pub fn first_loss(problem: &Problem, plan: &Plan, stores: usize) -> u64
