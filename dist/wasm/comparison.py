@@ -1,5 +1,6 @@
 """Compares a module that retarget.py made with the one that the kit lowered, function by function: up to the numbers of registers, labels,
 groups and notes, and up to the place of the stack's test among the first lines of a function."""
+import functools
 import re
 
 TEST = re.compile(
@@ -68,6 +69,7 @@ def differences(made, kits):
     return found
 
 
+@functools.cache
 def shape(line):
     """The form of an instruction: its operation, types and flags."""
     line = re.sub(r'@"[^"]*"|@(?!llvm)[\w.]+', "@f", line)

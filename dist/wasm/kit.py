@@ -6,12 +6,14 @@ import re
 import shutil
 import subprocess
 import sys
+import threading
 
 RT = shutil.which("rt") or sys.exit("dist/module: no rt on PATH")
 KIT = os.path.dirname(subprocess.run([RT, "doc"], capture_output=True, text=True, check=True).stdout.strip())
 TOOLS = f"{KIT}/toolchain/bin"
 X86 = "x86_64-unknown-linux-gnu"
 WASM = "wasm64-unknown-unknown"
+spent = threading.local()
 
 
 def refuse(words):
@@ -33,10 +35,20 @@ def load_rt():
 
 def run(*words, cwd=None):
     """Runs a command, whose output is shown where it fails."""
-    ran = subprocess.run(words, cwd=cwd, stdin=subprocess.DEVNULL, stdout=subprocess.PIPE, stderr=subprocess.STDOUT, text=True, errors="replace", check=False)
+    how = {"stdin": subprocess.DEVNULL, "stdout": subprocess.PIPE, "stderr": subprocess.STDOUT, "text": True, "errors": "replace"}
+    with subprocess.Popen(words, cwd=cwd, **how) as ran:
+        said = ran.stdout.read()
+        _, status, used = os.wait4(ran.pid, 0)
+        ran.returncode = os.waitstatus_to_exitcode(status)
+    spent.seconds = spent_in_commands() + used.ru_utime + used.ru_stime
     if ran.returncode:
-        refuse(f"status {ran.returncode} of {os.path.basename(words[0])} {' '.join(words[1:3])} ..\n" + "\n".join(ran.stdout.split("\n")[-20:]))
-    return ran.stdout
+        refuse(f"status {ran.returncode} of {os.path.basename(words[0])} {' '.join(words[1:3])} ..\n" + "\n".join(said.split("\n")[-20:]))
+    return said
+
+
+def spent_in_commands():
+    """The processor time of the commands that this thread has run, in seconds."""
+    return getattr(spent, "seconds", 0.0)
 
 
 def recording_tools(work):

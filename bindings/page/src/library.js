@@ -1,11 +1,13 @@
 // The calls of the library, as bindings/c/rudlayog.h says them, on texts as octets. Nothing outside this file knows of memory.
 //
-// The module takes its heap from here: blocks lie one after another, one that was given back serves the next of its size, and each call has an
-// instance of its own, whose memory goes with it. So no call sees what another one left, and after a fault nothing is called again.
+// The module takes its heap from here: blocks lie one after another, and one that was given back serves the next of its size. An instance whose
+// call returned serves the next one, with each octet of its memory as it was at first. So no call sees what another one left, and what a fault
+// left is never called again.
 const WRITTEN = 0, TOO_SMALL = 1, REFUSED = 2; // RUDLAYOG_WRITTEN and so on
 const PLAN_ROOM = 204800, LINE_ROOM = 64, PICTURE_ROOM = 1 << 18, WORDS_ROOM = 512, HINT_ROOM = 1024, VERSION_ROOM = 16;
 const REFUSED_SIZE = 32, VERDICT_SIZE = 24, ANSWER_SIZE = 48, LENGTH_AT = 40;
 const PAGE = 65536n, ALIGN = 16n;
+const MOST_KEPT_MEMORY = 1 << 24; // octets, above which the memory of a call goes with it
 // RUDLAYOG_LEAST and so on
 const KINDS = ["no verdict", "least", "does not fit", "loss is", "bad stretch", "bad count", "bound is", "not shown", "least in order", "first not shown"];
 
@@ -28,13 +30,17 @@ function blocksOver(takeNew) {
       if (!spare.has(size)) spare.set(size, []);
       spare.get(size).push(at);
     },
+    forget() {
+      sizes.clear();
+      spare.clear();
+    },
   };
 }
 
 // An instance of the module with its heap: its calls, and what takes and reads blocks of its memory.
 function instantiate(module) {
   let memory, top = 0n, isWide = true;
-  const { take, giveBack } = blocksOver(takeNew);
+  const { take, giveBack, forget } = blocksOver(takeNew);
 
   const view = () => new DataView(memory.buffer);
 
@@ -82,14 +88,41 @@ function instantiate(module) {
   } catch {
     isWide = false;
   }
-  top = (BigInt(exports.__heap_base.value) + ALIGN - 1n) & ~(ALIGN - 1n);
-  return { exports, take, view, octets: (at, length) => new Uint8Array(memory.buffer, Number(at), length) };
+  const base = (BigInt(exports.__heap_base.value) + ALIGN - 1n) & ~(ALIGN - 1n), atFirst = new Uint8Array(memory.buffer, 0, Number(base)).slice();
+  top = base;
+  return {
+    exports, take, view,
+    octets: (at, length) => new Uint8Array(memory.buffer, Number(at), length),
+    isSmall: () => memory.buffer.byteLength <= MOST_KEPT_MEMORY,
+    // After a call that returned: what is below the heap is as it was at first, and the heap is empty.
+    clear() {
+      const all = new Uint8Array(memory.buffer);
+      all.set(atFirst);
+      all.fill(0, Number(base), Number(top));
+      top = base;
+      forget();
+    },
+  };
+}
+
+// The calls of a module. One instance is kept between them.
+function callsOf(module) {
+  let spare = null;
+  return function call(name, given) {
+    const it = spare ?? instantiate(module);
+    // What throws leaves no instance.
+    spare = null;
+    const answer = callOn(it, name, given);
+    if (it.isSmall()) {
+      it.clear();
+      spare = it;
+    }
+    return answer.status === TOO_SMALL ? call(name, { ...given, room: answer.length }) : answer;
+  };
 }
 
 // Makes a call: with texts, structs that are given, a buffer with this room, structs that are told, and the answer.
-function call(module, name, { texts = [], given = [], room, told = [] }) {
-  const it = instantiate(module);
-
+function callOn(it, name, { texts = [], given = [], room, told = [] }) {
   function block(size) {
     const at = it.take(BigInt(size));
     if (!at) throw new NoMemory("there is no memory for the texts");
@@ -106,8 +139,9 @@ function call(module, name, { texts = [], given = [], room, told = [] }) {
   const [structs, out, results, answer] = [given.map(put), block(room), told.map(block), block(ANSWER_SIZE)];
   it.exports[`rudlayog_${name}`](...words, ...structs, out, BigInt(room), ...results, answer);
   const view = it.view(), at = Number(answer), status = view.getUint32(at, true), length = Number(view.getBigUint64(at + LENGTH_AT, true));
-  if (status === TOO_SMALL) return call(module, name, { texts, given, room: length, told });
   return {
+    status,
+    length,
     octets: status === WRITTEN ? it.octets(out, length).slice() : null,
     refused: status === REFUSED ? it.octets(answer + 8n, REFUSED_SIZE).slice() : null,
     told: results.map((place, nth) => new DataView(it.octets(place, told[nth]).slice().buffer)),
@@ -116,18 +150,18 @@ function call(module, name, { texts = [], given = [], room, told = [] }) {
 
 // The library over a compiled module. Each call answers `octets`, or `refused`: the refusal's words, its number and its place.
 export function libraryOf(module) {
-  const ascii = octets => String.fromCharCode(...octets);
+  const call = callsOf(module), ascii = octets => String.fromCharCode(...octets);
 
   function refusalOf(refused, texts) {
     const fields = new DataView(refused.buffer), number = fields.getUint32(0, true);
     const of = { number, row: fields.getUint32(8, true), column: fields.getUint32(12, true), line: Number(fields.getBigUint64(16, true)) };
-    const words = call(module, "words", { given: [refused], room: WORDS_ROOM }).octets;
-    const hint = number && call(module, "hint", { texts: [...texts, new Uint8Array(), new Uint8Array()].slice(0, 3), given: [refused], room: HINT_ROOM }).octets;
+    const words = call("words", { given: [refused], room: WORDS_ROOM }).octets;
+    const hint = number && call("hint", { texts: [...texts, new Uint8Array(), new Uint8Array()].slice(0, 3), given: [refused], room: HINT_ROOM }).octets;
     return { ...of, words: words ? ascii(words) : "0 NoMemory: expected memory for the task; free some memory", hint: hint ? ascii(hint) : "" };
   }
 
   function answerTo(name, texts, room, told) {
-    const answer = call(module, name, { texts, room, told });
+    const answer = call(name, { texts, room, told });
     return { octets: answer.octets, refused: answer.refused && refusalOf(answer.refused, texts), told: answer.told };
   }
 
@@ -143,6 +177,6 @@ export function libraryOf(module) {
     chartWorth: (setup, forecast, plan) => answerTo("chart_worth", [setup, forecast, plan], PICTURE_ROOM),
     table: (setup, forecast, plan) => answerTo("table", [setup, forecast, plan], PICTURE_ROOM),
     sensitivity: (setup, forecast) => answerTo("sensitivity", [setup, forecast], PICTURE_ROOM),
-    version: () => ascii(call(module, "version", { room: VERSION_ROOM }).octets),
+    version: () => ascii(call("version", { room: VERSION_ROOM }).octets),
   };
 }

@@ -288,8 +288,10 @@ function listen() {
 
 async function begin() {
   const octets = Uint8Array.from(atob(at("module").textContent.trim()), it => it.charCodeAt(0));
+  let module;
   try {
-    library = libraryOf(await WebAssembly.compile(octets));
+    module = await WebAssembly.compile(octets);
+    library = libraryOf(module);
     at("version").textContent = library.version();
   } catch (fault) {
     at("start").textContent = `This browser cannot run the planner: it needs WebAssembly with memories of 64 bits, as Chrome and Edge have from 133 on and Firefox from 134. The other page of the release needs none. (${fault.message})`;
@@ -302,7 +304,7 @@ async function begin() {
     note("What was here last is here again, out of this browser.");
   } else if (given) history.open(given);
   // For tests.
-  window.rudlayog = { library, libraryOf, get state() { return { ...history.now, ...answer, chart, table, records, isBusy, taken, worths: worthsText(), shaded: shadedChart(history.now), passes: passesShown(history.now, records) }; } };
+  window.rudlayog = { library, libraryOf, module, get state() { return { ...history.now, ...answer, chart, table, records, isBusy, taken, worths: worthsText(), shaded: shadedChart(history.now), passes: passesShown(history.now, records) }; } };
   document.documentElement.dataset.ready = "yes";
 }
 

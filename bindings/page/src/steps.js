@@ -29,6 +29,10 @@ function laySteps(header, count) {
   });
   grid.tBodies[0].replaceChildren(...lines.map(it => it.tr));
   for (const it of grid.querySelectorAll("input")) it.tabIndex = -1;
+  // Rows that are laid out by themselves stay rows of a table for a reader of the screen.
+  for (const [what, role] of Object.entries({ tr: "row", "thead th": "columnheader", "tbody th": "rowheader", td: "cell" }))
+    for (const it of grid.querySelectorAll(what)) it.setAttribute("role", role);
+  lines.forEach(({ tr }, nth) => tr.setAttribute("aria-label", `Step ${nth + 1}`));
   held = { row: Math.min(held.row, count - 1), column: shows === "arrived" ? Math.min(held.column, header.length - 1) : 1 };
   inputAt(held).tabIndex = 0;
 }

@@ -7,11 +7,20 @@ import { decode, digits, setupOf } from "./texts.js";
 const SUMS = [["arrived", "arrives"], ["dumped", "sent"], ["lost", "lost"], ["together", "lost down to it"], ["held", "at the end"], ["most", "most held"]];
 const SUMMED = ["start", "arrived", "dumped", "lost", "held"];
 const PLANNED = ["plan", "chart", "table"];
+const DIMS_AFTER = 400; // milliseconds
+
+let dims = 0;
+// What is shown of the last plan is dimmed while the texts cannot be read, but not at each key on the way to another number.
+function dim(isOld) {
+  clearTimeout(dims);
+  if (isOld) dims = setTimeout(() => document.body.classList.add("old"), DIMS_AFTER);
+  else document.body.classList.remove("old");
+}
 
 export function showVerdict(session, answer) {
   const { refused, verdict, loss, line } = answer, said = refused && refusalOf(refused, session), isKnown = !refused && loss !== null;
   at("verdict").className = refused ? "refused" : ["least", "least in order"].includes(verdict.kind) ? "least" : "wrong";
-  document.body.classList.toggle("old", !!refused);
+  dim(!!refused);
   at("said").textContent = refused ? `${said.whose ? `The ${said.whose}` : "This"} cannot be read: ${said.advice || said.short}` : sentenceOf(verdict);
   at("line").textContent = refused ? (said.advice ? `refused ${said.short}` : "") : line;
   at("expected").textContent = refused && said.expected ? `Expected: ${said.expected}.${said.hint ? ` Found: ${said.hint}.` : ""}` : "";

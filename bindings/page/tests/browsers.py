@@ -115,6 +115,19 @@ class Chromium:
         self.ask("Input.dispatchKeyEvent", type="keyDown", key=key, modifiers=modifiers, **text, **more)
         self.ask("Input.dispatchKeyEvent", type="keyUp", key=key, modifiers=modifiers, **more)
 
+    def record(self) -> None:
+        """Has the browser record the tasks of its threads."""
+        self.ask("Tracing.start", transferMode="ReportEvents", traceConfig={"includedCategories": ["toplevel"], "traceBufferSizeInKb": 400000})
+
+    def recorded(self) -> list[dict[str, Any]]:
+        """The events that were recorded."""
+        self.ask("Tracing.end")
+        while not any(it.get("method") == "Tracing.tracingComplete" for it in self.events):
+            self.take(self.read())
+        found = [event for it in self.events if it.get("method") == "Tracing.dataCollected" for event in it["params"]["value"]]
+        self.events = [it for it in self.events if not it.get("method", "").startswith("Tracing.")]
+        return found
+
     def downloads(self, folder: str) -> None:
         """Has files that are saved go into a folder."""
         session, self.session = self.session, ""
@@ -136,12 +149,15 @@ class Chromium:
 
     def picture(self, path: str, whole: bool = True) -> None:
         """Leaves a picture of the page, or of what is in the window."""
-        more: dict[str, object] = {}
         if whole:
+            # Rows that nobody sees are not painted, so the window gets the height of the page.
             size = self.ask("Page.getLayoutMetrics")["cssContentSize"]
-            more = {"captureBeyondViewport": True, "clip": {"x": 0, "y": 0, "width": size["width"], "height": size["height"], "scale": 1}}
+            self.ask("Emulation.setDeviceMetricsOverride", width=size["width"], height=size["height"], deviceScaleFactor=1, mobile=False)
+            self.run("await new Promise(done => setTimeout(done, 500));")
         with open(path, "wb") as file:
-            file.write(base64.b64decode(self.ask("Page.captureScreenshot", **more)["data"]))
+            file.write(base64.b64decode(self.ask("Page.captureScreenshot")["data"]))
+        if whole:
+            self.ask("Emulation.clearDeviceMetricsOverride")
 
     def printed(self, path: str) -> None:
         """Leaves the page as it is printed."""

@@ -52,7 +52,8 @@ WebAssembly.Instance = function (module, { heap }) {
 const texts = { plan: [], planInOrder: [], sensitivity: [] };
 const out = {};
 for (const name of CALLS) {
-  const does = () => library[name](setup, forecast, ...(texts[name] ?? [plan]));
+  // Each call has a library of its own, and so an instance of its own.
+  const does = () => window.rudlayog.libraryOf(window.rudlayog.module)[name](setup, forecast, ...(texts[name] ?? [plan]));
   count = 0; refused = 0; most = Infinity;
   const wanted = does().octets, all = count, told = { all, none: 0, same: 0, other: [] };
   const note = (what, mayThrow) => {
