@@ -1,7 +1,5 @@
-pub mod Augmenting
-pub mod Ends
+pub mod Cursors
 pub mod Leading
-pub mod LevelPaths
 pub mod Linking
 pub mod Marking
 pub mod Visiting

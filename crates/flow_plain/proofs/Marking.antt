@@ -1,165 +1,133 @@
--- One more node is marked, and a search that begins.
-use Rattle.std.proofs.Common.{◌≡◌, ◌≢◌, ℕ, ◌+◌, ◌<◌, ◌≤◌, cond, eqb, List, length, slice_index, slice_set, replicate, ap, sym, ◌∙◌, arith, inl, inr, subst}
-use Rattle.std.proofs.lemmas.Bool.{cases_eq, cases_lt, cond-true, cond-false, eq-eqb, ne_eqb}
-use Rattle.std.proofs.lemmas.List.{get_or-set_same, get_or-set_other, length-set, get_or-replicate, get_or_past, length-replicate}
-use Rattle.std.proofs.lemmas.List.Sums.{sum_by-set, get_or-le-sum_by}
-use Rattle.std.proofs.lemmas.List.Folds.{sum_by-replicate}
+-- One more node is marked, and a search that begins: what `mm_flow` proves, and the widths.
+use Rattle.std.proofs.Common.{◌≡◌, ◌≢◌, ℕ, zero, suc, ◌<◌, ◌≤◌, List, ◌∷◌, get_or, length, slice_index_or, slice_set, replicate, ap, sym, ◌∙◌, refl, subst, arith, inl, inr}
+use Rattle.std.proofs.Math.ListN.{get_or-map}
+use Rattle.std.proofs.lemmas.Bool.{cases_eq}
+use Rattle.std.proofs.lemmas.List.{get_or_read, get_or-set_same, get_or-set_other, length-map, length-replicate, length-set, map-set}
 use Rattle.flow_plain.specs.declared.search.Mark.{Mark}
 use Rattle.flow_plain.specs.declared.limits.TheConstants.{UNLIMITED}
-use Rattle.mm_flow.specs.declared.limits.TheConstants.{MAX_NODES}
 use Rattle.mm_flow.specs.Graph.{Graph}
 use Rattle.mm_flow.specs.Flow.{Flow}
-use Rattle.mm_flow.specs.Residual.{entries, tail, head, residual}
-use Rattle.flow_plain.specs.Marks.{no_mark, mark, level, HasMark, IsReachedFrom, IsReached, IsSearch}
+use Rattle.mm_flow.specs.Residual.{tail, residual}
+use Rattle.mm_flow.specs.Marks.{mark, level, HasMark, IsMarking, IsSearch, IsSearched, no_mark as bare_none}
+use Rattle.mm_flow.specs.Levels.{IsPath, HasPath}
+use Rattle.flow_plain.specs.Marks.{Bare, no_mark, bare_mark, bare, width, IsWide, IsLevelled}
+use Rattle.mm_flow.proofs.LevelPaths.{path_on}
+use Rattle.mm_flow.proofs.Marking.{search_begun as bare_begun}
+use Rattle.mm_flow.proofs.Visiting.{marked_lt as bare_lt}
 
--- 1 for a node that is not reached
-none_at : Mark → ℕ
-none_at m = cond (eqb m.level 0) 1 0
+-- the mark of a node without its width
+bare_at : (marks : List Mark) (n : ℕ) → mark (bare marks) n ≡ bare_mark (slice_index_or marks n no_mark)
+bare_at marks n = get_or-map bare_mark marks n no_mark
 
--- a node was reached, where its mark and that of the node before it are known
-pub IsReached-from : (g : Graph) (f : Flow) (marks : List Mark) (n : ℕ) (before own : Mark) → mark marks n ≡ own → mark marks (tail g own.via) ≡ before → IsReachedFrom g f before own n → IsReached g f marks n
-IsReached-from g f marks n before own own_is before_is reached =
-    let own_known : IsReachedFrom g f (mark marks (tail g own.via)) own n = subst (λ (b : Mark). IsReachedFrom g f b own n) (sym before_is) reached in
-    subst (λ (m : Mark). IsReachedFrom g f (mark marks (tail g m.via)) m n) (sym own_is) own_known
+-- a node with a mark is in the table
+pub marked_lt : (marks : List Mark) (n : ℕ) → HasMark (bare marks) n → n < length marks
+marked_lt marks n has = omega (arith, bare_lt (bare marks) n has, length-map marks bare_mark)
 
--- a node that an entry leads to is marked
-pub search_more : (g : Graph) (f : Flow) (source least : ℕ) (marks : List Mark) (order : List ℕ) (found done e node from : ℕ) (before own : Mark)
-    → IsSearch g f source least marks order found done
-    → e < entries g → node ≡ head g e → from ≡ tail g e → node < g.nodes
-    → before ≡ mark marks from → 0 < before.level → level marks node ≡ 0
-    → own.via ≡ e → own.level ≡ before.level + 1 → own.width ≤ residual g f e → own.width ≤ before.width → least ≤ own.width
-    → IsSearch g f source least (slice_set marks node own) (slice_set order found node) (found + 1) done
-unfolding none_at
-search_more g f source least marks order found done e node from before own search known leads leaves node_known before_is reached fresh via next entry path wide =
+module _ (marks : List Mark) (n : ℕ) (m : Mark) (known : n < length marks) (read : m ≡ get_or marks n m) where
+  -- a mark that was read is the node's
+  pub bare_read : mark (bare marks) n ≡ bare_mark m
+  bare_read = bare_at marks n ∙ ap bare_mark (sym (get_or_read marks n m known read no_mark))
+
+  -- so are its level
+  pub level_read : level (bare marks) n ≡ m.level
+  level_read = ap (λ (b : Bare). b.level) bare_read
+
+  -- and its width
+  pub width_read : width marks n ≡ m.width
+  width_read = ap (λ (o : Mark). o.width) (sym (get_or_read marks n m known read no_mark))
+
+module _ (marks : List Mark) (node : ℕ) (own : Mark) where
+  -- a node has the mark that it was given
+  pub bare_set : node < length marks → mark (bare (slice_set marks node own)) node ≡ bare_mark own
+  bare_set known = bare_at (slice_set marks node own) node ∙ ap bare_mark (get_or-set_same marks node own no_mark known)
+
+  -- and its width
+  pub width_set : node < length marks → width (slice_set marks node own) node ≡ own.width
+  width_set known = ap (λ (o : Mark). o.width) (get_or-set_same marks node own no_mark known)
+
+  -- another node has the mark that it had
+  pub bare_other : (n : ℕ) → n ≢ node → mark (bare (slice_set marks node own)) n ≡ mark (bare marks) n
+  bare_other n ne = bare_at (slice_set marks node own) n ∙ ap bare_mark (get_or-set_other marks node n own no_mark ne) ∙ sym (bare_at marks n)
+
+-- a node gets another mark in a phase
+pub levelled_set : (g : Graph) (source : ℕ) (marks : List Mark) (node : ℕ) (own : Mark) → IsLevelled g source marks → node < g.nodes → 0 < own.level → 0 < own.width → IsLevelled g source (slice_set marks node own)
+levelled_set g source marks node own levelled known reached some =
     let after = slice_set marks node own in
-    let behind = slice_set order found node in
-    let node_lt : node < length marks = omega (arith, search.marking.size) in
-    let own_at : mark after node ≡ own = get_or-set_same marks node own no_mark node_lt in
-    let other_at : (n : ℕ) → n ≢ node → mark after n ≡ mark marks n = λ n ne. get_or-set_other marks node n own no_mark ne in
-    let own_level = ap (λ (m : Mark). m.level) own_at in
-    let own_width = ap (λ (m : Mark). m.width) own_at in
-    let before_level = ap (λ (m : Mark). m.level) before_is in
-    let before_width = ap (λ (m : Mark). m.width) before_is in
-    let stays : (n : ℕ) → HasMark marks n → mark after n ≡ mark marks n = λ n has. other_at n (λ same. absurd (omega (arith, ap (level marks) same))) in
-    let still : (n : ℕ) → HasMark marks n → HasMark after n = λ n has. omega (arith, ap (λ (m : Mark). m.level) (stays n has)) in
-    let none_here : none_at (mark marks node) ≡ 1 = cond-true {A = ℕ} (eqb (level marks node) 0) 1 0 (eq-eqb (level marks node) 0 fresh) in
-    let some_there : none_at own ≡ 0 = cond-false {A = ℕ} (eqb own.level 0) 1 0 (ne_eqb own.level 0 (λ zero_level. absurd (omega arith))) in
-    let fewer = sum_by-set none_at marks node own no_mark node_lt in
-    let some_left = get_or-le-sum_by none_at marks node no_mark node_lt in
-    let found_lt : found < length order = omega (arith, search.order_size, search.count, some_left, none_here) in
-    let here : slice_index behind found ≡ node = get_or-set_same order found node 0 found_lt in
-    let there : (i : ℕ) → i < found → slice_index behind i ≡ slice_index order i = λ i lt. get_or-set_other order found i node 0 (λ same. absurd (omega arith)) in
+    let node_lt : node < length marks = omega (arith, levelled.size) in
     record {
-      marking = record {
-        size = omega (arith, length-set marks node own, search.marking.size);
-        start = still source search.marking.start;
-        reached = λ n ne has. elim (cases_eq n node) [
-          | inl same ↦
-              let from_has : HasMark marks from = omega arith in
-              let tail_is : tail g own.via ≡ from = ap (tail g) via ∙ sym leaves in
-              let tail_at : mark after (tail g own.via) ≡ before = ap (mark after) tail_is ∙ stays from from_has ∙ sym before_is in
-              let own_is : mark after n ≡ own = ap (mark after) same ∙ own_at in
-              IsReached-from g f after n before own own_is tail_at (record {
-                known = omega arith;
-                leads = ap (head g) via ∙ sym leads ∙ sym same;
-                reached = reached;
-                above = omega arith;
-                entry = omega (arith, ap (residual g f) via);
-                path = path;
-              })
-          | inr other ↦
-              let had : HasMark marks n = omega (arith, ap (λ (m : Mark). m.level) (other_at n other)) in
-              let old = search.marking.reached n ne had in
-              IsReached-from g f after n (mark marks (tail g (mark marks n).via)) (mark marks n) (stays n had) (stays (tail g (mark marks n).via) old.reached) old
-        ];
-        wide = λ n has. elim (cases_eq n node) [
-          | inl same ↦ omega (arith, ap (λ (m : ℕ). (mark after m).width) same, own_width)
-          | inr other ↦
-              let had : HasMark marks n = omega (arith, ap (λ (m : Mark). m.level) (other_at n other)) in
-              omega (arith, ap (λ (m : Mark). m.width) (other_at n other), search.marking.wide n had)
-        ];
-        narrow = λ n. elim (cases_eq n node) [
-          | inl same ↦ omega (arith, ap (λ (m : ℕ). (mark after m).width) same, own_width, before_width, search.marking.narrow from)
-          | inr other ↦ omega (arith, ap (λ (m : Mark). m.width) (other_at n other), search.marking.narrow n)
-        ];
-      };
-      order_size = omega (arith, length-set order found node, search.order_size);
-      count = omega (arith, search.count, fewer, none_here, some_there);
-      ahead = omega (arith, search.ahead);
-      levels = λ n. elim (cases_eq n node) [
-        | inl same ↦ omega (arith, ap (level after) same, own_level, before_level, search.levels from)
-        | inr other ↦ omega (arith, ap (λ (m : Mark). m.level) (other_at n other), search.levels n)
+      size = omega (arith, length-set marks node own, levelled.size);
+      start = elim (cases_eq source node) [
+        | inl same ↦ omega (arith, ap (level (bare after)) same, ap (λ (b : Bare). b.level) (bare_set marks node own node_lt))
+        | inr ne ↦ omega (arith, ap (λ (b : Bare). b.level) (bare_other marks node own source ne), levelled.start)
       ];
-      queued = λ i lt. elim (cases_lt i found) [
-        | inl less ↦ omega (arith, ap (level after) (there i less), still (slice_index order i) (search.queued i less))
-        | inr up ↦
-            let at : i ≡ found = omega arith in
-            omega (arith, ap (λ (j : ℕ). level after (slice_index behind j)) at, ap (level after) here, own_level)
-      ];
-      swept = λ n has. elim (cases_eq n node) [
-        | inl same ↦ inr (found, search.ahead, omega arith, here ∙ sym same)
-        | inr other ↦
-            let had : HasMark marks n = omega (arith, ap (λ (m : Mark). m.level) (other_at n other)) in
-            elim (search.swept n had) [
-              | inl closed ↦ inl (λ d lt at fits. still (head g d) (closed d lt at fits))
-              | inr waits ↦ inr (waits.0, waits.1, omega (arith, waits.2), there waits.0 waits.2 ∙ waits.3)
-            ]
+      wide = elim (cases_eq source node) [
+        | inl same ↦ omega (arith, ap (width after) same, width_set marks node own node_lt)
+        | inr ne ↦ omega (arith, ap (λ (o : Mark). o.width) (get_or-set_other marks node source own no_mark ne), levelled.wide)
       ];
     }
 
--- a node of a search has a level that a number of 32 bits holds
-pub level_fits : (g : Graph) (f : Flow) (source least : ℕ) (marks : List Mark) (order : List ℕ) (found done n : ℕ) → IsSearch g f source least marks order found done → g.nodes ≤ MAX_NODES → level marks n ≤ MAX_NODES
-level_fits g f source least marks order found done n search few = omega (arith, search.levels n, search.count)
+-- a path that can carry an amount can carry less, also by other marks that are the same at marked nodes
+pub path_again : (g : Graph) (f : Flow) (marks marked : List Bare) (source amount less steps n : ℕ) → less ≤ amount → ((m : ℕ) → HasMark marks m → mark marked m ≡ mark marks m)
+    → IsPath g f marks source amount steps n → IsPath g f marked source less steps n
+path_again g f marks marked source amount less zero n small same path = path
+path_again g f marks marked source amount less (suc steps) n small same path =
+    let reached = path.0 in
+    let before = tail g (mark marks n).via in
+    let rest = path_again g f marks marked source amount less steps before small same path.1 in
+    rw (same n (omega (arith, reached.above)), same before reached.reached)
+    (record { known = reached.known; leads = reached.leads; reached = reached.reached; above = reached.above; fits = omega (arith, reached.fits) }, rest)
 
--- no node is marked
-mark-replicate : (nodes n : ℕ) → mark (replicate nodes no_mark) n ≡ no_mark
-mark-replicate nodes n = elim (cases_lt n nodes) [
-  | inl lt ↦ get_or-replicate nodes n no_mark no_mark lt
-  | inr up ↦ get_or_past (replicate nodes no_mark) n no_mark (omega (arith, length-replicate nodes no_mark))
-]
+-- a node that an entry leads to is marked
+pub wide_more : (g : Graph) (f : Flow) (source least : ℕ) (marks : List Mark) (node : ℕ) (own : Mark)
+    → IsWide g f source least marks → IsMarking g f source least (bare (slice_set marks node own))
+    → HasMark (bare marks) source → level (bare marks) node ≡ 0 → node < length marks
+    → HasMark (bare marks) (tail g own.via) → own.width ≤ residual g f own.via → own.width ≤ width marks (tail g own.via) → least ≤ own.width
+    → IsWide g f source least (slice_set marks node own)
+wide_more g f source least marks node own wide marking start fresh known from fits within enough n has =
+    let after = slice_set marks node own in
+    let stays : (m : ℕ) → HasMark (bare marks) m → mark (bare after) m ≡ mark (bare marks) m = λ m had. bare_other marks node own m (λ same. absurd (omega (arith, ap (level (bare marks)) same))) in
+    elim (cases_eq n node) [
+      | inl same ↦
+          let via = ap (λ (b : Bare). b.via) (ap (mark (bare after)) same ∙ bare_set marks node own known) in
+          let own_width : width after n ≡ own.width = ap (width after) same ∙ width_set marks node own known in
+          let inner : n ≢ source = λ is. absurd (omega (arith, ap (level (bare marks)) is, ap (level (bare marks)) same)) in
+          let before = wide (tail g own.via) from in
+          let path : HasPath g f (bare after) source (width after n) (tail g own.via) = (before.path.0, path_again g f (bare marks) (bare after) source (width marks (tail g own.via)) (width after n) before.path.0 (tail g own.via) (omega (arith, own_width)) stays before.path.1) in
+          record {
+            wide = omega (arith, own_width);
+            path = path_on g f (bare after) source least (width after n) n (marking.reached n inner has) (omega (arith, own_width, ap (residual g f) via)) (subst (λ (m : ℕ). HasPath g f (bare after) source (width after n) m) (sym (ap (tail g) via)) path);
+          }
+      | inr other ↦
+          let old = wide n (omega (arith, ap (λ (b : Bare). b.level) (bare_other marks node own n other))) in
+          let same = ap (λ (o : Mark). o.width) (get_or-set_other marks node n own no_mark other) in
+          record { wide = omega (arith, same, old.wide); path = (old.path.0, path_again g f (bare marks) (bare after) source (width marks n) (width after n) old.path.0 n (omega (arith, same)) stays old.path.1) }
+    ]
+
+-- a table of nothing has no widths
+bare-replicate : (nodes : ℕ) → bare (replicate nodes no_mark) ≡ replicate nodes bare_none
+bare-replicate zero = refl
+bare-replicate (suc nodes) = ap (λ bs. bare_none ∷ bs) (bare-replicate nodes)
 
 -- the source alone is marked
 pub search_begun : (g : Graph) (f : Flow) (source least : ℕ) (order : List ℕ) (start : Mark) → source < g.nodes → length order ≡ g.nodes → start.level ≡ 1 → start.width ≡ UNLIMITED → least ≤ UNLIMITED
-    → IsSearch g f source least (slice_set (replicate g.nodes no_mark) source start) (slice_set order 0 source) 1 0
-unfolding none_at
-search_begun g f source least order start known size first wide below =
+    → IsSearch g f source least (bare (slice_set (replicate g.nodes no_mark) source start)) (slice_set order 0 source) 1 0 × IsWide g f source least (slice_set (replicate g.nodes no_mark) source start)
+search_begun g f source least order start known size first unlimited below =
     let none = replicate g.nodes no_mark in
     let marks = slice_set none source start in
-    let source_lt : source < length none = omega (arith, length-replicate g.nodes no_mark) in
-    let own_at : mark marks source ≡ start = get_or-set_same none source start no_mark source_lt in
-    let other_at : (n : ℕ) → n ≢ source → mark marks n ≡ no_mark = λ n ne. get_or-set_other none source n start no_mark ne ∙ mark-replicate g.nodes n in
-    let own_level = ap (λ (m : Mark). m.level) own_at in
-    let own_width = ap (λ (m : Mark). m.width) own_at in
-    let is_source : (n : ℕ) → HasMark marks n → n ≡ source = λ n has. elim (cases_eq n source) [ inl same ↦ same | inr ne ↦ absurd (omega (arith, ap (λ (m : Mark). m.level) (other_at n ne))) ] in
-    let some_there : none_at start ≡ 0 = cond-false {A = ℕ} (eqb start.level 0) 1 0 (ne_eqb start.level 0 (λ zero_level. absurd (omega arith))) in
-    let here : slice_index (slice_set order 0 source) 0 ≡ source = get_or-set_same order 0 source 0 (omega arith) in
-    record {
-      marking = record {
-        size = omega (arith, length-set none source start, length-replicate g.nodes no_mark);
-        start = omega arith;
-        reached = λ n ne has. absurd (ne (is_source n has));
-        wide = λ n has. omega (arith, ap (λ (m : ℕ). (mark marks m).width) (is_source n has), own_width);
-        narrow = λ n. elim (cases_eq n source) [
-          | inl same ↦ omega (arith, ap (λ (m : ℕ). (mark marks m).width) same, own_width)
-          | inr ne ↦ omega (arith, ap (λ (m : Mark). m.width) (other_at n ne))
-        ];
-      };
-      order_size = omega (arith, length-set order 0 source);
-      count = omega (arith, sum_by-set none_at none source start no_mark source_lt, sum_by-replicate none_at g.nodes no_mark, ap none_at (mark-replicate g.nodes source), some_there);
-      ahead = omega arith;
-      levels = λ n. elim (cases_eq n source) [
-        | inl same ↦ omega (arith, ap (level marks) same, own_level)
-        | inr ne ↦ omega (arith, ap (λ (m : Mark). m.level) (other_at n ne))
-      ];
-      queued = λ i lt.
-          let at : i ≡ 0 = omega arith in
-          omega (arith, ap (λ (j : ℕ). level marks (slice_index (slice_set order 0 source) j)) at, ap (level marks) here, own_level);
-      swept = λ n has. inr (0, omega arith, omega arith, here ∙ sym (is_source n has));
-    }
+    let same : bare marks ≡ slice_set (replicate g.nodes bare_none) source (bare_mark start) = map-set bare_mark none source start ∙ ap (λ bs. slice_set bs source (bare_mark start)) (bare-replicate g.nodes) in
+    let search : IsSearch g f source least (bare marks) (slice_set order 0 source) 1 0 = rw same (bare_begun g f source least order (bare_mark start) known size first) in
+    let own = width_set none source start (omega (arith, length-replicate g.nodes no_mark)) in (
+      search,
+      λ n has. elim (cases_eq n source) [
+        | inl is ↦ record { wide = omega (arith, own, ap (width marks) is); path = (0, is) }
+        | inr ne ↦
+            let reached = search.marking.reached n ne has in
+            absurd (omega (arith, reached.reached, reached.above, search.levels n))
+      ],
+    )
 
--- nothing is read from a table of nothing
-pub slice_index-nothing : (size k : ℕ) → slice_index (replicate size 0) k ≡ 0
-slice_index-nothing size k = elim (cases_lt k size) [
-  | inl lt ↦ get_or-replicate size k 0 0 lt
-  | inr up ↦ get_or_past (replicate size 0) k 0 (omega (arith, length-replicate {A = ℕ} size 0))
-]
+-- the marks of a search hold all through the phase that follows
+pub searched_levelled : (g : Graph) (f : Flow) (source least : ℕ) (marks : List Mark) → 0 < least → IsSearched g f source least (bare marks) → IsWide g f source least marks → IsLevelled g source marks
+searched_levelled g f source least marks some searched wide =
+    let start = searched.marking.start in
+    record { size = omega (arith, searched.marking.size, length-map marks bare_mark); start = start; wide = omega (arith, (wide source start).wide) }

@@ -1,21 +1,11 @@
--- A search goes on from node to node, and ends.
-use Rattle.std.proofs.Common.{◌≡◌, ℕ, ◌+◌, ◌-◌, ◌<◌, ◌≤◌, List, length, slice_index, ap, sym, ◌∙◌, refl, arith, inl, inr}
-use Rattle.std.proofs.lemmas.Bool.{cases_eq, cases_lt}
-use Rattle.std.proofs.lemmas.List.{get_or_past}
-use Rattle.flow_plain.specs.declared.search.Mark.{Mark}
+-- A search goes on from node to node, along the chains of their entries.
+use Rattle.std.proofs.Common.{◌≡◌, ℕ, ◌+◌, ◌-◌, ◌<◌, List, slice_index, ap, sym, ◌∙◌, refl, arith, inl, inr}
+use Rattle.std.proofs.lemmas.Bool.{cases_eq}
 use Rattle.flow_plain.specs.declared.search.Search.{Search}
 use Rattle.mm_flow.specs.Graph.{Graph}
-use Rattle.mm_flow.specs.Flow.{Flow}
 use Rattle.mm_flow.specs.Residual.{entries, tail}
-use Rattle.flow_plain.specs.Links.{IsLinkedBelow}
-use Rattle.flow_plain.specs.Marks.{no_mark, HasMark, IsClosed, IsSearch, IsSearched, GoesOn}
-
--- a node with a mark is in the table
-pub marked_lt : (marks : List Mark) (n : ℕ) → HasMark marks n → n < length marks
-marked_lt marks n has = elim (cases_lt n (length marks)) [
-  | inl lt ↦ lt
-  | inr up ↦ absurd (omega (arith, ap (λ (m : Mark). m.level) (get_or_past marks n no_mark up)))
-]
+use Rattle.flow_plain.specs.Links.{IsLinkedBelow, StandsAt}
+use Rattle.flow_plain.specs.Marks.{GoesOn}
 
 -- a step that changes nothing goes on
 pub goes_on_same : (s : Search) → GoesOn s s
@@ -41,16 +31,16 @@ goes_on_further first then last one two = record {
 
 module _ (g : Graph) (last before : List ℕ) (linked : IsLinkedBelow g last before (entries g)) where
   -- a chain's first cursor is that of an entry of the node
-  pub first_own : (node cursor e : ℕ) → cursor ≡ slice_index last node → cursor ≡ e + 1 → (e < entries g) × (tail g e ≡ node)
-  first_own node cursor e is at = linked.last_own node e (sym is ∙ at)
+  pub first_own : (node cursor : ℕ) → cursor ≡ slice_index last node → StandsAt g node cursor
+  first_own node cursor is e at = linked.last_own node e (sym is ∙ at)
 
   -- no entry of the node comes after a chain's first
   pub first_most : (node cursor e : ℕ) → cursor ≡ slice_index last node → e < entries g → tail g e ≡ node → e < cursor
   first_most node cursor e is known at = omega (arith, is, linked.last_most e known, ap (slice_index last) at)
 
   -- the next cursor in a chain is that of an entry of the node
-  pub next_own : (node at cursor e : ℕ) → at < entries g → tail g at ≡ node → cursor ≡ slice_index before at → cursor ≡ e + 1 → (e < entries g) × (tail g e ≡ node)
-  next_own node at cursor e known leaves is same =
+  pub next_own : (node at cursor : ℕ) → at < entries g → tail g at ≡ node → cursor ≡ slice_index before at → StandsAt g node cursor
+  next_own node at cursor known leaves is e same =
       let own = linked.before_own at e known (sym is ∙ same) in
       (omega (arith, own.0), own.1 ∙ leaves)
 
@@ -66,35 +56,3 @@ module _ (g : Graph) (last before : List ℕ) (linked : IsLinkedBelow g last bef
   -- no entry of the node stands between an entry and the next in the chain
   pub next_most : (node at cursor e : ℕ) → at < entries g → tail g at ≡ node → cursor ≡ slice_index before at → tail g e ≡ node → e < at → e < cursor
   next_most node at cursor e known leaves is own less = omega (arith, is, linked.before_most at e known less (own ∙ sym leaves))
-
--- the first node that waits is closed, and the others wait on
-pub search_next : (g : Graph) (f : Flow) (source least : ℕ) (marks : List Mark) (order : List ℕ) (found done node : ℕ)
-    → IsSearch g f source least marks order found done → done < found → slice_index order done ≡ node → IsClosed g f marks least node
-    → IsSearch g f source least marks order found (done + 1)
-search_next g f source least marks order found done node search ahead here closed = record {
-  marking = search.marking;
-  order_size = search.order_size;
-  count = search.count;
-  ahead = omega arith;
-  levels = search.levels;
-  queued = search.queued;
-  swept = λ n has. elim (search.swept n has) [
-    | inl all ↦ inl all
-    | inr waits ↦ elim (cases_eq waits.0 done) [
-      | inl first ↦
-          let same : n ≡ node = sym waits.3 ∙ ap (slice_index order) first ∙ here in
-          inl (λ e lt at. closed e lt (at ∙ same))
-      | inr other ↦ inr (waits.0, omega (arith, waits.1), waits.2, waits.3)
-    ]
-  ];
-}
-
--- once no node waits, all are closed
-pub search_ended : (g : Graph) (f : Flow) (source least : ℕ) (marks : List Mark) (order : List ℕ) (found done : ℕ) → IsSearch g f source least marks order found done → found ≤ done → IsSearched g f source least marks
-search_ended g f source least marks order found done search over = record {
-  marking = search.marking;
-  closed = λ n has. elim (search.swept n has) [
-    | inl all ↦ all
-    | inr waits ↦ absurd (omega (arith, waits.1, waits.2))
-  ];
-}

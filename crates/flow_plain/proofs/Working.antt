@@ -6,7 +6,7 @@ use Rattle.flow_plain.specs.declared.search.Search.{Search}
 use Rattle.flow_plain.specs.declared.tables.Tables.{Tables}
 use Rattle.mm_flow.specs.Graph.{Graph}
 use Rattle.mm_flow.specs.Balance.{IsAugmented, IsBounded}
-use Rattle.flow_plain.specs.Levels.{IsLevelled}
+use Rattle.flow_plain.specs.Marks.{IsLevelled}
 use Rattle.flow_plain.specs.Tables.{IsAtWork}
 use Rattle.mm_flow.proofs.Augmenting.{augmented_small, arcs_small}
 

@@ -1,4 +1,3 @@
-pub mod Levels
 pub mod Links
 pub mod Marks
 pub mod Phase

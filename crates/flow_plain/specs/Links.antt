@@ -5,6 +5,15 @@ use Rattle.flow_plain.specs.declared.links.Links.{Links}
 use Rattle.mm_flow.specs.Graph.{Graph}
 use Rattle.mm_flow.specs.Residual.{entries, tail}
 
+-- a cursor is 0 or stands at an entry that leaves a node
+abbrev pub StandsAt : Graph → ℕ → ℕ → Type 0
+StandsAt g n cursor = (e : ℕ) → cursor ≡ e + 1 → (e < entries g) × (tail g e ≡ n)
+
+-- each node's cursor does
+pub record IsCursors (g : Graph) (next : List ℕ) : Type 0 where
+  pub size : length next ≡ g.nodes
+  pub own : (n : ℕ) → StandsAt g n (slice_index next n)
+
 -- the entries below one are chained by the nodes that they leave: `last` leads to a node's last entry, and `before`
 -- from an entry to the node's entry before it
 pub record IsLinkedBelow (g : Graph) (last before : List ℕ) (count : ℕ) : Type 0 where

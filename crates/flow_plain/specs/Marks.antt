@@ -1,81 +1,49 @@
--- What a search by breadth leaves at the nodes: Edmonds and Karp, "Theoretical improvements in algorithmic efficiency
--- for network flow problems", 1972.
-use Rattle.std.specs.Prelude.{◌≡◌, ◌≢◌, ℕ, ◌+◌, ◌<◌, ◌≤◌, ◌==◌, ◌⊎◌, List, length, slice_index, slice_index_or, count_by}
-use Rattle.flow_plain.specs.declared.limits.TheConstants.{UNLIMITED}
+-- The marks of a search, each with the width of the path to its node. Without the widths they are as in `mm_flow`.
+use Rattle.std.specs.Prelude.{◌≡◌, ℕ, ◌<◌, ◌≤◌, List, length, map, slice_index, slice_index_or}
 use Rattle.flow_plain.specs.declared.search.Mark.{Mark}
 use Rattle.flow_plain.specs.declared.search.Search.{Search}
 use Rattle.mm_flow.specs.Graph.{Graph}
 use Rattle.mm_flow.specs.Flow.{Flow}
-use Rattle.mm_flow.specs.Residual.{entries, tail, head, residual}
+use Rattle.mm_flow.specs.Marks.{HasMark, IsSearch, no_mark as bare_none}
+use Rattle.mm_flow.specs.Levels.{HasPath}
 
 -- the mark of a node that is not reached
 abbrev pub no_mark : Mark
 no_mark = record { level = 0; via = 0; width = 0 }
 
--- the mark of a node
-abbrev pub mark : List Mark → ℕ → Mark
-mark marks n = slice_index_or marks n no_mark
+-- the type of a value
+abbrev pub TypeOf : {A : Type 0} → A → Type 0
+TypeOf {A} value = A
 
--- one more than the entries on the path from the source to a node; 0 where it is not reached
-abbrev pub level : List Mark → ℕ → ℕ
-level marks n = (mark marks n).level
+-- the marks of `mm_flow`, which other crates cannot name
+abbrev pub Bare : Type 0
+Bare = TypeOf bare_none
 
--- a node is reached
-abbrev pub HasMark : List Mark → ℕ → Type 0
-HasMark marks n = 0 < level marks n
+-- a mark without its width
+abbrev pub bare_mark : Mark → Bare
+bare_mark m = record { level = m.level; via = m.via }
 
--- how many nodes are not reached
-abbrev pub unmarked : List Mark → ℕ
-unmarked marks = count_by (λ (m : Mark). m.level == 0) marks
+-- all marks without their widths
+abbrev pub bare : List Mark → List Bare
+bare marks = map bare_mark marks
 
--- a node was reached by an entry from a node of a lower level, and the path to it is no wider than the entry and the
--- path to that node
-pub record IsReachedFrom (g : Graph) (f : Flow) (before own : Mark) (n : ℕ) : Type 0 where
-  pub known : own.via < entries g
-  pub leads : head g own.via ≡ n
-  pub reached : 0 < before.level
-  pub above : before.level < own.level
-  pub entry : own.width ≤ residual g f own.via
-  pub path : own.width ≤ before.width
+-- the width of the path to a node
+abbrev pub width : List Mark → ℕ → ℕ
+width marks n = (slice_index_or marks n no_mark).width
 
--- the same, where the marks of all nodes are given
-abbrev pub IsReached : Graph → Flow → List Mark → ℕ → Type 0
-IsReached g f marks n = IsReachedFrom g f (mark marks (tail g (mark marks n).via)) (mark marks n) n
+-- a path leads from the source to a node and can carry its width, which is at least this
+pub record IsCarried (g : Graph) (f : Flow) (marks : List Mark) (source least n : ℕ) : Type 0 where
+  pub wide : least ≤ width marks n
+  pub path : HasPath g f (bare marks) source (width marks n) n
 
--- each marked node is the source or was reached, by a path whose narrowest entry has at least this residual capacity
-pub record IsMarking (g : Graph) (f : Flow) (source least : ℕ) (marks : List Mark) : Type 0 where
-  pub size : length marks ≡ g.nodes
-  pub start : HasMark marks source
-  pub reached : (n : ℕ) → n ≢ source → HasMark marks n → IsReached g f marks n
-  pub wide : (n : ℕ) → HasMark marks n → least ≤ (mark marks n).width
-  pub narrow : (n : ℕ) → (mark marks n).width ≤ UNLIMITED
+-- such paths lead to all marked nodes
+abbrev pub IsWide : Graph → Flow → ℕ → ℕ → List Mark → Type 0
+IsWide g f source least marks = (n : ℕ) → HasMark (bare marks) n → IsCarried g f marks source least n
 
--- each entry that leaves a node with at least this residual capacity leads to a marked node
-abbrev pub IsClosed : Graph → Flow → List Mark → ℕ → ℕ → Type 0
-IsClosed g f marks least n = (e : ℕ) → e < entries g → tail g e ≡ n → least ≤ residual g f e → HasMark marks (head g e)
-
--- the marks of a search that has ended: nothing more can be reached
-pub record IsSearched (g : Graph) (f : Flow) (source least : ℕ) (marks : List Mark) : Type 0 where
-  pub marking : IsMarking g f source least marks
-  pub closed : (n : ℕ) → HasMark marks n → IsClosed g f marks least n
-
--- a node is still to be visited: it stands in the order of reaching from `done` on and before `found`
-abbrev pub Waits : List ℕ → ℕ → ℕ → ℕ → Type 0
-Waits order done found n = (i : ℕ) × (done ≤ i) × (i < found) × (slice_index order i ≡ n)
-
--- a search at work: the nodes found so far are marked, and those before `done` in their order are closed
-pub record IsSearch (g : Graph) (f : Flow) (source least : ℕ) (marks : List Mark) (order : List ℕ) (found done : ℕ) : Type 0 where
-  pub marking : IsMarking g f source least marks
-  pub order_size : length order ≡ g.nodes
-  pub count : found + unmarked marks ≡ g.nodes
-  pub ahead : done ≤ found
-  pub levels : (n : ℕ) → level marks n ≤ found
-  pub queued : (i : ℕ) → i < found → HasMark marks (slice_index order i)
-  pub swept : (n : ℕ) → HasMark marks n → IsClosed g f marks least n ⊎ Waits order done found n
-
--- the same of a `Search`
-abbrev pub IsSearching : Graph → Flow → Search → Type 0
-IsSearching g f s = IsSearch g f s.source s.least s.marks.items s.order.items s.found s.done
+-- a search at work
+pub record IsSearching (g : Graph) (f : Flow) (s : Search) : Type 0 where
+  pub search : IsSearch g f s.source s.least (bare s.marks.items) s.order.items s.found s.done
+  pub wide : IsWide g f s.source s.least s.marks.items
 
 -- a search goes on: what was marked stays so, and the order of reaching has only grown
 pub record GoesOn (old new : Search) : Type 0 where
@@ -84,4 +52,10 @@ pub record GoesOn (old new : Search) : Type 0 where
   pub done : new.done ≡ old.done
   pub found : old.found ≤ new.found
   pub order : (i : ℕ) → i < old.found → slice_index new.order.items i ≡ slice_index old.order.items i
-  pub marked : (n : ℕ) → HasMark old.marks.items n → HasMark new.marks.items n
+  pub marked : (n : ℕ) → HasMark (bare old.marks.items) n → HasMark (bare new.marks.items) n
+
+-- what holds of the marks all through a phase, whatever flow was moved in it
+pub record IsLevelled (g : Graph) (source : ℕ) (marks : List Mark) : Type 0 where
+  pub size : length marks ≡ g.nodes
+  pub start : HasMark (bare marks) source
+  pub wide : 0 < width marks source

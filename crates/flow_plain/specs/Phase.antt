@@ -2,7 +2,8 @@
 use Rattle.std.specs.Prelude.{◌≡◌, ℕ, ◌<◌, slice_index, sum_by}
 use Rattle.flow_plain.specs.declared.phase.Phase.{Phase}
 use Rattle.mm_flow.specs.Residual.{entries, tail, twin}
-use Rattle.flow_plain.specs.Levels.{HasLead}
+use Rattle.mm_flow.specs.Levels.{HasLead}
+use Rattle.flow_plain.specs.Marks.{bare}
 use Rattle.flow_plain.specs.Task.{IsOpen}
 
 -- an entry leaves a node, and a path can go on by its twin to come to the node
@@ -13,7 +14,7 @@ pub record LeadsUp (p : Phase) (at e : ℕ) : Type 0 where
 
 -- a path leads up from a node to the sink
 abbrev pub LeadsFrom : Phase → ℕ → Type 0
-LeadsFrom p n = HasLead p.tables.network.now.graph (slice_index p.tables.flow.items) p.tables.search.marks.items p.next.items p.ahead.items p.tables.sink n
+LeadsFrom p n = HasLead p.tables.network.now.graph (slice_index p.tables.flow.items) (bare p.tables.search.marks.items) p.next.items p.ahead.items p.tables.sink n
 
 -- the cursors of all nodes, added up
 abbrev pub cursors_of : Phase → ℕ

@@ -5,7 +5,7 @@ use Rattle.flow_plain.specs.declared.search.Search.{Search}
 use Rattle.mm_flow.specs.Graph.{Graph}
 use Rattle.mm_flow.specs.Balance.{IsAugmented, IsBounded}
 use Rattle.flow_plain.specs.Links.{IsLinked}
-use Rattle.flow_plain.specs.Levels.{IsLevelled}
+use Rattle.flow_plain.specs.Marks.{IsLevelled}
 
 -- augmentations have made a flow of this value
 pub record IsAtWork (g : Graph) (sink : ℕ) (links : Links) (search : Search) (flow : List ℕ) (value : ℕ) : Type 0 where

@@ -2,7 +2,8 @@
 use Rattle.std.specs.Prelude.{◌≡◌, ℕ, slice_index}
 use Rattle.flow_plain.specs.declared.tables.Tables.{Tables}
 use Rattle.mm_flow.specs.Graph.{Graph}
-use Rattle.flow_plain.specs.Levels.{IsUp, HasPath}
+use Rattle.mm_flow.specs.Levels.{IsUp}
+use Rattle.flow_plain.specs.Marks.{bare, IsCarried}
 
 -- the tables are of this network, source and sink
 pub record IsTask (g : Graph) (from to : ℕ) (t : Tables) : Type 0 where
@@ -16,8 +17,8 @@ SameTask old new = IsTask old.network.now.graph old.search.source old.sink new
 
 -- a path can go on by an entry
 abbrev pub IsOpen : Tables → ℕ → Type 0
-IsOpen t e = IsUp t.network.now.graph (slice_index t.flow.items) t.search.marks.items e
+IsOpen t e = IsUp t.network.now.graph (slice_index t.flow.items) (bare t.search.marks.items) e
 
--- a path with residual capacity leads from the source to a node
+-- a path that can carry its width leads from the source to a node
 abbrev pub Reaches : Tables → ℕ → Type 0
-Reaches t n = HasPath t.network.now.graph (slice_index t.flow.items) t.search.marks.items t.search.source n
+Reaches t n = IsCarried t.network.now.graph (slice_index t.flow.items) t.search.marks.items t.search.source 1 n

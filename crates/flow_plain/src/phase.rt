@@ -1,6 +1,6 @@
 //! Phases of level graphs and blocking flows (Dinitz, 1970).
 ghost use Rattle.std.specs.Prelude.{◌≡◌, ◌≢◌, ◌<◌, ◌≤◌, ◌-◌, true, length, slice_index, IfOk, IfSome, IfNone};
-ghost use Rattle.flow_plain.specs.Levels.{IsCursors};
+ghost use Rattle.flow_plain.specs.Links.{IsCursors};
 
 use crate::residual::{head, residual, twin};
 use crate::tables::Tables;
@@ -21,7 +21,8 @@ pub(crate) struct Phase<'a> {
 
 impl<'a> Phase<'a> {
     ghost use Rattle.mm_flow.specs.Residual.{entries, tail, twin};
-    ghost use Rattle.flow_plain.specs.Marks.{level};
+    ghost use Rattle.mm_flow.specs.Marks.{level};
+    ghost use Rattle.flow_plain.specs.Marks.{bare};
     ghost use Rattle.flow_plain.specs.Task.{IsOpen, Reaches};
     ghost use Rattle.flow_plain.specs.Phase.{LeadsFrom, LeadsUp, cursors_of};
 
@@ -103,8 +104,8 @@ impl<'a> Phase<'a> {
         ensures tables { self.new.tables ≡ self.old.tables }
         ensures cursors { cursors_of self.new ≤ cursors_of self.old }
         ensures leads { IfSome result (LeadsFrom self.new) }
-        ensures lower { IfSome result (λ from. level self.new.tables.search.marks.items from
-            < level self.new.tables.search.marks.items at) }
+        ensures lower { IfSome result (λ from. level (bare self.new.tables.search.marks.items) from
+            < level (bare self.new.tables.search.marks.items) at) }
         ensures stays { IfNone result (LeadsFrom self.new at) }
     {
         let cursor = self.way_back(at);
@@ -135,7 +136,7 @@ impl<'a> Phase<'a> {
     // Whether an entry's twin can be taken to a node at this level.
     fn leads_up(&self, entry: usize, height: u32) -> bool
         requires known { entry < entries self.now.tables.network.now.graph }
-        requires height { height ≡ level self.now.tables.search.marks.items
+        requires height { height ≡ level (bare self.now.tables.search.marks.items)
             (tail self.now.tables.network.now.graph entry) }
         ensures { result ≡ true → IsOpen self.now.tables
             (twin self.now.tables.network.now.graph entry) }

@@ -39,10 +39,10 @@ pub(crate) struct Search {
 }
 
 impl Search {
-    ghost use Rattle.flow_plain.specs.declared.search.Mark.{Mark};
-    ghost use Rattle.flow_plain.specs.Marks.{IsSearching, IsSearched, GoesOn, HasMark, level};
     ghost use Rattle.mm_flow.specs.Balance.{IsAugmented};
-    ghost use Rattle.flow_plain.specs.Levels.{IsLevelled, IsUp, HasPath};
+    ghost use Rattle.mm_flow.specs.Levels.{IsUp};
+    ghost use Rattle.mm_flow.specs.Marks.{IsSearched, HasMark, level};
+    ghost use Rattle.flow_plain.specs.Marks.{bare, IsSearching, IsWide, IsCarried, IsLevelled, GoesOn};
 
     // A search from this source that has not begun.
     pub(crate) fn new(alloc: Global, network: &Network, source: u32) -> Result<Search, AllocError>
@@ -71,6 +71,8 @@ impl Search {
         requires order { length self.old.order.items ≡ network.now.graph.nodes }
         requires least { least ≤ UNLIMITED }
         ensures searched { IsSearched network.now.graph (slice_index flow.now) self.old.source least
+            (bare self.new.marks.items) }
+        ensures wide { IsWide network.now.graph (slice_index flow.now) self.old.source least
             self.new.marks.items }
         ensures source { self.new.source ≡ self.old.source }
         ensures order { length self.new.order.items ≡ network.now.graph.nodes }
@@ -132,11 +134,11 @@ impl Search {
         requires flow { length flow.now ≡ length network.now.graph.arcs }
         requires within { IsWithin network.now.graph (slice_index flow.now) }
         requires search { IsSearching network.now.graph (slice_index flow.now) self.old }
-        requires from { HasMark self.old.marks.items (tail network.now.graph entry) }
+        requires from { HasMark (bare self.old.marks.items) (tail network.now.graph entry) }
         ensures search { IsSearching network.now.graph (slice_index flow.now) self.new }
         ensures kept { GoesOn self.old self.new }
         ensures leads { self.old.least ≤ residual network.now.graph (slice_index flow.now) entry
-            → HasMark self.new.marks.items (head network.now.graph entry) }
+            → HasMark (bare self.new.marks.items) (head network.now.graph entry) }
     {
         let to = head(network, entry);
         if self.marks[to as usize].level > 0 {
@@ -176,15 +178,16 @@ impl Search {
         requires flow { length flow.now ≡ length network.now.graph.arcs }
         requires within { IsWithin network.now.graph (slice_index flow.now) }
         requires levelled { IsLevelled network.now.graph self.old.source self.old.marks.items }
-        requires up { IsUp network.now.graph (slice_index flow.now) self.old.marks.items entry }
-        requires path { HasPath network.now.graph (slice_index flow.now) self.old.marks.items
-            self.old.source (tail network.now.graph entry) }
+        requires up { IsUp network.now.graph (slice_index flow.now) (bare self.old.marks.items) entry }
+        requires path { IsCarried network.now.graph (slice_index flow.now) self.old.marks.items
+            self.old.source 1 (tail network.now.graph entry) }
         ensures levelled { IsLevelled network.now.graph self.new.source self.new.marks.items }
         ensures source { self.new.source ≡ self.old.source }
         ensures order { length self.new.order.items ≡ length self.old.order.items }
-        ensures levels { (n : ℕ) → level self.new.marks.items n ≡ level self.old.marks.items n }
-        ensures path { HasPath network.now.graph (slice_index flow.now) self.new.marks.items
-            self.new.source (head network.now.graph entry) }
+        ensures levels { (n : ℕ) → level (bare self.new.marks.items) n
+            ≡ level (bare self.old.marks.items) n }
+        ensures path { IsCarried network.now.graph (slice_index flow.now) self.new.marks.items
+            self.new.source 1 (head network.now.graph entry) }
     {
         let from = self.marks[tail(network, entry) as usize];
         let to = head(network, entry) as usize;
@@ -202,9 +205,9 @@ impl Search {
         requires small { (k : ℕ) → slice_index flow.old k ≤ MAX_VALUE }
         requires sink { sink < network.now.graph.nodes }
         requires levelled { IsLevelled network.now.graph self.now.source self.now.marks.items }
-        requires path { HasPath network.now.graph (slice_index flow.old) self.now.marks.items
-            self.now.source sink }
-        ensures positive { (0 < result) × (result ≤ UNLIMITED) }
+        requires path { IsCarried network.now.graph (slice_index flow.old) self.now.marks.items
+            self.now.source 1 sink }
+        ensures positive { 0 < result }
         ensures augmented { (value : ℕ)
             → IsAugmented network.now.graph self.now.source sink (slice_index flow.old) value
             → IsAugmented network.now.graph self.now.source sink (slice_index flow.new)

@@ -22,7 +22,8 @@ pub(crate) struct Tables<'a> {
 
 impl<'a> Tables<'a> {
     ghost use Rattle.mm_flow.specs.Residual.{tail, head};
-    ghost use Rattle.flow_plain.specs.Marks.{level};
+    ghost use Rattle.mm_flow.specs.Marks.{level};
+    ghost use Rattle.flow_plain.specs.Marks.{bare};
     ghost use Rattle.flow_plain.specs.Task.{SameTask, IsOpen, Reaches};
 
     // Tables with a flow of nothing, unless a path of unlimited arcs leads from the source to the sink.
@@ -90,8 +91,8 @@ impl<'a> Tables<'a> {
         ensures task { SameTask self.old self.new }
         ensures kept { self.new.flow ≡ self.old.flow }
         ensures value { self.new.value ≡ self.old.value }
-        ensures levels { (n : ℕ) → level self.new.search.marks.items n
-            ≡ level self.old.search.marks.items n }
+        ensures levels { (n : ℕ) → level (bare self.new.search.marks.items) n
+            ≡ level (bare self.old.search.marks.items) n }
         ensures path { Reaches self.new (head self.old.network.now.graph entry) }
     {
         self.search.reach_by(self.network, &self.flow, entry);

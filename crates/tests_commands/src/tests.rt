@@ -1,5 +1,22 @@
 //! The worked examples, each through the whole program, and the program's answers to files and writers that fail.
 
+// Tables of cases: what each row gives, and what is wanted.
+macro_rules! wanted {
+    ($($($given:expr),+ => $want:expr;)*) => { [$(($($given),+, $want)),*] };
+}
+
+// Tables of structs: the fields of each row.
+macro_rules! table {
+    ($kind:ident; $($($field:ident $value:expr),+;)+) => { [$($kind { $($field: $value),+ }),+] };
+}
+
+// The same, where a row has the other fields of one with a name.
+macro_rules! based {
+    ($kind:ident; $($base:ident: $($field:ident $value:expr),+;)+) => {
+        [$($kind { $($field: $value,)+ ..$base }),+]
+    };
+}
+
 mod advising;
 mod asking;
 mod charting;

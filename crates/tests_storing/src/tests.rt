@@ -19,6 +19,11 @@ macro_rules! refused {
     ($($fault:ident: $($octets:expr),+;)+) => { [$($(($octets, Fault::$fault)),+),+] };
 }
 
+// Tables of cases: what each row gives, and what is wanted.
+macro_rules! wanted {
+    ($($($given:expr),+ => $want:expr;)*) => { [$(($($given),+, $want)),*] };
+}
+
 mod bases;
 mod controls;
 mod hinting;

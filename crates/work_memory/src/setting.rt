@@ -40,58 +40,23 @@ pub const SMALL: Setting = Setting {
     strays: 0,
 };
 
+// Settings: the fields of each.
+macro_rules! settings {
+    ($($($field:ident $value:expr),+;)+) => { [$(Setting { $($field: $value),+ }),+] };
+}
+
 /// The memories: 16 stores with 64 report types, each routed to four of them; 16 stores with 256 report types; 16 stores with one report
 /// type, routed to all; one store with one report type.
-pub const MEMORIES: [Setting; 4] = [
-    Setting {
-        stores: 16,
-        types: 64,
-        more: 0,
-        fan: 4,
-        least: 600,
-        spread: 2400,
-        rounds: 40,
-        packets: 3000,
-        pace: 3,
-        strays: 8,
-    },
-    Setting {
-        stores: 16,
-        types: 255,
-        more: 1,
-        fan: 1,
-        least: 300,
-        spread: 1200,
-        rounds: 40,
-        packets: 3000,
-        pace: 3,
-        strays: 8,
-    },
-    Setting {
-        stores: 16,
-        types: 1,
-        more: 0,
-        fan: 16,
-        least: 500,
-        spread: 2500,
-        rounds: 40,
-        packets: 2000,
-        pace: 1,
-        strays: 8,
-    },
-    Setting {
-        stores: 1,
-        types: 1,
-        more: 0,
-        fan: 1,
-        least: 2000,
-        spread: 8000,
-        rounds: 60,
-        packets: 6000,
-        pace: 3,
-        strays: 8,
-    },
-];
+pub const MEMORIES: [Setting; 4] = settings! {
+    stores 16, types 64, more 0, fan 4, least 600, spread 2400, rounds 40, packets 3000, pace 3,
+        strays 8;
+    stores 16, types 255, more 1, fan 1, least 300, spread 1200, rounds 40, packets 3000, pace 3,
+        strays 8;
+    stores 16, types 1, more 0, fan 16, least 500, spread 2500, rounds 40, packets 2000, pace 1,
+        strays 8;
+    stores 1, types 1, more 0, fan 1, least 2000, spread 8000, rounds 60, packets 6000, pace 3,
+        strays 8;
+};
 
 /// The fields that name a report type.
 #[derive(Clone, Copy)]

@@ -10,69 +10,32 @@ use std::sync::Wait;
 use std::thread::Threads;
 use work_base::Numbers;
 
+// Tables of missions: the fields of each.
+macro_rules! missions {
+    ($($($field:ident $value:expr),+;)+) => { [$(Mission { $($field: $value),+ }),+] };
+}
+
 // The missions, each of another shape.
-static MISSIONS: [Mission; 6] = [
+static MISSIONS: [Mission; 6] = missions! {
     // All lengths, in many steps.
-    Mission {
-        is_planned: true,
-        steps: 256,
-        links: 4,
-        types: 4,
-        packets: (4, 18),
-        octets: (64, 1000),
-        fails_after: None,
-    },
+    is_planned true, steps 256, links 4, types 4,
+        packets (4, 18), octets (64, 1000), fails_after None;
     // Short packets in few steps.
-    Mission {
-        is_planned: false,
-        steps: 64,
-        links: 4,
-        types: 1,
-        packets: (100, 180),
-        octets: (64, 200),
-        fails_after: None,
-    },
+    is_planned false, steps 64, links 4, types 1,
+        packets (100, 180), octets (64, 200), fails_after None;
     // Packets of the longest kind.
-    Mission {
-        is_planned: true,
-        steps: 128,
-        links: 2,
-        types: 2,
-        packets: (2, 18),
-        octets: (1024, 1024),
-        fails_after: None,
-    },
+    is_planned true, steps 128, links 2, types 2,
+        packets (2, 18), octets (1024, 1024), fails_after None;
     // Many steps with few packets.
-    Mission {
-        is_planned: false,
-        steps: 256,
-        links: 4,
-        types: 8,
-        packets: (0, 2),
-        octets: (64, 1000),
-        fails_after: None,
-    },
+    is_planned false, steps 256, links 4, types 8,
+        packets (0, 2), octets (64, 1000), fails_after None;
     // A link that fails.
-    Mission {
-        is_planned: false,
-        steps: 192,
-        links: 1,
-        types: 8,
-        packets: (2, 18),
-        octets: (64, 1000),
-        fails_after: Some(8000),
-    },
+    is_planned false, steps 192, links 1, types 8,
+        packets (2, 18), octets (64, 1000), fails_after Some(8000);
     // As many report types as a setup can have.
-    Mission {
-        is_planned: true,
-        steps: 256,
-        links: 3,
-        types: 16,
-        packets: (4, 16),
-        octets: (300, 1000),
-        fails_after: None,
-    },
-];
+    is_planned true, steps 256, links 3, types 16,
+        packets (4, 16), octets (300, 1000), fails_after None;
+};
 
 // A mission whose lines are counted by hand.
 const SMALL: Mission = Mission {

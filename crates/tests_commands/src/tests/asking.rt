@@ -10,46 +10,26 @@ struct Asked {
     status: u8,
 }
 
-static ASKED: [Asked; 12] = [
-    Asked {
-        example: "no_request",
-        requests: "",
-        prints: "",
-        status: 0,
-    },
-    Asked {
-        example: "enable_one_store",
-        requests: "1864C000000D200F010000015343492020202020\n",
-        prints: "1.1 done\n",
-        status: 0,
-    },
-    Asked {
-        example: "enable_one_store, its last octet cut",
-        requests: "1864C000000D200F0100000153434920202020\n",
-        prints: "1 refused 1 Short\n",
-        status: 1,
-    },
-    Asked {
-        example: "create_two_stores",
-        requests: "1864C0000021200F140000025343492020202020000000040100484B202020202020000000020001\n",
-        prints: "1.1 refused 24 Exists\n1.2 done\n",
-        status: 1,
-    },
-    Asked {
-        example: "retrieval_makes_busy",
-        requests: "\
+static ASKED: [Asked; 12] = table! { Asked;
+    example "no_request", requests "", prints "", status 0;
+    example "enable_one_store", requests "1864C000000D200F010000015343492020202020\n",
+        prints "1.1 done\n", status 0;
+    example "enable_one_store, its last octet cut",
+        requests "1864C000000D200F0100000153434920202020\n", prints "1 refused 1 Short\n", status 1;
+    example "create_two_stores",
+        requests "1864C0000021200F140000025343492020202020000000040100484B202020202020000000020001\n",
+        prints "1.1 refused 24 Exists\n1.2 done\n", status 1;
+    example "retrieval_makes_busy",
+        requests "\
 1864C000001D200F090000015343492020202020000000000000000100000000000000FF
 1864C0000015200F0B000001534349202020202000000000000000FF
 1864C000000D200F110000015343492020202020
 1864C0000015200F0B000001534349202020202000000000000000FF
 ",
-        prints: "1.1 done\n2.1 refused 18 Busy\n3.1 done\n4.1 done\n",
-        status: 1,
-    },
+        prints "1.1 done\n2.1 refused 18 Busy\n3.1 done\n4.1 done\n", status 1;
     // The storage is on, and then it is turned off. The route is gone, also for a new store with the identifier.
-    Asked {
-        example: "delete_store_with_routes",
-        requests: "\
+    example "delete_store_with_routes",
+        requests "\
 1864C000000D200F150000015343492020202020
 1864C000000D200F020000015343492020202020
 1864C000000D200F150000015343492020202020
@@ -57,7 +37,7 @@ static ASKED: [Asked; 12] = [
 1864C0000013200F140000015343492020202020000000040100
 1864C000000D200F050000015343492020202020
 ",
-        prints: "\
+        prints "\
 1.1 refused 26 StorageOn
 2.1 done
 3.1 done
@@ -66,18 +46,13 @@ static ASKED: [Asked; 12] = [
 6.1 done
 6 report 0864C0000018200F0600000000000000000000000653434920202020200000
 ",
-        status: 1,
-    },
-    Asked {
-        example: "delete_store_with_routes, a store of no size",
-        requests: "1864C0000013200F14000001484B202020202020000000000001",
-        prints: "1.1 refused 48 BadSize\n",
-        status: 1,
-    },
+        status 1;
+    example "delete_store_with_routes, a store of no size",
+        requests "1864C0000013200F14000001484B202020202020000000000001",
+        prints "1.1 refused 48 BadSize\n", status 1;
     // With the store of the setup there are 16 after the fifteenth.
-    Asked {
-        example: "delete_store_with_routes, a seventeenth store",
-        requests: "1864C00000E5200F14000010\
+    example "delete_store_with_routes, a seventeenth store",
+        requests "1864C00000E5200F14000010\
             41202020202020200000000100004220202020202020000000010000\
             43202020202020200000000100004420202020202020000000010000\
             45202020202020200000000100004620202020202020000000010000\
@@ -86,7 +61,7 @@ static ASKED: [Asked; 12] = [
             4B202020202020200000000100004C20202020202020000000010000\
             4D202020202020200000000100004E20202020202020000000010000\
             4F202020202020200000000100005020202020202020000000010000\n",
-        prints: "\
+        prints "\
 1.1 done
 1.2 done
 1.3 done
@@ -104,23 +79,15 @@ static ASKED: [Asked; 12] = [
 1.15 done
 1.16 refused 25 TooManyStores
 ",
-        status: 1,
-    },
-    Asked {
-        example: "delete_store_with_routes, an identifier in small letters beside a good one",
-        requests: "1864C0000015200F0100000273636920202020205343492020202020",
-        prints: "1.1 refused 15 BadId\n1.2 done\n",
-        status: 1,
-    },
-    Asked {
-        example: "configuration_report",
-        requests: "1864C0000004200F160000",
-        prints: "1 report 0864C000001D200F17000000000000000000000001015343492020202020000000040100\n",
-        status: 0,
-    },
-    Asked {
-        example: "request_lines_refused",
-        requests: "\
+        status 1;
+    example "delete_store_with_routes, an identifier in small letters beside a good one",
+        requests "1864C0000015200F0100000273636920202020205343492020202020",
+        prints "1.1 refused 15 BadId\n1.2 done\n", status 1;
+    example "configuration_report", requests "1864C0000004200F160000",
+        prints "1 report 0864C000001D200F17000000000000000000000001015343492020202020000000040100\n",
+        status 0;
+    example "request_lines_refused",
+        requests "\
 1864C00000042011010000
 1864C0000004200F0E0000
 1864C0000004200F010000
@@ -130,7 +97,7 @@ static ASKED: [Asked; 12] = [
 1864C0000004200F16000000
 1864C0000013200F14000001484B202020202020000000020200
 ",
-        prints: "\
+        prints "\
 1 refused 12 NotSt15
 2 refused 13 UnknownSubtype
 3 refused 14 CountMismatch
@@ -140,25 +107,22 @@ static ASKED: [Asked; 12] = [
 7 refused 49 HexLine
 8.1 refused 16 BadEnum
 ",
-        status: 1,
-    },
-    Asked {
-        example: "channel_of_a_store_changed",
-        requests: "\
+        status 1;
+    example "channel_of_a_store_changed",
+        requests "\
 1864C000000E200F1C000001534349202020202005
 1864C000000D200F020000015343492020202020
 1864C000000E200F1C000001534349202020202005
 1864C0000004200F160000
 ",
-        prints: "\
+        prints "\
 1.1 refused 26 StorageOn
 2.1 done
 3.1 done
 4 report 0864C000001D200F17000000000000000000000004015343492020202020000000040105
 ",
-        status: 1,
-    },
-];
+        status 1;
+};
 
 #[test]
 fn answers_to_requests(rt: HostRuntime) {

@@ -20,99 +20,41 @@ struct Checked {
     prints: &'static str,
 }
 
-static CHECKED: [Checked; 13] = [
-    Checked {
-        example: "first_run",
-        setup: SCI,
-        forecast: THREE_STEPS,
-        plan: FIRST_PLAN,
-        prints: "least 2\n",
-    },
-    Checked {
-        example: "two_stretches_of_one_store",
-        setup: SCI_OF_SIZE_2,
-        forecast: APART,
-        plan: "mmplan 1\nstores SCI\ndump 1 0\ndump 2 2\ndump 3 0\nloss 6\nstretch SCI 1 1\nstretch SCI 3 3\nbound 6\nend\n",
-        prints: "least 6\n",
-    },
-    Checked {
-        example: "two_stretches_of_one_store, in one stretch",
-        setup: SCI_OF_SIZE_2,
-        forecast: APART,
-        plan: "mmplan 1\nstores SCI\ndump 1 0\ndump 2 2\ndump 3 0\nloss 6\nstretch SCI 1 3\nbound -1\nend\n",
-        prints: "not shown, loss 6 bound -1\n",
-    },
-    Checked {
-        example: "amount_above_content",
-        setup: SCI_OF_SIZE_2,
-        forecast: APART,
-        plan: "mmplan 1\nstores SCI\ndump 1 0\ndump 2 9\ndump 3 0\nloss 6\nstretch SCI 1 1\nstretch SCI 3 3\nbound 6\nend\n",
-        prints: "least 6\n",
-    },
-    Checked {
-        example: "opening_contents_plan",
-        setup: SCI_STARTS_WITH_2,
-        forecast: THREE_STEPS,
-        plan: FIRST_PLAN,
-        prints: "loss is 4\n",
-    },
-    Checked {
-        example: "channel_limit_cut",
-        setup: A_WITH_LIMIT_1,
-        forecast: TWO_STEPS_OF_A,
-        plan: LIMITED,
-        prints: "least 2\n",
-    },
-    Checked {
-        example: "channel_limit_cut, in the form without counts",
-        setup: A_WITH_LIMIT_1,
-        forecast: TWO_STEPS_OF_A,
-        plan: "mmplan 1\nstores A\ndump 1 1\ndump 2 0\nloss 2\nstretch A 1 2\nbound -2\nend\n",
-        prints: "not shown, loss 2 bound -2\n",
-    },
-    Checked {
-        example: "channel_limit_cut, above the limit",
-        setup: A_WITH_LIMIT_1,
-        forecast: TWO_STEPS_OF_A,
-        plan: "mmplan 2\nstores A\ndump 1 2\ndump 2 0\nloss 2\nstretch A 1 2\ncount 1 channels\nbound 2\nend\n",
-        prints: "does not fit, step 1\n",
-    },
-    Checked {
-        example: "channel_limit_cut, a counted step that is not inner",
-        setup: A_WITH_LIMIT_1,
-        forecast: TWO_STEPS_OF_A,
-        plan: "mmplan 2\nstores A\ndump 1 1\ndump 2 0\nloss 2\nstretch A 1 2\ncount 2 channels\nbound 2\nend\n",
-        prints: "bad count 1\n",
-    },
-    Checked {
-        example: "channel_limit_cut, without the limit",
-        setup: A,
-        forecast: TWO_STEPS_OF_A,
-        plan: LIMITED,
-        prints: "bad count 1\n",
-    },
-    Checked {
-        example: "no setup",
-        setup: "[[store\n",
-        forecast: THREE_STEPS,
-        plan: "",
-        prints: "refused 27 SetupText\n",
-    },
-    Checked {
-        example: "a forecast for another store",
-        setup: SCI,
-        forecast: "step,window,HK\n",
-        plan: FIRST_PLAN,
-        prints: "refused 30 Header\n",
-    },
-    Checked {
-        example: "a cell with a leading zero",
-        setup: SCI,
-        forecast: "step,window,SCI\n1,2,01\n",
-        plan: FIRST_PLAN,
-        prints: "refused 31 Cell row 1 column 3\n",
-    },
-];
+static CHECKED: [Checked; 13] = table! { Checked;
+    example "first_run", setup SCI, forecast THREE_STEPS, plan FIRST_PLAN, prints "least 2\n";
+    example "two_stretches_of_one_store", setup SCI_OF_SIZE_2, forecast APART,
+        plan "mmplan 1\nstores SCI\ndump 1 0\ndump 2 2\ndump 3 0\nloss 6\nstretch SCI 1 1\nstretch SCI 3 3\nbound 6\nend\n",
+        prints "least 6\n";
+    example "two_stretches_of_one_store, in one stretch", setup SCI_OF_SIZE_2, forecast APART,
+        plan "mmplan 1\nstores SCI\ndump 1 0\ndump 2 2\ndump 3 0\nloss 6\nstretch SCI 1 3\nbound -1\nend\n",
+        prints "not shown, loss 6 bound -1\n";
+    example "amount_above_content", setup SCI_OF_SIZE_2, forecast APART,
+        plan "mmplan 1\nstores SCI\ndump 1 0\ndump 2 9\ndump 3 0\nloss 6\nstretch SCI 1 1\nstretch SCI 3 3\nbound 6\nend\n",
+        prints "least 6\n";
+    example "opening_contents_plan", setup SCI_STARTS_WITH_2, forecast THREE_STEPS, plan FIRST_PLAN,
+        prints "loss is 4\n";
+    example "channel_limit_cut", setup A_WITH_LIMIT_1, forecast TWO_STEPS_OF_A, plan LIMITED,
+        prints "least 2\n";
+    example "channel_limit_cut, in the form without counts", setup A_WITH_LIMIT_1,
+        forecast TWO_STEPS_OF_A,
+        plan "mmplan 1\nstores A\ndump 1 1\ndump 2 0\nloss 2\nstretch A 1 2\nbound -2\nend\n",
+        prints "not shown, loss 2 bound -2\n";
+    example "channel_limit_cut, above the limit", setup A_WITH_LIMIT_1, forecast TWO_STEPS_OF_A,
+        plan "mmplan 2\nstores A\ndump 1 2\ndump 2 0\nloss 2\nstretch A 1 2\ncount 1 channels\nbound 2\nend\n",
+        prints "does not fit, step 1\n";
+    example "channel_limit_cut, a counted step that is not inner", setup A_WITH_LIMIT_1,
+        forecast TWO_STEPS_OF_A,
+        plan "mmplan 2\nstores A\ndump 1 1\ndump 2 0\nloss 2\nstretch A 1 2\ncount 2 channels\nbound 2\nend\n",
+        prints "bad count 1\n";
+    example "channel_limit_cut, without the limit", setup A, forecast TWO_STEPS_OF_A, plan LIMITED,
+        prints "bad count 1\n";
+    example "no setup", setup "[[store\n", forecast THREE_STEPS, plan "",
+        prints "refused 27 SetupText\n";
+    example "a forecast for another store", setup SCI, forecast "step,window,HK\n", plan FIRST_PLAN,
+        prints "refused 30 Header\n";
+    example "a cell with a leading zero", setup SCI, forecast "step,window,SCI\n1,2,01\n",
+        plan FIRST_PLAN, prints "refused 31 Cell row 1 column 3\n";
+};
 
 #[test]
 fn verdicts_of_the_examples(rt: HostRuntime) {
@@ -129,47 +71,20 @@ fn verdicts_of_the_examples(rt: HostRuntime) {
 }
 
 // Examples that change the plan of first_run: a text, what stands in its place, and what is said then.
-static CHANGED: [(&str, &str, &str, &str); 9] = [
-    (
-        "plan_that_loses_more",
-        "dump 2 2\ndump 3 0\nloss 2",
-        "dump 2 1\ndump 3 0\nloss 3",
-        "not shown, loss 3 bound 2\n",
-    ),
-    (
-        "plan_that_does_not_fit",
-        "dump 1 2\ndump 2 2",
-        "dump 1 3\ndump 2 1",
-        "does not fit, step 1\n",
-    ),
-    ("a false loss", "loss 2", "loss 1", "loss is 2\n"),
-    ("a false bound", "bound 2", "bound 1", "bound is 2\n"),
-    (
-        "a stretch past the end",
-        "stretch SCI 1 3",
-        "stretch SCI 1 4",
-        "bad stretch 1\n",
-    ),
-    (
-        "stretches that overlap",
-        "stretch SCI 1 3",
-        "stretch SCI 1 2\nstretch SCI 2 3",
-        "bad stretch 2\n",
-    ),
-    ("no end", "end\n", "", "refused 34 PlanText line 9\n"),
-    (
-        "a leading zero",
-        "dump 1 2",
-        "dump 1 02",
-        "refused 34 PlanText line 3\n",
-    ),
-    (
-        "sheet for another store",
-        "stores SCI",
-        "stores HK",
-        "refused 35 Shape\n",
-    ),
-];
+static CHANGED: [(&str, &str, &str, &str); 9] = wanted! {
+    "plan_that_loses_more", "dump 2 2\ndump 3 0\nloss 2", "dump 2 1\ndump 3 0\nloss 3"
+    => "not shown, loss 3 bound 2\n";
+    "plan_that_does_not_fit", "dump 1 2\ndump 2 2", "dump 1 3\ndump 2 1"
+    => "does not fit, step 1\n";
+    "a false loss", "loss 2", "loss 1" => "loss is 2\n";
+    "a false bound", "bound 2", "bound 1" => "bound is 2\n";
+    "a stretch past the end", "stretch SCI 1 3", "stretch SCI 1 4" => "bad stretch 1\n";
+    "stretches that overlap", "stretch SCI 1 3", "stretch SCI 1 2\nstretch SCI 2 3"
+    => "bad stretch 2\n";
+    "no end", "end\n", "" => "refused 34 PlanText line 9\n";
+    "a leading zero", "dump 1 2", "dump 1 02" => "refused 34 PlanText line 3\n";
+    "sheet for another store", "stores SCI", "stores HK" => "refused 35 Shape\n";
+};
 
 #[test]
 fn sheet_text_refused(rt: HostRuntime) {

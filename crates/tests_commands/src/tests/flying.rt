@@ -112,96 +112,51 @@ const OTHER_ARRIVALS: Run = Run {
     ..FIRST_RUN
 };
 
-static RUNS: [Run; 9] = [
-    OTHER_ARRIVALS,
-    Run {
-        example: "fewer_arrivals_than_forecast",
-        sources: &[IN_1, IN_1, IN_1, IN_3, IN_3, IN_3, IN_3],
-        prints: "\
+static RUNS: [Run; 9] = based! { Run;
+    OTHER_ARRIVALS: status 0;
+    FIRST_RUN: example "fewer_arrivals_than_forecast",
+        sources &[IN_1, IN_1, IN_1, IN_3, IN_3, IN_3, IN_3],
+        prints "\
             step 1 SCI arrived 3 lost 0 dumped 2 held 1\n\
             step 2 SCI arrived 0 lost 0 dumped 1 held 0\n\
             step 3 SCI arrived 4 lost 0 dumped 0 held 4\n\
             differs step 2 SCI forecast 3 came 0\n\
-            total arrived 7 lost 0 dumped 3 held 4\n",
-        ..FIRST_RUN
-    },
-    Run {
-        example: "each_send_fails, there is no fifth",
-        links: "links 1\nfail 1 5",
-        ..OTHER_ARRIVALS
-    },
-    Run {
-        example: "second_send_fails",
-        forecast: "step,window,SCI\n1,3,3\n",
-        plan: THREE_BLOCKS,
-        sources: &[IN_1, IN_1, IN_1],
-        links: "links 1\nfail 1 2\n",
-        prints: HALTED_IN_1,
-        status: 1,
-        ..FIRST_RUN
-    },
-    Run {
-        example: "two_links_fail",
-        setup: A_AND_B,
-        forecast: "step,window,A,B\n1,4,2,2\n",
-        plan: "mmplan 1\nstores A B\ndump 1 2 2\nloss 0\nbound 0\nend\n",
-        sources: &[IN_1, IN_1],
-        links: "links 2\nfail 1 1\nfail 2 1\n",
-        prints: HALTED_IN_1,
-        status: 1,
-        ..FIRST_RUN
-    },
-    Run {
-        example: "ring_and_blocks_lose_alike",
-        setup: RING_AND_BLOCKS,
-        forecast: "step,window,C,B\n1,2,3,3\n",
-        plan: "mmplan 1\nstores C B\ndump 1 1 1\nloss 2\nbound 0\nend\n",
-        sources: &[IN_1, IN_1, IN_1],
-        prints: "\
+            total arrived 7 lost 0 dumped 3 held 4\n";
+    OTHER_ARRIVALS: example "each_send_fails, there is no fifth", links "links 1\nfail 1 5";
+    FIRST_RUN: example "second_send_fails", forecast "step,window,SCI\n1,3,3\n", plan THREE_BLOCKS,
+        sources &[IN_1, IN_1, IN_1], links "links 1\nfail 1 2\n", prints HALTED_IN_1, status 1;
+    FIRST_RUN: example "two_links_fail", setup A_AND_B, forecast "step,window,A,B\n1,4,2,2\n",
+        plan "mmplan 1\nstores A B\ndump 1 2 2\nloss 0\nbound 0\nend\n", sources &[IN_1, IN_1],
+        links "links 2\nfail 1 1\nfail 2 1\n", prints HALTED_IN_1, status 1;
+    FIRST_RUN: example "ring_and_blocks_lose_alike", setup RING_AND_BLOCKS,
+        forecast "step,window,C,B\n1,2,3,3\n",
+        plan "mmplan 1\nstores C B\ndump 1 1 1\nloss 2\nbound 0\nend\n",
+        sources &[IN_1, IN_1, IN_1],
+        prints "\
             step 1 C arrived 3 lost 1 dumped 1 held 1\n\
             step 1 B arrived 3 lost 1 dumped 1 held 1\n\
-            total arrived 6 lost 2 dumped 2 held 2\n",
-        ..FIRST_RUN
-    },
-    Run {
-        example: "opening_contents_run",
-        setup: STARTS_WITH_2,
-        plan: PLAN_FROM_2,
-        sources: &[
-            IN_0, IN_0, IN_1, IN_1, IN_1, IN_2, IN_2, IN_2, IN_3, IN_3, IN_3, IN_3,
-        ],
-        prints: "\
+            total arrived 6 lost 2 dumped 2 held 2\n";
+    FIRST_RUN: example "opening_contents_run", setup STARTS_WITH_2, plan PLAN_FROM_2,
+        sources &[IN_0, IN_0, IN_1, IN_1, IN_1, IN_2, IN_2, IN_2, IN_3, IN_3, IN_3, IN_3],
+        prints "\
             step 1 SCI arrived 3 lost 1 dumped 2 held 2\n\
             step 2 SCI arrived 3 lost 1 dumped 2 held 2\n\
             step 3 SCI arrived 4 lost 2 dumped 0 held 4\n\
-            total arrived 10 lost 4 dumped 4 held 4\n",
-        ..FIRST_RUN
-    },
+            total arrived 10 lost 4 dumped 4 held 4\n";
     // The third packet for each store is lost before the run, of which the report says nothing.
-    Run {
-        example: "more_opening_packets_than_blocks",
-        setup: TWO_ARE_FULL,
-        forecast: "step,window,A,C\n1,3,1,1\n",
-        plan: THREE_OF_TWO,
-        sources: &[THREE_FOR_EACH],
-        prints: "\
+    FIRST_RUN: example "more_opening_packets_than_blocks", setup TWO_ARE_FULL,
+        forecast "step,window,A,C\n1,3,1,1\n", plan THREE_OF_TWO, sources &[THREE_FOR_EACH],
+        prints "\
             step 1 A arrived 1 lost 1 dumped 2 held 0\n\
             step 1 C arrived 1 lost 1 dumped 1 held 1\n\
-            total arrived 2 lost 2 dumped 3 held 1\n",
-        ..FIRST_RUN
-    },
-    Run {
-        example: "a_telecommand_is_not_stored",
-        forecast: "step,window,SCI\n1,3,0\n",
-        plan: THREE_BLOCKS,
-        sources: &["1 0 1864C0000004200319FFFF\n2 1 1864C0000004200319FFFF\n"],
-        links: "links 4",
-        prints: "\
+            total arrived 2 lost 2 dumped 3 held 1\n";
+    FIRST_RUN: example "a_telecommand_is_not_stored", forecast "step,window,SCI\n1,3,0\n",
+        plan THREE_BLOCKS, sources &["1 0 1864C0000004200319FFFF\n2 1 1864C0000004200319FFFF\n"],
+        links "links 4",
+        prints "\
             step 1 SCI arrived 0 lost 0 dumped 0 held 0\n\
-            total arrived 0 lost 0 dumped 0 held 0\n",
-        ..FIRST_RUN
-    },
-];
+            total arrived 0 lost 0 dumped 0 held 0\n";
+};
 
 // `run` with the files of a row and these links prints this report.
 fn runs_over<R: Abort + AllocGlobal + Threads + Wait + Sync>(
@@ -270,22 +225,13 @@ const FIRST_FLIGHT: Run = Run {
     ..FIRST_RUN
 };
 
-static FLIGHTS: [Run; 3] = [
-    FIRST_FLIGHT,
-    Run {
-        example: "first_run, there is no fifth send",
-        links: "links 1\nfail 1 5",
-        ..FIRST_FLIGHT
-    },
+static FLIGHTS: [Run; 3] = based! { Run;
+    FIRST_FLIGHT: status 0;
+    FIRST_FLIGHT: example "first_run, there is no fifth send", links "links 1\nfail 1 5";
     // A run that does not begin has its plan printed, and no report.
-    Run {
-        example: "first_run without a source",
-        sources: &[],
-        prints: "refused 44 Counts\n",
-        status: 1,
-        ..FIRST_RUN
-    },
-];
+    FIRST_RUN: example "first_run without a source", sources &[], prints "refused 44 Counts\n",
+        status 1;
+};
 
 #[test]
 fn fly_first_run(rt: HostRuntime) {

@@ -6,271 +6,141 @@ use std::sync::Wait;
 use std::thread::Threads;
 
 // Setups that are refused, and what is found in each.
-static SETUP_HINTS: [(&str, &str); 18] = [
-    (
-        "[[store]]\nid = \"A\"\nsize = 2,000\n",
-        "line 3 is \"size = 2,000\"; numbers have no commas, and texts have quotes",
-    ),
-    (
-        "[[store]]\nid = \"A\"\nsize 2000\n",
-        "line 3 is \"size 2000\"; numbers have no commas, and texts have quotes",
-    ),
-    (
-        "store = 1\n",
-        "store is no array of tables; write [[store]] above each table",
-    ),
-    (
-        "stores = 1\n",
-        "the key \"stores\" is none of store, route and limit",
-    ),
-    (
-        "[[store]]\nid = \"A\"\nsize = 4\ntype = \"bounded\"\nchannel = 0\n[[store]]\nid = \"B\"\nsize = 4\ntype = \"bounded\"\nchannel = 0\nsise = 4\n",
-        "table 2 of store, \"B\", has the key \"sise\", which it cannot have",
-    ),
-    (
-        "[[store]]\nid = \"A\"\nsize = 4\ntype = \"bounded\"\n",
-        "table 1 of store, \"A\", has no key channel",
-    ),
-    (
-        "[[store]]\nid = \"A\"\nsize = 4\ntype = \"bounded\"\nchannel = 0\n[[limit]]\nblocks = 4\n",
-        "table 1 of limit has no key channel",
-    ),
-    (
-        "[[store]]\nid = \"A\"\nsize = \"4\"\ntype = \"bounded\"\nchannel = 0\n",
-        "table 1 of store, \"A\", has no whole number as size; write it without quotes",
-    ),
-    (
-        "[[store]]\nid = 5\nsize = 4\ntype = \"bounded\"\nchannel = 0\n",
-        "table 1 of store has no text as id; write it in quotes",
-    ),
-    (
-        "[[store]]\nid = \"A\"\nsize = 4\ntype = \"bounded\"\nchannel = 0\n[[store]]\nid = \"cam\"\nsize = 4\ntype = \"bounded\"\nchannel = 0\n",
-        "table 2 of store, \"cam\", has small letters in its id; write capital letters",
-    ),
-    (
-        "[[store]]\nid = \"CAM 1\"\nsize = 4\ntype = \"bounded\"\nchannel = 0\n",
-        "table 1 of store, \"CAM 1\", has \"CAM 1\" as id; 1 to 8 of the characters A-Z, 0-9, _ and - can be",
-    ),
-    (
-        "[[store]]\nid = \"A\"\nsize = 4\ntype = \"ring\"\nchannel = 0\n",
-        "table 1 of store, \"A\", has the type \"ring\"; \"circular\" and \"bounded\" can be",
-    ),
-    (
-        "[[store]]\nid = \"A\"\nsize = 4\ntype = \"bounded\"\nchannel = 0\n[[route]]\napid = 100\nservice = 3\nsubtype = 25\nstore = \"B\"\n",
-        "table 1 of route names the store \"B\", which no table of store has",
-    ),
-    (
-        "[[store]]\nid = \"A\"\nsize = 4\ntype = \"bounded\"\nchannel = 0\n[[store]]\nid = \"A\"\nsize = 4\ntype = \"bounded\"\nchannel = 0\n",
-        "table 2 of store, \"A\", has the id of an earlier one; rename one of them",
-    ),
-    (
-        "[[store]]\nid = \"A\"\nsize = 4\ntype = \"bounded\"\nchannel = 0\n[[route]]\napid = 100\nservice = 3\nsubtype = 25\nstore = \"A\"\n[[route]]\napid = 100\nservice = 3\nsubtype = 25\nstore = \"A\"\n",
-        "table 2 of route is the same as an earlier one; leave one of them out",
-    ),
-    (
-        "[[store]]\nid = \"A\"\nsize = 4\ntype = \"bounded\"\nchannel = 0\nstart = 5\n",
-        "table 1 of store, \"A\", has start = 5; 0 to 4 can be",
-    ),
-    (
-        "[[store]]\nid = \"A\"\nsize = 2000000\ntype = \"bounded\"\nchannel = 0\n",
-        "table 1 of store, \"A\", has size = 2000000; 1 to 1000000 can be",
-    ),
-    (
-        "[[store]]\nid = \"A\"\nsize = 4\ntype = \"bounded\"\nchannel = 0\n[[limit]]\nchannel = 8\nblocks = 4\n",
-        "table 1 of limit has channel = 8; 0 to 7 can be",
-    ),
-];
+static SETUP_HINTS: [(&str, &str); 18] = wanted! {
+    "[[store]]\nid = \"A\"\nsize = 2,000\n"
+    => "line 3 is \"size = 2,000\"; numbers have no commas, and texts have quotes";
+    "[[store]]\nid = \"A\"\nsize 2000\n"
+    => "line 3 is \"size 2000\"; numbers have no commas, and texts have quotes";
+    "store = 1\n" => "store is no array of tables; write [[store]] above each table";
+    "stores = 1\n" => "the key \"stores\" is none of store, route and limit";
+    "[[store]]\nid = \"A\"\nsize = 4\ntype = \"bounded\"\nchannel = 0\n[[store]]\nid = \"B\"\nsize = 4\ntype = \"bounded\"\nchannel = 0\nsise = 4\n"
+    => "table 2 of store, \"B\", has the key \"sise\", which it cannot have";
+    "[[store]]\nid = \"A\"\nsize = 4\ntype = \"bounded\"\n"
+    => "table 1 of store, \"A\", has no key channel";
+    "[[store]]\nid = \"A\"\nsize = 4\ntype = \"bounded\"\nchannel = 0\n[[limit]]\nblocks = 4\n"
+    => "table 1 of limit has no key channel";
+    "[[store]]\nid = \"A\"\nsize = \"4\"\ntype = \"bounded\"\nchannel = 0\n"
+    => "table 1 of store, \"A\", has no whole number as size; write it without quotes";
+    "[[store]]\nid = 5\nsize = 4\ntype = \"bounded\"\nchannel = 0\n"
+    => "table 1 of store has no text as id; write it in quotes";
+    "[[store]]\nid = \"A\"\nsize = 4\ntype = \"bounded\"\nchannel = 0\n[[store]]\nid = \"cam\"\nsize = 4\ntype = \"bounded\"\nchannel = 0\n"
+    => "table 2 of store, \"cam\", has small letters in its id; write capital letters";
+    "[[store]]\nid = \"CAM 1\"\nsize = 4\ntype = \"bounded\"\nchannel = 0\n"
+    => "table 1 of store, \"CAM 1\", has \"CAM 1\" as id; 1 to 8 of the characters A-Z, 0-9, _ and - can be";
+    "[[store]]\nid = \"A\"\nsize = 4\ntype = \"ring\"\nchannel = 0\n"
+    => "table 1 of store, \"A\", has the type \"ring\"; \"circular\" and \"bounded\" can be";
+    "[[store]]\nid = \"A\"\nsize = 4\ntype = \"bounded\"\nchannel = 0\n[[route]]\napid = 100\nservice = 3\nsubtype = 25\nstore = \"B\"\n"
+    => "table 1 of route names the store \"B\", which no table of store has";
+    "[[store]]\nid = \"A\"\nsize = 4\ntype = \"bounded\"\nchannel = 0\n[[store]]\nid = \"A\"\nsize = 4\ntype = \"bounded\"\nchannel = 0\n"
+    => "table 2 of store, \"A\", has the id of an earlier one; rename one of them";
+    "[[store]]\nid = \"A\"\nsize = 4\ntype = \"bounded\"\nchannel = 0\n[[route]]\napid = 100\nservice = 3\nsubtype = 25\nstore = \"A\"\n[[route]]\napid = 100\nservice = 3\nsubtype = 25\nstore = \"A\"\n"
+    => "table 2 of route is the same as an earlier one; leave one of them out";
+    "[[store]]\nid = \"A\"\nsize = 4\ntype = \"bounded\"\nchannel = 0\nstart = 5\n"
+    => "table 1 of store, \"A\", has start = 5; 0 to 4 can be";
+    "[[store]]\nid = \"A\"\nsize = 2000000\ntype = \"bounded\"\nchannel = 0\n"
+    => "table 1 of store, \"A\", has size = 2000000; 1 to 1000000 can be";
+    "[[store]]\nid = \"A\"\nsize = 4\ntype = \"bounded\"\nchannel = 0\n[[limit]]\nchannel = 8\nblocks = 4\n"
+    => "table 1 of limit has channel = 8; 0 to 7 can be";
+};
 
 // Forecasts that are refused, and what is found in each.
-static FORECAST_HINTS: [(&str, &str); 17] = [
-    (
-        "step;window;A\n1;2;3\n",
-        "semicolons separate the cells; save the file with commas",
-    ),
-    (
-        "Step,window,A\n1,2,3\n",
-        "the header is \"Step,window,A\", and \"step,window,A\" is expected",
-    ),
-    (
-        "step, window,A\n1,2,3\n",
-        "the header is \"step, window,A\", and \"step,window,A\" is expected",
-    ),
-    (
-        "window,step,A,,\n2,1,3,,\n",
-        "the header is \"window,step,A,,\", and \"step,window,A\" is expected",
-    ),
-    (
-        "step,window,a\r\n1,2,3\r\n",
-        "the header is \"step,window,a\", and \"step,window,A\" is expected",
-    ),
-    ("", "the header is \"\", and \"step,window,A\" is expected"),
-    (
-        "step,window,A,limit:8\n1,2,3,4\n",
-        "the header is \"step,window,A,limit:8\", and \"step,window,A\" is expected, then limit:0 to limit:7 for limits, rising",
-    ),
-    (
-        "step,window,A,limit:0\n1,2,3,4,5\n",
-        "row 1 is line 2 of the file, whose header is line 1; cells: 5 there, 4 in the header",
-    ),
-    (
-        "step,window,A,limit:0\n1,2,3,1000001\n",
-        "line 2 of the file has \"1000001\"; 1,000,000 is the most",
-    ),
-    (
-        "[[store]]\nid = \"A\"\nsize = 4\ntype = \"bounded\"\nchannel = 0\n",
-        "the files are in another order; name the setup first, then the forecast",
-    ),
-    (
-        "step,window,A\n1,2,3\n\n2,1,900,3\n",
-        "row 2 is line 4 of the file, whose header is line 1; cells: 4 there, 3 in the header",
-    ),
-    (
-        "step,window,A\n1,2\n",
-        "row 1 is line 2 of the file, whose header is line 1; cells: 2 there, 3 in the header",
-    ),
-    (
-        "step,window,A\n1,2,\"1,900\"\n",
-        "the cell is \"\"1,900\"\" in line 2 of the file, whose header is line 1",
-    ),
-    (
-        "step,window,A\n1,2,3\n,,\n",
-        "the cell is \"\" in line 3 of the file, whose header is line 1",
-    ),
-    (
-        "step,window,A\n1,2,3\n3,2,3\n",
-        "the step is \"3\" in line 3 of the file, whose header is line 1; it is to be 2",
-    ),
-    (
-        "step,window,A\n1,2,3\n2,1000001,3\n",
-        "line 3 of the file has \"1000001\"; 1,000,000 is the most",
-    ),
-    (
-        "step,window,A\n",
-        "there are 0 records after the header; 1 to 256 can be",
-    ),
-];
+static FORECAST_HINTS: [(&str, &str); 17] = wanted! {
+    "step;window;A\n1;2;3\n" => "semicolons separate the cells; save the file with commas";
+    "Step,window,A\n1,2,3\n"
+    => "the header is \"Step,window,A\", and \"step,window,A\" is expected";
+    "step, window,A\n1,2,3\n"
+    => "the header is \"step, window,A\", and \"step,window,A\" is expected";
+    "window,step,A,,\n2,1,3,,\n"
+    => "the header is \"window,step,A,,\", and \"step,window,A\" is expected";
+    "step,window,a\r\n1,2,3\r\n"
+    => "the header is \"step,window,a\", and \"step,window,A\" is expected";
+    "" => "the header is \"\", and \"step,window,A\" is expected";
+    "step,window,A,limit:8\n1,2,3,4\n"
+    => "the header is \"step,window,A,limit:8\", and \"step,window,A\" is expected, then limit:0 to limit:7 for limits, rising";
+    "step,window,A,limit:0\n1,2,3,4,5\n"
+    => "row 1 is line 2 of the file, whose header is line 1; cells: 5 there, 4 in the header";
+    "step,window,A,limit:0\n1,2,3,1000001\n"
+    => "line 2 of the file has \"1000001\"; 1,000,000 is the most";
+    "[[store]]\nid = \"A\"\nsize = 4\ntype = \"bounded\"\nchannel = 0\n"
+    => "the files are in another order; name the setup first, then the forecast";
+    "step,window,A\n1,2,3\n\n2,1,900,3\n"
+    => "row 2 is line 4 of the file, whose header is line 1; cells: 4 there, 3 in the header";
+    "step,window,A\n1,2\n"
+    => "row 1 is line 2 of the file, whose header is line 1; cells: 2 there, 3 in the header";
+    "step,window,A\n1,2,\"1,900\"\n"
+    => "the cell is \"\"1,900\"\" in line 2 of the file, whose header is line 1";
+    "step,window,A\n1,2,3\n,,\n"
+    => "the cell is \"\" in line 3 of the file, whose header is line 1";
+    "step,window,A\n1,2,3\n3,2,3\n"
+    => "the step is \"3\" in line 3 of the file, whose header is line 1; it is to be 2";
+    "step,window,A\n1,2,3\n2,1000001,3\n"
+    => "line 3 of the file has \"1000001\"; 1,000,000 is the most";
+    "step,window,A\n" => "there are 0 records after the header; 1 to 256 can be";
+};
 
 // Plan texts that are refused, and what is found in each.
-static PLAN_HINTS: [(&str, &str); 8] = [
-    (
-        "mmplan 1\r\nstores A\r\n",
-        "line 1 ends with CR LF; save the file with LF alone",
-    ),
-    (
-        "\u{FEFF}mmplan 1\nstores A\n",
-        "the file begins with a byte order mark; save it in UTF-8 without one",
-    ),
-    (
-        "refused 30 Header\n",
-        "the file holds the line of a refusal, and no plan; plan again",
-    ),
-    ("mmplan 1\nstores A\ndump 2 2\n", "line 3 is \"dump 2 2\""),
-    (
-        "mmplan 1\nstores A\ndump 1 2\n",
-        "the text ends in line 4; its last line is end, with a line feed",
-    ),
-    (
-        "mmplan 1\nstores A\ndump 1 2\nloss 0\nbound 0\nend",
-        "the text ends in line 6; its last line is end, with a line feed",
-    ),
-    (
-        "mmplan 1\nstores B\ndump 1 2\nloss 0\nbound 0\nend\n",
-        "the plan has \"stores B\" and 1 steps; \"stores A\" and 2 steps are wanted",
-    ),
-    (
-        "mmplan 1\nstores A\ndump 1 3\ndump 2 2\nloss 0\nbound 0\nend\n",
-        "step 1 dumps 3 blocks, and its window is 2",
-    ),
-];
+static PLAN_HINTS: [(&str, &str); 8] = wanted! {
+    "mmplan 1\r\nstores A\r\n" => "line 1 ends with CR LF; save the file with LF alone";
+    "\u{FEFF}mmplan 1\nstores A\n"
+    => "the file begins with a byte order mark; save it in UTF-8 without one";
+    "refused 30 Header\n" => "the file holds the line of a refusal, and no plan; plan again";
+    "mmplan 1\nstores A\ndump 2 2\n" => "line 3 is \"dump 2 2\"";
+    "mmplan 1\nstores A\ndump 1 2\n"
+    => "the text ends in line 4; its last line is end, with a line feed";
+    "mmplan 1\nstores A\ndump 1 2\nloss 0\nbound 0\nend"
+    => "the text ends in line 6; its last line is end, with a line feed";
+    "mmplan 1\nstores B\ndump 1 2\nloss 0\nbound 0\nend\n"
+    => "the plan has \"stores B\" and 1 steps; \"stores A\" and 2 steps are wanted";
+    "mmplan 1\nstores A\ndump 1 3\ndump 2 2\nloss 0\nbound 0\nend\n"
+    => "step 1 dumps 3 blocks, and its window is 2";
+};
 
 // Packets and links that are refused, or with which a run does not begin, and what is found in them.
-static FLIGHT_HINTS: [(&str, &str); 9] = [
-    (
-        "1 1 0864 C000\n=== L\nlinks 1\n",
-        "line 1 has spaces between digits; write the digits without them",
-    ),
-    (
-        "1 1 0864G\n=== L\nlinks 1\n",
-        "line 1 has \"G\", which is no hexadecimal digit",
-    ),
-    (
-        "1 1 0864C\n=== L\nlinks 1\n",
-        "line 1 has an odd number of digits; write two for each octet",
-    ),
-    (
-        "1 1 0864C000000E20031900000000000000000000000000\n=== L\nlinks 1\n",
-        "line 1 has 22 octets, and its packet data length says 21 in all",
-    ),
-    (
-        "1 1 0864C000000E200319000000000000000000000000\r\n=== L\nlinks 1\n",
-        "line 1 ends with CR LF; save the file with LF alone",
-    ),
-    (
-        "1 1 0864C000000E200319000000000000000000000000\n9 1 0864C000000E200319000000000000000000000000\n=== L\nlinks 1\n",
-        "line 2 is \"9 1 0864C000000E200319000000000000000000000000\"",
-    ),
-    (
-        "1 1 0864C000000E200319000000000000000000000000\n=== L\nlinks 1\nfail 2 1\n",
-        "line 2 is \"fail 2 1\"",
-    ),
-    ("=== L\nlinks 1\n", "the file of sources has 0 sources"),
-    (
-        "1 1 0864C000000E200319000000000000000000000000\n=== L\nlinks 5\n",
-        "the file of links says links 5",
-    ),
-];
+static FLIGHT_HINTS: [(&str, &str); 9] = wanted! {
+    "1 1 0864 C000\n=== L\nlinks 1\n"
+    => "line 1 has spaces between digits; write the digits without them";
+    "1 1 0864G\n=== L\nlinks 1\n" => "line 1 has \"G\", which is no hexadecimal digit";
+    "1 1 0864C\n=== L\nlinks 1\n" => "line 1 has an odd number of digits; write two for each octet";
+    "1 1 0864C000000E20031900000000000000000000000000\n=== L\nlinks 1\n"
+    => "line 1 has 22 octets, and its packet data length says 21 in all";
+    "1 1 0864C000000E200319000000000000000000000000\r\n=== L\nlinks 1\n"
+    => "line 1 ends with CR LF; save the file with LF alone";
+    "1 1 0864C000000E200319000000000000000000000000\n9 1 0864C000000E200319000000000000000000000000\n=== L\nlinks 1\n"
+    => "line 2 is \"9 1 0864C000000E200319000000000000000000000000\"";
+    "1 1 0864C000000E200319000000000000000000000000\n=== L\nlinks 1\nfail 2 1\n"
+    => "line 2 is \"fail 2 1\"";
+    "=== L\nlinks 1\n" => "the file of sources has 0 sources";
+    "1 1 0864C000000E200319000000000000000000000000\n=== L\nlinks 5\n"
+    => "the file of links says links 5";
+};
 
 // Requests that are refused, and what is found in each.
-static REQUEST_HINTS: [(&str, &str); 4] = [
-    (
-        "\u{FEFF}1864C000000D200F01000001484B202020202020\n",
-        "the file begins with a byte order mark; save it in UTF-8 without one",
-    ),
-    (
-        "1864 C000\n",
-        "line 1 has spaces between digits; write the digits without them",
-    ),
-    (
-        "\n1864C000000D200F01000001484B202020202020\r\n",
-        "line 2 ends with CR LF; save the file with LF alone",
-    ),
-    (
-        "1864C000000D200F01000001484B20202020202000\n",
-        "line 1 has 21 octets, and its packet data length says 20 in all",
-    ),
-];
+static REQUEST_HINTS: [(&str, &str); 4] = wanted! {
+    "\u{FEFF}1864C000000D200F01000001484B202020202020\n"
+    => "the file begins with a byte order mark; save it in UTF-8 without one";
+    "1864 C000\n" => "line 1 has spaces between digits; write the digits without them";
+    "\n1864C000000D200F01000001484B202020202020\r\n"
+    => "line 2 ends with CR LF; save the file with LF alone";
+    "1864C000000D200F01000001484B20202020202000\n"
+    => "line 1 has 21 octets, and its packet data length says 20 in all";
+};
 
 // Other scripts with a file that is refused, and what is found in them.
-static OTHER_HINTS: [(&str, &str); 7] = [
-    (
-        "check P S F\n=== S\n=== F\n=== P\nmmplan 1\nstores A\n",
-        "the files are in another order; name the setup first, then the forecast, then the plan",
-    ),
-    (
-        "run S P F X L\n=== S\n[[store]]\nid = \"A\"\nsize = 4\ntype = \"bounded\"\nchannel = 0\n=== F\n=== P\nmmplan 2\nstores A\n=== X\n=== L\n",
-        "the files are in another order; name the setup first, then the forecast, then the plan",
-    ),
-    (
-        "plan P F\n=== F\n=== P\nmmplan 1\nstores A\n",
-        "line 1 is \"mmplan 1\"; numbers have no commas, and texts have quotes",
-    ),
-    (
-        "plan S F\n=== S\nstep,window,A\n1,2,3\n2,2,3\n=== F\n[[store]]\nid = \"A\"\nsize = 4\ntype = \"bounded\"\nchannel = 0\n",
-        "the files are in another order; name the setup first, then the forecast",
-    ),
-    (
-        "plan S F\n=== S\n=== F\nstep\n",
-        "there is no table [[store]]",
-    ),
-    (
-        "fly S F X L\n=== S\n[[store]]\nid = \"A\"\nsize = 4\ntype = \"bounded\"\nchannel = 0\nstart = 2\n[[route]]\napid = 100\nservice = 3\nsubtype = 25\nstore = \"A\"\n=== F\nstep,window,A\n1,2,3\n2,2,3\n=== X\n1 0 0864C000000E200319000000000000000000000000\n=== L\nlinks 1\n",
-        "1 packets of step 0 go to \"A\", and its start is 2",
-    ),
-    (
-        "fly S F X L\n=== S\n[[store]]\nid = \"A\"\nsize = 4\ntype = \"bounded\"\nchannel = 0\nstart = 2\n=== F\nstep,window,A\n1,2,3\n2,2,3\n=== X\n1 0 0864C000000E200319000000000000000000000000\n=== L\nlinks 1\n",
-        "no route of the setup leads to \"A\", so no packet can come to it",
-    ),
-];
+static OTHER_HINTS: [(&str, &str); 7] = wanted! {
+    "check P S F\n=== S\n=== F\n=== P\nmmplan 1\nstores A\n"
+    => "the files are in another order; name the setup first, then the forecast, then the plan";
+    "run S P F X L\n=== S\n[[store]]\nid = \"A\"\nsize = 4\ntype = \"bounded\"\nchannel = 0\n=== F\n=== P\nmmplan 2\nstores A\n=== X\n=== L\n"
+    => "the files are in another order; name the setup first, then the forecast, then the plan";
+    "plan P F\n=== F\n=== P\nmmplan 1\nstores A\n"
+    => "line 1 is \"mmplan 1\"; numbers have no commas, and texts have quotes";
+    "plan S F\n=== S\nstep,window,A\n1,2,3\n2,2,3\n=== F\n[[store]]\nid = \"A\"\nsize = 4\ntype = \"bounded\"\nchannel = 0\n"
+    => "the files are in another order; name the setup first, then the forecast";
+    "plan S F\n=== S\n=== F\nstep\n" => "there is no table [[store]]";
+    "fly S F X L\n=== S\n[[store]]\nid = \"A\"\nsize = 4\ntype = \"bounded\"\nchannel = 0\nstart = 2\n[[route]]\napid = 100\nservice = 3\nsubtype = 25\nstore = \"A\"\n=== F\nstep,window,A\n1,2,3\n2,2,3\n=== X\n1 0 0864C000000E200319000000000000000000000000\n=== L\nlinks 1\n"
+    => "1 packets of step 0 go to \"A\", and its start is 2";
+    "fly S F X L\n=== S\n[[store]]\nid = \"A\"\nsize = 4\ntype = \"bounded\"\nchannel = 0\nstart = 2\n=== F\nstep,window,A\n1,2,3\n2,2,3\n=== X\n1 0 0864C000000E200319000000000000000000000000\n=== L\nlinks 1\n"
+    => "no route of the setup leads to \"A\", so no packet can come to it";
+};
 
 // The part of a script that stands before each of these texts, and after each setup.
 const BEFORE_SETUP: &str = "plan S F\n=== S\n";

@@ -43,33 +43,18 @@ const INTERRUPTED: Turn = Turn::Fails(ErrorKind::Interrupted);
 const DENIED: Turn = Turn::Fails(ErrorKind::PermissionDenied);
 
 // What the reads of an input do, and what is read of it, or why it is not read.
-static INPUTS: [(&[Turn], Result<&[u8], Obstacle>); 9] = [
-    (&[], Ok(b"")),
-    (&[Turn::Gives(b"a"), Turn::Gives(b"bc")], Ok(b"abc")),
-    (
-        &[
-            INTERRUPTED,
-            Turn::Gives(b"a"),
-            INTERRUPTED,
-            INTERRUPTED,
-            Turn::Gives(b"bc"),
-            INTERRUPTED,
-        ],
-        Ok(b"abc"),
-    ),
-    (&[DENIED], Err(Obstacle::Forbidden)),
-    (
-        &[Turn::Gives(b"a"), DENIED, Turn::Gives(b"bc")],
-        Err(Obstacle::Forbidden),
-    ),
-    (&[INTERRUPTED, DENIED], Err(Obstacle::Forbidden)),
-    (&[Turn::Fails(ErrorKind::NotFound)], Err(Obstacle::Missing)),
-    (
-        &[Turn::Fails(ErrorKind::IsADirectory)],
-        Err(Obstacle::Folder),
-    ),
-    (&[Turn::Fails(ErrorKind::TimedOut)], Err(Obstacle::Failed)),
-];
+static INPUTS: [(&[Turn], Result<&[u8], Obstacle>); 9] = wanted! {
+    &[] => Ok(b"");
+    &[Turn::Gives(b"a"), Turn::Gives(b"bc")] => Ok(b"abc");
+    &[INTERRUPTED, Turn::Gives(b"a"), INTERRUPTED, INTERRUPTED, Turn::Gives(b"bc"), INTERRUPTED]
+    => Ok(b"abc");
+    &[DENIED] => Err(Obstacle::Forbidden);
+    &[Turn::Gives(b"a"), DENIED, Turn::Gives(b"bc")] => Err(Obstacle::Forbidden);
+    &[INTERRUPTED, DENIED] => Err(Obstacle::Forbidden);
+    &[Turn::Fails(ErrorKind::NotFound)] => Err(Obstacle::Missing);
+    &[Turn::Fails(ErrorKind::IsADirectory)] => Err(Obstacle::Folder);
+    &[Turn::Fails(ErrorKind::TimedOut)] => Err(Obstacle::Failed);
+};
 
 // Whether this is read, or not read for this reason.
 fn is_read(read: &Result<Vec<u8>, ReadFault>, wanted: Result<&[u8], Obstacle>) -> bool {
@@ -90,18 +75,11 @@ fn inputs_that_fail_or_are_interrupted(rt: HostRuntime) {
 }
 
 // Files of the system that are not read, and what is said of them.
-static OBSTACLES: [(&str, Obstacle, &str); 2] = [
-    (
-        "no/such/file",
-        Obstacle::Missing,
-        "no/such/file: expected a file of this name; check the name and its folder, or in a script the line === NAME above the file; standard input has the name /dev/stdin\n",
-    ),
-    (
-        "/",
-        Obstacle::Folder,
-        "/: expected a file, and this is a folder; name a file in it\n",
-    ),
-];
+static OBSTACLES: [(&str, Obstacle, &str); 2] = wanted! {
+    "no/such/file", Obstacle::Missing
+    => "no/such/file: expected a file of this name; check the name and its folder, or in a script the line === NAME above the file; standard input has the name /dev/stdin\n";
+    "/", Obstacle::Folder => "/: expected a file, and this is a folder; name a file in it\n";
+};
 
 // The file of this name is told as not read.
 fn is_unread<R>(rt: &R, name: &str, obstacle: Obstacle, words: &str)
@@ -125,20 +103,14 @@ fn files_of_the_system_that_are_not_read(rt: HostRuntime) {
 }
 
 // What is said of a file that is not read for another reason.
-static SAID: [(Obstacle, &str); 3] = [
-    (
-        Obstacle::Forbidden,
-        "expected a file that may be read; let this user read it, as chmod does, or take a copy of it",
-    ),
-    (
-        Obstacle::TooLong,
-        "expected a file of at most 2^30 bytes; check that it is the file that was meant",
-    ),
-    (
-        Obstacle::Failed,
-        "expected a file that can be read to its end; try again, or take a copy of it; a read of it failed",
-    ),
-];
+static SAID: [(Obstacle, &str); 3] = wanted! {
+    Obstacle::Forbidden
+    => "expected a file that may be read; let this user read it, as chmod does, or take a copy of it";
+    Obstacle::TooLong
+    => "expected a file of at most 2^30 bytes; check that it is the file that was meant";
+    Obstacle::Failed
+    => "expected a file that can be read to its end; try again, or take a copy of it; a read of it failed";
+};
 
 #[test]
 fn obstacles_are_explained(rt: HostRuntime) {

@@ -33,89 +33,38 @@ struct Planned {
     verdict: &'static str,
 }
 
-static PLANNED: [Planned; 9] = [
-    Planned {
-        example: "first_run",
-        setup: SCI,
-        forecast: THREE_STEPS,
-        begins: "mmplan 1\nstores SCI\ndump 1 2\ndump 2 2\ndump 3 0\nloss 2\n",
-        ends: "stretch SCI 1 3\nbound 2\nend\n",
-        is_whole: true,
-        verdict: "least 2\n",
-    },
-    Planned {
-        example: "nothing_arrives",
-        setup: A_OF_SIZE_1,
-        forecast: "step,window,A\n1,5,0\n2,5,0\n",
-        begins: "mmplan 1\nstores A\ndump 1 0\ndump 2 0\nloss 0\n",
-        ends: "bound 0\nend\n",
-        is_whole: true,
-        verdict: "least 0\n",
-    },
-    Planned {
-        example: "more_than_the_store_holds",
-        setup: SCI,
-        forecast: "step,window,SCI\n1,9,9\n",
-        begins: "mmplan 1\nstores SCI\ndump 1 4\nloss 5\n",
-        ends: "stretch SCI 1 1\nbound 5\nend\n",
-        is_whole: true,
-        verdict: "least 5\n",
-    },
-    Planned {
-        example: "foresight_beats_even_split",
-        setup: A_AND_B,
-        forecast: "step,window,A,B\n1,2,3,3\n2,0,2,0\n",
-        begins: "mmplan 1\nstores A B\ndump 1 2 0\ndump 2 0 0\nloss 0\n",
-        ends: "bound 0\nend\n",
-        is_whole: false,
-        verdict: "least 0\n",
-    },
-    Planned {
-        example: "two_stretches_share_a_window",
-        setup: A_AND_B,
-        forecast: SHARED_WINDOW,
-        begins: "mmplan 1\nstores A B\ndump 1 ",
-        ends: "\ndump 2 0 0\nloss 2\nstretch A 1 2\nstretch B 1 2\nbound 2\nend\n",
-        is_whole: false,
-        verdict: "least 2\n",
-    },
-    Planned {
-        example: "two_stretches_of_one_store",
-        setup: SCI_OF_SIZE_2,
-        forecast: APART,
-        begins: "mmplan 1\nstores SCI\ndump 1 0\ndump 2 2\ndump 3 0\nloss 6\nstretch SCI 1 ",
-        ends: "\nbound 6\nend\n",
-        is_whole: false,
-        verdict: "least 6\n",
-    },
-    Planned {
-        example: "opening_contents_plan",
-        setup: SCI_STARTS_WITH_2,
-        forecast: THREE_STEPS,
-        begins: "mmplan 1\nstores SCI\ndump 1 2\ndump 2 2\ndump 3 0\nloss 4\n",
-        ends: "stretch SCI 1 3\nbound 4\nend\n",
-        is_whole: true,
-        verdict: "least 4\n",
-    },
-    Planned {
-        example: "channel_limit_cut",
-        setup: A_WITH_LIMIT_1,
-        forecast: TWO_STEPS_OF_A,
-        begins: "mmplan 2\nstores A\ndump 1 1\ndump 2 0\nloss 2\n",
-        ends: "stretch A 1 2\ncount 1 channels\nbound 2\nend\n",
-        is_whole: true,
-        verdict: "least 2\n",
-    },
-    Planned {
-        example: "channel_limit_shares",
-        setup: A_WITH_LIMIT_1_AND_B,
-        forecast: SHARED_WINDOW,
-        begins: "mmplan 1\nstores A B\ndump 1 ",
-        ends: "\ndump 2 0 0\nloss 2\nstretch A 1 2\nstretch B 1 2\nbound 2\nend\n",
-        is_whole: false,
-        verdict: "least 2\n",
-    },
-];
+static PLANNED: [Planned; 9] = table! { Planned;
+    example "first_run", setup SCI, forecast THREE_STEPS,
+        begins "mmplan 1\nstores SCI\ndump 1 2\ndump 2 2\ndump 3 0\nloss 2\n",
+        ends "stretch SCI 1 3\nbound 2\nend\n", is_whole true, verdict "least 2\n";
+    example "nothing_arrives", setup A_OF_SIZE_1, forecast "step,window,A\n1,5,0\n2,5,0\n",
+        begins "mmplan 1\nstores A\ndump 1 0\ndump 2 0\nloss 0\n", ends "bound 0\nend\n",
+        is_whole true, verdict "least 0\n";
+    example "more_than_the_store_holds", setup SCI, forecast "step,window,SCI\n1,9,9\n",
+        begins "mmplan 1\nstores SCI\ndump 1 4\nloss 5\n", ends "stretch SCI 1 1\nbound 5\nend\n",
+        is_whole true, verdict "least 5\n";
+    example "foresight_beats_even_split", setup A_AND_B,
+        forecast "step,window,A,B\n1,2,3,3\n2,0,2,0\n",
+        begins "mmplan 1\nstores A B\ndump 1 2 0\ndump 2 0 0\nloss 0\n", ends "bound 0\nend\n",
+        is_whole false, verdict "least 0\n";
+    example "two_stretches_share_a_window", setup A_AND_B, forecast SHARED_WINDOW,
+        begins "mmplan 1\nstores A B\ndump 1 ",
+        ends "\ndump 2 0 0\nloss 2\nstretch A 1 2\nstretch B 1 2\nbound 2\nend\n", is_whole false,
+        verdict "least 2\n";
+    example "two_stretches_of_one_store", setup SCI_OF_SIZE_2, forecast APART,
+        begins "mmplan 1\nstores SCI\ndump 1 0\ndump 2 2\ndump 3 0\nloss 6\nstretch SCI 1 ",
+        ends "\nbound 6\nend\n", is_whole false, verdict "least 6\n";
+    example "opening_contents_plan", setup SCI_STARTS_WITH_2, forecast THREE_STEPS,
+        begins "mmplan 1\nstores SCI\ndump 1 2\ndump 2 2\ndump 3 0\nloss 4\n",
+        ends "stretch SCI 1 3\nbound 4\nend\n", is_whole true, verdict "least 4\n";
+    example "channel_limit_cut", setup A_WITH_LIMIT_1, forecast TWO_STEPS_OF_A,
+        begins "mmplan 2\nstores A\ndump 1 1\ndump 2 0\nloss 2\n",
+        ends "stretch A 1 2\ncount 1 channels\nbound 2\nend\n", is_whole true, verdict "least 2\n";
+    example "channel_limit_shares", setup A_WITH_LIMIT_1_AND_B, forecast SHARED_WINDOW,
+        begins "mmplan 1\nstores A B\ndump 1 ",
+        ends "\ndump 2 0 0\nloss 2\nstretch A 1 2\nstretch B 1 2\nbound 2\nend\n", is_whole false,
+        verdict "least 2\n";
+};
 
 // Whether a plan text is as it is to be.
 fn is_planned(plan: &str, row: &Planned) -> bool {
@@ -141,22 +90,15 @@ fn plans_of_the_examples(rt: HostRuntime) {
     }
 }
 
-static REFUSED: [(&str, &str); 5] = [
-    (
-        "plan S F\n=== S\n[[store\n=== F\n",
-        "refused 27 SetupText\n",
-    ),
-    (
-        "plan S F\n=== S\n[[store]]\nid = \"SCI\"\nsize = 4\ntype = \"bounded\"\nchannel = 0\nstart = 5\n=== F\n",
-        "refused 33 Limit name start\n",
-    ),
-    (
-        "plan S F\n=== S\n[[store]]\nid = \"SCI\"\nsize = 4\ntype = \"bounded\"\nchannel = 0\n=== F\nstep,window,HK\n",
-        "refused 30 Header\n",
-    ),
-    ("plan S F\n=== F\n", "refused 50 NotRead name S\n"),
-    ("plan S F\n=== S\n", "refused 50 NotRead name F\n"),
-];
+static REFUSED: [(&str, &str); 5] = wanted! {
+    "plan S F\n=== S\n[[store\n=== F\n" => "refused 27 SetupText\n";
+    "plan S F\n=== S\n[[store]]\nid = \"SCI\"\nsize = 4\ntype = \"bounded\"\nchannel = 0\nstart = 5\n=== F\n"
+    => "refused 33 Limit name start\n";
+    "plan S F\n=== S\n[[store]]\nid = \"SCI\"\nsize = 4\ntype = \"bounded\"\nchannel = 0\n=== F\nstep,window,HK\n"
+    => "refused 30 Header\n";
+    "plan S F\n=== F\n" => "refused 50 NotRead name S\n";
+    "plan S F\n=== S\n" => "refused 50 NotRead name F\n";
+};
 
 #[test]
 fn plans_refused(rt: HostRuntime) {
@@ -167,32 +109,16 @@ fn plans_refused(rt: HostRuntime) {
 const TWICE: &str = "[[store]]\nid = \"SCI\"\nsize = 4\ntype = \"bounded\"\nchannel = 0\n[[store]]";
 
 // The setup of first_run with one text in the place of another, and what is said then.
-static SETUPS_REFUSED: [(&str, &str, &str); 8] = [
-    ("[[store]]", "[[store", "refused 27 SetupText\n"),
-    (SCI, "", "refused 28 SetupField row 0 name store\n"),
-    (SCI, "store = []\n", "refused 33 Limit name stores\n"),
-    (
-        "channel = 0\n",
-        "channel = 0\ncolour = 1\n",
-        "refused 28 SetupField row 1 name unknown\n",
-    ),
-    (
-        "size = 4",
-        "size = \"4\"",
-        "refused 28 SetupField row 1 name size\n",
-    ),
-    ("size = 4", "size = 0", "refused 33 Limit name size\n"),
-    (
-        "store = \"SCI\"",
-        "store = \"HK\"",
-        "refused 28 SetupField row 1 name store\n",
-    ),
-    (
-        "[[store]]",
-        TWICE,
-        "refused 28 SetupField row 2 name repeated\n",
-    ),
-];
+static SETUPS_REFUSED: [(&str, &str, &str); 8] = wanted! {
+    "[[store]]", "[[store" => "refused 27 SetupText\n";
+    SCI, "" => "refused 28 SetupField row 0 name store\n";
+    SCI, "store = []\n" => "refused 33 Limit name stores\n";
+    "channel = 0\n", "channel = 0\ncolour = 1\n" => "refused 28 SetupField row 1 name unknown\n";
+    "size = 4", "size = \"4\"" => "refused 28 SetupField row 1 name size\n";
+    "size = 4", "size = 0" => "refused 33 Limit name size\n";
+    "store = \"SCI\"", "store = \"HK\"" => "refused 28 SetupField row 1 name store\n";
+    "[[store]]", TWICE => "refused 28 SetupField row 2 name repeated\n";
+};
 
 #[test]
 fn setup_texts_refused(rt: HostRuntime) {
@@ -204,28 +130,16 @@ fn setup_texts_refused(rt: HostRuntime) {
 }
 
 // Forecasts for the setup of first_run, and what is said of each.
-static FORECASTS_REFUSED: [(&str, &str); 8] = [
-    (
-        "step,window,SCI\n1,2,01\n",
-        "refused 31 Cell row 1 column 3\n",
-    ),
-    (
-        "step,window,SCI\n1,2,-1\n",
-        "refused 31 Cell row 1 column 3\n",
-    ),
-    (
-        "step,window,SCI\n1,2,\n",
-        "refused 31 Cell row 1 column 3\n",
-    ),
-    (
-        "step,window,SCI\n1,2,1000001\n",
-        "refused 33 Limit name arrivals\n",
-    ),
-    ("step,window,SCI\n2,2,3\n", "refused 32 StepNumber row 1\n"),
-    ("step,window,SCI\n1,2\n", "refused 29 ForecastText\n"),
-    ("step,window,HK\n1,2,3\n", "refused 30 Header\n"),
-    ("step,window,SCI\n", "refused 33 Limit name steps\n"),
-];
+static FORECASTS_REFUSED: [(&str, &str); 8] = wanted! {
+    "step,window,SCI\n1,2,01\n" => "refused 31 Cell row 1 column 3\n";
+    "step,window,SCI\n1,2,-1\n" => "refused 31 Cell row 1 column 3\n";
+    "step,window,SCI\n1,2,\n" => "refused 31 Cell row 1 column 3\n";
+    "step,window,SCI\n1,2,1000001\n" => "refused 33 Limit name arrivals\n";
+    "step,window,SCI\n2,2,3\n" => "refused 32 StepNumber row 1\n";
+    "step,window,SCI\n1,2\n" => "refused 29 ForecastText\n";
+    "step,window,HK\n1,2,3\n" => "refused 30 Header\n";
+    "step,window,SCI\n" => "refused 33 Limit name steps\n";
+};
 
 #[test]
 fn forecast_cells(rt: HostRuntime) {

@@ -146,26 +146,17 @@ where
 }
 
 // A task that is refused. A folder is not replaced, and a file in a folder that is not there is not made.
-static UNSTORED: [Unstored; 3] = [
-    Unstored {
-        line: "plan @/S @/BAD --output @/OLD",
-        prints: "refused 32 StepNumber row 1\n",
-        says: "\
+static UNSTORED: [Unstored; 3] = table! { Unstored;
+    line "plan @/S @/BAD --output @/OLD", prints "refused 32 StepNumber row 1\n",
+        says "\
 @/BAD, row 1: expected the number of the next step, where the first is 1; number the records 1, 2, 3 and so on
 hint: the step is \"2\" in line 2 of the file, whose header is line 1; it is to be 1
-",
-    },
-    Unstored {
-        line: "plan @/S @/F --output @",
-        prints: "",
-        says: "mm_tool: @ could not be written, and is as it was: what has this name is no file, but a folder, a device or a link\n",
-    },
-    Unstored {
-        line: "plan @/S @/F --output @/NONE/P",
-        prints: "",
-        says: "mm_tool: @/NONE/P could not be written, and is as it was: its folder is not there\n",
-    },
-];
+";
+    line "plan @/S @/F --output @", prints "",
+        says "mm_tool: @ could not be written, and is as it was: what has this name is no file, but a folder, a device or a link\n";
+    line "plan @/S @/F --output @/NONE/P", prints "",
+        says "mm_tool: @/NONE/P could not be written, and is as it was: its folder is not there\n";
+};
 
 #[test]
 fn a_refusal_leaves_the_file(rt: HostRuntime) {
@@ -306,21 +297,13 @@ fn an_output_stands_last(rt: HostRuntime) {
 }
 
 // Other bad lines with an output, and what is said first.
-static OUTPUTS: [(&str, &str); 4] = [
-    (
-        "check S F P --output X\n",
-        "error: --output goes with plan, chart and table alone\n",
-    ),
-    (
-        "plan S F P --output X\n",
-        "error: unexpected argument 'P' found\n",
-    ),
-    (
-        "plan S --output X\n",
-        "error: the following required arguments were not provided:\n  <FORECAST>\n",
-    ),
-    ("plan -p F\n", "error: unexpected argument '-p' found\n"),
-];
+static OUTPUTS: [(&str, &str); 4] = wanted! {
+    "check S F P --output X\n" => "error: --output goes with plan, chart and table alone\n";
+    "plan S F P --output X\n" => "error: unexpected argument 'P' found\n";
+    "plan S --output X\n"
+    => "error: the following required arguments were not provided:\n  <FORECAST>\n";
+    "plan -p F\n" => "error: unexpected argument '-p' found\n";
+};
 
 // A bad line is told with this first.
 fn is_bad<R: Abort + AllocGlobal + Threads + Wait + Sync>(rt: &R, line: &str, front: &str) {

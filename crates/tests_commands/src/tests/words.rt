@@ -145,16 +145,10 @@ fn input_that_is_not_read(rt: HostRuntime) {
 }
 
 // Why the words of a command line were not read, and what is said of it.
-static UNREAD: [(ErrorKind, &str); 2] = [
-    (
-        ErrorKind::InvalidData,
-        "error: the words of the command line are not UTF-8\n",
-    ),
-    (
-        ErrorKind::OutOfMemory,
-        "error: there is no memory for the words of the command line\n",
-    ),
-];
+static UNREAD: [(ErrorKind, &str); 2] = wanted! {
+    ErrorKind::InvalidData => "error: the words of the command line are not UTF-8\n";
+    ErrorKind::OutOfMemory => "error: there is no memory for the words of the command line\n";
+};
 
 // Words that are not read are a bad command line, unless standard error does not take that.
 fn is_unread<R: Abort + AllocGlobal>(rt: &R, kind: ErrorKind, said: &str) {

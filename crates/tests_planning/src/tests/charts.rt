@@ -131,32 +131,20 @@ fn charts_have_these_lines(rt: HostRuntime) {
 }
 
 // Plans that differ from the best one in a line or two, and the headline then.
-static FORGED: [(&str, &str); 6] = [
-    (
-        "mmplan 1\nstores SCI\ndump 1 2\ndump 2 2\ndump 3 0\nloss 1\nstretch SCI 1 3\nbound 2\nend\n",
-        "<text class='a' x='16' y='30'>loss is 2",
-    ),
-    (
-        "mmplan 1\nstores SCI\ndump 1 2\ndump 2 2\ndump 3 0\nloss 2\nstretch SCI 1 3\nbound 1\nend\n",
-        "<text class='a' x='16' y='30'>bound is 2",
-    ),
-    (
-        "mmplan 1\nstores SCI\ndump 1 2\ndump 2 2\ndump 3 0\nloss 2\nstretch SCI 1 4\nbound 2\nend\n",
-        "<text class='a' x='16' y='30'>bad stretch 1",
-    ),
-    (
-        "mmplan 2\nstores SCI\ndump 1 2\ndump 2 2\ndump 3 0\nloss 2\nstretch SCI 1 3\ncount 3 channels\nbound 2\nend\n",
-        "<text class='a' x='16' y='30'>bad count 1",
-    ),
-    (
-        "mmplan 1\nstores SCI\ndump 1 3\ndump 2 1\ndump 3 0\nloss 2\nstretch SCI 1 3\nbound 2\nend\n",
-        "<text class='a' x='16' y='30'>does not fit, step 1",
-    ),
-    (
-        "mmplan 1\nstores SCI\ndump 1 2\ndump 2 1\ndump 3 0\nloss 3\nstretch SCI 1 3\nbound 2\nend\n",
-        "<text class='m' x='16' y='30'>3 of 10 blocks are lost; this cut shows only that no plan loses fewer than 2</text>",
-    ),
-];
+static FORGED: [(&str, &str); 6] = wanted! {
+    "mmplan 1\nstores SCI\ndump 1 2\ndump 2 2\ndump 3 0\nloss 1\nstretch SCI 1 3\nbound 2\nend\n"
+    => "<text class='a' x='16' y='30'>loss is 2";
+    "mmplan 1\nstores SCI\ndump 1 2\ndump 2 2\ndump 3 0\nloss 2\nstretch SCI 1 3\nbound 1\nend\n"
+    => "<text class='a' x='16' y='30'>bound is 2";
+    "mmplan 1\nstores SCI\ndump 1 2\ndump 2 2\ndump 3 0\nloss 2\nstretch SCI 1 4\nbound 2\nend\n"
+    => "<text class='a' x='16' y='30'>bad stretch 1";
+    "mmplan 2\nstores SCI\ndump 1 2\ndump 2 2\ndump 3 0\nloss 2\nstretch SCI 1 3\ncount 3 channels\nbound 2\nend\n"
+    => "<text class='a' x='16' y='30'>bad count 1";
+    "mmplan 1\nstores SCI\ndump 1 3\ndump 2 1\ndump 3 0\nloss 2\nstretch SCI 1 3\nbound 2\nend\n"
+    => "<text class='a' x='16' y='30'>does not fit, step 1";
+    "mmplan 1\nstores SCI\ndump 1 2\ndump 2 1\ndump 3 0\nloss 3\nstretch SCI 1 3\nbound 2\nend\n"
+    => "<text class='m' x='16' y='30'>3 of 10 blocks are lost; this cut shows only that no plan loses fewer than 2</text>";
+};
 
 // The styles of these headlines, in red.
 static RED: [&str; 2] = [

@@ -132,43 +132,21 @@ struct Filling {
     filled: &'static [u32],
 }
 
-static FILLINGS: [Filling; 5] = [
-    Filling {
-        name: "an idle window is used",
-        setup: SCI,
-        forecast: THREE_STEPS,
-        plan: "mmplan 1\nstores SCI\ndump 1 2\ndump 2 1\ndump 3 0\nloss 3\nbound 2\nend\n",
-        filled: &[2, 2, 0],
-    },
-    Filling {
-        name: "a filled plan stays as it is",
-        setup: SCI,
-        forecast: THREE_STEPS,
-        plan: FIRST_RUN,
-        filled: &[2, 2, 0],
-    },
-    Filling {
-        name: "no more leaves than is written",
-        setup: SCI_OF_SIZE_2,
-        forecast: APART,
-        plan: "mmplan 1\nstores SCI\ndump 1 0\ndump 2 9\ndump 3 0\nloss 6\nbound 6\nend\n",
-        filled: &[0, 2, 0],
-    },
-    Filling {
-        name: "the channel's limit stops it, and then the window",
-        setup: SCI_LIMITED_TO_3,
-        forecast: "step,window,SCI\n1,9,4\n2,1,2\n",
-        plan: "mmplan 1\nstores SCI\ndump 1 0\ndump 2 0\nloss 0\nbound 0\nend\n",
-        filled: &[3, 1],
-    },
-    Filling {
-        name: "each store gets its part",
-        setup: A_AND_B,
-        forecast: "step,window,A,B\n1,5,1,1\n",
-        plan: "mmplan 1\nstores A B\ndump 1 0 0\nloss 0\nbound 0\nend\n",
-        filled: &[1, 1],
-    },
-];
+static FILLINGS: [Filling; 5] = table! { Filling;
+    name "an idle window is used", setup SCI, forecast THREE_STEPS,
+        plan "mmplan 1\nstores SCI\ndump 1 2\ndump 2 1\ndump 3 0\nloss 3\nbound 2\nend\n",
+        filled &[2, 2, 0];
+    name "a filled plan stays as it is", setup SCI, forecast THREE_STEPS, plan FIRST_RUN,
+        filled &[2, 2, 0];
+    name "no more leaves than is written", setup SCI_OF_SIZE_2, forecast APART,
+        plan "mmplan 1\nstores SCI\ndump 1 0\ndump 2 9\ndump 3 0\nloss 6\nbound 6\nend\n",
+        filled &[0, 2, 0];
+    name "the channel's limit stops it, and then the window", setup SCI_LIMITED_TO_3,
+        forecast "step,window,SCI\n1,9,4\n2,1,2\n",
+        plan "mmplan 1\nstores SCI\ndump 1 0\ndump 2 0\nloss 0\nbound 0\nend\n", filled &[3, 1];
+    name "each store gets its part", setup A_AND_B, forecast "step,window,A,B\n1,5,1,1\n",
+        plan "mmplan 1\nstores A B\ndump 1 0 0\nloss 0\nbound 0\nend\n", filled &[1, 1];
+};
 
 // The plan fits, and it is filled to these amounts.
 fn is_filled(rt: &impl Abort, alloc: Global, problem: &Problem, case: &Filling) {

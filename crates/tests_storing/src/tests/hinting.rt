@@ -24,40 +24,24 @@ fn hints<R: Abort + AllocGlobal>(rt: &R, reason: Reason, texts: Texts<'_>, hint:
 }
 
 // Setups that are refused, and what is found in each.
-static SETUPS: [(&str, &str); 8] = [
-    (
-        "[store]\nid = \"A\"\n\n[store]\nid = \"B\"\n",
-        "line 4 is \"[store]\"; write [[store]] above each table",
-    ),
-    (
-        "[[store]]\nid = \"A\"\n[limit]\nchannel = 0\n [limit]\r\nchannel = 1\n",
-        "line 5 is \" [limit]\"; write [[limit]] above each table",
-    ),
-    (
-        "[[store]]\nid = \"A\"\nsize = 99999999999999999999999\n",
-        "line 3 is \"size = 99999999999999999999999\"; the number is too large",
-    ),
-    (
-        "[[store]]\nid = \"A\"\nsize = 9_223_372_036_854_775_808 # 2^63\n",
-        "line 3 is \"size = 9_223_372_036_854_775_808 # 2^63\"; the number is too large",
-    ),
-    (
-        "[[store]]\nid = \"A\"\nsize = 2,000\n",
-        "line 3 is \"size = 2,000\"; numbers have no commas, and texts have quotes",
-    ),
-    (
-        "[[store]]\nid = \"A\"\nsize\t4\n",
-        "line 3 is \"size<tab>4\"; numbers have no commas, and texts have quotes",
-    ),
-    (
-        "[[store]]\nid = \"A\"\nsize = 4\ntype = \"bounded\"\nchannel = 0\n[[store]]\nid = \"A\"\nsize = 5\ntype = \"circular\"\nchannel = 1\n",
-        "table 2 of store, \"A\", has the id of an earlier one; rename one of them",
-    ),
-    (
-        "[[store]]\nid = \"A\"\nsize = 4\ntype = \"bounded\"\nchannel = 0\n[[limit]]\nchannel = 0\nblocks = 1\n[[limit]]\nchannel = 0\nblocks = 2\n",
-        "table 2 of limit has the channel of an earlier one; leave one of them out",
-    ),
-];
+static SETUPS: [(&str, &str); 8] = wanted! {
+    "[store]\nid = \"A\"\n\n[store]\nid = \"B\"\n"
+    => "line 4 is \"[store]\"; write [[store]] above each table";
+    "[[store]]\nid = \"A\"\n[limit]\nchannel = 0\n [limit]\r\nchannel = 1\n"
+    => "line 5 is \" [limit]\"; write [[limit]] above each table";
+    "[[store]]\nid = \"A\"\nsize = 99999999999999999999999\n"
+    => "line 3 is \"size = 99999999999999999999999\"; the number is too large";
+    "[[store]]\nid = \"A\"\nsize = 9_223_372_036_854_775_808 # 2^63\n"
+    => "line 3 is \"size = 9_223_372_036_854_775_808 # 2^63\"; the number is too large";
+    "[[store]]\nid = \"A\"\nsize = 2,000\n"
+    => "line 3 is \"size = 2,000\"; numbers have no commas, and texts have quotes";
+    "[[store]]\nid = \"A\"\nsize\t4\n"
+    => "line 3 is \"size<tab>4\"; numbers have no commas, and texts have quotes";
+    "[[store]]\nid = \"A\"\nsize = 4\ntype = \"bounded\"\nchannel = 0\n[[store]]\nid = \"A\"\nsize = 5\ntype = \"circular\"\nchannel = 1\n"
+    => "table 2 of store, \"A\", has the id of an earlier one; rename one of them";
+    "[[store]]\nid = \"A\"\nsize = 4\ntype = \"bounded\"\nchannel = 0\n[[limit]]\nchannel = 0\nblocks = 1\n[[limit]]\nchannel = 0\nblocks = 2\n"
+    => "table 2 of limit has the channel of an earlier one; leave one of them out";
+};
 
 fn setup_hints<R: Abort + AllocGlobal>(rt: &R, setup: &str, hint: &str) {
     let fault = Setup::read(rt.alloc(), setup.as_bytes()).expect_err(rt, "a fault");
@@ -74,33 +58,18 @@ fn faults_of_setups_are_shown(rt: HostRuntime) {
 const SETUP: &str = "[[store]]\nid = \"A\"\nsize = 4\ntype = \"bounded\"\nchannel = 0\n";
 
 // Forecasts that are refused, the fault of each, and what is found in it.
-static FORECASTS: [(&str, Fault, &str); 5] = [
-    (
-        "step,window,A\n1,2,\"3\n2,2,3\n",
-        Fault::Cell { row: 1, column: 3 },
-        "line 2 of the file has a quote that is not closed; numbers need no quotes",
-    ),
-    (
-        "step,window,A\n1,2,3\n\n2,\"2,3\n3,2,3\n",
-        Fault::ForecastText,
-        "line 4 of the file has a quote that is not closed; numbers need no quotes",
-    ),
-    (
-        "step,window,A\r\n1,2,3\r\n\"2\r\n\",2,3\r\n",
-        Fault::Cell { row: 2, column: 1 },
-        "line 3 of the file has a quote that is not closed; numbers need no quotes",
-    ),
-    (
-        "step,window,A\n1,2, 3\n2,2,\"3\n",
-        Fault::Cell { row: 1, column: 3 },
-        "the cell is \" 3\" in line 2 of the file, whose header is line 1",
-    ),
-    (
-        "step\twindow\tA\n1\t2\t3\n",
-        Fault::Header,
-        "the header is \"step<tab>window<tab>A\", and \"step,window,A\" is expected",
-    ),
-];
+static FORECASTS: [(&str, Fault, &str); 5] = wanted! {
+    "step,window,A\n1,2,\"3\n2,2,3\n", Fault::Cell { row: 1, column: 3 }
+    => "line 2 of the file has a quote that is not closed; numbers need no quotes";
+    "step,window,A\n1,2,3\n\n2,\"2,3\n3,2,3\n", Fault::ForecastText
+    => "line 4 of the file has a quote that is not closed; numbers need no quotes";
+    "step,window,A\r\n1,2,3\r\n\"2\r\n\",2,3\r\n", Fault::Cell { row: 2, column: 1 }
+    => "line 3 of the file has a quote that is not closed; numbers need no quotes";
+    "step,window,A\n1,2, 3\n2,2,\"3\n", Fault::Cell { row: 1, column: 3 }
+    => "the cell is \" 3\" in line 2 of the file, whose header is line 1";
+    "step\twindow\tA\n1\t2\t3\n", Fault::Header
+    => "the header is \"step<tab>window<tab>A\", and \"step,window,A\" is expected";
+};
 
 fn forecast_hints<R: Abort + AllocGlobal>(rt: &R, forecast: &str, fault: Fault, hint: &str) {
     let read = read_problem(rt.alloc(), SETUP.as_bytes(), forecast.as_bytes());
@@ -161,33 +130,16 @@ fn a_packet_too_many_of_a_source_in_a_step_is_shown(rt: HostRuntime) {
 }
 
 // Files of requests, a line of each that is refused, and what is found in it.
-static REQUESTS: [(&[u8], u64, &str); 5] = [
-    (
-        b"\xEF\xBB\xBF1864\n",
-        1,
-        "the file begins with a byte order mark; save it in UTF-8 without one",
-    ),
-    (
-        b"\xFF\xFE1\08\0\n\0",
-        2,
-        "the file is in UTF-16; save it in UTF-8",
-    ),
-    (
-        b"18\t64\n\n1864 C0\n186\n",
-        4,
-        "line 4 has an odd number of digits; write two for each octet",
-    ),
-    (
-        b"18\t64\n\n1864 C0\n186\n",
-        1,
-        "line 1 has \"<tab>\", which is no hexadecimal digit",
-    ),
-    (
-        b"18\t64\n\n1864 C0\n186\n",
-        3,
-        "line 3 has spaces between digits; write the digits without them",
-    ),
-];
+static REQUESTS: [(&[u8], u64, &str); 5] = wanted! {
+    b"\xEF\xBB\xBF1864\n", 1
+    => "the file begins with a byte order mark; save it in UTF-8 without one";
+    b"\xFF\xFE1\08\0\n\0", 2 => "the file is in UTF-16; save it in UTF-8";
+    b"18\t64\n\n1864 C0\n186\n", 4
+    => "line 4 has an odd number of digits; write two for each octet";
+    b"18\t64\n\n1864 C0\n186\n", 1 => "line 1 has \"<tab>\", which is no hexadecimal digit";
+    b"18\t64\n\n1864 C0\n186\n", 3
+    => "line 3 has spaces between digits; write the digits without them";
+};
 
 // The line is found in the same way first and after later lines, and has no hint on another refusal.
 fn request_hints<R: Abort + AllocGlobal>(rt: &R, requests: &[u8], line: u64, hint: &str) {

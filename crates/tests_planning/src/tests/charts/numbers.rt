@@ -42,18 +42,13 @@ fn thousands_are_separated(rt: HostRuntime) {
 
 // A forecast, a plan that dumps nothing, and what the headline says of the bound. Of the 2,346 blocks that come in step 2
 // the store has room for 1; in step 1 of the other forecast none come, and it has room for 1.
-static BOUNDS: [(&str, &str, &str); 2] = [
-    (
-        "step,window,A\n1,0,1\n2,0,2346\n",
-        "mmplan 1\nstores A\ndump 1 0\ndump 2 0\nloss 2346\nstretch A 2 2\nbound 2345\nend\n",
-        "fewer than 2,345<",
-    ),
-    (
-        "step,window,A\n1,0,0\n",
-        "mmplan 1\nstores A\ndump 1 0\nloss 0\nstretch A 1 1\nbound -1\nend\n",
-        "fewer than &#8722;1<",
-    ),
-];
+static BOUNDS: [(&str, &str, &str); 2] = wanted! {
+    "step,window,A\n1,0,1\n2,0,2346\n",
+    "mmplan 1\nstores A\ndump 1 0\ndump 2 0\nloss 2346\nstretch A 2 2\nbound 2345\nend\n"
+    => "fewer than 2,345<";
+    "step,window,A\n1,0,0\n", "mmplan 1\nstores A\ndump 1 0\nloss 0\nstretch A 1 1\nbound -1\nend\n"
+    => "fewer than &#8722;1<";
+};
 
 #[test]
 fn a_bound_is_written_with_its_sign(rt: HostRuntime) {

@@ -74,40 +74,21 @@ fn stretches_and_counts_are_printed_in_order(rt: HostRuntime) {
     read_and_printed(&rt, rt.alloc(), IN_ANY_ORDER, IN_ORDER);
 }
 
-static READ: [(&[u8], &str); 8] = [
-    (
-        b"mmplan 1\nstores A A\ndump 1 0 1000000\nloss 0\nbound 0\nend\n",
-        "a store twice",
-    ),
-    (
-        b"mmplan 1\nstores A\ndump 1 0\nloss 18446744073709551615\nbound 0\nend\n",
-        "the greatest loss",
-    ),
-    (
-        b"mmplan 1\nstores A\ndump 1 0\nloss 0\nbound 9223372036854775807\nend\n",
-        "the greatest bound",
-    ),
-    (
-        b"mmplan 1\nstores A\ndump 1 0\nloss 0\nbound -9223372036854775808\nend\n",
-        "the least bound",
-    ),
-    (
-        b"mmplan 1\nstores A\ndump 1 0\nloss 0\nstretch B 4294967295 0\nbound 0\nend\n",
-        "a stretch of any steps",
-    ),
-    (
-        b"mmplan 1\nstores A\ndump 1 0\nloss 0\nstretch A 2 2\nstretch A 1 2\nbound 0\nend\n",
-        "stretches in any order",
-    ),
-    (
-        b"mmplan 2\nstores A\ndump 1 0\nloss 0\ncount 9 channels\ncount 0 channels\nbound 0\nend\n",
-        "counts of any steps",
-    ),
-    (
-        b"mmplan 1\nstores A-B_C019 Z\ndump 1 0 0\nloss 0\nbound 0\nend\n",
-        "each kind of character",
-    ),
-];
+static READ: [(&[u8], &str); 8] = wanted! {
+    b"mmplan 1\nstores A A\ndump 1 0 1000000\nloss 0\nbound 0\nend\n" => "a store twice";
+    b"mmplan 1\nstores A\ndump 1 0\nloss 18446744073709551615\nbound 0\nend\n"
+    => "the greatest loss";
+    b"mmplan 1\nstores A\ndump 1 0\nloss 0\nbound 9223372036854775807\nend\n"
+    => "the greatest bound";
+    b"mmplan 1\nstores A\ndump 1 0\nloss 0\nbound -9223372036854775808\nend\n" => "the least bound";
+    b"mmplan 1\nstores A\ndump 1 0\nloss 0\nstretch B 4294967295 0\nbound 0\nend\n"
+    => "a stretch of any steps";
+    b"mmplan 1\nstores A\ndump 1 0\nloss 0\nstretch A 2 2\nstretch A 1 2\nbound 0\nend\n"
+    => "stretches in any order";
+    b"mmplan 2\nstores A\ndump 1 0\nloss 0\ncount 9 channels\ncount 0 channels\nbound 0\nend\n"
+    => "counts of any steps";
+    b"mmplan 1\nstores A-B_C019 Z\ndump 1 0 0\nloss 0\nbound 0\nend\n" => "each kind of character";
+};
 
 #[test]
 fn sheet_texts_are_read(rt: HostRuntime) {
@@ -117,126 +98,61 @@ fn sheet_texts_are_read(rt: HostRuntime) {
 }
 
 // Each text with the line of its refusal.
-static REFUSED: [(&[u8], u32); 52] = [
-    (b"", 1),
-    (b"\n", 1),
-    (
-        b"mmplan 1\nstores SCI\ndump 1 2\ndump 2 2\ndump 3 0\nloss 2\nstretch SCI 1 3\nbound 2\n",
-        9,
-    ),
-    (
-        b"mmplan 1\nstores SCI\ndump 1 02\ndump 2 2\ndump 3 0\nloss 2\nstretch SCI 1 3\nbound 2\nend\n",
-        3,
-    ),
-    (b"mmplan 1\nstores A\ndump 1 0\nloss 0\nbound 0\nend", 6),
-    (b"mmplan 1\nstores A\ndump 1 0\nloss 0\nbound 0\nend\n\n", 7),
-    (
-        b"mmplan 1\nstores A\ndump 1 0\nloss 0\nbound 0\nend\nend\n",
-        7,
-    ),
-    (b"mmplan 1\nstores A\ndump 1 0\nloss 0\nbound 0\nend\nx", 7),
-    (b"mmplan 1\nstores A\ndump 1 0\nloss 0\nbound 0\nend \n", 6),
-    (
-        b"mmplan 1\r\nstores A\r\ndump 1 0\r\nloss 0\r\nbound 0\r\nend\r\n",
-        1,
-    ),
-    (b"mmplan 1\nstores A\r\ndump 1 0\nloss 0\nbound 0\nend\n", 2),
-    (
-        b"\xEF\xBB\xBFmmplan 1\nstores A\ndump 1 0\nloss 0\nbound 0\nend\n",
-        1,
-    ),
-    (b"mmplan 4\nstores A\ndump 1 0\nloss 0\nbound 0\nend\n", 1),
-    (b"mmplan\nstores A\ndump 1 0\nloss 0\nbound 0\nend\n", 1),
-    (b"mmplan 01\nstores A\ndump 1 0\nloss 0\nbound 0\nend\n", 1),
-    (b" mmplan 1\nstores A\ndump 1 0\nloss 0\nbound 0\nend\n", 1),
-    (b"mmplan 1 \nstores A\ndump 1 0\nloss 0\nbound 0\nend\n", 1),
-    (b"mmplan  1\nstores A\ndump 1 0\nloss 0\nbound 0\nend\n", 1),
-    (b"mmplan 1\nstores\ndump 1 0\nloss 0\nbound 0\nend\n", 2),
-    (b"mmplan 1\nstores \ndump 1 0\nloss 0\nbound 0\nend\n", 2),
-    (b"mmplan 1\nstores a\ndump 1 0\nloss 0\nbound 0\nend\n", 2),
-    (
-        b"mmplan 1\nstores ABCDEFGHI\ndump 1 0\nloss 0\nbound 0\nend\n",
-        2,
-    ),
-    (
-        b"mmplan 1\nstores \xFF\ndump 1 0\nloss 0\nbound 0\nend\n",
-        2,
-    ),
-    (
-        b"mmplan 1\nstores A B C D E F G H I J K L M N O P Q\nend\n",
-        2,
-    ),
-    (b"mmplan 1\ndump 1 0\nloss 0\nbound 0\nend\n", 2),
-    (
-        b"mmplan 1\nstores A\nstores A\ndump 1 0\nloss 0\nbound 0\nend\n",
-        3,
-    ),
-    (b"mmplan 1\nstores A\nloss 0\nbound 0\nend\n", 3),
-    (b"mmplan 1\nstores A\ndump 1\nloss 0\nbound 0\nend\n", 3),
-    (b"mmplan 1\nstores A\ndump 1 0 0\nloss 0\nbound 0\nend\n", 3),
-    (b"mmplan 1\nstores A\ndump 0 0\nloss 0\nbound 0\nend\n", 3),
-    (b"mmplan 1\nstores A\ndump 2 0\nloss 0\nbound 0\nend\n", 3),
-    (
-        b"mmplan 1\nstores A\ndump 1 0\ndump 1 0\nloss 0\nbound 0\nend\n",
-        4,
-    ),
-    (
-        b"mmplan 1\nstores A\ndump 1 1000001\nloss 0\nbound 0\nend\n",
-        3,
-    ),
-    (b"mmplan 1\nstores A\ndump 1 +0\nloss 0\nbound 0\nend\n", 3),
-    (b"mmplan 1\nstores A\ndump  1 0\nloss 0\nbound 0\nend\n", 3),
-    (
-        b"mmplan 1\nstores A\ndump 1 0\nloss 18446744073709551616\nbound 0\nend\n",
-        4,
-    ),
-    (b"mmplan 1\nstores A\ndump 1 0\nloss -1\nbound 0\nend\n", 4),
-    (b"mmplan 1\nstores A\ndump 1 0\nloss 0 \nbound 0\nend\n", 4),
-    (b"mmplan 1\nstores A\ndump 1 0\nbound 0\nend\n", 4),
-    (
-        b"mmplan 1\nstores A\ndump 1 0\nloss 0\ndump 2 0\nbound 0\nend\n",
-        5,
-    ),
-    (
-        b"mmplan 1\nstores A\ndump 1 0\nloss 0\nstretch A 1 4294967296\nbound 0\nend\n",
-        5,
-    ),
-    (
-        b"mmplan 1\nstores A\ndump 1 0\nloss 0\nstretch A 1\nbound 0\nend\n",
-        5,
-    ),
-    (
-        b"mmplan 1\nstores A\ndump 1 0\nloss 0\nstretch a 1 1\nbound 0\nend\n",
-        5,
-    ),
-    (
-        b"mmplan 1\nstores A\ndump 1 0\nloss 0\ncount 1 channels\nbound 0\nend\n",
-        5,
-    ),
-    (b"mmplan 2\nstores A\ndump 1 0\nloss 0\nbound 0\nend\n", 5),
-    (
-        b"mmplan 2\nstores A\ndump 1 0\nloss 0\ncount 4294967296 channels\nbound 0\nend\n",
-        5,
-    ),
-    (
-        b"mmplan 2\nstores A\ndump 1 0\nloss 0\ncount 1 channel\nbound 0\nend\n",
-        5,
-    ),
-    (
-        b"mmplan 2\nstores A\ndump 1 0\nloss 0\ncount 1 channels\nstretch A 1 1\nbound 0\nend\n",
-        6,
-    ),
-    (b"mmplan 1\nstores A\ndump 1 0\nloss 0\nbound -0\nend\n", 5),
-    (
-        b"mmplan 1\nstores A\ndump 1 0\nloss 0\nbound 9223372036854775808\nend\n",
-        5,
-    ),
-    (
-        b"mmplan 1\nstores A\ndump 1 0\nloss 0\nbound -9223372036854775809\nend\n",
-        5,
-    ),
-    (b"mmplan 1\nstores A\ndump 1 x\nloss y\nbound z\nend\n", 3),
-];
+static REFUSED: [(&[u8], u32); 52] = wanted! {
+    b"" => 1;
+    b"\n" => 1;
+    b"mmplan 1\nstores SCI\ndump 1 2\ndump 2 2\ndump 3 0\nloss 2\nstretch SCI 1 3\nbound 2\n" => 9;
+    b"mmplan 1\nstores SCI\ndump 1 02\ndump 2 2\ndump 3 0\nloss 2\nstretch SCI 1 3\nbound 2\nend\n"
+    => 3;
+    b"mmplan 1\nstores A\ndump 1 0\nloss 0\nbound 0\nend" => 6;
+    b"mmplan 1\nstores A\ndump 1 0\nloss 0\nbound 0\nend\n\n" => 7;
+    b"mmplan 1\nstores A\ndump 1 0\nloss 0\nbound 0\nend\nend\n" => 7;
+    b"mmplan 1\nstores A\ndump 1 0\nloss 0\nbound 0\nend\nx" => 7;
+    b"mmplan 1\nstores A\ndump 1 0\nloss 0\nbound 0\nend \n" => 6;
+    b"mmplan 1\r\nstores A\r\ndump 1 0\r\nloss 0\r\nbound 0\r\nend\r\n" => 1;
+    b"mmplan 1\nstores A\r\ndump 1 0\nloss 0\nbound 0\nend\n" => 2;
+    b"\xEF\xBB\xBFmmplan 1\nstores A\ndump 1 0\nloss 0\nbound 0\nend\n" => 1;
+    b"mmplan 4\nstores A\ndump 1 0\nloss 0\nbound 0\nend\n" => 1;
+    b"mmplan\nstores A\ndump 1 0\nloss 0\nbound 0\nend\n" => 1;
+    b"mmplan 01\nstores A\ndump 1 0\nloss 0\nbound 0\nend\n" => 1;
+    b" mmplan 1\nstores A\ndump 1 0\nloss 0\nbound 0\nend\n" => 1;
+    b"mmplan 1 \nstores A\ndump 1 0\nloss 0\nbound 0\nend\n" => 1;
+    b"mmplan  1\nstores A\ndump 1 0\nloss 0\nbound 0\nend\n" => 1;
+    b"mmplan 1\nstores\ndump 1 0\nloss 0\nbound 0\nend\n" => 2;
+    b"mmplan 1\nstores \ndump 1 0\nloss 0\nbound 0\nend\n" => 2;
+    b"mmplan 1\nstores a\ndump 1 0\nloss 0\nbound 0\nend\n" => 2;
+    b"mmplan 1\nstores ABCDEFGHI\ndump 1 0\nloss 0\nbound 0\nend\n" => 2;
+    b"mmplan 1\nstores \xFF\ndump 1 0\nloss 0\nbound 0\nend\n" => 2;
+    b"mmplan 1\nstores A B C D E F G H I J K L M N O P Q\nend\n" => 2;
+    b"mmplan 1\ndump 1 0\nloss 0\nbound 0\nend\n" => 2;
+    b"mmplan 1\nstores A\nstores A\ndump 1 0\nloss 0\nbound 0\nend\n" => 3;
+    b"mmplan 1\nstores A\nloss 0\nbound 0\nend\n" => 3;
+    b"mmplan 1\nstores A\ndump 1\nloss 0\nbound 0\nend\n" => 3;
+    b"mmplan 1\nstores A\ndump 1 0 0\nloss 0\nbound 0\nend\n" => 3;
+    b"mmplan 1\nstores A\ndump 0 0\nloss 0\nbound 0\nend\n" => 3;
+    b"mmplan 1\nstores A\ndump 2 0\nloss 0\nbound 0\nend\n" => 3;
+    b"mmplan 1\nstores A\ndump 1 0\ndump 1 0\nloss 0\nbound 0\nend\n" => 4;
+    b"mmplan 1\nstores A\ndump 1 1000001\nloss 0\nbound 0\nend\n" => 3;
+    b"mmplan 1\nstores A\ndump 1 +0\nloss 0\nbound 0\nend\n" => 3;
+    b"mmplan 1\nstores A\ndump  1 0\nloss 0\nbound 0\nend\n" => 3;
+    b"mmplan 1\nstores A\ndump 1 0\nloss 18446744073709551616\nbound 0\nend\n" => 4;
+    b"mmplan 1\nstores A\ndump 1 0\nloss -1\nbound 0\nend\n" => 4;
+    b"mmplan 1\nstores A\ndump 1 0\nloss 0 \nbound 0\nend\n" => 4;
+    b"mmplan 1\nstores A\ndump 1 0\nbound 0\nend\n" => 4;
+    b"mmplan 1\nstores A\ndump 1 0\nloss 0\ndump 2 0\nbound 0\nend\n" => 5;
+    b"mmplan 1\nstores A\ndump 1 0\nloss 0\nstretch A 1 4294967296\nbound 0\nend\n" => 5;
+    b"mmplan 1\nstores A\ndump 1 0\nloss 0\nstretch A 1\nbound 0\nend\n" => 5;
+    b"mmplan 1\nstores A\ndump 1 0\nloss 0\nstretch a 1 1\nbound 0\nend\n" => 5;
+    b"mmplan 1\nstores A\ndump 1 0\nloss 0\ncount 1 channels\nbound 0\nend\n" => 5;
+    b"mmplan 2\nstores A\ndump 1 0\nloss 0\nbound 0\nend\n" => 5;
+    b"mmplan 2\nstores A\ndump 1 0\nloss 0\ncount 4294967296 channels\nbound 0\nend\n" => 5;
+    b"mmplan 2\nstores A\ndump 1 0\nloss 0\ncount 1 channel\nbound 0\nend\n" => 5;
+    b"mmplan 2\nstores A\ndump 1 0\nloss 0\ncount 1 channels\nstretch A 1 1\nbound 0\nend\n" => 6;
+    b"mmplan 1\nstores A\ndump 1 0\nloss 0\nbound -0\nend\n" => 5;
+    b"mmplan 1\nstores A\ndump 1 0\nloss 0\nbound 9223372036854775808\nend\n" => 5;
+    b"mmplan 1\nstores A\ndump 1 0\nloss 0\nbound -9223372036854775809\nend\n" => 5;
+    b"mmplan 1\nstores A\ndump 1 x\nloss y\nbound z\nend\n" => 3;
+};
 
 // Each text is refused with its line.
 pub(crate) fn are_refused(rt: &impl Abort, alloc: Global, rows: &[(&[u8], u32)]) {

@@ -116,19 +116,15 @@ fn limits_as_data_refused(rt: HostRuntime) {
     }
 }
 
-static STEPS_REFUSED: [(&[u32], &[u32], &str); 7] = [
-    (&[1, 1], &[1, 1, 1], "29 ForecastText"),
-    (&[1, 1], &[1, 1, 1, 1, 1], "29 ForecastText"),
-    (&[], &[1, 1], "29 ForecastText"),
-    (&[1, 1_000_001], &[1, 1, 1, 1], "33 Limit name window"),
-    (&[1, 1], &[1, 1, 1, 1_000_001], "33 Limit name arrivals"),
-    (
-        &[1, 1_000_001],
-        &[1, 1_000_001, 1, 1],
-        "33 Limit name arrivals",
-    ),
-    (&[1; 257], &[1; 514], "33 Limit name steps"),
-];
+static STEPS_REFUSED: [(&[u32], &[u32], &str); 7] = wanted! {
+    &[1, 1], &[1, 1, 1] => "29 ForecastText";
+    &[1, 1], &[1, 1, 1, 1, 1] => "29 ForecastText";
+    &[], &[1, 1] => "29 ForecastText";
+    &[1, 1_000_001], &[1, 1, 1, 1] => "33 Limit name window";
+    &[1, 1], &[1, 1, 1, 1_000_001] => "33 Limit name arrivals";
+    &[1, 1_000_001], &[1, 1_000_001, 1, 1] => "33 Limit name arrivals";
+    &[1; 257], &[1; 514] => "33 Limit name steps";
+};
 
 #[test]
 fn steps_as_data_refused(rt: HostRuntime) {

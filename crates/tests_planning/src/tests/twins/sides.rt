@@ -22,36 +22,19 @@ fn least_capacity(rt: &impl Abort, alloc: Global, nodes: u32, arcs: &[ArcRow]) -
 }
 
 // Networks of so many nodes with these arcs, and the least capacity of a cut.
-static COUNTED: [(u32, &[ArcRow], Option<u64>); 5] = [
+static COUNTED: [(u32, &[ArcRow], Option<u64>); 5] = wanted! {
     // No arc leads out of the source.
-    (2, &[], Some(0)),
+    2, &[] => Some(0);
     // An unlimited arc leaves each side without node 2, so the cut is 4 out of node 2 and 1 out of the source.
-    (
-        3,
-        &[(0, 2, None), (2, 1, Some(4)), (0, 1, Some(1))],
-        Some(5),
-    ),
+    3, &[(0, 2, None), (2, 1, Some(4)), (0, 1, Some(1))] => Some(5);
     // Arcs into the side do not count: 3 out of the source, and not the 9 back into it.
-    (
-        3,
-        &[(0, 2, Some(3)), (2, 0, Some(9)), (2, 1, Some(8))],
-        Some(3),
-    ),
+    3, &[(0, 2, Some(3)), (2, 0, Some(9)), (2, 1, Some(8))] => Some(3);
     // Node 2 alone with the source: 2 + 4 + 1, less than the 9 out of the source and the 11 into the sink.
-    (
-        4,
-        &[
-            (0, 2, Some(7)),
-            (0, 3, Some(2)),
-            (2, 3, Some(4)),
-            (2, 1, Some(1)),
-            (3, 1, Some(10)),
-        ],
-        Some(7),
-    ),
+    4, &[(0, 2, Some(7)), (0, 3, Some(2)), (2, 3, Some(4)), (2, 1, Some(1)), (3, 1, Some(10))]
+    => Some(7);
     // Unlimited arcs lead to the sink.
-    (3, &[(0, 2, None), (2, 1, None), (0, 1, Some(1))], None),
-];
+    3, &[(0, 2, None), (2, 1, None), (0, 1, Some(1))] => None;
+};
 
 #[test]
 fn cuts_counted_by_hand(rt: HostRuntime) {

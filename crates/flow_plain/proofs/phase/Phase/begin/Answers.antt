@@ -2,7 +2,7 @@ use Rattle.std.proofs.Common.{◌<◌, ap, sym, ◌∙◌, arith}
 use Rattle.std.proofs.lemmas.List.{get_or_read}
 use Rattle.flow_plain.specs.declared.tables.Tables.{Tables}
 use Rattle.mm_flow.specs.Graph.{Graph}
-use Rattle.flow_plain.proofs.LevelPaths.{cursors_put}
+use Rattle.flow_plain.proofs.Cursors.{cursors_put}
 use Rattle.flow_plain.proofs.phase.Phase.begin.Goals as goal
 
 pub invariant_of-self-in-loop-node : goal.invariant_of-self-in-loop-node

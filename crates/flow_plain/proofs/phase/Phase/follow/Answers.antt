@@ -1,11 +1,13 @@
 use Rattle.std.proofs.Common.{◌≡◌, ◌≢◌, ℕ, slice_index, ap, sym, ◌∙◌, subst, arith}
 use Rattle.mm_flow.specs.Graph.{Graph}
 use Rattle.mm_flow.specs.Residual.{entries, head}
-use Rattle.flow_plain.specs.Marks.{level}
-use Rattle.flow_plain.specs.Levels.{IsAhead, HasLead}
+use Rattle.mm_flow.specs.Marks.{level}
+use Rattle.flow_plain.specs.Marks.{bare}
+use Rattle.mm_flow.specs.Levels.{IsAhead, HasLead}
 use Rattle.flow_plain.specs.Task.{Reaches}
 use Rattle.flow_plain.specs.Phase.{LeadsFrom}
-use Rattle.flow_plain.proofs.Leading.{lead_known, lead_read, lead-le, lead_same}
+use Rattle.mm_flow.proofs.Leading.{lead-le}
+use Rattle.flow_plain.proofs.Leading.{lead_known, lead_read, lead_same}
 use Rattle.flow_plain.proofs.phase.Phase.follow.Goals as goal
 use Rattle.flow_plain.proofs.phase.Phase.follow.Goals.{After-index, After-head-at}
 
@@ -16,7 +18,7 @@ index-requires c =
 
 -- the entry that was read leads on up
 ahead_is : (c : After-index) → c.loop-at.at ≢ c.loop-at.self.tables.sink
-    → IsAhead c.loop-at.self.tables.network.now.graph (slice_index c.loop-at.self.tables.flow.items) c.loop-at.self.tables.search.marks.items c.loop-at.self.next.items c.loop-at.at c.index.result.now
+    → IsAhead c.loop-at.self.tables.network.now.graph (slice_index c.loop-at.self.tables.flow.items) (bare c.loop-at.self.tables.search.marks.items) c.loop-at.self.next.items c.loop-at.at c.index.result.now
     × LeadsFrom c.loop-at.self (head c.loop-at.self.tables.network.now.graph c.index.result.now)
 ahead_is c ne = lead_read c.loop-at.self c.loop-at.at c.index.result.now c.loop-at.invariant.leads ne c.index.ensures
 
@@ -37,7 +39,7 @@ pub loop-at-smaller : goal.loop-at-smaller
 loop-at-smaller c =
     let p = c.loop-at.self in
     let t = p.tables in
-    let marks = t.search.marks.items in
+    let marks = bare t.search.marks.items in
     let e = c.index.result.now in
     let ahead = ahead_is (goal.at.loop-at-smaller c).After-index (omega arith) in
     let within = lead-le t.network.now.graph (slice_index t.flow.items) t.sink marks p.next.items p.ahead.items ahead.1.0 (head t.network.now.graph e) ahead.1.1 in
@@ -57,6 +59,6 @@ loop-at-preserved c =
     let back = sym (node_is (goal.at.loop-at-preserved c).After-head-at) in
     record {
       value = run.value ∙ invariant.value;
-      leads = subst (λ (n : ℕ). HasLead u.network.now.graph (slice_index u.flow.items) u.search.marks.items p.next.items p.ahead.items u.sink n) back (lead_same t u p.next.items p.ahead.items (head t.network.now.graph e) run.task run.kept run.levels ahead.1);
+      leads = subst (λ (n : ℕ). HasLead u.network.now.graph (slice_index u.flow.items) (bare u.search.marks.items) p.next.items p.ahead.items u.sink n) back (lead_same t u p.next.items p.ahead.items (head t.network.now.graph e) run.task run.kept run.levels ahead.1);
       path = subst (λ (n : ℕ). Reaches u n) back run.path;
     }

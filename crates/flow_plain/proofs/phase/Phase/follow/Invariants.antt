@@ -1,5 +1,6 @@
 use Rattle.std.proofs.Common.{◌≡◌, ◌-◌}
-use Rattle.flow_plain.specs.Marks.{level}
+use Rattle.mm_flow.specs.Marks.{level}
+use Rattle.flow_plain.specs.Marks.{bare}
 use Rattle.flow_plain.specs.Task.{Reaches}
 use Rattle.flow_plain.specs.Phase.{LeadsFrom}
 use Rattle.flow_plain.proofs.phase.Phase.follow.Given as goal
@@ -12,4 +13,4 @@ invariant-loop-at l = record {
 }
 
 abbrev pub decreases-loop-at : goal.decreases-loop-at
-decreases-loop-at l = level l.self.tables.search.marks.items l.self.tables.sink - level l.self.tables.search.marks.items l.at
+decreases-loop-at l = level (bare l.self.tables.search.marks.items) l.self.tables.sink - level (bare l.self.tables.search.marks.items) l.at

@@ -1,5 +1,6 @@
 use Rattle.std.proofs.Common.{◌≡◌, ◌+◌, ◌*◌}
-use Rattle.flow_plain.specs.Marks.{level}
+use Rattle.mm_flow.specs.Marks.{level}
+use Rattle.flow_plain.specs.Marks.{bare}
 use Rattle.flow_plain.specs.Phase.{LeadsFrom, cursors_of}
 use Rattle.flow_plain.proofs.phase.Phase.lead_back.Given as goal
 
@@ -10,4 +11,4 @@ invariant-loop-at l = record {
 }
 
 abbrev pub decreases-loop-at : goal.decreases-loop-at
-decreases-loop-at l = cursors_of l.self * (level l.fn.self.tables.search.marks.items l.fn.self.tables.sink + 1) + level l.fn.self.tables.search.marks.items l.at
+decreases-loop-at l = cursors_of l.self * (level (bare l.fn.self.tables.search.marks.items) l.fn.self.tables.sink + 1) + level (bare l.fn.self.tables.search.marks.items) l.at

@@ -1,10 +1,10 @@
 use Rattle.std.proofs.Common.{List, ℕ, slice_index, ap, arith}
 use Rattle.std.proofs.lemmas.Bool.{ltb-true}
-use Rattle.std.proofs.lemmas.List.{get_or_read}
-use Rattle.flow_plain.specs.declared.search.Mark.{Mark}
 use Rattle.mm_flow.specs.Residual.{residual}
-use Rattle.flow_plain.specs.Marks.{no_mark, level}
+use Rattle.mm_flow.specs.Marks.{level}
+use Rattle.flow_plain.specs.Marks.{bare}
 use Rattle.mm_flow.proofs.Entries.{twin_ends}
+use Rattle.flow_plain.proofs.Marking.{level_read}
 use Rattle.flow_plain.proofs.phase.Phase.leads_up.Goals as goal
 
 pub returns-then-below-height : goal.returns-then-below-height
@@ -14,10 +14,10 @@ returns-then-below-height c = λ some.
     let marks = t.search.marks.items in
     let e = c.args.entry in
     let twin_is = c.twin-back.ensures.twin in
-    let read = ap (λ (m : Mark). m.level) (get_or_read marks c.head-from.result c.index.result.now (omega (arith, t.at_work.levelled.size, c.head-from.ensures.known)) c.index.ensures no_mark) in
-    let from = ap (level marks) c.head-from.ensures.node in
-    let below = ap (level marks) (twin_ends g e c.requires.known).0 in
-    let above = ap (level marks) (twin_ends g e c.requires.known).1 in
+    let read = level_read marks c.head-from.result c.index.result.now (omega (arith, t.at_work.levelled.size, c.head-from.ensures.known)) c.index.ensures in
+    let from = ap (level (bare marks)) c.head-from.ensures.node in
+    let below = ap (level (bare marks)) (twin_ends g e c.requires.known).0 in
+    let above = ap (level (bare marks)) (twin_ends g e c.requires.known).1 in
     record {
       known = omega (arith, c.twin-back.ensures.known, twin_is);
       marked = omega (arith, c.if-below-height.true.0, read, from, below);

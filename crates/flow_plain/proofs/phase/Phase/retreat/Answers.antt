@@ -1,11 +1,14 @@
 use Rattle.std.proofs.Common.{◌≡◌, ◌<◌, ◌-◌, slice_index, slice_set, ap, sym, ◌∙◌, subst, ℕ, arith}
 use Rattle.std.proofs.lemmas.List.{get_or_read}
 use Rattle.mm_flow.specs.Residual.{entries, tail, head}
-use Rattle.flow_plain.specs.Levels.{IsAhead, IsCursors, HasLead}
+use Rattle.mm_flow.specs.Levels.{IsAhead, HasLead}
+use Rattle.flow_plain.specs.Links.{IsCursors}
+use Rattle.flow_plain.specs.Marks.{bare}
 use Rattle.flow_plain.specs.Phase.{LeadsFrom}
-use Rattle.flow_plain.proofs.LevelPaths.{cursor_own, cursors_put, cursors_sum, cursor_before}
-use Rattle.flow_plain.proofs.Leading.{lead_read, lead_moved, lead_known}
-use Rattle.flow_plain.proofs.Visiting.{next_smaller}
+use Rattle.mm_flow.proofs.Leading.{lead_moved}
+use Rattle.flow_plain.proofs.Cursors.{cursors_put, cursors_sum}
+use Rattle.flow_plain.proofs.Leading.{lead_read, lead_known}
+use Rattle.flow_plain.proofs.Visiting.{next_own, next_smaller}
 use Rattle.flow_plain.proofs.phase.Phase.retreat.Goals as goal
 use Rattle.flow_plain.proofs.phase.Phase.retreat.Goals.{After-index, After-index-cursor, After-index-2}
 
@@ -16,7 +19,7 @@ index-requires c =
 
 -- the entry that was read leads on to where the path came from
 ahead_is : (c : After-index)
-    → IsAhead c.args.self.now.tables.network.now.graph (slice_index c.args.self.now.tables.flow.items) c.args.self.now.tables.search.marks.items c.args.self.now.next.items c.args.at c.index.result.now
+    → IsAhead c.args.self.now.tables.network.now.graph (slice_index c.args.self.now.tables.flow.items) (bare c.args.self.now.tables.search.marks.items) c.args.self.now.next.items c.args.at c.index.result.now
     × LeadsFrom c.args.self.now (head c.args.self.now.tables.network.now.graph c.index.result.now)
 ahead_is c = lead_read c.args.self.now c.args.at c.index.result.now c.requires.leads c.requires.inner c.index.ensures
 
@@ -34,7 +37,7 @@ stands : (c : After-index-cursor) → 0 < slice_index c.args.self.now.next.items
 stands c some =
     let p = c.args.self.now in
     let here : 0 < slice_index p.next.items c.head-to.result = omega (arith, ap (slice_index p.next.items) c.head-to.ensures.node, some) in
-    let own = cursor_own p.tables.network.now.graph p.next.items c.head-to.result p.cursors here in
+    let own = p.cursors.own c.head-to.result (slice_index p.next.items c.head-to.result - 1) (omega arith) in
     (own.0, own.1, omega (arith, cursor_is c, here))
 
 pub overflow_sub-cursor : goal.overflow_sub-cursor
@@ -57,8 +60,7 @@ moves c is own =
     let to = c.head-to.result in
     let e = slice_index p.next.items to - 1 in
     let read = get_or_read t.links.before.items (c.index-cursor.result.now - 1) c.index-2.result.now (omega (arith, is, own.0, t.at_work.linked.before_size)) c.index-2.ensures 0 ∙ ap (λ (n : ℕ). slice_index t.links.before.items (n - 1)) is in
-    let on = cursor_before g t.links.last.items t.links.before.items t.at_work.linked e c.index-2.result.now own.0 read in
-    (cursors_put g p.next.items to c.index-2.result.now p.cursors c.head-to.ensures.known (λ d at. ((on d at).0, (on d at).1 ∙ own.1)), omega (arith, next_smaller g t.links.last.items t.links.before.items t.at_work.linked e c.index-2.result.now own.0 read, is, own.2))
+    (cursors_put g p.next.items to c.index-2.result.now p.cursors c.head-to.ensures.known (next_own g t.links.last.items t.links.before.items t.at_work.linked to e c.index-2.result.now own.0 own.1 read), omega (arith, next_smaller g t.links.last.items t.links.before.items t.at_work.linked e c.index-2.result.now own.0 read, is, own.2))
 
 pub invariant_of-self : goal.invariant_of-self
 invariant_of-self c =
@@ -77,7 +79,7 @@ returns-clause-leads c =
     let p = c.args.self.now in
     let t = p.tables in
     let f = slice_index t.flow.items in
-    let marks = t.search.marks.items in
+    let marks = bare t.search.marks.items in
     let lead = (ahead_is (goal.at.returns-clause-leads c).After-index).1 in
     lead_moved t.network.now.graph f t.sink marks p.next.items p.ahead.items c.head-to.result c.index-2.result.now
     (subst (λ (n : ℕ). HasLead t.network.now.graph f marks p.next.items p.ahead.items t.sink n) (sym c.head-to.ensures.node) lead)

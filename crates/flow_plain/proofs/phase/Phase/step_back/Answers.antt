@@ -1,11 +1,14 @@
 use Rattle.std.proofs.Common.{◌≡◌, ℕ, ◌-◌, slice_index, slice_set, ap, sym, ◌∙◌, subst, arith}
 use Rattle.std.proofs.lemmas.List.{length-set}
 use Rattle.mm_flow.specs.Residual.{tail, head}
-use Rattle.flow_plain.specs.Marks.{level}
-use Rattle.flow_plain.specs.Levels.{IsCursors, IsUp}
+use Rattle.mm_flow.specs.Marks.{level}
+use Rattle.flow_plain.specs.Marks.{bare}
+use Rattle.mm_flow.specs.Levels.{IsUp}
+use Rattle.flow_plain.specs.Links.{IsCursors}
 use Rattle.mm_flow.proofs.Entries.{twin_ends}
-use Rattle.flow_plain.proofs.LevelPaths.{cursors_put}
-use Rattle.flow_plain.proofs.Leading.{lead_known, lead_moved, lead_longer}
+use Rattle.mm_flow.proofs.Leading.{lead_moved, lead_longer}
+use Rattle.flow_plain.proofs.Cursors.{cursors_put}
+use Rattle.flow_plain.proofs.Leading.{lead_known}
 use Rattle.flow_plain.proofs.phase.Phase.step_back.Goals as goal
 use Rattle.flow_plain.proofs.phase.Phase.step_back.Goals.{After-way_back-cursor}
 
@@ -34,7 +37,7 @@ pub returns-then-cursor-eq0-clause-stays : goal.returns-then-cursor-eq0-clause-s
 returns-then-cursor-eq0-clause-stays c =
     let p = c.args.self.now in
     let t = p.tables in
-    lead_moved t.network.now.graph (slice_index t.flow.items) t.sink t.search.marks.items p.next.items p.ahead.items c.args.at c.way_back-cursor.result c.requires.leads
+    lead_moved t.network.now.graph (slice_index t.flow.items) t.sink (bare t.search.marks.items) p.next.items p.ahead.items c.args.at c.way_back-cursor.result c.requires.leads
 
 pub invariant_of-self-2 : goal.invariant_of-self-2
 invariant_of-self-2 c = record {
@@ -48,7 +51,7 @@ returns-clause-leads c =
     let t = p.tables in
     let g = t.network.now.graph in
     let f = slice_index t.flow.items in
-    let marks = t.search.marks.items in
+    let marks = bare t.search.marks.items in
     let up = c.way_back-cursor.ensures.leads (omega arith) in
     let e = c.way_back-cursor.result - 1 in
     let twin_is = c.twin.ensures.twin in
@@ -62,7 +65,7 @@ pub returns-clause-lower : goal.returns-clause-lower
 returns-clause-lower c =
     let t = c.args.self.now.tables in
     let g = t.network.now.graph in
-    let marks = t.search.marks.items in
+    let marks = bare t.search.marks.items in
     let up = c.way_back-cursor.ensures.leads (omega arith) in
     let e = c.way_back-cursor.result - 1 in
     let from = ap (level marks) ((twin_ends g e up.known).0 ∙ sym c.head-from.ensures.node) in

@@ -1,18 +1,18 @@
 use Rattle.std.proofs.Common.{◌≡◌, ◌-◌, ◌<◌, slice_index, ap, sym, ◌∙◌, arith}
 use Rattle.std.proofs.lemmas.List.{get_or_read}
-use Rattle.flow_plain.specs.declared.search.Mark.{Mark}
 use Rattle.mm_flow.specs.Residual.{entries}
-use Rattle.flow_plain.specs.Marks.{no_mark, level}
-use Rattle.flow_plain.proofs.LevelPaths.{cursor_before}
-use Rattle.flow_plain.proofs.Visiting.{next_smaller}
+use Rattle.mm_flow.specs.Marks.{level}
+use Rattle.flow_plain.specs.Marks.{bare}
+use Rattle.flow_plain.proofs.Marking.{level_read}
+use Rattle.flow_plain.proofs.Visiting.{next_own, next_smaller}
 use Rattle.flow_plain.proofs.phase.Phase.way_back.Goals as goal
 use Rattle.flow_plain.proofs.phase.Phase.way_back.Goals.{After-index, After-index-cursor-in-loop-cursor}
 
 -- the node's own level
-height_is : (c : After-index) → c.index.result.now.level ≡ level c.args.self.now.tables.search.marks.items c.args.at
+height_is : (c : After-index) → level (bare c.args.self.now.tables.search.marks.items) c.args.at ≡ c.index.result.now.level
 height_is c =
     let t = c.args.self.now.tables in
-    ap (λ (m : Mark). m.level) (get_or_read t.search.marks.items c.args.at c.index.result.now (omega (arith, t.at_work.levelled.size, c.requires)) c.index.ensures no_mark)
+    level_read t.search.marks.items c.args.at c.index.result.now (omega (arith, t.at_work.levelled.size, c.requires)) c.index.ensures
 
 pub loop-cursor-init : goal.loop-cursor-init
 loop-cursor-init c =
@@ -26,7 +26,7 @@ leads_up-requires-clause-known c = (c.loop-cursor.invariant.own (c.loop-cursor.c
 pub leads_up-requires-clause-height : goal.leads_up-requires-clause-height
 leads_up-requires-clause-height c =
     let own = c.loop-cursor.invariant.own (c.loop-cursor.cursor - 1) (omega arith) in
-    height_is (goal.at.leads_up-requires-clause-height c).After-index ∙ ap (level c.args.self.now.tables.search.marks.items) (sym own.1)
+    sym (height_is (goal.at.leads_up-requires-clause-height c).After-index) ∙ ap (level (bare c.args.self.now.tables.search.marks.items)) (sym own.1)
 
 pub index-cursor-requires-in-loop-cursor : goal.index-cursor-requires-in-loop-cursor
 index-cursor-requires-in-loop-cursor c =
@@ -54,9 +54,7 @@ loop-cursor-preserved c =
     let is = next_is (goal.at.loop-cursor-preserved c).After-index-cursor-in-loop-cursor own.0 in
     let smaller = next_smaller g t.links.last.items t.links.before.items t.at_work.linked (c.loop-cursor.cursor - 1) next own.0 is in
     record {
-      own = λ e same.
-          let before = cursor_before g t.links.last.items t.links.before.items t.at_work.linked (c.loop-cursor.cursor - 1) next own.0 is e same in
-          (before.0, before.1 ∙ own.1);
+      own = next_own g t.links.last.items t.links.before.items t.at_work.linked c.args.at (c.loop-cursor.cursor - 1) next own.0 own.1 is;
       most = omega (arith, c.loop-cursor.invariant.most, smaller);
     }
 

@@ -1,10 +1,10 @@
-use Rattle.std.proofs.Common.{◌≡◌, ℕ, ◌+◌, ◌<◌, ◌≤◌, slice_index}
-use Rattle.mm_flow.specs.Residual.{entries, tail}
+use Rattle.std.proofs.Common.{◌≤◌, slice_index}
+use Rattle.flow_plain.specs.Links.{StandsAt}
 use Rattle.flow_plain.proofs.phase.Phase.way_back.Given as goal
 
 abbrev pub invariant-loop-cursor : goal.invariant-loop-cursor
 invariant-loop-cursor l = record {
-  own : (e : ℕ) → l.cursor ≡ e + 1 → (e < entries l.self.tables.network.now.graph) × (tail l.self.tables.network.now.graph e ≡ l.at);
+  own : StandsAt l.self.tables.network.now.graph l.at l.cursor;
   most : l.cursor ≤ slice_index l.self.next.items l.at;
 }
 

@@ -1,11 +1,43 @@
-use Rattle.std.proofs.Common.{◌≡◌, ◌≢◌, ℕ, suc, slice_index, slice_set, ap, sym, ◌∙◌, refl, arith}
-use Rattle.std.proofs.lemmas.List.{get_or_read, get_or-set_same, get_or-set_other}
+use Rattle.std.proofs.Common.{◌≡◌, ◌<◌, ℕ, slice_index, slice_set, ap, sym, ◌∙◌, refl, subst, arith, inl, inr}
+use Rattle.std.proofs.lemmas.Bool.{cases_eq}
 use Rattle.flow_plain.specs.declared.search.Mark.{Mark}
-use Rattle.mm_flow.specs.Residual.{tail, head}
-use Rattle.flow_plain.specs.Marks.{no_mark, mark}
-use Rattle.flow_plain.proofs.LevelPaths.{path_taken}
-use Rattle.flow_plain.proofs.Marking.{IsReached-from}
+use Rattle.mm_flow.specs.Residual.{tail}
+use Rattle.mm_flow.specs.Marks.{mark, level}
+use Rattle.flow_plain.specs.Marks.{Bare, bare_mark, bare, width, IsCarried}
+use Rattle.mm_flow.proofs.LevelPaths.{path_taken}
+use Rattle.mm_flow.proofs.Marking.{IsReached-from}
+use Rattle.flow_plain.proofs.Marking.{level_read, width_read, bare_set, bare_other, width_set, levelled_set, path_again}
 use Rattle.flow_plain.proofs.search.Search.reach_by.Goals as goal
+use Rattle.flow_plain.proofs.search.Search.reach_by.Goals.{After-index, After-min}
+
+-- the node keeps its level
+to_level : (c : After-index) → level (bare c.args.self.now.marks.items) c.head-to.result ≡ c.index.result.now.level
+to_level c = level_read c.args.self.now.marks.items c.head-to.result c.index.result.now (omega (arith, c.requires.levelled.size, c.head-to.ensures.known)) c.index.ensures
+
+-- what the node's path is wide
+is_wide : (c : After-min) → 0 < c.min.result
+is_wide c =
+    let marks = c.args.self.now.marks.items in
+    let read = width_read marks c.tail.result c.index-from.result.now (omega (arith, c.requires.levelled.size, c.tail.ensures.known)) c.index-from.ensures in
+    omega (arith, read, ap (width marks) c.tail.ensures.node, c.requires.path.wide, c.requires.up.open_still)
+
+pub returns-clause-levelled : goal.returns-clause-levelled
+returns-clause-levelled c =
+    let marks = c.args.self.now.marks.items in
+    let reached : 0 < c.index.result.now.level = omega (arith, to_level (goal.at.returns-clause-levelled c).After-index, c.requires.up.up, ap (level (bare marks)) c.head-to.ensures.node) in
+    levelled_set c.args.network.now.graph c.args.self.now.source marks c.head-to.result _ c.requires.levelled c.head-to.ensures.known reached (is_wide (goal.at.returns-clause-levelled c).After-min)
+
+pub returns-clause-levels : goal.returns-clause-levels
+returns-clause-levels c = λ n.
+    let marks = c.args.self.now.marks.items in
+    let to = c.head-to.result in
+    let own : Mark = record { level = c.index.result.now.level; via = c.args.entry; width = c.min.result } in
+    elim (cases_eq n to) [
+      | inl same ↦
+          let set = ap (λ (b : Bare). b.level) (bare_set marks to own (omega (arith, c.requires.levelled.size, c.head-to.ensures.known))) in
+          ap (level (bare (slice_set marks to own))) same ∙ set ∙ sym (to_level (goal.at.returns-clause-levels c).After-index) ∙ ap (level (bare marks)) (sym same)
+      | inr ne ↦ ap (λ (b : Bare). b.level) (bare_other marks to own n ne)
+    ]
 
 pub returns-clause-path : goal.returns-clause-path
 returns-clause-path c =
@@ -15,27 +47,29 @@ returns-clause-path c =
     let marks = s.marks.items in
     let e = c.args.entry in
     let at = tail g e in
-    let to = head g e in
+    let to = c.head-to.result in
     let own : Mark = record { level = c.index.result.now.level; via = e; width = c.min.result } in
-    let marked = slice_set marks c.head-to.result own in
+    let marked = slice_set marks to own in
     let size = c.requires.levelled.size in
     let up = c.requires.up in
-    let to_is = c.head-to.ensures.node in
-    let from_read = get_or_read marks c.tail.result c.index-from.result.now (omega (arith, size, c.tail.ensures.known)) c.index-from.ensures no_mark ∙ ap (mark marks) c.tail.ensures.node in
-    let to_read = get_or_read marks c.head-to.result c.index.result.now (omega (arith, size, c.head-to.ensures.known)) c.index.ensures no_mark ∙ ap (mark marks) to_is in
-    let from_level = ap (λ (m : Mark). m.level) from_read in
-    let from_width = ap (λ (m : Mark). m.width) from_read in
-    let to_level = ap (λ (m : Mark). m.level) to_read in
-    let own_is : mark marked to ≡ own = sym (ap (mark marked) to_is) ∙ get_or-set_same marks c.head-to.result own no_mark (omega (arith, size, c.head-to.ensures.known)) in
-    let others : (n : ℕ) → n ≢ to → mark marked n ≡ mark marks n = λ n ne. get_or-set_other marks c.head-to.result n own no_mark (λ same. ne (same ∙ to_is)) in
-    let before_is : mark marked (tail g own.via) ≡ mark marks at = others at (λ same. absurd (omega (arith, up.up, ap (λ (n : ℕ). (mark marks n).level) same))) in
+    let path = c.requires.path in
+    let leads = c.head-to.ensures.node in
+    let from_width = width_read marks c.tail.result c.index-from.result.now (omega (arith, size, c.tail.ensures.known)) c.index-from.ensures in
+    let at_width = ap (width marks) c.tail.ensures.node in
+    let own_is = bare_set marks to own (omega (arith, size, c.head-to.ensures.known)) in
+    let own_width = width_set marks to own (omega (arith, size, c.head-to.ensures.known)) in
+    let higher : level (bare marks) at < level (bare marks) to = omega (arith, up.up, ap (level (bare marks)) leads) in
+    let before_is = bare_other marks to own at (λ same. absurd (omega (arith, ap (level (bare marks)) same))) in
     let reached =
-    IsReached-from g f marked to (mark marks at) own own_is before_is (record {
+    IsReached-from g f (bare marked) (width marked to) to (mark (bare marks) at) (bare_mark own) own_is before_is (record {
       known = up.known;
-      leads = refl;
+      leads = sym leads;
       reached = up.marked;
-      above = omega (arith, up.up, to_level);
-      entry = omega arith;
-      path = omega (arith, from_width);
+      above = omega (arith, higher, to_level (goal.at.returns-clause-path c).After-index);
+      fits = omega (arith, own_width);
     }) in
-    (suc c.requires.path.0, path_taken g f marks marked s.source c.requires.path.0 e to up.up reached (ap (λ (m : Mark). m.via) own_is) others c.requires.path.1)
+    let before = path_again g f (bare marks) (bare marks) s.source (width marks at) (width marked to) path.path.0 at (omega (arith, own_width, from_width, at_width)) (λ m has. refl) path.path.1 in
+    subst (λ (n : ℕ). IsCarried g f marked s.source 1 n) leads (record {
+      wide = omega (arith, own_width, is_wide (goal.at.returns-clause-path c).After-min);
+      path = path_taken g f (bare marks) (bare marked) s.source (width marked to) e to higher reached (ap (λ (b : Bare). b.via) own_is) (bare_other marks to own) (path.path.0, before);
+    })

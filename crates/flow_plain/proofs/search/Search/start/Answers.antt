@@ -12,4 +12,5 @@ returns-clause-begun c =
     let s = c.args.self.now in
     let start : Mark = record { level = 1; via = 0; width = UNLIMITED } in
     let cleared : take s.marks.len (c.clear.new.marks ++ drop (length c.clear.new.marks) s.marks.items) ≡ replicate g.nodes no_mark = grind (arith, common_steps) in
-    rw cleared (search_begun g (slice_index c.args.flow.now) s.source c.args.least s.order.items start c.requires.source c.requires.order refl refl c.requires.least)
+    let begun = search_begun g (slice_index c.args.flow.now) s.source c.args.least s.order.items start c.requires.source c.requires.order refl refl c.requires.least in
+    record { search = rw cleared begun.0; wide = rw cleared begun.1 }
