@@ -52,18 +52,6 @@ link_failed : (step : ℕ) (why : OrderBroken) → dump_cause step why ≡ LinkF
 link_failed step worst.LinkFailed is = refl
 link_failed step worst.NoMemory is = absurd (cc is)
 
--- a store that was left alone
-left_alone : (e : RecordingContext) (gives : List (List SpacePacket)) (orders : List Order) (k : ℕ) (s : State) → IsByOneLog e gives orders k s s
-left_alone e gives orders k s = record {
-  firsts = map {B = List Event} (λ g. []) gives;
-  are = none_first e k gives;
-  offered = [];
-  ordered = [];
-  run = record { legal = tt; leaves = refl };
-  shuffle = record { below = All-nil _; parts = λ seat within. none_listed gives seat };
-  order = inl refl;
-}
-
 -- a store at which all offers were made, and then the calls of one order
 then_tried : (e : RecordingContext) (gives : List (List SpacePacket)) (orders : List Order) (k : ℕ) (s mid t : State) → HasRecorded e gives k s mid
     → (taken : ℕ) (c : Course) → HasTried taken k c mid t → (0 < taken → c.order.amount ≡ wanted orders k) → IsByOneLog e gives orders k s t
@@ -97,6 +85,12 @@ then_nothing e gives orders k s t firsts are log run shuffle = record {
   shuffle = shuffle;
   order = inl refl;
 }
+
+-- a store that was left alone
+left_alone : (e : RecordingContext) (gives : List (List SpacePacket)) (orders : List Order) (k : ℕ) (s : State) → IsByOneLog e gives orders k s s
+left_alone e gives orders k s =
+    then_nothing e gives orders k s s (map {B = List Event} (λ g. []) gives) (none_first e k gives) [] (record { legal = tt; leaves = refl })
+    (record { below = All-nil _; parts = λ seat within. none_listed gives seat })
 
 module _ {S L : Type 0} (gives : S → ℕ → List SpacePacket) (sent : L → List Sent) (failed : L → ℕ) (step now : ℕ) (routes : List RouteRow) (orders : List Order)
     (before after : RunState S L) (stop : StepBroken) (k : ℕ) (within : k < length before.stores) where

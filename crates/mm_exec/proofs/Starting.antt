@@ -15,6 +15,7 @@ use Rattle.mm_base.specs.declared.limits.TheConstants.{MAX_STEPS, MAX_STORES}
 use Rattle.mm_base.specs.declared.rows.StoreRow.{StoreRow}
 use Rattle.mm_packet.specs.Packet.{SpacePacket}
 use Rattle.mm_problem.specs.Dumping.{Dumping, IsDumping, row, no_row, place}
+use Rattle.mm_plan.specs.Fit.{FitsAt}
 use Rattle.mm_plan.specs.Table.{amount}
 use Rattle.mm_desk.specs.declared.held.Held.{Held}
 use Rattle.mm_desk.specs.declared.state.Retrieval.{Retrieval}
@@ -25,6 +26,7 @@ use Rattle.mm_memory.specs.Holdings.{AreHeld, has_id, store_of}
 use Rattle.mm_record.specs.Causes.{is_clock_late, is_late}
 use Rattle.mm_record.specs.Steps.{given_in, latest, AreFew, TakesAll}
 use Rattle.mm_dump.specs.declared.order.Order.{Order}
+use Rattle.mm_dump.specs.Dumped.{times, places_of}
 use Rattle.mm_dump.specs.Laws.{BrokenOrdersChangeNothing}
 use Rattle.mm_dump.specs.Sending.{Sent}
 use Rattle.mm_report.specs.declared.cause.TheConstants.{LATEST_START}
@@ -38,17 +40,19 @@ use Rattle.mm_exec.specs.Readiness.{AllMeet, NoneUnknown, is_unknown, meets, mee
 use Rattle.mm_exec.specs.Laws.{RunsLoseAsPlanned, RunsLoseNoPacketUncounted, StepRunsKeepStores}
 use Rattle.mm_exec.specs.AsPlanned.{IsReady}
 use Rattle.mm_exec.specs.Places.{IsPlaceOf, ArePlaces}
-use Rattle.mm_exec.specs.RunInput.{RunInput, recording_in, step_orders}
+use Rattle.mm_exec.specs.RunInput.{RunInput, recording_in, place_in_memory, step_orders}
 use Rattle.mm_exec.specs.RunState.{RunState}
 use Rattle.mm_exec.specs.Numbers.{row_from, orders_of, AreByCounters}
 use Rattle.mm_exec.specs.Step.{AreReady, StepDone, StepBroke}
-use Rattle.mm_exec.specs.Steps.{StepsDone}
+use Rattle.mm_exec.specs.Steps.{StepsDone, taken_amounts}
 use Rattle.mm_exec.specs.Course.{given_to, recording_at, orders_at, MayReport, StepReported, StepUnreported, MayRun, AreWithinLimits}
 use Rattle.mm_exec.specs.Ending.{HasRun, IsHaltedIn}
-use Rattle.mm_exec.proofs.Replays.{All-unmapped}
-use Rattle.mm_exec.proofs.Counters.{counted_first}
+use Rattle.mm_base.proofs.Elements.{All-unmapped}
+use Rattle.mm_record.proofs.Memories.{named_of, held_as}
+use Rattle.mm_exec.proofs.Counters.{by_counters}
 use Rattle.mm_exec.proofs.Halts.{failed_link}
-use Rattle.mm_exec.proofs.Ordered.{may_order, wanted_in_all, orders_are}
+use Rattle.mm_exec.proofs.Drawing.{taken_fits}
+use Rattle.mm_exec.proofs.Ordered.{named_once, may_order, wanted_in_all, orders_are}
 use Rattle.mm_exec.proofs.StepMore.{Footing, done_on}
 use Rattle.mm_exec.proofs.Parts.{as_many, same_ids, as_many_sources, stopped_of}
 use Rattle.mm_exec.proofs.Placing.{no_held, places_differ, places_cut}
@@ -178,31 +182,9 @@ done_first gives sent failed m now report stores is = record {
   rows = ap (λ (r : Reported). r.steps) is;
   counted =
       subst (λ (held : List Held). AreByCounters m held report.steps) (sym stores)
-      (subst (λ (r : Reported). AreByCounters m m.memory.stores r.steps) (sym is) (record {
-        arrived = counted_first m (λ u. u.offered);
-        lost = counted_first m (λ u. u.lost);
-        dumped = counted_first m (λ u. u.deleted);
-      }));
+      (subst (λ (r : Reported). AreByCounters m m.memory.stores r.steps) (sym is)
+      (by_counters m (λ t. m.memory.stores) 0 refl m.problem m.amounts (λ s t store first last. absurd (omega (arith, first, last)))));
 }
-
--- no two stores of a memory have one identifier
-named_ids : (stores : List Held) → AreHeld stores → AreNamed (map (λ h. h.id) stores)
-named_ids stores held i j d before within =
-    let many = length-map stores (λ (h : Held). h.id) in
-    let one = get_or-map (λ (h : Held). h.id) stores i no_held d (omega (arith, many)) in
-    let two = get_or-map (λ (h : Held). h.id) stores j no_held d (omega (arith, many)) in
-    let other = other_id (get_or stores i no_held).id (get_or stores j no_held).id (held.named i j no_held before (omega (arith, many))) in
-    rw (one, two) other
-  where
-    other_id : (a b : List ℕ) → a ≢ b → bytes_eq a b ≡ false
-    other_id a b other =
-        elim (bytes_eq a b) as (λ t. bytes_eq a b ≡ t → t ≡ false) [
-          | true ↦ λ e. absurd (other ((bytes_eq-Decides a b).0 e))
-          | false ↦ λ e. refl
-        ] refl
-
-pub still_named : (stores held : List Held) → AreHeld stores → map (λ h. h.id) held ≡ map (λ h. h.id) stores → AreNamed (map (λ h. h.id) held)
-still_named stores held are same = subst AreNamed (sym same) (named_ids stores are)
 
 -- no link is at the end of its count
 pub still_room : {L : Type 0} (failed : L → ℕ) (links links_left : List L) → map failed links_left ≡ map failed links
@@ -304,7 +286,7 @@ module _ {S L : Type 0} (gives : S → ℕ → List SpacePacket) (sent : L → L
           carry = record {
             record_may = record {
               few = omega (arith, many, may.held.at_most);
-              named = still_named first.stores now.stores may.held (same_ids now.stores first.stores labels);
+              named = named_of now.stores (held_as now.stores first.stores labels may.held).named;
               many = omega (arith, sources_many, counts.few_sources);
             };
             ready = ran.ready;
@@ -357,14 +339,24 @@ module _ {S L : Type 0} (gives : S → ℕ → List SpacePacket) (sent : L → L
         let step = subst (λ (u : ℕ). StepDone gives sent failed (recording_in input u now.stores) (orders_of input.amounts places u (length q.rows)) now after) same stepped.done in
         let row = subst (λ (u : ℕ). left.report
         ≡ record buffers.report { steps = buffers.report.steps ++ row_from q u places now.stores after.stores (length q.rows) ∷ [] }) same stepped.row in
-        record {
-          began = here.ran.began;
-          done =
-              subst (λ (u : ℕ). StepsDone gives sent failed input first.sources first.links u after left.report) then
-              (done_on gives sent failed input first.sources first.links places here.footing (t - 1) now after buffers.report here.ran.done step law counts
-              (omega (arith, here.last, same)) left.report row);
-          ready = ready;
-        }
+        let done = subst (λ (u : ℕ). StepsDone gives sent failed input first.sources first.links u after left.report) then
+        (done_on gives sent failed input first.sources first.links places here.footing (t - 1) now after buffers.report here.ran.done step law counts
+        (omega (arith, here.last, same)) left.report row) in
+        record { began = here.ran.began; done = done; fit = all_fit done (omega (arith, here.last, here.from_one)); ready = ready }
+      where
+        -- what the links took in each of the steps fits
+        all_fit : {steps : ℕ} (done : StepsDone gives sent failed input first.sources first.links steps after left.report) → steps ≤ length q.windows
+            → (u : ℕ) → 1 ≤ u → u ≤ steps → FitsAt q (taken_amounts input done.gave done.links_are.took) u
+        all_fit {steps = steps} done within u from_one last =
+            taken_fits input steps done.stores done.gave done.links_are.took done.runs u from_one last
+            (λ s store.
+            let stands = λ (r : ℕ) (inside : r < length q.rows). (here.footing.stand_at r inside).is in
+            let often = done.links_are.once (place_in_memory input s) u from_one last in
+            let named = named_once input.amounts places u (length q.rows) s here.footing.apart store in
+            let one = subst (λ (p : ℕ). times p (places_of (orders_of input.amounts places u (length q.rows))) ≤ 1) (stands s store) named in
+            subst (λ (k : ℕ). k ≤ 1) (sym often)
+            (subst (λ (os : List Order). times (place_in_memory input s) (places_of os) ≤ 1) (orders_are input places u stands) one))
+            (here.ran.began.fits (omega arith) u from_one (omega (arith, last, within)))
 
     -- the step was broken off
     pub halted_in : BrokenOrdersChangeNothing → (after : RunState S L) (left : RunBuffers) (broken : StepBroken)

@@ -62,7 +62,7 @@ offers_by : (now : ℕ) (ps : List SpacePacket) → All (IsBy now) (map (λ p. O
 offers_by now [] = All-nil (IsBy now)
 offers_by now (p ∷ ps) = All-cons (IsBy now) (Offer now p) (map (λ p. Offer now p) ps) (omega arith) (offers_by now ps)
 
-all_by : (e : RecordingContext) (k : ℕ) (gave : List (List SpacePacket)) → AreBy e.now (map (offers e k) gave)
+pub all_by : (e : RecordingContext) (k : ℕ) (gave : List (List SpacePacket)) → AreBy e.now (map (offers e k) gave)
 all_by e k [] = All-nil (λ (list : List Event). All (IsBy e.now) list)
 all_by e k (g ∷ gave) =
     All-cons (λ (list : List Event). All (IsBy e.now) list) (offers e k g) (map (offers e k) gave) (offers_by e.now (filter (is_routed e.routes (id_at e.ids k)) g)) (all_by e k gave)
@@ -227,13 +227,9 @@ module _ {S L : Type 0} (gives : S → ℕ → List SpacePacket) (sent : L → L
 
   -- the stores are ready for the next step
   pub ready_after : AreReady after.stores
-  ready_after = record {
-    sound = all_states IsState after.stores (λ k within. (kept_at k within).sound);
-    storage = all_states (λ (s : State). IsTrue s.storage) after.stores (λ k within.
-        (kept_at k within).storage ∙ state_holds (λ (s : State). IsTrue s.storage) before.stores ready.storage k (omega (arith, many)));
-    idle = all_states (λ (s : State). s.retrieval ≡ None) after.stores (λ k within.
-        (kept_at k within).retrieval ∙ state_holds (λ (s : State). s.retrieval ≡ None) before.stores ready.idle k (omega (arith, many)));
-  }
+  ready_after =
+      ready_kept before.stores after.stores many (all_states IsState after.stores (λ k within. (kept_at k within).sound))
+      (λ k within. let kept = kept_at k within in record { storage = kept.storage; retrieval = kept.retrieval }) ready
 
   -- counts move by less than 2^20
   pub far_after : (bound : ℕ) → length before.sources ≤ 8 → All (λ s. length (gives s e.step) ≤ 65535) before.sources → e.now ≤ bound → AllFar bound before.stores
