@@ -28,10 +28,6 @@ pub start_by : (P : RunStart → Type 0) (q : Dumping) (plan : Table) (base : �
     → held ≡ stores → counted_sources ≡ sources → counted_links ≡ links → P (run_start q plan held base counted_sources counted_links) → P (run_start q plan stores base sources links)
 start_by P q plan base read many_sources many_links holds = subst P (λ i. run_start q plan (read i) base (many_sources i) (many_links i)) holds
 
--- no test tells of a refusal
-pub refusals_are_none : (o : RunStart) (cause : Cause) → Stops o cause → NeverRefused cause
-refusals_are_none o cause stops step is = subst (Stops o) is stops
-
 -- how a run ended that did not begin
 pub not_begun : {S L : Type 0} (gives : S → ℕ → List SpacePacket) (sent : L → List Sent) (failed : L → ℕ) (m : RunInput) (plan : Table) (state : RunState S L) (cause : Cause)
     (stopped : RunStopped) → stopped.broken ≡ record { cause = cause; spent = 0 } → stopped.report.steps ≡ [] → IsRefusal (run_start_of m plan state) cause

@@ -17,7 +17,9 @@ use Rattle.mm_exec.specs.RunInput.{RunInput, place_in_memory, step_orders}
 use Rattle.mm_exec.specs.Numbers.{orders_of}
 use Rattle.mm_exec.specs.Step.{AreOrders}
 use Rattle.mm_base.specs.declared.limits.TheConstants.{MAX_STORES}
-use Rattle.std.proofs.lemmas.List.{map-append, append-nil}
+use Rattle.std.proofs.lemmas.List.{length-map, map-append, append-nil}
+use Rattle.std.proofs.lemmas.List.FromFn.{length-range_with_len}
+use Rattle.std.proofs.lemmas.List.Sums.{length-filter, count_by-le-length}
 
 module _ (x : Amounts) (places : List ℕ) (t : ℕ) where
   -- whether a store has an order, and the order
@@ -50,16 +52,9 @@ module _ (x : Amounts) (places : List ℕ) (t : ℕ) where
 
   -- there are no more orders than stores
   pub orders_few : (n : ℕ) → length (orders_of x places t n) ≤ n
-  orders_few zero = omega arith
-  orders_few (suc n) = by_amount (orders_few n) (cases_lt 0 (x n t))
-    where
-      by_amount : length (orders_of x places t n) ≤ n → (0 < x n t) ⊎ (x n t ≤ 0) → length (orders_of x places t (suc n)) ≤ suc n
-      by_amount few (inl some) =
-          let more = rw add-one at (order_more n some) in
-          omega (arith, ap length more, length-append (orders_of x places t n) (order_of n ∷ []), few)
-      by_amount few (inr none) =
-          let same = rw add-one at (order_none n none) in
-          omega (arith, ap length same, few)
+  orders_few n =
+      let all = range_with_len 0 n in
+      omega (arith, length-map (filter is_ordered all) order_of, length-filter is_ordered all, count_by-le-length is_ordered all, length-range_with_len 0 n)
 
 module _ (x : Amounts) (places : List ℕ) (t n : ℕ) where
   -- the sum of the terms of one store

@@ -95,11 +95,9 @@ given_offers gives e f j k t now routes ids xs =
     let same : given_in gives t xs ≡ map (λ g. g t) (map gives xs) = sym (map-map (λ (g : ℕ → List SpacePacket). g t) gives xs) in
     λ i. map (λ ps. map (λ p. Offer (now i) p) (filter (is_routed (routes i) (ids i)) ps)) (same i)
 
--- nothing left of what is the same
-none_same : {S : Type 0} (gives : S → ℕ → List SpacePacket) (t : ℕ) (xs ys : List S) → given_in gives t ys ≡ given_in gives t xs → All (λ s. gives s t ≡ []) xs → All (λ s. gives s t ≡ []) ys
-none_same gives t xs ys same none =
-    let mapped : All (λ (ps : List SpacePacket). ps ≡ []) (given_in gives t xs) = All-map (λ (ps : List SpacePacket). ps ≡ []) (λ s. gives s t) xs none in
-    All-unmapped (λ (ps : List SpacePacket). ps ≡ []) (λ s. gives s t) ys (subst (All (λ (ps : List SpacePacket). ps ≡ [])) (sym same) mapped)
+-- what holds of what some are made into holds of others that are made into the same
+pub all_same : {X Y : Type 0} (P : Y → Type 0) (f : X → Y) (xs ys : List X) → map f ys ≡ map f xs → All (λ x. P (f x)) xs → All (λ x. P (f x)) ys
+all_same P f xs ys same all = All-unmapped P f ys (subst (All P) (sym same) (All-map P f xs all))
 
 -- pieces over a range are equal where each is
 flat_map_range_same : {X : Type 0} (f g : ℕ → List X) (a n : ℕ) → ((t : ℕ) → a ≤ t → t < a + n → f t ≡ g t) → flat_map f (range_with_len a n) ≡ flat_map g (range_with_len a n)
@@ -246,7 +244,7 @@ module _ {S L : Type 0} (gives : S → ℕ → List SpacePacket) (sent : L → L
     given_on = record {
       nothing_left = λ t first last.
           with_next (λ u. 1 ≤ u → All (λ s. gives s u ≡ []) after.sources) k
-          (λ u last first. none_same gives u before.sources after.sources (stepped.others u (λ same. omega (arith, same))) (done.sources_are.nothing_left u first last))
+          (λ u last first. all_same (λ (ps : List SpacePacket). ps ≡ []) (λ s. gives s u) before.sources after.sources (stepped.others u (λ same. omega (arith, same))) (done.sources_are.nothing_left u first last))
           (λ first. stepped.nothing_left) t last first;
       others = λ t outside.
           stepped.others t (λ same. outside (omega (arith, same)) (omega (arith, same))) ∙ done.sources_are.others t (λ first last. outside first (omega arith));
@@ -259,16 +257,11 @@ module _ {S L : Type 0} (gives : S → ℕ → List SpacePacket) (sent : L → L
     abbrev old_pieces : ℕ → ℕ → List Sent
     old_pieces l t = sent_in m done.gave t (slice_index_or (done.links_are.took t) l [])
 
-    abbrev by_test : ℕ → ℕ → Bool → List Sent
-    by_test l t b =
-        flat_map (λ j. all_sent (id_at (map (λ h. h.id) m.memory.stores) j) (cond b (stepped.gave j) (done.gave j t)))
-        (slice_index_or (cond b stepped.places (done.links_are.took t)) l [])
-
     piece_old : (l t : ℕ) → t ≢ suc k → pieces l t ≡ old_pieces l t
-    piece_old l t other = ap (by_test l t) (ne_eqb t (suc k) other)
+    piece_old l t other = rw (ne_eqb t (suc k) other) refl
 
     piece_new : (l : ℕ) → pieces l (suc k) ≡ flat_map (λ j. all_sent (id_at (map (λ h. h.id) m.memory.stores) j) (stepped.gave j)) (slice_index_or stepped.places l [])
-    piece_new l = ap (by_test l (suc k)) (eq-eqb (suc k) (suc k) refl)
+    piece_new l = rw (eq-eqb (suc k) (suc k) refl) refl
 
     -- the links before the step are as many as at first
     links_many : length before.links ≡ length links
@@ -338,21 +331,17 @@ module _ {S L : Type 0} (gives : S → ℕ → List SpacePacket) (sent : L → L
       -- the rows so far and that of the step are those of the counters
       rows_counted : report.steps ++ row_from m.problem (suc k) places before.stores after.stores n ∷ [] ≡ rows_by_counters m stores_after (suc k)
       rows_counted =
-          let row = λ (held : ℕ → List Held) (t : ℕ).
-          map (λ s. counts_from m.problem s t (counters_of (store_state m (held (t - 1)) s)) (store_state m (held t) s)) (stores m.problem) in
-          let earlier : map (row stores_after) (range_with_len 1 k) ≡ rows_by_counters m done.stores k =
-          map_range_same (row stores_after) (row done.stores) 1 k
-          (λ t from to.
-          ap (λ (held : List Held). map (λ s. counts_from m.problem s t (counters_of (store_state m held s)) (store_state m (stores_after t) s)) (stores m.problem)) (at_old (t - 1) (omega arith))
-          ∙ ap (λ (held : List Held). map (λ s. counts_from m.problem s t (counters_of (store_state m (done.stores (t - 1)) s)) (store_state m held s)) (stores m.problem)) (at_old t (omega arith))) in
-          let last : row_from m.problem (suc k) places before.stores after.stores n ≡ row stores_after (suc k) =
+          let row = λ (before after : List Held) (t : ℕ). map (λ s. counts_from m.problem s t (counters_of (store_state m before s)) (store_state m after s)) (stores m.problem) in
+          let now = λ (t : ℕ). row (stores_after (t - 1)) (stores_after t) t in
+          let earlier : map now (range_with_len 1 k) ≡ rows_by_counters m done.stores k =
+          map_range_same now (λ t. row (done.stores (t - 1)) (done.stores t) t) 1 k
+          (λ t from to. let was = at_old (t - 1) (omega arith) in let is = at_old t (omega arith) in λ i. row (was i) (is i) t) in
+          let last : row_from m.problem (suc k) places before.stores after.stores n ≡ now (suc k) =
           map_range_same _ _ 0 n
-          (λ s from to.
-          ap (λ (u : State). counts_from m.problem s (suc k) (counters_of u) (opening_at (states_of after.stores) (slice_index places s))) (state_before s (omega arith))
-          ∙ ap (λ (u : State). counts_from m.problem s (suc k) (counters_of (store_state m (stores_after (suc k - 1)) s)) u) (state_after s (omega arith))) in
+          (λ s from to. let was = state_before s (omega arith) in let is = state_after s (omega arith) in λ i. counts_from m.problem s (suc k) (counters_of (was i)) (is i)) in
           ap (λ (rows : List (List StepCounts)). rows ++ row_from m.problem (suc k) places before.stores after.stores n ∷ []) (done.rows ∙ sym earlier)
-          ∙ ap (λ (r : List StepCounts). map (row stores_after) (range_with_len 1 k) ++ r ∷ []) last
-          ∙ sym (map_range_more (row stores_after) k)
+          ∙ ap (λ (r : List StepCounts). map now (range_with_len 1 k) ++ r ∷ []) last
+          ∙ sym (map_range_more now k)
 
       -- one step more of a run
       pub done_on : (new : Reported) → new ≡ record report { steps = report.steps ++ row_from m.problem (suc k) places before.stores after.stores n ∷ [] }

@@ -171,32 +171,28 @@ module _ (leave : OffersLeave) (keep : ReplaysKeepStates) (dump : OrdersDumpTheO
         },
       )
 
-  -- one step of a run
-  step_of : (q : Dumping) (x : Amounts) (steps : ℕ) (offers : ℕ → ℕ → List (List Event)) (gave : ℕ → ℕ → List Stored) (states : ℕ → ℕ → State)
-      → IsRunOf q x steps offers gave states → (s t : ℕ) → s < length q.rows → 1 ≤ t → t ≤ steps → Stands q x s (t - 1) (states s (t - 1))
-      → Stands q x s t (states s t) × AsPlanned q x s t (states s (t - 1)) (states s t)
-  step_of q x steps offers gave states is s t store first last stood =
-      stands_more q x s t (states s (t - 1)) (states s t) (count_of (offers s t)) first stood (is.came s t store first last)
-      (run_leaves (states s (t - 1)) (states s t) (offers s t) (x s t) (gave s t) stood.sound (is.timed s t store first last) (is.runs s t store first last))
+  module _ (q : Dumping) (x : Amounts) (steps : ℕ) (offers : ℕ → ℕ → List (List Event)) (gave : ℕ → ℕ → List Stored) (states : ℕ → ℕ → State)
+      (is : IsRunOf q x steps offers gave states) where
+    -- one step of a run
+    step_of : (s t : ℕ) → s < length q.rows → 1 ≤ t → t ≤ steps → Stands q x s (t - 1) (states s (t - 1))
+        → Stands q x s t (states s t) × AsPlanned q x s t (states s (t - 1)) (states s t)
+    step_of s t store first last stood =
+        stands_more q x s t (states s (t - 1)) (states s t) (count_of (offers s t)) first stood (is.came s t store first last)
+        (run_leaves (states s (t - 1)) (states s t) (offers s t) (x s t) (gave s t) stood.sound (is.timed s t store first last) (is.runs s t store first last))
 
-  -- all steps
-  pub stands : (q : Dumping) (x : Amounts) (steps : ℕ) (offers : ℕ → ℕ → List (List Event)) (gave : ℕ → ℕ → List Stored) (states : ℕ → ℕ → State)
-      → IsRunOf q x steps offers gave states → (s n : ℕ) → s < length q.rows → n ≤ steps → Stands q x s n (states s n)
-  stands q x steps offers gave states is s zero store within =
-      let ready = is.ready s store in
-      record { sound = ready.sound; sized = ready.sized; holds = ready.holds ∙ sym (left_start q x s) }
-  stands q x steps offers gave states is s (suc n) store within =
-      let last : suc n - 1 ≡ n = omega arith in
-      let before = stands q x steps offers gave states is s n store (omega arith) in
-      let stood = subst (λ (m : ℕ). Stands q x s m (states s m)) (sym last) before in
-      (step_of q x steps offers gave states is s (suc n) store (omega arith) within stood).0
+    -- all steps
+    pub stands : (s n : ℕ) → s < length q.rows → n ≤ steps → Stands q x s n (states s n)
+    stands s zero store within =
+        let ready = is.ready s store in
+        record { sound = ready.sound; sized = ready.sized; holds = ready.holds ∙ sym (left_start q x s) }
+    stands s (suc n) store within =
+        let last : n ≡ suc n - 1 = omega arith in
+        let stood = subst (λ (m : ℕ). Stands q x s m (states s m)) last (stands s n store (omega arith)) in
+        (step_of s (suc n) store (omega arith) within stood).0
 
-  -- in each store and step a run has the numbers of its plan
-  pub as_planned : (q : Dumping) (x : Amounts) (steps : ℕ) (offers : ℕ → ℕ → List (List Event)) (gave : ℕ → ℕ → List Stored) (states : ℕ → ℕ → State)
-      → IsRunOf q x steps offers gave states → AtEach (length q.rows) steps (λ s t. AsPlanned q x s t (states s (t - 1)) (states s t))
-  as_planned q x steps offers gave states is s t store first last =
-      let stood = stands q x steps offers gave states is s (t - 1) store (omega arith) in
-      (step_of q x steps offers gave states is s t store first last stood).1
+    -- in each store and step a run has the numbers of its plan
+    pub as_planned : AtEach (length q.rows) steps (λ s t. AsPlanned q x s t (states s (t - 1)) (states s t))
+    as_planned s t store first last = (step_of s t store first last (stands s (t - 1) store (omega arith))).1
 
 -- what grows by these terms, step by step
 pub grown : (f g : ℕ → ℕ) (n : ℕ) → ((t : ℕ) → 1 ≤ t → t ≤ n → f t ≡ f (t - 1) + g t) → f n ≡ f 0 + sum_by g (range_with_len 1 n)

@@ -5,8 +5,10 @@ use Rattle.std.specs.List.{AllZip}
 use Rattle.std.proofs.lemmas.Bool.{cases_lt, cond_both}
 use Rattle.std.proofs.lemmas.List.{length-map, get_or-map}
 use Rattle.std.proofs.lemmas.List.Elements.{All-nil, All-cons, All-head, All-tail, All-map}
-use Rattle.std.proofs.lemmas.List.Sums.{length-filter, count_by-le-length, sum_by-cons}
+use Rattle.std.proofs.lemmas.List.Sums.{sum_by-le}
 use Rattle.mm_base.proofs.Pairs.{All-front}
+use Rattle.mm_base.proofs.Sums.{sum_by-map}
+use Rattle.mm_record.proofs.Taking.{filter_fewer}
 use Rattle.mm_packet.specs.Packet.{SpacePacket}
 use Rattle.mm_store.specs.Content.{clock_end}
 use Rattle.mm_desk.specs.declared.entry.Entry.{Entry}
@@ -200,16 +202,15 @@ AllFar bound stores = All (λ h. IsFar bound h.state) stores
 
 -- no more packets are offered than are given
 offers_few : (e : RecordingContext) (k most : ℕ) (gave : List (List SpacePacket)) → All (λ ps. length ps ≤ most) gave → count_of (map (offers e k) gave) ≤ length gave * most
-offers_few e k most [] all = omega arith
-offers_few e k most (g ∷ gave) all =
-    let here : length g ≤ most = All-head (λ (ps : List SpacePacket). length ps ≤ most) g gave all in
-    let rest = offers_few e k most gave (All-tail (λ (ps : List SpacePacket). length ps ≤ most) g gave all) in
-    let kept = filter (is_routed e.routes (id_at e.ids k)) g in
-    let one : length (offers e k g) ≡ length kept = length-map kept (λ (p : SpacePacket). Offer e.now p) in
-    let few : length kept ≤ length g =
-    subst (λ (n : ℕ). n ≤ length g) (sym (length-filter (is_routed e.routes (id_at e.ids k)) g)) (count_by-le-length (is_routed e.routes (id_at e.ids k)) g) in
-    let all_of : count_of (map (offers e k) (g ∷ gave)) ≡ length (offers e k g) + count_of (map (offers e k) gave) = sum_by-cons (λ (events : List Event). length events) (offers e k g) (map (offers e k) gave) in
-    grind (arith, here, rest, one, few, all_of)
+offers_few e k most gave all =
+    subst (λ (n : ℕ). n ≤ length gave * most) (sym (sum_by-map (λ (events : List Event). length events) (offers e k) gave)) (sum_by-le (λ (g : List SpacePacket). length (offers e k g)) most gave each)
+  where
+    each : All (λ g. length (offers e k g) ≤ most) gave
+    each i d inside =
+        let kept = filter (is_routed e.routes (id_at e.ids k)) (get_or gave i d) in
+        let few : length kept ≤ length (get_or gave i d) = filter_fewer (is_routed e.routes (id_at e.ids k)) (get_or gave i d) in
+        let most_here : length (get_or gave i d) ≤ most = all i d inside in
+        omega (arith, length-map kept (λ (p : SpacePacket). Offer e.now p), few, most_here)
 
 -- what a step keeps of each store
 module _ {S L : Type 0} (gives : S → ℕ → List SpacePacket) (sent : L → List Sent) (failed : L → ℕ) (law : StepRunsKeepStores) (e : RecordingContext) (orders : List Order)
