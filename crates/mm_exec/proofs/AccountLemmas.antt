@@ -19,14 +19,12 @@ use Rattle.mm_desk.specs.Fates.{packets_of, accepted, taken, given_up, deleted, 
 use Rattle.mm_desk.specs.Laws.{ReplaysKeepStates, OffersLeave, OrdersDumpTheOldest}
 use Rattle.mm_desk.specs.Machine.{State, IsState, step}
 use Rattle.mm_desk.specs.Offers.{IsTaken, AreTaken, asked, IsShuffleOfEvents}
-use Rattle.mm_desk.specs.Orders.{Dumps}
-use Rattle.mm_desk.specs.Runs.{replay, IsLegal, IsRun}
+use Rattle.mm_desk.specs.Runs.{replay, IsLegal}
 use Rattle.mm_desk.specs.Shuffles.{AreBelow, part}
 use Rattle.mm_desk.proofs.FateLemmas.{joined}
 use Rattle.mm_exec.specs.Accounts.{packet_in, packets_in, packets_offered, IsAccounted}
 use Rattle.mm_exec.specs.Laws.{IsRunOf}
-use Rattle.mm_exec.specs.StepRuns.{IsDumpOf, IsStepRun, AreTimed}
-use Rattle.mm_exec.proofs.Replays.{IsLegal-parts, replay-append, timed_log}
+use Rattle.mm_exec.specs.StepRuns.{IsStepRun, AreTimed}
 use Rattle.mm_exec.proofs.Stepping.{halves, stands}
 
 -- what an offer that is taken takes and deletes

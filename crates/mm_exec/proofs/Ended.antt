@@ -15,11 +15,10 @@ use Rattle.mm_report.specs.declared.counts.StepCounts.{StepCounts}
 use Rattle.mm_report.specs.Report.{Reported, totals_of}
 use Rattle.mm_exec.specs.declared.course.RunStopped.{RunStopped}
 use Rattle.mm_exec.specs.declared.step.StepBroken.{StepBroken}
-use Rattle.mm_exec.specs.Readiness.{RunStart, run_start, Stops}
+use Rattle.mm_exec.specs.Readiness.{RunStart, run_start}
 use Rattle.mm_exec.specs.RunInput.{RunInput, as_came}
 use Rattle.mm_exec.specs.RunState.{RunState}
 use Rattle.mm_exec.specs.Numbers.{report_of, rows_of, planned_counts}
-use Rattle.mm_exec.specs.Step.{NeverRefused}
 use Rattle.mm_exec.specs.Ending.{run_start_of, HasRun, IsRefusal, IsStopped}
 use Rattle.mm_exec.proofs.Parts.{same_ids}
 

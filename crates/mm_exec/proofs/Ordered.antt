@@ -1,5 +1,5 @@
 -- What the orders of a step want of each store.
-use Rattle.std.proofs.Common.{◌≡◌, ◌≢◌, ◌⊎◌, inl, inr, ℕ, ◌<◌, ◌≤◌, Bool, true, false, cond, ltb, eqb, List, [], ◌∷◌, length, map, All, refl, sym, subst, ◌∙◌, arith, zero, suc, ◌+◌, ◌++◌, ap, add-one, length-append}
+use Rattle.std.proofs.Common.{◌≡◌, ◌≢◌, ◌⊎◌, inl, inr, ℕ, ◌<◌, ◌≤◌, Bool, true, false, cond, ltb, eqb, List, [], ◌∷◌, length, map, All, refl, sym, subst, ◌∙◌, arith, ◌+◌, ◌++◌, ap, add-one}
 use Rattle.std.specs.Prelude.{filter, slice_index, AllPairs, nat_lt}
 use Rattle.std.specs.List.{sum_by, range_with_len}
 use Rattle.std.proofs.lemmas.Bool.{lt-ltb, le-ltb, ltb-true, ne_eqb, eq-eqb, cases_lt}

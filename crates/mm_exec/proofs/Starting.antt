@@ -1,5 +1,5 @@
 -- How a run begins, and what is known of it on the way.
-use Rattle.std.proofs.Common.{◌≡◌, ◌≢◌, ◌⊎◌, inl, inr, ℕ, suc, ◌+◌, ◌-◌, ◌*◌, ◌<◌, ◌≤◌, ◌^◌, Bool, true, false, List, [], ◌∷◌, ◌++◌, length, map, take, get_or, All, refl, sym, subst, ap, ◌∙◌, arith}
+use Rattle.std.proofs.Common.{◌≡◌, ◌≢◌, ℕ, suc, ◌+◌, ◌-◌, ◌*◌, ◌<◌, ◌≤◌, ◌^◌, Bool, true, false, List, [], ◌∷◌, ◌++◌, length, map, take, get_or, All, refl, sym, subst, ap, ◌∙◌, arith}
 use Rattle.std.specs.Prelude.{slice_index, slice_index_or, bytes_eq, slice_get, Option, Some, None, is_some, not, ◌&&◌, IsTrue, vec_capacity}
 use Rattle.std.specs.List.{list_any, position_or_len}
 use Rattle.std.proofs.lemmas.Bool.{eqb-true, eqb-false, ltb-false, or_parts}
@@ -21,10 +21,10 @@ use Rattle.mm_desk.specs.declared.held.Held.{Held}
 use Rattle.mm_desk.specs.declared.state.Retrieval.{Retrieval}
 use Rattle.mm_desk.specs.Machine.{State, IsState}
 use Rattle.mm_desk.specs.Runs.{opening_at, blank}
-use Rattle.mm_shared.specs.Stores.{labels_of, states_of, AreNamed}
+use Rattle.mm_shared.specs.Stores.{labels_of, states_of}
 use Rattle.mm_memory.specs.Holdings.{AreHeld, has_id, store_of}
 use Rattle.mm_record.specs.Causes.{is_clock_late, is_late}
-use Rattle.mm_record.specs.Steps.{given_in, latest, AreFew, TakesAll}
+use Rattle.mm_record.specs.Steps.{latest, AreFew, TakesAll}
 use Rattle.mm_dump.specs.declared.order.Order.{Order}
 use Rattle.mm_dump.specs.Dumped.{times, places_of}
 use Rattle.mm_dump.specs.Laws.{BrokenOrdersChangeNothing}
@@ -54,7 +54,7 @@ use Rattle.mm_exec.proofs.Halts.{failed_link}
 use Rattle.mm_exec.proofs.Drawing.{taken_fits}
 use Rattle.mm_exec.proofs.Ordered.{named_once, may_order, wanted_in_all, orders_are}
 use Rattle.mm_exec.proofs.StepMore.{Footing, all_same, done_on}
-use Rattle.mm_exec.proofs.Parts.{as_many, same_ids, as_many_sources, stopped_of}
+use Rattle.mm_exec.proofs.Parts.{as_many, as_many_sources, stopped_of}
 use Rattle.mm_exec.proofs.Placing.{no_held, places_differ, places_cut}
 use Rattle.mm_exec.proofs.StoresReady.{AllFar, state_holds, far_after, takes_all}
 

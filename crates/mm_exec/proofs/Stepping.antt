@@ -1,8 +1,7 @@
 -- What step runs do to the stores, step by step, and what the stores lose over all steps.
-use Rattle.std.proofs.Common.{◌≡◌, ◌⊎◌, inl, inr, ℕ, zero, suc, ◌+◌, ◌-◌, ◌<◌, ◌≤◌, ◌^◌, min, max, Bool, true, false, cond, ltb, List, [], ◌∷◌, ◌++◌, length, All, refl, sym, ap, subst, ◌∙◌, arith, length-append, add-one}
-use Rattle.std.specs.Prelude.{None, Ok, Some}
+use Rattle.std.proofs.Common.{◌≡◌, ◌⊎◌, inl, inr, ℕ, zero, suc, ◌+◌, ◌-◌, ◌<◌, ◌≤◌, ◌^◌, min, max, List, [], ◌∷◌, ◌++◌, length, All, refl, sym, ap, subst, ◌∙◌, arith, length-append, add-one}
 use Rattle.std.proofs.lemmas.Bool.{cases_lt}
-use Rattle.std.proofs.lemmas.List.Elements.{All-nil, All-cons, All-head, All-tail, All-append, All-weaker}
+use Rattle.std.proofs.lemmas.List.Elements.{All-weaker}
 use Rattle.mm_base.proofs.Pairs.{All-back}
 use Rattle.mm_problem.specs.Dumping.{Dumping, size, arrivals, stores}
 use Rattle.mm_plan.specs.Volumes.{Amounts, left, written, lost, store_loss, loss}
@@ -12,11 +11,10 @@ use Rattle.mm_store.specs.Content.{IsRising}
 use Rattle.mm_store.proofs.ContentLemmas.{IsRising-rest}
 use Rattle.mm_desk.specs.declared.entry.Entry.{Entry}
 use Rattle.mm_desk.specs.declared.event.Event.{Event}
-use Rattle.mm_desk.specs.declared.event.Event.TheVariants.{Next, Abort, Delete}
 use Rattle.mm_desk.specs.Laws.{HasTimes, ReplaysKeepStates, OffersLeave, OrdersDumpTheOldest}
 use Rattle.mm_desk.specs.Machine.{State, IsState}
 use Rattle.mm_desk.specs.Offers.{Leaves, count_of}
-use Rattle.mm_desk.specs.Orders.{begun, given, ended, last_time, removed, IsOrderOf, Dumps}
+use Rattle.mm_desk.specs.Orders.{Dumps}
 use Rattle.mm_desk.specs.Runs.{IsLegal, IsRun, replay}
 use Rattle.mm_desk.proofs.Logs.{count_of_shuffle}
 use Rattle.mm_exec.specs.StepRuns.{IsDumpOf, IsStepRun, AreTimed, IsBy, AreBy}
@@ -27,7 +25,6 @@ use Rattle.mm_exec.proofs.Replays.{IsLegal-parts, replay-append, shuffled, timed
 use Rattle.std.specs.List.{sum_by, range_with_len}
 use Rattle.mm_base.proofs.RangeSums.{sum_by_range_more, sum_by_range_same}
 use Rattle.mm_base.proofs.Sums.{sum_by-add}
-use Rattle.mm_desk.specs.declared.reply.Reply.TheVariants as reply
 
 -- times rise in the back of a list in which they rise
 rising_back : (gave rest : List Stored) → IsRising (gave ++ rest) → IsRising rest
