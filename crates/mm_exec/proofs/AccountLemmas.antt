@@ -19,15 +19,13 @@ use Rattle.mm_desk.specs.Fates.{packets_of, accepted, taken, given_up, deleted, 
 use Rattle.mm_desk.specs.Laws.{ReplaysKeepStates, OffersLeave, OrdersDumpTheOldest}
 use Rattle.mm_desk.specs.Machine.{State, IsState, step}
 use Rattle.mm_desk.specs.Offers.{IsTaken, AreTaken, asked, IsShuffleOfEvents}
-use Rattle.mm_desk.specs.Orders.{Dumps}
-use Rattle.mm_desk.specs.Runs.{replay, IsLegal, IsRun}
+use Rattle.mm_desk.specs.Runs.{replay, IsLegal}
 use Rattle.mm_desk.specs.Shuffles.{AreBelow, part}
 use Rattle.mm_desk.proofs.FateLemmas.{joined}
 use Rattle.mm_exec.specs.Accounts.{packet_in, packets_in, packets_offered, IsAccounted}
 use Rattle.mm_exec.specs.Laws.{IsRunOf}
-use Rattle.mm_exec.specs.StepRuns.{IsDumpOf, IsStepRun, AreTimed}
-use Rattle.mm_exec.proofs.Replays.{IsLegal-parts, replay-append, timed_log}
-use Rattle.mm_exec.proofs.Stepping.{stands}
+use Rattle.mm_exec.specs.StepRuns.{IsStepRun, AreTimed}
+use Rattle.mm_exec.proofs.Stepping.{halves, stands}
 
 -- what an offer that is taken takes and deletes
 record TakesAlone (s : State) (event : Event) : Type 0 where
@@ -142,58 +140,32 @@ record StepAccounts (s t : State) (came : List SpacePacket) (gave : List Stored)
   rising : IsRising gave
 
 module _ (conserve : ConservePackets) (leave : OffersLeave) (keep : ReplaysKeepStates) (dump : OrdersDumpTheOldest) where
-  -- what a dump gives is what stood first
-  record Gives (mid t : State) (gave : List Stored) : Type 0 where
-    content : mid.store.content ≡ gave ++ t.store.content
-    lost : t.lost ≡ mid.lost
-
-  dump_gives : (mid t : State) (wanted : ℕ) (gave : List Stored) (calls : List Entry) → IsState mid → IsDumpOf wanted gave calls → IsRun mid calls t → Gives mid t gave
-  dump_gives mid t wanted gave calls sound is run = by_wanted (cases_lt 0 wanted)
-    where
-      by_wanted : (0 < wanted) ⊎ (wanted ≤ 0) → Gives mid t gave
-      by_wanted (inl some) =
-          let order = is.whole (omega arith) in
-          let dumps : Dumps mid t wanted gave = dump mid t order.0 wanted gave calls sound order.1 run in
-          record { content = dumps.oldest; lost = ap (λ (u : State). u.lost) dumps.others }
-      by_wanted (inr none) =
-          let zero_wanted : wanted ≡ 0 = omega arith in
-          let nothing = is.none zero_wanted in
-          let same : t ≡ mid = run.leaves ∙ ap (replay mid) nothing.1 in
-          record { content = ap (λ (u : State). u.store.content) (sym same) ∙ ap (λ l. l ++ t.store.content) (sym nothing.0); lost = ap (λ (u : State). u.lost) same }
-
   -- times rise in the front of a list in which they rise
   rising_front : (gave rest : List Stored) → IsRising (gave ++ rest) → IsRising gave
   rising_front gave rest all i j d before within =
-      let long = length-append gave rest in
-      let pair = all i j d before (omega arith) in
-      subst (λ (p : Stored). p.time < (get_or gave j d).time) (front i (omega arith)) (subst (λ (q : Stored). (get_or (gave ++ rest) i d).time < q.time) (front j within) pair)
-    where
-      front : (k : ℕ) → k < length gave → get_or (gave ++ rest) k d ≡ get_or gave k d
-      front k inside = get_or_append_left gave rest d k inside
+      let first : i < length gave = omega arith in
+      rw (← get_or_append_left gave rest d i first, ← get_or_append_left gave rest d j within) (all i j d before (omega (arith, length-append gave rest)))
 
   step_accounts : (s t : State) (offers : List (List Event)) (wanted : ℕ) (gave : List Stored) → IsState s → AreTimed offers
       → IsStepRun offers wanted gave s t → StepAccounts s t (packets_offered offers) gave
   step_accounts s t offers wanted gave sound timed is =
       let mid = replay s is.recorded in
-      let legal = IsLegal-parts s is.recorded is.dumped is.run.legal in
-      let second : IsRun mid is.dumped t = record { legal = legal.1; leaves = is.run.leaves ∙ replay-append s is.recorded is.dumped } in
-      let takes = takes_all s is.recorded legal.0 is.taken in
+      let parts = halves leave keep dump s t offers wanted gave sound timed is in
+      let takes = takes_all s is.recorded parts.legal is.taken in
       let log = conserve s (asked is.recorded) in
-      let stood : IsState mid = keep s is.recorded sound (timed_log offers is.recorded is.shuffle timed) in
-      let gives = dump_gives mid t wanted gave is.dumped stood is.dump second in
       let left = over given_up s (asked is.recorded) in
       let held : IsPermutation (packets_of s.store.content ++ packets_in (asked is.recorded)) (packets_of mid.store.content ++ left) =
       subst (λ l. IsPermutation (packets_of s.store.content ++ l) (packets_of mid.store.content ++ left)) takes.takes
       (subst (λ (u : State). IsPermutation (packets_of s.store.content ++ over taken s (asked is.recorded)) (packets_of u.store.content ++ left)) takes.leaves
       (subst (λ l. IsPermutation (packets_of s.store.content ++ over taken s (asked is.recorded)) (l ++ packets_of (after s (asked is.recorded)).store.content ++ left)) takes.deletes log.packets)) in
       let split : packets_of mid.store.content ≡ packets_of gave ++ packets_of t.store.content =
-      ap packets_of gives.content ∙ map-append (λ (p : Stored). p.packet) gave t.store.content in
+      ap packets_of parts.dumps.oldest ∙ map-append (λ (p : Stored). p.packet) gave t.store.content in
       record {
         lost = left;
         packets = subst (λ l. IsPermutation (packets_of s.store.content ++ packets_offered offers) (l ++ left)) split
             (IsPermutation-trans _ _ _ (IsPermutation-append_right (packets_of s.store.content) _ _ (shuffled_packets offers is.recorded is.shuffle)) held);
-        counted = gives.lost ∙ ap (λ (u : State). u.lost) (sym takes.leaves) ∙ log.lost;
-        rising = rising_front gave t.store.content (subst IsRising gives.content stood.store.rising);
+        counted = ap (λ (u : State). u.lost) parts.dumps.others ∙ ap (λ (u : State). u.lost) (sym takes.leaves) ∙ log.lost;
+        rising = rising_front gave t.store.content (subst IsRising parts.dumps.oldest parts.stood.store.rising);
       }
 
   pub accounted : (q : Dumping) (x : Amounts) (steps : ℕ) (offers : ℕ → ℕ → List (List Event)) (gave : ℕ → ℕ → List Stored) (states : ℕ → ℕ → State)

@@ -1,19 +1,15 @@
 -- What comes in a run, in place of the forecast.
-use Rattle.std.proofs.Common.{◌≡◌, ℕ, ◌+◌, ◌-◌, ◌*◌, ◌<◌, ◌≤◌, ◌^◌, List, [], ◌∷◌, length, map, take, get_or, All, refl, sym, ap, ◌∙◌, arith, length-append}
+use Rattle.std.proofs.Common.{◌≡◌, ℕ, ◌+◌, ◌-◌, ◌*◌, ◌<◌, ◌≤◌, ◌^◌, List, [], ◌∷◌, length, map, take, get_or, refl, sym, ap, ◌∙◌, arith, length-append}
 use Rattle.std.specs.Prelude.{flat_map}
 use Rattle.std.specs.List.{range_with_len}
 use Rattle.std.proofs.lemmas.List.{same_lists, length-take-le}
 use Rattle.std.proofs.lemmas.List.Concat.{get_or-flat_map}
 use Rattle.std.proofs.lemmas.List.FromFn.{get_or-range_with_len, get_or-map-range_with_len, length-range_with_len, length-map-range_with_len}
-use Rattle.std.proofs.lemmas.List.Elements.{All-nil, All-cons}
-use Rattle.mm_packet.specs.Packet.{SpacePacket}
 use Rattle.mm_problem.specs.Dumping.{arrivals, stores, steps}
-use Rattle.mm_desk.specs.declared.event.Event.{Event}
-use Rattle.mm_desk.specs.declared.event.Event.TheVariants.{Offer}
-use Rattle.mm_desk.specs.Laws.{HasTimes}
-use Rattle.mm_record.specs.Recorded.{RecordingContext, offers}
 use Rattle.mm_exec.specs.StepRuns.{AreTimed}
 use Rattle.mm_exec.specs.RunInput.{RunInput, step_of, offered, came, as_came}
+use Rattle.mm_exec.proofs.Stepping.{timed_by}
+use Rattle.mm_exec.proofs.StoresReady.{all_by}
 
 -- rows of one length, one after another
 length-rows : {X : Type 0} (row : ℕ → List X) (n : ℕ) (xs : List ℕ) → ((t : ℕ) → length (row t) ≡ n) → length (flat_map row xs) ≡ length xs * n
@@ -48,23 +44,6 @@ came_at m s t store first last =
     sym (ap (λ (k : ℕ). get_or (flat_map row (steps m.problem)) k 0) place) ∙ found ∙ ap (λ (u : ℕ). get_or (row u) s 0) step
     ∙ get_or-map-range_with_len (λ r. came m r t) 0 n s s 0 store (omega arith)
 
--- offers of packets at a moment that fits
-pub timed_list : (now : ℕ) (ps : List SpacePacket) → now < 2 ^ 64 → All HasTimes (map (λ p. Offer now p) ps)
-timed_list now [] fits = All-nil HasTimes
-timed_list now (p ∷ ps) fits = All-cons HasTimes (Offer now p) (map (λ p. Offer now p) ps) fits (timed_list now ps fits)
-
 -- what is offered in a run has moments that fit
-timed_lists : (e : RecordingContext) (s t : ℕ) (givers : List (ℕ → List SpacePacket)) → e.now < 2 ^ 64 → AreTimed (map (λ gives. offers e s (gives t)) givers)
-timed_lists e s t [] fits = All-nil (λ (list : List Event). All HasTimes list)
-timed_lists e s t (g ∷ gs) fits =
-    All-cons (λ (list : List Event). All HasTimes list) (offers e s (g t)) (map (λ gives. offers e s (gives t)) gs)
-    (timed_list e.now _ fits) (timed_lists e s t gs fits)
-
 pub timed_offers : (m : RunInput) (s t : ℕ) → m.base + t < 2 ^ 64 → AreTimed (offered m s t)
-timed_offers m s t fits = timed_lists (step_of m t) s t m.gives fits
-
--- offers at a moment that fits have moments that fit
-pub timed_offers_of : (e : RecordingContext) (k : ℕ) (gives : List (List SpacePacket)) → e.now < 2 ^ 64 → AreTimed (map (offers e k) gives)
-timed_offers_of e k [] fits = All-nil (λ (list : List Event). All HasTimes list)
-timed_offers_of e k (g ∷ gives) fits =
-    All-cons (λ (list : List Event). All HasTimes list) (offers e k g) (map (offers e k) gives) (timed_list e.now _ fits) (timed_offers_of e k gives fits)
+timed_offers m s t fits = timed_by (m.base + t) (offered m s t) fits (all_by (step_of m t) s (map (λ gives. gives t) m.gives))

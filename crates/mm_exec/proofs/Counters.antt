@@ -1,19 +1,21 @@
 -- What the stores' counters rise by over a step and over a run, beside the rows of the report and their totals.
-use Rattle.std.proofs.Common.{◌≡◌, ℕ, ◌+◌, ◌-◌, ◌<◌, ◌≤◌, List, [], ◌∷◌, ◌++◌, length, sym, ap, ◌∙◌, arith, take}
+use Rattle.std.proofs.Common.{◌≡◌, ℕ, ◌+◌, ◌-◌, ◌<◌, ◌≤◌, List, length, map, refl, sym, ap, ◌∙◌, arith, take}
 use Rattle.std.specs.Prelude.{sum_by, slice_index}
 use Rattle.std.specs.List.{range_with_len}
-use Rattle.std.proofs.lemmas.List.Sums.{sum_by-append}
-use Rattle.mm_base.proofs.Sums.{sum_by-add, sum_by-map}
+use Rattle.mm_base.proofs.Sums.{sum_by-add, sum_by-map, sum_by-swap}
 use Rattle.mm_base.proofs.RangeSums.{sum_by_range_same}
-use Rattle.mm_problem.specs.Dumping.{stores, Dumping}
+use Rattle.mm_problem.specs.Dumping.{Dumping, arrivals, stores}
+use Rattle.mm_plan.specs.Volumes.{Amounts}
 use Rattle.mm_desk.specs.declared.held.Held.{Held}
 use Rattle.mm_desk.specs.Machine.{State}
 use Rattle.mm_desk.specs.Runs.{opening_at}
 use Rattle.mm_shared.specs.Stores.{states_of}
 use Rattle.mm_report.specs.declared.counts.StepCounts.{StepCounts}
-use Rattle.mm_exec.specs.RunInput.{RunInput, place_in_memory, store_state}
+use Rattle.mm_exec.specs.AsPlanned.{AtEach, AsPlanned}
+use Rattle.mm_exec.specs.RunInput.{RunInput, store_state}
 use Rattle.mm_record.specs.Counters.{counters_of}
-use Rattle.mm_exec.specs.Numbers.{counts_from, row_from, counted, AreCounters, AreStepCounts}
+use Rattle.mm_exec.specs.Numbers.{counts_from, planned_counts, row_from, rows_by_counters, counted, AreByCounters, AreCounters, AreStepCounts}
+use Rattle.mm_exec.proofs.Stepping.{grown}
 use Rattle.std.proofs.lemmas.List.{same_lists, length-take-le, get_or-take}
 use Rattle.std.proofs.lemmas.List.FromFn.{get_or-map-range_with_len, length-map-range_with_len}
 use Rattle.mm_record.specs.declared.counters.Counters.{Counters}
@@ -36,41 +38,47 @@ row_taken q t places before after counters counts n counted told fits =
     ∙ ap (λ (m : Counters). counts_from q k t m (opening_at (states_of after) (slice_index places k))) (counted k no_counters inside)
     ∙ sym (get_or-map-range_with_len one 0 n k k d inside (omega arith)))
 
--- sums whose terms rise, rise by the sum of what the terms rise by
-sums_rise : (f g : ℕ → ℕ) (n : ℕ) → ((s : ℕ) → s < n → f s ≤ g s)
-    → sum_by g (range_with_len 0 n) ≡ sum_by f (range_with_len 0 n) + sum_by (λ s. g s - f s) (range_with_len 0 n)
-sums_rise f g n rise =
-    sum_by_range_same g (λ s. f s + (g s - f s)) 0 n (λ s from to. omega (arith, rise s (omega arith)))
-    ∙ sum_by-add f (λ s. g s - f s) (range_with_len 0 n)
+-- what a counter rose by
+less_of : (after before rose : ℕ) → after ≡ before + rose → after - before ≡ rose
+less_of after before rose same = omega arith
 
--- no step was reported yet
-pub counted_first : (m : RunInput) (counter : State → ℕ) → counted m counter m.memory.stores ≡ counted m counter m.memory.stores + 0
-counted_first m counter = omega arith
+-- what a step brings to a store is what the plan says
+pub counts_planned : (q came : Dumping) (x : Amounts) (s t : ℕ) (u v : State) → AsPlanned came x s t u v → counts_from q s t (counters_of u) v ≡ planned_counts q came x s t
+counts_planned q came x s t u v planned =
+    let arrived = less_of _ _ _ planned.takes in
+    let lost_is = less_of _ _ _ planned.loses in
+    let dumped = less_of _ _ _ planned.dumps in
+    let held = planned.holds in
+    λ i. record { forecast = arrivals q s t; arrived = arrived i; lost = lost_is i; dumped = dumped i; held = held i }
 
--- one row more, for a counter and what a step brings to it
-module _ (m : RunInput) (places : List ℕ) (t : ℕ) (before after : List Held) (counter : State → ℕ) (part : StepCounts → ℕ)
-    (parts : (s : ℕ) (u v : State) → part (counts_from m.problem s t (counters_of u) v) ≡ counter v - counter u)
-    (stands : (s : ℕ) → s < length m.problem.rows → slice_index places s ≡ place_in_memory m s)
-    (rise : (s : ℕ) → s < length m.problem.rows → counter (store_state m before s) ≤ counter (store_state m after s)) where
-  abbrev here : ℕ → StepCounts
-  here s = counts_from m.problem s t (counters_of (opening_at (states_of before) (slice_index places s))) (opening_at (states_of after) (slice_index places s))
+-- the totals of the first rows are what the stores' counters rose by
+module _ (m : RunInput) (held : ℕ → List Held) (steps : ℕ) (first : held 0 ≡ m.memory.stores) where
+  total_of : (counter : State → ℕ) (part : StepCounts → ℕ) → ((s t : ℕ) (u v : State) → part (counts_from m.problem s t (counters_of u) v) ≡ counter v - counter u)
+      → AtEach (length m.problem.rows) steps (λ s t. counter (store_state m (held (t - 1)) s) ≤ counter (store_state m (held t) s))
+      → counted m counter (held steps) ≡ counted m counter m.memory.stores + sum_by (sum_by part) (rows_by_counters m held steps)
+  total_of counter part parts rise =
+      let n = length m.problem.rows in
+      let at = λ (s t : ℕ). counter (store_state m (held t) s) in
+      let rose = λ (s t : ℕ). at s t - at s (t - 1) in
+      let here = λ (t s : ℕ). counts_from m.problem s t (counters_of (store_state m (held (t - 1)) s)) (store_state m (held t) s) in
+      let row = λ (t : ℕ). map (here t) (stores m.problem) in
+      sum_by_range_same (λ s. at s steps) (λ s. at s 0 + sum_by (rose s) (range_with_len 1 steps)) 0 n
+      (λ s from to. grown (at s) (rose s) steps (λ t low high. let up = rise s t (omega arith) low high in omega (arith, up)))
+      ∙ sum_by-add (λ s. at s 0) (λ s. sum_by (rose s) (range_with_len 1 steps)) (stores m.problem)
+      ∙ ap (λ (k : ℕ). counted m counter (held 0) + k)
+      (sum_by-swap rose (stores m.problem) (range_with_len 1 steps)
+      ∙ sum_by_range_same (λ t. sum_by (λ s. rose s t) (stores m.problem)) (λ t. sum_by part (row t)) 1 steps
+      (λ t from to. sum_by_range_same (λ s. rose s t) (λ s. part (here t s)) 0 n (λ s low high. sym (parts s t _ _)) ∙ sym (sum_by-map part (here t) (stores m.problem)))
+      ∙ sym (sum_by-map (sum_by part) row (range_with_len 1 steps)))
+      ∙ ap (λ (h : List Held). counted m counter h + sum_by (sum_by part) (map row (range_with_len 1 steps))) first
 
-  row_part : sum_by part (row_from m.problem t places before after (length m.problem.rows)) ≡ sum_by (λ s. counter (store_state m after s) - counter (store_state m before s)) (stores m.problem)
-  row_part =
-      sum_by-map part here (range_with_len 0 (length m.problem.rows))
-      ∙ sum_by_range_same (λ s. part (here s)) (λ s. counter (store_state m after s) - counter (store_state m before s)) 0 (length m.problem.rows)
-      (λ s from to.
-      let is = stands s (omega arith) in
-      parts s (opening_at (states_of before) (slice_index places s)) (opening_at (states_of after) (slice_index places s))
-      ∙ ap (λ (k : ℕ). counter (opening_at (states_of after) k) - counter (opening_at (states_of before) k)) is)
-
-  pub counted_more : (first : ℕ) (rows : List (List StepCounts)) → counted m counter before ≡ first + sum_by (sum_by part) rows
-      → counted m counter after ≡ first + sum_by (sum_by part) (rows ++ row_from m.problem t places before after (length m.problem.rows) ∷ [])
-  counted_more first rows so_far =
-      let row = row_from m.problem t places before after (length m.problem.rows) in
-      let one : sum_by (sum_by part) (row ∷ []) ≡ sum_by part row = omega arith in
-      let all : sum_by (sum_by part) (rows ++ row ∷ []) ≡ sum_by (sum_by part) rows + sum_by part row = sum_by-append (sum_by part) rows (row ∷ []) ∙ ap (λ (k : ℕ). sum_by (sum_by part) rows + k) one in
-      let more : counted m counter after ≡ counted m counter before + sum_by part row =
-      sums_rise (λ s. counter (store_state m before s)) (λ s. counter (store_state m after s)) (length m.problem.rows) rise
-      ∙ ap (λ (k : ℕ). counted m counter before + k) (sym row_part) in
-      omega (arith, so_far, all, more)
+  pub by_counters : (came : Dumping) (x : Amounts) → AtEach (length m.problem.rows) steps (λ s t. AsPlanned came x s t (store_state m (held (t - 1)) s) (store_state m (held t) s))
+      → AreByCounters m (held steps) (rows_by_counters m held steps)
+  by_counters came x planned = record {
+    arrived = total_of (λ u. u.offered) (λ y. y.arrived) (λ s t u v. refl) (λ s t store low high. rises _ _ _ (planned s t store low high).takes);
+    lost = total_of (λ u. u.lost) (λ y. y.lost) (λ s t u v. refl) (λ s t store low high. rises _ _ _ (planned s t store low high).loses);
+    dumped = total_of (λ u. u.deleted) (λ y. y.dumped) (λ s t u v. refl) (λ s t store low high. rises _ _ _ (planned s t store low high).dumps);
+  }
+    where
+      rises : (after before rose : ℕ) → after ≡ before + rose → before ≤ after
+      rises after before rose same = omega arith

@@ -1,5 +1,5 @@
 -- What is given in a step that a plan fits, and draws from its window, which is not passed.
-use Rattle.std.proofs.Common.{◌≡◌, ◌⊎◌, inl, inr, ℕ, ◌+◌, ◌<◌, ◌≤◌, cond, eqb, List, [], ◌∷◌, length, get_or, All, refl, sym, ap, ◌∙◌, arith}
+use Rattle.std.proofs.Common.{◌≡◌, ◌⊎◌, inl, inr, ℕ, zero, suc, ◌+◌, ◌*◌, ◌<◌, ◌≤◌, cond, eqb, List, [], ◌∷◌, length, get_or, All, refl, sym, ap, ◌∙◌, arith}
 use Rattle.std.specs.List.{sum_by, count_by, range_with_len}
 use Rattle.std.proofs.lemmas.Bool.{cases_lt}
 use Rattle.mm_base.proofs.Tests.{cond-eqb_same, cond-eqb_other}
@@ -11,10 +11,11 @@ use Rattle.mm_plan.specs.Volumes.{Amounts}
 use Rattle.mm_store.specs.declared.stored.Stored.{Stored}
 use Rattle.mm_desk.specs.declared.entry.Entry.{Entry}
 use Rattle.mm_desk.specs.declared.held.Held.{Held}
+use Rattle.mm_dump.specs.Dumped.{times}
 use Rattle.mm_exec.specs.StepRuns.{IsDumpOf}
 use Rattle.mm_exec.specs.Draws.{AreDrawsOf, MeetNoRefusal}
 use Rattle.mm_exec.specs.RunInput.{RunInput, place_in_memory}
-use Rattle.mm_exec.specs.Steps.{AreStepRuns, sent_amounts}
+use Rattle.mm_exec.specs.Steps.{AreStepRuns, sent_amounts, taken_amounts}
 
 -- draws that the window has room for meet no refusal
 with_room : (window drawn : ℕ) (draws : List ℕ) → drawn + length draws ≤ window → MeetNoRefusal window drawn draws
@@ -55,6 +56,20 @@ pub whole_fits : (m : RunInput) (steps : ℕ) (stores : ℕ → List Held) (gave
 whole_fits m steps stores gave are t first last fits =
     fits_less m.problem m.amounts (sent_amounts m gave) t fits
     (λ s store. let run = are.runs s t store first last in given_within (m.amounts s t) (gave (place_in_memory m s) t) run.dumped run.dump)
+
+-- at most once as much is at most as much
+once_most : (n l : ℕ) → n ≤ 1 → n * l ≤ l
+once_most zero l few = omega arith
+once_most (suc zero) l few = omega arith
+once_most (suc (suc n)) l few = absurd (omega (arith, few))
+
+-- what the links took in a whole step fits, where they took each order once at most
+pub taken_fits : (m : RunInput) (steps : ℕ) (stores : ℕ → List Held) (gave : ℕ → ℕ → List Stored) (took : ℕ → List (List ℕ)) → AreStepRuns m steps stores gave
+    → (t : ℕ) → 1 ≤ t → t ≤ steps → ((s : ℕ) → s < length m.problem.rows → sum_by (times (place_in_memory m s)) (took t) ≤ 1)
+    → FitsAt m.problem m.amounts t → FitsAt m.problem (taken_amounts m gave took) t
+taken_fits m steps stores gave took are t first last once fits =
+    fits_less m.problem (sent_amounts m gave) (taken_amounts m gave took) t (whole_fits m steps stores gave are t first last fits)
+    (λ s store. once_most (sum_by (times (place_in_memory m s)) (took t)) (length (gave (place_in_memory m s) t)) (once s store))
 
 -- the draws of a step that a plan fits meet no refusal
 pub no_refusal : (q : Dumping) (x : Amounts) (t : ℕ) (gave : ℕ → List Stored) (calls : ℕ → List Entry) (draws : List ℕ)

@@ -15,11 +15,10 @@ use Rattle.mm_report.specs.declared.counts.StepCounts.{StepCounts}
 use Rattle.mm_report.specs.Report.{Reported, totals_of}
 use Rattle.mm_exec.specs.declared.course.RunStopped.{RunStopped}
 use Rattle.mm_exec.specs.declared.step.StepBroken.{StepBroken}
-use Rattle.mm_exec.specs.Readiness.{RunStart, run_start, Stops}
+use Rattle.mm_exec.specs.Readiness.{RunStart, run_start}
 use Rattle.mm_exec.specs.RunInput.{RunInput, as_came}
 use Rattle.mm_exec.specs.RunState.{RunState}
 use Rattle.mm_exec.specs.Numbers.{report_of, rows_of, planned_counts}
-use Rattle.mm_exec.specs.Step.{NeverRefused}
 use Rattle.mm_exec.specs.Ending.{run_start_of, HasRun, IsRefusal, IsStopped}
 use Rattle.mm_exec.proofs.Parts.{same_ids}
 
@@ -27,10 +26,6 @@ use Rattle.mm_exec.proofs.Parts.{same_ids}
 pub start_by : (P : RunStart → Type 0) (q : Dumping) (plan : Table) (base : ℕ) {held stores : List Held} {counted_sources counted_links sources links : ℕ}
     → held ≡ stores → counted_sources ≡ sources → counted_links ≡ links → P (run_start q plan held base counted_sources counted_links) → P (run_start q plan stores base sources links)
 start_by P q plan base read many_sources many_links holds = subst P (λ i. run_start q plan (read i) base (many_sources i) (many_links i)) holds
-
--- no test tells of a refusal
-pub refusals_are_none : (o : RunStart) (cause : Cause) → Stops o cause → NeverRefused cause
-refusals_are_none o cause stops step is = subst (Stops o) is stops
 
 -- how a run ended that did not begin
 pub not_begun : {S L : Type 0} (gives : S → ℕ → List SpacePacket) (sent : L → List Sent) (failed : L → ℕ) (m : RunInput) (plan : Table) (state : RunState S L) (cause : Cause)

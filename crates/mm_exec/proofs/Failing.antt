@@ -171,23 +171,18 @@ module _ {L : Type 0} (sent : L → List Sent) (failed : L → ℕ) (ids : List 
       one_link ps os ns tried.1 (mild_both (worst_of (whys course p)) (worst_at course ps) mild).1 l (omega arith)
 
   -- the last order of some link broke
-  some_broke : (places : List (List ℕ)) (olds news : List L) → AllTried sent failed ids course places olds news → worst_at course places ≡ Some broken.LinkFailed
-      → (l : ℕ) × (l < length olds) × LastMild course (slice_index_or places l [])
-  unfolding AllTried
-  some_broke [] [] [] tried is = absurd (cc is)
-  some_broke [] [] (n ∷ ns) tried is = absurd tried
-  some_broke [] (o ∷ os) ns tried is = absurd tried
-  some_broke (p ∷ ps) [] ns tried is = absurd tried
-  some_broke (p ∷ ps) (o ∷ os) [] tried is = absurd tried
-  some_broke (p ∷ ps) (o ∷ os) (n ∷ ns) tried is =
-      let mild : IsMild (worst_at course (p ∷ ps)) = subst IsMild (sym is) tt in
-      by_first (some_broke ps os ns tried.1) (all_courses course p tried.0.are.each tried.0.are.early (mild_both (worst_of (whys course p)) (worst_at course ps) mild).0)
+  some_broke : (places : List (List ℕ)) → worst_at course places ≡ Some broken.LinkFailed
+      → ((l : ℕ) → l < length places → AllWhole course (slice_index_or places l []) ⊎ LastMild course (slice_index_or places l []))
+      → (l : ℕ) × (l < length places) × LastMild course (slice_index_or places l [])
+  some_broke [] is how = absurd (cc is)
+  some_broke (p ∷ ps) is how = by_first (some_broke ps) (how 0 (omega arith))
     where
-      by_first : (worst_at course ps ≡ Some broken.LinkFailed → (l : ℕ) × (l < length os) × LastMild course (slice_index_or ps l []))
-          → AllWhole course p ⊎ LastMild course p → (l : ℕ) × (l < suc (length os)) × LastMild course (slice_index_or (p ∷ ps) l [])
+      by_first : (worst_at course ps ≡ Some broken.LinkFailed → ((l : ℕ) → l < length ps → AllWhole course (slice_index_or ps l []) ⊎ LastMild course (slice_index_or ps l []))
+          → (l : ℕ) × (l < length ps) × LastMild course (slice_index_or ps l []))
+          → AllWhole course p ⊎ LastMild course p → (l : ℕ) × (l < suc (length ps)) × LastMild course (slice_index_or (p ∷ ps) l [])
       by_first rest (inr last) = (0, omega arith, last)
       by_first rest (inl all) =
-          let found = rest (sym (ap (λ (w : Option OrderBroken). worse w (worst_at course ps)) all.none) ∙ is) in
+          let found = rest (sym (ap (λ (w : Option OrderBroken). worse w (worst_at course ps)) all.none) ∙ is) (λ l within. how (suc l) (omega arith)) in
           (suc found.0, omega (arith, found.1), found.2)
 
 -- a step that a failed link halted
@@ -198,13 +193,11 @@ links_failed sent failed ids orders before after olds news changes there sound s
     record {
       settled = settled;
       many = many;
-      links = λ l within.
-          let link = one_link sent failed ids settled.course settled.places olds news settled.links mild l within in
-          record { grew = link.grew; how = of_link l within _ _ link.failures link.how };
+      links = λ l within. record { grew = (link l within).grew; how = of_link l within _ _ (link l within).failures (link l within).how };
       some =
-          let found = some_broke sent failed ids settled.course settled.places olds news settled.links settled.cause in
-          let link = one_link sent failed ids settled.course settled.places olds news settled.links mild found.0 found.1 in
-          (found.0, found.1, last_broke found.0 found.1 _ _ link.failures found.2);
+          let found = some_broke sent failed ids settled.course settled.places settled.cause (λ l within. (link l (omega (arith, many, within))).how) in
+          let inside : found.0 < length olds = omega (arith, many, found.1) in
+          (found.0, inside, last_broke found.0 inside _ _ (link found.0 inside).failures found.2);
     }
   where
     mild : IsMild (worst_at settled.course settled.places)
@@ -212,6 +205,10 @@ links_failed sent failed ids orders before after olds news changes there sound s
 
     many : length settled.places ≡ length olds
     many = tried_many sent failed ids settled.course settled.places olds news settled.links
+
+    link : (l : ℕ) → l < length olds → OneLink sent failed ids settled.course (slice_index_or settled.places l [])
+        (slice_index_or (map sent olds) l []) (slice_index_or (map sent news) l []) (slice_index_or (map failed olds) l 0) (slice_index_or (map failed news) l 0)
+    link = one_link sent failed ids settled.course settled.places olds news settled.links mild
 
     last_broke : (l : ℕ) → l < length olds → (was is : ℕ) → is ≡ was + failed_by (map settled.course (slice_index_or settled.places l []))
         → LastMild settled.course (slice_index_or settled.places l [])

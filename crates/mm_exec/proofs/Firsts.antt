@@ -1,24 +1,15 @@
 -- The first offers of what sources give.
-use Rattle.std.proofs.Common.{◌≡◌, ℕ, zero, suc, ◌<◌, List, [], ◌∷◌, ◌++◌, length, map, filter, refl, sym, ap, ◌∙◌, append_assoc}
+use Rattle.std.proofs.Common.{◌≡◌, ℕ, zero, suc, ◌<◌, List, [], ◌∷◌, ◌++◌, length, map, refl, sym, ap, ◌∙◌, append_assoc}
 use Rattle.std.specs.Prelude.{Option, Some, None, IfSome, IfNone, slice_index_or}
 use Rattle.std.specs.List.{AllZip}
-use Rattle.std.proofs.lemmas.List.{map-append, append-nil}
-use Rattle.std.proofs.lemmas.List.Elements.{filter-append}
+use Rattle.std.proofs.lemmas.List.{append-nil}
 use Rattle.mm_packet.specs.Packet.{SpacePacket}
 use Rattle.mm_desk.specs.declared.event.Event.{Event}
-use Rattle.mm_desk.specs.declared.event.Event.TheVariants.{Offer}
 use Rattle.mm_desk.specs.declared.fault.Fault.{Fault}
-use Rattle.mm_shared.specs.Stores.{id_at}
-use Rattle.mm_memory.specs.Recording.{is_routed}
 use Rattle.mm_record.specs.Recorded.{RecordingContext, offers}
+use Rattle.mm_record.proofs.Offers.{offers_more}
 use Rattle.mm_record.specs.Steps.{given_in, RecorderRun, StoppedEarly, IsRecorderRun, AreRecorderRuns}
 use Rattle.mm_exec.specs.Halts.{AreFirstOffers}
-
--- offers of more packets
-offers-append : (e : RecordingContext) (k : ℕ) (ps qs : List SpacePacket) → offers e k (ps ++ qs) ≡ offers e k ps ++ offers e k qs
-offers-append e k ps qs =
-    ap (map (λ (p : SpacePacket). Offer e.now p)) (filter-append (is_routed e.routes (id_at e.ids k)) ps qs)
-    ∙ map-append (λ (p : SpacePacket). Offer e.now p) (filter (is_routed e.routes (id_at e.ids k)) ps) (filter (is_routed e.routes (id_at e.ids k)) qs)
 
 -- no offer was made of what sources gave
 pub none_first : (e : RecordingContext) (k : ℕ) (gives : List (List SpacePacket)) → AllZip (AreFirstOffers e k) gives (map {B = List Event} (λ g. []) gives)
@@ -42,7 +33,7 @@ first_turn : (e : RecordingContext) (before after : ℕ → List SpacePacket) (t
 first_turn e before after turn k had within = by_broken turn.broken had.whole had.partly
   where
     gave_first : offers e k (before e.step) ≡ offers e k turn.gave ++ offers e k (after e.step)
-    gave_first = ap (offers e k) had.order ∙ offers-append e k turn.gave (after e.step)
+    gave_first = ap (offers e k) had.order ∙ offers_more e k turn.gave (after e.step)
 
     by_broken : (why : Option Fault) → IfNone why ((after e.step ≡ []) × ((k : ℕ) → k < length e.ids → turn.offered k ≡ offers e k turn.gave))
         → IfSome why (λ fault. StoppedEarly e turn.gave turn.offered) → AreFirstOffers e k (before e.step) (turn.offered k)
@@ -51,7 +42,7 @@ first_turn e before after turn k had within = by_broken turn.broken had.whole ha
     by_broken (Some why) whole partly =
         let began = partly.began k within in
         let there : offers e k turn.gave ≡ turn.offered k ++ began.rest =
-        ap (offers e k) partly.are ∙ offers-append e k partly.before (partly.last ∷ [])
+        ap (offers e k) partly.are ∙ offers_more e k partly.before (partly.last ∷ [])
         ∙ ap (λ (es : List Event). offers e k partly.before ++ es) began.are
         ∙ sym (append_assoc (offers e k partly.before) began.did began.rest)
         ∙ ap (λ (es : List Event). es ++ began.rest) (sym began.asks_are) in (

@@ -52,18 +52,6 @@ link_failed : (step : ℕ) (why : OrderBroken) → dump_cause step why ≡ LinkF
 link_failed step worst.LinkFailed is = refl
 link_failed step worst.NoMemory is = absurd (cc is)
 
--- a store that was left alone
-left_alone : (e : RecordingContext) (gives : List (List SpacePacket)) (orders : List Order) (k : ℕ) (s : State) → IsByOneLog e gives orders k s s
-left_alone e gives orders k s = record {
-  firsts = map {B = List Event} (λ g. []) gives;
-  are = none_first e k gives;
-  offered = [];
-  ordered = [];
-  run = record { legal = tt; leaves = refl };
-  shuffle = record { below = All-nil _; parts = λ seat within. none_listed gives seat };
-  order = inl refl;
-}
-
 -- a store at which all offers were made, and then the calls of one order
 then_tried : (e : RecordingContext) (gives : List (List SpacePacket)) (orders : List Order) (k : ℕ) (s mid t : State) → HasRecorded e gives k s mid
     → (taken : ℕ) (c : Course) → HasTried taken k c mid t → (0 < taken → c.order.amount ≡ wanted orders k) → IsByOneLog e gives orders k s t
@@ -97,6 +85,12 @@ then_nothing e gives orders k s t firsts are log run shuffle = record {
   shuffle = shuffle;
   order = inl refl;
 }
+
+-- a store that was left alone
+left_alone : (e : RecordingContext) (gives : List (List SpacePacket)) (orders : List Order) (k : ℕ) (s : State) → IsByOneLog e gives orders k s s
+left_alone e gives orders k s =
+    then_nothing e gives orders k s s (map {B = List Event} (λ g. []) gives) (none_first e k gives) [] (record { legal = tt; leaves = refl })
+    (record { below = All-nil _; parts = λ seat within. none_listed gives seat })
 
 module _ {S L : Type 0} (gives : S → ℕ → List SpacePacket) (sent : L → List Sent) (failed : L → ℕ) (step now : ℕ) (routes : List RouteRow) (orders : List Order)
     (before after : RunState S L) (stop : StepBroken) (k : ℕ) (within : k < length before.stores) where
@@ -142,10 +136,9 @@ module _ {S L : Type 0} (gives : S → ℕ → List SpacePacket) (sent : L → L
   by_orders : (mid : RunState S L) → StepRecorded gives e before mid → OrdersBroke sent failed e.step orders mid after stop → FailedLink gives sent failed e orders before after
   by_orders mid recorded broke =
       let worst_is : broke.why ≡ worst.LinkFailed = link_failed e.step broke.why (sym broke.cause_is ∙ is_link) in
-      let here = subst (λ (w : OrderBroken). AllSettled sent failed (ids_of mid.stores) orders (Some w) (states_of mid.stores) (states_of after.stores) mid.links after.links) worst_is broke.settled in
-      let named = subst (λ (names : List (List ℕ)). AllSettled sent failed names orders (Some worst.LinkFailed) (states_of mid.stores) (states_of after.stores) mid.links after.links)
-      (same_ids mid.stores before.stores recorded.labels ∙ ids) here in
-      let settled = subst (λ (olds : List L). AllSettled sent failed e.ids orders (Some worst.LinkFailed) (states_of mid.stores) (states_of after.stores) olds after.links) recorded.links named in
+      let ids_are = same_ids mid.stores before.stores recorded.labels ∙ ids in
+      let Settled = λ (p : OrderBroken × List (List ℕ) × List L). AllSettled sent failed p.1 orders (Some p.0) (states_of mid.stores) (states_of after.stores) p.2 after.links in
+      let settled = subst Settled (λ i. (worst_is i, ids_are i, recorded.links i)) broke.settled in
       let many : length after.stores ≡ length mid.stores = as_many after.stores mid.stores broke.labels in
       let all : length after.stores ≡ length before.stores = many ∙ as_many mid.stores before.stores recorded.labels in
       let counted = length-map after.stores (λ (h : Held). h.state) in

@@ -1,5 +1,5 @@
 -- What the orders of a step want of each store.
-use Rattle.std.proofs.Common.{◌≡◌, ◌≢◌, ◌⊎◌, inl, inr, ℕ, ◌<◌, ◌≤◌, Bool, true, false, cond, ltb, eqb, List, [], ◌∷◌, length, map, All, refl, ◌∙◌, arith, zero, suc, ◌+◌, ◌++◌, ap, add-one, length-append}
+use Rattle.std.proofs.Common.{◌≡◌, ◌≢◌, ◌⊎◌, inl, inr, ℕ, ◌<◌, ◌≤◌, Bool, true, false, cond, ltb, eqb, List, [], ◌∷◌, length, map, All, refl, sym, subst, ◌∙◌, arith, ◌+◌, ◌++◌, ap, add-one}
 use Rattle.std.specs.Prelude.{filter, slice_index, AllPairs, nat_lt}
 use Rattle.std.specs.List.{sum_by, range_with_len}
 use Rattle.std.proofs.lemmas.Bool.{lt-ltb, le-ltb, ltb-true, ne_eqb, eq-eqb, cases_lt}
@@ -7,17 +7,19 @@ use Rattle.std.proofs.lemmas.List.Elements.{All-map, All-head, All-tail, filter-
 use Rattle.mm_base.proofs.Pairs.{AllPairs-map}
 use Rattle.mm_base.proofs.Ranges.{All-filter-range_with_len, AllPairs-filter-range_with_len, range_with_len_more}
 use Rattle.mm_base.proofs.RangeSums.{sum_by_range_one, sum_by_range_same}
-use Rattle.mm_base.proofs.Sums.{sum_by-filter, sum_by-map-filter}
+use Rattle.mm_base.proofs.Sums.{sum_by-filter, sum_by-map, sum_by-map-filter}
 use Rattle.mm_plan.specs.Fit.{in_step}
 use Rattle.mm_plan.specs.Volumes.{Amounts}
 use Rattle.mm_dump.specs.declared.order.Order.{Order}
-use Rattle.mm_dump.specs.Dumped.{wanted}
+use Rattle.mm_dump.specs.Dumped.{wanted, times, places_of}
 use Rattle.mm_exec.specs.Places.{AreApart}
 use Rattle.mm_exec.specs.RunInput.{RunInput, place_in_memory, step_orders}
 use Rattle.mm_exec.specs.Numbers.{orders_of}
 use Rattle.mm_exec.specs.Step.{AreOrders}
 use Rattle.mm_base.specs.declared.limits.TheConstants.{MAX_STORES}
-use Rattle.std.proofs.lemmas.List.{map-append, append-nil}
+use Rattle.std.proofs.lemmas.List.{length-map, map-append, append-nil}
+use Rattle.std.proofs.lemmas.List.FromFn.{length-range_with_len}
+use Rattle.std.proofs.lemmas.List.Sums.{length-filter, count_by-le-length}
 
 module _ (x : Amounts) (places : List ℕ) (t : ℕ) where
   -- whether a store has an order, and the order
@@ -50,16 +52,9 @@ module _ (x : Amounts) (places : List ℕ) (t : ℕ) where
 
   -- there are no more orders than stores
   pub orders_few : (n : ℕ) → length (orders_of x places t n) ≤ n
-  orders_few zero = omega arith
-  orders_few (suc n) = by_amount (orders_few n) (cases_lt 0 (x n t))
-    where
-      by_amount : length (orders_of x places t n) ≤ n → (0 < x n t) ⊎ (x n t ≤ 0) → length (orders_of x places t (suc n)) ≤ suc n
-      by_amount few (inl some) =
-          let more = rw add-one at (order_more n some) in
-          omega (arith, ap length more, length-append (orders_of x places t n) (order_of n ∷ []), few)
-      by_amount few (inr none) =
-          let same = rw add-one at (order_none n none) in
-          omega (arith, ap length same, few)
+  orders_few n =
+      let all = range_with_len 0 n in
+      omega (arith, length-map (filter is_ordered all) order_of, length-filter is_ordered all, count_by-le-length is_ordered all, length-range_with_len 0 n)
 
 module _ (x : Amounts) (places : List ℕ) (t n : ℕ) where
   -- the sum of the terms of one store
@@ -86,6 +81,18 @@ module _ (x : Amounts) (places : List ℕ) (t n : ℕ) where
       by_amount : (0 < x s t) ⊎ (x s t ≤ 0) → cond (ltb 0 (x s t)) (x s t) 0 ≡ x s t
       by_amount (inl some) = rw (lt-ltb 0 (x s t) some) refl
       by_amount (inr nothing) = rw (le-ltb 0 (x s t) nothing) (omega arith)
+
+  -- no store has two orders
+  pub named_once : (s : ℕ) → AreApart places n → s < n → times (slice_index places s) (places_of (orders_of x places t n)) ≤ 1
+  named_once s apart within =
+      let here : ℕ → ℕ = λ p. cond {A = ℕ} (eqb p (slice_index places s)) 1 0 in
+      let named = sum_by-map here (λ (o : Order). o.place) (orders_of x places t n)
+      ∙ sum_by-map-filter (λ (o : Order). here o.place) (order_of x places t) (is_ordered x places t) (range_with_len 0 n) ∙ one_term (λ r. 1) s apart within in
+      subst (λ (k : ℕ). k ≤ 1) (sym named) (one_most (is_ordered x places t s))
+    where
+      one_most : (b : Bool) → cond {A = ℕ} b 1 0 ≤ 1
+      one_most true = omega arith
+      one_most false = omega arith
 
   -- the orders want of all stores what is to leave them
   pub wanted_in_all : sum_by (λ (o : Order). o.amount) (orders_of x places t n) ≡ sum_by (in_step x t) (range_with_len 0 n)

@@ -1,5 +1,5 @@
 -- The parts of a step.
-use Rattle.std.proofs.Common.{◌≡◌, ◌≢◌, inl, inr, ℕ, suc, ◌<◌, List, [], ◌∷◌, ◌++◌, length, map, All, refl, sym, ap, subst, ◌∙◌, arith}
+use Rattle.std.proofs.Common.{◌≡◌, inl, inr, ℕ, suc, ◌<◌, List, [], ◌∷◌, ◌++◌, length, map, All, refl, sym, ap, subst, ◌∙◌, arith}
 use Rattle.std.specs.Prelude.{Option, Some, None, Result, Ok, Err, OnOk, IfErr}
 use Rattle.std.specs.List.{AllZip}
 use Rattle.std.proofs.lemmas.List.{length-map, append-nil}
@@ -25,11 +25,6 @@ use Rattle.mm_memory.specs.Laws.{ids_of}
 use Rattle.mm_exec.specs.RunState.{RunState}
 use Rattle.mm_exec.specs.declared.step.StepBroken.{StepBroken}
 use Rattle.mm_exec.specs.Step.{StepRecorded, StepDumped, StepDone, KeepsRest, IsCauseIn, dump_cause, OutOfMemory, RecordersBroke, OrdersBroke, OrderingBroke, StepBroke, StepStopped}
-
--- what holds in any case holds where a call answers Ok
-pub on_ok : {A E : Type 0} (P : Type 0) (r : Result A E) → P → OnOk r P
-on_ok P (Ok x) p = p
-on_ok P (Err e) p = tt
 
 -- what follows in either case
 pub both_follow : {A E : Type 0} (P Q : Type 0) (R : E → Type 0) (r : Result A E) → OnOk r P → IfErr r R → (P → Q) → ((e : E) → R e → Q) → Q
@@ -140,18 +135,13 @@ module _ {S L : Type 0} (gives : S → ℕ → List SpacePacket) (sent : L → L
       by_dump (inl lack) = cause_lacking e.step dumping.mid after stop lack
       by_dump (inr broke) = subst (IsCauseIn e.step) (sym broke.cause_is) (cause_dumped e.step broke.why)
 
-  -- what a step leaves, but for the cause
-  record Leaves (left : RunState S L) : Type 0 where
-    labels : labels_of left.stores ≡ labels_of before.stores
-    keep : AllZip (KeepsRest gives e.step) before.sources left.sources
-    others : (t : ℕ) → t ≢ e.step → given_in gives t left.sources ≡ given_in gives t before.sources
-
   -- a step whose sources have nothing left
-  leaves_recorded : (mid : RunState S L) → StepRecorded gives e before mid → Leaves mid
-  leaves_recorded mid recorded =
+  stopped_recorded : IsCauseIn e.step stop.cause → (mid : RunState S L) → StepRecorded gives e before mid → StepStopped gives e.step before mid stop.cause
+  stopped_recorded cause mid recorded =
       let many : length mid.sources ≡ length before.sources =
       as_many_sources gives (suc e.step) before.sources mid.sources (recorded.others (suc e.step) (λ same. omega (arith, same))) in
       record {
+        cause_is = cause;
         labels = recorded.labels;
         keep = keep_none gives e.step before.sources mid.sources many recorded.nothing_left;
         others = recorded.others;
@@ -160,17 +150,20 @@ module _ {S L : Type 0} (gives : S → ℕ → List SpacePacket) (sent : L → L
   -- what a step that was broken off leaves
   pub stopped_of : StepBroke gives sent failed e orders before after stop → StepStopped gives e.step before after stop.cause
   stopped_of how =
-      let left = by_how Leaves (record { labels = refl; keep = keep_same gives e.step before.sources; others = λ t other. refl })
+      let cause = cause_is how in
+      by_how (λ (left : RunState S L). StepStopped gives e.step before left stop.cause)
+      (record { cause_is = cause; labels = refl; keep = keep_same gives e.step before.sources; others = λ t other. refl })
       (λ broke. record {
+        cause_is = cause;
         labels = broke.records.labels;
         keep = keep_turns gives e before.sources after.sources broke.records.runs broke.records.are_runs;
         others = broke.records.others;
-      }) leaves_recorded
+      }) (stopped_recorded cause)
       (λ mid recorded broke.
-      let was = leaves_recorded mid recorded in
+      let was = stopped_recorded cause mid recorded in
       record {
+        cause_is = cause;
         labels = broke.labels ∙ was.labels;
         keep = subst (AllZip (KeepsRest gives e.step) before.sources) (sym broke.sources) was.keep;
         others = λ t other. ap (given_in gives t) broke.sources ∙ was.others t other;
-      }) how in
-      record { cause_is = cause_is how; labels = left.labels; keep = left.keep; others = left.others }
+      }) how

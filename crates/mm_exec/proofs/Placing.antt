@@ -1,10 +1,10 @@
 -- The stores of the problem at their places in the memory.
-use Rattle.std.proofs.Common.{◌≡◌, ◌≢◌, ◌⊎◌, inl, inr, ℕ, ◌<◌, Bool, true, List, [], length, map, take, get_or, refl, sym, subst, ap, ◌∙◌}
+use Rattle.std.proofs.Common.{◌≡◌, ◌≢◌, ◌⊎◌, inl, inr, ℕ, ◌<◌, List, [], length, map, take, get_or, sym, subst, ap, ◌∙◌}
 use Rattle.std.specs.Prelude.{slice_index}
 use Rattle.std.specs.List.{position_or_len}
-use Rattle.std.proofs.lemmas.Bool.{lt-ltb, cases_order}
+use Rattle.std.proofs.lemmas.Bool.{cases_order}
 use Rattle.std.proofs.lemmas.List.{get_or-map, get_or-take}
-use Rattle.std.proofs.lemmas.List.Quantifiers.{position-Some}
+use Rattle.std.proofs.lemmas.List.Sums.{passes_at_first}
 use Rattle.std.proofs.lemmas.Slice.Eq.{bytes_eq-Decides}
 use Rattle.mm_problem.specs.Dumping.{Dumping, row, no_row}
 use Rattle.mm_problem.specs.Setup.{AreStores}
@@ -14,11 +14,6 @@ use Rattle.mm_shared.specs.Stores.{id_at}
 use Rattle.mm_memory.specs.Holdings.{has_id}
 use Rattle.mm_exec.specs.Places.{IsPlaceOf, ArePlaces}
 
--- what stands at the first place that passes passes
-place_passes : {X : Type 0} (p : X → Bool) (xs : List X) (d : X) → position_or_len p xs < length xs → p (get_or xs (position_or_len p xs) d) ≡ true
-place_passes p xs d within =
-    (position-Some p xs (position_or_len p xs) d (rw (lt-ltb (position_or_len p xs) (length xs) within) refl)).1
-
 -- no store
 abbrev pub no_held : Held
 no_held = record { id = []; channel = 0; state = blank }
@@ -27,7 +22,7 @@ no_held = record { id = []; channel = 0; state = blank }
 pub id_there : (id : List ℕ) (stores : List Held) (place : ℕ) → IsPlaceOf id stores place → id_at (map (λ h. h.id) stores) place ≡ id
 id_there id stores place is =
     let within : position_or_len (has_id id) stores < length stores = subst (λ (k : ℕ). k < length stores) is.is is.within in
-    let passes = place_passes (has_id id) stores no_held within in
+    let passes = passes_at_first (has_id id) stores no_held within in
     let same : (get_or stores (position_or_len (has_id id) stores) no_held).id ≡ id = (bytes_eq-Decides _ id).0 passes in
     get_or-map (λ (h : Held). h.id) stores place no_held [] is.within
     ∙ ap (λ (k : ℕ). (get_or stores k no_held).id) is.is ∙ same

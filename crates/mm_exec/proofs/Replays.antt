@@ -1,15 +1,14 @@
 -- Logs in two parts, and what holds of the entries of a log by its seats.
-use Rattle.std.proofs.Common.{◌≡◌, ◌≢◌, ◌⊎◌, inl, inr, ℕ, ◌<◌, true, false, eqb, List, [], ◌∷◌, ◌++◌, length, map, All, refl, sym, subst, ap, ◌∙◌}
-use Rattle.std.proofs.lemmas.Bool.{eq-eqb}
-use Rattle.std.proofs.lemmas.Bool.Decides.{eqb_tells}
-use Rattle.std.proofs.lemmas.List.Elements.{All-nil, All-cons, All-head, All-tail}
+use Rattle.std.proofs.Common.{◌≡◌, List, [], ◌∷◌, ◌++◌, length, All, refl, sym, subst, ap, ◌∙◌}
+use Rattle.mm_base.proofs.Elements.{All-unmapped}
 use Rattle.mm_desk.specs.declared.entry.Entry.{Entry}
 use Rattle.mm_desk.specs.declared.event.Event.{Event}
 use Rattle.mm_desk.specs.Laws.{HasTimes}
 use Rattle.mm_desk.specs.Machine.{State, step}
 use Rattle.mm_desk.specs.Offers.{IsShuffleOfEvents}
 use Rattle.mm_desk.specs.Runs.{replay, IsLegal, IsRun}
-use Rattle.mm_desk.specs.Shuffles.{AreBelow, part}
+use Rattle.mm_desk.specs.Shuffles.{part}
+use Rattle.mm_record.proofs.Taking.{parts_all}
 use Rattle.mm_exec.specs.StepRuns.{AreTimed}
 
 -- a legal list is legal in its first part, and from there in its second
@@ -36,29 +35,10 @@ IsRun-append s mid t es fs first second = record {
   leaves = second.leaves ∙ ap (λ (u : State). replay u fs) first.leaves ∙ sym (replay-append s es fs);
 }
 
--- what holds of a mapped list
-pub All-unmapped : {X Y : Type 0} (P : Y → Type 0) (f : X → Y) (xs : List X) → All P (map f xs) → All (λ x. P (f x)) xs
-All-unmapped P f [] all = All-nil (λ x. P (f x))
-All-unmapped P f (x ∷ xs) all =
-    All-cons (λ x. P (f x)) x xs (All-head P (f x) (map f xs) all) (All-unmapped P f xs (All-tail P (f x) (map f xs) all))
-
--- what holds of the part of each seat holds of the log
-All-parts : (P : Entry → Type 0) (seats : ℕ) (log : List Entry) → AreBelow seats log → ((seat : ℕ) → seat < seats → All P (part seat log)) → All P log
-All-parts P seats [] below parts = All-nil P
-All-parts P seats (e ∷ es) below parts =
-    let here : e.seat < seats = All-head (λ (x : Entry). x.seat < seats) e es below in
-    let mine : part e.seat (e ∷ es) ≡ e ∷ part e.seat es = rw (eq-eqb e.seat e.seat refl) refl in
-    All-cons P e es (All-head P e (part e.seat es) (subst (All P) mine (parts e.seat here)))
-    (All-parts P seats es (All-tail (λ (x : Entry). x.seat < seats) e es below) (λ seat within. rest seat (eqb_tells e.seat seat) (parts seat within)))
-  where
-    rest : (seat : ℕ) → ((eqb e.seat seat ≡ true) × (e.seat ≡ seat)) ⊎ ((eqb e.seat seat ≡ false) × (e.seat ≢ seat)) → All P (part seat (e ∷ es)) → All P (part seat es)
-    rest seat (inl mine) all = All-tail P e (part seat es) (rw mine.0 at all)
-    rest seat (inr other) all = rw other.0 at all
-
 -- what holds of each event of some lists holds of a log that is a shuffle of them
 pub shuffled : (P : Event → Type 0) (lists : List (List Event)) (log : List Entry) → IsShuffleOfEvents lists log → All (λ list. All P list) lists → All (λ e. P e.event) log
 shuffled P lists log shuffle all =
-    All-parts (λ (e : Entry). P e.event) (length lists) log shuffle.below
+    parts_all (λ (e : Entry). P e.event) (length lists) log shuffle.below
     (λ seat within. All-unmapped P (λ (e : Entry). e.event) (part seat log)
     (subst (All P) (sym (shuffle.parts seat within)) (all seat [] within)))
 

@@ -1,30 +1,32 @@
 -- How a run begins, and what is known of it on the way.
-use Rattle.std.proofs.Common.{◌≡◌, ◌≢◌, ◌⊎◌, inl, inr, ℕ, suc, ◌+◌, ◌-◌, ◌*◌, ◌<◌, ◌≤◌, ◌^◌, Bool, true, false, List, [], ◌∷◌, ◌++◌, length, map, take, get_or, All, refl, sym, subst, ap, ◌∙◌, arith}
+use Rattle.std.proofs.Common.{◌≡◌, ◌≢◌, ℕ, suc, ◌+◌, ◌-◌, ◌*◌, ◌<◌, ◌≤◌, ◌^◌, Bool, true, false, List, [], ◌∷◌, ◌++◌, length, map, take, get_or, All, refl, sym, subst, ap, ◌∙◌, arith}
 use Rattle.std.specs.Prelude.{slice_index, slice_index_or, bytes_eq, slice_get, Option, Some, None, is_some, not, ◌&&◌, IsTrue, vec_capacity}
 use Rattle.std.specs.List.{list_any, position_or_len}
-use Rattle.std.proofs.lemmas.Bool.{eqb-true, cases_order, eq-eqb, ltb-false, or_parts}
+use Rattle.std.proofs.lemmas.Bool.{eqb-true, eqb-false, ltb-false, or_parts}
 use Rattle.std.proofs.lemmas.List.{length-map, get_or-map, get_or_default, append-nil, length-take-le}
 use Rattle.std.proofs.lemmas.List.FromFn.{length-map-range_with_len}
 use Rattle.std.proofs.lemmas.List.Folds.{find_at}
-use Rattle.std.proofs.lemmas.List.Sums.{fails_before_first, passes_at_first, prefix_len-le-length}
+use Rattle.std.proofs.lemmas.List.Sums.{passes_at_first, position_or_len_is, prefix_len-le-length}
 use Rattle.std.proofs.lemmas.List.Sorted.{IsPermutation-refl}
-use Rattle.std.proofs.lemmas.List.Elements.{All-cons, All-from_get_or, All-map, All-nil}
+use Rattle.std.proofs.lemmas.List.Elements.{All-cons, All-from_get_or, All-nil}
 use Rattle.std.proofs.lemmas.Option.{slice_get-get_or}
 use Rattle.std.proofs.lemmas.Slice.Eq.{bytes_eq-Decides}
 use Rattle.mm_base.specs.declared.limits.TheConstants.{MAX_STEPS, MAX_STORES}
 use Rattle.mm_base.specs.declared.rows.StoreRow.{StoreRow}
 use Rattle.mm_packet.specs.Packet.{SpacePacket}
 use Rattle.mm_problem.specs.Dumping.{Dumping, IsDumping, row, no_row, place}
+use Rattle.mm_plan.specs.Fit.{FitsAt}
 use Rattle.mm_plan.specs.Table.{amount}
 use Rattle.mm_desk.specs.declared.held.Held.{Held}
 use Rattle.mm_desk.specs.declared.state.Retrieval.{Retrieval}
 use Rattle.mm_desk.specs.Machine.{State, IsState}
 use Rattle.mm_desk.specs.Runs.{opening_at, blank}
-use Rattle.mm_shared.specs.Stores.{labels_of, states_of, AreNamed}
+use Rattle.mm_shared.specs.Stores.{labels_of, states_of}
 use Rattle.mm_memory.specs.Holdings.{AreHeld, has_id, store_of}
 use Rattle.mm_record.specs.Causes.{is_clock_late, is_late}
-use Rattle.mm_record.specs.Steps.{given_in, latest, AreFew, TakesAll}
+use Rattle.mm_record.specs.Steps.{latest, AreFew, TakesAll}
 use Rattle.mm_dump.specs.declared.order.Order.{Order}
+use Rattle.mm_dump.specs.Dumped.{times, places_of}
 use Rattle.mm_dump.specs.Laws.{BrokenOrdersChangeNothing}
 use Rattle.mm_dump.specs.Sending.{Sent}
 use Rattle.mm_report.specs.declared.cause.TheConstants.{LATEST_START}
@@ -38,19 +40,21 @@ use Rattle.mm_exec.specs.Readiness.{AllMeet, NoneUnknown, is_unknown, meets, mee
 use Rattle.mm_exec.specs.Laws.{RunsLoseAsPlanned, RunsLoseNoPacketUncounted, StepRunsKeepStores}
 use Rattle.mm_exec.specs.AsPlanned.{IsReady}
 use Rattle.mm_exec.specs.Places.{IsPlaceOf, ArePlaces}
-use Rattle.mm_exec.specs.RunInput.{RunInput, recording_in, step_orders}
+use Rattle.mm_exec.specs.RunInput.{RunInput, recording_in, place_in_memory, step_orders}
 use Rattle.mm_exec.specs.RunState.{RunState}
 use Rattle.mm_exec.specs.Numbers.{row_from, orders_of, AreByCounters}
 use Rattle.mm_exec.specs.Step.{AreReady, StepDone, StepBroke}
-use Rattle.mm_exec.specs.Steps.{StepsDone}
+use Rattle.mm_exec.specs.Steps.{StepsDone, taken_amounts}
 use Rattle.mm_exec.specs.Course.{given_to, recording_at, orders_at, MayReport, StepReported, StepUnreported, MayRun, AreWithinLimits}
 use Rattle.mm_exec.specs.Ending.{HasRun, IsHaltedIn}
-use Rattle.mm_exec.proofs.Replays.{All-unmapped}
-use Rattle.mm_exec.proofs.Counters.{counted_first}
+use Rattle.mm_memory.proofs.PlaceLemmas.{is_other}
+use Rattle.mm_record.proofs.Memories.{named_of, held_as}
+use Rattle.mm_exec.proofs.Counters.{by_counters}
 use Rattle.mm_exec.proofs.Halts.{failed_link}
-use Rattle.mm_exec.proofs.Ordered.{may_order, wanted_in_all, orders_are}
-use Rattle.mm_exec.proofs.StepMore.{Footing, done_on}
-use Rattle.mm_exec.proofs.Parts.{as_many, same_ids, as_many_sources, stopped_of}
+use Rattle.mm_exec.proofs.Drawing.{taken_fits}
+use Rattle.mm_exec.proofs.Ordered.{named_once, may_order, wanted_in_all, orders_are}
+use Rattle.mm_exec.proofs.StepMore.{Footing, all_same, done_on}
+use Rattle.mm_exec.proofs.Parts.{as_many, as_many_sources, stopped_of}
 use Rattle.mm_exec.proofs.Placing.{no_held, places_differ, places_cut}
 use Rattle.mm_exec.proofs.StoresReady.{AllFar, state_holds, far_after, takes_all}
 
@@ -99,37 +103,17 @@ standing_gives false r is = absurd (cc is)
 
 -- a store of the problem stands where the row with its identifier is
 row_there : (q : Dumping) (h : Held) → is_unknown q h ≡ false → (s : ℕ) × (s < length q.rows) × ((row q s).id ≡ h.id)
-row_there q h known = (place q h.id, within, same)
-  where
-    within : place q h.id < length q.rows
-    within = by_order (cases_order (place q h.id) (length q.rows))
-      where
-        by_order : (place q h.id ≡ length q.rows) ⊎ ((place q h.id < length q.rows) ⊎ (length q.rows < place q h.id)) → place q h.id < length q.rows
-        by_order (inl equal) = let yes = eq-eqb (place q h.id) (length q.rows) equal in absurd (cc (yes, known))
-        by_order (inr (inl before)) = before
-        by_order (inr (inr after)) =
-            let few : place q h.id ≤ length q.rows = prefix_len-le-length _ q.rows in
-            absurd (omega (arith, after, few))
-
-    same : (row q (place q h.id)).id ≡ h.id
-    same = (bytes_eq-Decides _ h.id).0 (passes_at_first (λ (r : StoreRow). bytes_eq r.id h.id) q.rows no_row within)
+row_there q h known =
+    let few : place q h.id ≤ length q.rows = prefix_len-le-length _ q.rows in
+    let other : place q h.id ≢ length q.rows = eqb-false (place q h.id) (length q.rows) known in
+    let within : place q h.id < length q.rows = omega (arith, few, other) in
+    (place q h.id, within, (bytes_eq-Decides _ h.id).0 (passes_at_first (λ (r : StoreRow). bytes_eq r.id h.id) q.rows no_row within))
 
 -- each store is the first with its identifier
 first_is : (stores : List Held) → AreHeld stores → (k : ℕ) (id : List ℕ) → k < length stores → (get_or stores k no_held).id ≡ id → position_or_len (has_id id) stores ≡ k
-first_is stores held k id within same = by_order (cases_order (position_or_len (has_id id) stores) k)
-  where
-    passes : has_id id (get_or stores k no_held) ≡ true
-    passes = (bytes_eq-Decides _ id).1 same
-
-    by_order : (position_or_len (has_id id) stores ≡ k) ⊎ ((position_or_len (has_id id) stores < k) ⊎ (k < position_or_len (has_id id) stores)) → position_or_len (has_id id) stores ≡ k
-    by_order (inl equal) = equal
-    by_order (inr (inl before)) =
-        let first = passes_at_first (has_id id) stores no_held (omega (arith, before, within)) in
-        let other : (get_or stores (position_or_len (has_id id) stores) no_held).id ≡ id = (bytes_eq-Decides _ id).0 first in
-        absurd (held.named (position_or_len (has_id id) stores) k no_held before within (other ∙ sym same))
-    by_order (inr (inr after)) =
-        let fails = fails_before_first (has_id id) stores k no_held after in
-        absurd (cc (fails, passes))
+first_is stores held k id within same =
+    position_or_len_is (has_id id) stores k no_held (omega arith)
+    (λ j before. is_other (get_or stores j no_held).id id (λ other. held.named j k no_held before within (other ∙ sym same))) (λ inside. (bytes_eq-Decides _ id).1 same)
 
 -- where all tests passed, each store of the memory is ready
 pub all_ready : (q : Dumping) (stores : List Held) → AreHeld stores → AllMeet Ready q stores → NoneUnknown q stores → All (λ h. IsState h.state) stores → AreReady stores
@@ -178,38 +162,9 @@ done_first gives sent failed m now report stores is = record {
   rows = ap (λ (r : Reported). r.steps) is;
   counted =
       subst (λ (held : List Held). AreByCounters m held report.steps) (sym stores)
-      (subst (λ (r : Reported). AreByCounters m m.memory.stores r.steps) (sym is) (record {
-        arrived = counted_first m (λ u. u.offered);
-        lost = counted_first m (λ u. u.lost);
-        dumped = counted_first m (λ u. u.deleted);
-      }));
+      (subst (λ (r : Reported). AreByCounters m m.memory.stores r.steps) (sym is)
+      (by_counters m (λ t. m.memory.stores) 0 refl m.problem m.amounts (λ s t store first last. absurd (omega (arith, first, last)))));
 }
-
--- no two stores of a memory have one identifier
-named_ids : (stores : List Held) → AreHeld stores → AreNamed (map (λ h. h.id) stores)
-named_ids stores held i j d before within =
-    let many = length-map stores (λ (h : Held). h.id) in
-    let one = get_or-map (λ (h : Held). h.id) stores i no_held d (omega (arith, many)) in
-    let two = get_or-map (λ (h : Held). h.id) stores j no_held d (omega (arith, many)) in
-    let other = other_id (get_or stores i no_held).id (get_or stores j no_held).id (held.named i j no_held before (omega (arith, many))) in
-    rw (one, two) other
-  where
-    other_id : (a b : List ℕ) → a ≢ b → bytes_eq a b ≡ false
-    other_id a b other =
-        elim (bytes_eq a b) as (λ t. bytes_eq a b ≡ t → t ≡ false) [
-          | true ↦ λ e. absurd (other ((bytes_eq-Decides a b).0 e))
-          | false ↦ λ e. refl
-        ] refl
-
-pub still_named : (stores held : List Held) → AreHeld stores → map (λ h. h.id) held ≡ map (λ h. h.id) stores → AreNamed (map (λ h. h.id) held)
-still_named stores held are same = subst AreNamed (sym same) (named_ids stores are)
-
--- no link is at the end of its count
-pub still_room : {L : Type 0} (failed : L → ℕ) (links links_left : List L) → map failed links_left ≡ map failed links
-    → All (λ l. failed l < 2 ^ 64 - 1) links → All (λ l. failed l < 2 ^ 64 - 1) links_left
-still_room failed links links_left same room =
-    All-unmapped (λ (n : ℕ). n < 2 ^ 64 - 1) failed links_left
-    (subst (All (λ (n : ℕ). n < 2 ^ 64 - 1)) (sym same) (All-map (λ (n : ℕ). n < 2 ^ 64 - 1) failed links room))
 
 -- counts after some steps: each store was offered, and has its last storage time, at most this far
 abbrev pub bound_at : ℕ → ℕ
@@ -232,13 +187,6 @@ far_first gives steps sources stores base early far k d inside =
     let offered = far.offered k d inside in
     let last = early.last_times k d inside in
     record { offered = omega (arith, offered); last = omega (arith, last) }
-
--- each source still gives few packets
-pub still_few : {S : Type 0} (gives : S → ℕ → List SpacePacket) (t : ℕ) (sources left : List S) → given_in gives t left ≡ given_in gives t sources
-    → All (λ s. length (gives s t) ≤ 65535) sources → All (λ s. length (gives s t) ≤ 65535) left
-still_few gives t sources left same few =
-    All-unmapped (λ (ps : List SpacePacket). length ps ≤ 65535) (λ s. gives s t) left
-    (subst (All (λ (ps : List SpacePacket). length ps ≤ 65535)) (sym same) (All-map (λ (ps : List SpacePacket). length ps ≤ 65535) (λ s. gives s t) sources few))
 
 -- a run before one of its steps, whose stores stand at these places
 module _ {S L : Type 0} (gives : S → ℕ → List SpacePacket) (sent : L → List Sent) (failed : L → ℕ) (run : RunContext) (places : List ℕ) (t : ℕ) (first : RunState S L) where
@@ -304,13 +252,13 @@ module _ {S L : Type 0} (gives : S → ℕ → List SpacePacket) (sent : L → L
           carry = record {
             record_may = record {
               few = omega (arith, many, may.held.at_most);
-              named = still_named first.stores now.stores may.held (same_ids now.stores first.stores labels);
+              named = named_of now.stores (held_as now.stores first.stores labels may.held).named;
               many = omega (arith, sources_many, counts.few_sources);
             };
             ready = ran.ready;
             some_link = omega (arith, links_many, counts.some_link);
             few_links = omega (arith, links_many, counts.few_links);
-            links = still_room failed first.links now.links failures may.links;
+            links = all_same (λ (n : ℕ). n < 2 ^ 64 - 1) failed first.links now.links failures may.links;
             orders_may = may_order (amount run.plan.now) places t (length q.rows) (length now.stores) is.stores.at_most within footing.apart;
             early = by_step run.base t (length q.windows) footing.early last;
           };
@@ -357,14 +305,24 @@ module _ {S L : Type 0} (gives : S → ℕ → List SpacePacket) (sent : L → L
         let step = subst (λ (u : ℕ). StepDone gives sent failed (recording_in input u now.stores) (orders_of input.amounts places u (length q.rows)) now after) same stepped.done in
         let row = subst (λ (u : ℕ). left.report
         ≡ record buffers.report { steps = buffers.report.steps ++ row_from q u places now.stores after.stores (length q.rows) ∷ [] }) same stepped.row in
-        record {
-          began = here.ran.began;
-          done =
-              subst (λ (u : ℕ). StepsDone gives sent failed input first.sources first.links u after left.report) then
-              (done_on gives sent failed input first.sources first.links places here.footing (t - 1) now after buffers.report here.ran.done step law counts
-              (omega (arith, here.last, same)) left.report row);
-          ready = ready;
-        }
+        let done = subst (λ (u : ℕ). StepsDone gives sent failed input first.sources first.links u after left.report) then
+        (done_on gives sent failed input first.sources first.links places here.footing (t - 1) now after buffers.report here.ran.done step law counts
+        (omega (arith, here.last, same)) left.report row) in
+        record { began = here.ran.began; done = done; fit = all_fit done (omega (arith, here.last, here.from_one)); ready = ready }
+      where
+        -- what the links took in each of the steps fits
+        all_fit : {steps : ℕ} (done : StepsDone gives sent failed input first.sources first.links steps after left.report) → steps ≤ length q.windows
+            → (u : ℕ) → 1 ≤ u → u ≤ steps → FitsAt q (taken_amounts input done.gave done.links_are.took) u
+        all_fit {steps = steps} done within u from_one last =
+            taken_fits input steps done.stores done.gave done.links_are.took done.runs u from_one last
+            (λ s store.
+            let stands = λ (r : ℕ) (inside : r < length q.rows). (here.footing.stand_at r inside).is in
+            let often = done.links_are.once (place_in_memory input s) u from_one last in
+            let named = named_once input.amounts places u (length q.rows) s here.footing.apart store in
+            let one = subst (λ (p : ℕ). times p (places_of (orders_of input.amounts places u (length q.rows))) ≤ 1) (stands s store) named in
+            subst (λ (k : ℕ). k ≤ 1) (sym often)
+            (subst (λ (os : List Order). times (place_in_memory input s) (places_of os) ≤ 1) (orders_are input places u stands) one))
+            (here.ran.began.fits (omega arith) u from_one (omega (arith, last, within)))
 
     -- the step was broken off
     pub halted_in : BrokenOrdersChangeNothing → (after : RunState S L) (left : RunBuffers) (broken : StepBroken)
@@ -392,7 +350,7 @@ module _ {S L : Type 0} (gives : S → ℕ → List SpacePacket) (sent : L → L
     module _ (limits : AreWithinLimits gives (length q.windows) first.stores first.sources) (far : AllFar (bound_at (t - 1)) now.stores) where
       few_here : AreFew gives t now.sources
       few_here =
-          still_few gives t first.sources now.sources (here.ran.done.sources_are.others t (λ from to. absurd (omega (arith, here.from_one, to)))) (limits.few t here.from_one here.last)
+          all_same (λ (ps : List SpacePacket). length ps ≤ 65535) (λ s. gives s t) first.sources now.sources (here.ran.done.sources_are.others t (λ from to. absurd (omega (arith, here.from_one, to)))) (limits.few t here.from_one here.last)
 
       early_here : run.base + t ≤ bound_at (t - 1)
       early_here = early_at run.base t (length q.windows) (early_by first.stores run.base (here.ran.began.in_time (omega arith))).first here.last here.is.steps.at_most

@@ -6,11 +6,11 @@ use Rattle.std.proofs.lemmas.Bool.{cases_lt, eq-eqb, ne_eqb}
 use Rattle.std.proofs.lemmas.List.{map-append, append-nil, length-map, get_or-map}
 use Rattle.std.proofs.lemmas.List.Elements.{All-map}
 use Rattle.std.proofs.lemmas.Grind.{flat_map-append}
+use Rattle.std.proofs.lemmas.Simd.{map-map}
 use Rattle.mm_base.proofs.Ranges.{range_with_len_more}
-use Rattle.mm_base.specs.declared.rows.RouteRow.{RouteRow}
 use Rattle.mm_base.specs.declared.rows.StoreRow.{StoreRow}
 use Rattle.mm_packet.specs.Packet.{SpacePacket}
-use Rattle.mm_problem.specs.Dumping.{row, no_row, arrivals, stores}
+use Rattle.mm_problem.specs.Dumping.{row, no_row, stores}
 use Rattle.mm_store.specs.declared.stored.Stored.{Stored}
 use Rattle.mm_desk.specs.declared.event.Event.{Event}
 use Rattle.mm_desk.specs.declared.event.Event.TheVariants.{Offer}
@@ -26,19 +26,19 @@ use Rattle.mm_dump.specs.Sending.{Sent, all_sent}
 use Rattle.mm_dump.specs.Dumped.{times, places_of, AllTook}
 use Rattle.mm_report.specs.declared.counts.StepCounts.{StepCounts}
 use Rattle.mm_report.specs.Report.{Reported}
-use Rattle.mm_exec.proofs.Replays.{All-unmapped}
+use Rattle.mm_base.proofs.Elements.{All-unmapped}
 use Rattle.mm_exec.specs.StepRuns.{IsStepRun}
-use Rattle.mm_exec.specs.AsPlanned.{IsReady, AsPlanned}
+use Rattle.mm_exec.specs.AsPlanned.{AtEach, IsReady, AsPlanned}
 use Rattle.mm_exec.specs.Laws.{IsRunOf, RunsLoseAsPlanned, RunsLoseNoPacketUncounted}
 use Rattle.mm_exec.specs.Places.{ArePlaces, AreApart}
 use Rattle.mm_exec.specs.RunInput.{RunInput, step_of, offered, as_came, place_in_memory, store_state, step_orders}
 use Rattle.mm_record.specs.Counters.{counters_of}
-use Rattle.mm_exec.specs.Numbers.{counts_from, planned_counts, rows_of, row_from, rows_by_counters, orders_of, counted, AreByCounters}
+use Rattle.mm_exec.specs.Numbers.{counts_from, rows_of, row_from, rows_by_counters, orders_of, AreByCounters}
 use Rattle.mm_exec.specs.RunState.{RunState}
 use Rattle.mm_exec.specs.Step.{StepDone}
 use Rattle.mm_exec.specs.Steps.{AreStepRuns, SourcesGave, LinksSent, StepsDone, sent_in}
 use Rattle.mm_exec.proofs.Coming.{came_at, timed_offers, map_range_same}
-use Rattle.mm_exec.proofs.Counters.{counted_more}
+use Rattle.mm_exec.proofs.Counters.{counts_planned, by_counters}
 use Rattle.mm_exec.proofs.Ordered.{wanted_is, orders_are}
 use Rattle.mm_exec.proofs.Parts.{as_many, same_ids}
 use Rattle.mm_exec.proofs.Placing.{id_there}
@@ -82,34 +82,21 @@ extend-other : {X : Type 0} (k : ℕ) (x : X) (f : ℕ → X) (t : ℕ) → t �
 extend-other k x f t other = rw (ne_eqb t k other) refl
 
 -- a step run, with equal parts
-run_as : (os ps : List (List Event)) (w x : ℕ) (gs hs : List Stored) (s u t v : State) → os ≡ ps → w ≡ x → gs ≡ hs → s ≡ u → t ≡ v → IsStepRun os w gs s t → IsStepRun ps x hs u v
-run_as os ps w x gs hs s u t v offers wants gave before after run =
-    subst (λ o. IsStepRun o x hs u v) offers
-    (subst (λ n. IsStepRun os n hs u v) wants
-    (subst (λ g. IsStepRun os w g u v) gave
-    (subst (λ b. IsStepRun os w gs b v) before
-    (subst (λ a. IsStepRun os w gs s a) after run))))
+run_as : {os ps : List (List Event)} {w x : ℕ} {gs hs : List Stored} {s u t v : State} → os ≡ ps → w ≡ x → gs ≡ hs → s ≡ u → t ≡ v → IsStepRun os w gs s t → IsStepRun ps x hs u v
+run_as offers wants gave before after run =
+    let Run = λ (parts : List (List Event) × ℕ × List Stored × State × State). IsStepRun parts.0 parts.1 parts.2 parts.3 parts.4 in
+    subst Run (λ i. (offers i, wants i, gave i, before i, after i)) run
 
 -- offers of two errands that share the moment, the routes and the store
-offers_same : (e f : RecordingContext) (j k : ℕ) → e.now ≡ f.now → e.routes ≡ f.routes → id_at e.ids j ≡ id_at f.ids k → (ps : List SpacePacket) → offers e j ps ≡ offers f k ps
-offers_same e f j k now routes ids ps =
-    ap (λ (id : List ℕ). map (λ p. Offer e.now p) (filter (is_routed e.routes id) ps)) ids
-    ∙ ap (λ (rs : List RouteRow). map (λ p. Offer e.now p) (filter (is_routed rs (id_at f.ids k)) ps)) routes
-    ∙ ap (λ (n : ℕ). map (λ p. Offer n p) (filter (is_routed f.routes (id_at f.ids k)) ps)) now
-
 given_offers : {S : Type 0} (gives : S → ℕ → List SpacePacket) (e f : RecordingContext) (j k t : ℕ) → e.now ≡ f.now → e.routes ≡ f.routes → id_at e.ids j ≡ id_at f.ids k
-    → (xs : List S) → map (offers e j) (given_in gives t xs) ≡ map (λ g. offers f k (g t)) (map gives xs)
-given_offers gives e f j k t now routes ids [] = refl
-given_offers gives e f j k t now routes ids (x ∷ xs) =
-    let one = offers_same e f j k now routes ids (gives x t) in
-    let rest = given_offers gives e f j k t now routes ids xs in
-    λ i. one i ∷ rest i
+    → (xs : List S) → map (offers e j) (given_in gives t xs) ≡ map (offers f k) (map (λ g. g t) (map gives xs))
+given_offers gives e f j k t now routes ids xs =
+    let same : given_in gives t xs ≡ map (λ g. g t) (map gives xs) = sym (map-map (λ (g : ℕ → List SpacePacket). g t) gives xs) in
+    λ i. map (λ ps. map (λ p. Offer (now i) p) (filter (is_routed (routes i) (ids i)) ps)) (same i)
 
--- nothing left of what is the same
-none_same : {S : Type 0} (gives : S → ℕ → List SpacePacket) (t : ℕ) (xs ys : List S) → given_in gives t ys ≡ given_in gives t xs → All (λ s. gives s t ≡ []) xs → All (λ s. gives s t ≡ []) ys
-none_same gives t xs ys same none =
-    let mapped : All (λ (ps : List SpacePacket). ps ≡ []) (given_in gives t xs) = All-map (λ (ps : List SpacePacket). ps ≡ []) (λ s. gives s t) xs none in
-    All-unmapped (λ (ps : List SpacePacket). ps ≡ []) (λ s. gives s t) ys (subst (All (λ (ps : List SpacePacket). ps ≡ [])) (sym same) mapped)
+-- what holds of what some are made into holds of others that are made into the same
+pub all_same : {X Y : Type 0} (P : Y → Type 0) (f : X → Y) (xs ys : List X) → map f ys ≡ map f xs → All (λ x. P (f x)) xs → All (λ x. P (f x)) ys
+all_same P f xs ys same all = All-unmapped P f ys (subst (All P) (sym same) (All-map P f xs all))
 
 -- pieces over a range are equal where each is
 flat_map_range_same : {X : Type 0} (f g : ℕ → List X) (a n : ℕ) → ((t : ℕ) → a ≤ t → t < a + n → f t ≡ g t) → flat_map f (range_with_len a n) ≡ flat_map g (range_with_len a n)
@@ -128,10 +115,6 @@ flat_map_range_more f k =
 -- a list over a range with one number more
 map_range_more : {X : Type 0} (f : ℕ → X) (k : ℕ) → map f (range_with_len 1 (suc k)) ≡ map f (range_with_len 1 k) ++ f (suc k) ∷ []
 map_range_more f k = ap (map f) (range_with_len_more 1 k (suc k) (omega arith)) ∙ map-append f (range_with_len 1 k) (suc k ∷ [])
-
--- what a counter rose by
-less_of : (after before rose : ℕ) → after ≡ before + rose → after - before ≡ rose
-less_of after before rose same = omega arith
 
 -- what holds of each of the first steps holds of one more
 with_next : (P : ℕ → Type 0) (k : ℕ) → ((t : ℕ) → t ≤ k → P t) → P (suc k) → (t : ℕ) → t ≤ suc k → P t
@@ -215,7 +198,7 @@ module _ {S L : Type 0} (gives : S → ℕ → List SpacePacket) (sent : L → L
     offered_here s store =
         ap (map (offers e (slice_index places s))) (done.sources_are.others (suc k) (λ first last. omega arith))
         ∙ given_offers gives e (step_of m (suc k)) (slice_index places s) s (suc k) refl refl (id_here s store) sources
-        ∙ ap (λ gs. map (λ g. offers (step_of m (suc k)) s (g (suc k))) gs) (sym footing.gives_are)
+        ∙ ap (λ gs. map (offers (step_of m (suc k)) s) (map (λ g. g (suc k)) gs)) (sym footing.gives_are)
 
     -- a store went by a step run in a step, this one or an earlier one
     abbrev RunAt : ℕ → ℕ → Type 0
@@ -229,7 +212,7 @@ module _ {S L : Type 0} (gives : S → ℕ → List SpacePacket) (sent : L → L
         let within : p < length after.stores = omega arith in
         let gave : stepped.gave p ≡ gave_after (place_in_memory m s) (suc k) =
         ap stepped.gave (footing.stand_at s store).is ∙ ap (λ (b : Bool). cond b (stepped.gave (place_in_memory m s)) (done.gave (place_in_memory m s) (suc k))) (sym (eq-eqb (suc k) (suc k) refl)) in
-        run_as _ _ _ _ _ _ _ _ _ _ (offered_here s store) (wanted_is m.amounts places (suc k) n s footing.apart store) gave (state_before s store) (state_after s store)
+        run_as (offered_here s store) (wanted_is m.amounts places (suc k) n s footing.apart store) gave (state_before s store) (state_after s store)
         (stepped.runs p within)
 
     -- what an earlier order was given
@@ -240,7 +223,7 @@ module _ {S L : Type 0} (gives : S → ℕ → List SpacePacket) (sent : L → L
     each_run s t store first last =
         with_next (λ u. 1 ≤ u → RunAt s u) k
         (λ u last first.
-        run_as _ _ _ _ _ _ _ _ _ _ refl refl (sym (gave_old (place_in_memory m s) u (λ same. omega (arith, same))))
+        run_as refl refl (sym (gave_old (place_in_memory m s) u (λ same. omega (arith, same))))
         (ap (λ (held : List Held). store_state m held s) (sym (at_old (u - 1) (omega arith)))) (ap (λ (held : List Held). store_state m held s) (sym (at_old u last)))
         (done.runs.runs s u store first last))
         (λ first. step_run s store) t last first
@@ -260,7 +243,7 @@ module _ {S L : Type 0} (gives : S → ℕ → List SpacePacket) (sent : L → L
     given_on = record {
       nothing_left = λ t first last.
           with_next (λ u. 1 ≤ u → All (λ s. gives s u ≡ []) after.sources) k
-          (λ u last first. none_same gives u before.sources after.sources (stepped.others u (λ same. omega (arith, same))) (done.sources_are.nothing_left u first last))
+          (λ u last first. all_same (λ (ps : List SpacePacket). ps ≡ []) (λ s. gives s u) before.sources after.sources (stepped.others u (λ same. omega (arith, same))) (done.sources_are.nothing_left u first last))
           (λ first. stepped.nothing_left) t last first;
       others = λ t outside.
           stepped.others t (λ same. outside (omega (arith, same)) (omega (arith, same))) ∙ done.sources_are.others t (λ first last. outside first (omega arith));
@@ -273,16 +256,11 @@ module _ {S L : Type 0} (gives : S → ℕ → List SpacePacket) (sent : L → L
     abbrev old_pieces : ℕ → ℕ → List Sent
     old_pieces l t = sent_in m done.gave t (slice_index_or (done.links_are.took t) l [])
 
-    abbrev by_test : ℕ → ℕ → Bool → List Sent
-    by_test l t b =
-        flat_map (λ j. all_sent (id_at (map (λ h. h.id) m.memory.stores) j) (cond b (stepped.gave j) (done.gave j t)))
-        (slice_index_or (cond b stepped.places (done.links_are.took t)) l [])
-
     piece_old : (l t : ℕ) → t ≢ suc k → pieces l t ≡ old_pieces l t
-    piece_old l t other = ap (by_test l t) (ne_eqb t (suc k) other)
+    piece_old l t other = rw (ne_eqb t (suc k) other) refl
 
     piece_new : (l : ℕ) → pieces l (suc k) ≡ flat_map (λ j. all_sent (id_at (map (λ h. h.id) m.memory.stores) j) (stepped.gave j)) (slice_index_or stepped.places l [])
-    piece_new l = ap (by_test l (suc k)) (eq-eqb (suc k) (suc k) refl)
+    piece_new l = rw (eq-eqb (suc k) (suc k) refl) refl
 
     -- the links before the step are as many as at first
     links_many : length before.links ≡ length links
@@ -342,73 +320,27 @@ module _ {S L : Type 0} (gives : S → ℕ → List SpacePacket) (sent : L → L
       }
 
       -- the counters of each store rise as the plan says
-      planned_at : (s : ℕ) → s < n → AsPlanned (as_came m) m.amounts s (suc k) (store_state m before.stores s) (store_state m after.stores s)
-      planned_at s store =
-          let raw = law (as_came m) m.amounts (suc k) (offered m) (λ s t. gave_after (place_in_memory m s) t) (λ s t. store_state m (stores_after t) s) run_of s (suc k) store (omega arith) (omega arith) in
-          let first = subst (λ (held : List Held). AsPlanned (as_came m) m.amounts s (suc k) (store_state m held s) (store_state m (stores_after (suc k)) s)) at_last raw in
-          subst (λ (held : List Held). AsPlanned (as_came m) m.amounts s (suc k) (store_state m before.stores s) (store_state m held s)) at_new first
+      planned_at : AtEach n (suc k) (λ s t. AsPlanned (as_came m) m.amounts s t (store_state m (stores_after (t - 1)) s) (store_state m (stores_after t) s))
+      planned_at = law (as_came m) m.amounts (suc k) (offered m) (λ s t. gave_after (place_in_memory m s) t) (λ s t. store_state m (stores_after t) s) run_of
 
-      -- what the step brings to a store is what the plan says
-      counts_are : (s : ℕ) → s < n
-          → counts_from m.problem s (suc k) (counters_of (opening_at (states_of before.stores) (slice_index places s))) (opening_at (states_of after.stores) (slice_index places s))
-          ≡ planned_counts m.problem (as_came m) m.amounts s (suc k)
-      counts_are s store =
-          let planned = subst (λ (j : ℕ). AsPlanned (as_came m) m.amounts s (suc k) (opening_at (states_of before.stores) j) (opening_at (states_of after.stores) j))
-          (sym (footing.stand_at s store).is) (planned_at s store) in
-          let arrived = less_of _ _ _ planned.takes in
-          let lost_is = less_of _ _ _ planned.loses in
-          let dumped = less_of _ _ _ planned.dumps in
-          let held = planned.holds in
-          λ i. record { forecast = arrivals m.problem s (suc k); arrived = arrived i; lost = lost_is i; dumped = dumped i; held = held i }
-
-      -- the row of the step is that of the plan
-      row_is : row_from m.problem (suc k) places before.stores after.stores n ≡ map (λ s. planned_counts m.problem (as_came m) m.amounts s (suc k)) (stores m.problem)
-      row_is = map_range_same _ _ 0 n (λ s from to. counts_are s (omega arith))
-
-      -- the rows of one step more
-      rows_more : rows_of m.problem (as_came m) m.amounts k ++ row_from m.problem (suc k) places before.stores after.stores n ∷ []
-          ≡ rows_of m.problem (as_came m) m.amounts (suc k)
-      rows_more =
-          let row = λ (t : ℕ). map (λ s. planned_counts m.problem (as_came m) m.amounts s t) (stores m.problem) in
-          ap (λ (r : List StepCounts). rows_of m.problem (as_came m) m.amounts k ++ r ∷ []) row_is ∙ sym (map_range_more row k)
+      -- the rows by the counters are those of the plan
+      rows_planned : rows_by_counters m stores_after (suc k) ≡ rows_of m.problem (as_came m) m.amounts (suc k)
+      rows_planned = map_range_same _ _ 1 (suc k) (λ t first last. map_range_same _ _ 0 n (λ s from to. counts_planned m.problem (as_came m) m.amounts s t _ _ (planned_at s t (omega arith) first (omega arith))))
 
       -- the rows so far and that of the step are those of the counters
       rows_counted : report.steps ++ row_from m.problem (suc k) places before.stores after.stores n ∷ [] ≡ rows_by_counters m stores_after (suc k)
       rows_counted =
-          let row = λ (held : ℕ → List Held) (t : ℕ).
-          map (λ s. counts_from m.problem s t (counters_of (store_state m (held (t - 1)) s)) (store_state m (held t) s)) (stores m.problem) in
-          let earlier : map (row stores_after) (range_with_len 1 k) ≡ rows_by_counters m done.stores k =
-          map_range_same (row stores_after) (row done.stores) 1 k
-          (λ t from to.
-          ap (λ (held : List Held). map (λ s. counts_from m.problem s t (counters_of (store_state m held s)) (store_state m (stores_after t) s)) (stores m.problem)) (at_old (t - 1) (omega arith))
-          ∙ ap (λ (held : List Held). map (λ s. counts_from m.problem s t (counters_of (store_state m (done.stores (t - 1)) s)) (store_state m held s)) (stores m.problem)) (at_old t (omega arith))) in
-          let last : row_from m.problem (suc k) places before.stores after.stores n ≡ row stores_after (suc k) =
+          let row = λ (before after : List Held) (t : ℕ). map (λ s. counts_from m.problem s t (counters_of (store_state m before s)) (store_state m after s)) (stores m.problem) in
+          let now = λ (t : ℕ). row (stores_after (t - 1)) (stores_after t) t in
+          let earlier : map now (range_with_len 1 k) ≡ rows_by_counters m done.stores k =
+          map_range_same now (λ t. row (done.stores (t - 1)) (done.stores t) t) 1 k
+          (λ t from to. let was = at_old (t - 1) (omega arith) in let is = at_old t (omega arith) in λ i. row (was i) (is i) t) in
+          let last : row_from m.problem (suc k) places before.stores after.stores n ≡ now (suc k) =
           map_range_same _ _ 0 n
-          (λ s from to.
-          ap (λ (u : State). counts_from m.problem s (suc k) (counters_of u) (opening_at (states_of after.stores) (slice_index places s))) (state_before s (omega arith))
-          ∙ ap (λ (u : State). counts_from m.problem s (suc k) (counters_of (store_state m (stores_after (suc k - 1)) s)) u) (state_after s (omega arith))) in
+          (λ s from to. let was = state_before s (omega arith) in let is = state_after s (omega arith) in λ i. counts_from m.problem s (suc k) (counters_of (was i)) (is i)) in
           ap (λ (rows : List (List StepCounts)). rows ++ row_from m.problem (suc k) places before.stores after.stores n ∷ []) (done.rows ∙ sym earlier)
-          ∙ ap (λ (r : List StepCounts). map (row stores_after) (range_with_len 1 k) ++ r ∷ []) last
-          ∙ sym (map_range_more (row stores_after) k)
-
-      -- so do the totals
-      counted_on : AreByCounters m after.stores (report.steps ++ row_from m.problem (suc k) places before.stores after.stores n ∷ [])
-      counted_on =
-          let stands = λ (s : ℕ) (store : s < n). (footing.stand_at s store).is in
-          record {
-            arrived =
-                counted_more m places (suc k) before.stores after.stores (λ u. u.offered) (λ x. x.arrived) (λ s u v. refl) stands
-                (λ s store. rises _ _ _ (planned_at s store).takes) (counted m (λ u. u.offered) m.memory.stores) report.steps done.counted.arrived;
-            lost =
-                counted_more m places (suc k) before.stores after.stores (λ u. u.lost) (λ x. x.lost) (λ s u v. refl) stands
-                (λ s store. rises _ _ _ (planned_at s store).loses) (counted m (λ u. u.lost) m.memory.stores) report.steps done.counted.lost;
-            dumped =
-                counted_more m places (suc k) before.stores after.stores (λ u. u.deleted) (λ x. x.dumped) (λ s u v. refl) stands
-                (λ s store. rises _ _ _ (planned_at s store).dumps) (counted m (λ u. u.deleted) m.memory.stores) report.steps done.counted.dumped;
-          }
-        where
-          rises : (after before rose : ℕ) → after ≡ before + rose → before ≤ after
-          rises after before rose same = omega arith
+          ∙ ap (λ (r : List StepCounts). map now (range_with_len 1 k) ++ r ∷ []) last
+          ∙ sym (map_range_more now k)
 
       -- one step more of a run
       pub done_on : (new : Reported) → new ≡ record report { steps = report.steps ++ row_from m.problem (suc k) places before.stores after.stores n ∷ [] }
@@ -422,8 +354,11 @@ module _ {S L : Type 0} (gives : S → ℕ → List SpacePacket) (sent : L → L
         links_are = sent_on;
         accounted = counts (as_came m) m.amounts (suc k) (offered m) (λ s t. gave_after (place_in_memory m s) t) (λ s t. store_state m (stores_after t) s) run_of;
         report_is =
-            is ∙ ap (λ (r : Reported). record r { steps = r.steps ++ row_from m.problem (suc k) places before.stores after.stores n ∷ [] }) done.report_is
-            ∙ ap (λ (rows : List (List StepCounts)). record { ids = map (λ r. r.id) m.problem.rows; most = length m.problem.windows; steps = rows }) rows_more;
+            let was = done.report_is in
+            is ∙ (λ i. record { ids = ap (λ (r : Reported). r.ids) was i; most = ap (λ (r : Reported). r.most) was i; steps = (rows_counted ∙ rows_planned) i });
         rows = ap (λ (r : Reported). r.steps) is ∙ rows_counted;
-        counted = subst (λ (r : Reported). AreByCounters m after.stores r.steps) (sym is) counted_on;
+        counted =
+            let rows : rows_by_counters m stores_after (suc k) ≡ new.steps = sym (ap (λ (r : Reported). r.steps) is ∙ rows_counted) in
+            subst (λ (steps : List (List StepCounts)). AreByCounters m after.stores steps) rows
+            (subst (λ (held : List Held). AreByCounters m held (rows_by_counters m stores_after (suc k))) at_new (by_counters m stores_after (suc k) ran_on.first (as_came m) m.amounts planned_at));
       }

@@ -5,8 +5,10 @@ use Rattle.std.specs.List.{AllZip}
 use Rattle.std.proofs.lemmas.Bool.{cases_lt, cond_both}
 use Rattle.std.proofs.lemmas.List.{length-map, get_or-map}
 use Rattle.std.proofs.lemmas.List.Elements.{All-nil, All-cons, All-head, All-tail, All-map}
-use Rattle.std.proofs.lemmas.List.Sums.{length-filter, count_by-le-length, sum_by-cons}
+use Rattle.std.proofs.lemmas.List.Sums.{sum_by-le}
 use Rattle.mm_base.proofs.Pairs.{All-front}
+use Rattle.mm_base.proofs.Sums.{sum_by-map}
+use Rattle.mm_record.proofs.Taking.{filter_fewer}
 use Rattle.mm_packet.specs.Packet.{SpacePacket}
 use Rattle.mm_store.specs.Content.{clock_end}
 use Rattle.mm_desk.specs.declared.entry.Entry.{Entry}
@@ -62,7 +64,7 @@ offers_by : (now : ℕ) (ps : List SpacePacket) → All (IsBy now) (map (λ p. O
 offers_by now [] = All-nil (IsBy now)
 offers_by now (p ∷ ps) = All-cons (IsBy now) (Offer now p) (map (λ p. Offer now p) ps) (omega arith) (offers_by now ps)
 
-all_by : (e : RecordingContext) (k : ℕ) (gave : List (List SpacePacket)) → AreBy e.now (map (offers e k) gave)
+pub all_by : (e : RecordingContext) (k : ℕ) (gave : List (List SpacePacket)) → AreBy e.now (map (offers e k) gave)
 all_by e k [] = All-nil (λ (list : List Event). All (IsBy e.now) list)
 all_by e k (g ∷ gave) =
     All-cons (λ (list : List Event). All (IsBy e.now) list) (offers e k g) (map (offers e k) gave) (offers_by e.now (filter (is_routed e.routes (id_at e.ids k)) g)) (all_by e k gave)
@@ -200,16 +202,15 @@ AllFar bound stores = All (λ h. IsFar bound h.state) stores
 
 -- no more packets are offered than are given
 offers_few : (e : RecordingContext) (k most : ℕ) (gave : List (List SpacePacket)) → All (λ ps. length ps ≤ most) gave → count_of (map (offers e k) gave) ≤ length gave * most
-offers_few e k most [] all = omega arith
-offers_few e k most (g ∷ gave) all =
-    let here : length g ≤ most = All-head (λ (ps : List SpacePacket). length ps ≤ most) g gave all in
-    let rest = offers_few e k most gave (All-tail (λ (ps : List SpacePacket). length ps ≤ most) g gave all) in
-    let kept = filter (is_routed e.routes (id_at e.ids k)) g in
-    let one : length (offers e k g) ≡ length kept = length-map kept (λ (p : SpacePacket). Offer e.now p) in
-    let few : length kept ≤ length g =
-    subst (λ (n : ℕ). n ≤ length g) (sym (length-filter (is_routed e.routes (id_at e.ids k)) g)) (count_by-le-length (is_routed e.routes (id_at e.ids k)) g) in
-    let all_of : count_of (map (offers e k) (g ∷ gave)) ≡ length (offers e k g) + count_of (map (offers e k) gave) = sum_by-cons (λ (events : List Event). length events) (offers e k g) (map (offers e k) gave) in
-    grind (arith, here, rest, one, few, all_of)
+offers_few e k most gave all =
+    subst (λ (n : ℕ). n ≤ length gave * most) (sym (sum_by-map (λ (events : List Event). length events) (offers e k) gave)) (sum_by-le (λ (g : List SpacePacket). length (offers e k g)) most gave each)
+  where
+    each : All (λ g. length (offers e k g) ≤ most) gave
+    each i d inside =
+        let kept = filter (is_routed e.routes (id_at e.ids k)) (get_or gave i d) in
+        let few : length kept ≤ length (get_or gave i d) = filter_fewer (is_routed e.routes (id_at e.ids k)) (get_or gave i d) in
+        let most_here : length (get_or gave i d) ≤ most = all i d inside in
+        omega (arith, length-map kept (λ (p : SpacePacket). Offer e.now p), few, most_here)
 
 -- what a step keeps of each store
 module _ {S L : Type 0} (gives : S → ℕ → List SpacePacket) (sent : L → List Sent) (failed : L → ℕ) (law : StepRunsKeepStores) (e : RecordingContext) (orders : List Order)
@@ -227,13 +228,9 @@ module _ {S L : Type 0} (gives : S → ℕ → List SpacePacket) (sent : L → L
 
   -- the stores are ready for the next step
   pub ready_after : AreReady after.stores
-  ready_after = record {
-    sound = all_states IsState after.stores (λ k within. (kept_at k within).sound);
-    storage = all_states (λ (s : State). IsTrue s.storage) after.stores (λ k within.
-        (kept_at k within).storage ∙ state_holds (λ (s : State). IsTrue s.storage) before.stores ready.storage k (omega (arith, many)));
-    idle = all_states (λ (s : State). s.retrieval ≡ None) after.stores (λ k within.
-        (kept_at k within).retrieval ∙ state_holds (λ (s : State). s.retrieval ≡ None) before.stores ready.idle k (omega (arith, many)));
-  }
+  ready_after =
+      ready_kept before.stores after.stores many (all_states IsState after.stores (λ k within. (kept_at k within).sound))
+      (λ k within. let kept = kept_at k within in record { storage = kept.storage; retrieval = kept.retrieval }) ready
 
   -- counts move by less than 2^20
   pub far_after : (bound : ℕ) → length before.sources ≤ 8 → All (λ s. length (gives s e.step) ≤ 65535) before.sources → e.now ≤ bound → AllFar bound before.stores

@@ -2,6 +2,7 @@
 use Rattle.std.specs.Prelude.{◌≡◌, ℕ, ◌-◌, ◌≤◌, ◌⊎◌, List, [], length}
 use Rattle.mm_packet.specs.Packet.{SpacePacket}
 use Rattle.mm_problem.specs.Dumping.{window}
+use Rattle.mm_plan.specs.Fit.{FitsAt}
 use Rattle.mm_plan.specs.Table.{Table}
 use Rattle.mm_plan.specs.Volumes.{loss}
 use Rattle.mm_shared.specs.Stores.{labels_of}
@@ -17,7 +18,7 @@ use Rattle.mm_exec.specs.declared.run_end.Halted.{Halted}
 use Rattle.mm_exec.specs.RunInput.{RunInput, recording_in, as_came, step_orders}
 use Rattle.mm_exec.specs.RunState.{RunState}
 use Rattle.mm_exec.specs.Step.{AreReady, StepStopped, StepBroke}
-use Rattle.mm_exec.specs.Steps.{StepsDone}
+use Rattle.mm_exec.specs.Steps.{StepsDone, taken_amounts}
 use Rattle.mm_exec.specs.Failure.{FailedLink}
 
 -- what a run holds whose stores are those of a memory
@@ -28,12 +29,13 @@ over_memory memory sources links = record { stores = memory.stores; sources = so
 abbrev pub run_start_of : {S L : Type 0} → RunInput → Table → RunState S L → RunStart
 run_start_of m plan first = run_start m.problem plan m.memory.stores m.base (length first.sources) (length first.links)
 
--- where a run stands after its first steps: the tests before it passed, the steps are carried out, the report is theirs, and the stores
--- are sound and ready for more
+-- where a run stands after its first steps: the tests before it passed, the steps are carried out, the report is theirs, in each of them
+-- the links took no more than the window, and of each channel no more than its limit, and the stores are sound and ready for more
 pub record HasRun {S L : Type 0} (gives : S → ℕ → List SpacePacket) (sent : L → List Sent) (failed : L → ℕ) (m : RunInput) (plan : Table) (first : RunState S L)
     (steps : ℕ) (now : RunState S L) (report : Reported) : Type 0 where
   pub began : MayBegin (run_start_of m plan first)
   pub done : StepsDone gives sent failed m first.sources first.links steps now report
+  pub fit : (t : ℕ) → 1 ≤ t → t ≤ steps → FitsAt m.problem (taken_amounts m done.gave done.links_are.took) t
   pub ready : AreReady now.stores
 
 -- the tests before a run passed, and the plan was carried out, and left this memory, whose stores are sound and ready for more. The lost

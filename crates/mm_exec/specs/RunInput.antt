@@ -34,7 +34,7 @@ recording_in m t stores = recording t (m.base + t) m.memory.routes stores
 
 -- the offers to a store in a step: for each source, those of the packets that it gives
 abbrev pub offered : RunInput → ℕ → ℕ → List (List Event)
-offered m s t = map (λ gives. offers (step_of m t) s (gives t)) m.gives
+offered m s t = map (offers (step_of m t) s) (map (λ gives. gives t) m.gives)
 
 -- how many packets come to a store in a step
 abbrev pub came : RunInput → ℕ → ℕ → ℕ

@@ -1,5 +1,5 @@
 -- The first steps of a run, carried out whole.
-use Rattle.std.specs.Prelude.{◌≡◌, ℕ, ◌-◌, ◌<◌, ◌≤◌, List, [], ◌++◌, length, map, flat_map, sum_by, slice_index_or, All}
+use Rattle.std.specs.Prelude.{◌≡◌, ℕ, ◌-◌, ◌*◌, ◌<◌, ◌≤◌, List, [], ◌++◌, length, map, flat_map, sum_by, slice_index_or, All}
 use Rattle.std.specs.List.{range_with_len}
 use Rattle.mm_packet.specs.Packet.{SpacePacket}
 use Rattle.mm_plan.specs.Volumes.{Amounts}
@@ -43,6 +43,10 @@ pub record LinksSent {L : Type 0} (sent : L → List Sent) (failed : L → ℕ) 
   pub lists : (l : ℕ) → l < length before → slice_index_or (map sent after) l []
       ≡ slice_index_or (map sent before) l [] ++ flat_map (λ t. sent_in m gave t (slice_index_or (took t) l [])) (range_with_len 1 steps)
   pub no_failure : map failed after ≡ map failed before
+
+-- how many packets of each store the links took in each step, as amounts of a plan: as many as its order was given, as often as a link took it
+abbrev pub taken_amounts : RunInput → (ℕ → ℕ → List Stored) → (ℕ → List (List ℕ)) → Amounts
+taken_amounts m gave took s t = sum_by (times (place_in_memory m s)) (took t) * length (gave (place_in_memory m s) t)
 
 -- how many packets the order of each store was given in each step, as amounts of a plan
 abbrev pub sent_amounts : RunInput → (ℕ → ℕ → List Stored) → Amounts

@@ -22,6 +22,7 @@ loop-step-init g c =
       ran = record {
         began = begins;
         done = done_first g.S.Source.gives g.L.Link.sent g.L.Link.failed (given_to g.S.Source.gives c.args.run.now first) first c.args.buffers.report refl c.requires.may.report;
+        fit = λ t from_one last. absurd (omega (arith, from_one, last));
         ready = all_ready c.args.run.now.problem.now first.stores c.requires.may.held (begins.ready (omega arith)) (begins.known (omega arith)) c.requires.may.sound;
       };
       far = λ limits.
