@@ -103,12 +103,14 @@ impl SpanSet {
             let word = 3 - back;
             let mut bits = self.0[word] | way.0[word] & carry;
             let mut way = way.0[word];
-            for power in 0..6 {
-                if way == 0 {
+            let mut by = 1u32;
+            for _ in 0..6 {
+                if way & bits >> 1 & !bits == 0 {
                     break;
                 }
-                bits |= way & bits >> (1 << power);
-                way &= way >> (1 << power);
+                bits |= way & bits >> (by & 63);
+                way &= way >> (by & 63);
+                by = by.wrapping_mul(2);
             }
             set.0[word] = bits;
             carry = bits << 63;
