@@ -7,29 +7,28 @@ ghost use Rattle.mm_planner.specs.Planned.{ShowsLeast};
 
 use crate::in_order::{InOrder, plan_in_order_by_flow};
 use crate::planner::Planned;
-use mm_base::NoMemory;
+use mm_base::{MAX_BLOCKS, MAX_STEPS, MAX_STORES, NoMemory};
 use mm_cut::{Verdict, first_not_shown, verify};
-use mm_plan::{Certificate, Plan, fill, first_loss, fits, loss_of};
+use mm_plan::{Certificate, fill, fits, loss_of};
 use mm_problem::Problem;
 use mm_propose::{OrderProposal, ProposedCut, propose_in_order};
 use std::alloc::Global;
 
-// Certificates of cuts of the first store, of the first two and so on, with what those lose. They may show nothing.
+// The most that all stores lose.
+const MOST_LOST: u64 = 2 * MAX_BLOCKS as u64 * MAX_STEPS as u64 * MAX_STORES as u64;
+
+// Certificates of cuts of the first store, of the first two and so on, with what those are said to lose. They may show nothing.
 fn supposed(
     alloc: Global,
-    problem: &Problem,
-    plan: &Plan,
     cuts: Vec<ProposedCut>,
+    losses: Vec<u64>,
 ) -> Result<Vec<Certificate>, NoMemory>
-    requires { HasShape problem.now plan.now }
     ensures { IfOk result (λ firsts. All (λ c. c.loss ≤ 2 * MAX_BLOCKS * MAX_STEPS * MAX_STORES) firsts.items) }
 {
     let mut firsts = Vec::new(alloc);
     for cut in cuts {
-        if firsts.len() >= problem.stores() {
-            break;
-        }
-        let loss = first_loss(problem, plan, firsts.len() + 1);
+        let said = losses.get(firsts.len()).copied().unwrap_or(0);
+        let loss = said.min(MOST_LOST);
         firsts.push(Certificate::new(loss, cut.stretches, cut.by_channels, loss as i64))?;
     }
     Ok(firsts)
@@ -47,7 +46,11 @@ fn proposed_in_order(alloc: Global, problem: &Problem) -> Result<Option<InOrder>
     ensures most_each { IfOk result (λ found. IfSome found (λ all.
         All (λ c. c.loss ≤ 2 * MAX_BLOCKS * MAX_STEPS * MAX_STORES) all.firsts.items)) }
 {
-    let OrderProposal { plan, mut cuts } = propose_in_order(alloc, problem)?;
+    let OrderProposal {
+        plan,
+        mut cuts,
+        losses,
+    } = propose_in_order(alloc, problem)?;
     if fits(problem, &plan).is_err() {
         return Ok(None);
     }
@@ -55,7 +58,7 @@ fn proposed_in_order(alloc: Global, problem: &Problem) -> Result<Option<InOrder>
         return Ok(None);
     };
     let filled = fill(alloc, problem, &plan)?;
-    let firsts = supposed(alloc, problem, &filled, cuts)?;
+    let firsts = supposed(alloc, cuts, losses)?;
     if firsts.len() + 1 != problem.stores()
         || first_not_shown(problem, &filled, firsts.as_slice()).is_some()
     {

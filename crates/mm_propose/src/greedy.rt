@@ -1,7 +1,8 @@
 //! A first plan, span by span: each window goes first to the store that overflows next.
 use crate::amounts::Amounts;
-use crate::sets::{SpanSet, StoreSet};
+use crate::sets::StoreSet;
 use crate::slots::{Slot, Table};
+use crate::span_sets::SpanSet;
 use crate::spans::Span;
 use crate::stores::Stores;
 use mm_problem::MAX_STORES;

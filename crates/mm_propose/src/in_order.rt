@@ -2,24 +2,23 @@
 ghost use Rattle.std.specs.Prelude.{IfOk};
 ghost use Rattle.mm_plan.specs.Table.{HasShape};
 
-use crate::cuts::{ProposedCut, cut_of};
-use crate::late::serve;
-use crate::moves::Walks;
-use crate::proposal::{look_at_arcs, plan_of};
-use crate::reroute::reroute;
-use crate::search::search;
-use crate::sets::StoreSet;
+use crate::cuts::ProposedCut;
+use crate::lane::Lane;
+use crate::order_cuts::cut_of_first;
+use crate::serve::Service;
 use crate::spans::{Span, spans_of};
 use crate::stores::Stores;
 use mm_plan::{NoMemory, Plan};
-use mm_problem::Problem;
+use mm_problem::{MAX_BLOCKS, Problem};
 use std::alloc::Global;
 
-/// A plan, and cuts of the first store, of the first two and so on to all. Nothing is known of them but that the plan is one for the problem.
+/// A plan, and cuts of the first store, of the first two and so on to all, with what these stores lose. Nothing is known of them but that the
+/// plan is one for the problem.
 #[derive(Debug, Drop)]
 pub struct OrderProposal {
     pub plan: Plan,
     pub cuts: Vec<ProposedCut>,
+    pub losses: Vec<u64>,
 }
 
 // The last of these cuts once more, and where there is none that of nothing.
@@ -36,22 +35,16 @@ fn last_cut(alloc: Global, cuts: &[ProposedCut]) -> Result<ProposedCut, NoMemory
     }
 }
 
-// Serves one store more, while those before it lose as much as before. The last search finds what the cut is made of. There is none where the
-// store loses nothing: the cut of those before it is one for them all.
-fn serve_next(
-    alloc: Global,
-    problem: &Problem,
-    stores: &Stores,
-    spans: &mut [Span],
-    store: usize,
-) -> Result<Option<ProposedCut>, NoMemory> {
-    if !serve(stores, spans, store) {
-        return Ok(None);
+// Writes what leaves a store in each span into its last step.
+fn write_lane(plan: &mut Plan, problem: &Problem, spans: &[Span], store: usize, lane: &Lane)
+    requires { HasShape problem.now plan.old }
+    ensures { HasShape problem.now plan.new }
+{
+    for (at, span) in spans.iter().enumerate() {
+        if 0 < span.last && span.last <= problem.steps() && store < problem.stores() {
+            plan.set(store, span.last, lane.dumped(at).min(MAX_BLOCKS));
+        }
     }
-    let mut walks = Walks::new(alloc, StoreSet::NONE.with(store));
-    reroute(stores, spans, &mut walks, store)?;
-    search(stores, spans, stores.first(store.saturating_add(1)));
-    Ok(Some(cut_of(alloc, problem, spans)?))
 }
 
 /// A plan for the problem that is meant to serve the stores in order, and cuts of the first stores, which mm_cut can look at. Nothing is
@@ -60,18 +53,31 @@ pub fn propose_in_order(alloc: Global, problem: &Problem) -> Result<OrderProposa
     ensures shape { IfOk result (λ proposal. HasShape problem.now proposal.plan) }
 {
     let stores = Stores::of(problem);
-    let mut spans = spans_of(alloc, problem)?;
-    look_at_arcs(&stores, spans.as_mut_slice());
+    let spans = spans_of(alloc, problem)?;
+    let spans = spans.as_slice();
+    let mut service = Service::new(alloc, spans);
+    let mut plan = Plan::zero(alloc, problem)?;
     let mut cuts = Vec::new(alloc);
-    for store in 0..problem.stores() {
-        let cut = match serve_next(alloc, problem, &stores, spans.as_mut_slice(), store)? {
-            Some(cut) => cut,
-            None => last_cut(alloc, cuts.as_slice())?,
+    let mut losses = Vec::new(alloc);
+    for _ in 0..problem.stores() {
+        let before = service.lost;
+        service.serve(&stores, spans)?;
+        let cut = if before < service.lost {
+            cut_of_first(
+                alloc,
+                problem,
+                spans,
+                service.lanes.as_slice(),
+                &service.seek.dead,
+            )?
+        } else {
+            last_cut(alloc, cuts.as_slice())?
         };
         cuts.push(cut)?;
+        losses.push(service.lost)?;
     }
-    Ok(OrderProposal {
-        plan: plan_of(alloc, problem, spans.as_slice())?,
-        cuts,
-    })
+    for (store, lane) in service.lanes.iter().enumerate() {
+        write_lane(&mut plan, problem, spans, store, lane);
+    }
+    Ok(OrderProposal { plan, cuts, losses })
 }

@@ -1,6 +1,5 @@
 //! Moving lost blocks along the paths that a search found.
 use crate::paths::{Link, link_to, lost_to};
-use crate::sets::StoreSet;
 use crate::spans::Span;
 use crate::stores::Stores;
 use mm_plan::NoMemory;
@@ -16,17 +15,14 @@ const DEAD_ENDS: u32 = 1024;
 #[derive(Drop)]
 pub(crate) struct Walks {
     path: Vec<Link>,
-    // the stores whose lost blocks are moved
-    losing: StoreSet,
     dead_ends: u32,
     have_moved: bool,
 }
 
 impl Walks {
-    pub(crate) fn new(alloc: Global, losing: StoreSet) -> Walks {
+    pub(crate) fn new(alloc: Global) -> Walks {
         Walks {
             path: Vec::new(alloc),
-            losing,
             dead_ends: 0,
             have_moved: false,
         }
@@ -68,33 +64,6 @@ impl Walks {
         self.have_moved = true;
     }
 
-    // Walks back from an arc to lost blocks, and moves as many as the path bears.
-    pub(crate) fn move_once(
-        &mut self,
-        stores: &Stores,
-        spans: &mut [Span],
-        last: Link,
-    ) -> Result<(), NoMemory> {
-        self.path.clear();
-        self.walk(spans, last)?;
-        for _ in 0..WALKS {
-            let Some(link) = self.path.last() else {
-                break;
-            };
-            let place = link.from;
-            if let Some(link) = lost_to(spans, place, self.losing) {
-                self.walk(spans, link)?;
-                self.move_along(spans);
-                break;
-            }
-            let Some(link) = link_to(stores, spans, place) else {
-                break;
-            };
-            self.walk(spans, link)?;
-        }
-        Ok(())
-    }
-
     // Forgets the node that the path has come back to, since no blocks come to it, and the arc from it.
     fn step_forward(&mut self, spans: &mut [Span]) {
         if let Some(link) = self.path.pop() {
@@ -123,7 +92,7 @@ fn move_to(
         if walks.are_over() {
             break;
         }
-        if let Some(link) = lost_to(spans, place, walks.losing) {
+        if let Some(link) = lost_to(spans, place) {
             walks.walk(spans, link)?;
             walks.move_along(spans);
         } else if let Some(link) = link_to(stores, spans, place) {

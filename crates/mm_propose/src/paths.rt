@@ -1,6 +1,5 @@
 //! Paths by which a block that is lost could go instead, walked back from where it would end.
 use crate::node::{Node, NodeKind, Place};
-use crate::sets::StoreSet;
 use crate::slots::{Row, Slot};
 use crate::spans::Span;
 use crate::stores::Stores;
@@ -180,13 +179,13 @@ pub(crate) fn link_to(stores: &Stores, spans: &[Span], place: Place) -> Option<L
     choice.link
 }
 
-/// The arc on which blocks that one of these stores loses begin at a place, where there are any.
-pub(crate) fn lost_to(spans: &[Span], place: Place, some: StoreSet) -> Option<Link> {
+/// The arc on which lost blocks begin at a place, where there are any.
+pub(crate) fn lost_to(spans: &[Span], place: Place) -> Option<Link> {
     let NodeKind::In(store) = place.node.kind() else {
         return None;
     };
     let lost = Slot::lost(store);
-    if !some.has(store) || !spans.get(place.span)?.arcs.bears(lost) {
+    if !spans.get(place.span)?.arcs.bears(lost) {
         return None;
     }
     Some(Link::new(place.span, place.node, lost, Slot::OUTSIDE))

@@ -65,11 +65,10 @@ pub(crate) fn look_at_arcs(stores: &Stores, spans: &mut [Span]) {
 // Moves lost blocks as long as a search finds where to. The last search finds what the cut is made of. Where nothing is lost,
 // there is nothing to move.
 fn improve(alloc: Global, stores: &Stores, spans: &mut [Span]) -> Result<(), NoMemory> {
-    let all = stores.first(stores.count());
-    let mut walks = Walks::new(alloc, all);
+    let mut walks = Walks::new(alloc);
     look_at_arcs(stores, spans);
     for _ in 0..SEARCHES {
-        search(stores, spans, all);
+        search(stores, spans);
         if !move_lost(stores, spans, &mut walks)? {
             break;
         }

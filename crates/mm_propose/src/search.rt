@@ -1,8 +1,8 @@
 //! The search for where lost blocks could go instead: over the nodes of all spans, along each arc that bears blocks.
 use crate::node::Node;
-use crate::paths::Link;
-use crate::sets::{NodeSet, SpanSet, StoreSet};
-use crate::slots::{Row, Slot};
+use crate::sets::NodeSet;
+use crate::slots::Row;
+use crate::span_sets::SpanSet;
 use crate::spans::Span;
 use crate::stores::Stores;
 
@@ -49,13 +49,8 @@ impl Found {
     }
 
     // Forgets all nodes.
-    pub(crate) fn clear(&mut self) {
-        self.keep(NodeSet::NONE);
-    }
-
-    // Forgets all nodes but these.
-    pub(crate) fn keep(&mut self, nodes: NodeSet) {
-        self.nodes = nodes;
+    fn clear(&mut self) {
+        self.nodes = NodeSet::NONE;
     }
 
     // Forgets a node from which nothing can be moved on.
@@ -71,24 +66,15 @@ struct Progress {
     batch: u16,
     on: SpanSet,
     back: SpanSet,
-    // whether it ends where a path does,
-    to_end: bool,
-    // the span of that end,
-    end: Option<usize>,
-    // and the spans in which nodes were found
-    seen: SpanSet,
 }
 
 impl Progress {
     // No node is found yet.
-    fn new(to_end: bool) -> Progress {
+    fn new() -> Progress {
         Progress {
             batch: 0,
             on: SpanSet::NONE,
             back: SpanSet::NONE,
-            to_end,
-            end: None,
-            seen: SpanSet::NONE,
         }
     }
 
@@ -116,19 +102,15 @@ impl Progress {
         if at > 0 {
             self.back.add(at.saturating_sub(1));
         }
-        self.seen.add(at);
-        if self.to_end && end_in(span, at, at == last).is_some() {
-            self.end = Some(at);
-        }
         true
     }
 
-    // Begins at the blocks that some stores lose in each span.
-    fn begin(&mut self, stores: &Stores, spans: &mut [Span], some: StoreSet) {
+    // Begins at the blocks that are lost in each span.
+    fn begin(&mut self, stores: &Stores, spans: &mut [Span]) {
         for at in 0..spans.len() {
             if let Some(span) = spans.get_mut(at) {
                 span.found.clear();
-                let losing = span.arcs.of_row(Row::Lost).both(some);
+                let losing = span.arcs.of_row(Row::Lost);
                 if !losing.is_empty() {
                     self.reach(stores, spans, at, NodeSet::ins(losing));
                 }
@@ -147,9 +129,6 @@ impl Progress {
             self.on.remove(at);
             let kept = found_in(spans, at.saturating_sub(1)).stores_out();
             is_new |= self.reach(stores, spans, at, NodeSet::ins(kept));
-            if self.end.is_some() {
-                break;
-            }
             from = at;
         }
         is_new
@@ -168,42 +147,20 @@ impl Progress {
                 let kept = coming.both(span.arcs.of_row(Row::Kept));
                 is_new |= self.reach(stores, spans, at, NodeSet::outs(kept));
             }
-            if self.end.is_some() {
-                break;
-            }
         }
         is_new
     }
 
-    // Sweeps until no node is new, or an end is found.
+    // Sweeps until no node is new.
     fn sweep(&mut self, stores: &Stores, spans: &mut [Span]) {
         for _ in 0..ROUNDS {
-            if self.end.is_some() {
-                break;
-            }
             let on = self.sweep_on(stores, spans);
-            if self.end.is_some() {
-                break;
-            }
             let back = self.sweep_back(stores, spans);
             if !on && !back {
                 break;
             }
         }
     }
-}
-
-// The arc of a span at which a path can end: into the rest of its window, or into what a store keeps as the plan ends.
-fn end_in(span: &Span, at: usize, is_last: bool) -> Option<Link> {
-    let nodes = span.found.nodes();
-    if nodes.has(Node::PASS) && span.table.of(Slot::IDLE) > 0 {
-        return Some(Link::into_window(at));
-    }
-    if !is_last {
-        return None;
-    }
-    let store = nodes.stores_out().first()?;
-    Some(Link::keep_more(at, store))
 }
 
 // The nodes found in a span.
@@ -214,36 +171,10 @@ fn found_in(spans: &[Span], at: usize) -> NodeSet {
     }
 }
 
-/// Finds all nodes to which blocks that some stores lose could go. Each but the first ones has an arc to it from one of a lower batch. A sweep
+/// Finds all nodes to which lost blocks could go. Each but the first ones has an arc to it from one of a lower batch. A sweep
 /// looks only at the spans next to one in which nodes were found since it looked at them last.
-pub(crate) fn search(stores: &Stores, spans: &mut [Span], some: StoreSet) {
-    let mut progress = Progress::new(false);
-    progress.begin(stores, spans, some);
+pub(crate) fn search(stores: &Stores, spans: &mut [Span]) {
+    let mut progress = Progress::new();
+    progress.begin(stores, spans);
     progress.sweep(stores, spans);
-}
-
-/// What a search from one place came to.
-pub(crate) struct Sought {
-    /// The last arc of a path, where one was found.
-    pub(crate) end: Option<Link>,
-    /// The spans in which nodes were found.
-    pub(crate) seen: SpanSet,
-}
-
-/// Seeks an end for the blocks that a store loses in a span. Nodes that were found before are passed over.
-pub(crate) fn seek(stores: &Stores, spans: &mut [Span], at: usize, store: usize) -> Sought {
-    let mut progress = Progress::new(true);
-    let begin = NodeSet::NONE.with(Node::into_store(store));
-    progress.reach(stores, spans, at, begin);
-    progress.sweep(stores, spans);
-    Sought {
-        end: end_of(spans, progress.end),
-        seen: progress.seen,
-    }
-}
-
-// The arc at which a path can end in this span, where there is one.
-fn end_of(spans: &[Span], end: Option<usize>) -> Option<Link> {
-    let at = end?;
-    end_in(spans.get(at)?, at, at == spans.len().saturating_sub(1))
 }

@@ -1,4 +1,4 @@
-//! Sets of stores and of nodes, each in one word, and sets of spans.
+//! Sets of stores and of nodes, each in one word.
 ghost use Rattle.std.specs.Prelude.{◌<◌, IfSome};
 
 use crate::node::Node;
@@ -133,47 +133,5 @@ impl NodeSet {
     // The set without its first node.
     pub(crate) fn rest(self) -> NodeSet {
         NodeSet(self.0 & self.0.wrapping_sub(1))
-    }
-}
-
-/// Some of 256 spans.
-#[derive(Clone, Copy)]
-pub(crate) struct SpanSet([u64; 4]);
-
-impl SpanSet {
-    pub(crate) const NONE: SpanSet = SpanSet([0; 4]);
-
-    pub(crate) fn add(&mut self, span: usize) {
-        self.0[span >> 6 & 3] |= 1 << (span & 63);
-    }
-
-    pub(crate) fn remove(&mut self, span: usize) {
-        self.0[span >> 6 & 3] &= !(1 << (span & 63));
-    }
-
-    // The first span from this one on, where there is one.
-    pub(crate) fn first_from(&self, from: usize) -> Option<usize> {
-        let mut before = u64::MAX << (from & 63);
-        for word in from >> 6..4 {
-            let bits = self.0[word & 3] & before;
-            if bits != 0 {
-                return Some((word & 3) << 6 | bits.trailing_zeros() as usize);
-            }
-            before = u64::MAX;
-        }
-        None
-    }
-
-    // The last span, where there is one.
-    pub(crate) fn last(&self) -> Option<usize> {
-        for at in 0..4 {
-            let word = 3 - at;
-            let bits = self.0[word];
-            if bits != 0 {
-                let place = 63u32.saturating_sub(bits.leading_zeros());
-                return Some(word << 6 | place as usize);
-            }
-        }
-        None
     }
 }

@@ -42,15 +42,6 @@ impl Stores {
         self.sizes.of(store)
     }
 
-    // The first stores, so many of them.
-    pub(crate) fn first(&self, many: usize) -> StoreSet {
-        let mut first = StoreSet::NONE;
-        for store in 0..many.min(self.count) {
-            first = first.with(store);
-        }
-        first
-    }
-
     // The channel of a store.
     pub(crate) fn channel(&self, store: usize) -> usize {
         self.channels[store & 15] as usize

@@ -1,0 +1,88 @@
+//! The cuts of the first stores: runs of a store that the lost blocks could reach.
+ghost use Rattle.std.specs.Prelude.{◌<◌, length};
+
+use crate::cuts::ProposedCut;
+use crate::lane::Lane;
+use crate::reached::Reached;
+use crate::span_sets::SpanSet;
+use crate::spans::Span;
+use mm_plan::{NoMemory, Stretch};
+use mm_problem::Problem;
+use std::alloc::Global;
+
+// The first step of a span.
+fn first_step(spans: &[Span], at: usize) -> u32 {
+    match at.checked_sub(1) {
+        Some(before) => last_step(spans, before).saturating_add(1),
+        None => 1,
+    }
+}
+
+// Its last step.
+fn last_step(spans: &[Span], at: usize) -> u32 {
+    match spans.get(at) {
+        Some(span) => span.last,
+        None => 0,
+    }
+}
+
+// Adds the runs of one store: those of the spans in which more of it could leave or be kept, each with the span after it, in which the store
+// is full, and the spans in which it loses blocks that could not leave before.
+fn add_runs(
+    cut: &mut Vec<Stretch>,
+    problem: &Problem,
+    spans: &[Span],
+    store: usize,
+    lane: &Lane,
+    more: SpanSet,
+) -> Result<(), NoMemory>
+    requires { store < length problem.now.rows }
+{
+    let mut ends = lane.losing.either(more.next()).without(more);
+    for _ in spans.iter() {
+        let Some(end) = ends.take_first() else {
+            break;
+        };
+        let first = match more.not().last_before(end) {
+            Some(other) => other.saturating_add(1),
+            None => 0,
+        };
+        cut.push(Stretch {
+            store: problem.id(store),
+            first: first_step(spans, first),
+            last: last_step(spans, end),
+        })?;
+    }
+    Ok(())
+}
+
+/// The cut of the stores that are served. A step counts by channels where more could leave by closed channels alone.
+pub(crate) fn cut_of_first(
+    alloc: Global,
+    problem: &Problem,
+    spans: &[Span],
+    lanes: &[Lane],
+    dead: &Reached,
+) -> Result<ProposedCut, NoMemory> {
+    let mut stretches = Vec::new(alloc);
+    let mut by_channels = Vec::new(alloc);
+    let mut inner = SpanSet::NONE;
+    for (store, lane) in lanes.iter().enumerate() {
+        let more = dead.of(store);
+        inner = inner.either(more);
+        if store < problem.stores() {
+            add_runs(&mut stretches, problem, spans, store, lane, more)?;
+        }
+    }
+    let mut rest = inner.without(dead.passes);
+    for _ in spans.iter() {
+        let Some(at) = rest.take_first() else {
+            break;
+        };
+        by_channels.push(last_step(spans, at))?;
+    }
+    Ok(ProposedCut {
+        stretches,
+        by_channels,
+    })
+}
