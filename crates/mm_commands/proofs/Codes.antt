@@ -1,9 +1,10 @@
 -- What an exit status says of the words of a command line.
-use Rattle.std.proofs.Common.{◌≡◌, ◌≢◌, ◌≤◌, ◌⊎◌, ℕ, List, Option, Result, Ok, Err, IfOk, IfErr, inl, inr, refl, arith}
+use Rattle.std.proofs.Common.{◌≡◌, ◌≢◌, ◌≤◌, ◌⊎◌, ℕ, List, Option, Result, Ok, Err, IfOk, IfErr, inl, inr, refl, ap, arith}
 use Rattle.mm_commands.specs.Statuses.{exit_code}
 use Rattle.mm_commands.specs.declared.status.Status.{Status}
 use Rattle.mm_commands.specs.declared.status.Status.TheVariants.{Done, Refused, BadCommandLine}
-use Rattle.mm_commands.specs.Contents.{Contents}
+use Rattle.mm_commands.specs.Contents.{Contents, FilesView}
+use Rattle.mm_commands.specs.declared.texts.TaskTexts.{TaskTexts}
 use Rattle.mm_commands.specs.Answers.{AnswersTask, Gives, Prints}
 use Rattle.mm_commands.specs.Refusing.{Refuses}
 use Rattle.mm_commands.specs.Doing.{Does, DoesTask, IsDone, TellsVersion}
@@ -12,20 +13,20 @@ use Rattle.mm_command_line.specs.declared.task.Task.{Task}
 use Rattle.mm_command_line.specs.declared.task.Task.TheVariants.{Plan, Check, Chart, Table, Sensitivity, Fly, Ask, Read}
 
 -- a task that the words ask for was done or refused
-pub task-does : {E : Type 0} (old new : Contents) (words : List (List ℕ)) (task : Task) (before after : Option (List ℕ)) (r : Result Status E) → spelling task ≡ without_dashes words
+pub task-does : {E : Type 0} (old new : FilesView) (words : List (List ℕ)) (task : Task) (before after : Option (List ℕ)) (r : Result Status E) → spelling task ≡ without_dashes words
     → IfOk r (λ status. Prints old new task status before after ⊎ Refuses old new task status before after) → IfOk r (λ status. Does old new words status before after)
 task-does old new words task before after (Ok status) asked told = inl (record { task = task; asked = asked; told = told })
 task-does old new words task before after (Err e) asked told = tt
 
 -- a task that was done is no refused one
-task-done : (old new : Contents) (words : List (List ℕ)) (before after : Option (List ℕ)) → DoesTask old new words Done before after → IsDone old new words before after
+task-done : (old new : FilesView) (words : List (List ℕ)) (before after : Option (List ℕ)) → DoesTask old new words Done before after → IsDone old new words before after
 task-done old new words before after task = elim task.told [
   | inl prints ↦ record { task = task.task; asked = task.asked; prints = prints }
   | inr refuses ↦ absurd (let is = refuses.status_is in cc)
 ]
 
 -- and no bad line
-does-done : (old new : Contents) (words : List (List ℕ)) (before after : Option (List ℕ)) → Does old new words Done before after
+does-done : (old new : FilesView) (words : List (List ℕ)) (before after : Option (List ℕ)) → Does old new words Done before after
     → IsDone old new words before after ⊎ TellsVersion words before after
 does-done old new words before after (inl task) = inl (task-done old new words before after task)
 does-done old new words before after (inr (kept, inl wants)) = absurd (let is = wants.status_is in cc)
@@ -33,7 +34,7 @@ does-done old new words before after (inr (kept, inr (inl bad))) = absurd (let i
 does-done old new words before after (inr (kept, inr (inr tells))) = inr tells.0
 
 -- a run that ends with 0 has done the task
-pub code-done : {E : Type 0} (old new : Contents) (words : List (List ℕ)) (before after : Option (List ℕ)) (r : Result Status E) (code : ℕ)
+pub code-done : {E : Type 0} (old new : FilesView) (words : List (List ℕ)) (before after : Option (List ℕ)) (r : Result Status E) (code : ℕ)
     → IfOk r (λ status. code ≡ exit_code status) → IfErr r (λ e. code ≡ 1) → IfOk r (λ status. Does old new words status before after)
     → code ≡ 0 → IsDone old new words before after ⊎ TellsVersion words before after
 code-done old new words before after (Ok Done) code is failed does zero = does-done old new words before after does
@@ -42,29 +43,30 @@ code-done old new words before after (Ok BadCommandLine) code is failed does zer
 code-done old new words before after (Err e) code is failed does zero = absurd (omega (arith, failed, zero))
 
 -- an answer that tells a refusal is no text for a file
-refused-kept : (old new : Contents) (task : Task) (status : Status) (text : List ℕ) (before after : Option (List ℕ)) → status ≢ Done
-    → AnswersTask old task status text → Gives (output_of task) text old new before after → new ≡ old
-refused-kept old new (Plan setup forecast in_order output) status text before after other answers given = absurd (other answers.0)
-refused-kept old new (Check names) status text before after other answers given = given.0
-refused-kept old new (Chart names worth output) status text before after other answers given = absurd (other answers.0)
-refused-kept old new (Table names output) status text before after other answers given = absurd (other answers.0)
-refused-kept old new (Sensitivity setup forecast) status text before after other answers given = absurd (other answers.0)
-refused-kept old new (Fly names) status text before after other answers given = given.0
-refused-kept old new (Ask setup requests) status text before after other answers given = given.0
-refused-kept old new (Read packets) status text before after other answers given = given.0
+refused-kept : (old new : Contents) (task : Task) (texts : TaskTexts) (status : Status) (text : List ℕ) (before after : Option (List ℕ)) → status ≢ Done
+    → AnswersTask task texts status text → Gives (output_of task) text old new before after → new ≡ old
+refused-kept old new (Plan setup forecast in_order output) texts status text before after other answers given = absurd (other answers.0)
+refused-kept old new (Check names) texts status text before after other answers given = given.0
+refused-kept old new (Chart names worth output) texts status text before after other answers given = absurd (other answers.0)
+refused-kept old new (Table names output) texts status text before after other answers given = absurd (other answers.0)
+refused-kept old new (Sensitivity setup forecast) texts status text before after other answers given = absurd (other answers.0)
+refused-kept old new (Fly names) texts status text before after other answers given = given.0
+refused-kept old new (Ask setup requests) texts status text before after other answers given = given.0
+refused-kept old new (Read packets) texts status text before after other answers given = given.0
 
 -- a task that is not done leaves the files as they were
-does-kept : (old new : Contents) (words : List (List ℕ)) (status : Status) (before after : Option (List ℕ)) → status ≢ Done → Does old new words status before after → new ≡ old
-does-kept old new words status before after other (inr rest) = rest.0
+does-kept : (old new : FilesView) (words : List (List ℕ)) (status : Status) (before after : Option (List ℕ)) → status ≢ Done → Does old new words status before after
+    → new.contents ≡ old.contents
+does-kept old new words status before after other (inr rest) = ap (λ (view : FilesView). view.contents) rest.0
 does-kept old new words status before after other (inl task) = elim task.told [
-  | inl prints ↦ refused-kept old new task.task status prints.text before after other prints.answers prints.given
+  | inl prints ↦ refused-kept old.contents new.contents task.task prints.texts status prints.text before after other prints.answers prints.given
   | inr refuses ↦ refuses.kept
 ]
 
 -- and so does a run that does not end with 0
-pub code-kept : {E : Type 0} (old new : Contents) (words : List (List ℕ)) (before after : Option (List ℕ)) (r : Result Status E) (code : ℕ)
-    → IfOk r (λ status. code ≡ exit_code status) → IfErr r (λ e. new ≡ old) → IfOk r (λ status. Does old new words status before after)
-    → code ≢ 0 → new ≡ old
+pub code-kept : {E : Type 0} (old new : FilesView) (words : List (List ℕ)) (before after : Option (List ℕ)) (r : Result Status E) (code : ℕ)
+    → IfOk r (λ status. code ≡ exit_code status) → IfErr r (λ e. new.contents ≡ old.contents) → IfOk r (λ status. Does old new words status before after)
+    → code ≢ 0 → new.contents ≡ old.contents
 code-kept old new words before after (Ok Done) code is failed does other = absurd (other is)
 code-kept old new words before after (Ok Refused) code is failed does other = does-kept old new words Refused before after (λ same. absurd cc) does
 code-kept old new words before after (Ok BadCommandLine) code is failed does other = does-kept old new words BadCommandLine before after (λ same. absurd cc) does

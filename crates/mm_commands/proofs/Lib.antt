@@ -1,4 +1,3 @@
-mod Answering
 pub mod ScriptLemmas
 mod Printing
 mod Refusals

@@ -13,21 +13,33 @@ use Rattle.mm_commands.specs.declared.answers.Answer.{Answer}
 use Rattle.mm_command_line.specs.Lines.{output_of}
 use Rattle.mm_command_line.specs.Names.{names_in}
 use Rattle.mm_command_line.specs.declared.task.Task.{Task}
-use Rattle.mm_commands.specs.Contents.{Contents}
+use Rattle.mm_commands.specs.Contents.{FilesView, WereRead}
+use Rattle.mm_commands.specs.Reading.{readings_of}
+use Rattle.mm_commands.specs.declared.texts.TaskTexts.{TaskTexts}
 use Rattle.mm_commands.specs.Answers.{AnswersTask, AreOthers, Gives, IsAnswerTo, Prints, output_in, text_in, status_in, status_of, status_of_replies, status_of_run}
 
 -- what answers the task was given, after its files were read
-pub answer-prints : {E : Type 0} (R : Status → Type 0) (old mid new : Contents) (task : Task) (answer : Answer) (before after : Option (List ℕ)) (result : Result Status E)
-    → mid ≡ old → IfOk result (λ status. Gives (output_in answer) (text_in answer) mid new before after)
+pub answer-prints : {E : Type 0} (R : Status → Type 0) (start mid new : FilesView) (task : Task) (texts : TaskTexts) (answer : Answer)
+    (before after : Option (List ℕ)) (result : Result Status E)
+    → mid.contents ≡ start.contents → WereRead start.contents start.readings mid.readings (readings_of (names_in task) texts) → new.readings ≡ mid.readings
+    → IfOk result (λ status. Gives (output_in answer) (text_in answer) mid.contents new.contents before after)
     → IfOk result (λ status. IfSome (output_in answer) (λ name. AreOthers (names_in task) name.now)) → IfOk result (λ status. status ≡ status_in answer)
-    → output_in answer ≡ output_of task → IsAnswerTo old task answer → IfOk result (λ status. Prints old new task status before after ⊎ R status)
-answer-prints R old mid new task answer before after (Ok status) same given others is output answers =
-    let into : Gives (output_of task) (text_in answer) old new before after =
-    subst (λ name. Gives name (text_in answer) old new before after) output (subst (λ known. Gives (output_in answer) (text_in answer) known new before after) same given) in
+    → IsAnswerTo task texts answer → IfOk result (λ status. Prints start new task status before after ⊎ R status)
+answer-prints R start mid new task texts answer before after (Ok status) same read unread given others is it =
+    let into : Gives (output_of task) (text_in answer) start.contents new.contents before after =
+    subst (λ name. Gives name (text_in answer) start.contents new.contents before after) it.output
+    (subst (λ known. Gives (output_in answer) (text_in answer) known new.contents before after) same given) in
     let apart : IfSome (output_of task) (λ name. AreOthers (names_in task) name.now) =
-    subst (λ output. IfSome output (λ name. AreOthers (names_in task) name.now)) output others in
-    inl (record { text = text_in answer; given = into; others = apart; answers = subst (λ s. AnswersTask old task s (text_in answer)) (sym is) answers })
-answer-prints R old mid new task answer before after (Err e) same given others is output answers = tt
+    subst (λ output. IfSome output (λ name. AreOthers (names_in task) name.now)) it.output others in
+    inl (record {
+      texts = texts;
+      read = subst (λ after. WereRead start.contents start.readings after (readings_of (names_in task) texts)) (sym unread) read;
+      text = text_in answer;
+      answers = subst (λ s. AnswersTask task texts s (text_in answer)) (sym is) it.answers;
+      given = into;
+      others = apart;
+    })
+answer-prints R start mid new task texts answer before after (Err e) same read unread given others is it = tt
 
 -- no verdict, no reply and no run ends as a bad command line
 no-bad-verdict : (v : Verdict) → BadCommandLine ≡ status_of v → ⊥
@@ -51,18 +63,18 @@ no-bad-run ended.Unreported e = absurd (cc)
 no-bad-run (ended.Stopped cause) e = absurd (cc)
 
 -- what answers a task is no bad command line
-no-bad-answer : (contents : Contents) (task : Task) (text : List ℕ) → AnswersTask contents task BadCommandLine text → ⊥
-no-bad-answer contents (Plan setup forecast in_order output) text answers = absurd (let is = answers.0 in cc)
-no-bad-answer contents (Check names) text (s, hs, (f, hf, (p, hp, judges))) = no-bad-verdict judges.verdict judges.status_is
-no-bad-answer contents (Chart names worth output) text answers = absurd (let is = answers.0 in cc)
-no-bad-answer contents (Table names output) text answers = absurd (let is = answers.0 in cc)
-no-bad-answer contents (Sensitivity setup forecast) text answers = absurd (let is = answers.0 in cc)
-no-bad-answer contents (Fly names) text flown = no-bad-run flown.printed.outcome flown.status_is
-no-bad-answer contents (Ask setup requests) text (s, hs, (r, hr, replies)) = no-bad-reply replies.outcome replies.status_is
-no-bad-answer contents (Read packets) text (p, hp, says) = no-bad-reply says.outcome says.status_is
+no-bad-answer : (task : Task) (texts : TaskTexts) (text : List ℕ) → AnswersTask task texts BadCommandLine text → ⊥
+no-bad-answer (Plan setup forecast in_order output) texts text answers = absurd (let is = answers.0 in cc)
+no-bad-answer (Check names) texts text judges = no-bad-verdict judges.verdict judges.status_is
+no-bad-answer (Chart names worth output) texts text answers = absurd (let is = answers.0 in cc)
+no-bad-answer (Table names output) texts text answers = absurd (let is = answers.0 in cc)
+no-bad-answer (Sensitivity setup forecast) texts text answers = absurd (let is = answers.0 in cc)
+no-bad-answer (Fly names) texts text flown = no-bad-run flown.printed.outcome flown.status_is
+no-bad-answer (Ask setup requests) texts text replies = no-bad-reply replies.outcome replies.status_is
+no-bad-answer (Read packets) texts text says = no-bad-reply says.outcome says.status_is
 
-pub answers-well : {E : Type 0} (contents : Contents) (task : Task) (answer : Answer) (result : Result Status E)
-    → IfOk result (λ status. status ≡ status_in answer) → IsAnswerTo contents task answer → IfOk result (λ status. status ≢ BadCommandLine)
-answers-well contents task answer (Ok status) is answers =
-    λ bad. no-bad-answer contents task (text_in answer) (subst (λ s. AnswersTask contents task s (text_in answer)) (sym is ∙ bad) answers)
-answers-well contents task answer (Err e) is answers = tt
+pub answers-well : {E : Type 0} (task : Task) (texts : TaskTexts) (answer : Answer) (result : Result Status E)
+    → IfOk result (λ status. status ≡ status_in answer) → IsAnswerTo task texts answer → IfOk result (λ status. status ≢ BadCommandLine)
+answers-well task texts answer (Ok status) is it =
+    λ bad. no-bad-answer task texts (text_in answer) (subst (λ s. AnswersTask task texts s (text_in answer)) (sym is ∙ bad) it.answers)
+answers-well task texts answer (Err e) is it = tt

@@ -1,83 +1,124 @@
--- What is said of a task that is refused.
-use Rattle.std.proofs.Common.{◌≡◌, ◌⊎◌, ℕ, List, ◌∷◌, ◌++◌, [], refl, sym, subst, inl, inr, Result, Ok, Err, IsErrAnd, IfErr, IfOk, Option, Some, None, Bor, append_assoc}
-use Rattle.mm_commands.specs.Contents.{Contents, MayBeUnread}
+-- What was read, and what is said of a task that is refused.
+use Rattle.std.proofs.Common.{◌≡◌, ◌⊎◌, ℕ, List, ◌∷◌, ◌++◌, [], map, refl, sym, ap, ◌∙◌, subst, inl, inr, Result, Ok, Err, IsErrAnd, IfErr, IfOk, Option, Some, None, Bor, append_assoc, append-nil}
+use Rattle.std.proofs.lemmas.List.{map-append}
+use Rattle.std.proofs.lemmas.List.Elements.{All-nil, All-cons, All-append}
+use Rattle.std.specs.Prelude.{All}
 use Rattle.std.specs.Io.KnownBytes.{Appends}
-use Rattle.mm_commands.specs.Answers.{Holds, HoldsNamed}
+use Rattle.mm_commands.specs.Contents.{Contents, FilesView, MayBe, MayBeUnread, Notes, Reading, WereRead, reading}
 use Rattle.mm_commands.specs.Faults.{refused_line}
+use Rattle.mm_commands.specs.Reading.{IsUnread, StopsAt, name_of, reading_of}
+use Rattle.mm_commands.specs.Refusing.{IsFaultRead, Refuses, files_of}
 use Rattle.mm_commands.specs.declared.status.Status.{Status}
 use Rattle.mm_commands.specs.declared.status.Status.TheVariants.{Refused}
-use Rattle.mm_commands.specs.Refusing.{IsFirstUnread, IsUnread, IsFaultOf, Refuses, files_of, names_of}
 use Rattle.mm_commands.specs.declared.fault.Fault.{Fault}
 use Rattle.mm_commands.specs.declared.fault.Fault.TheVariants.{NoMemory, NotRead, Texts, Run, Setup}
 use Rattle.mm_command_line.specs.declared.task.Task.{Task}
-
--- a file that was not read is the first of itself alone
-pub alone_unread : (contents : Contents) (name : List ℕ) → MayBeUnread (contents name) → IsFirstUnread contents (name ∷ []) name
-alone_unread contents name unread = inl (refl, unread)
 
 -- what holds of the fault that is handed on holds of the one that is told
 pub told : {T : Type 0} (P : Fault → Type 0) (e : Fault) (r : Result T Fault) → IsErrAnd r (λ y. y ≡ e) → P e → IfErr r P
 told P e (Ok x) is holds = tt
 told P e (Err y) is holds = subst P (sym is) holds
 
--- the first of some files that was not read is the first of those and more
-first-append : (contents : Contents) (names rest : List (List ℕ)) (name : List ℕ) → IsFirstUnread contents names name → IsFirstUnread contents (names ++ rest) name
-first-append contents [] rest name first = absurd first
-first-append contents (n ∷ names) rest name (inl is) = inl is
-first-append contents (n ∷ names) rest name (inr later) = inr (later.0, first-append contents names rest name later.1)
+-- nothing is noted where nothing is read
+Notes-nil : (before : Option (List Reading)) → Notes before before []
+Notes-nil None = tt
+Notes-nil (Some before) = sym (append-nil before)
 
--- a file of the first names was not read, when as much was known as later
-pub unread-append : (contents now : Contents) (names rest : List (List ℕ)) (e : Fault) → now ≡ contents → IsUnread now names e → IsUnread contents (names ++ rest) e
-unread-append contents now names rest NoMemory same unread = tt
-unread-append contents now names rest (NotRead name obstacle) same unread =
-    first-append contents names rest name.now (subst (λ known. IsFirstUnread known names name.now) same unread)
-unread-append contents now names rest (Texts e) same unread = absurd unread
-unread-append contents now names rest (Run e) same unread = absurd unread
-unread-append contents now names rest (Setup e) same unread = absurd unread
+-- some readings are noted after others
+Notes-append : (before mid after : Option (List Reading)) (readings more : List Reading) → Notes before mid readings → Notes mid after more
+    → Notes before after (readings ++ more)
+Notes-append None mid after readings more first second = tt
+Notes-append (Some before) None after readings more first second = absurd first
+Notes-append (Some before) (Some mid) None readings more first second = absurd second
+Notes-append (Some before) (Some mid) (Some after) readings more first second =
+    second ∙ ap (λ l. l ++ more) first ∙ append_assoc before readings more
 
--- a file was read, when as much was known as later, and one of those after it was not
-pub unread-after : (contents now : Contents) (first octets : List ℕ) (rest : List (List ℕ)) (e : Fault) → now ≡ contents
-    → Holds now first octets → IsUnread contents rest e → IsUnread contents (first ∷ rest) e
-unread-after contents now first octets rest NoMemory same holds unread = tt
-unread-after contents now first octets rest (NotRead name obstacle) same holds unread =
-    inr ((octets, subst (λ known. Holds known first octets) same holds), unread)
-unread-after contents now first octets rest (Texts e) same holds unread = absurd unread
-unread-after contents now first octets rest (Run e) same holds unread = absurd unread
-unread-after contents now first octets rest (Setup e) same holds unread = absurd unread
+-- the file of a reading may have its bytes
+abbrev IsKnown : Contents → Reading → Type 0
+IsKnown contents r = MayBe (contents r.name) r.octets
 
--- the same of a file that may be named
-pub unread-after-named : (contents now : Contents) (name : Option (Bor (List ℕ))) (octets : List ℕ) (rest : List (List ℕ)) (e : Fault) → now ≡ contents
-    → HoldsNamed now name octets → IsUnread contents rest e → IsUnread contents (names_of name ++ rest) e
-unread-after-named contents now (Some name) octets rest e same holds unread = unread-after contents now name.now octets rest e same holds unread
-unread-after-named contents now None octets rest e same holds unread = unread
+-- no file was read
+pub none_read : (contents : Contents) (before : Option (List Reading)) → WereRead contents before before []
+none_read contents before = record { noted = Notes-nil before; known = All-nil (IsKnown contents) }
 
-module _ (contents now : Contents) (first second : Option (Bor (List ℕ))) (rest : List (List ℕ)) (e : Fault) (same : now ≡ contents) where
-  -- one of two files was not read, which come before the others
-  pub unread-of-two : IsUnread now (names_of first ++ names_of second) e → IsUnread contents (names_of first ++ (names_of second ++ rest)) e
-  unread-of-two unread = subst (λ names. IsUnread contents names e) (append_assoc (names_of first) (names_of second) rest)
-      (unread-append contents now (names_of first ++ names_of second) rest e same unread)
+-- one file was read
+pub one_read : (contents : Contents) (before after : Option (List Reading)) (name octets : List ℕ) → Notes before after (reading name octets ∷ [])
+    → MayBe (contents name) octets → WereRead contents before after (reading name octets ∷ [])
+one_read contents before after name octets noted known = record {
+  noted = noted;
+  known = All-cons (IsKnown contents) (reading name octets) [] known (All-nil (IsKnown contents));
+}
 
-  -- two files were read, and one of those after them was not
-  pub unread-after-two : (x y : List ℕ) → HoldsNamed now first x → HoldsNamed now second y → IsUnread contents rest e
-      → IsUnread contents (names_of first ++ (names_of second ++ rest)) e
-  unread-after-two x y one other unread =
-      unread-after-named contents now first x (names_of second ++ rest) e same one (unread-after-named contents now second y rest e same other unread)
+-- the one file was not read
+pub one_unread : (contents : Contents) (before after : Option (List Reading)) (names : List (List ℕ)) (fault : Fault) → Notes before after []
+    → StopsAt contents names fault → IsUnread contents before after names fault
+one_unread contents before after names fault noted stopped =
+    record { readings = []; left = names; read = record { noted = noted; known = All-nil (IsKnown contents) }; split = refl; stopped = stopped }
 
--- what was held when as much was known as later
-pub held-later : (contents now : Contents) (name : Option (Bor (List ℕ))) (octets : List ℕ) → now ≡ contents → HoldsNamed now name octets → HoldsNamed contents name octets
-held-later contents now name octets same holds = subst (λ known. HoldsNamed known name octets) same holds
+-- the names of what was read
+pub names-reading_of : (name : Option (Bor (List ℕ))) (octets : List ℕ) → map (λ (r : Reading). r.name) (reading_of name octets) ≡ name_of name
+names-reading_of (Some name) octets = refl
+names-reading_of None octets = refl
 
--- a task is refused where one of its files was not read
-pub unread-refused : (contents : Contents) (task : Task) (e : Fault) → IsUnread contents (files_of task) e → IsFaultOf contents task e
-unread-refused contents task NoMemory unread = tt
-unread-refused contents task (NotRead name obstacle) unread = unread
-unread-refused contents task (Texts e) unread = absurd unread
-unread-refused contents task (Run e) unread = absurd unread
-unread-refused contents task (Setup e) unread = absurd unread
+-- of two files
+pub names-two : (first second : Option (Bor (List ℕ))) (x y : List ℕ)
+    → map (λ (r : Reading). r.name) (reading_of first x ++ reading_of second y) ≡ name_of first ++ name_of second
+names-two first second x y =
+    map-append (λ (r : Reading). r.name) (reading_of first x) (reading_of second y)
+    ∙ ap (λ l. l ++ map (λ (r : Reading). r.name) (reading_of second y)) (names-reading_of first x)
+    ∙ ap (λ l. name_of first ++ l) (names-reading_of second y)
+
+-- it stops at the same file where more are left
+StopsAt-append : (contents : Contents) (left more : List (List ℕ)) (fault : Fault) → StopsAt contents left fault → StopsAt contents (left ++ more) fault
+StopsAt-append contents left more NoMemory stopped = tt
+StopsAt-append contents [] more (NotRead name obstacle) stopped = absurd stopped
+StopsAt-append contents (next ∷ left) more (NotRead name obstacle) stopped = stopped
+StopsAt-append contents [] more (Texts e) stopped = absurd stopped
+StopsAt-append contents (next ∷ left) more (Texts e) stopped = absurd stopped
+StopsAt-append contents [] more (Run e) stopped = absurd stopped
+StopsAt-append contents (next ∷ left) more (Run e) stopped = absurd stopped
+StopsAt-append contents [] more (Setup e) stopped = absurd stopped
+StopsAt-append contents (next ∷ left) more (Setup e) stopped = absurd stopped
+
+-- one of the first files was not read, and more come after them
+pub unread_before : (contents : Contents) (before after : Option (List Reading)) (names more : List (List ℕ)) (fault : Fault)
+    → IsUnread contents before after names fault → IsUnread contents before after (names ++ more) fault
+unread_before contents before after names more fault unread = record {
+  readings = unread.readings;
+  left = unread.left ++ more;
+  read = unread.read;
+  split = ap (λ l. l ++ more) unread.split ∙ append_assoc (map (λ (r : Reading). r.name) unread.readings) unread.left more;
+  stopped = StopsAt-append contents unread.left more fault unread.stopped;
+}
+
+module _ (contents now : Contents) (same : now ≡ contents) (before mid : Option (List Reading)) (readings : List Reading)
+    (first : WereRead contents before mid readings) where
+  -- more was read after what was read
+  pub read_after : (after : Option (List Reading)) (more : List Reading) → WereRead now mid after more
+      → WereRead contents before after (readings ++ more)
+  read_after after more second = record {
+    noted = Notes-append before mid after readings more first.noted second.noted;
+    known = All-append (IsKnown contents) readings more first.known (subst (λ known. All (IsKnown known) more) same second.known);
+  }
+
+  -- a file was not read after those that were
+  pub unread_after : (after : Option (List Reading)) (read_names names : List (List ℕ)) (fault : Fault)
+      → map (λ (r : Reading). r.name) readings ≡ read_names → IsUnread now mid after names fault
+      → IsUnread contents before after (read_names ++ names) fault
+  unread_after after read_names names fault are unread = record {
+    readings = readings ++ unread.readings;
+    left = unread.left;
+    read = read_after after unread.readings unread.read;
+    split = ap (λ l. read_names ++ l) unread.split ∙ ap (λ l. l ++ (map (λ (r : Reading). r.name) unread.readings ++ unread.left)) (sym are)
+        ∙ sym (append_assoc (map (λ (r : Reading). r.name) readings) (map (λ (r : Reading). r.name) unread.readings) unread.left)
+        ∙ ap (λ l. l ++ unread.left) (sym (map-append (λ (r : Reading). r.name) readings unread.readings));
+    stopped = subst (λ known. StopsAt known unread.left fault) same unread.stopped;
+  }
 
 -- a task that is refused, where the files are as they were
-pub refuses : {E : Type 0} (P : Status → Type 0) (old new : Contents) (task : Task) (fault : Fault) (before after : Option (List ℕ)) (result : Result Status E)
-    → new ≡ old → IsFaultOf old task fault → IfOk result (λ status. Appends before after (refused_line fault)) → IfOk result (λ status. status ≡ Refused)
+pub refuses : {E : Type 0} (P : Status → Type 0) (old new : FilesView) (task : Task) (fault : Fault) (before after : Option (List ℕ)) (result : Result Status E)
+    → new.contents ≡ old.contents → IsUnread old.contents old.readings new.readings (files_of task) fault ⊎ IsFaultRead old new task fault
+    → IfOk result (λ status. Appends before after (refused_line fault)) → IfOk result (λ status. status ≡ Refused)
     → IfOk result (λ status. P status ⊎ Refuses old new task status before after)
 refuses P old new task fault before after (Ok status) kept is line refused = inr (record { fault = fault; is = is; printed = line; status_is = refused; kept = kept })
 refuses P old new task fault before after (Err e) kept is line refused = tt

@@ -20,7 +20,8 @@ use Rattle.mm_run.specs.Printed.{text_of}
 use Rattle.mm_run.specs.Runs.{PrintsRun}
 use Rattle.mm_sensitivity.specs.Charts.{ChartsWorth}
 use Rattle.mm_sensitivity.specs.Table.{IsWorthTable}
-use Rattle.mm_commands.specs.Contents.{Contents, IsStored, MayBe}
+use Rattle.mm_commands.specs.Contents.{Contents, FilesView, IsStored, WereRead}
+use Rattle.mm_commands.specs.Reading.{readings_of}
 use Rattle.mm_commands.specs.declared.status.Status.{Status}
 use Rattle.mm_commands.specs.declared.status.Status.TheVariants.{Done, Refused}
 use Rattle.mm_commands.specs.declared.answers.Answer.{Answer}
@@ -29,37 +30,8 @@ use Rattle.mm_commands.specs.declared.texts.TaskTexts.{TaskTexts}
 use Rattle.mm_command_line.specs.Lines.{output_of}
 use Rattle.mm_command_line.specs.Names.{names_in}
 use Rattle.mm_command_line.specs.declared.task.FileNames.{FileNames}
-use Rattle.mm_command_line.specs.declared.task.PlanFiles.{PlanFiles}
-use Rattle.mm_command_line.specs.declared.task.FlightFiles.{FlightFiles}
 use Rattle.mm_command_line.specs.declared.task.Task.{Task}
 use Rattle.mm_command_line.specs.declared.task.Task.TheVariants.{Plan, Check, Chart, Table, Sensitivity, Fly, Ask, Read}
-
--- the file of this name may have these bytes; a missing one has none
-abbrev pub Holds : Contents → List ℕ → List ℕ → Type 0
-Holds contents name octets = MayBe (contents name) octets
-
--- the file of this name has bytes of which P holds
-abbrev pub Of : Contents → List ℕ → (List ℕ → Type 0) → Type 0
-Of contents name P = (octets : List ℕ) × Holds contents name octets × P octets
-
--- the three files of a judged plan have bytes of which P holds
-abbrev pub OfPlan : Contents → PlanFiles → (List ℕ → List ℕ → List ℕ → Type 0) → Type 0
-OfPlan contents names P =
-    Of contents names.setup.now (λ setup. Of contents names.forecast.now (λ forecast. Of contents names.plan.now (P setup forecast)))
-
--- the file has these bytes, where one is named
-abbrev pub HoldsNamed : Contents → Option (Bor (List ℕ)) → List ℕ → Type 0
-HoldsNamed contents (Some name) octets = Holds contents name.now octets
-HoldsNamed contents None octets = Unit {0}
-
--- the texts are those of the files of these names
-pub record HoldsTexts (contents : Contents) (names : FileNames) (texts : TaskTexts) : Type 0 where
-  pub setup : HoldsNamed contents names.setup texts.setup.items
-  pub forecast : HoldsNamed contents names.forecast texts.forecast.items
-  pub plan : HoldsNamed contents names.plan texts.plan.items
-  pub sources : HoldsNamed contents names.sources texts.sources.items
-  pub links : HoldsNamed contents names.links texts.links.items
-  pub packets : HoldsNamed contents names.packets texts.packets.items
 
 -- ---- `plan`
 
@@ -67,10 +39,6 @@ pub record HoldsTexts (contents : Contents) (names : FileNames) (texts : TaskTex
 abbrev pub PlansText : Bool → List ℕ → List ℕ → List ℕ → Type 0
 PlansText true = PlansLeastInOrder
 PlansText false = PlansLeast
-
--- a plan text that loses least is printed
-abbrev pub Plans : Contents → Bool → List ℕ → List ℕ → List ℕ → Type 0
-Plans contents in_order setup forecast text = Of contents setup (λ s. Of contents forecast (λ f. PlansText in_order s f text))
 
 -- ---- `chart`
 
@@ -123,49 +91,39 @@ status_of_run ended.CarriedOut = Done
 status_of_run ended.Unreported = Refused
 status_of_run (ended.Stopped cause) = Refused
 
--- the file of the plan has these bytes, where one is named
-abbrev pub HoldsPlan : Contents → Option (Bor (List ℕ)) → Option (List ℕ) → Type 0
-HoldsPlan contents (Some name) (Some octets) = Holds contents name.now octets
-HoldsPlan contents None None = Unit {0}
-HoldsPlan contents name octets = ⊥
-
--- what is printed of the run of the plan that is given, and of one that is made where none is
-abbrev pub FliesBytes : Option (List ℕ) → Printed → List ℕ → List ℕ → List ℕ → List ℕ → Type 0
-FliesBytes plan printed setup forecast sources links = PrintsRun plan setup forecast sources links printed
-
--- the files of a run have bytes of which P holds; those of the plan first, where one is named
-abbrev pub OfFlight : Contents → FlightFiles → (Option (List ℕ) → List ℕ → List ℕ → List ℕ → List ℕ → Type 0) → Type 0
-OfFlight contents names P = (plan : Option (List ℕ)) × HoldsPlan contents names.plan plan
-    × Of contents names.setup.now (λ setup. Of contents names.forecast.now (λ forecast.
-    Of contents names.sources.now (λ sources. Of contents names.links.now (P plan setup forecast sources))))
-
 -- the plan of a run, where it is given
 abbrev pub given_plan : Option (Bor (List ℕ)) → TaskTexts → Option (List ℕ)
 given_plan (Some name) texts = Some texts.plan.items
 given_plan None texts = None
 
-abbrev pub FliesOf : Contents → FlightFiles → Printed → Type 0
-FliesOf contents names printed = OfFlight contents names (λ plan. FliesBytes plan printed)
+-- what is printed of the run of the plan that is given, or of one that is made where none is
+abbrev pub FliesTexts : Option (List ℕ) → TaskTexts → Printed → Type 0
+FliesTexts plan texts printed = PrintsRun plan texts.setup.items texts.forecast.items texts.sources.items texts.links.items printed
 
--- what is printed of a run, and the status
-pub record Flown (contents : Contents) (names : FlightFiles) (status : Status) (text : List ℕ) : Type 0 where
+-- the text is what is printed of such a run, with its status
+pub record Flown (plan : Option (List ℕ)) (texts : TaskTexts) (status : Status) (text : List ℕ) : Type 0 where
   pub printed : Printed
-  pub flies : FliesOf contents names printed
+  pub flies : FliesTexts plan texts printed
   pub text_is : text ≡ text_of printed
   pub status_is : status ≡ status_of_run printed.outcome
 
 -- ---- all of them
 
--- the task is done, or the answer says what is not well: this text answers it, and the run of the program ends in this status
-abbrev pub AnswersTask : Contents → Task → Status → List ℕ → Type 0
-AnswersTask contents (Plan setup forecast in_order output) status text = (status ≡ Done) × Plans contents in_order setup.now forecast.now text
-AnswersTask contents (Check names) status text = OfPlan contents names (Judges status text)
-AnswersTask contents (Chart names worth output) status text = (status ≡ Done) × OfPlan contents names (λ setup forecast plan. DrawsPlan worth setup forecast plan text)
-AnswersTask contents (Table names output) status text = (status ≡ Done) × OfPlan contents names (λ setup forecast plan. IsTableOf setup forecast plan text)
-AnswersTask contents (Sensitivity setup forecast) status text = (status ≡ Done) × Of contents setup.now (λ s. Of contents forecast.now (λ f. IsWorthTable s f text))
-AnswersTask contents (Fly names) status text = Flown contents names status text
-AnswersTask contents (Ask setup requests) status text = Of contents setup.now (λ s. Of contents requests.now (Replies status text s))
-AnswersTask contents (Read packets) status text = Of contents packets.now (Says status text)
+-- the task, whose files have these texts, is done, or the answer says what is not well: this text answers it, and the run of the program
+-- ends in this status
+abbrev pub AnswersTask : Task → TaskTexts → Status → List ℕ → Type 0
+AnswersTask (Plan setup forecast in_order output) texts status text =
+    (status ≡ Done) × PlansText in_order texts.setup.items texts.forecast.items text
+AnswersTask (Check names) texts status text = Judges status text texts.setup.items texts.forecast.items texts.plan.items
+AnswersTask (Chart names worth output) texts status text =
+    (status ≡ Done) × DrawsPlan worth texts.setup.items texts.forecast.items texts.plan.items text
+AnswersTask (Table names output) texts status text =
+    (status ≡ Done) × IsTableOf texts.setup.items texts.forecast.items texts.plan.items text
+AnswersTask (Sensitivity setup forecast) texts status text =
+    (status ≡ Done) × IsWorthTable texts.setup.items texts.forecast.items text
+AnswersTask (Fly names) texts status text = Flown (given_plan names.plan texts) texts status text
+AnswersTask (Ask setup requests) texts status text = Replies status text texts.setup.items texts.packets.items
+AnswersTask (Read packets) texts status text = Says status text texts.packets.items
 
 -- the text of an answer, and the status
 abbrev pub text_in : Answer → List ℕ
@@ -185,9 +143,10 @@ abbrev pub output_in : Answer → Option (Bor (List ℕ))
 output_in (Text text output) = output
 output_in answer = None
 
--- the answer is one to the task
-abbrev pub IsAnswerTo : Contents → Task → Answer → Type 0
-IsAnswerTo contents task answer = AnswersTask contents task (status_in answer) (text_in answer)
+-- the answer is one to the task, whose files have these texts, and goes into its output
+pub record IsAnswerTo (task : Task) (texts : TaskTexts) (answer : Answer) : Type 0 where
+  pub answers : AnswersTask task texts (status_in answer) (text_in answer)
+  pub output : output_in answer ≡ output_of task
 
 -- the text was printed, and the files are as they were; or it was stored in the file of this name, and nothing was printed
 abbrev pub Gives : Option (Bor (List ℕ)) → List ℕ → Contents → Contents → Option (List ℕ) → Option (List ℕ) → Type 0
@@ -203,10 +162,17 @@ pub record AreOthers (names : FileNames) (name : List ℕ) : Type 0 where
   pub links : IfSome names.links (λ n. n.now ≢ name)
   pub packets : IfSome names.packets (λ n. n.now ≢ name)
 
--- the files and a writer had the first of these, and then the second: what was stored or written between answers the task, and
--- no file that the task reads has the name of its output
-pub record Prints (old new : Contents) (task : Task) (status : Status) (before after : Option (List ℕ)) : Type 0 where
+-- the files and a writer had the first of these, and then the second: the task's files were read, what was stored or written between answers
+-- the task by the bytes that came, and no file that the task reads has the name of its output
+pub record Prints (old new : FilesView) (task : Task) (status : Status) (before after : Option (List ℕ)) : Type 0 where
+  pub texts : TaskTexts
+  pub read : WereRead old.contents old.readings new.readings (readings_of (names_in task) texts)
   pub text : List ℕ
-  pub given : Gives (output_of task) text old new before after
+  pub answers : AnswersTask task texts status text
+  pub given : Gives (output_of task) text old.contents new.contents before after
   pub others : IfSome (output_of task) (λ name. AreOthers (names_in task) name.now)
-  pub answers : AnswersTask old task status text
+
+-- the task carries a plan out
+abbrev pub is_run : Task → Bool
+is_run (Fly names) = true
+is_run task = false

@@ -1,5 +1,5 @@
--- What is known of files by their names.
-use Rattle.std.specs.Prelude.{◌≡◌, ◌≢◌, ℕ, List, Option, Some, None}
+-- What is known of files by their names, and what was read of them.
+use Rattle.std.specs.Prelude.{◌≡◌, ◌≢◌, ◌++◌, ℕ, List, Option, Some, None, All}
 
 -- what is known of a file: that there is none, nothing, or its bytes
 pub data Content : Type 0 where
@@ -32,3 +32,32 @@ content_of None = missing
 pub record IsStored (old new : Contents) (name octets : List ℕ) : Type 0 where
   pub whole : MayBe (new name) octets
   pub others : (other : List ℕ) → other ≢ name → new other ≡ old other
+
+-- a file that was read: its name, and the bytes that came
+pub record Reading : Type 0 where
+  pub name : List ℕ
+  pub octets : List ℕ
+
+-- the file of this name was read, and these bytes came
+abbrev pub reading : List ℕ → List ℕ → Reading
+reading name octets = record { name = name; octets = octets }
+
+-- what is known of each file, and what was read so far, in order, where that is noted
+pub record FilesView : Type 0 where
+  pub contents : Contents
+  pub readings : Option (List Reading)
+
+-- both together
+abbrev pub seen : Contents → Option (List Reading) → FilesView
+seen contents readings = record { contents = contents; readings = readings }
+
+-- these are noted after those before
+abbrev pub Notes : Option (List Reading) → Option (List Reading) → List Reading → Type 0
+Notes None after readings = Unit {0}
+Notes (Some before) None readings = ⊥
+Notes (Some before) (Some after) readings = after ≡ before ++ readings
+
+-- these were read: each is noted after those before, and has the bytes of its file where they are known
+pub record WereRead (contents : Contents) (before after : Option (List Reading)) (readings : List Reading) : Type 0 where
+  pub noted : Notes before after readings
+  pub known : All (λ r. MayBe (contents r.name) r.octets) readings

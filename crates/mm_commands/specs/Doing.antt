@@ -4,8 +4,8 @@ use Rattle.std.specs.List.{slice_split}
 use Rattle.std.specs.Str.{IsUtf8}
 use Rattle.std.specs.Io.KnownBytes.{Appends}
 use Rattle.mm_base.specs.Characters.{space}
-use Rattle.mm_commands.specs.Contents.{Contents}
-use Rattle.mm_commands.specs.Scripts.{IsFirstLine, script_contents}
+use Rattle.mm_commands.specs.Contents.{FilesView}
+use Rattle.mm_commands.specs.Scripts.{IsFirstLine, script_view}
 use Rattle.mm_commands.specs.declared.files.ReadFault.TheVariants.{NoMemory}
 use Rattle.mm_commands.specs.declared.status.Status.{Status}
 use Rattle.mm_commands.specs.declared.status.Status.TheVariants.{Done, Refused, BadCommandLine}
@@ -13,7 +13,7 @@ use Rattle.mm_command_line.specs.Lines.{IsTaskLine, is_version_line, spelling, w
 use Rattle.mm_command_line.specs.declared.version.TheConstants.{VERSION}
 use Rattle.mm_command_line.specs.declared.task.Task.{Task}
 use Rattle.mm_commands.specs.Answers.{Prints}
-use Rattle.mm_commands.specs.Refusing.{Refuses, refused_input}
+use Rattle.mm_commands.specs.Refusing.{Settles, refused_input}
 
 -- the words of a line, separated by single spaces; an empty line has none
 abbrev pub words_in : List ℕ → List (List ℕ)
@@ -21,10 +21,10 @@ words_in [] = []
 words_in (octet ∷ rest) = slice_split (λ o. o == space) (octet ∷ rest)
 
 -- the task that the words ask for was done, or refused
-pub record DoesTask (old new : Contents) (words : List (List ℕ)) (status : Status) (before after : Option (List ℕ)) : Type 0 where
+pub record DoesTask (old new : FilesView) (words : List (List ℕ)) (status : Status) (before after : Option (List ℕ)) : Type 0 where
   pub task : Task
   pub asked : spelling task ≡ without_dashes words
-  pub told : Prints old new task status before after ⊎ Refuses old new task status before after
+  pub told : Settles old new task status before after
 
 -- there was no memory to read the words
 pub record WantsMemory (status : Status) (before after : Option (List ℕ)) : Type 0 where
@@ -44,13 +44,13 @@ pub record IsBadLine (words : List (List ℕ)) (status : Status) (before after :
   pub status_is : status ≡ BadCommandLine
 
 -- what became of the words of a command line
-abbrev pub Does : Contents → Contents → List (List ℕ) → Status → Option (List ℕ) → Option (List ℕ) → Type 0
+abbrev pub Does : FilesView → FilesView → List (List ℕ) → Status → Option (List ℕ) → Option (List ℕ) → Type 0
 Does old new words status before after = DoesTask old new words status before after
     ⊎ ((new ≡ old) × (WantsMemory status before after ⊎ IsBadLine words status before after
     ⊎ (TellsVersion words before after × (status ≡ Done))))
 
 -- the task that the words ask for was done: what was stored or written between answers it
-pub record IsDone (old new : Contents) (words : List (List ℕ)) (before after : Option (List ℕ)) : Type 0 where
+pub record IsDone (old new : FilesView) (words : List (List ℕ)) (before after : Option (List ℕ)) : Type 0 where
   pub task : Task
   pub asked : spelling task ≡ without_dashes words
   pub prints : Prints old new task Done before after
@@ -60,8 +60,8 @@ pub record DoesScript (script : List ℕ) (before after : Option (List ℕ)) : T
   pub line : List ℕ
   pub files : List ℕ
   pub split : IsFirstLine script line files
-  pub left : Contents
-  pub done : IsDone (script_contents files) left (words_in line) before after ⊎ TellsVersion (words_in line) before after
+  pub left : FilesView
+  pub done : IsDone (script_view files) left (words_in line) before after ⊎ TellsVersion (words_in line) before after
 
 -- the first line of a script spells a task
 pub record IsTaskScript (script : List ℕ) : Type 0 where

@@ -1,4 +1,6 @@
 pub mod Contents
+pub mod Notes
+pub mod Reading
 pub mod Inputs
 pub mod ReadFaults
 pub mod Scripts

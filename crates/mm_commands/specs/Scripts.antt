@@ -3,7 +3,7 @@ use Rattle.std.specs.Prelude.{◌≡◌, ℕ, Bool, if◌then◌else◌, List, [
 use Rattle.std.specs.List.{starts_with}
 use Rattle.mm_base.specs.Characters.{line_feed}
 use Rattle.mm_base.specs.Lines.{text_lines}
-use Rattle.mm_commands.specs.Contents.{Contents, content_of}
+use Rattle.mm_commands.specs.Contents.{Contents, FilesView, content_of, seen}
 
 -- what each heading starts with
 abbrev pub heading : List ℕ
@@ -35,6 +35,10 @@ script_file text name = file_in name (text_lines text)
 -- the files of that text: each is known, or there is none
 abbrev pub script_contents : List ℕ → Contents
 script_contents text = λ name. content_of (script_file text name)
+
+-- what is seen of them
+abbrev pub script_view : List ℕ → FilesView
+script_view text = seen (script_contents text) None
 
 -- the line and the rest are what stands before and after the first line feed of a text, or the line is the whole text
 abbrev pub IsFirstLine : List ℕ → List ℕ → List ℕ → Type 0

@@ -1,16 +1,14 @@
 //! What answers a task, by the texts of its files.
-ghost use Rattle.std.specs.Prelude.{◌≡◌, IfOk, IfErr};
+ghost use Rattle.std.specs.Prelude.{◌≡◌, false, IfOk, IfErr};
 ghost use Rattle.std.specs.Option.{option_copied};
 ghost use Rattle.mm_base.specs.Reading.{IfRefused};
-ghost use Rattle.mm_command_line.specs.Lines.{output_of};
-ghost use Rattle.mm_command_line.specs.Names.{names_in};
+ghost use Rattle.mm_command_line.specs.declared.task.Task.TheVariants.{Fly};
 ghost use Rattle.mm_run.specs.declared.fault.Fault.TheVariants as flight_fault;
 ghost use Rattle.mm_cut.specs.Checking.{IsFaultOf as IsCheckFault};
 ghost use Rattle.mm_cut.specs.declared.fault.Fault.TheVariants as cut_fault;
 ghost use Rattle.mm_planner.specs.PlanTexts.{IsPlanningFault};
-ghost use Rattle.mm_commands.specs.Contents.{Contents};
-ghost use Rattle.mm_commands.specs.Answers.{DrawsPlan, FliesBytes, HoldsTexts, IsAnswerTo, PlansText, given_plan, output_in, status_in, status_of, status_of_replies};
-ghost use Rattle.mm_commands.specs.Refusing.{IsFlightFault, IsFaultOf};
+ghost use Rattle.mm_commands.specs.Answers.{DrawsPlan, FliesTexts, IsAnswerTo, PlansText, given_plan, is_run, status_in, status_of, status_of_replies};
+ghost use Rattle.mm_commands.specs.Refusing.{IsFaultIn, IsFlightFault};
 
 use crate::fault::Fault;
 use crate::status::Status;
@@ -125,10 +123,8 @@ fn carry_out<R: Threads + Wait + Sync>(
     files: FlightFiles<'_>,
     texts: &TaskTexts,
 ) -> Result<Printed, mm_run::Fault>
-    ensures flies { IfOk result (λ printed. FliesBytes (given_plan files.entry.plan texts.now) printed
-        texts.now.setup.items texts.now.forecast.items texts.now.sources.items texts.now.links.items) }
-    ensures refused { IfRefused flight_fault.NoMemory result (λ e. IsFlightFault (given_plan files.entry.plan texts.now) e
-        texts.now.setup.items texts.now.forecast.items texts.now.sources.items texts.now.links.items) }
+    ensures flies { IfOk result (FliesTexts (given_plan files.entry.plan texts.now) texts.now) }
+    ensures refused { IfRefused flight_fault.NoMemory result (IsFlightFault (given_plan files.entry.plan texts.now) texts.now) }
 {
     let run = RunTexts {
         setup: &texts.setup,
@@ -139,17 +135,28 @@ fn carry_out<R: Threads + Wait + Sync>(
     run_texts(rt, alloc, run, given_plan(files.plan, texts))
 }
 
-/// What answers the task, whose files have these texts.
-#[tactic(auto, using(crate::proofs::Answering::flown, crate::proofs::Answering::refused_flight))]
-pub(crate) fn answer_to<'a, R: Threads + Wait + Sync>(
+/// What answers a run, whose files have these texts.
+pub(crate) fn answer_to_run<'a, R: Threads + Wait + Sync>(
     rt: &R,
+    alloc: Global,
+    files: FlightFiles<'a>,
+    texts: &TaskTexts,
+) -> Result<Answer<'a>, Fault<'a>>
+    ensures answers { IfOk result (IsAnswerTo (Fly files.entry) texts.now) }
+    ensures refused { IfErr result (IsFaultIn (Fly files.entry) texts.now) }
+{
+    Ok(Answer::Run(carry_out(rt, alloc, files, texts)?))
+}
+
+/// What answers a task other than a run, whose files have these texts.
+pub(crate) fn answer_without_run<'a>(
     alloc: Global,
     task: Task<'a>,
     texts: &TaskTexts,
 ) -> Result<Answer<'a>, Fault<'a>>
-    ensures answers { (contents : Contents) → HoldsTexts contents (names_in task.entry) texts.now → IfOk result (IsAnswerTo contents task.entry) }
-    ensures output { IfOk result (λ answer. output_in answer ≡ output_of task.entry) }
-    ensures refused { (contents : Contents) → HoldsTexts contents (names_in task.entry) texts.now → IfErr result (IsFaultOf contents task.entry) }
+    requires other { is_run task ≡ false }
+    ensures answers { IfOk result (IsAnswerTo task.entry texts.now) }
+    ensures refused { IfErr result (IsFaultIn task.entry texts.now) }
 {
     match task {
         Task::Plan {
@@ -176,7 +183,6 @@ pub(crate) fn answer_to<'a, R: Threads + Wait + Sync>(
             let text = sensitivity_bytes(alloc, &texts.setup, &texts.forecast)?;
             Ok(Answer::Text { text, output: None })
         }
-        Task::Fly(files) => Ok(Answer::Run(carry_out(rt, alloc, files, texts)?)),
         Task::Ask { .. } => {
             let replies = ask_bytes(alloc, &texts.setup, &texts.packets)?;
             Ok(Answer::Lines(replies))
@@ -185,5 +191,6 @@ pub(crate) fn answer_to<'a, R: Threads + Wait + Sync>(
             let replies = read_bytes(alloc, &texts.packets)?;
             Ok(Answer::Lines(replies))
         }
+        Task::Fly(_) => unreachable!(),
     }
 }

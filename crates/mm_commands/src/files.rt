@@ -1,9 +1,9 @@
 //! Where the program's files come from, and how they are read to their end.
-ghost use Rattle.std.specs.Prelude.{◌≡◌, ◌≤◌, ◌<◌, ℕ, List, Option, Some, Bool, true, false, length, IsOk, IsErrAnd, IfOk, IfErr, IfSome, IsTrue, IsFalse};
+ghost use Rattle.std.specs.Prelude.{◌≡◌, ◌≤◌, ◌<◌, ℕ, List, Option, None, Some, Bool, true, false, [], ◌∷◌, length, IsOk, IsErrAnd, IfOk, IfErr, IfSome, IsTrue, IsFalse};
 ghost use Rattle.std.specs.Io.{ReadsAtMost};
 ghost use Rattle.std.specs.Io.KnownBytes.{ReadConsumes};
 ghost use Rattle.std.specs.IoError.{error_kind};
-ghost use Rattle.mm_commands.specs.Contents.{Content, IsStored, MayBe, MayBeUnread};
+ghost use Rattle.mm_commands.specs.Contents.{Content, IsStored, MayBe, MayBeUnread, Notes, Reading, reading};
 ghost use Rattle.mm_commands.specs.Inputs.{failed_after, is_interrupted};
 ghost use Rattle.mm_commands.specs.ReadFaults.{is_unread, refusal_of};
 ghost use Rattle.mm_commands.specs.declared.files.ReadFault.TheVariants.{NoMemory};
@@ -219,11 +219,17 @@ pub trait Files {
     /// What is known of the file of a name.
     ghost content: { Self → List ℕ → Content };
 
+    /// What was read so far, where that is noted.
+    ghost readings: { Self → Option (List Reading) } = { λ _. None };
+
     /// The whole file; `NotRead` where there is none of this name, it fails, or it does not end in time.
     fn read(&mut self, alloc: Global, name: &str) -> Result<Vec<u8>, ReadFault>
         ensures whole { IfOk result (λ text. MayBe (content self.old name.now) text.items) }
         ensures unread { IfErr result (λ fault. IsTrue (is_unread fault) → MayBeUnread (content self.old name.now)) }
-        ensures stays { content self.new ≡ content self.old };
+        ensures stays { content self.new ≡ content self.old }
+        // What is handed back is noted, and nothing else.
+        ensures noted { IfOk result (λ text. Notes (readings self.old) (readings self.new) (reading name.now text.items ∷ [])) }
+        ensures unnoted { IfErr result (λ _. Notes (readings self.old) (readings self.new) []) };
 
     /// Whether both names are known to be of one file. The same name always is.
     fn is_same_file(&self, one: &str, other: &str) -> bool
@@ -232,7 +238,8 @@ pub trait Files {
     /// Makes the text the whole file of this name, whether or not there is one. Where it fails, each file is as it was.
     fn store(&mut self, alloc: Global, name: &str, text: &[u8]) -> Result<(), StoreFault>
         ensures stored { IfOk result (λ _. IsStored (content self.old) (content self.new) name.now text.now) }
-        ensures kept { IfErr result (λ _. content self.new ≡ content self.old) };
+        ensures kept { IfErr result (λ _. content self.new ≡ content self.old) }
+        ensures unread { readings self.new ≡ readings self.old };
 }
 
 /// Reads to the end; `NotRead` where a read fails, or the end has not come after 2^30 reads or 2^30 bytes.

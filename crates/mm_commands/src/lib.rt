@@ -7,6 +7,7 @@ mod fault;
 mod file_name;
 mod files;
 pub mod laws;
+mod readings;
 mod remark;
 mod run;
 mod script;
@@ -18,8 +19,9 @@ mod texts;
 
 pub use fault::Fault;
 pub use files::{Device, Files, Input, MAX_READS, Obstacle, ReadFault, StoreFault, read_to_end};
+pub use readings::Readings;
 pub use run::{refuse_input, refuse_words, run_script, run_tool, run_words};
 pub use script::{ScriptFiles, first_line};
 pub use status::{Status, Unwritten};
 pub use system::SystemFiles;
-pub use tasks::do_task;
+pub use tasks::{do_task, do_without_run};

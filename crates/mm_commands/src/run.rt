@@ -1,5 +1,6 @@
 //! The program, over any files and any writers.
 ghost use Rattle.std.specs.Prelude.{◌≡◌, ◌≢◌, ◌≤◌, ◌⊎◌, IfOk, IfErr, map};
+ghost use Rattle.mm_commands.specs.Contents.{seen};
 ghost use Rattle.mm_commands.specs.Statuses.{exit_code};
 ghost use Rattle.mm_commands.specs.declared.status.Status.TheVariants.{BadCommandLine};
 ghost use Rattle.mm_command_line.specs.Lines.{IsTaskLine};
@@ -40,7 +41,8 @@ pub fn run_words<R: Threads + Wait + Sync, S: AsStr, F: Files, W: Write, E: Writ
     out: &mut W,
     err: &mut E,
 ) -> Result<Status, Unwritten>
-    ensures does { IfOk result (λ status. Does (F.content files.old) (F.content files.new) (map S.text words.now) status (W.contents out.old) (W.contents out.new)) }
+    ensures does { IfOk result (λ status. Does (seen (F.content files.old) (F.readings files.old)) (seen (F.content files.new) (F.readings files.new))
+        (map S.text words.now) status (W.contents out.old) (W.contents out.new)) }
     // Words that spell a task are no bad command line.
     ensures taken { IsTaskLine (map S.text words.now) → IfOk result (λ status. status ≢ BadCommandLine) }
     ensures kept { IfErr result (λ _. F.content files.new ≡ F.content files.old) }
@@ -109,7 +111,8 @@ pub fn run_tool<R: Threads + Wait + Sync, S: AsStr, F: Files, W: Write, E: Write
 ) -> u8
     ensures status { result ≤ 2 }
     // Where the exit status is 0, the task that the words ask for was done: what was written answers it. Or they ask for the version.
-    ensures does { result ≡ 0 → IsDone (F.content files.old) (F.content files.new) (map S.text words.now) (W.contents out.old) (W.contents out.new)
+    ensures does { result ≡ 0 → IsDone (seen (F.content files.old) (F.readings files.old)) (seen (F.content files.new) (F.readings files.new))
+        (map S.text words.now) (W.contents out.old) (W.contents out.new)
         ⊎ TellsVersion (map S.text words.now) (W.contents out.old) (W.contents out.new) }
     // Words that spell a task are no bad command line.
     ensures taken { IsTaskLine (map S.text words.now) → result ≤ 1 }

@@ -1,9 +1,10 @@
 //! The files of the system: how one is read, and how a text takes the place of one.
-ghost use Rattle.std.specs.Prelude.{◌≡◌, IsTrue, IfOk, IfErr, IfSome, IsErrAnd};
+ghost use Rattle.std.specs.Prelude.{◌≡◌, Some, IsTrue, IfOk, IfErr, IfSome, IsErrAnd};
 ghost use Rattle.mm_commands.specs.Contents.{unknown};
 ghost use Rattle.mm_commands.specs.ReadFaults.{is_unread};
 
 use crate::files::{Device, Files, ReadFault, StoreFault, read_to_end};
+use crate::readings::Readings;
 use std::alloc::Global;
 use std::fs::{self, File, OpenFile, Permissions};
 use std::io::{self, ErrorKind, Read, Write};
@@ -73,23 +74,33 @@ fn write_synced<F: OpenFile + Write>(
     file.sync_all()
 }
 
-/// The files of the system.
+/// The files of the system. Of none it is known what it holds; what is read of them is noted.
 #[derive(Drop)]
 pub struct SystemFiles<'a, R> {
     runtime: &'a R,
+    readings: Readings,
 }
 
 impl<'a, R: rt::Files> SystemFiles<'a, R> {
-    pub fn new(runtime: &'a R) -> SystemFiles<'a, R> {
-        SystemFiles { runtime }
+    pub fn new(alloc: Global, runtime: &'a R) -> SystemFiles<'a, R> {
+        SystemFiles {
+            runtime,
+            readings: Readings::new(alloc),
+        }
     }
 }
 
 impl<R: rt::Files> Files for SystemFiles<'_, R> {
     ghost content = { λ _ _. unknown };
 
+    ghost readings = { λ s. Some s.readings };
+
     fn read(&mut self, alloc: Global, name: &str) -> Result<Vec<u8>, ReadFault> {
-        read_opened(alloc, fs::open(self.runtime, name))
+        let text = read_opened(alloc, fs::open(self.runtime, name))?;
+        self.readings
+            .note(alloc, name, &text)
+            .map_err(|_| ReadFault::NoMemory)?;
+        Ok(text)
     }
 
     fn is_same_file(&self, one: &str, other: &str) -> bool {

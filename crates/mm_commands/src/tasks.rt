@@ -1,22 +1,24 @@
 //! A task is done: what answers it goes to one writer or into a file, and what is said of it to another writer.
-ghost use Rattle.std.specs.Prelude.{◌≡◌, ◌≢◌, ◌⊎◌, IfOk, IfErr, IfSome, IsFalse};
+ghost use Rattle.std.specs.Prelude.{◌≡◌, ◌≢◌, false, IfOk, IfErr, IfSome, IsFalse};
 ghost use Rattle.std.specs.Io.KnownBytes.{Appends};
 ghost use Rattle.mm_commands.specs.declared.status.Status.TheVariants.{Refused, BadCommandLine};
 ghost use Rattle.mm_command_line.specs.Names.{names_in};
-ghost use Rattle.mm_commands.specs.Answers.{AreOthers, Gives, HoldsTexts, Prints, output_in, status_in, text_in};
-ghost use Rattle.mm_commands.specs.Contents.{IsStored};
+ghost use Rattle.mm_command_line.specs.declared.task.Task.TheVariants.{Fly};
+ghost use Rattle.mm_commands.specs.Answers.{AreOthers, Gives, IsAnswerTo, is_run, output_in, status_in, text_in};
+ghost use Rattle.mm_commands.specs.Contents.{FilesView, IsStored, WereRead, seen};
 ghost use Rattle.mm_commands.specs.Faults.{refused_line};
-ghost use Rattle.mm_commands.specs.Refusing.{Refuses, refused_input};
+ghost use Rattle.mm_commands.specs.Reading.{readings_of};
+ghost use Rattle.mm_commands.specs.Refusing.{IsFaultIn, Settles, refused_input};
 
 use crate::advice::Advice;
-use crate::answers::{Answer, answer_to};
+use crate::answers::{Answer, answer_to_run, answer_without_run};
 use crate::fault::Fault;
 use crate::file_name::Shown;
 use crate::files::{Files, ReadFault, StoreFault};
 use crate::remark::{Found, tell_found, tell_more};
 use crate::status::{Status, Unwritten};
 use crate::texts::TaskTexts;
-use mm_command_line::{FileNames, Task};
+use mm_command_line::{FileNames, FlightFiles, Task};
 use std::alloc::Global;
 use std::io::{self, Write};
 use std::sync::Wait;
@@ -92,6 +94,7 @@ fn store<F: Files, E: Write>(
     ensures others { IfOk result (λ _. AreOthers inputs.entry name.now) }
     ensures stored { IfOk result (λ _. IsStored (F.content files.old) (F.content files.new) name.now text.now) }
     ensures kept { IfErr result (λ _. F.content files.new ≡ F.content files.old) }
+    ensures unread { F.readings files.new ≡ F.readings files.old }
 {
     let stored = if is_among(files, inputs, name) {
         Err(StoreFault::IsRead)
@@ -144,6 +147,7 @@ fn give<F: Files, W: Write, E: Write>(
     ensures others { IfOk result (λ status. IfSome (output_in answer.now) (λ name. AreOthers (names_in task.entry) name.now)) }
     ensures status { IfOk result (λ status. status ≡ status_in answer.now) }
     ensures kept { IfErr result (λ _. F.content files.new ≡ F.content files.old) }
+    ensures unread { F.readings files.new ≡ F.readings files.old }
 {
     match answer {
         Answer::Text {
@@ -161,24 +165,25 @@ fn give<F: Files, W: Write, E: Write>(
     Ok(answer.status())
 }
 
-// Does a task whose files have these texts.
-fn do_with<R: Threads + Wait + Sync, F: Files, W: Write, E: Write>(
-    rt: &R,
+// Gives the answer to a task whose files were read, and have these texts, or says why it is refused.
+fn conclude<'a, F: Files, W: Write, E: Write>(
     alloc: Global,
-    task: Task<'_>,
+    task: Task<'a>,
+    answer: Result<Answer<'a>, Fault<'a>>,
     texts: &TaskTexts,
     files: &mut F,
     out: &mut W,
     err: &mut E,
 ) -> Result<Status, Unwritten>
-    requires held { HoldsTexts (F.content files.old) (names_in task) texts.now }
-    ensures prints { IfOk result (λ status.
-        Prints (F.content files.old) (F.content files.new) task.entry status (W.contents out.old) (W.contents out.new)
-        ⊎ Refuses (F.content files.old) (F.content files.new) task.entry status (W.contents out.old) (W.contents out.new)) }
+    requires answers { IfOk answer (IsAnswerTo task texts.now) }
+    requires refused { IfErr answer (IsFaultIn task texts.now) }
+    ensures prints { (start : FilesView) → F.content files.old ≡ start.contents
+        → WereRead start.contents start.readings (F.readings files.old) (readings_of (names_in task.entry) texts.now) → IfOk result (λ status. Settles start (seen (F.content files.new) (F.readings files.new))
+        task.entry status (W.contents out.old) (W.contents out.new)) }
     ensures status { IfOk result (λ status. status ≢ BadCommandLine) }
     ensures kept { IfErr result (λ _. F.content files.new ≡ F.content files.old) }
 {
-    match answer_to(rt, alloc, task, texts) {
+    match answer {
         Ok(answer) => give(alloc, task, &answer, texts, files, out, err),
         Err(fault) => {
             let found = fault.found(alloc, task, texts);
@@ -187,10 +192,57 @@ fn do_with<R: Threads + Wait + Sync, F: Files, W: Write, E: Write>(
     }
 }
 
+// Carries out a plan.
+fn do_run<R: Threads + Wait + Sync, F: Files, W: Write, E: Write>(
+    rt: &R,
+    alloc: Global,
+    flight: FlightFiles<'_>,
+    files: &mut F,
+    out: &mut W,
+    err: &mut E,
+) -> Result<Status, Unwritten>
+    ensures prints { IfOk result (λ status. Settles (seen (F.content files.old) (F.readings files.old)) (seen (F.content files.new) (F.readings files.new))
+        (Fly flight.entry) status (W.contents out.old) (W.contents out.new)) }
+    ensures status { IfOk result (λ status. status ≢ BadCommandLine) }
+    ensures kept { IfErr result (λ _. F.content files.new ≡ F.content files.old) }
+{
+    let task = Task::Fly(flight);
+    match TaskTexts::read(alloc, files, task.names()) {
+        Ok(texts) => {
+            let answer = answer_to_run(rt, alloc, flight, &texts);
+            conclude(alloc, task, answer, &texts, files, out, err)
+        }
+        Err(fault) => refuse(Some(task), fault, None, out, err),
+    }
+}
+
+/// Does a task other than a run, as `do_task` does, and waits for nothing.
+pub fn do_without_run<F: Files, W: Write, E: Write>(
+    alloc: Global,
+    task: Task<'_>,
+    files: &mut F,
+    out: &mut W,
+    err: &mut E,
+) -> Result<Status, Unwritten>
+    requires other { is_run task ≡ false }
+    ensures prints { IfOk result (λ status. Settles (seen (F.content files.old) (F.readings files.old)) (seen (F.content files.new) (F.readings files.new))
+        task.entry status (W.contents out.old) (W.contents out.new)) }
+    ensures status { IfOk result (λ status. status ≢ BadCommandLine) }
+    ensures kept { IfErr result (λ _. F.content files.new ≡ F.content files.old) }
+{
+    match TaskTexts::read(alloc, files, task.names()) {
+        Ok(texts) => {
+            let answer = answer_without_run(alloc, task, &texts);
+            conclude(alloc, task, answer, &texts, files, out, err)
+        }
+        Err(fault) => refuse(Some(task), fault, None, out, err),
+    }
+}
+
 /// Does a task. What answers it goes to `out`, or into the file of the task's output, and nothing of it to `out` then. The line that says why
 /// a task is refused goes to `out`; what is said of an answer or of a refusal goes to `err`. The status is `Done` where the task is done,
 /// and `Refused` where something is refused, a verdict is neither `Least` nor `LeastInOrder`, or a run was halted. The error says what could not be written. No file
-/// is changed but that of the output of a task that is done.
+/// is changed but that of the output of a task that is done. Only a run may wait for its threads.
 pub fn do_task<R: Threads + Wait + Sync, F: Files, W: Write, E: Write>(
     rt: &R,
     alloc: Global,
@@ -199,14 +251,13 @@ pub fn do_task<R: Threads + Wait + Sync, F: Files, W: Write, E: Write>(
     out: &mut W,
     err: &mut E,
 ) -> Result<Status, Unwritten>
-    ensures prints { IfOk result (λ status.
-        Prints (F.content files.old) (F.content files.new) task.entry status (W.contents out.old) (W.contents out.new)
-        ⊎ Refuses (F.content files.old) (F.content files.new) task.entry status (W.contents out.old) (W.contents out.new)) }
+    ensures prints { IfOk result (λ status. Settles (seen (F.content files.old) (F.readings files.old)) (seen (F.content files.new) (F.readings files.new))
+        task.entry status (W.contents out.old) (W.contents out.new)) }
     ensures status { IfOk result (λ status. status ≢ BadCommandLine) }
     ensures kept { IfErr result (λ _. F.content files.new ≡ F.content files.old) }
 {
-    match TaskTexts::read(alloc, files, task.names()) {
-        Ok(texts) => do_with(rt, alloc, task, &texts, files, out, err),
-        Err(fault) => refuse(Some(task), fault, None, out, err),
+    match task {
+        Task::Fly(flight) => do_run(rt, alloc, flight, files, out, err),
+        _ => do_without_run(alloc, task, files, out, err),
     }
 }

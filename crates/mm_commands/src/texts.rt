@@ -1,7 +1,7 @@
 //! The texts of a task's files.
 ghost use Rattle.std.specs.Prelude.{◌≡◌, ◌++◌, IfOk, IfErr, [], ◌∷◌};
-ghost use Rattle.mm_commands.specs.Answers.{Holds, HoldsNamed, HoldsTexts};
-ghost use Rattle.mm_commands.specs.Refusing.{IsUnread, listed, names_of};
+ghost use Rattle.mm_commands.specs.Contents.{WereRead, reading};
+ghost use Rattle.mm_commands.specs.Reading.{IsUnread, listed, name_of, reading_of, readings_of};
 
 use crate::fault::Fault;
 use crate::files::{Files, ReadFault};
@@ -22,14 +22,14 @@ pub(crate) struct TaskTexts {
 }
 
 // The bytes of a file.
-#[tactic(auto, using(crate::proofs::Refusals::alone_unread))]
+#[tactic(auto, using(crate::proofs::Refusals::one_read, crate::proofs::Refusals::one_unread))]
 fn read_file<'a, F: Files>(
     alloc: Global,
     files: &mut F,
     name: &'a str,
 ) -> Result<Vec<u8>, Fault<'a>>
-    ensures whole { IfOk result (λ text. Holds (F.content files.old) name.entry.now text.items) }
-    ensures unread { IfErr result (IsUnread (F.content files.old) (name.entry.now ∷ [])) }
+    ensures read { IfOk result (λ text. WereRead (F.content files.old) (F.readings files.old) (F.readings files.new) (reading name.entry.now text.items ∷ [])) }
+    ensures unread { IfErr result (IsUnread (F.content files.old) (F.readings files.old) (F.readings files.new) (name.entry.now ∷ [])) }
     ensures stays { F.content files.new ≡ F.content files.old }
 {
     match files.read(alloc, name) {
@@ -40,13 +40,14 @@ fn read_file<'a, F: Files>(
 }
 
 // The bytes of a file, where one is named.
+#[tactic(auto, using(crate::proofs::Refusals::none_read))]
 fn read_named<'a, F: Files>(
     alloc: Global,
     files: &mut F,
     name: Option<&'a str>,
 ) -> Result<Vec<u8>, Fault<'a>>
-    ensures whole { IfOk result (λ text. HoldsNamed (F.content files.old) name.entry text.items) }
-    ensures unread { IfErr result (IsUnread (F.content files.old) (names_of name.entry)) }
+    ensures read { IfOk result (λ text. WereRead (F.content files.old) (F.readings files.old) (F.readings files.new) (reading_of name.entry text.items)) }
+    ensures unread { IfErr result (IsUnread (F.content files.old) (F.readings files.old) (F.readings files.new) (name_of name.entry)) }
     ensures stays { F.content files.new ≡ F.content files.old }
 {
     match name {
@@ -62,9 +63,9 @@ fn read_two<'a, F: Files>(
     first: Option<&'a str>,
     second: Option<&'a str>,
 ) -> Result<(Vec<u8>, Vec<u8>), Fault<'a>>
-    ensures first { IfOk result (λ texts. HoldsNamed (F.content files.old) first.entry texts.0.items) }
-    ensures second { IfOk result (λ texts. HoldsNamed (F.content files.old) second.entry texts.1.items) }
-    ensures unread { IfErr result (IsUnread (F.content files.old) (names_of first.entry ++ names_of second.entry)) }
+    ensures read { IfOk result (λ texts. WereRead (F.content files.old) (F.readings files.old) (F.readings files.new)
+        (reading_of first.entry texts.0.items ++ reading_of second.entry texts.1.items)) }
+    ensures unread { IfErr result (IsUnread (F.content files.old) (F.readings files.old) (F.readings files.new) (name_of first.entry ++ name_of second.entry)) }
     ensures stays { F.content files.new ≡ F.content files.old }
 {
     let one = read_named(alloc, files, first)?;
@@ -79,8 +80,8 @@ impl TaskTexts {
         files: &mut F,
         names: FileNames<'a>,
     ) -> Result<TaskTexts, Fault<'a>>
-        ensures held { IfOk result (HoldsTexts (F.content files.old) names.entry) }
-        ensures unread { IfErr result (IsUnread (F.content files.old) (listed names.entry)) }
+        ensures read { IfOk result (λ texts. WereRead (F.content files.old) (F.readings files.old) (F.readings files.new) (readings_of names.entry texts)) }
+        ensures unread { IfErr result (IsUnread (F.content files.old) (F.readings files.old) (F.readings files.new) (listed names.entry)) }
         ensures stays { F.content files.new ≡ F.content files.old }
     {
         let (setup, forecast) = read_two(alloc, files, names.setup, names.forecast)?;

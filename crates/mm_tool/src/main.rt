@@ -32,7 +32,7 @@ fn main(rt: HostRuntime) -> ExitCode {
             Err(fault) => refuse_input(fault, &mut out, &mut err),
         }
     } else {
-        let mut files = SystemFiles::new(&rt);
+        let mut files = SystemFiles::new(alloc, &rt);
         run_tool(&rt, alloc, &words, &mut files, &mut out, &mut err)
     };
     ExitCode::from(status)

@@ -86,7 +86,7 @@ fn is_unread<R>(rt: &R, name: &str, obstacle: Obstacle, words: &str)
 where
     R: Abort + AllocGlobal + rt::Files + Threads + Wait + Sync,
 {
-    let mut files = SystemFiles::new(rt);
+    let mut files = SystemFiles::new(rt.alloc(), rt);
     let read = files.read(rt.alloc(), name);
     let answer = answer_to(rt, &["plan", name, "nor/this/one"], &mut files);
     let is_told = answer.out.as_str().starts_with("refused 50 NotRead name ")

@@ -70,7 +70,7 @@ where
             .push(replaced(rt, word, "@", folder))
             .expect(rt, "memory");
     }
-    answer_to(rt, &words, &mut SystemFiles::new(system))
+    answer_to(rt, &words, &mut SystemFiles::new(rt.alloc(), system))
 }
 
 // Tasks whose text is stored, each with the file and with one that is not left over. A file that is not there yet is made.

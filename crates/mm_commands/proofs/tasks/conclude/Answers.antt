@@ -1,0 +1,17 @@
+use Rattle.mm_commands.specs.Contents.{seen}
+use Rattle.mm_commands.specs.Refusing.{Refuses}
+use Rattle.mm_commands.proofs.Printing.{answer-prints, answers-well}
+use Rattle.mm_commands.proofs.tasks.conclude.Goals as goal
+
+pub returns-in-Ok-clause-prints : goal.returns-in-Ok-clause-prints
+returns-in-Ok-clause-prints g c start same read =
+    let mid = seen (g.F.Files.content c.args.files.now) (g.F.Files.readings c.args.files.now) in
+    let new = seen (g.F.Files.content c.give.new.files) (g.F.Files.readings c.give.new.files) in
+    let before = g.W.Write.contents c.args.out.now in
+    let after = g.W.Write.contents c.give.new.out in
+    answer-prints (λ status. Refuses start new c.args.task status before after) start mid new c.args.task c.args.texts.now c.in-Ok.answer before after c.give.result
+    same read c.give.ensures.unread c.give.ensures.given c.give.ensures.others c.give.ensures.status c.requires.answers
+
+pub returns-in-Ok-clause-status : goal.returns-in-Ok-clause-status
+returns-in-Ok-clause-status g c =
+    answers-well c.args.task c.args.texts.now c.in-Ok.answer c.give.result c.give.ensures.status c.requires.answers
