@@ -1,5 +1,5 @@
 -- What the least losses that are found say of a number of a problem.
-use Rattle.std.proofs.Common.{◌≡◌, ℕ, ℤ, ◌+◌, ◌-◌, ◌≤◌, min, List, length, set, pos, refl, sym, ap, ◌∙◌, subst, inl, inr, true≢false, Bool, false, arith}
+use Rattle.std.proofs.Common.{◌≡◌, ℕ, ◌+◌, ◌-◌, ◌≤◌, min, List, length, set, pos, refl, sym, ap, ◌∙◌, subst, inl, inr, true≢false, false, arith}
 use Rattle.std.specs.Prelude.{Option, Some, None, unwrap_or, IsSome}
 use Rattle.std.proofs.lemmas.Bool.{cases_lt}
 use Rattle.std.proofs.lemmas.Int.{ints}
