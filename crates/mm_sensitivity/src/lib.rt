@@ -6,6 +6,7 @@ mod charts;
 mod item;
 mod laws;
 mod lowering;
+mod progress;
 mod table;
 mod worth;
 
@@ -13,5 +14,6 @@ pub use charts::worth_chart_bytes;
 pub use item::Item;
 pub use laws::wider_windows;
 pub use mm_cut::Fault;
-pub use table::sensitivity_bytes;
-pub use worth::{Worth, worths};
+pub use progress::{Progress, Silent};
+pub use table::{sensitivity_bytes, sensitivity_with_progress};
+pub use worth::{Worth, worths, worths_with_progress};

@@ -8,7 +8,8 @@ ghost use Rattle.mm_sensitivity.specs.Table.{item_cells, worth_cells, record_of,
 ghost use Rattle.mm_sensitivity.specs.Worth.{IsWorth};
 
 use crate::item::Item;
-use crate::worth::{Worth, worths};
+use crate::progress::{Progress, Silent};
+use crate::worth::{Worth, worths_with_progress};
 use mm_base::NoMemory;
 use mm_cut::Fault;
 use mm_problem::{Problem, read_problem};
@@ -96,8 +97,21 @@ pub fn sensitivity_bytes(alloc: Global, setup: &[u8], forecast: &[u8]) -> Result
     ensures table { IfOk result (λ text. IsWorthTable setup.now forecast.now text.items) }
     ensures refused { IfRefused fault.NoMemory result (IsPlanningFault setup.now forecast.now) }
 {
+    sensitivity_with_progress(alloc, setup, forecast, &mut Silent)
+}
+
+/// What `sensitivity_bytes` answers. The progress is told of each record that is done.
+pub fn sensitivity_with_progress<P: Progress>(
+    alloc: Global,
+    setup: &[u8],
+    forecast: &[u8],
+    progress: &mut P,
+) -> Result<Vec<u8>, Fault>
+    ensures table { IfOk result (λ text. IsWorthTable setup.now forecast.now text.items) }
+    ensures refused { IfRefused fault.NoMemory result (IsPlanningFault setup.now forecast.now) }
+{
     let problem = read_problem(alloc, setup, forecast)?;
-    let worths = worths(alloc, &problem)?;
+    let worths = worths_with_progress(alloc, &problem, progress)?;
     let text = table_of(alloc, &problem, worths.as_slice())?;
     Ok(text)
 }

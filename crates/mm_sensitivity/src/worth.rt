@@ -7,6 +7,7 @@ ghost use Rattle.mm_sensitivity.specs.Worth.{IsPlanFor, Saves, IsSaved, IsWorth}
 use crate::base::{cost, saved};
 use crate::item::{Item, items, number};
 use crate::laws::wider_windows;
+use crate::progress::{Progress, Silent};
 use mm_base::{MAX_BLOCKS, NoMemory};
 use mm_planner::{Planned, plan};
 use mm_problem::Problem;
@@ -74,12 +75,24 @@ fn worth_of(alloc: Global, problem: &Problem, base: &Planned, item: Item) -> Res
 pub fn worths(alloc: Global, problem: &Problem) -> Result<Vec<Worth>, NoMemory>
     ensures { IfOk result (λ worths. AreWorths problem.now worths.items) }
 {
+    worths_with_progress(alloc, problem, &mut Silent)
+}
+
+/// What `worths` answers. The progress is told of each number that is done.
+pub fn worths_with_progress<P: Progress>(
+    alloc: Global,
+    problem: &Problem,
+    progress: &mut P,
+) -> Result<Vec<Worth>, NoMemory>
+    ensures { IfOk result (λ worths. AreWorths problem.now worths.items) }
+{
     let base = plan(alloc, problem)?;
     let items = items(alloc, problem)?;
     let mut worths = Vec::new(alloc);
     for item in &items {
         let worth = worth_of(alloc, problem, &base, *item)?;
         worths.push(worth)?;
+        progress.done(worths.len(), items.len());
     }
     Ok(worths)
 }
