@@ -1,10 +1,10 @@
 -- What was read, and what is said of a task that is refused.
-use Rattle.std.proofs.Common.{◌≡◌, ◌⊎◌, ℕ, List, ◌∷◌, ◌++◌, [], map, refl, sym, ap, ◌∙◌, subst, inl, inr, Result, Ok, Err, IsErrAnd, IfErr, IfOk, Option, Some, None, Bor, append_assoc, append-nil}
+use Rattle.std.proofs.Common.{◌≡◌, ◌⊎◌, ℕ, List, ◌∷◌, ◌++◌, [], map, refl, sym, ap, ◌∙◌, subst, inr, Result, Ok, Err, IsErrAnd, IfErr, IfOk, Option, Some, None, Bor, append_assoc, append-nil}
 use Rattle.std.proofs.lemmas.List.{map-append}
 use Rattle.std.proofs.lemmas.List.Elements.{All-nil, All-cons, All-append}
 use Rattle.std.specs.Prelude.{All}
 use Rattle.std.specs.Io.KnownBytes.{Appends}
-use Rattle.mm_commands.specs.Contents.{Contents, FilesView, MayBe, MayBeUnread, Notes, Reading, WereRead, reading}
+use Rattle.mm_commands.specs.Contents.{Contents, FilesView, MayBe, Notes, Reading, WereRead, reading}
 use Rattle.mm_commands.specs.Faults.{refused_line}
 use Rattle.mm_commands.specs.Reading.{IsUnread, StopsAt, name_of, reading_of}
 use Rattle.mm_commands.specs.Refusing.{IsFaultRead, Refuses, files_of}

@@ -1,8 +1,8 @@
 //! Scripts: the words of a command line, and then its files, in one text.
-ghost use Rattle.std.specs.Prelude.{◌≡◌, ◌<◌, ◌≤◌, length, bytes_eq, IfOk, IfErr, IfSome, IfNone, IsErrAnd, IsTrue};
+ghost use Rattle.std.specs.Prelude.{◌≡◌, ◌<◌, ◌≤◌, [], ◌∷◌, length, bytes_eq, None, IfOk, IfErr, IfSome, IfNone, IsErrAnd, IsTrue};
 ghost use Rattle.std.specs.Option.{option_map};
 ghost use Rattle.mm_base.specs.Lines.{text_lines};
-ghost use Rattle.mm_commands.specs.Contents.{MayBe, MayBeUnread, content_of};
+ghost use Rattle.mm_commands.specs.Contents.{MayBe, MayBeUnread, Notes, content_of, reading};
 ghost use Rattle.mm_commands.specs.Scripts.{IsFirstLine, is_heading, heading_of, before_heading, script_contents, script_file};
 ghost use Rattle.mm_commands.specs.ReadFaults.{is_unread};
 ghost use Rattle.mm_commands.specs.declared.files.ReadFault.TheVariants.{NoMemory};
@@ -106,6 +106,8 @@ impl Files for ScriptFiles<'_> {
         ensures none { IfNone (script_file self.old name.now) (IsErrAnd result (λ fault. IsTrue (is_unread fault))) }
         ensures unread { IfErr result (λ fault. IsTrue (is_unread fault) → MayBeUnread (content_of (script_file self.old name.now))) }
         ensures stays { self.new ≡ self.old }
+        ensures noted { IfOk result (λ text. Notes None None (reading name.now text.items ∷ [])) }
+        ensures unnoted { IfErr result (λ _. Notes None None []) }
     {
         let text = self.find(name.as_bytes()).ok_or(MISSING)?;
         Vec::from_slice(alloc, text).map_err(|_| ReadFault::NoMemory)

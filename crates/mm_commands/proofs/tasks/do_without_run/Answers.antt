@@ -7,5 +7,6 @@ pub returns-in-Ok-clause-prints : goal.returns-in-Ok-clause-prints
 returns-in-Ok-clause-prints g c =
     let contents = g.F.Files.content c.args.files.now in
     let before = g.F.Files.readings c.args.files.now in
-    let read = subst (λ names. WereRead contents before _ (readings_of names c.in-Ok.texts)) c.names.ensures c.in-Ok.ensures.read in
+    let after = g.F.Files.readings c.read.new.files in
+    let read = subst (λ names. WereRead contents before after (readings_of names c.in-Ok.texts)) c.names.ensures c.in-Ok.ensures.read in
     c.conclude.ensures.prints (seen contents before) c.in-Ok.ensures.stays read
