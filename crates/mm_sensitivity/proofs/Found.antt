@@ -1,5 +1,5 @@
 -- What the least losses that are found say of a number of a problem.
-use Rattle.std.proofs.Common.{◌≡◌, ℕ, ℤ, ◌+◌, ◌-◌, ◌≤◌, min, List, length, set, pos, refl, sym, ap, ◌∙◌, subst, inl, inr, true≢false, arith}
+use Rattle.std.proofs.Common.{◌≡◌, ℕ, ◌+◌, ◌-◌, ◌≤◌, min, List, length, set, pos, refl, sym, ap, ◌∙◌, subst, inl, inr, true≢false, false, arith}
 use Rattle.std.specs.Prelude.{Option, Some, None, unwrap_or, IsSome}
 use Rattle.std.proofs.lemmas.Bool.{cases_lt}
 use Rattle.std.proofs.lemmas.Int.{ints}
@@ -9,12 +9,11 @@ use Rattle.mm_base.specs.Grid.{grid_place}
 use Rattle.mm_problem.specs.Dumping.{Dumping, IsDumping, no_row, row, start, window}
 use Rattle.mm_problem.specs.Changed.{with_window, sized}
 use Rattle.mm_plan.specs.Table.{Table, amount, HasShape}
-use Rattle.mm_plan.specs.Volumes.{Amounts, loss}
+use Rattle.mm_plan.specs.Volumes.{Amounts, left, loss}
 use Rattle.mm_plan.specs.Fit.{Fits}
 use Rattle.mm_plan.specs.declared.stretch.Stretch.{Stretch}
 use Rattle.mm_cut.specs.Changes.{OnlyCountedHelps}
-use Rattle.mm_cut.specs.Verdicts.{IsVerdict}
-use Rattle.mm_cut.specs.declared.verdict.Verdict.TheVariants.{Least}
+use Rattle.mm_cut.specs.Cuts.{IsCut, bound, counts_window, CutsBoundLosses}
 use Rattle.mm_planner.specs.Planned.{ShowsLeast}
 use Rattle.mm_planner.specs.declared.planner.Planned.{Planned}
 use Rattle.mm_sensitivity.specs.declared.item.Item.{Item}
@@ -23,16 +22,21 @@ use Rattle.mm_sensitivity.specs.Items.{IsItem, number, with_number, fitted, spil
 use Rattle.mm_sensitivity.specs.Worth.{IsLeastLoss, IsPlanFor, Saves, IsSaved, WiderWindows}
 use Rattle.mm_sensitivity.proofs.Growing.{grows}
 use Rattle.mm_sensitivity.proofs.Losing.{whole_loss, part_fits, whole_fits}
-use Rattle.mm_sensitivity.proofs.Least.{one_least, tight}
+use Rattle.mm_sensitivity.proofs.Least.{one_least, tight, bound_uncounted}
+use Rattle.mm_sensitivity.proofs.Windows.{as_many, cut_there, wider_window}
 
--- a plan whose verdict is `Least`
-pub verified_least : (q : Dumping) (x : Amounts) (ds : List Stretch) (ts : List ℕ) (l n : ℕ) (b : ℤ) → IsVerdict q x ds ts l b (Least n) → IsLeastLoss q l
-verified_least q x ds ts l n b said = record {
+-- a plan that fits and loses as much as the bound of a cut
+pub matched_least : CutsBoundLosses → (q : Dumping) (x : Amounts) (ds : List Stretch) (ts : List ℕ) (n : ℕ) → Fits q x → IsCut q ds ts → loss q x ≡ n → bound q ds ts ≡ pos n → IsLeastLoss q n
+matched_least bounds q x ds ts n fits cut loses bounded = record {
   plan = x;
   cut = ds;
   by_channels = ts;
-  planned = record { plan = said.3; cut = said.0.cut; tight = sym said.0.bound ∙ sym said.2 ∙ ap pos (said.1 ∙ said.0.plan.loss) };
-  loss = sym said.0.plan.loss;
+  planned = record {
+    plan = record { fits = fits; least = λ y fits_y. omega (arith, ints, bounds q y ds ts fits_y cut, loses, bounded) };
+    cut = cut;
+    tight = bounded ∙ ap pos (sym loses);
+  };
+  loss = loses;
 }
 
 -- a plan that shows that it loses least
@@ -164,28 +168,59 @@ next_window law q t most is within saved =
           (subst (λ k. Saves q (with_window q t MAX_BLOCKS) k) (sym same) (saves q (with_window q t MAX_BLOCKS) most saved))
     ]
 
+-- ---- where as much is lost
+
+-- the least loss with the number that stands there
+pub own_least : (q : Dumping) (i : Item) (n : ℕ) → IsDumping q → IsItem q i → IsLeastLoss q n → IsLeastLoss (fitted q i (number q i)) n
+own_least q i n is_dumping item is = subst (λ r. IsLeastLoss r n) (sym (fitted_whole q i (number q i) is_dumping item (omega arith) ∙ with_own q i item)) is
+
+-- a plan loses as much with another window
+same_loss : (q : Dumping) (t b : ℕ) (x : Amounts) → loss (with_window q t b) x ≡ loss q x
+unfolding left
+same_loss q t b x = rw (as_many q t b) refl
+
+-- a plan fits where a window is wider
+fits_wider : (q : Dumping) (t b : ℕ) (x : Amounts) → 1 ≤ t → t ≤ length q.windows → window q t ≤ b → Fits q x → Fits (with_window q t b) x
+fits_wider q t b x first last wider fits u from to =
+    let here = fits u from (omega (arith, as_many q t b, to)) in
+    record {
+      windowed = omega (arith, here.windowed, wider_window q t b u first last from wider);
+      limited = here.limited;
+    }
+
+-- a window that the cut does not count may be wider
+pub wider_least : CutsBoundLosses → (q : Dumping) (t b : ℕ) (x : Table) (ds : List Stretch) (ts : List ℕ) (n : ℕ) → 1 ≤ t → t ≤ length q.windows → window q t ≤ b → counts_window ds ts t ≡ false → ShowsLeast q x ds ts n → IsLeastLoss (with_window q t b) n
+wider_least bounds q t b x ds ts n first last wider other shows =
+    matched_least bounds (with_window q t b) (amount x) ds ts n (fits_wider q t b (amount x) first last wider shows.least.fits) (cut_there q t b ds ts shows.cut)
+    (same_loss q t b (amount x) ∙ shows.loss) (bound_uncounted q t b first last ds ts other ∙ shows.bound)
+
 -- ---- what is found of the changed problem r
 
-module _ (helps : OnlyCountedHelps) (q r : Dumping) (p : Planned) (i : Item) (b m : ℕ) (base : IsPlanFor q p) (item : IsItem q i) (is : r ≡ fitted q i b) where
+module _ (q : Dumping) (p : Planned) (i : Item) (base : IsPlanFor q p) (item : IsItem q i) where
   least_here : IsLeastLoss q p.loss
   least_here = shown_least q p.plan p.cut.items p.by_channels.items p.loss base.shows
 
-  pub shape_there : HasShape r p.plan
-  shape_there = subst (λ a. HasShape a p.plan) (sym is) (fitted_shape q i b p.plan base.shows.shape)
+  pub shape_there : (b : ℕ) → HasShape (fitted q i b) p.plan
+  shape_there b = fitted_shape q i b p.plan base.shows.shape
 
-  pub less_there : number q i ≤ b → IsLeastLoss r m → m ≤ p.loss
-  less_there larger least =
-      less_lost helps q base.problem i item b p.loss m larger least_here (subst (λ a. IsLeastLoss a m) (is ∙ fitted_whole q i b base.problem item larger) least)
+  pub alike_own : (b : ℕ) → number q i ≡ b → IsLeastLoss (fitted q i b) p.loss
+  alike_own b same = subst (λ k. IsLeastLoss (fitted q i k) p.loss) same (own_least q i p.loss base.problem item least_here)
 
-  pub saved_there : number q i ≤ b → IsLeastLoss r m → IsSaved q (with_number q i b) (p.loss - m)
-  saved_there larger least =
-      is_saved helps q base.problem i item b p.loss m larger least_here (subst (λ a. IsLeastLoss a m) (is ∙ fitted_whole q i b base.problem item larger) least)
+  module _ (helps : OnlyCountedHelps) (b m : ℕ) (least : IsLeastLoss (fitted q i b) m) where
+    whole : number q i ≤ b → IsLeastLoss (with_number q i b) m
+    whole larger = subst (λ a. IsLeastLoss a m) (fitted_whole q i b base.problem item larger) least
 
-  pub more_there : b ≤ number q i → IsLeastLoss r m → p.loss ≤ m + spilled q i b
-  more_there smaller least = more_lost helps q base.problem i item b p.loss m smaller least_here (subst (λ a. IsLeastLoss a m) is least)
+    pub less_there : number q i ≤ b → m ≤ p.loss
+    less_there larger = less_lost helps q base.problem i item b p.loss m larger least_here (whole larger)
 
-  pub costs_there : b ≤ number q i → IsLeastLoss r m → Saves (with_number q i b) q (m + spilled q i b - p.loss)
-  costs_there smaller least = costs helps q base.problem i item b p.loss m smaller least_here (subst (λ a. IsLeastLoss a m) is least)
+    pub saved_there : number q i ≤ b → IsSaved q (with_number q i b) (p.loss - m)
+    saved_there larger = is_saved helps q base.problem i item b p.loss m larger least_here (whole larger)
+
+    pub more_there : b ≤ number q i → p.loss ≤ m + spilled q i b
+    more_there smaller = more_lost helps q base.problem i item b p.loss m smaller least_here least
+
+    pub costs_there : b ≤ number q i → Saves (with_number q i b) q (m + spilled q i b - p.loss)
+    costs_there smaller = costs helps q base.problem i item b p.loss m smaller least_here least
 
 -- the least number is no larger than any
 pub least_first : (q : Dumping) (i : Item) → IsDumping q → IsItem q i → least_number i ≤ number q i

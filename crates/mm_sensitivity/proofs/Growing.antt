@@ -1,6 +1,6 @@
 -- A problem with a larger number helps at least as much as one with a smaller.
 use Rattle.std.proofs.Common.{◌≡◌, ℕ, ◌-◌, ◌<◌, ◌≤◌, Bool, true, false, cond, eqb, nat_lt, List, length, get_or, set, refl, sym, ap, ◌∙◌, subst, inl, inr, true≢false, arith}
-use Rattle.std.specs.Prelude.{◌≢◌, Option, Some, None, unwrap_or, IsSome}
+use Rattle.std.specs.Prelude.{◌≢◌, Option, Some, None, unwrap_or, All, IsSome}
 use Rattle.std.proofs.lemmas.Bool.{cases_eq, and_parts, eqb-true}
 use Rattle.std.proofs.lemmas.List.{length-set, get_or-set_same, get_or-set_other}
 use Rattle.std.proofs.lemmas.List.Elements.{All-contains}
@@ -12,10 +12,10 @@ use Rattle.mm_base.specs.Grid.{cell, grid_place}
 use Rattle.mm_problem.specs.Dumping.{Dumping, no_row, row, size, start, channel, IsDumping, limit, lesser, setup_limit, step_limit}
 use Rattle.mm_plan.specs.declared.stretch.Stretch.{Stretch}
 use Rattle.mm_plan.proofs.Places.{grid_place-lt}
-use Rattle.mm_cut.specs.Stretches.{store_of, channel_of, goes_past, goes_past_on, is_inner_on}
+use Rattle.mm_cut.specs.Stretches.{AreStretches, store_of, channel_of, goes_past, goes_past_on, is_inner_on}
 use Rattle.mm_cut.specs.Counts.{is_listed, IsLimited, IsCounted}
 use Rattle.mm_cut.specs.Cuts.{IsCut}
-use Rattle.mm_cut.specs.Changes.{HelpsNowhere}
+use Rattle.mm_cut.specs.Changes.{ChangesStretch, HelpsNowhere}
 use Rattle.mm_sensitivity.specs.declared.item.Item.{Item}
 use Rattle.mm_sensitivity.specs.declared.item.Item.TheVariants.{Window, Size, Limit, StepLimit}
 use Rattle.mm_sensitivity.specs.Items.{IsItem, resized, with_number}
@@ -38,19 +38,27 @@ set-le xs i j a b inside le = elim (cases_eq j i) [
   | inr other ↦ omega (arith, get_or-set_other xs i j a 0 other, get_or-set_other xs i j b 0 other)
 ]
 
+-- a problem with other windows and limits
+abbrev limited_as : Dumping → List ℕ → List (Option ℕ) → List ℕ → Dumping
+limited_as q ws ls ns = record q { windows = ws; limits = ls; step_limits = ns }
+
+-- where two problems differ in windows and limits alone, a cut counts the same of its stretches
+same_stretches : (q : Dumping) (ws vs : List ℕ) (ls ms : List (Option ℕ)) (ns os : List ℕ) (ds : List Stretch) (ts : List ℕ) → AreStretches (limited_as q ws ls ns) ds → All (ChangesStretch ◌≤◌ (limited_as q ws ls ns) (limited_as q vs ms os) ts) ds
+same_stretches q ws vs ls ms ns os ds ts are k d inside = record {
+  store = (are.each k d inside).store;
+  start = λ _. omega arith;
+  arrivals = λ _ _. omega arith;
+  size = omega arith;
+  channel = λ _ _ _. refl;
+}
+
 -- ---- a window
 
 grows_window : (q : Dumping) (t a b : ℕ) → 1 ≤ t → t ≤ length q.windows → a ≤ b → (ds : List Stretch) (ts : List ℕ) → IsCut (with_number q (Window t) b) ds ts → HelpsNowhere (with_number q (Window t) b) (with_number q (Window t) a) ds ts
 grows_window q t a b first last le ds ts cut = record {
   steps = length-set q.windows (t - 1) a ∙ sym (length-set q.windows (t - 1) b);
   channels = refl;
-  stretches = λ k d inside. record {
-    store = (cut.stretches.each k d inside).store;
-    start = λ _. omega arith;
-    arrivals = λ _ _. omega arith;
-    size = omega arith;
-    channel = λ _ _ _. refl;
-  };
+  stretches = same_stretches q (set q.windows (t - 1) b) (set q.windows (t - 1) a) q.limits q.limits q.step_limits q.step_limits ds ts cut.stretches;
   windows = λ u _. set-le q.windows (t - 1) (u - 1) a b (omega arith) le;
   limited = λ u c listed inner. has_limit_there (with_number q (Window t) b) ds ts cut u c listed inner;
   limits = λ _ _ _ _. omega arith;
@@ -110,13 +118,7 @@ grows_limit : (q : Dumping) (e a b : ℕ) → e < length q.limits → a ≤ b �
 grows_limit q e a b inside le ds ts cut = record {
   steps = refl;
   channels = length-set q.limits e (Some a) ∙ sym (length-set q.limits e (Some b));
-  stretches = λ k d within. record {
-    store = (cut.stretches.each k d within).store;
-    start = λ _. omega arith;
-    arrivals = λ _ _. omega arith;
-    size = omega arith;
-    channel = λ _ _ _. refl;
-  };
+  stretches = same_stretches q q.windows q.windows (set q.limits e (Some b)) (set q.limits e (Some a)) q.step_limits q.step_limits ds ts cut.stretches;
   windows = λ _ _. omega arith;
   limited = λ u c listed inner.
       counted_too (nat_lt c (length (set q.limits e (Some b)))) (nat_lt c (length (set q.limits e (Some a)))) _ _ (same_count q e c b a)
@@ -151,13 +153,7 @@ grows_column q k t a b is column first last le ds ts cut =
     record {
       steps = refl;
       channels = refl;
-      stretches = λ j d within. record {
-        store = (cut.stretches.each j d within).store;
-        start = λ _. omega arith;
-        arrivals = λ _ _. omega arith;
-        size = omega arith;
-        channel = λ _ _ _. refl;
-      };
+      stretches = same_stretches q q.windows q.windows q.limits q.limits (set q.step_limits (grid_place n t k) b) (set q.step_limits (grid_place n t k) a) ds ts cut.stretches;
       windows = λ _ _. omega arith;
       limited = λ u c listed inner.
           let passes = nat_lt c (length q.limits) in

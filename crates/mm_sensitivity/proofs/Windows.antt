@@ -1,6 +1,7 @@
 -- A cut in a problem with another window.
-use Rattle.std.proofs.Common.{◌≡◌, ℕ, ◌+◌, ◌-◌, ◌<◌, ◌≤◌, Bool, true, false, cond, ◌&&◌, not, List, length, refl, ap, arith}
+use Rattle.std.proofs.Common.{◌≡◌, ℕ, ◌+◌, ◌-◌, ◌<◌, ◌≤◌, Bool, true, false, cond, ◌&&◌, not, List, length, refl, sym, ap, subst, inl, inr, arith}
 use Rattle.std.specs.Prelude.{◌≢◌}
+use Rattle.std.proofs.lemmas.Bool.{cases_eq}
 use Rattle.std.proofs.lemmas.List.{length-set, get_or-set_same, get_or-set_other}
 use Rattle.mm_base.proofs.RangeSums.{sum_by_filter_range_changed}
 use Rattle.mm_problem.specs.Dumping.{Dumping, window}
@@ -30,6 +31,13 @@ module _ (q : Dumping) (t n : ℕ) where
 
   window_here : 1 ≤ t → t ≤ length q.windows → window r t ≡ n
   window_here first last = get_or-set_same q.windows (t - 1) n 0 (omega arith)
+
+  -- where the window is no narrower, no other step's is
+  pub wider_window : (u : ℕ) → 1 ≤ t → t ≤ length q.windows → 1 ≤ u → window q t ≤ n → window q u ≤ window r u
+  wider_window u first last from wider = elim (cases_eq u t) [
+    | inl here ↦ subst (λ k. window q k ≤ window r k) (sym here) (omega (arith, window_here first last, wider))
+    | inr other ↦ omega (arith, window_other u first from other)
+  ]
 
   -- as much comes in
   pub same_coming : (ds : List Stretch) → coming_sum r ds ≡ coming_sum q ds

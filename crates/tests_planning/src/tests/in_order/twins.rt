@@ -8,8 +8,8 @@ use crate::tests::twins::{FORECASTS, LIMITS, STORES};
 use crate::tests::worths;
 use mm_cut::{Verdict, verdict_of};
 use mm_exhaustive::plan_below;
-use mm_plan::{Plan, Sheet, first_loss};
-use mm_planner::{plan, sheet_in_order};
+use mm_plan::{Certificate, Plan, Sheet, first_loss};
+use mm_planner::{plan, plan_in_order_by_flow, sheet_in_order};
 use mm_problem::{Kind, MAX_BLOCKS, Problem, StoreRow};
 use std::alloc::Global;
 use std::process::Abort;
@@ -133,9 +133,29 @@ fn is_least_of_all_plans(
     assert!(rt; is_least, "{stores} stores lose {loss}");
 }
 
+// What the certificates say that the first stores lose.
+fn losses(rt: &impl Abort, alloc: Global, firsts: &[Certificate]) -> Vec<u64> {
+    let mut losses = Vec::new(alloc);
+    for first in firsts {
+        losses.push(first.loss()).expect(rt, "memory");
+    }
+    losses
+}
+
+// By the network alone as much is lost, of all stores and of the first ones.
+fn is_planned_alike_by_flow(rt: &impl Abort, alloc: Global, problem: &Problem, sheet: &Sheet) {
+    let by_flow = plan_in_order_by_flow(alloc, problem).expect(rt, "memory");
+    let firsts = sheet.firsts().expect(rt, "certificates");
+    let found = losses(rt, alloc, by_flow.firsts.as_slice());
+    let wanted = losses(rt, alloc, firsts);
+    assert!(rt; by_flow.planned.loss == sheet.loss());
+    assert!(rt; found.as_slice() == wanted.as_slice());
+}
+
 // So it is for the first store, the first two and so on.
 fn are_least_of_all_plans(rt: &impl Abort, alloc: Global, problem: &Problem) {
     let sheet = planned(rt, alloc, problem);
+    is_planned_alike_by_flow(rt, alloc, problem, &sheet);
     for last in 0..problem.stores() {
         is_least_of_all_plans(rt, alloc, problem, sheet.plan(), last + 1);
     }

@@ -1,0 +1,29 @@
+use Rattle.std.proofs.Common.{◌≡◌, ◌≤◌, false, sym, ap, ◌∙◌, subst, arith}
+use Rattle.std.proofs.lemmas.Bool.{not-true, eqb-true}
+use Rattle.mm_problem.specs.Dumping.{window}
+use Rattle.mm_cut.specs.Cuts.{counts_window}
+use Rattle.mm_sensitivity.specs.declared.item.Item.{Item}
+use Rattle.mm_sensitivity.specs.declared.item.Item.TheVariants.{Window}
+use Rattle.mm_sensitivity.specs.Items.{IsItem, number, fitted}
+use Rattle.mm_sensitivity.specs.Worth.{IsLeastLoss}
+use Rattle.mm_sensitivity.proofs.Found.{alike_own, wider_least}
+use Rattle.mm_sensitivity.proofs.base.loses_alike.Goals as goal
+
+pub returns-then-now-blocks-2 : goal.returns-then-now-blocks-2
+returns-then-now-blocks-2 c is =
+    let q = c.args.problem.now in
+    let p = c.args.base.now in
+    let t = c.in-Window.step in
+    let b = c.args.blocks in
+    let here : c.args.item ≡ Window t = c.in-Window.is in
+    let item : IsItem q (Window t) = subst (IsItem q) here c.requires.item in
+    let value : number q c.args.item ≡ window q t = ap (number q) here in
+    let wider : window q t ≤ b = omega (arith, value, c.number-now.ensures.number, c.if-now-blocks-2.true) in
+    let other : counts_window p.cut.items p.by_channels.items t ≡ false = sym c.counts_window.ensures ∙ not-true c.counts_window.result is in
+    subst (λ (i : Item). IsLeastLoss (fitted q i b) p.loss) (sym here)
+    (wider_least c.cuts_bound_losses.ensures q t b p.plan p.cut.items p.by_channels.items p.loss item.0 item.1 wider other c.requires.base.shows)
+
+pub returns-in_default : goal.returns-in_default
+returns-in_default c is =
+    let same : number c.args.problem.now c.args.item ≡ c.args.blocks = sym c.number-now.ensures.number ∙ eqb-true c.number-now.result c.args.blocks is in
+    alike_own c.args.problem.now c.args.base.now c.args.item c.requires.base c.requires.item c.args.blocks same
