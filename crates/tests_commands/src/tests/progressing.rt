@@ -24,10 +24,7 @@ where
     R: Abort + AllocGlobal + Threads + Wait + Sync,
 {
     let alloc = rt.alloc();
-    let script = joined(
-        rt,
-        &[command, " S F\n=== S\n", SCI, "=== F\n", THREE_STEPS],
-    );
+    let script = joined(rt, &[command, " S F\n=== S\n", SCI, "=== F\n", THREE_STEPS]);
     let mut told = Told {
         calls: Vec::new(alloc),
     };
