@@ -7,6 +7,7 @@ ghost use Rattle.mm_run.specs.declared.fault.Fault.TheVariants as flight_fault;
 ghost use Rattle.mm_cut.specs.Checking.{IsFaultOf as IsCheckFault};
 ghost use Rattle.mm_cut.specs.declared.fault.Fault.TheVariants as cut_fault;
 ghost use Rattle.mm_planner.specs.PlanTexts.{IsPlanningFault};
+ghost use Rattle.mm_sensitivity.specs.Table.{IsWorthTable};
 ghost use Rattle.mm_commands.specs.Answers.{DrawsPlan, FliesTexts, IsAnswerTo, PlansText, given_plan, is_run, status_in, status_of, status_of_replies};
 ghost use Rattle.mm_commands.specs.Refusing.{IsFaultIn, IsFlightFault};
 
@@ -19,7 +20,7 @@ use mm_command_line::{FlightFiles, Task};
 use mm_cut::{Verdict, check_bytes};
 use mm_planner::{plan_bytes, plan_in_order_bytes};
 use mm_run::{Printed, RunTexts, run_texts};
-use mm_sensitivity::{sensitivity_bytes, worth_chart_bytes};
+use mm_sensitivity::{Progress, sensitivity_with_progress, worth_chart_bytes};
 use std::alloc::Global;
 use std::sync::Wait;
 use std::thread::Threads;
@@ -106,6 +107,23 @@ fn chart_text(alloc: Global, worth: bool, texts: &TaskTexts) -> Result<Vec<u8>, 
     }
 }
 
+// The table of what each window, store size and limit is worth. The progress is told of each record, and that nothing is left to do where the
+// table breaks off.
+fn worth_table<P: Progress>(
+    alloc: Global,
+    texts: &TaskTexts,
+    progress: &mut P,
+) -> Result<Vec<u8>, mm_cut::Fault>
+    ensures table { IfOk result (λ text. IsWorthTable texts.now.setup.items texts.now.forecast.items text.items) }
+    ensures refused { IfRefused cut_fault.NoMemory result (IsPlanningFault texts.now.setup.items texts.now.forecast.items) }
+{
+    let table = sensitivity_with_progress(alloc, &texts.setup, &texts.forecast, progress);
+    if table.is_err() {
+        progress.done(0, 0);
+    }
+    table
+}
+
 // The text of the plan of a run, where it is given.
 fn given_plan<'t>(name: Option<&str>, texts: &'t TaskTexts) -> Option<&'t [u8]>
     ensures given { option_copied result ≡ given_plan name.entry texts.now }
@@ -149,10 +167,11 @@ pub(crate) fn answer_to_run<'a, R: Threads + Wait + Sync>(
 }
 
 /// What answers a task other than a run, whose files have these texts.
-pub(crate) fn answer_without_run<'a>(
+pub(crate) fn answer_without_run<'a, P: Progress>(
     alloc: Global,
     task: Task<'a>,
     texts: &TaskTexts,
+    progress: &mut P,
 ) -> Result<Answer<'a>, Fault<'a>>
     requires other { is_run task ≡ false }
     ensures answers { IfOk result (IsAnswerTo task.entry texts.now) }
@@ -180,7 +199,7 @@ pub(crate) fn answer_without_run<'a>(
             Ok(Answer::Text { text, output })
         }
         Task::Sensitivity { .. } => {
-            let text = sensitivity_bytes(alloc, &texts.setup, &texts.forecast)?;
+            let text = worth_table(alloc, texts, progress)?;
             Ok(Answer::Text { text, output: None })
         }
         Task::Ask { .. } => {

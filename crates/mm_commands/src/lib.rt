@@ -19,8 +19,12 @@ mod texts;
 
 pub use fault::Fault;
 pub use files::{Device, Files, Input, MAX_READS, Obstacle, ReadFault, StoreFault, read_to_end};
+pub use mm_sensitivity::{Progress, Silent};
 pub use readings::Readings;
-pub use run::{refuse_input, refuse_words, run_script, run_tool, run_words};
+pub use run::{
+    refuse_input, refuse_words, run_script, run_script_with_progress, run_tool,
+    run_tool_with_progress, run_words,
+};
 pub use script::{ScriptFiles, first_line};
 pub use status::{Status, Unwritten};
 pub use system::SystemFiles;

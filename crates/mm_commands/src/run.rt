@@ -12,6 +12,7 @@ use crate::status::{Status, Unwritten};
 use crate::tasks::{self, do_task};
 use clap::error::ErrorKind;
 use mm_command_line::{VERSION, asks_version, has_misplaced_flag, has_misplaced_output, parse};
+use mm_sensitivity::{Progress, Silent};
 use std::alloc::{AllocError, Global};
 use std::convert::AsStr;
 use std::io::{self, Write};
@@ -32,14 +33,16 @@ For more information, try '--help'.";
 
 /// Does what the words of a command line, without the program's own name, ask for. What answers the task goes to `out`, or into the file of
 /// its output. The line that says why it is refused goes to `out`, and so does the version. The texts of a bad command line and of help go
-/// to `err`, and so do the lines that say more of an answer or a refusal. The error says what could not be written.
-pub fn run_words<R: Threads + Wait + Sync, S: AsStr, F: Files, W: Write, E: Write>(
+/// to `err`, and so do the lines that say more of an answer or a refusal. The error says what could not be written. The progress is told how
+/// far a long answer has come.
+pub fn run_words<R: Threads + Wait + Sync, S: AsStr, F: Files, W: Write, E: Write, P: Progress>(
     rt: &R,
     alloc: Global,
     words: &[S],
     files: &mut F,
     out: &mut W,
     err: &mut E,
+    progress: &mut P,
 ) -> Result<Status, Unwritten>
     ensures does { IfOk result (λ status. Does (seen (F.content files.old) (F.readings files.old)) (seen (F.content files.new) (F.readings files.new))
         (map S.text words.now) status (W.contents out.old) (W.contents out.new)) }
@@ -53,7 +56,7 @@ pub fn run_words<R: Threads + Wait + Sync, S: AsStr, F: Files, W: Write, E: Writ
         return Ok(Status::Done);
     }
     match parse(alloc, words) {
-        Ok(task) => do_task(rt, alloc, task, files, out, err),
+        Ok(task) => do_task(rt, alloc, task, files, out, err, progress),
         Err(error) if error.kind() == ErrorKind::OutOfMemory => {
             tasks::refuse_input(ReadFault::NoMemory, out, err)
         }
@@ -101,13 +104,21 @@ fn end<E: Write>(run: Result<Status, Unwritten>, err: &mut E) -> u8
 /// Runs the program on its words, as `run_words` does. The exit status is 0 where the task is done or the version is told, 1
 /// where something is refused, a verdict is neither `Least` nor `LeastInOrder` or a write failed, and 2 for a bad command line or a call for help.
 /// Where `out` could not be written, a line on `err` says so.
-pub fn run_tool<R: Threads + Wait + Sync, S: AsStr, F: Files, W: Write, E: Write>(
+pub fn run_tool_with_progress<
+    R: Threads + Wait + Sync,
+    S: AsStr,
+    F: Files,
+    W: Write,
+    E: Write,
+    P: Progress,
+>(
     rt: &R,
     alloc: Global,
     words: &[S],
     files: &mut F,
     out: &mut W,
     err: &mut E,
+    progress: &mut P,
 ) -> u8
     ensures status { result ≤ 2 }
     // Where the exit status is 0, the task that the words ask for was done: what was written answers it. Or they ask for the version.
@@ -119,8 +130,27 @@ pub fn run_tool<R: Threads + Wait + Sync, S: AsStr, F: Files, W: Write, E: Write
     // Where the task was not done, each file is as it was.
     ensures kept { result ≢ 0 → F.content files.new ≡ F.content files.old }
 {
-    let run = run_words(rt, alloc, words, files, out, err);
+    let run = run_words(rt, alloc, words, files, out, err, progress);
     end(run, err)
+}
+
+/// What `run_tool_with_progress` does, with no progress shown.
+pub fn run_tool<R: Threads + Wait + Sync, S: AsStr, F: Files, W: Write, E: Write>(
+    rt: &R,
+    alloc: Global,
+    words: &[S],
+    files: &mut F,
+    out: &mut W,
+    err: &mut E,
+) -> u8
+    ensures status { result ≤ 2 }
+    ensures does { result ≡ 0 → IsDone (seen (F.content files.old) (F.readings files.old)) (seen (F.content files.new) (F.readings files.new))
+        (map S.text words.now) (W.contents out.old) (W.contents out.new)
+        ⊎ TellsVersion (map S.text words.now) (W.contents out.old) (W.contents out.new) }
+    ensures taken { IsTaskLine (map S.text words.now) → result ≤ 1 }
+    ensures kept { result ≢ 0 → F.content files.new ≡ F.content files.old }
+{
+    run_tool_with_progress(rt, alloc, words, files, out, err, &mut Silent)
 }
 
 // Says why no words are read, and gives the exit status.
@@ -147,12 +177,13 @@ pub fn refuse_words<E: Write>(error: &io::Error, err: &mut E) -> u8
 }
 
 /// Runs the program on a script: a first line with the words, separated by single spaces, and then the files.
-pub fn run_script<R: Threads + Wait + Sync, W: Write, E: Write>(
+pub fn run_script_with_progress<R: Threads + Wait + Sync, W: Write, E: Write, P: Progress>(
     rt: &R,
     alloc: Global,
     script: &[u8],
     out: &mut W,
     err: &mut E,
+    progress: &mut P,
 ) -> u8
     ensures status { result ≤ 2 }
     // Where the exit status is 0, the task of the first line was done over the files of the script: what was written answers it.
@@ -168,14 +199,30 @@ pub fn run_script<R: Threads + Wait + Sync, W: Write, E: Write>(
         Ok(words) => words,
         Err(_) => return refuse_input(ReadFault::NoMemory, out, err),
     };
-    run_tool(
+    run_tool_with_progress(
         rt,
         alloc,
         words.as_slice(),
         &mut ScriptFiles::new(files),
         out,
         err,
+        progress,
     )
+}
+
+/// What `run_script_with_progress` does, with no progress shown.
+pub fn run_script<R: Threads + Wait + Sync, W: Write, E: Write>(
+    rt: &R,
+    alloc: Global,
+    script: &[u8],
+    out: &mut W,
+    err: &mut E,
+) -> u8
+    ensures status { result ≤ 2 }
+    ensures does { result ≡ 0 → DoesScript script.now (W.contents out.old) (W.contents out.new) }
+    ensures taken { IsTaskScript script.now → result ≤ 1 }
+{
+    run_script_with_progress(rt, alloc, script, out, err, &mut Silent)
 }
 
 // The words of a line, separated by single spaces; an empty line has none.

@@ -19,6 +19,7 @@ use crate::remark::{Found, tell_found, tell_more};
 use crate::status::{Status, Unwritten};
 use crate::texts::TaskTexts;
 use mm_command_line::{FileNames, FlightFiles, Task};
+use mm_sensitivity::Progress;
 use std::alloc::Global;
 use std::io::{self, Write};
 use std::sync::Wait;
@@ -217,12 +218,13 @@ fn do_run<R: Threads + Wait + Sync, F: Files, W: Write, E: Write>(
 }
 
 /// Does a task other than a run, as `do_task` does, and waits for nothing.
-pub fn do_without_run<F: Files, W: Write, E: Write>(
+pub fn do_without_run<F: Files, W: Write, E: Write, P: Progress>(
     alloc: Global,
     task: Task<'_>,
     files: &mut F,
     out: &mut W,
     err: &mut E,
+    progress: &mut P,
 ) -> Result<Status, Unwritten>
     requires other { is_run task ≡ false }
     ensures prints { IfOk result (λ status. Settles (seen (F.content files.old) (F.readings files.old)) (seen (F.content files.new) (F.readings files.new))
@@ -232,7 +234,7 @@ pub fn do_without_run<F: Files, W: Write, E: Write>(
 {
     match TaskTexts::read(alloc, files, task.names()) {
         Ok(texts) => {
-            let answer = answer_without_run(alloc, task, &texts);
+            let answer = answer_without_run(alloc, task, &texts, progress);
             conclude(alloc, task, answer, &texts, files, out, err)
         }
         Err(fault) => refuse(Some(task), fault, None, out, err),
@@ -242,14 +244,16 @@ pub fn do_without_run<F: Files, W: Write, E: Write>(
 /// Does a task. What answers it goes to `out`, or into the file of the task's output, and nothing of it to `out` then. The line that says why
 /// a task is refused goes to `out`; what is said of an answer or of a refusal goes to `err`. The status is `Done` where the task is done,
 /// and `Refused` where something is refused, a verdict is neither `Least` nor `LeastInOrder`, or a run was halted. The error says what could not be written. No file
-/// is changed but that of the output of a task that is done. Only a run may wait for its threads.
-pub fn do_task<R: Threads + Wait + Sync, F: Files, W: Write, E: Write>(
+/// is changed but that of the output of a task that is done. Only a run may wait for its threads. The progress is told how far a long answer
+/// has come.
+pub fn do_task<R: Threads + Wait + Sync, F: Files, W: Write, E: Write, P: Progress>(
     rt: &R,
     alloc: Global,
     task: Task<'_>,
     files: &mut F,
     out: &mut W,
     err: &mut E,
+    progress: &mut P,
 ) -> Result<Status, Unwritten>
     ensures prints { IfOk result (λ status. Settles (seen (F.content files.old) (F.readings files.old)) (seen (F.content files.new) (F.readings files.new))
         task.entry status (W.contents out.old) (W.contents out.new)) }
@@ -258,6 +262,6 @@ pub fn do_task<R: Threads + Wait + Sync, F: Files, W: Write, E: Write>(
 {
     match task {
         Task::Fly(flight) => do_run(rt, alloc, flight, files, out, err),
-        _ => do_without_run(alloc, task, files, out, err),
+        _ => do_without_run(alloc, task, files, out, err, progress),
     }
 }

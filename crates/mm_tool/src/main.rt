@@ -1,8 +1,12 @@
 //! The program of the mass memory: it gives the commands their words, and the files and writers of the system.
 #![tactic(auto)]
 
+mod progress_line;
+
+use crate::progress_line::ProgressLine;
 use mm_commands::{
-    Device, SystemFiles, read_to_end, refuse_input, refuse_words, run_script, run_tool,
+    Device, SystemFiles, read_to_end, refuse_input, refuse_words, run_script_with_progress,
+    run_tool_with_progress,
 };
 use std::io::{self, IsTerminal, Write};
 use std::process::ExitCode;
@@ -22,18 +26,34 @@ fn main(rt: HostRuntime) -> ExitCode {
         Ok(words) => words,
         Err(error) => return ExitCode::from(refuse_words(&error, &mut err)),
     };
+    let mut progress = ProgressLine::new(&rt, rt.stderr());
     let status = if words.is_empty() {
         let reader = rt.reader();
         if reader.is_terminal() {
             let _told = writeln!(err, "{WAITING}");
         }
         match read_to_end(alloc, &mut Device::new(reader)) {
-            Ok(script) => run_script(&rt, alloc, &script, &mut out, &mut err),
+            Ok(script) => run_script_with_progress(
+                &rt,
+                alloc,
+                &script,
+                &mut out,
+                &mut err,
+                &mut progress,
+            ),
             Err(fault) => refuse_input(fault, &mut out, &mut err),
         }
     } else {
         let mut files = SystemFiles::new(alloc, &rt);
-        run_tool(&rt, alloc, &words, &mut files, &mut out, &mut err)
+        run_tool_with_progress(
+            &rt,
+            alloc,
+            &words,
+            &mut files,
+            &mut out,
+            &mut err,
+            &mut progress,
+        )
     };
     ExitCode::from(status)
 }

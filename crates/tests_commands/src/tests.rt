@@ -28,6 +28,7 @@ mod hinting;
 mod in_order;
 mod inputs;
 mod planning;
+mod progressing;
 mod reading;
 mod refusing;
 mod samples;

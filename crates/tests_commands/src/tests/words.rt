@@ -182,7 +182,11 @@ fn is_shown<R>(rt: &R, name: &str, shown: &str)
 where
     R: Abort + AllocGlobal + rt::Files + Threads + Wait + Sync,
 {
-    let answer = answer_to(rt, &["plan", name, "F"], &mut SystemFiles::new(rt.alloc(), rt));
+    let answer = answer_to(
+        rt,
+        &["plan", name, "F"],
+        &mut SystemFiles::new(rt.alloc(), rt),
+    );
     let line = joined(rt, &["refused 50 NotRead name ", shown, "\n"]);
     let front = joined(rt, &[shown, ": expected a file of this name; "]);
     let said = answer.err.as_str();

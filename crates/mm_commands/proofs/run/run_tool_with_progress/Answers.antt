@@ -1,5 +1,5 @@
 use Rattle.mm_commands.proofs.Codes.{code-done, code-kept, code-taken}
-use Rattle.mm_commands.proofs.run.run_tool.Goals as goal
+use Rattle.mm_commands.proofs.run.run_tool_with_progress.Goals as goal
 
 pub returns-clause-does : goal.returns-clause-does
 returns-clause-does g c =
