@@ -4,11 +4,11 @@ use mm_commands::Progress;
 use std::io::{IsTerminal, Write};
 use std::time::{Clock, Duration, Instant};
 
-/// How long an answer may take before it is shown how far it has come.
-const SILENCE: Duration = Duration::from_secs(1);
+/// How many milliseconds an answer may take before it is shown how far it has come.
+const SILENCE: u64 = 1000;
 
-/// How long a line stays before the next one takes its place.
-const TURN: Duration = Duration::from_millis(100);
+/// How many milliseconds a line stays before the next one takes its place.
+const TURN: u64 = 100;
 
 /// Shows on standard error, where that is a terminal, how far an answer has come that takes longer than a second. The line is cleared at
 /// the end of the answer, so that nothing of it remains.
@@ -34,7 +34,7 @@ impl<'a, C: Clock, E: Write + IsTerminal> ProgressLine<'a, C, E> {
             clock,
             err,
             began,
-            next: SILENCE,
+            next: Duration::from_millis(SILENCE),
             is_shown: false,
         }
     }
@@ -48,7 +48,7 @@ impl<'a, C: Clock, E: Write + IsTerminal> ProgressLine<'a, C, E> {
             return;
         };
         if elapsed >= self.next {
-            self.next = elapsed.saturating_add(TURN);
+            self.next = elapsed.saturating_add(Duration::from_millis(TURN));
             self.is_shown = true;
             let _told = write!(self.err, "\rmm_tool: {hundredths} %");
         }
