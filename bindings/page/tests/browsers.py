@@ -4,6 +4,7 @@
 from __future__ import annotations
 
 import base64
+import fcntl
 import json
 import os
 import shutil
@@ -44,8 +45,8 @@ class Chromium:
         self.come, up = os.pipe()
 
         def place() -> None:
-            # The browser reads descriptor 3 and writes descriptor 4.
-            one, other = os.dup(down), os.dup(up)
+            # The browser reads descriptor 3 and writes descriptor 4. The copies are others than these, which would be closed as it begins.
+            one, other = fcntl.fcntl(down, fcntl.F_DUPFD, 5), fcntl.fcntl(up, fcntl.F_DUPFD, 5)
             os.dup2(one, 3)
             os.dup2(other, 4)
 

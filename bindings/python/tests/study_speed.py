@@ -1,14 +1,14 @@
 #!/usr/bin/env python3
 """Measures what a variant of a study takes: `study_speed.py [MOST]`. On one thread it is compared with the call in C, whose texts and buffer are
 there already: each of many variants is answered once in a round, after the others, and the least time of some rounds counts. Then threads for
-all processors work at once, beside as many that make C calls alone: on a busy machine both get the same share of it. And scipy's linprog
-(HiGHS) solves the same problem, where it is installed. Prints a line for each, and fails where a variant takes more than MOST times (1.5) the
-C call that plans, with its losses by store or without them."""
+all processors work at once, beside as many that make C calls alone: on a busy machine both get the same share of it. Then as many processes.
+And scipy's linprog (HiGHS) solves the same problem, where it is installed. Prints a line for each, and fails where a variant takes more than
+MOST times (1.5) the C call that plans, with its losses by store or without them."""
 
 import os
 import sys
 import time
-from concurrent.futures import ThreadPoolExecutor
+from concurrent.futures import ProcessPoolExecutor, ThreadPoolExecutor
 from itertools import combinations
 from pathlib import Path
 
@@ -79,6 +79,19 @@ def gains(mission, base, workers):
     return [(max(one for one, _ in column), max(many for _, many in column)) for column in zip(*rates)]
 
 
+def in_processes(mission, workers):
+    """How many times as many variants a second, with the losses by store, that many processes answer as one thread."""
+    kinds, rates = list(each_pass_lost(mission)) * 64, []
+    for kind, count in ((ThreadPoolExecutor, 1), (ProcessPoolExecutor, workers)):
+        with kind(count) as pool:
+            study(mission, kinds[:64], executor=pool, progress=False)
+            begin = time.perf_counter()
+            for _ in range(ROUNDS):
+                study(mission, kinds, executor=pool, progress=False)
+            rates.append(ROUNDS * len(kinds) / (time.perf_counter() - begin))
+    return rates[1] / rates[0]
+
+
 def linprog_time(setup, forecast):
     """What scipy takes for the same problem, and the loss that it finds: a volume, a dump and a loss for each store and step."""
     try:
@@ -147,6 +160,7 @@ def main():
         f"study: in {workers} threads {many / one:.2f} times as many variants a second as in one, {many_by_store / one_by_store:.2f} times with "
         f"the losses by store; C calls alone {many_in_c / one_in_c:.2f} times; in one thread {one:.0f}, {one_by_store:.0f} and {one_in_c:.0f}"
     )
+    print(f"study: in {workers} processes {in_processes(mission, workers):.2f} times as many variants a second as in one thread")
     found = linprog_time(base.setup, base.forecast)
     if found is None:
         print("study: linprog is passed over: no scipy")
