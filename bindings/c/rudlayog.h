@@ -433,7 +433,7 @@ void rudlayog_table(const uint8_t *setup, size_t setup_length, const uint8_t *fo
                     size_t plan_length, uint8_t *out, size_t room, struct rudlayog_answer *answer);
 
 /* What each window, store size and limit is worth for a setup and a forecast, as comma separated values: how many blocks fewer the least plan
- * loses if it is larger. It takes up to some hundred times rudlayog_plan. Stack: `RUDLAYOG_SENSITIVITY_STACK`.
+ * loses if it is larger. It takes up to some two hundred times rudlayog_plan. Stack: `RUDLAYOG_SENSITIVITY_STACK`.
  *
  * `RUDLAYOG_WRITTEN`, `RUDLAYOG_TOO_SMALL`, `RUDLAYOG_REFUSED`. */
 void rudlayog_sensitivity(const uint8_t *setup, size_t setup_length, const uint8_t *forecast, size_t forecast_length, uint8_t *out,
