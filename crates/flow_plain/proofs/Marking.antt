@@ -8,9 +8,9 @@ use Rattle.flow_plain.specs.declared.limits.TheConstants.{UNLIMITED}
 use Rattle.mm_flow.specs.Graph.{Graph}
 use Rattle.mm_flow.specs.Flow.{Flow}
 use Rattle.mm_flow.specs.Residual.{tail, residual}
-use Rattle.mm_flow.specs.Marks.{mark, level, HasMark, IsMarking, IsSearch, IsSearched, no_mark as bare_none}
+use Rattle.mm_flow.specs.Marks.{mark, level, HasMark, IsMarking, IsSearch, no_mark as bare_none}
 use Rattle.mm_flow.specs.Levels.{IsPath, HasPath}
-use Rattle.flow_plain.specs.Marks.{Bare, no_mark, bare_mark, bare, width, IsWide, IsLevelled}
+use Rattle.flow_plain.specs.Marks.{Bare, no_mark, bare_mark, bare, width, IsWide, HasEnded, IsLevelled}
 use Rattle.mm_flow.proofs.LevelPaths.{path_on}
 use Rattle.mm_flow.proofs.Marking.{search_begun as bare_begun}
 use Rattle.mm_flow.proofs.Visiting.{marked_lt as bare_lt}
@@ -127,7 +127,7 @@ search_begun g f source least order start known size first unlimited below =
     )
 
 -- the marks of a search hold all through the phase that follows
-pub searched_levelled : (g : Graph) (f : Flow) (source least : ℕ) (marks : List Mark) → 0 < least → IsSearched g f source least (bare marks) → IsWide g f source least marks → IsLevelled g source marks
-searched_levelled g f source least marks some searched wide =
-    let start = searched.marking.start in
-    record { size = omega (arith, searched.marking.size, length-map marks bare_mark); start = start; wide = omega (arith, (wide source start).wide) }
+pub ended_levelled : (g : Graph) (f : Flow) (source least : ℕ) (marks : List Mark) → 0 < least → HasEnded g f source least marks → IsLevelled g source marks
+ended_levelled g f source least marks some ended =
+    let marking = ended.searched.marking in
+    record { size = omega (arith, marking.size, length-map marks bare_mark); start = marking.start; wide = omega (arith, (ended.wide source marking.start).wide) }

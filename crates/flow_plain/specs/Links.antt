@@ -1,6 +1,6 @@
 -- The entries that leave a node, as a chain through flat tables. A cursor is 0 at the end of a chain, and otherwise
 -- an entry and 1.
-use Rattle.std.specs.Prelude.{◌≡◌, ℕ, ◌+◌, ◌<◌, List, length, slice_index}
+use Rattle.std.specs.Prelude.{◌≡◌, ℕ, ◌+◌, ◌-◌, ◌<◌, List, length, slice_index}
 use Rattle.flow_plain.specs.declared.links.Links.{Links}
 use Rattle.mm_flow.specs.Graph.{Graph}
 use Rattle.mm_flow.specs.Residual.{entries, tail}
@@ -27,3 +27,9 @@ pub record IsLinkedBelow (g : Graph) (last before : List ℕ) (count : ℕ) : Ty
 -- all entries are chained
 abbrev pub IsLinked : Graph → Links → Type 0
 IsLinked g links = IsLinkedBelow g links.last.items links.before.items (entries g)
+
+-- a cursor follows another in the chain of a node, and no entry of the node stands between them
+pub record Follows (g : Graph) (node cursor next : ℕ) : Type 0 where
+  pub own : StandsAt g node next
+  pub smaller : next < cursor
+  pub most : (e : ℕ) → tail g e ≡ node → e < cursor - 1 → e < next

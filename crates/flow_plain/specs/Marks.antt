@@ -4,7 +4,7 @@ use Rattle.flow_plain.specs.declared.search.Mark.{Mark}
 use Rattle.flow_plain.specs.declared.search.Search.{Search}
 use Rattle.mm_flow.specs.Graph.{Graph}
 use Rattle.mm_flow.specs.Flow.{Flow}
-use Rattle.mm_flow.specs.Marks.{HasMark, IsSearch, no_mark as bare_none}
+use Rattle.mm_flow.specs.Marks.{HasMark, IsSearch, IsSearched, no_mark as bare_none}
 use Rattle.mm_flow.specs.Levels.{HasPath}
 
 -- the mark of a node that is not reached
@@ -39,6 +39,11 @@ pub record IsCarried (g : Graph) (f : Flow) (marks : List Mark) (source least n 
 -- such paths lead to all marked nodes
 abbrev pub IsWide : Graph → Flow → ℕ → ℕ → List Mark → Type 0
 IsWide g f source least marks = (n : ℕ) → HasMark (bare marks) n → IsCarried g f marks source least n
+
+-- a search has ended: nothing more can be reached
+pub record HasEnded (g : Graph) (f : Flow) (source least : ℕ) (marks : List Mark) : Type 0 where
+  pub searched : IsSearched g f source least (bare marks)
+  pub wide : IsWide g f source least marks
 
 -- a search at work
 pub record IsSearching (g : Graph) (f : Flow) (s : Search) : Type 0 where

@@ -1,20 +1,22 @@
 -- Paths that a phase finds from the sink back.
-use Rattle.std.specs.Prelude.{◌≡◌, ℕ, ◌<◌, slice_index, sum_by}
+use Rattle.std.specs.Prelude.{ℕ, ◌<◌, slice_index, sum_by}
 use Rattle.flow_plain.specs.declared.phase.Phase.{Phase}
-use Rattle.mm_flow.specs.Residual.{entries, tail, twin}
-use Rattle.mm_flow.specs.Levels.{HasLead}
+use Rattle.mm_flow.specs.Residual.{head}
+use Rattle.mm_flow.specs.Levels.{IsAhead, HasLead}
 use Rattle.flow_plain.specs.Marks.{bare}
-use Rattle.flow_plain.specs.Task.{IsOpen}
-
--- an entry leaves a node, and a path can go on by its twin to come to the node
-pub record LeadsUp (p : Phase) (at e : ℕ) : Type 0 where
-  pub known : e < entries p.tables.network.now.graph
-  pub leaves : tail p.tables.network.now.graph e ≡ at
-  pub back : IsOpen p.tables (twin p.tables.network.now.graph e)
 
 -- a path leads up from a node to the sink
-abbrev pub LeadsFrom : Phase → ℕ → Type 0
-LeadsFrom p n = HasLead p.tables.network.now.graph (slice_index p.tables.flow.items) (bare p.tables.search.marks.items) p.next.items p.ahead.items p.tables.sink n
+abbrev pub LeadsUp : Phase → ℕ → Type 0
+LeadsUp p n = HasLead p.tables.network.now.graph (slice_index p.tables.flow.items) (bare p.tables.search.marks.items) p.next.items p.ahead.items p.tables.sink n
+
+-- and begins with an entry
+abbrev pub LeadsBy : Phase → ℕ → ℕ → Type 0
+LeadsBy p n e = IsAhead p.tables.network.now.graph (slice_index p.tables.flow.items) (bare p.tables.search.marks.items) p.next.items n e × LeadsUp p (head p.tables.network.now.graph e)
+
+-- such a path leads from a node of the network
+pub record LeadsFrom (p : Phase) (n : ℕ) : Type 0 where
+  pub known : n < p.tables.network.now.graph.nodes
+  pub up : LeadsUp p n
 
 -- the cursors of all nodes, added up
 abbrev pub cursors_of : Phase → ℕ

@@ -1,19 +1,14 @@
 -- What tables are of.
 use Rattle.std.specs.Prelude.{◌≡◌, ℕ, slice_index}
 use Rattle.flow_plain.specs.declared.tables.Tables.{Tables}
-use Rattle.mm_flow.specs.Graph.{Graph}
 use Rattle.mm_flow.specs.Levels.{IsUp}
 use Rattle.flow_plain.specs.Marks.{bare, IsCarried}
 
--- the tables are of this network, source and sink
-pub record IsTask (g : Graph) (from to : ℕ) (t : Tables) : Type 0 where
-  pub graph : t.network.now.graph ≡ g
-  pub source : t.search.source ≡ from
-  pub sink : t.sink ≡ to
-
--- two tables are of one network, source and sink
-abbrev pub SameTask : Tables → Tables → Type 0
-SameTask old new = IsTask old.network.now.graph old.search.source old.sink new
+-- two tables are of one network, sink and value
+pub record SameTask (old new : Tables) : Type 0 where
+  pub graph : new.network.now.graph ≡ old.network.now.graph
+  pub sink : new.sink ≡ old.sink
+  pub value : new.value ≡ old.value
 
 -- a path can go on by an entry
 abbrev pub IsOpen : Tables → ℕ → Type 0

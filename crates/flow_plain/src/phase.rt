@@ -1,6 +1,6 @@
 //! Phases of level graphs and blocking flows (Dinitz, 1970).
 ghost use Rattle.std.specs.Prelude.{◌≡◌, ◌≢◌, ◌<◌, ◌≤◌, ◌-◌, true, length, slice_index, IfOk, IfSome, IfNone};
-ghost use Rattle.flow_plain.specs.Links.{IsCursors};
+ghost use Rattle.flow_plain.specs.Links.{StandsAt, IsCursors};
 
 use crate::residual::{head, residual, twin};
 use crate::tables::Tables;
@@ -24,7 +24,7 @@ impl<'a> Phase<'a> {
     ghost use Rattle.mm_flow.specs.Marks.{level};
     ghost use Rattle.flow_plain.specs.Marks.{bare};
     ghost use Rattle.flow_plain.specs.Task.{IsOpen, Reaches};
-    ghost use Rattle.flow_plain.specs.Phase.{LeadsFrom, LeadsUp, cursors_of};
+    ghost use Rattle.flow_plain.specs.Phase.{LeadsFrom, cursors_of};
 
     // A solver before its first phase.
     pub(crate) fn new(alloc: Global, tables: Tables<'a>) -> Result<Phase<'a>, AllocError>
@@ -38,13 +38,6 @@ impl<'a> Phase<'a> {
         })
     }
 
-    // Moves flow until a search no longer reaches the sink.
-    pub(crate) fn run(&mut self) {
-        while self.tables.search_anew() {
-            self.block();
-        }
-    }
-
     // Moves flow along the path by which the search reached the sink, and then along further paths of its levels until
     // the cursors lead to none.
     pub(crate) fn block(&mut self)
@@ -53,7 +46,8 @@ impl<'a> Phase<'a> {
     {
         self.tables.augment();
         self.begin();
-        while self.find_path() {
+        while self.lead_back() {
+            self.follow();
             self.tables.augment();
         }
     }
@@ -68,19 +62,7 @@ impl<'a> Phase<'a> {
         }
     }
 
-    // Looks for a path on which each arc leads to a higher level, and marks its nodes.
-    fn find_path(&mut self) -> bool
-        ensures value { self.new.tables.value ≡ self.old.tables.value }
-        ensures way { result ≡ true → Reaches self.new.tables self.new.tables.sink }
-    {
-        let found = self.lead_back();
-        if found {
-            self.follow();
-        }
-        found
-    }
-
-    // Looks for such a path from the sink back to the source.
+    // Looks for a path on which each arc leads to a higher level, from the sink back to the source.
     fn lead_back(&mut self) -> bool
         ensures tables { self.new.tables ≡ self.old.tables }
         ensures leads { result ≡ true → LeadsFrom self.new self.new.tables.search.source }
@@ -123,7 +105,9 @@ impl<'a> Phase<'a> {
     fn way_back(&self, at: u32) -> u32
         requires known { at < self.now.tables.network.now.graph.nodes }
         ensures most { result ≤ slice_index self.now.next.items at }
-        ensures leads { 0 < result → LeadsUp self.now at (result - 1) }
+        ensures own { StandsAt self.now.tables.network.now.graph at result }
+        ensures back { 0 < result → IsOpen self.now.tables
+            (twin self.now.tables.network.now.graph (result - 1)) }
     {
         let height = self.tables.search.marks[at as usize].level;
         let mut cursor = self.next[at as usize];

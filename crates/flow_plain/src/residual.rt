@@ -7,13 +7,6 @@ ghost use Rattle.mm_flow.specs.Graph.{IsNetwork};
 use crate::limits::{MAX_VALUE, UNLIMITED};
 use mm_flow::Network;
 
-// How many entries the network has.
-pub(crate) fn entry_count(network: &Network) -> usize
-    ensures { result ≡ entries network.now.graph }
-{
-    2 * network.arc_count()
-}
-
 // The node that an entry leaves.
 #[tactic(auto, unfolding(mm_flow::specs::Residual::tail))]
 pub(crate) fn tail(network: &Network, entry: usize) -> u32

@@ -1,5 +1,5 @@
 //! A search by breadth through the residual network (Edmonds and Karp, 1972).
-ghost use Rattle.std.specs.Prelude.{◌≡◌, ◌≢◌, ◌+◌, ◌<◌, ◌≤◌, ℕ, length, slice_index, IfOk, replicate, map, nat_lt};
+ghost use Rattle.std.specs.Prelude.{◌≡◌, ◌+◌, ◌<◌, ◌≤◌, ℕ, length, slice_index, IfOk, replicate};
 ghost use Rattle.mm_flow.specs.Flow.{IsWithin};
 ghost use Rattle.mm_flow.specs.Residual.{entries, tail, head, residual};
 ghost use Rattle.flow_plain.specs.Links.{IsLinked};
@@ -40,9 +40,8 @@ pub(crate) struct Search {
 
 impl Search {
     ghost use Rattle.mm_flow.specs.Balance.{IsAugmented};
-    ghost use Rattle.mm_flow.specs.Levels.{IsUp};
-    ghost use Rattle.mm_flow.specs.Marks.{IsSearched, HasMark, level};
-    ghost use Rattle.flow_plain.specs.Marks.{bare, IsSearching, IsWide, IsCarried, IsLevelled, GoesOn};
+    ghost use Rattle.mm_flow.specs.Marks.{HasMark};
+    ghost use Rattle.flow_plain.specs.Marks.{bare, IsSearching, HasEnded, IsCarried, IsLevelled, GoesOn};
 
     // A search from this source that has not begun.
     pub(crate) fn new(alloc: Global, network: &Network, source: u32) -> Result<Search, AllocError>
@@ -70,33 +69,14 @@ impl Search {
         requires marks { length self.old.marks.items ≡ network.now.graph.nodes }
         requires order { length self.old.order.items ≡ network.now.graph.nodes }
         requires least { least ≤ UNLIMITED }
-        ensures searched { IsSearched network.now.graph (slice_index flow.now) self.old.source least
-            (bare self.new.marks.items) }
-        ensures wide { IsWide network.now.graph (slice_index flow.now) self.old.source least
+        ensures ended { HasEnded network.now.graph (slice_index flow.now) self.new.source least
             self.new.marks.items }
         ensures source { self.new.source ≡ self.old.source }
         ensures order { length self.new.order.items ≡ network.now.graph.nodes }
     {
-        self.start(network, flow, least);
-        while self.done < self.found {
-            self.visit(network, links, flow);
-        }
-    }
-
-    // Marks the source alone.
-    fn start(&mut self, network: &Network, flow: &[u64], least: u64)
-        requires source { self.old.source < network.now.graph.nodes }
-        requires marks { length self.old.marks.items ≡ network.now.graph.nodes }
-        requires order { length self.old.order.items ≡ network.now.graph.nodes }
-        requires least { least ≤ UNLIMITED }
-        ensures begun { IsSearching network.now.graph (slice_index flow.now) self.new }
-        ensures source { self.new.source ≡ self.old.source }
-        ensures least { self.new.least ≡ least }
-    {
-        let source = self.source as usize;
         self.least = least;
         clear(&mut self.marks);
-        self.marks[source] = Mark {
+        self.marks[self.source as usize] = Mark {
             level: 1,
             via: 0,
             width: UNLIMITED,
@@ -104,28 +84,16 @@ impl Search {
         self.order[0] = self.source;
         self.found = 1;
         self.done = 0;
-    }
-
-    // Marks what the next node in the order leads to.
-    fn visit(&mut self, network: &Network, links: &Links, flow: &[u64])
-        requires linked { IsLinked network.now.graph links.now }
-        requires flow { length flow.now ≡ length network.now.graph.arcs }
-        requires within { IsWithin network.now.graph (slice_index flow.now) }
-        requires search { IsSearching network.now.graph (slice_index flow.now) self.old }
-        requires waits { self.old.done < self.old.found }
-        ensures search { IsSearching network.now.graph (slice_index flow.now) self.new }
-        ensures source { self.new.source ≡ self.old.source }
-        ensures least { self.new.least ≡ self.old.least }
-        ensures done { self.new.done ≡ self.old.done + 1 }
-    {
-        let node = self.order[self.done] as usize;
-        let mut cursor = links.last[node];
-        while cursor > 0 {
-            let entry = cursor as usize - 1;
-            self.reach(network, flow, entry);
-            cursor = links.before[entry];
+        while self.done < self.found {
+            let node = self.order[self.done] as usize;
+            let mut cursor = links.last[node];
+            while cursor > 0 {
+                let entry = cursor as usize - 1;
+                self.reach(network, flow, entry);
+                cursor = links.before[entry];
+            }
+            self.done += 1;
         }
-        self.done += 1;
     }
 
     // Marks the node that an entry leads to, if that has no mark and the entry the residual capacity.
@@ -156,46 +124,6 @@ impl Search {
         };
         self.order[self.found] = to;
         self.found += 1;
-    }
-
-    // Puts a node above all levels.
-    pub(crate) fn put_above_all(&mut self, network: &Network, node: u32)
-        requires node { node < network.now.graph.nodes }
-        requires levelled { IsLevelled network.now.graph self.old.source self.old.marks.items }
-        ensures levelled { IsLevelled network.now.graph self.new.source self.new.marks.items }
-        ensures source { self.new.source ≡ self.old.source }
-        ensures order { length self.new.order.items ≡ length self.old.order.items }
-    {
-        self.marks[node as usize] = Mark {
-            level: u32::MAX,
-            via: 0,
-            width: UNLIMITED,
-        };
-    }
-
-    // Lets a path go on by an entry that leads up from its last node.
-    pub(crate) fn reach_by(&mut self, network: &Network, flow: &[u64], entry: usize)
-        requires flow { length flow.now ≡ length network.now.graph.arcs }
-        requires within { IsWithin network.now.graph (slice_index flow.now) }
-        requires levelled { IsLevelled network.now.graph self.old.source self.old.marks.items }
-        requires up { IsUp network.now.graph (slice_index flow.now) (bare self.old.marks.items) entry }
-        requires path { IsCarried network.now.graph (slice_index flow.now) self.old.marks.items
-            self.old.source 1 (tail network.now.graph entry) }
-        ensures levelled { IsLevelled network.now.graph self.new.source self.new.marks.items }
-        ensures source { self.new.source ≡ self.old.source }
-        ensures order { length self.new.order.items ≡ length self.old.order.items }
-        ensures levels { (n : ℕ) → level (bare self.new.marks.items) n
-            ≡ level (bare self.old.marks.items) n }
-        ensures path { IsCarried network.now.graph (slice_index flow.now) self.new.marks.items
-            self.new.source 1 (head network.now.graph entry) }
-    {
-        let from = self.marks[tail(network, entry) as usize];
-        let to = head(network, entry) as usize;
-        self.marks[to] = Mark {
-            level: self.marks[to].level,
-            via: entry,
-            width: from.width.min(residual(network, flow, entry)),
-        };
     }
 
     // Moves as much as fits along the path by which the sink was reached, and returns how much.

@@ -15,6 +15,8 @@ pub fn solve(alloc: Global, network: &Network, source: u32, sink: u32) -> Result
     requires sink { sink < network.now.graph.nodes }
 {
     let mut phase = Phase::new(alloc, Tables::new(alloc, network, source, sink)?)?;
-    phase.run();
+    while phase.tables.search_anew() {
+        phase.block();
+    }
     Ok(phase.tables.solved(alloc)?)
 }

@@ -1,10 +1,13 @@
 //! A solver at work: its tables, all reserved before its first augmentation, and the flow so far.
-ghost use Rattle.std.specs.Prelude.{◌≡◌, ◌<◌, ℕ, true, false, IfOk};
+ghost use Rattle.std.specs.Prelude.{◌≡◌, ◌<◌, ℕ, true, length};
+ghost use Rattle.flow_plain.specs.Links.{IsLinked};
+ghost use Rattle.flow_plain.specs.Marks.{IsLevelled};
 ghost use Rattle.flow_plain.specs.Tables.{IsAtWork};
 
 use crate::limits::UNLIMITED;
 use crate::links::Links;
-use crate::search::Search;
+use crate::residual::{head, residual, tail};
+use crate::search::{Mark, Search};
 use mm_flow::{Fault, Network, Solved};
 use std::alloc::{AllocError, Global};
 
@@ -17,7 +20,10 @@ pub(crate) struct Tables<'a> {
     pub(crate) search: Search,
     pub(crate) flow: Vec<u64>,
     pub(crate) value: u64,
-    ghost at_work: { IsAtWork network.now.graph sink links search flow.items value },
+    ghost linked: { IsLinked network.now.graph links },
+    ghost levelled: { IsLevelled network.now.graph search.source search.marks.items },
+    ghost order: { length search.order.items ≡ network.now.graph.nodes },
+    ghost at_work: { IsAtWork network.now.graph search.source sink flow.items value },
 }
 
 impl<'a> Tables<'a> {
@@ -58,8 +64,7 @@ impl<'a> Tables<'a> {
 
     // Searches anew, and answers whether the sink was reached.
     pub(crate) fn search_anew(&mut self) -> bool
-        ensures task { SameTask self.old self.new }
-        ensures value { self.new.value ≡ self.old.value }
+        ensures kept { SameTask self.old self.new }
         ensures way { result ≡ true → Reaches self.new self.new.sink }
     {
         self.search.run(self.network, &self.links, &self.flow, 1);
@@ -69,7 +74,7 @@ impl<'a> Tables<'a> {
     // Moves as much as fits along the path by which the sink was reached.
     pub(crate) fn augment(&mut self)
         requires way { Reaches self.old self.old.sink }
-        ensures task { SameTask self.old self.new }
+        ensures graph { self.new.network.now.graph ≡ self.old.network.now.graph }
         ensures more { self.old.value < self.new.value }
     {
         let amount = self.search.augment(self.network, &mut self.flow, self.sink);
@@ -78,24 +83,32 @@ impl<'a> Tables<'a> {
 
     // Puts the sink above all levels.
     pub(crate) fn raise_sink(&mut self)
-        ensures task { SameTask self.old self.new }
-        ensures value { self.new.value ≡ self.old.value }
+        ensures kept { SameTask self.old self.new }
     {
-        self.search.put_above_all(self.network, self.sink);
+        self.search.marks[self.sink as usize] = Mark {
+            level: u32::MAX,
+            via: 0,
+            width: UNLIMITED,
+        };
     }
 
     // Lets a path go on by an entry that leads up from its last node.
     pub(crate) fn reach_by(&mut self, entry: usize)
         requires up { IsOpen self.old entry }
         requires path { Reaches self.old (tail self.old.network.now.graph entry) }
-        ensures task { SameTask self.old self.new }
-        ensures kept { self.new.flow ≡ self.old.flow }
-        ensures value { self.new.value ≡ self.old.value }
+        ensures kept { SameTask self.old self.new }
+        ensures flow { self.new.flow ≡ self.old.flow }
         ensures levels { (n : ℕ) → level (bare self.new.search.marks.items) n
             ≡ level (bare self.old.search.marks.items) n }
         ensures path { Reaches self.new (head self.old.network.now.graph entry) }
     {
-        self.search.reach_by(self.network, &self.flow, entry);
+        let from = self.search.marks[tail(self.network, entry) as usize];
+        let to = head(self.network, entry) as usize;
+        self.search.marks[to] = Mark {
+            level: self.search.marks[to].level,
+            via: entry,
+            width: from.width.min(residual(self.network, &self.flow, entry)),
+        };
     }
 
     // The flow, with the nodes that the search reached as the source's side.

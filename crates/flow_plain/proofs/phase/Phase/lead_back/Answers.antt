@@ -12,7 +12,7 @@ loop-at-smaller c =
     let marks = bare t.search.marks.items in
     let p = c.retreat-at.new.self in
     let u = p.tables in
-    let lead = c.retreat-at.ensures.leads in
+    let lead = c.retreat-at.ensures.leads.up in
     let same = c.retreat-at.ensures.tables ∙ c.step_back.ensures.tables ∙ c.loop-at.invariant.tables in
     let within = lead-le u.network.now.graph (slice_index u.flow.items) u.sink (bare u.search.marks.items) p.next.items p.ahead.items lead.0 c.retreat-at.result lead.1 in
     falls_back (cursors_of p) (cursors_of c.loop-at.self) (level marks t.sink + 1) (level marks c.retreat-at.result) (level marks c.loop-at.at)

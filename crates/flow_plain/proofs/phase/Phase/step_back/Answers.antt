@@ -7,28 +7,15 @@ use Rattle.mm_flow.specs.Levels.{IsUp}
 use Rattle.flow_plain.specs.Links.{IsCursors}
 use Rattle.mm_flow.proofs.Entries.{twin_ends}
 use Rattle.mm_flow.proofs.Leading.{lead_moved, lead_longer}
-use Rattle.flow_plain.proofs.Cursors.{cursors_put}
-use Rattle.flow_plain.proofs.Leading.{lead_known}
+use Rattle.flow_plain.proofs.Linking.{cursors_put}
 use Rattle.flow_plain.proofs.phase.Phase.step_back.Goals as goal
 use Rattle.flow_plain.proofs.phase.Phase.step_back.Goals.{After-way_back-cursor}
-
-pub way_back-cursor-requires : goal.way_back-cursor-requires
-way_back-cursor-requires c = record { known = lead_known c.args.self.now c.args.at c.requires.leads }
-
-pub index_mut-requires : goal.index_mut-requires
-index_mut-requires c =
-    let p = c.args.self.now in
-    omega (arith, lead_known p c.args.at c.requires.leads, p.cursors.size, p.next.ok.0)
 
 -- the cursors, with the node's where it was moved to
 cursors_there : (c : After-way_back-cursor) → IsCursors c.args.self.now.tables.network.now.graph (slice_set c.args.self.now.next.items c.args.at c.way_back-cursor.result)
 cursors_there c =
     let p = c.args.self.now in
-    let g = p.tables.network.now.graph in
-    cursors_put g p.next.items c.args.at c.way_back-cursor.result p.cursors (lead_known p c.args.at c.requires.leads) (λ e same.
-    let up = c.way_back-cursor.ensures.leads (omega arith) in
-    let is : c.way_back-cursor.result - 1 ≡ e = omega arith in
-    (omega (arith, up.known), ap (tail g) (sym is) ∙ up.leaves))
+    cursors_put p.tables.network.now.graph p.next.items c.args.at c.way_back-cursor.result p.cursors c.requires.leads.known c.way_back-cursor.ensures.own
 
 pub invariant_of-self : goal.invariant_of-self
 invariant_of-self c = record { cursors = cursors_there (goal.at.invariant_of-self c).After-way_back-cursor; places = c.args.self.now.places }
@@ -37,7 +24,17 @@ pub returns-then-cursor-eq0-clause-stays : goal.returns-then-cursor-eq0-clause-s
 returns-then-cursor-eq0-clause-stays c =
     let p = c.args.self.now in
     let t = p.tables in
-    lead_moved t.network.now.graph (slice_index t.flow.items) t.sink (bare t.search.marks.items) p.next.items p.ahead.items c.args.at c.way_back-cursor.result c.requires.leads
+    let leads = c.requires.leads in
+    record {
+      known = leads.known;
+      up = lead_moved t.network.now.graph (slice_index t.flow.items) t.sink (bare t.search.marks.items) p.next.items p.ahead.items c.args.at c.way_back-cursor.result leads.up;
+    }
+
+pub head-from-requires : goal.head-from-requires
+head-from-requires c = (c.way_back-cursor.ensures.own (c.way_back-cursor.result - 1) (omega arith)).0
+
+pub twin-requires : goal.twin-requires
+twin-requires c = (c.way_back-cursor.ensures.own (c.way_back-cursor.result - 1) (omega arith)).0
 
 pub invariant_of-self-2 : goal.invariant_of-self-2
 invariant_of-self-2 c = record {
@@ -52,22 +49,27 @@ returns-clause-leads c =
     let g = t.network.now.graph in
     let f = slice_index t.flow.items in
     let marks = bare t.search.marks.items in
-    let up = c.way_back-cursor.ensures.leads (omega arith) in
     let e = c.way_back-cursor.result - 1 in
+    let own = c.way_back-cursor.ensures.own e (omega arith) in
+    let ends = twin_ends g e own.0 in
     let twin_is = c.twin.ensures.twin in
-    let back : IsUp g f marks c.twin.result = subst (λ (d : ℕ). IsUp g f marks d) (sym twin_is) up.back in
-    let leaves = ap (tail g) twin_is ∙ (twin_ends g e up.known).0 ∙ sym c.head-from.ensures.node in
-    let leads = ap (head g) twin_is ∙ (twin_ends g e up.known).1 ∙ up.leaves in
-    lead_longer g f t.sink marks p.next.items p.ahead.items c.args.at c.way_back-cursor.result c.twin.result c.head-from.result c.requires.leads back leaves leads
-    (omega arith) (omega (arith, lead_known p c.args.at c.requires.leads, p.cursors.size)) (omega (arith, c.head-from.ensures.known, p.places))
+    let back : IsUp g f marks c.twin.result = subst (λ (d : ℕ). IsUp g f marks d) (sym twin_is) (c.way_back-cursor.ensures.back (omega arith)) in
+    let leaves = ap (tail g) twin_is ∙ ends.0 ∙ sym c.head-from.ensures.node in
+    let leads = ap (head g) twin_is ∙ ends.1 ∙ own.1 in
+    let from = c.requires.leads in
+    record {
+      known = c.head-from.ensures.known;
+      up = lead_longer g f t.sink marks p.next.items p.ahead.items c.args.at c.way_back-cursor.result c.twin.result c.head-from.result from.up back leaves leads
+          (omega arith) (omega (arith, from.known, p.cursors.size)) (omega (arith, c.head-from.ensures.known, p.places));
+    }
 
 pub returns-clause-lower : goal.returns-clause-lower
 returns-clause-lower c =
     let t = c.args.self.now.tables in
     let g = t.network.now.graph in
     let marks = bare t.search.marks.items in
-    let up = c.way_back-cursor.ensures.leads (omega arith) in
     let e = c.way_back-cursor.result - 1 in
-    let from = ap (level marks) ((twin_ends g e up.known).0 ∙ sym c.head-from.ensures.node) in
-    let to = ap (level marks) ((twin_ends g e up.known).1 ∙ up.leaves) in
-    omega (arith, up.back.up, from, to)
+    let own = c.way_back-cursor.ensures.own e (omega arith) in
+    let ends = twin_ends g e own.0 in
+    let back = c.way_back-cursor.ensures.back (omega arith) in
+    omega (arith, back.up, ap (level marks) (ends.0 ∙ sym c.head-from.ensures.node), ap (level marks) (ends.1 ∙ own.1))

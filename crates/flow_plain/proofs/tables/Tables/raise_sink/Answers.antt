@@ -1,8 +1,13 @@
 use Rattle.std.proofs.Common.{arith}
-use Rattle.flow_plain.proofs.Working.{work_marked}
+use Rattle.flow_plain.proofs.Marking.{levelled_set}
 use Rattle.flow_plain.proofs.tables.Tables.raise_sink.Goals as goal
 
 pub invariant_of-self : goal.invariant_of-self
 invariant_of-self c =
     let t = c.args.self.now in
-    record { at_work = work_marked t.network.now.graph t.sink t.links t.search t.flow.items t.value t.at_work c.put_above_all.new.self c.put_above_all.ensures.source (omega (arith, c.put_above_all.ensures.order, t.at_work.order)) c.put_above_all.ensures.levelled }
+    record {
+      linked = t.linked;
+      levelled = levelled_set t.network.now.graph t.search.source t.search.marks.items t.sink _ t.levelled t.at_work.sink_known (omega arith) (omega arith);
+      order = t.order;
+      at_work = t.at_work;
+    }
