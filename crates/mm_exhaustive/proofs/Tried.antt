@@ -1,14 +1,15 @@
 -- Which plans have been tried.
-use Rattle.std.proofs.Common.{◌≡◌, ℕ, zero, suc, ◌+◌, ◌-◌, ◌<◌, ◌≤◌, length, All, refl, arith, inl, inr}
+use Rattle.std.proofs.Common.{◌≡◌, ℕ, ◌+◌, ◌-◌, ◌<◌, ◌≤◌, length, All, refl, arith, inl, inr}
 use Rattle.std.proofs.lemmas.Bool.Decides.{leb_tells}
 use Rattle.std.proofs.lemmas.List.Elements.{All-filter}
 use Rattle.mm_problem.specs.Dumping.{Dumping, window, stores, stores_of, steps, is_of}
-use Rattle.mm_plan.specs.Volumes.{Amounts, left, lost, store_loss, loss}
+use Rattle.mm_plan.specs.Volumes.{Amounts, lost, store_loss, loss}
 use Rattle.mm_plan.specs.Fit.{in_step, FitsAt, Fits}
 use Rattle.mm_exhaustive.specs.Plans.{AgreesBefore, NoneBelow}
 use Rattle.mm_base.proofs.Ranges.{All-range_with_len}
 use Rattle.mm_base.proofs.Sums.{sum_by-same}
-use Rattle.mm_base.proofs.RangeSums.{term-le-sum_by_range}
+use Rattle.mm_base.proofs.RangeSums.{sum_by_range_same, term-le-sum_by_range}
+use Rattle.mm_plan.proofs.Steps.{left_same}
 
 -- plans that ask for the same fit alike and lose alike
 module _ (q : Dumping) (x y : Amounts) (same : (s t : ℕ) → s < length q.rows → 1 ≤ t → t ≤ length q.windows → y s t ≡ x s t) where
@@ -32,26 +33,16 @@ module _ (q : Dumping) (x y : Amounts) (same : (s t : ℕ) → s < length q.rows
   fits-same : Fits q y → Fits q x
   fits-same fits = λ t first last. fits_at-same t first (omega arith) (fits t first last)
 
-  -- the same is left in each store when a step has ended
-  left-same : (s t : ℕ) → s < length q.rows → t ≤ length q.windows → left q y s t ≡ left q x s t
-  unfolding left
-  left-same s zero below last = refl
-  left-same s (suc t) below last =
-      let before : left q y s t ≡ left q x s t = left-same s t below (omega arith) in
-      let here : y s (suc t) ≡ x s (suc t) = same s (suc t) below (omega arith) (omega arith) in
-      rw before (rw here refl)
-
-  lost-same : (s t : ℕ) → s < length q.rows → 1 ≤ t → t ≤ length q.windows → lost q y s t ≡ lost q x s t
-  lost-same s t below first last =
-      let before : left q y s (t - 1) ≡ left q x s (t - 1) = left-same s (t - 1) below (omega arith) in
+  -- what is lost in a step depends on the amounts before it alone
+  lost-same : (s t : ℕ) → s < length q.rows → t ≤ length q.windows → lost q y s t ≡ lost q x s t
+  lost-same s t below last =
+      let before = left_same q x y s (t - 1) (λ u low high. same s u below low (omega arith)) in
       rw before refl
 
   loss-same : loss q y ≡ loss q x
   loss-same =
-      sum_by-same (store_loss q y) (store_loss q x) (stores q)
-      (All-range_with_len (λ s. store_loss q y s ≡ store_loss q x s) 0 (length q.rows)
-      (λ s _ below. sum_by-same (lost q y s) (lost q x s) (steps q)
-      (All-range_with_len (λ t. lost q y s t ≡ lost q x s t) 1 (length q.windows) (λ t first last. lost-same s t (omega arith) first (omega arith)))))
+      sum_by_range_same (store_loss q y) (store_loss q x) 0 (length q.rows)
+      (λ s _ below. sum_by_range_same (lost q y s) (lost q x s) 1 (length q.windows) (λ t _ last. lost-same s t (omega arith) (omega arith)))
 
 -- a plan that fits asks for no more than the window
 within_window : (q : Dumping) (y : Amounts) → Fits q y → (s t : ℕ) → s < length q.rows → 1 ≤ t → t ≤ length q.windows → y s t ≤ window q t

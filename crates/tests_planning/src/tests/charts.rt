@@ -1,11 +1,10 @@
 //! Lines of charts that are worked out by hand: outlines, headlines and words; and the refusals.
 use crate::tests::samples::{
-    A_LIMITED, CHANNEL_LIMIT_CUT, FIRST_RUN, SCI, THREE_STEPS, TWO_STEPS_OF_A,
+    A_LIMITED, CHANNEL_LIMIT_CUT, FIRST_RUN, ONE_STORE_OF_A, Runtime, SCI, THREE_STEPS,
+    TWO_STEPS_OF_A,
 };
 use mm_chart::chart_bytes;
 use samples::{chart_of, has_lines, has_texts, is_fault};
-use std::alloc::Global;
-use std::process::Abort;
 
 // Nothing is written of the faulty texts, but their faults.
 macro_rules! writes_nothing {
@@ -13,7 +12,7 @@ macro_rules! writes_nothing {
         for (setup, forecast, plan, wanted) in &FAULTY {
             let (setup, forecast) = (setup.as_bytes(), forecast.as_bytes());
             let written = $write($rt.alloc(), setup, forecast, plan.as_bytes());
-            is_fault($rt, $rt.alloc(), written, wanted);
+            is_fault($rt, written, wanted);
         }
     };
 }
@@ -58,8 +57,6 @@ static BY_CHANNELS: [&str; 7] = [
     "<text class='w' x='16' y='358'>6 &#8722; 3 &#8722; 0 &#8722; 1 = 2: at least that many blocks are lost, whatever is dumped.</text>",
     "<text class='w' x='16' y='418'>No wider window.</text>",
 ];
-
-const ONE_STORE_OF_A: &str = "[[store]]\nid = \"A\"\nsize = 3\ntype = \"bounded\"\nchannel = 0\n";
 
 const LIMITED_STEPS_OF_A: &str = "step,window,A,limit:0\n1,5,3,1\n2,0,3,2\n";
 
@@ -106,28 +103,22 @@ static ONE_SCALE: [&str; 4] = [
 ];
 
 // The chart of a setup, a forecast and a plan has these lines.
-fn is_charted(rt: &impl Abort, alloc: Global, texts: (&str, &str, &str), lines: &[&str]) {
+fn is_charted(rt: &impl Runtime, texts: (&str, &str, &str), lines: &[&str]) {
     let (setup, forecast, plan) = texts;
-    let chart = chart_of(rt, alloc, setup, forecast, plan);
+    let chart = chart_of(rt, setup, forecast, plan);
     has_lines(rt, chart.as_str(), lines);
 }
 
 #[test]
 fn charts_have_these_lines(rt: HostRuntime) {
-    let alloc = rt.alloc();
-    is_charted(&rt, alloc, (SCI, THREE_STEPS, FIRST_RUN), &SHOWN);
+    is_charted(&rt, (SCI, THREE_STEPS, FIRST_RUN), &SHOWN);
     let limited = (A_LIMITED, TWO_STEPS_OF_A, CHANNEL_LIMIT_CUT);
-    is_charted(&rt, alloc, limited, &BY_CHANNELS);
+    is_charted(&rt, limited, &BY_CHANNELS);
     let by_step = (ONE_STORE_OF_A, LIMITED_STEPS_OF_A, CHANNEL_LIMIT_CUT);
-    is_charted(&rt, alloc, by_step, &BY_LIMITS_OF_STEPS);
-    is_charted(
-        &rt,
-        alloc,
-        (THREE_SIZES, ONE_COMES, OVER_THE_LIMIT),
-        &SCALED,
-    );
+    is_charted(&rt, by_step, &BY_LIMITS_OF_STEPS);
+    is_charted(&rt, (THREE_SIZES, ONE_COMES, OVER_THE_LIMIT), &SCALED);
     let two = (TWO_OF_SIZE_1, MORE_IN_A, NOTHING_LEAVES);
-    is_charted(&rt, alloc, two, &ONE_SCALE);
+    is_charted(&rt, two, &ONE_SCALE);
 }
 
 // Plans that differ from the best one in a line or two, and the headline then.
@@ -153,8 +144,8 @@ static RED: [&str; 2] = [
 ];
 
 // The chart of the plan has this headline, and does not say that no plan loses less or what may help.
-fn is_told(rt: &impl Abort, alloc: Global, plan: &str, headline: &str) {
-    let chart = chart_of(rt, alloc, SCI, THREE_STEPS, plan);
+fn is_told(rt: &impl Runtime, plan: &str, headline: &str) {
+    let chart = chart_of(rt, SCI, THREE_STEPS, plan);
     has_lines(rt, chart.as_str(), &[headline]);
     has_texts(rt, chart.as_str(), &RED);
     let says_more = chart.contains(LEAST) || chart.contains(HELP);
@@ -164,7 +155,7 @@ fn is_told(rt: &impl Abort, alloc: Global, plan: &str, headline: &str) {
 #[test]
 fn a_forged_text_has_the_headline_of_its_verdict(rt: HostRuntime) {
     for (plan, headline) in &FORGED {
-        is_told(&rt, rt.alloc(), plan, headline);
+        is_told(&rt, plan, headline);
     }
 }
 

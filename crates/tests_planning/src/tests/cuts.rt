@@ -1,13 +1,11 @@
 //! The worked examples: what each plan loses, whether it fits, and what its cut shows.
 use crate::tests::samples::{
-    A_AND_B, A_LIMITED, APART, CHANNEL_LIMIT_CUT, FIRST_RUN, SCI, SCI_OF_SIZE_2, SCI_STARTS_WITH_2,
-    THREE_STEPS, TWO_STEPS_OF_A, problem_of, sheet_of,
+    A_AND_B, A_LIMITED, APART, CHANNEL_LIMIT_CUT, FIRST_RUN, ONE_STORE_OF_A, Runtime, SCI,
+    SCI_OF_SIZE_2, SCI_STARTS_WITH_2, THREE_STEPS, TWO_STEPS_OF_A, problem_of, sheet_of,
 };
 use mm_cut::{Verdict, bound, first_bad, first_bad_count, verify};
 use mm_plan::{Fault, Sheet, fits, loss_of};
 use mm_problem::Problem;
-use std::alloc::Global;
-use std::process::Abort;
 
 // A plan with its cut, and what is found of them by hand.
 struct Row {
@@ -82,19 +80,16 @@ static ROWS: [Row; 17] = rows! {
     "mmplan 2\nstores A B\ndump 1 1 0\ndump 2 0 0\nloss 3\nstretch A 1 2\nstretch B 1 2\ncount 1 channels\nbound 3\nend\n" =>
         misfit None, loss 3, bound Some(3), Least(3);
     name: "a count of a step at which the channel has no limit",
-    "[[store]]\nid = \"A\"\nsize = 3\ntype = \"bounded\"\nchannel = 0\n", TWO_STEPS_OF_A,
-    CHANNEL_LIMIT_CUT =>
+    ONE_STORE_OF_A, TWO_STEPS_OF_A, CHANNEL_LIMIT_CUT =>
         misfit None, loss 2, bound None, BadCount(1);
     name: "limits of the steps, of which the first counts",
-    "[[store]]\nid = \"A\"\nsize = 3\ntype = \"bounded\"\nchannel = 0\n", "step,window,A,limit:0\n1,5,3,1\n2,0,3,9\n",
-    CHANNEL_LIMIT_CUT =>
+    ONE_STORE_OF_A, "step,window,A,limit:0\n1,5,3,1\n2,0,3,9\n", CHANNEL_LIMIT_CUT =>
         misfit None, loss 2, bound Some(2), Least(2);
     name: "a limit of the setup below that of the step",
-    A_LIMITED, "step,window,A,limit:0\n1,5,3,2\n2,0,3,0\n",
-    CHANNEL_LIMIT_CUT =>
+    A_LIMITED, "step,window,A,limit:0\n1,5,3,2\n2,0,3,0\n", CHANNEL_LIMIT_CUT =>
         misfit None, loss 2, bound Some(2), Least(2);
     name: "more than the limit of the second step, though not more than that of the first",
-    "[[store]]\nid = \"A\"\nsize = 3\ntype = \"bounded\"\nchannel = 0\n", "step,window,A,limit:0\n1,5,3,2\n2,5,3,1\n",
+    ONE_STORE_OF_A, "step,window,A,limit:0\n1,5,3,2\n2,5,3,1\n",
     "mmplan 1\nstores A\ndump 1 2\ndump 2 2\nloss 1\nstretch A 1 2\nbound -2\nend\n" =>
         misfit Some(2), loss 1, bound Some(-2), DoesNotFit(2);
     name: "two channels with limits of the steps, one of them the setup's",
@@ -107,62 +102,37 @@ static ROWS: [Row; 17] = rows! {
 // The cut's bound, where it is a cut of the problem.
 fn bound_of(problem: &Problem, sheet: &Sheet) -> Option<i64> {
     let (cut, by_channels) = (sheet.cut(), sheet.by_channels());
-    if first_bad(problem, cut).is_some() {
-        return None;
-    }
-    if first_bad_count(problem, cut, by_channels).is_some() {
+    if first_bad(problem, cut).is_some() || first_bad_count(problem, cut, by_channels).is_some() {
         return None;
     }
     Some(bound(problem, cut, by_channels))
 }
 
-// The plan fits or not, and loses what it is to lose.
-fn is_planned(rt: &impl Abort, problem: &Problem, sheet: &Sheet, row: &Row) {
-    let plan = sheet.plan();
+// The plan fits or not and loses what it is to lose, the sheet has the problem's shape and its cut this bound, and the verdict on them and
+// on the printed loss and bound is this.
+fn is_found(rt: &impl Runtime, problem: &Problem, sheet: &Sheet, row: &Row) {
+    let (plan, cut, counts) = (sheet.plan(), sheet.cut(), sheet.by_channels());
     assert!(rt; plan.has_shape(problem));
     let found = (fits(problem, plan).err(), loss_of(problem, plan));
     assert!(rt; found == (row.misfit, row.loss), "{}", row.name);
-}
-
-// The sheet has the problem's shape, and its cut has this bound.
-fn is_bounded(rt: &impl Abort, problem: &Problem, sheet: &Sheet, row: &Row) {
     let found = (sheet.shape(problem).err(), bound_of(problem, sheet));
     assert!(rt; found == (None, row.bound), "{}", row.name);
-}
-
-// The sheet's cut, its printed loss and its printed bound have the verdict.
-fn is_judged(rt: &impl Abort, problem: &Problem, sheet: &Sheet, row: &Row) {
-    let (plan, cut, counts) = (sheet.plan(), sheet.cut(), sheet.by_channels());
-    assert!(rt; plan.has_shape(problem));
     let verdict = verify(problem, plan, cut, counts, sheet.loss(), sheet.bound());
     assert!(rt; verdict == row.verdict, "{}", row.name);
-}
-
-// All that is found of a row's plan for its problem.
-fn is_found(rt: &impl Abort, alloc: Global, problem: &Problem, row: &Row) {
-    let sheet = sheet_of(rt, alloc, row.sheet);
-    is_planned(rt, problem, &sheet, row);
-    is_bounded(rt, problem, &sheet, row);
-    is_judged(rt, problem, &sheet, row);
 }
 
 #[test]
 fn plans_and_cuts_of_the_worked_examples(rt: HostRuntime) {
     for row in &ROWS {
-        let problem = problem_of(&rt, rt.alloc(), row.setup, row.forecast);
-        is_found(&rt, rt.alloc(), &problem, row);
+        let problem = problem_of(&rt, row.setup, row.forecast);
+        is_found(&rt, &problem, &sheet_of(&rt, row.sheet), row);
     }
-}
-
-// The sheet is not for this problem.
-fn is_for_another(rt: &impl Abort, sheet: &Sheet, problem: &Problem) {
-    assert!(rt; sheet.shape(problem).err() == Some(Fault::Shape));
 }
 
 // A plan for one store and three steps, beside a problem of two stores.
 #[test]
 fn a_sheet_for_another_problem_has_another_shape(rt: HostRuntime) {
-    let problem = problem_of(&rt, rt.alloc(), A_AND_B, "step,window,A,B\n1,2,3,3\n");
-    let sheet = sheet_of(&rt, rt.alloc(), FIRST_RUN);
-    is_for_another(&rt, &sheet, &problem);
+    let problem = problem_of(&rt, A_AND_B, "step,window,A,B\n1,2,3,3\n");
+    let shape = sheet_of(&rt, FIRST_RUN).shape(&problem);
+    assert!(rt; shape.err() == Some(Fault::Shape));
 }

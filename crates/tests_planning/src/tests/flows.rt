@@ -1,14 +1,13 @@
 //! Networks with values from a textbook or counted by hand.
 
 use crate::tests::samples::{
-    A_AND_B, A_LIMITED, APART, MILLIONS, SCI, SCI_OF_SIZE_2, SCI_STARTS_WITH_2, SIXTEEN_HEADER,
-    SIXTEEN_STORES, THREE_STEPS, TWO_STEPS_OF_A, alike_steps, problem_of,
+    A_AND_B, A_LIMITED, A_LIMITED_AND_B, APART, MILLIONS, Runtime, SCI, SCI_OF_SIZE_2,
+    SCI_STARTS_WITH_2, SIXTEEN_HEADER, SIXTEEN_STORES, THREE_STEPS, TWO_STEPS_OF_A, alike_steps,
+    problem_of,
 };
 use mm_flow::paths::solve_paths;
 use mm_flow::{Fault, MAX_ARCS, MAX_CAPACITY, MAX_NODES, Network, Solved, solve};
 use mm_planner::{SINK, SOURCE, network_of};
-use std::alloc::Global;
-use std::process::Abort;
 
 // An arc: from where, to where, and its capacity.
 pub(crate) type ArcRow = (u32, u32, Option<u64>);
@@ -27,10 +26,15 @@ macro_rules! capacity {
     ($most:expr) => { Some($most) };
 }
 
+// Arcs: from where, to where, and the capacity.
+macro_rules! arcs {
+    ($($from:literal $to:literal $most:tt),+) => { [$(($from, $to, capacity!($most))),+] };
+}
+
 // Networks by name: how many nodes each has, the value, and the arcs.
 macro_rules! networks {
     ($(name: $name:literal, $nodes:literal nodes, $value:expr => $($from:literal $to:literal $most:tt),+;)+) => {
-        [$(Case { name: $name, nodes: $nodes, arcs: &[$(($from, $to, capacity!($most))),+], value: $value }),+]
+        [$(Case { name: $name, nodes: $nodes, arcs: &arcs!($($from $to $most),+), value: $value }),+]
     };
 }
 
@@ -59,8 +63,8 @@ static CASES: [Case; 5] = networks! {
 };
 
 // The network of so many nodes with these arcs.
-pub(crate) fn built(rt: &impl Abort, alloc: Global, nodes: u32, arcs: &[ArcRow]) -> Network {
-    let mut network = Network::new(alloc);
+pub(crate) fn built(rt: &impl Runtime, nodes: u32, arcs: &[ArcRow]) -> Network {
+    let mut network = Network::new(rt.alloc());
     for _ in 0..nodes {
         node(rt, &mut network);
     }
@@ -71,70 +75,57 @@ pub(crate) fn built(rt: &impl Abort, alloc: Global, nodes: u32, arcs: &[ArcRow])
 }
 
 // Adds a node.
-fn node(rt: &impl Abort, network: &mut Network) -> u32 {
+fn node(rt: &impl Runtime, network: &mut Network) -> u32 {
     assert!(rt; network.node_count() < MAX_NODES as usize);
     network.add_node().expect(rt, "a node")
 }
 
 // Adds an arc.
-fn arc(rt: &impl Abort, network: &mut Network, from: u32, to: u32, capacity: Option<u64>) -> u32 {
+fn arc(rt: &impl Runtime, network: &mut Network, from: u32, to: u32, capacity: Option<u64>) -> u32 {
     let has_ends = (from as usize) < network.node_count() && (to as usize) < network.node_count();
     let fits = network.arc_count() < MAX_ARCS as usize && capacity.unwrap_or(0) <= MAX_CAPACITY;
     assert!(rt; has_ends && fits, "an arc");
     network.add_arc(from, to, capacity).expect(rt, "an arc")
 }
 
-// Compares both solvers with the value that is wanted between two nodes.
-fn check(rt: &impl Abort, alloc: Global, case: &Case, source: u32, sink: u32) {
-    let network = built(rt, alloc, case.nodes, case.arcs);
-    let value = same_value(rt, alloc, &network, source, sink);
-    assert!(rt; value == case.value, "{}", case.name);
-}
-
 // The value that both solvers answer.
 pub(crate) fn same_value(
-    rt: &impl Abort,
-    alloc: Global,
+    rt: &impl Runtime,
     network: &Network,
     source: u32,
     sink: u32,
 ) -> Option<u64> {
     let nodes = network.node_count();
     assert!(rt; (source as usize) < nodes && (sink as usize) < nodes);
-    let by_levels = value_of(rt, solve(alloc, network, source, sink));
-    let by_paths = value_of(rt, solve_paths(alloc, network, source, sink));
+    let by_levels = value_of(rt, solve(rt.alloc(), network, source, sink));
+    let by_paths = value_of(rt, solve_paths(rt.alloc(), network, source, sink));
     assert!(rt; by_levels == by_paths);
     by_levels
 }
 
 // The value that a solver answered, `None` where it is unbounded.
-fn value_of(rt: &impl Abort, answer: Result<Solved, Fault>) -> Option<u64> {
-    match answer {
-        Ok(solved) => Some(solved.value),
-        Err(fault) => {
-            assert!(rt; fault == Fault::Unbounded);
-            None
-        }
-    }
+fn value_of(rt: &impl Runtime, answer: Result<Solved, Fault>) -> Option<u64> {
+    let unbounded = matches!(answer, Err(Fault::Unbounded));
+    assert!(rt; answer.is_ok() || unbounded);
+    Some(answer.ok()?.value)
 }
 
 #[test]
 fn values_by_hand(rt: HostRuntime) {
     for case in &CASES {
-        check(&rt, rt.alloc(), case, 0, case.nodes.saturating_sub(1));
+        let network = built(&rt, case.nodes, case.arcs);
+        let value = same_value(&rt, &network, 0, case.nodes.saturating_sub(1));
+        assert!(rt; value == case.value, "{}", case.name);
     }
 }
 
 // Both solvers send as many blocks through the planner's network of a problem as do not get lost.
-fn keeps(rt: &impl Abort, alloc: Global, setup: &str, forecast: &str, kept: u64) {
-    let problem = problem_of(rt, alloc, setup, forecast);
-    let network = network_of(alloc, &problem).expect(rt, "memory");
-    let value = same_value(rt, alloc, &network, SOURCE, SINK);
+fn keeps(rt: &impl Runtime, setup: &str, forecast: &str, kept: u64) {
+    let problem = problem_of(rt, setup, forecast);
+    let network = network_of(rt.alloc(), &problem).expect(rt, "memory");
+    let value = same_value(rt, &network, SOURCE, SINK);
     assert!(rt; value == Some(kept), "{forecast}");
 }
-
-const A_LIMITED_AND_B: &str =
-    "[[store]]\nid = \"A\"\nsize = 3\ntype = \"bounded\"\nchannel = 0\n\n[[store]]\nid = \"B\"\nsize = 3\ntype = \"bounded\"\nchannel = 1\n\n[[limit]]\nchannel = 0\nblocks = 1\n";
 
 // Setups and forecasts, and how many of all blocks do not get lost.
 static KEPT: [(&str, &str, u64); 7] = [
@@ -157,27 +148,21 @@ static KEPT: [(&str, &str, u64); 7] = [
 #[test]
 fn networks_of_problems(rt: HostRuntime) {
     for (setup, forecast, kept) in &KEPT {
-        keeps(&rt, rt.alloc(), setup, forecast, *kept);
+        keeps(&rt, setup, forecast, *kept);
     }
 }
 
 // largest_loss: 4,096,000,000 arrive, and each of 16 stores keeps 1.
 #[test]
 fn the_network_of_the_largest_loss(rt: HostRuntime) {
-    let forecast = alike_steps(&rt, rt.alloc(), SIXTEEN_HEADER, 256, MILLIONS);
-    keeps(&rt, rt.alloc(), SIXTEEN_STORES, forecast.as_str(), 16);
+    let forecast = alike_steps(&rt, SIXTEEN_HEADER, 256, MILLIONS);
+    keeps(&rt, SIXTEEN_STORES, forecast.as_str(), 16);
 }
-
-static BACKWARDS: Case = Case {
-    name: "backwards",
-    nodes: 3,
-    arcs: &[(2, 1, Some(3)), (1, 0, Some(2))],
-    value: Some(2),
-};
 
 #[test]
 fn ends_in_any_order(rt: HostRuntime) {
-    check(&rt, rt.alloc(), &BACKWARDS, 2, 0);
+    let network = built(&rt, 3, &arcs!(2 1 3, 1 0 2));
+    assert!(rt; same_value(&rt, &network, 2, 0) == Some(2));
 }
 
 #[test]
@@ -186,62 +171,45 @@ fn a_refusal_is_printed_with_number_and_name(rt: HostRuntime) {
     assert!(rt; shown.as_str() == "36 Unbounded");
 }
 
-const FOUR_NODES: [ArcRow; 5] = [
-    (0, 1, Some(3)),
-    (0, 2, Some(2)),
-    (1, 2, Some(5)),
-    (1, 3, Some(2)),
-    (2, 3, Some(3)),
-];
+const FOUR_NODES: [ArcRow; 5] = arcs!(0 1 3, 0 2 2, 1 2 5, 1 3 2, 2 3 3);
 
-// The one flow of 5: the arcs out of node 0 and into node 3 are full, and 1 is left from 1 to 2.
-fn is_flow_of_5(rt: &impl Abort, solved: &Solved) {
-    let (flow, side) = (solved.flow.as_slice(), solved.side.as_slice());
-    assert!(rt; solved.value == 5);
-    assert!(rt; flow == [3, 2, 1, 2, 3].as_slice());
-    assert!(rt; [side.first(), side.last()] == [Some(&true), Some(&false)]);
-}
-
-// The network has four nodes, and that flow.
-fn has_flow_of_5(rt: &impl Abort, alloc: Global, network: &Network) {
+// The network has four nodes, and one flow of 5: the arcs out of node 0 and into node 3 are full, and 1 is left from 1 to 2.
+fn has_flow_of_5(rt: &impl Runtime, network: &Network) {
     assert!(rt; network.node_count() == 4);
-    let solved = solve(alloc, network, 0, 3).expect(rt, "a solution");
-    is_flow_of_5(rt, &solved);
+    let solved = solve(rt.alloc(), network, 0, 3).expect(rt, "a solution");
+    let (flow, side) = (solved.flow.as_slice(), solved.side.as_slice());
+    assert!(rt; solved.value == 5 && flow == [3, 2, 1, 2, 3].as_slice());
+    assert!(rt; [side.first(), side.last()] == [Some(&true), Some(&false)]);
 }
 
 #[test]
 fn network_of_four_nodes(rt: HostRuntime) {
-    let network = built(&rt, rt.alloc(), 4, &FOUR_NODES);
-    has_flow_of_5(&rt, rt.alloc(), &network);
-    assert!(rt; same_value(&rt, rt.alloc(), &network, 0, 3) == Some(5));
+    let network = built(&rt, 4, &FOUR_NODES);
+    has_flow_of_5(&rt, &network);
+    assert!(rt; same_value(&rt, &network, 0, 3) == Some(5));
 }
 
 // No flow from node 0 to this one: it is refused so.
-fn is_refused(rt: &impl Abort, alloc: Global, network: &Network, sink: u32, wanted: Fault) {
+fn is_refused(rt: &impl Runtime, network: &Network, sink: u32, wanted: Fault) {
     assert!(rt; (sink as usize) < network.node_count());
-    assert!(rt; solve(alloc, network, 0, sink).err() == Some(wanted));
+    assert!(rt; solve(rt.alloc(), network, 0, sink).err() == Some(wanted));
 }
 
 #[test]
 fn refusals_of_four_nodes(rt: HostRuntime) {
-    let mut network = built(&rt, rt.alloc(), 4, &FOUR_NODES);
-    is_refused(&rt, rt.alloc(), &network, 0, Fault::SameEnds);
+    let mut network = built(&rt, 4, &FOUR_NODES);
+    is_refused(&rt, &network, 0, Fault::SameEnds);
     assert!(rt; arc(&rt, &mut network, 0, 3, None) == 5);
-    is_refused(&rt, rt.alloc(), &network, 3, Fault::Unbounded);
-}
-
-// A network has room for this many further nodes and arcs.
-fn has_room(rt: &impl Abort, network: &Network, nodes: u32, arcs: u32) {
-    assert!(rt; network.room() == (nodes, arcs));
+    is_refused(&rt, &network, 3, Fault::Unbounded);
 }
 
 #[test]
 fn network_room(rt: HostRuntime) {
     let mut network = Network::with_room(rt.alloc(), 2, 1).expect(&rt, "memory");
-    has_room(&rt, &network, 2, 1);
+    assert!(rt; network.room() == (2, 1));
     let nodes = (node(&rt, &mut network), node(&rt, &mut network));
     let first = arc(&rt, &mut network, 0, 1, Some(4));
     assert!(rt; (nodes, first) == ((0, 1), 0));
-    has_room(&rt, &network, 0, 0);
-    has_room(&rt, &Network::new(rt.alloc()), 0, 0);
+    assert!(rt; network.room() == (0, 0));
+    assert!(rt; Network::new(rt.alloc()).room() == (0, 0));
 }

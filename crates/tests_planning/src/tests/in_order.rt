@@ -1,13 +1,11 @@
 //! Plans that serve the stores in the setup's order: a problem that is worked by hand, and what the checker says of changed texts.
 ghost use Rattle.mm_plan.specs.Table.{HasShape};
 
-use crate::tests::samples::{FIRST_RUN, SCI, THREE_STEPS, problem_of};
+use crate::tests::samples::{A_LIMITED_AND_B, FIRST_RUN, Runtime, SCI, THREE_STEPS, problem_of};
 use mm_cut::{Verdict, check_bytes};
 use mm_plan::{Plan, first_loss};
 use mm_planner::{plan_in_order, plan_in_order_bytes, print_plan_in_order};
 use mm_problem::Problem;
-use std::alloc::Global;
-use std::process::Abort;
 
 mod sheets;
 mod twins;
@@ -17,6 +15,8 @@ const THREE_STORES: &str =
 
 const EIGHT_STEPS: &str =
     "step,window,HK,SCI,CAM\n1,0,2,2,0\n2,0,2,2,6\n3,0,2,2,0\n4,10,2,2,0\n5,0,2,2,0\n6,0,2,2,6\n7,10,2,2,0\n8,0,2,2,6\n";
+
+const THREE: (&str, &str) = (THREE_STORES, EIGHT_STEPS);
 
 // Of the 4 * 2 blocks that come to HK in steps 1 to 4 it holds 6, and no window is open before step 4: 2 are lost. It loses no more only
 // where step 4 empties it. Then 4 blocks of SCI leave in step 4. Of the 7 * 2 + 7 * 2 blocks that come to both in steps 1 to 7 they hold
@@ -33,7 +33,7 @@ pub(crate) const THREE_IN_ORDER: &str =
 static LOSSES: [u64; 3] = [2, 4, 6];
 
 // The first store, the first two and so on lose this.
-fn firsts_lose(rt: &impl Abort, problem: &Problem, plan: &Plan)
+fn firsts_lose(rt: &impl Runtime, problem: &Problem, plan: &Plan)
     requires { HasShape problem.now plan.now }
 {
     for (place, loss) in LOSSES.iter().enumerate() {
@@ -43,8 +43,8 @@ fn firsts_lose(rt: &impl Abort, problem: &Problem, plan: &Plan)
 }
 
 // The plan in order loses what is counted by hand.
-fn loses_in_order(rt: &impl Abort, alloc: Global, problem: &Problem) {
-    let all = plan_in_order(alloc, problem).expect(rt, "memory");
+fn loses_in_order(rt: &impl Runtime, problem: &Problem) {
+    let all = plan_in_order(rt.alloc(), problem).expect(rt, "memory");
     let planned = &all.planned;
     assert!(rt; (planned.loss, all.firsts.len()) == (6, 2));
     assert!(rt; planned.plan.has_shape(problem));
@@ -53,33 +53,30 @@ fn loses_in_order(rt: &impl Abort, alloc: Global, problem: &Problem) {
 
 #[test]
 fn three_stores_are_served_in_order(rt: HostRuntime) {
-    let problem = problem_of(&rt, rt.alloc(), THREE_STORES, EIGHT_STEPS);
-    loses_in_order(&rt, rt.alloc(), &problem);
+    let problem = problem_of(&rt, THREE_STORES, EIGHT_STEPS);
+    loses_in_order(&rt, &problem);
 }
 
 // The checker says this of a plan text.
-fn is_judged(
-    rt: &impl Abort,
-    alloc: Global,
-    texts: (&str, &str),
-    plan: &[u8],
-    wanted: Verdict,
-    name: &str,
-) {
-    let checked = check_bytes(alloc, texts.0.as_bytes(), texts.1.as_bytes(), plan);
+fn is_judged(rt: &impl Runtime, texts: (&str, &str), plan: &[u8], wanted: Verdict, name: &str) {
+    let checked = check_bytes(rt.alloc(), texts.0.as_bytes(), texts.1.as_bytes(), plan);
     let (verdict, _line) = checked.expect(rt, name);
     assert!(rt; verdict == wanted, "{name}: {verdict:?}");
 }
 
 #[test]
 fn the_printed_plan_is_least_in_order(rt: HostRuntime) {
-    let problem = problem_of(&rt, rt.alloc(), THREE_STORES, EIGHT_STEPS);
+    let problem = problem_of(&rt, THREE_STORES, EIGHT_STEPS);
     let printed = print_plan_in_order(rt.alloc(), &problem).expect(&rt, "memory");
     let text = printed.text.as_slice();
-    assert!(&rt; text.starts_with(FRONT.as_bytes()));
-    let texts = (THREE_STORES, EIGHT_STEPS);
-    let least = Verdict::LeastInOrder(6);
-    is_judged(&rt, rt.alloc(), texts, text, least, "the printed plan");
+    assert!(rt; text.starts_with(FRONT.as_bytes()));
+    is_judged(
+        &rt,
+        THREE,
+        text,
+        Verdict::LeastInOrder(6),
+        "the printed plan",
+    );
 }
 
 // Its one plan and its one cut are those of the plan without order.
@@ -90,60 +87,32 @@ const ONE_STORE_IN_ORDER: &str =
 fn the_plan_of_one_store_has_no_part(rt: HostRuntime) {
     let (setup, forecast) = (SCI.as_bytes(), THREE_STEPS.as_bytes());
     let text = plan_in_order_bytes(rt.alloc(), setup, forecast).expect(&rt, "a plan");
-    assert!(&rt; text.as_slice() == ONE_STORE_IN_ORDER.as_bytes());
+    assert!(rt; text.as_slice() == ONE_STORE_IN_ORDER.as_bytes());
 }
 
-// A store with a limit of 1 before another one. In step 1 one block of A leaves by the limit, and it holds 3 of 2 + 3: 2 are lost. All of B
-// leaves in step 1. The window of 5 would count too much.
-const A_LIMITED_AND_B: &str =
-    "[[store]]\nid = \"A\"\nsize = 3\ntype = \"bounded\"\nchannel = 0\n[[store]]\nid = \"B\"\nsize = 3\ntype = \"bounded\"\nchannel = 1\n[[limit]]\nchannel = 0\nblocks = 1\n";
-
+// Of A_LIMITED_AND_B: in step 1 one block of A leaves by the limit, and it holds 3 of 2 + 3: 2 are lost. All of B leaves in step 1. The
+// window of 5 would count too much.
 const TWO_STEPS_OF_BOTH: &str = "step,window,A,B\n1,5,3,3\n2,0,3,3\n";
 
 pub(crate) const COUNTS_IN_ORDER: &str =
     "mmplan 3\nstores A B\ndump 1 1 3\ndump 2 0 0\nloss 2\nstretch A 1 2\ncount 1 channels\nbound 2\nfirst 1\nloss 2\nstretch A 1 2\ncount 1 channels\nbound 2\nend\n";
 
-// Problems with a plan text each, and what is said of it.
-static JUDGED: [(&str, &str, &str, Verdict); 5] = [
-    (
-        THREE_STORES,
-        EIGHT_STEPS,
-        THREE_IN_ORDER,
-        Verdict::LeastInOrder(6),
-    ),
-    (
-        A_LIMITED_AND_B,
-        TWO_STEPS_OF_BOTH,
-        COUNTS_IN_ORDER,
-        Verdict::LeastInOrder(2),
-    ),
-    (
-        SCI,
-        THREE_STEPS,
-        ONE_STORE_IN_ORDER,
-        Verdict::LeastInOrder(2),
-    ),
-    (SCI, THREE_STEPS, FIRST_RUN, Verdict::Least(2)),
-    (
-        A_LIMITED_AND_B,
-        TWO_STEPS_OF_BOTH,
-        "mmplan 2\nstores A B\ndump 1 1 3\ndump 2 0 0\nloss 2\nstretch A 1 2\ncount 1 channels\nbound 2\nend\n",
-        Verdict::Least(2),
-    ),
-];
+// Plan texts by name, with their problems, and what is said of each.
+static JUDGED: [(&str, &str, &str, &str, Verdict); 5] = wanted! {
+    "three stores in order", THREE_STORES, EIGHT_STEPS, THREE_IN_ORDER => Verdict::LeastInOrder(6);
+    "counts in order", A_LIMITED_AND_B, TWO_STEPS_OF_BOTH, COUNTS_IN_ORDER
+    => Verdict::LeastInOrder(2);
+    "one store in order", SCI, THREE_STEPS, ONE_STORE_IN_ORDER => Verdict::LeastInOrder(2);
+    "one store", SCI, THREE_STEPS, FIRST_RUN => Verdict::Least(2);
+    "counts", A_LIMITED_AND_B, TWO_STEPS_OF_BOTH,
+    "mmplan 2\nstores A B\ndump 1 1 3\ndump 2 0 0\nloss 2\nstretch A 1 2\ncount 1 channels\nbound 2\nend\n"
+    => Verdict::Least(2);
+};
 
 #[test]
 fn texts_by_hand_are_judged(rt: HostRuntime) {
-    for (setup, forecast, plan, verdict) in &JUDGED {
-        let plan = plan.as_bytes();
-        is_judged(
-            &rt,
-            rt.alloc(),
-            (*setup, *forecast),
-            plan,
-            *verdict,
-            "by hand",
-        );
+    for (name, setup, forecast, plan, verdict) in &JUDGED {
+        is_judged(&rt, (*setup, *forecast), plan.as_bytes(), *verdict, name);
     }
 }
 
@@ -153,6 +122,13 @@ struct Changed {
     old: &'static str,
     new: &'static str,
     verdict: Verdict,
+}
+
+// The text of the three stores with this change.
+fn with_change(rt: &impl Runtime, old: &str, new: &str) -> String {
+    THREE_IN_ORDER
+        .replace(rt.alloc(), old, new)
+        .expect(rt, "memory")
 }
 
 // Changes by name.
@@ -195,30 +171,24 @@ static CHANGED: [Changed; 14] = changes! {
 #[test]
 fn changed_texts_are_judged(rt: HostRuntime) {
     for row in &CHANGED {
-        let text = THREE_IN_ORDER.replace(rt.alloc(), row.old, row.new);
-        let text = text.expect(&rt, "memory");
-        let texts = (THREE_STORES, EIGHT_STEPS);
-        is_judged(
-            &rt,
-            rt.alloc(),
-            texts,
-            text.as_bytes(),
-            row.verdict,
-            row.name,
-        );
+        let text = with_change(&rt, row.old, row.new);
+        is_judged(&rt, THREE, text.as_bytes(), row.verdict, row.name);
     }
 }
 
-// What is said of the three stores is printed in one line.
+// What stands in place of the loss of two stores, and the line that is printed then.
+static LINES: [(&str, &str); 2] = wanted! {
+    "loss 4\n" => "least 6 in order\n";
+    "loss 5\n" => "first 2 not shown\n";
+};
+
 #[test]
 fn verdicts_in_order_are_lines(rt: HostRuntime) {
     let (setup, forecast) = (THREE_STORES.as_bytes(), EIGHT_STEPS.as_bytes());
-    let text = THREE_IN_ORDER.replace(rt.alloc(), "loss 4\n", "loss 5\n");
-    let text = text.expect(&rt, "memory");
-    let least = check_bytes(rt.alloc(), setup, forecast, THREE_IN_ORDER.as_bytes());
-    let unshown = check_bytes(rt.alloc(), setup, forecast, text.as_bytes());
-    let (_, least) = least.expect(&rt, "a verdict");
-    let (_, unshown) = unshown.expect(&rt, "a verdict");
-    assert!(&rt; least.as_slice() == b"least 6 in order\n".as_slice());
-    assert!(&rt; unshown.as_slice() == b"first 2 not shown\n".as_slice());
+    for (loss, wanted) in &LINES {
+        let text = with_change(&rt, "loss 4\n", loss);
+        let checked = check_bytes(rt.alloc(), setup, forecast, text.as_bytes());
+        let (_, line) = checked.expect(&rt, "a verdict");
+        assert!(rt; line.as_slice() == wanted.as_bytes(), "{wanted}");
+    }
 }

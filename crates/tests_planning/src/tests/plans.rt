@@ -2,12 +2,11 @@
 ghost use Rattle.mm_plan.specs.Simulated.{CoversProblem};
 
 use crate::tests::samples::{
-    A_AND_B, APART, FIRST_RUN, SCI, SCI_OF_SIZE_2, THREE_STEPS, filled, problem_of, sheet_of,
+    A_AND_B, APART, FIRST_RUN, Runtime, SCI, SCI_OF_SIZE_2, THREE_STEPS, filled, problem_of,
+    sheet_of,
 };
 use mm_plan::{Plan, Sheet, Simulated, loss_of, simulate};
 use mm_problem::Problem;
-use std::alloc::Global;
-use std::process::Abort;
 
 pub(crate) mod sheets;
 
@@ -20,38 +19,36 @@ const A_AND_B_IDLE: &str = "step,window,A,B\n1,2,0,0\n2,2,0,0\n3,2,0,0\n";
 static VOLUMES: [(u32, u32, u32); 3] = [(3, 1, 0), (4, 2, 0), (4, 4, 2)];
 
 // The simulation of a problem with one store has these volumes, and loses 2.
-fn has_volumes(rt: &impl Abort, problem: &Problem, simulated: &Simulated)
+fn has_volumes(rt: &impl Runtime, problem: &Problem, simulated: &Simulated)
     requires { CoversProblem problem.now simulated.now }
 {
     assert!(rt; (problem.stores(), problem.steps()) == (1, 3));
     for step in 1..4u32 {
         let (written, left) = (simulated.written(0, step), simulated.left(0, step));
         let found = (written, left, simulated.lost(0, step));
-        assert!(rt;
-            VOLUMES.get(step as usize - 1) == Some(&found),
-            "step {step}"
-        );
+        let wanted = VOLUMES.get(step as usize - 1);
+        assert!(rt; wanted == Some(&found), "step {step}");
     }
     assert!(rt; simulated.total() == 2);
 }
 
 // The plan of this sheet is simulated.
-fn is_simulated(rt: &impl Abort, alloc: Global, problem: &Problem, sheet: &Sheet) {
+fn is_simulated(rt: &impl Runtime, problem: &Problem, sheet: &Sheet) {
     let plan = sheet.plan();
     assert!(rt; plan.has_shape(problem));
-    let simulated = simulate(alloc, problem, plan).expect(rt, "memory");
+    let simulated = simulate(rt.alloc(), problem, plan).expect(rt, "memory");
     has_volumes(rt, problem, &simulated);
 }
 
 #[test]
 fn volumes_by_hand(rt: HostRuntime) {
-    let problem = problem_of(&rt, rt.alloc(), SCI, THREE_STEPS);
-    let sheet = sheet_of(&rt, rt.alloc(), FIRST_RUN);
-    is_simulated(&rt, rt.alloc(), &problem, &sheet);
+    let problem = problem_of(&rt, SCI, THREE_STEPS);
+    let sheet = sheet_of(&rt, FIRST_RUN);
+    is_simulated(&rt, &problem, &sheet);
 }
 
 // The plan has the problem's shape and these amounts, step by step and in each the stores in order.
-fn has_amounts(rt: &impl Abort, problem: &Problem, plan: &Plan, wanted: &[u32], name: &str) {
+fn has_amounts(rt: &impl Runtime, problem: &Problem, plan: &Plan, wanted: &[u32], name: &str) {
     assert!(rt; plan.has_shape(problem));
     let mut wanted = wanted.iter();
     for step in 1..problem.steps() + 1 {
@@ -64,63 +61,47 @@ fn has_amounts(rt: &impl Abort, problem: &Problem, plan: &Plan, wanted: &[u32], 
 }
 
 // The plan has the problem's shape and this loss.
-fn loses(rt: &impl Abort, problem: &Problem, plan: &Plan, loss: u64) {
+fn loses(rt: &impl Runtime, problem: &Problem, plan: &Plan, loss: u64) {
     assert!(rt; plan.has_shape(problem));
     assert!(rt; loss_of(problem, plan) == loss);
 }
 
-// The plan is not for a problem of two stores.
-fn is_for_one_store(rt: &impl Abort, alloc: Global, plan: &Plan) {
-    let other = problem_of(rt, alloc, A_AND_B, A_AND_B_IDLE);
-    assert!(rt; !plan.has_shape(&other));
-}
-
-#[test]
-fn nothing_leaves_by_the_plan_of_zeros(rt: HostRuntime) {
-    let problem = problem_of(&rt, rt.alloc(), SCI, THREE_STEPS);
-    let plan = Plan::zero(rt.alloc(), &problem).expect(&rt, "memory");
-    has_amounts(&rt, &problem, &plan, &[0, 0, 0], "zeros");
-    loses(&rt, &problem, &plan, 6);
-    is_for_one_store(&rt, rt.alloc(), &plan);
-}
-
-// The plan of zeros with one amount that is set: of a store, in a step.
-fn one_set(rt: &impl Abort, alloc: Global, problem: &Problem, set: (usize, u32, u32)) -> Plan {
-    let (store, step, amount) = set;
-    assert!(rt; store < problem.stores() && 0 < step && step <= problem.steps());
-    assert!(rt; amount <= 10);
-    let mut plan = Plan::zero(alloc, problem).expect(rt, "memory");
-    plan.set(store, step, amount);
+// The plan of zeros, of which one amount may be set: of a store, in a step.
+fn one_set(rt: &impl Runtime, problem: &Problem, set: Option<(usize, u32, u32)>) -> Plan {
+    let mut plan = Plan::zero(rt.alloc(), problem).expect(rt, "memory");
+    if let Some((store, step, amount)) = set {
+        assert!(rt; store < problem.stores() && 0 < step && step <= problem.steps());
+        assert!(rt; amount <= 10);
+        plan.set(store, step, amount);
+    }
     plan
 }
 
-// The plan of this problem with one amount that is set has these amounts, and this loss.
-fn sets_one(
-    rt: &impl Abort,
-    alloc: Global,
-    texts: (&str, &str),
-    set: (usize, u32, u32),
-    wanted: &[u32],
-    loss: u64,
-) {
-    let problem = problem_of(rt, alloc, texts.0, texts.1);
-    let plan = one_set(rt, alloc, &problem, set);
-    has_amounts(rt, &problem, &plan, wanted, "one is set");
-    loses(rt, &problem, &plan, loss);
-}
+// Problems, the amount that is set, all amounts then, and the loss.
+static SET: [(&str, &str, Option<(usize, u32, u32)>, &[u32], u64); 3] = wanted! {
+    SCI, THREE_STEPS, None, &[0, 0, 0] => 6;
+    // 3, 4, 4 blocks are written, 3, 3, 4 are left, and 0, 2, 3 are lost.
+    SCI, THREE_STEPS, Some((0, 2, 1)), &[0, 1, 0] => 5;
+    // Nothing arrives, so nothing is lost.
+    A_AND_B, A_AND_B_IDLE, Some((1, 2, 7)), &[0, 0, 0, 7, 0, 0] => 0;
+};
 
-// 3, 4, 4 blocks are written, 3, 3, 4 are left, and 0, 2, 3 are lost.
 #[test]
 fn one_amount_is_set(rt: HostRuntime) {
-    let texts = (SCI, THREE_STEPS);
-    sets_one(&rt, rt.alloc(), texts, (0, 2, 1), &[0, 1, 0], 5);
+    for (setup, forecast, set, amounts, loss) in &SET {
+        let problem = problem_of(&rt, setup, forecast);
+        let plan = one_set(&rt, &problem, *set);
+        has_amounts(&rt, &problem, &plan, amounts, forecast);
+        loses(&rt, &problem, &plan, *loss);
+    }
 }
 
-// Nothing arrives, so nothing is lost.
 #[test]
-fn one_amount_of_two_stores_is_set(rt: HostRuntime) {
-    let texts = (A_AND_B, A_AND_B_IDLE);
-    sets_one(&rt, rt.alloc(), texts, (1, 2, 7), &[0, 0, 0, 7, 0, 0], 0);
+fn a_plan_of_one_store_is_for_no_problem_of_two(rt: HostRuntime) {
+    let problem = problem_of(&rt, SCI, THREE_STEPS);
+    let plan = Plan::zero(rt.alloc(), &problem).expect(&rt, "memory");
+    let other = problem_of(&rt, A_AND_B, A_AND_B_IDLE);
+    assert!(rt; !plan.has_shape(&other));
 }
 
 // A plan, and the amounts that it has once it is filled.
@@ -149,18 +130,18 @@ static FILLINGS: [Filling; 5] = table! { Filling;
 };
 
 // The plan fits, and it is filled to these amounts.
-fn is_filled(rt: &impl Abort, alloc: Global, problem: &Problem, case: &Filling) {
-    let sheet = sheet_of(rt, alloc, case.plan);
+fn is_filled(rt: &impl Runtime, problem: &Problem, case: &Filling) {
+    let sheet = sheet_of(rt, case.plan);
     let plan = sheet.plan();
     assert!(rt; plan.has_shape(problem));
-    let plan = filled(rt, alloc, problem, plan);
+    let plan = filled(rt, problem, plan);
     has_amounts(rt, problem, &plan, case.filled, case.name);
 }
 
 #[test]
 fn windows_are_used_as_far_as_limits_allow(rt: HostRuntime) {
     for case in &FILLINGS {
-        let problem = problem_of(&rt, rt.alloc(), case.setup, case.forecast);
-        is_filled(&rt, rt.alloc(), &problem, case);
+        let problem = problem_of(&rt, case.setup, case.forecast);
+        is_filled(&rt, &problem, case);
     }
 }

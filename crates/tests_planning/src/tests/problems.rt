@@ -1,9 +1,8 @@
 //! Texts of setups and forecasts, and what is read of them, and problems from data.
+use crate::tests::samples::Runtime;
 use mm_problem::Fault;
-use std::alloc::Global;
-use std::process::Abort;
 
-// Texts, by the fault with which each is refused.
+// Texts, by the fault with which each is refused, or by `read`.
 macro_rules! refused {
     ($($fault:literal: $($text:expr),+;)+) => { [$($(($text, $fault)),+),+] };
 }
@@ -13,15 +12,15 @@ mod forecasts;
 mod setups;
 
 // How a fault is printed; `read` where there is none.
-fn shown(rt: &impl Abort, alloc: Global, fault: Option<Fault>) -> String {
+fn shown(rt: &impl Runtime, fault: Option<Fault>) -> String {
     match fault {
-        None => String::from_str(alloc, "read").expect(rt, "memory"),
-        Some(fault) => fault.to_string(alloc).expect(rt, "memory"),
+        None => String::from_str(rt.alloc(), "read").expect(rt, "memory"),
+        Some(fault) => fault.to_string(rt.alloc()).expect(rt, "memory"),
     }
 }
 
 // The fault is printed so; `read` where there is none.
-fn is_shown(rt: &impl Abort, alloc: Global, fault: Option<Fault>, wanted: &str) {
-    let shown = shown(rt, alloc, fault);
+fn is_shown(rt: &impl Runtime, fault: Option<Fault>, wanted: &str) {
+    let shown = shown(rt, fault);
     assert!(rt; shown.as_str() == wanted, "{wanted}");
 }

@@ -2,11 +2,16 @@
 ghost use Rattle.std.specs.Prelude.{◌<◌};
 ghost use Rattle.mm_plan.specs.Table.{HasShape};
 
-use itoa::Buffer;
+use mm_exhaustive::plan_below;
 use mm_plan::{Plan, Sheet, fill, fits};
-use mm_problem::{Problem, Setup, StoreId};
-use std::alloc::{AllocError, Global};
+use mm_problem::{Kind, LimitRow, Problem, Setup, StoreId, StoreRow};
+use std::fmt::Write;
 use std::process::Abort;
+
+// What a test's helpers are given: an assertion that fails ends the test, and what is made takes memory.
+pub(crate) trait Runtime: Abort + AllocGlobal {}
+
+impl<R: Abort + AllocGlobal> Runtime for R {}
 
 // A store of size 4, and one of size 2.
 pub(crate) const SCI: &str = "[[store]]\nid = \"SCI\"\nsize = 4\ntype = \"bounded\"\nchannel = 0\n";
@@ -17,9 +22,16 @@ pub(crate) const SCI_OF_SIZE_2: &str =
 pub(crate) const SCI_STARTS_WITH_2: &str =
     "[[store]]\nid = \"SCI\"\nsize = 4\ntype = \"bounded\"\nchannel = 0\nstart = 2\n";
 
-// A store of size 3 on a channel with a limit of 1.
+pub(crate) const ONE_STORE_OF_A: &str =
+    "[[store]]\nid = \"A\"\nsize = 3\ntype = \"bounded\"\nchannel = 0\n";
+
+// The same store, on a channel with a limit of 1.
 pub(crate) const A_LIMITED: &str =
     "[[store]]\nid = \"A\"\nsize = 3\ntype = \"bounded\"\nchannel = 0\n[[limit]]\nchannel = 0\nblocks = 1\n";
+
+// The same before another store, whose channel has no limit.
+pub(crate) const A_LIMITED_AND_B: &str =
+    "[[store]]\nid = \"A\"\nsize = 3\ntype = \"bounded\"\nchannel = 0\n[[store]]\nid = \"B\"\nsize = 3\ntype = \"bounded\"\nchannel = 1\n[[limit]]\nchannel = 0\nblocks = 1\n";
 
 // Two stores of size 3 on one channel.
 pub(crate) const A_AND_B: &str =
@@ -40,66 +52,84 @@ pub(crate) const FIRST_RUN: &str =
 pub(crate) const CHANNEL_LIMIT_CUT: &str =
     "mmplan 2\nstores A\ndump 1 1\ndump 2 0\nloss 2\nstretch A 1 2\ncount 1 channels\nbound 2\nend\n";
 
-pub(crate) fn id(rt: &impl Abort, text: &str) -> StoreId {
+pub(crate) fn id(rt: &impl Runtime, text: &str) -> StoreId {
     StoreId::of_text(text.as_bytes()).expect(rt, "an identifier")
 }
 
 // These parts in a row.
-pub(crate) fn joined(rt: &impl Abort, alloc: Global, parts: &[&str]) -> String {
-    parts.join(alloc, "").expect(rt, "memory")
+pub(crate) fn joined(rt: &impl Runtime, parts: &[&str]) -> String {
+    parts.join(rt.alloc(), "").expect(rt, "memory")
 }
 
 // The plan that a text says.
-pub(crate) fn sheet_of(rt: &impl Abort, alloc: Global, text: &str) -> Sheet {
-    Sheet::parse(alloc, text.as_bytes()).expect(rt, "a sheet")
+pub(crate) fn sheet_of(rt: &impl Runtime, text: &str) -> Sheet {
+    Sheet::parse(rt.alloc(), text.as_bytes()).expect(rt, "a sheet")
 }
 
 // A part that is repeated, with these texts before and after it.
 pub(crate) fn repeated(
-    rt: &impl Abort,
-    alloc: Global,
+    rt: &impl Runtime,
     before: &str,
     part: &str,
     count: usize,
     after: &str,
 ) -> String {
-    let parts = part.repeat(alloc, count).expect(rt, "memory");
-    joined(rt, alloc, &[before, parts.as_str(), after])
-}
-
-// Writes a number with a text before it and one after it.
-fn push_number(
-    text: &mut String,
-    before: &str,
-    number: u32,
-    after: &str,
-) -> Result<(), AllocError> {
-    let mut buffer = Buffer::new();
-    text.push_str(before)?;
-    text.push_str(buffer.format(number))?;
-    text.push_str(after)
+    let parts = part.repeat(rt.alloc(), count).expect(rt, "memory");
+    joined(rt, &[before, parts.as_str(), after])
 }
 
 // Each number from 1 up to this one, with these texts before and after it.
-pub(crate) fn numbered(
-    rt: &impl Abort,
-    alloc: Global,
-    before: &str,
-    most: u32,
-    after: &str,
-) -> String {
-    let mut text = String::new(alloc);
+pub(crate) fn numbered(rt: &impl Runtime, before: &str, most: u32, after: &str) -> String {
+    let mut text = String::new(rt.alloc());
     for place in 0..most {
-        push_number(&mut text, before, place + 1, after).expect(rt, "memory");
+        write!(text, "{before}{}{after}", place + 1).expect(rt, "memory");
     }
     text
 }
 
 // The problem that two texts say.
-pub(crate) fn problem_of(rt: &impl Abort, alloc: Global, setup: &str, forecast: &str) -> Problem {
-    let setup = Setup::read(alloc, setup.as_bytes()).expect(rt, "a setup");
-    Problem::read(alloc, &setup, forecast.as_bytes()).expect(rt, "a forecast")
+pub(crate) fn problem_of(rt: &impl Runtime, setup: &str, forecast: &str) -> Problem {
+    let setup = Setup::read(rt.alloc(), setup.as_bytes()).expect(rt, "a setup");
+    Problem::read(rt.alloc(), &setup, forecast.as_bytes()).expect(rt, "a forecast")
 }
+
+// A bounded store with this identifier, size, start volume and channel.
+pub(crate) fn row(rt: &impl Runtime, text: &str, size: u32, start: u32, channel: u8) -> StoreRow {
+    StoreRow {
+        id: id(rt, text),
+        size,
+        start,
+        kind: Kind::Bounded,
+        channel,
+    }
+}
+
+// The problem of these stores, limits, windows and arrivals.
+pub(crate) fn made(
+    rt: &impl Runtime,
+    rows: &[StoreRow],
+    limits: &[LimitRow],
+    windows: &[u32],
+    arrivals: &[u32],
+) -> Problem {
+    let problem = Problem::new(rt.alloc(), rows, limits, windows, arrivals);
+    problem.expect(rt, "a problem")
+}
+
+// The problem with limits of each step for these channels.
+pub(crate) fn limited(
+    rt: &impl Runtime,
+    problem: &Problem,
+    channels: &[u8],
+    limits: &[u32],
+) -> Problem {
+    let limited = problem.with_step_limits(rt.alloc(), channels, limits);
+    limited.expect(rt, "a problem")
+}
+
+pub(crate) static NAMES: [&str; 16] = [
+    "A", "B", "C", "D", "E", "F", "G", "H", "I", "J", "K", "L", "M", "N", "O", "P",
+];
 
 // The tables of stores of size 1 whose identifiers begin alike and whose tables end alike: the number of each, and its channel. Then
 // limits of as many blocks for channels.
@@ -141,24 +171,26 @@ pub(crate) const MILLIONS: &str =
     ",0,1000000,1000000,1000000,1000000,1000000,1000000,1000000,1000000,1000000,1000000,1000000,1000000,1000000,1000000,1000000,1000000\n";
 
 // A forecast of so many steps, each with the same after its number.
-pub(crate) fn alike_steps(
-    rt: &impl Abort,
-    alloc: Global,
-    header: &str,
-    steps: u32,
-    rest: &str,
-) -> String {
-    let records = numbered(rt, alloc, "", steps, rest);
-    joined(rt, alloc, &[header, records.as_str()])
+pub(crate) fn alike_steps(rt: &impl Runtime, header: &str, steps: u32, rest: &str) -> String {
+    let records = numbered(rt, "", steps, rest);
+    joined(rt, &[header, records.as_str()])
 }
 
 // The plan, which fits, with its idle windows used.
-pub(crate) fn filled(rt: &impl Abort, alloc: Global, problem: &Problem, plan: &Plan) -> Plan
+pub(crate) fn filled(rt: &impl Runtime, problem: &Problem, plan: &Plan) -> Plan
     requires { HasShape problem.now plan.now }
     ensures { HasShape problem.now result }
 {
     assert!(rt; fits(problem, plan).is_ok());
-    fill(alloc, problem, plan).expect(rt, "memory")
+    fill(rt.alloc(), problem, plan).expect(rt, "memory")
+}
+
+// No plan of the problem loses less than this, and one loses as much.
+pub(crate) fn is_least(rt: &impl Runtime, problem: &Problem, loss: u64) {
+    let less = plan_below(rt.alloc(), problem, loss).expect(rt, "memory");
+    let more = plan_below(rt.alloc(), problem, loss.saturating_add(1)).expect(rt, "memory");
+    let is_least = less.is_none() && more.is_some();
+    assert!(rt; is_least, "{loss} is not the least loss");
 }
 
 // The next of the linear congruential numbers, of 24 bits (Numerical Recipes, section 7.1).

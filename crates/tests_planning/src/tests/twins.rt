@@ -1,13 +1,11 @@
 //! The planner beside the slow twin that tries every plan, on tiny problems.
-use crate::tests::samples::{filled, joined, problem_of};
+use crate::tests::samples::{Runtime, filled, joined, problem_of};
 use mm_cut::{Verdict, verify};
 use mm_exhaustive::plan_below;
 use mm_plan::{NoMemory, fits, loss_of};
 use mm_planner::{Planned, plan, plan_by_flow};
 use mm_problem::Problem;
 use mm_propose::propose;
-use std::alloc::Global;
-use std::process::Abort;
 
 // A problem whose least loss is counted by hand.
 struct Counted {
@@ -45,7 +43,7 @@ pub(crate) mod proposals;
 mod sides;
 
 // What a planned dump loses: its plan fits, and its cut shows that no plan loses less.
-fn shown_loss(rt: &impl Abort, problem: &Problem, planned: Result<Planned, NoMemory>) -> u64 {
+fn shown_loss(rt: &impl Runtime, problem: &Problem, planned: Result<Planned, NoMemory>) -> u64 {
     let planned = planned.expect(rt, "memory");
     let (plan, loss) = (&planned.plan, planned.loss);
     assert!(rt; plan.has_shape(problem) && loss < 1 << 63);
@@ -56,9 +54,9 @@ fn shown_loss(rt: &impl Abort, problem: &Problem, planned: Result<Planned, NoMem
 }
 
 // What is lost by what is proposed, once its idle windows are used: its own cut shows that no plan loses less.
-fn proposed_loss(rt: &impl Abort, alloc: Global, problem: &Problem) -> u64 {
-    let proposed = propose(alloc, problem).expect(rt, "memory");
-    let plan = filled(rt, alloc, problem, &proposed.plan);
+fn proposed_loss(rt: &impl Runtime, problem: &Problem) -> u64 {
+    let proposed = propose(rt.alloc(), problem).expect(rt, "memory");
+    let plan = filled(rt, problem, &proposed.plan);
     let loss = loss_of(problem, &plan);
     let (cut, by_channels) = (proposed.cut.as_slice(), proposed.by_channels.as_slice());
     let verdict = verify(problem, &plan, cut, by_channels, loss, loss as i64);
@@ -67,19 +65,19 @@ fn proposed_loss(rt: &impl Abort, alloc: Global, problem: &Problem) -> u64 {
 }
 
 // The loss of a problem by the planner, by the network alone, and by the proposal alone, which is the same.
-fn planned_loss(rt: &impl Abort, alloc: Global, problem: &Problem) -> u64 {
-    let loss = shown_loss(rt, problem, plan(alloc, problem));
-    let by_flow = shown_loss(rt, problem, plan_by_flow(alloc, problem));
-    let proposed = proposed_loss(rt, alloc, problem);
+fn planned_loss(rt: &impl Runtime, problem: &Problem) -> u64 {
+    let loss = shown_loss(rt, problem, plan(rt.alloc(), problem));
+    let by_flow = shown_loss(rt, problem, plan_by_flow(rt.alloc(), problem));
+    let proposed = proposed_loss(rt, problem);
     assert!(rt; (by_flow, proposed) == (loss, loss));
     loss
 }
 
 // The loss that each path of the planner finds: of all plans one that fits loses that, and none loses less.
-fn least_loss(rt: &impl Abort, alloc: Global, problem: &Problem) -> u64 {
-    let least = planned_loss(rt, alloc, problem);
-    let less = plan_below(alloc, problem, least).expect(rt, "memory");
-    let more = plan_below(alloc, problem, least.saturating_add(1)).expect(rt, "memory");
+fn least_loss(rt: &impl Runtime, problem: &Problem) -> u64 {
+    let least = planned_loss(rt, problem);
+    let less = plan_below(rt.alloc(), problem, least).expect(rt, "memory");
+    let more = plan_below(rt.alloc(), problem, least.saturating_add(1)).expect(rt, "memory");
     let found = more.expect(rt, "a plan that loses least");
     assert!(rt; (fits(problem, &found), loss_of(problem, &found)) == (Ok(()), least));
     assert!(rt; less.is_none(), "a plan loses less than {least}");
@@ -87,18 +85,14 @@ fn least_loss(rt: &impl Abort, alloc: Global, problem: &Problem) -> u64 {
 }
 
 // The least loss of each of these problems is what is counted.
-fn lose_least(rt: &impl Abort, alloc: Global, cases: &[Counted]) {
+fn lose_least(rt: &impl Runtime, cases: &[Counted]) {
     for case in cases {
-        let problem = problem_of(rt, alloc, case.setup, case.forecast);
-        assert!(rt;
-            least_loss(rt, alloc, &problem) == case.loss,
-            "{}",
-            case.name
-        );
+        let problem = problem_of(rt, case.setup, case.forecast);
+        assert!(rt; least_loss(rt, &problem) == case.loss, "{}", case.name);
     }
 }
 
-static ONE_STORE: [Counted; 6] = counted! {
+static COUNTED: [Counted; 14] = counted! {
     name: "first_run",
     store "A" 4 0 0; "step,window,A\n1,2,3\n2,2,3\n3,0,4\n" => 2;
     name: "nothing_arrives",
@@ -111,14 +105,6 @@ static ONE_STORE: [Counted; 6] = counted! {
     store "A" 4 2 0; "step,window,A\n1,2,3\n2,2,3\n3,0,4\n" => 4;
     name: "channel_limit_cut",
     store "A" 3 0 0; limit 0 1; "step,window,A\n1,5,3\n2,0,3\n" => 2;
-};
-
-#[test]
-fn one_store_loses_what_is_counted_by_hand(rt: HostRuntime) {
-    lose_least(&rt, rt.alloc(), &ONE_STORE);
-}
-
-static LIMITED_STEPS: [Counted; 4] = counted! {
     name: "the limits of the steps are those of the setup",
     store "A" 3 0 0; "step,window,A,limit:0\n1,5,3,1\n2,0,3,1\n" => 2;
     name: "the second step has the limit that counts",
@@ -127,14 +113,6 @@ static LIMITED_STEPS: [Counted; 4] = counted! {
     store "A" 3 0 0; limit 0 1; "step,window,A,limit:0\n1,5,3,2\n2,0,3,0\n" => 2;
     name: "one channel may send in the first step, the other in the second",
     store "A" 2 2 0; store "B" 2 2 1; "step,window,A,B,limit:0,limit:1\n1,2,0,0,2,0\n2,2,1,1,0,2\n3,0,1,2,9,9\n" => 1;
-};
-
-#[test]
-fn limits_of_steps_lose_what_is_counted_by_hand(rt: HostRuntime) {
-    lose_least(&rt, rt.alloc(), &LIMITED_STEPS);
-}
-
-static TWO_STORES: [Counted; 4] = counted! {
     name: "foresight_beats_even_split",
     store "A" 3 0 0; store "B" 3 0 1; "step,window,A,B\n1,2,3,3\n2,0,2,0\n" => 0;
     name: "two_stretches_share_a_window",
@@ -146,8 +124,8 @@ static TWO_STORES: [Counted; 4] = counted! {
 };
 
 #[test]
-fn two_stores_lose_what_is_counted_by_hand(rt: HostRuntime) {
-    lose_least(&rt, rt.alloc(), &TWO_STORES);
+fn plans_lose_what_is_counted_by_hand(rt: HostRuntime) {
+    lose_least(&rt, &COUNTED);
 }
 
 // Stores A with a block at the start beside an empty store B of size 2: the size of A, and the channel of B.
@@ -160,15 +138,15 @@ macro_rules! beside_b {
     };
 }
 
-pub(crate) static STORES: [&str; 6] = beside_b! { 1 0, 1 1, 2 0, 2 1, 3 0, 3 1, };
+static STORES: [&str; 6] = beside_b! { 1 0, 1 1, 2 0, 2 1, 3 0, 3 1, };
 
-pub(crate) static LIMITS: [&str; 3] = [
+static LIMITS: [&str; 3] = [
     "",
     "[[limit]]\nchannel = 0\nblocks = 0\n",
     "[[limit]]\nchannel = 0\nblocks = 1\n",
 ];
 
-pub(crate) static FORECASTS: [&str; 5] = [
+static FORECASTS: [&str; 5] = [
     "step,window,A,B\n1,2,3,1\n2,1,0,2\n3,2,2,2\n",
     "step,window,A,B\n1,0,2,2\n2,3,1,0\n3,1,3,3\n",
     "step,window,A,B\n1,3,0,4\n2,0,4,0\n3,2,1,1\n",
@@ -176,20 +154,24 @@ pub(crate) static FORECASTS: [&str; 5] = [
     "step,window,A,B\n1,4,5,0\n2,0,0,5\n",
 ];
 
-// Each path finds the least loss of these stores with this limit.
-fn is_found(rt: &impl Abort, alloc: Global, stores: &str, limit: &str) {
-    let setup = joined(rt, alloc, &[stores, limit]);
-    for forecast in &FORECASTS {
-        let problem = problem_of(rt, alloc, setup.as_str(), forecast);
-        least_loss(rt, alloc, &problem);
+// The problems of each of these stores with each of these limits and each of these forecasts.
+pub(crate) fn small_problems(rt: &impl Runtime) -> Vec<Problem> {
+    let mut problems = Vec::new(rt.alloc());
+    for stores in &STORES {
+        for limit in &LIMITS {
+            let setup = joined(rt, &[stores, limit]);
+            for forecast in &FORECASTS {
+                let problem = problem_of(rt, setup.as_str(), forecast);
+                problems.push(problem).expect(rt, "memory");
+            }
+        }
     }
+    problems
 }
 
 #[test]
 fn the_planner_loses_no_more_than_the_best_of_all_plans(rt: HostRuntime) {
-    for stores in &STORES {
-        for limit in &LIMITS {
-            is_found(&rt, rt.alloc(), stores, limit);
-        }
+    for problem in small_problems(&rt).iter() {
+        least_loss(&rt, problem);
     }
 }

@@ -1,11 +1,8 @@
 //! What windows, sizes and limits are worth: by hand, beside all plans of tiny problems, and beside plans that are made anew.
-use crate::tests::samples::{id, next_below};
-use mm_exhaustive::plan_below;
+use crate::tests::samples::{NAMES, Runtime, is_least, limited, made, next_below, row};
 use mm_planner::plan;
-use mm_problem::{Kind, LimitRow, MAX_BLOCKS, Problem, StoreRow};
+use mm_problem::{LimitRow, MAX_BLOCKS, Problem, StoreRow};
 use mm_sensitivity::{Item, sensitivity_bytes, worths};
-use std::alloc::Global;
-use std::process::Abort;
 
 const THREE_STORES: &str =
     "[[store]]\nid = \"CAM\"\nsize = 4\ntype = \"bounded\"\nchannel = 0\n[[store]]\nid = \"SPEC\"\nsize = 3\ntype = \"bounded\"\nchannel = 1\n[[store]]\nid = \"HK\"\nsize = 2\ntype = \"bounded\"\nchannel = 0\n";
@@ -29,22 +26,22 @@ const LIMITS_BY_STEP: &str = "step,window,CAM,limit:0\n1,3,6,2\n2,4,4,1\n";
 const WORTH_BY_STEP: &str =
     "item,name,step,now,next,most,without\nwindow,,1,3,0,0,2\nwindow,,2,4,0,0,0\nsize,CAM,,4,1,4,4\nlimit,0,,5,0,0,2\nlimit,0,1,2,1,1,2\nlimit,0,2,1,0,0,0\n";
 
-#[test]
-fn a_limit_of_a_step_is_worth_one_block(rt: HostRuntime) {
-    let made = sensitivity_bytes(rt.alloc(), ONE_STORE.as_bytes(), LIMITS_BY_STEP.as_bytes());
-    let text = made.expect(&rt, "a table");
-    assert!(&rt; text.as_slice() == WORTH_BY_STEP.as_bytes());
-}
+static TABLES: [(&str, &str, &str, &str); 2] = wanted! {
+    "a limit of a step is worth one block", ONE_STORE, LIMITS_BY_STEP => WORTH_BY_STEP;
+    "a window is worth 3 and then nothing", THREE_STORES, EIGHT_STEPS => WORTH_3_THEN_NOTHING;
+};
 
 #[test]
-fn a_window_is_worth_3_and_then_nothing(rt: HostRuntime) {
-    let made = sensitivity_bytes(rt.alloc(), THREE_STORES.as_bytes(), EIGHT_STEPS.as_bytes());
-    let text = made.expect(&rt, "a table");
-    assert!(&rt; text.as_slice() == WORTH_3_THEN_NOTHING.as_bytes());
+fn tables_by_hand(rt: HostRuntime) {
+    for (name, setup, forecast, wanted) in &TABLES {
+        let made = sensitivity_bytes(rt.alloc(), setup.as_bytes(), forecast.as_bytes());
+        let text = made.expect(&rt, "a table");
+        assert!(rt; text.as_slice() == wanted.as_bytes(), "{name}");
+    }
 }
 
 /// The numbers that a problem is made of.
-#[derive(Drop)]
+#[derive(Clone, Drop)]
 pub(crate) struct Numbers {
     rows: Vec<StoreRow>,
     limits: Vec<LimitRow>,
@@ -55,39 +52,25 @@ pub(crate) struct Numbers {
     step_limits: Vec<u32>,
 }
 
-static NAMES: [&str; 3] = ["A", "B", "C"];
-
 impl Numbers {
     // Numbers of so many stores and steps, none larger than a few blocks.
-    pub(crate) fn made(
-        rt: &impl Abort,
-        alloc: Global,
-        state: &mut u32,
-        stores: u32,
-        steps: u32,
-    ) -> Numbers {
-        let mut rows = Vec::new(alloc);
+    pub(crate) fn made(rt: &impl Runtime, state: &mut u32, stores: u32, steps: u32) -> Numbers {
+        let mut rows = Vec::new(rt.alloc());
         for name in NAMES.iter().take(stores as usize) {
             let size = next_below(state, 4).saturating_add(1);
             let start = next_below(state, size.saturating_add(1).max(1));
-            let row = StoreRow {
-                id: id(rt, name),
-                size,
-                start,
-                kind: Kind::Bounded,
-                channel: (next_below(state, 2) % 2) as u8,
-            };
-            rows.push(row).expect(rt, "memory");
-        }
-        let mut limits = Vec::new(alloc);
-        if next_below(state, 2) == 0 {
-            let blocks = next_below(state, 3);
-            limits
-                .push(LimitRow { channel: 0, blocks })
+            let channel = next_below(state, 2) as u8;
+            rows.push(row(rt, name, size, start, channel))
                 .expect(rt, "memory");
         }
-        let mut windows = Vec::new(alloc);
-        let mut arrivals = Vec::new(alloc);
+        let mut limits = Vec::new(rt.alloc());
+        if next_below(state, 2) == 0 {
+            let (channel, blocks) = (0, next_below(state, 3));
+            let limit = LimitRow { channel, blocks };
+            limits.push(limit).expect(rt, "memory");
+        }
+        let mut windows = Vec::new(rt.alloc());
+        let mut arrivals = Vec::new(rt.alloc());
         for _ in 0..steps {
             windows.push(next_below(state, 4)).expect(rt, "memory");
             for _ in 0..stores {
@@ -100,15 +83,15 @@ impl Numbers {
             limits,
             windows,
             arrivals,
-            limited: Vec::new(alloc),
-            step_limits: Vec::new(alloc),
+            limited: Vec::new(rt.alloc()),
+            step_limits: Vec::new(rt.alloc()),
         };
         numbers.add_columns(rt, state, steps);
         numbers
     }
 
     // Adds limits in each step, of one channel, of two or of none.
-    fn add_columns(&mut self, rt: &impl Abort, state: &mut u32, steps: u32) {
+    fn add_columns(&mut self, rt: &impl Runtime, state: &mut u32, steps: u32) {
         for channel in 0..2u8 {
             if next_below(state, 2) == 0 {
                 self.limited.push(channel).expect(rt, "memory");
@@ -122,60 +105,39 @@ impl Numbers {
         }
     }
 
-    pub(crate) fn problem(&self, rt: &impl Abort, alloc: Global) -> Problem {
-        let (rows, limits) = (self.rows.as_slice(), self.limits.as_slice());
-        let (windows, arrivals) = (self.windows.as_slice(), self.arrivals.as_slice());
-        let problem = Problem::new(alloc, rows, limits, windows, arrivals).expect(rt, "a problem");
-        let (limited, step_limits) = (self.limited.as_slice(), self.step_limits.as_slice());
-        let limited = problem.with_step_limits(alloc, limited, step_limits);
-        limited.expect(rt, "a problem")
+    pub(crate) fn problem(&self, rt: &impl Runtime) -> Problem {
+        let problem = made(rt, &self.rows, &self.limits, &self.windows, &self.arrivals);
+        limited(rt, &problem, &self.limited, &self.step_limits)
     }
 
     // The problem with another number in place of one. What a store begins with comes in the first step where it is smaller.
-    fn with(&self, rt: &impl Abort, alloc: Global, item: Item, blocks: u32) -> Problem {
-        let mut rows = Vec::from_slice(alloc, self.rows.as_slice()).expect(rt, "memory");
-        let mut limits = Vec::from_slice(alloc, self.limits.as_slice()).expect(rt, "memory");
-        let mut windows = Vec::from_slice(alloc, self.windows.as_slice()).expect(rt, "memory");
-        let mut arrivals = Vec::from_slice(alloc, self.arrivals.as_slice()).expect(rt, "memory");
-        let mut step_limits = Vec::from_slice(alloc, self.step_limits.as_slice()).expect(
-            rt, "memory",
-        );
+    fn with(&self, rt: &impl Runtime, item: Item, blocks: u32) -> Problem {
+        let mut changed = self.clone().expect(rt, "memory");
         match item {
             Item::Window(step) => {
                 let place = (step as usize).saturating_sub(1);
-                let window = windows.get_mut(place).expect(rt, "a step");
-                *window = blocks;
+                *changed.windows.get_mut(place).expect(rt, "a step") = blocks;
             }
             Item::Size(store) => {
-                let row = rows.get_mut(store).expect(rt, "a store");
-                let arrived = arrivals.get_mut(store).expect(rt, "a store");
+                let row = changed.rows.get_mut(store).expect(rt, "a store");
+                let arrived = changed.arrivals.get_mut(store).expect(rt, "a store");
                 *arrived = arrived.saturating_add(row.start);
                 row.start = 0;
                 row.size = blocks;
             }
             Item::Limit(channel) => {
-                limits.clear();
-                limits
-                    .push(LimitRow { channel, blocks })
-                    .expect(rt, "memory");
+                let limit = LimitRow { channel, blocks };
+                changed.limits.clear();
+                changed.limits.push(limit).expect(rt, "memory");
             }
             Item::StepLimit(column, step) => {
                 let row = (step as usize).saturating_sub(1);
                 let place = row.saturating_mul(self.limited.len());
-                let limit = step_limits.get_mut(place.saturating_add(column));
+                let limit = changed.step_limits.get_mut(place.saturating_add(column));
                 *limit.expect(rt, "a step") = blocks;
             }
         }
-        let limited = Vec::from_slice(alloc, self.limited.as_slice()).expect(rt, "memory");
-        let changed = Numbers {
-            rows,
-            limits,
-            windows,
-            arrivals,
-            limited,
-            step_limits,
-        };
-        changed.problem(rt, alloc)
+        changed.problem(rt)
     }
 }
 
@@ -187,92 +149,54 @@ fn least_number(item: Item) -> u32 {
 }
 
 // What a plan loses that is made anew.
-fn least_loss(rt: &impl Abort, alloc: Global, problem: &Problem) -> u64 {
-    plan(alloc, problem).expect(rt, "memory").loss
+fn least_loss(rt: &impl Runtime, problem: &Problem) -> u64 {
+    plan(rt.alloc(), problem).expect(rt, "memory").loss
 }
 
 // Each number is worth what a plan of the changed problem loses fewer or more.
-fn is_worth_what_plans_lose(rt: &impl Abort, alloc: Global, numbers: &Numbers) {
-    let problem = numbers.problem(rt, alloc);
-    let least = least_loss(rt, alloc, &problem);
-    for worth in worths(alloc, &problem).expect(rt, "memory").iter() {
+fn is_worth_what_plans_lose(rt: &impl Runtime, numbers: &Numbers) {
+    let problem = numbers.problem(rt);
+    let least = least_loss(rt, &problem);
+    for worth in worths(rt.alloc(), &problem).expect(rt, "memory").iter() {
         let (item, now) = (worth.item, worth.now);
-        let next = least_loss(
-            rt,
-            alloc,
-            &numbers.with(rt, alloc, item, now.saturating_add(1)),
-        );
-        let most = least_loss(rt, alloc, &numbers.with(rt, alloc, item, MAX_BLOCKS));
-        let without = least_loss(
-            rt,
-            alloc,
-            &numbers.with(rt, alloc, item, least_number(item)),
-        );
-        let saved = (
-            next.saturating_add(worth.next),
-            most.saturating_add(worth.most),
-        );
-        assert!(rt; saved == (least, least), "{worth:?}");
+        let next = least_loss(rt, &numbers.with(rt, item, now.saturating_add(1)));
+        let most = least_loss(rt, &numbers.with(rt, item, MAX_BLOCKS));
+        let without = least_loss(rt, &numbers.with(rt, item, least_number(item)));
+        assert!(rt; next.saturating_add(worth.next) == least, "{worth:?}");
+        assert!(rt; most.saturating_add(worth.most) == least, "{worth:?}");
         assert!(rt; without == least.saturating_add(worth.without), "{worth:?}");
     }
 }
 
-// So it is in a hundred problems that are made of a seed.
-fn are_worth_what_plans_lose(rt: &impl Abort, alloc: Global, seed: u32) {
-    let mut state = seed;
-    for _ in 0..100u32 {
-        let stores = next_below(&mut state, 3).saturating_add(1);
-        let steps = next_below(&mut state, 5).saturating_add(1);
-        let numbers = Numbers::made(rt, alloc, &mut state, stores, steps);
-        is_worth_what_plans_lose(rt, alloc, &numbers);
-    }
-}
+// Each makes a hundred problems.
+static SEEDS: [u32; 5] = [56, 57, 58, 59, 60];
 
 #[test]
 fn numbers_are_worth_what_plans_made_anew_lose(rt: HostRuntime) {
-    are_worth_what_plans_lose(&rt, rt.alloc(), 56);
-}
-
-#[test]
-fn the_second_hundred_is_worth_what_plans_lose(rt: HostRuntime) {
-    are_worth_what_plans_lose(&rt, rt.alloc(), 57);
-}
-
-#[test]
-fn the_third_hundred_is_worth_what_plans_lose(rt: HostRuntime) {
-    are_worth_what_plans_lose(&rt, rt.alloc(), 58);
-}
-
-#[test]
-fn the_fourth_hundred_is_worth_what_plans_lose(rt: HostRuntime) {
-    are_worth_what_plans_lose(&rt, rt.alloc(), 59);
-}
-
-#[test]
-fn the_fifth_hundred_is_worth_what_plans_lose(rt: HostRuntime) {
-    are_worth_what_plans_lose(&rt, rt.alloc(), 60);
-}
-
-// No plan of the problem loses less than this, and one loses as much.
-fn loses(rt: &impl Abort, alloc: Global, problem: &Problem, loss: u64) {
-    let less = plan_below(alloc, problem, loss).expect(rt, "memory");
-    let more = plan_below(alloc, problem, loss.saturating_add(1)).expect(rt, "memory");
-    assert!(rt; less.is_none() && more.is_some(), "{loss}");
+    for seed in &SEEDS {
+        let mut state = *seed;
+        for _ in 0..100u32 {
+            let stores = next_below(&mut state, 3).saturating_add(1);
+            let steps = next_below(&mut state, 5).saturating_add(1);
+            let numbers = Numbers::made(&rt, &mut state, stores, steps);
+            is_worth_what_plans_lose(&rt, &numbers);
+        }
+    }
 }
 
 // Each number is worth what the best of all plans loses fewer or more. Two stores hold no more than eight blocks, so a number that is
 // eight larger is as good as the largest.
-fn is_worth_what_all_plans_lose(rt: &impl Abort, alloc: Global, numbers: &Numbers) {
-    let problem = numbers.problem(rt, alloc);
-    let least = least_loss(rt, alloc, &problem);
-    for worth in worths(alloc, &problem).expect(rt, "memory").iter() {
+fn is_worth_what_all_plans_lose(rt: &impl Runtime, numbers: &Numbers) {
+    let problem = numbers.problem(rt);
+    let least = least_loss(rt, &problem);
+    for worth in worths(rt.alloc(), &problem).expect(rt, "memory").iter() {
         let (item, now) = (worth.item, worth.now);
-        let next = numbers.with(rt, alloc, item, now.saturating_add(1));
-        loses(rt, alloc, &next, least.saturating_sub(worth.next));
-        let without = numbers.with(rt, alloc, item, least_number(item));
-        loses(rt, alloc, &without, least.saturating_add(worth.without));
-        let most = numbers.with(rt, alloc, item, now.saturating_add(8));
-        loses(rt, alloc, &most, least.saturating_sub(worth.most));
+        let next = numbers.with(rt, item, now.saturating_add(1));
+        is_least(rt, &next, least.saturating_sub(worth.next));
+        let without = numbers.with(rt, item, least_number(item));
+        is_least(rt, &without, least.saturating_add(worth.without));
+        let most = numbers.with(rt, item, now.saturating_add(8));
+        is_least(rt, &most, least.saturating_sub(worth.most));
     }
 }
 
@@ -280,7 +204,7 @@ fn is_worth_what_all_plans_lose(rt: &impl Abort, alloc: Global, numbers: &Number
 fn numbers_are_worth_what_all_plans_lose(rt: HostRuntime) {
     let mut state = 8;
     for _ in 0..24u32 {
-        let numbers = Numbers::made(&rt, rt.alloc(), &mut state, 2, 2);
-        is_worth_what_all_plans_lose(&rt, rt.alloc(), &numbers);
+        let numbers = Numbers::made(&rt, &mut state, 2, 2);
+        is_worth_what_all_plans_lose(&rt, &numbers);
     }
 }

@@ -1,12 +1,11 @@
 //! How numbers are written.
 use crate::tests::charts::samples::{ONE_STORE, chart_of, has_texts};
-use std::alloc::Global;
-use std::process::Abort;
+use crate::tests::samples::Runtime;
 
 // The chart of the one store with each of these forecasts and plans has the text that follows them.
-fn have_texts(rt: &impl Abort, alloc: Global, rows: &[(&str, &str, &str)]) {
+fn have_texts(rt: &impl Runtime, rows: &[(&str, &str, &str)]) {
     for (forecast, plan, wanted) in rows {
-        let chart = chart_of(rt, alloc, ONE_STORE, forecast, plan);
+        let chart = chart_of(rt, ONE_STORE, forecast, plan);
         has_texts(rt, chart.as_str(), &[wanted]);
     }
 }
@@ -37,7 +36,7 @@ static THOUSANDS: [(&str, &str, &str); 5] = thousands! {
 
 #[test]
 fn thousands_are_separated(rt: HostRuntime) {
-    have_texts(&rt, rt.alloc(), &THOUSANDS);
+    have_texts(&rt, &THOUSANDS);
 }
 
 // A forecast, a plan that dumps nothing, and what the headline says of the bound. Of the 2,346 blocks that come in step 2
@@ -52,5 +51,5 @@ static BOUNDS: [(&str, &str, &str); 2] = wanted! {
 
 #[test]
 fn a_bound_is_written_with_its_sign(rt: HostRuntime) {
-    have_texts(&rt, rt.alloc(), &BOUNDS);
+    have_texts(&rt, &BOUNDS);
 }

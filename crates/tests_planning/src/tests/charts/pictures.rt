@@ -3,13 +3,11 @@ ghost use Rattle.mm_chart.specs.Series.{IsSeries};
 
 use crate::tests::charts::SHOWN;
 use crate::tests::charts::samples::has_lines;
-use crate::tests::samples::{FIRST_RUN, SCI, THREE_STEPS};
+use crate::tests::samples::{FIRST_RUN, Runtime, SCI, THREE_STEPS};
 use mm_chart::{Column, Picture, Series, draw};
 use mm_cut::{Parts, Verdict, read_sheet};
 use mm_plan::simulate;
-use mm_problem::{Problem, read_problem};
-use std::alloc::Global;
-use std::process::Abort;
+use mm_problem::read_problem;
 
 // Of each series the number of the first step and of the last, the sum and the largest number.
 static NUMBERS: [(Series, [u64; 4]); 12] = [
@@ -43,24 +41,16 @@ const PARTS: Parts = Parts {
     limits: 0,
 };
 
-// The problem of the texts.
-fn problem_of(rt: &impl Abort, alloc: Global) -> Problem {
-    let problem = read_problem(alloc, SCI.as_bytes(), THREE_STEPS.as_bytes());
-    problem.expect(rt, "a problem")
-}
-
-// The picture of the plan for this problem.
-fn picture_for(rt: &impl Abort, alloc: Global, problem: Problem) -> Picture {
-    let sheet = read_sheet(alloc, &problem, FIRST_RUN.as_bytes()).expect(rt, "a plan");
-    Picture::new(alloc, problem, sheet).expect(rt, "memory")
-}
-
-fn picture_of(rt: &impl Abort, alloc: Global) -> Picture {
-    picture_for(rt, alloc, problem_of(rt, alloc))
+// The picture of the plan for the problem of the texts.
+fn picture_of(rt: &impl Runtime) -> Picture {
+    let problem = read_problem(rt.alloc(), SCI.as_bytes(), THREE_STEPS.as_bytes());
+    let problem = problem.expect(rt, "a problem");
+    let sheet = read_sheet(rt.alloc(), &problem, FIRST_RUN.as_bytes()).expect(rt, "a plan");
+    Picture::new(rt.alloc(), problem, sheet).expect(rt, "memory")
 }
 
 // The picture has three steps, and these numbers.
-fn has_numbers(rt: &impl Abort, picture: &Picture) {
+fn has_numbers(rt: &impl Runtime, picture: &Picture) {
     assert!(rt; picture.problem().steps() == 3);
     for (series, wanted) in NUMBERS {
         assert!(rt; numbers_of(picture, series) == wanted, "{series:?}");
@@ -69,41 +59,29 @@ fn has_numbers(rt: &impl Abort, picture: &Picture) {
 
 #[test]
 fn a_picture_has_the_numbers_of_its_plan(rt: HostRuntime) {
-    let picture = picture_of(&rt, rt.alloc());
-    has_numbers(&rt, &picture);
+    has_numbers(&rt, &picture_of(&rt));
 }
 
-// The picture has this verdict, and the parts of the bound.
-fn has_verdict(rt: &impl Abort, picture: &Picture) {
+#[test]
+fn a_picture_has_the_verdict_of_its_plan(rt: HostRuntime) {
+    let picture = picture_of(&rt);
     assert!(rt; picture.verdict() == Verdict::Least(2));
     assert!(rt; picture.parts() == PARTS);
 }
 
 #[test]
-fn a_picture_has_the_verdict_of_its_plan(rt: HostRuntime) {
-    let picture = picture_of(&rt, rt.alloc());
-    has_verdict(&rt, &picture);
-}
-
-// The picture as it is drawn.
-fn drawn(rt: &impl Abort, alloc: Global, picture: &Picture) -> String {
-    let chart = draw(alloc, picture).expect(rt, "memory");
-    String::from_utf8(chart).expect(rt, "UTF-8")
-}
-
-#[test]
 fn a_picture_is_drawn_with_these_lines(rt: HostRuntime) {
-    let picture = picture_of(&rt, rt.alloc());
-    let chart = drawn(&rt, rt.alloc(), &picture);
+    let chart = draw(rt.alloc(), &picture_of(&rt)).expect(&rt, "memory");
+    let chart = String::from_utf8(chart).expect(&rt, "UTF-8");
     has_lines(&rt, chart.as_str(), &SHOWN);
 }
 
 // What a derive shows of the picture's problem, sheet, verdict, volumes and shades.
-fn shown_by_fields(rt: &impl Abort, alloc: Global, picture: &Picture) -> String {
+fn shown_by_fields(rt: &impl Runtime, picture: &Picture) -> String {
     let (problem, verdict) = (picture.problem(), picture.verdict());
-    let sheet = read_sheet(alloc, problem, FIRST_RUN.as_bytes()).expect(rt, "a plan");
-    let volumes = simulate(alloc, problem, sheet.plan()).expect(rt, "memory");
-    let shown = format!(in alloc;
+    let sheet = read_sheet(rt.alloc(), problem, FIRST_RUN.as_bytes()).expect(rt, "a plan");
+    let volumes = simulate(rt.alloc(), problem, sheet.plan()).expect(rt, "memory");
+    let shown = format!(in rt.alloc();
         "Picture {{ problem: {problem:?}, sheet: {sheet:?}, verdict: {verdict:?}, volumes: {volumes:?}, worth: None, shades: [Shade {{ store: 0, channel: 0, first: 1, last: 3 }}] }}"
     );
     shown.expect(rt, "memory")
@@ -111,8 +89,8 @@ fn shown_by_fields(rt: &impl Abort, alloc: Global, picture: &Picture) -> String 
 
 #[test]
 fn a_picture_is_shown_without_its_marks(rt: HostRuntime) {
-    let picture = picture_of(&rt, rt.alloc());
+    let picture = picture_of(&rt);
     let shown = format!(in rt.alloc(); "{picture:?}").expect(&rt, "memory");
-    let wanted = shown_by_fields(&rt, rt.alloc(), &picture);
+    let wanted = shown_by_fields(&rt, &picture);
     assert!(rt; shown.as_str() == wanted.as_str(), "{shown}");
 }

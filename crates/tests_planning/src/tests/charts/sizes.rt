@@ -1,8 +1,6 @@
 //! Charts of the most stores and steps, and of one store and one step.
 use crate::tests::charts::samples::{ONE_STORE, chart_of, has_lines, has_texts};
-use crate::tests::samples::{MILLIONS, alike_steps, joined, numbered, stores_of_size_1};
-use std::alloc::Global;
-use std::process::Abort;
+use crate::tests::samples::{MILLIONS, Runtime, alike_steps, numbered, stores_of_size_1};
 
 // 16 stores of size 1, which are full at the start, on 8 channels with limits.
 pub(crate) const WIDE: &str = stores_of_size_1! {
@@ -12,31 +10,24 @@ pub(crate) const WIDE: &str = stores_of_size_1! {
 };
 
 // 256 steps without a window, in each of which a million blocks come to each store.
-pub(crate) fn most_steps(rt: &impl Abort, alloc: Global) -> String {
+pub(crate) fn most_steps(rt: &impl Runtime) -> String {
     let header =
         "step,window,WIDE-_1,WIDE-_2,WIDE-_3,WIDE-_4,WIDE-_5,WIDE-_6,WIDE-_7,WIDE-_8,WIDE-_9,WIDE-_10,WIDE-_11,WIDE-_12,WIDE-_13,WIDE-_14,WIDE-_15,WIDE-_16\n";
-    alike_steps(rt, alloc, header, 256, MILLIONS)
+    alike_steps(rt, header, 256, MILLIONS)
 }
 
 const NOTHING: &str = " 0 0 0 0 0 0 0 0 0 0 0 0 0 0 0 0\n";
 
 // Nothing leaves, and each step of each store is a stretch.
-pub(crate) fn most_lost(rt: &impl Abort, alloc: Global) -> String {
+pub(crate) fn most_lost(rt: &impl Runtime) -> String {
     let stores =
         "mmplan 1\nstores WIDE-_1 WIDE-_2 WIDE-_3 WIDE-_4 WIDE-_5 WIDE-_6 WIDE-_7 WIDE-_8 WIDE-_9 WIDE-_10 WIDE-_11 WIDE-_12 WIDE-_13 WIDE-_14 WIDE-_15 WIDE-_16\n";
-    let dumps = numbered(rt, alloc, "dump ", 256, NOTHING);
-    let stretches = numbered(rt, alloc, "stretch WIDE-_", 16, " 1 256\n");
-    joined(
-        rt,
-        alloc,
-        &[
-            stores,
-            dumps.as_str(),
-            "loss 4096000000\n",
-            stretches.as_str(),
-            "bound 4096000000\nend\n",
-        ],
-    )
+    let dumps = numbered(rt, "dump ", 256, NOTHING);
+    let stretches = numbered(rt, "stretch WIDE-_", 16, " 1 256\n");
+    let text = format!(in rt.alloc();
+        "{stores}{dumps}loss 4096000000\n{stretches}bound 4096000000\nend\n"
+    );
+    text.expect(rt, "memory")
 }
 
 static LARGE: [&str; 9] = [
@@ -55,8 +46,8 @@ static LARGE: [&str; 9] = [
 // are lost. A step is 768 / 256 = 3 wide.
 #[test]
 fn sixteen_stores_and_256_steps_are_drawn(rt: HostRuntime) {
-    let (forecast, plan) = (most_steps(&rt, rt.alloc()), most_lost(&rt, rt.alloc()));
-    let chart = chart_of(&rt, rt.alloc(), WIDE, forecast.as_str(), plan.as_str());
+    let (forecast, plan) = (most_steps(&rt), most_lost(&rt));
+    let chart = chart_of(&rt, WIDE, forecast.as_str(), plan.as_str());
     has_texts(&rt, chart.as_str(), &LARGE);
 }
 
@@ -78,7 +69,7 @@ static SMALL: [&str; 7] = [
 // Nothing is left in the store.
 #[test]
 fn one_store_and_one_step_are_drawn(rt: HostRuntime) {
-    let chart = chart_of(&rt, rt.alloc(), ONE_STORE, ONE_STEP, TOO_LATE);
+    let chart = chart_of(&rt, ONE_STORE, ONE_STEP, TOO_LATE);
     has_lines(&rt, chart.as_str(), &SMALL);
     assert!(rt; !chart.contains("class='f' d"), "nothing is left");
 }

@@ -2,19 +2,14 @@
 use crate::tests::charts::FAULTY;
 use crate::tests::charts::samples::{is_fault, text_of};
 use crate::tests::charts::sizes::{WIDE, most_lost, most_steps};
-use crate::tests::samples::{FIRST_RUN, SCI, THREE_STEPS};
+use crate::tests::samples::{FIRST_RUN, Runtime, SCI, THREE_STEPS};
 use mm_chart::table_bytes;
-use std::alloc::Global;
-use std::process::Abort;
 
 // The table of these texts.
-fn table_of(rt: &impl Abort, alloc: Global, setup: &str, forecast: &str, plan: &str) -> String {
+fn table_of(rt: &impl Runtime, setup: &str, forecast: &str, plan: &str) -> String {
     let (setup, forecast) = (setup.as_bytes(), forecast.as_bytes());
-    text_of(
-        rt,
-        table_bytes(alloc, setup, forecast, plan.as_bytes()),
-        plan,
-    )
+    let written = table_bytes(rt.alloc(), setup, forecast, plan.as_bytes());
+    text_of(rt, written, plan)
 }
 
 const TWO_STORES: &str =
@@ -65,16 +60,11 @@ static TABLES: [(&str, &str, &str, &str); 4] = tables! {
         "1,1000000,-_9LONG_,1000000,1000000,1000000,0";
 };
 
-// The table is this text.
-fn is_table(rt: &impl Abort, table: &str, wanted: &str) {
-    assert!(rt; table == wanted, "{table}");
-}
-
 #[test]
 fn tables_have_these_records(rt: HostRuntime) {
     for (setup, forecast, plan, wanted) in &TABLES {
-        let table = table_of(&rt, rt.alloc(), setup, forecast, plan);
-        is_table(&rt, table.as_str(), wanted);
+        let table = table_of(&rt, setup, forecast, plan);
+        assert!(rt; table.as_str() == *wanted, "{table}");
     }
 }
 
@@ -87,7 +77,7 @@ static LARGEST: [(usize, Option<&str>); 4] = [
 ];
 
 // The table has these lines at these places.
-fn has_places(rt: &impl Abort, table: &str) {
+fn has_places(rt: &impl Runtime, table: &str) {
     for (place, line) in &LARGEST {
         assert!(rt; table.lines().nth(*place) == *line, "line {place}");
     }
@@ -97,8 +87,8 @@ fn has_places(rt: &impl Abort, table: &str) {
 // store stands where it is due.
 #[test]
 fn sixteen_stores_and_256_steps_have_4096_records(rt: HostRuntime) {
-    let (forecast, plan) = (most_steps(&rt, rt.alloc()), most_lost(&rt, rt.alloc()));
-    let table = table_of(&rt, rt.alloc(), WIDE, forecast.as_str(), plan.as_str());
+    let (forecast, plan) = (most_steps(&rt), most_lost(&rt));
+    let table = table_of(&rt, WIDE, forecast.as_str(), plan.as_str());
     has_places(&rt, table.as_str());
 }
 

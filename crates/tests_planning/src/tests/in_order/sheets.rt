@@ -1,9 +1,8 @@
 //! Plan texts of the third form: how they are read, printed and refused.
 use crate::tests::in_order::{COUNTS_IN_ORDER, THREE_IN_ORDER};
 use crate::tests::plans::sheets::{are_refused, is_refused, prefixes_refused, read_and_printed};
-use crate::tests::samples::{repeated, sheet_of};
+use crate::tests::samples::{Runtime, repeated, sheet_of};
 use mm_plan::{Certificate, Sheet};
-use std::process::Abort;
 
 // Three stores that lose nothing.
 const NO_LOSS: &[u8] =
@@ -11,121 +10,72 @@ const NO_LOSS: &[u8] =
 
 #[test]
 fn sheets_in_order_are_printed_as_they_are_read(rt: HostRuntime) {
-    read_and_printed(&rt, rt.alloc(), THREE_IN_ORDER, THREE_IN_ORDER);
-    read_and_printed(&rt, rt.alloc(), COUNTS_IN_ORDER, COUNTS_IN_ORDER);
+    read_and_printed(&rt, THREE_IN_ORDER, THREE_IN_ORDER);
+    read_and_printed(&rt, COUNTS_IN_ORDER, COUNTS_IN_ORDER);
 }
 
 // What a certificate says: its loss, its bound, and how many stretches and counts it has.
-fn said(certificate: &Certificate) -> (u64, i64, usize, usize) {
-    (
-        certificate.loss(),
-        certificate.bound(),
-        certificate.cut().len(),
-        certificate.by_channels().len(),
-    )
+fn says(rt: &impl Runtime, certificate: &Certificate, wanted: (u64, i64, usize, usize)) {
+    let (cut, counts) = (certificate.cut().len(), certificate.by_channels().len());
+    assert!(rt; (certificate.loss(), certificate.bound(), cut, counts) == wanted);
 }
 
 // The sheet has a certificate of its own, and one of the first store and of the first two.
-fn has_parts(rt: &impl Abort, sheet: &Sheet) {
+fn has_parts(rt: &impl Runtime, sheet: &Sheet) {
     let firsts = sheet.firsts().expect(rt, "certificates");
     assert!(rt; (sheet.loss(), sheet.bound(), sheet.cut().len()) == (6, 6, 3));
     assert!(rt; firsts.len() == 2);
-    assert!(rt; said(&firsts[0]) == (2, 2, 1, 0));
-    assert!(rt; said(&firsts[1]) == (4, 4, 2, 0));
+    says(rt, &firsts[0], (2, 2, 1, 0));
+    says(rt, &firsts[1], (4, 4, 2, 0));
 }
 
 #[test]
 fn three_in_order_are_read(rt: HostRuntime) {
-    let sheet = sheet_of(&rt, rt.alloc(), THREE_IN_ORDER);
-    has_parts(&rt, &sheet);
+    has_parts(&rt, &sheet_of(&rt, THREE_IN_ORDER));
 }
 
 // Each text with the line of its refusal; 0 where it is a sheet's.
-static REFUSED: [(&[u8], u32); 19] = [
-    (NO_LOSS, 0),
+static REFUSED: [(&[u8], u32); 19] = wanted! {
+    NO_LOSS => 0;
     // one store has no part, and may have a count
-    (b"mmplan 3\nstores A\ndump 1 0\nloss 0\nbound 0\nend\n", 0),
-    (
-        b"mmplan 3\nstores A\ndump 1 0\nloss 0\ncount 1 channels\nbound 0\nend\n",
-        0,
-    ),
-    (
-        b"mmplan 3\nstores A\ndump 1 0\nloss 0\nbound 0\nfirst 1\nloss 0\nbound 0\nend\n",
-        6,
-    ),
+    b"mmplan 3\nstores A\ndump 1 0\nloss 0\nbound 0\nend\n" => 0;
+    b"mmplan 3\nstores A\ndump 1 0\nloss 0\ncount 1 channels\nbound 0\nend\n" => 0;
+    b"mmplan 3\nstores A\ndump 1 0\nloss 0\nbound 0\nfirst 1\nloss 0\nbound 0\nend\n" => 6;
     // the second part before the first
-    (
-        b"mmplan 3\nstores A B C\ndump 1 0 0 0\nloss 0\nbound 0\nfirst 2\nloss 0\nbound 0\nfirst 1\nloss 0\nbound 0\nend\n",
-        6,
-    ),
+    b"mmplan 3\nstores A B C\ndump 1 0 0 0\nloss 0\nbound 0\nfirst 2\nloss 0\nbound 0\nfirst 1\nloss 0\nbound 0\nend\n"
+    => 6;
     // too few parts
-    (
-        b"mmplan 3\nstores A B C\ndump 1 0 0 0\nloss 0\nbound 0\nend\n",
-        6,
-    ),
-    (
-        b"mmplan 3\nstores A B C\ndump 1 0 0 0\nloss 0\nbound 0\nfirst 1\nloss 0\nbound 0\nend\n",
-        9,
-    ),
+    b"mmplan 3\nstores A B C\ndump 1 0 0 0\nloss 0\nbound 0\nend\n" => 6;
+    b"mmplan 3\nstores A B C\ndump 1 0 0 0\nloss 0\nbound 0\nfirst 1\nloss 0\nbound 0\nend\n" => 9;
     // one part too many
-    (
-        b"mmplan 3\nstores A B C\ndump 1 0 0 0\nloss 0\nbound 0\nfirst 1\nloss 0\nbound 0\nfirst 2\nloss 0\nbound 0\nfirst 3\nloss 0\nbound 0\nend\n",
-        12,
-    ),
+    b"mmplan 3\nstores A B C\ndump 1 0 0 0\nloss 0\nbound 0\nfirst 1\nloss 0\nbound 0\nfirst 2\nloss 0\nbound 0\nfirst 3\nloss 0\nbound 0\nend\n"
+    => 12;
     // a part twice
-    (
-        b"mmplan 3\nstores A B C\ndump 1 0 0 0\nloss 0\nbound 0\nfirst 1\nloss 0\nbound 0\nfirst 1\nloss 0\nbound 0\nend\n",
-        9,
-    ),
-    (
-        b"mmplan 3\nstores A B\ndump 1 0 0\nloss 0\nbound 0\nfirst 0\nloss 0\nbound 0\nend\n",
-        6,
-    ),
-    (
-        b"mmplan 3\nstores A B\ndump 1 0 0\nloss 0\nbound 0\nfirst 01\nloss 0\nbound 0\nend\n",
-        6,
-    ),
+    b"mmplan 3\nstores A B C\ndump 1 0 0 0\nloss 0\nbound 0\nfirst 1\nloss 0\nbound 0\nfirst 1\nloss 0\nbound 0\nend\n"
+    => 9;
+    b"mmplan 3\nstores A B\ndump 1 0 0\nloss 0\nbound 0\nfirst 0\nloss 0\nbound 0\nend\n" => 6;
+    b"mmplan 3\nstores A B\ndump 1 0 0\nloss 0\nbound 0\nfirst 01\nloss 0\nbound 0\nend\n" => 6;
     // a part in the other forms
-    (
-        b"mmplan 1\nstores A B\ndump 1 0 0\nloss 0\nbound 0\nfirst 1\nloss 0\nbound 0\nend\n",
-        6,
-    ),
-    (
-        b"mmplan 2\nstores A B\ndump 1 0 0\nloss 0\ncount 1 channels\nbound 0\nfirst 1\nloss 0\nbound 0\nend\n",
-        7,
-    ),
-    (b"mmplan 4\nstores A\ndump 1 0\nloss 0\nbound 0\nend\n", 1),
+    b"mmplan 1\nstores A B\ndump 1 0 0\nloss 0\nbound 0\nfirst 1\nloss 0\nbound 0\nend\n" => 6;
+    b"mmplan 2\nstores A B\ndump 1 0 0\nloss 0\ncount 1 channels\nbound 0\nfirst 1\nloss 0\nbound 0\nend\n" => 7;
+    b"mmplan 4\nstores A\ndump 1 0\nloss 0\nbound 0\nend\n" => 1;
     // a part before the certificate of all stores, without its loss, without its bound, and with a stretch after a count
-    (
-        b"mmplan 3\nstores A B\ndump 1 0 0\nfirst 1\nloss 0\nbound 0\nloss 0\nbound 0\nend\n",
-        4,
-    ),
-    (
-        b"mmplan 3\nstores A B\ndump 1 0 0\nloss 0\nbound 0\nfirst 1\nbound 0\nend\n",
-        7,
-    ),
-    (
-        b"mmplan 3\nstores A B\ndump 1 0 0\nloss 0\nbound 0\nfirst 1\nloss 0\nend\n",
-        8,
-    ),
-    (
-        b"mmplan 3\nstores A B\ndump 1 0 0\nloss 0\nbound 0\nfirst 1\nloss 0\ncount 1 channels\nstretch A 1 1\nbound 0\nend\n",
-        9,
-    ),
-    (
-        b"mmplan 3\nstores A B\ndump 1 0 0\nloss 0\nbound 0\nfirst 1\nloss 0\nbound 0\nend\nend\n",
-        10,
-    ),
-];
+    b"mmplan 3\nstores A B\ndump 1 0 0\nfirst 1\nloss 0\nbound 0\nloss 0\nbound 0\nend\n" => 4;
+    b"mmplan 3\nstores A B\ndump 1 0 0\nloss 0\nbound 0\nfirst 1\nbound 0\nend\n" => 7;
+    b"mmplan 3\nstores A B\ndump 1 0 0\nloss 0\nbound 0\nfirst 1\nloss 0\nend\n" => 8;
+    b"mmplan 3\nstores A B\ndump 1 0 0\nloss 0\nbound 0\nfirst 1\nloss 0\ncount 1 channels\nstretch A 1 1\nbound 0\nend\n"
+    => 9;
+    b"mmplan 3\nstores A B\ndump 1 0 0\nloss 0\nbound 0\nfirst 1\nloss 0\nbound 0\nend\nend\n" => 10;
+};
 
 #[test]
 fn texts_in_order_refused(rt: HostRuntime) {
-    are_refused(&rt, rt.alloc(), &REFUSED);
+    are_refused(&rt, &REFUSED);
 }
 
 #[test]
 fn prefixes_of_a_text_in_order_are_refused(rt: HostRuntime) {
-    prefixes_refused(&rt, rt.alloc(), NO_LOSS);
+    prefixes_refused(&rt, NO_LOSS);
 }
 
 // The certificate of all stores has a count, and that of the first none yet.
@@ -138,14 +88,7 @@ static REPEATED: [(usize, &str, u32); 2] = [(256, "bound 0\nend\n", 0), (257, ""
 #[test]
 fn each_certificate_may_have_256_counts(rt: HostRuntime) {
     for (count, end, wanted) in &REPEATED {
-        let text = repeated(
-            &rt,
-            rt.alloc(),
-            TO_COUNTS,
-            "count 1 channels\n",
-            *count,
-            end,
-        );
-        is_refused(&rt, rt.alloc(), text.as_bytes(), *wanted);
+        let text = repeated(&rt, TO_COUNTS, "count 1 channels\n", *count, end);
+        is_refused(&rt, text.as_bytes(), *wanted);
     }
 }

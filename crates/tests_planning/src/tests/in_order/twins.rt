@@ -2,23 +2,20 @@
 ghost use Rattle.std.specs.Prelude.{◌≤◌, length};
 ghost use Rattle.mm_plan.specs.Table.{HasShape};
 
-use crate::tests::samples::{joined, problem_of};
-use crate::tests::twins::proposals::{FAMILIES, Numbers, Shape, limited_by_step, made_problem};
-use crate::tests::twins::{FORECASTS, LIMITS, STORES};
+use crate::tests::samples::{Runtime, is_least, limited, made};
+use crate::tests::twins::proposals::{FAMILIES, Numbers};
+use crate::tests::twins::small_problems;
 use crate::tests::worths;
 use mm_cut::{Verdict, verdict_of};
-use mm_exhaustive::plan_below;
-use mm_plan::{Certificate, Plan, Sheet, first_loss};
+use mm_plan::{Plan, Sheet, first_loss};
 use mm_planner::{plan, plan_in_order_by_flow, sheet_in_order};
 use mm_problem::{Kind, MAX_BLOCKS, Problem, StoreRow};
-use std::alloc::Global;
-use std::process::Abort;
 
 // So many of the problem's stores.
-fn first_rows(rt: &impl Abort, alloc: Global, problem: &Problem, stores: usize) -> Vec<StoreRow>
+fn first_rows(rt: &impl Runtime, problem: &Problem, stores: usize) -> Vec<StoreRow>
     requires { stores ≤ length problem.now.rows }
 {
-    let mut rows = Vec::new(alloc);
+    let mut rows = Vec::new(rt.alloc());
     for store in 0..stores {
         let row = StoreRow {
             id: problem.id(store),
@@ -32,8 +29,8 @@ fn first_rows(rt: &impl Abort, alloc: Global, problem: &Problem, stores: usize) 
     rows
 }
 
-fn windows(rt: &impl Abort, alloc: Global, problem: &Problem) -> Vec<u32> {
-    let mut windows = Vec::new(alloc);
+fn windows(rt: &impl Runtime, problem: &Problem) -> Vec<u32> {
+    let mut windows = Vec::new(rt.alloc());
     for step in 1..problem.steps() + 1 {
         windows.push(problem.window(step)).expect(rt, "memory");
     }
@@ -41,16 +38,10 @@ fn windows(rt: &impl Abort, alloc: Global, problem: &Problem) -> Vec<u32> {
 }
 
 // What comes to so many of the stores, where it comes only to so many of these.
-fn first_arrivals(
-    rt: &impl Abort,
-    alloc: Global,
-    problem: &Problem,
-    stores: usize,
-    served: usize,
-) -> Vec<u32>
+fn first_arrivals(rt: &impl Runtime, problem: &Problem, stores: usize, served: usize) -> Vec<u32>
     requires { stores ≤ length problem.now.rows }
 {
-    let mut arrivals = Vec::new(alloc);
+    let mut arrivals = Vec::new(rt.alloc());
     for step in 1..problem.steps() + 1 {
         for store in 0..stores {
             let is_served = store < served;
@@ -63,119 +54,81 @@ fn first_arrivals(
 }
 
 // The problem with the limits of another one in each step.
-fn limited_as(rt: &impl Abort, alloc: Global, problem: &Problem, other: &Problem) -> Problem {
-    let mut channels = Vec::new(alloc);
+fn limited_as(rt: &impl Runtime, problem: &Problem, other: &Problem) -> Problem {
+    let mut channels = Vec::new(rt.alloc());
     for channel in 0..8u8 {
         if other.setup_limit(channel).is_some() || other.limited().contains(&channel) {
             channels.push(channel).expect(rt, "memory");
         }
     }
-    let mut limits = Vec::new(alloc);
+    let mut limits = Vec::new(rt.alloc());
     for step in 1..other.steps() + 1 {
         for channel in channels.iter() {
             let blocks = other.limit(*channel, step).unwrap_or(MAX_BLOCKS);
             limits.push(blocks).expect(rt, "memory");
         }
     }
-    let limited = problem.with_step_limits(alloc, channels.as_slice(), limits.as_slice());
-    limited.expect(rt, "a problem")
+    limited(rt, problem, &channels, &limits)
 }
 
 // The problem with so many of its stores, where blocks come only to so many of these.
-fn narrowed(
-    rt: &impl Abort,
-    alloc: Global,
-    problem: &Problem,
-    stores: usize,
-    served: usize,
-) -> Problem
+fn narrowed(rt: &impl Runtime, problem: &Problem, stores: usize, served: usize) -> Problem
     requires { stores ≤ length problem.now.rows }
 {
-    let rows = first_rows(rt, alloc, problem, stores);
-    let windows = windows(rt, alloc, problem);
-    let arrivals = first_arrivals(rt, alloc, problem, stores, served);
-    let (rows, windows) = (rows.as_slice(), windows.as_slice());
-    let narrow = Problem::new(alloc, rows, &[], windows, arrivals.as_slice());
-    limited_as(rt, alloc, &narrow.expect(rt, "a problem"), problem)
+    let rows = first_rows(rt, problem, stores);
+    let windows = windows(rt, problem);
+    let arrivals = first_arrivals(rt, problem, stores, served);
+    let narrow = made(rt, &rows, &[], &windows, &arrivals);
+    limited_as(rt, &narrow, problem)
 }
 
 // What is planned in order: its certificates show that it loses least so.
-fn planned(rt: &impl Abort, alloc: Global, problem: &Problem) -> Sheet
+fn planned(rt: &impl Runtime, problem: &Problem) -> Sheet
     ensures { HasShape problem.now result.plan }
 {
-    let sheet = sheet_in_order(alloc, problem).expect(rt, "memory");
+    let sheet = sheet_in_order(rt.alloc(), problem).expect(rt, "memory");
     assert!(rt; sheet.plan().has_shape(problem));
     let verdict = verdict_of(problem, &sheet);
-    assert!(rt;
-        verdict == Verdict::LeastInOrder(sheet.loss()),
-        "{verdict:?}"
-    );
+    let least = Verdict::LeastInOrder(sheet.loss());
+    assert!(rt; verdict == least, "{verdict:?}");
     sheet
 }
 
 // Of all plans none that fits loses less of so many of the first stores, and one loses as much. Where nothing comes to the other stores
 // these lose nothing, and a plan loses what it loses of the first.
-fn is_least_of_all_plans(
-    rt: &impl Abort,
-    alloc: Global,
-    problem: &Problem,
-    plan: &Plan,
-    stores: usize,
-)
+fn is_least_of_all_plans(rt: &impl Runtime, problem: &Problem, plan: &Plan, stores: usize)
     requires shape { HasShape problem.now plan.now }
     requires stores { stores ≤ length problem.now.rows }
 {
     let loss = first_loss(problem, plan, stores);
-    let quiet = narrowed(rt, alloc, problem, problem.stores(), stores);
-    let less = plan_below(alloc, &quiet, loss).expect(rt, "memory");
-    let more = plan_below(alloc, &quiet, loss.saturating_add(1)).expect(rt, "memory");
-    let is_least = less.is_none() && more.is_some();
-    assert!(rt; is_least, "{stores} stores lose {loss}");
-}
-
-// What the certificates say that the first stores lose.
-fn losses(rt: &impl Abort, alloc: Global, firsts: &[Certificate]) -> Vec<u64> {
-    let mut losses = Vec::new(alloc);
-    for first in firsts {
-        losses.push(first.loss()).expect(rt, "memory");
-    }
-    losses
+    let quiet = narrowed(rt, problem, problem.stores(), stores);
+    is_least(rt, &quiet, loss);
 }
 
 // By the network alone as much is lost, of all stores and of the first ones.
-fn is_planned_alike_by_flow(rt: &impl Abort, alloc: Global, problem: &Problem, sheet: &Sheet) {
-    let by_flow = plan_in_order_by_flow(alloc, problem).expect(rt, "memory");
+fn is_planned_alike_by_flow(rt: &impl Runtime, problem: &Problem, sheet: &Sheet) {
+    let by_flow = plan_in_order_by_flow(rt.alloc(), problem).expect(rt, "memory");
     let firsts = sheet.firsts().expect(rt, "certificates");
-    let found = losses(rt, alloc, by_flow.firsts.as_slice());
-    let wanted = losses(rt, alloc, firsts);
-    assert!(rt; by_flow.planned.loss == sheet.loss());
-    assert!(rt; found.as_slice() == wanted.as_slice());
-}
-
-// So it is for the first store, the first two and so on.
-fn are_least_of_all_plans(rt: &impl Abort, alloc: Global, problem: &Problem) {
-    let sheet = planned(rt, alloc, problem);
-    is_planned_alike_by_flow(rt, alloc, problem, &sheet);
-    for last in 0..problem.stores() {
-        is_least_of_all_plans(rt, alloc, problem, sheet.plan(), last + 1);
+    let found = (by_flow.planned.loss, by_flow.firsts.len());
+    assert!(rt; found == (sheet.loss(), firsts.len()));
+    for (found, wanted) in by_flow.firsts.iter().zip(firsts.iter()) {
+        assert!(rt; found.loss() == wanted.loss());
     }
 }
 
-// So it is with these stores and this limit.
-fn are_least(rt: &impl Abort, alloc: Global, stores: &str, limit: &str) {
-    let setup = joined(rt, alloc, &[stores, limit]);
-    for forecast in &FORECASTS {
-        let problem = problem_of(rt, alloc, setup.as_str(), forecast);
-        are_least_of_all_plans(rt, alloc, &problem);
+// So it is for the first store, the first two and so on.
+fn are_least_of_all_plans(rt: &impl Runtime, problem: &Problem) {
+    let sheet = planned(rt, problem);
+    is_planned_alike_by_flow(rt, problem, &sheet);
+    for last in 0..problem.stores() {
+        is_least_of_all_plans(rt, problem, sheet.plan(), last + 1);
     }
 }
 
 #[test]
 fn the_first_stores_lose_no_more_than_by_the_best_of_all_plans(rt: HostRuntime) {
-    for stores in &STORES {
-        for limit in &LIMITS {
-            are_least(&rt, rt.alloc(), stores, limit);
-        }
+    for problem in small_problems(&rt).iter() {
+        are_least_of_all_plans(&rt, problem);
     }
 }
 
@@ -183,73 +136,58 @@ fn the_first_stores_lose_no_more_than_by_the_best_of_all_plans(rt: HostRuntime) 
 fn the_first_of_three_stores_lose_no_more_than_by_all_plans(rt: HostRuntime) {
     let mut state = 17;
     for _ in 0..16u32 {
-        let numbers = worths::Numbers::made(&rt, rt.alloc(), &mut state, 3, 2);
-        let problem = numbers.problem(&rt, rt.alloc());
-        are_least_of_all_plans(&rt, rt.alloc(), &problem);
+        let numbers = worths::Numbers::made(&rt, &mut state, 3, 2);
+        let problem = numbers.problem(&rt);
+        are_least_of_all_plans(&rt, &problem);
     }
 }
 
 // So many of the first stores lose what the best plan of these stores alone loses.
-fn is_least_alone(rt: &impl Abort, alloc: Global, problem: &Problem, ordered: &Plan, stores: usize)
+fn is_least_alone(rt: &impl Runtime, problem: &Problem, ordered: &Plan, stores: usize)
     requires shape { HasShape problem.now ordered.now }
     requires stores { stores ≤ length problem.now.rows }
 {
-    let alone = narrowed(rt, alloc, problem, stores, stores);
-    let least = plan(alloc, &alone).expect(rt, "memory").loss;
+    let alone = narrowed(rt, problem, stores, stores);
+    let least = plan(rt.alloc(), &alone).expect(rt, "memory").loss;
     let loss = first_loss(problem, ordered, stores);
     assert!(rt; loss == least, "{stores} stores lose {loss}");
 }
 
 // So it is for the first store, the first two and so on. Answers whether the plan without order loses more of some of these.
-fn are_least_alone(rt: &impl Abort, alloc: Global, problem: &Problem) -> bool {
-    let sheet = planned(rt, alloc, problem);
-    let unordered = plan(alloc, problem).expect(rt, "memory").plan;
+fn are_least_alone(rt: &impl Runtime, problem: &Problem) -> bool {
+    let sheet = planned(rt, problem);
+    let unordered = plan(rt.alloc(), problem).expect(rt, "memory").plan;
     assert!(rt; unordered.has_shape(problem));
     let mut is_other = false;
     for last in 0..problem.stores() {
-        is_least_alone(rt, alloc, problem, sheet.plan(), last + 1);
+        is_least_alone(rt, problem, sheet.plan(), last + 1);
         let loss = first_loss(problem, sheet.plan(), last + 1);
         is_other = is_other || first_loss(problem, &unordered, last + 1) != loss;
     }
     is_other
 }
 
-// A shape of up to 16 stores.
-fn shape(numbers: &mut Numbers) -> Shape {
-    Shape {
-        stores: numbers.from(1, 15),
-        steps: numbers.from(2, 14),
-        channels: numbers.channels(),
+// So it is in problems of each family, with limits of each step or without.
+fn of_each_family_are_least_alone(rt: &impl Runtime, seed: u64, is_limited: bool) {
+    let mut numbers = Numbers::seeded(seed);
+    let mut others: u32 = 0;
+    for _ in 0..8u32 {
+        for family in &FAMILIES {
+            let shape = numbers.shape(1, 14, is_limited);
+            let problem = family.problem(rt, shape, &mut numbers);
+            let is_other = are_least_alone(rt, &problem);
+            others = others.saturating_add(u32::from(is_other));
+        }
     }
+    assert!(rt; others > 4, "{others}");
 }
 
 #[test]
 fn the_first_stores_lose_what_they_lose_alone(rt: HostRuntime) {
-    let mut numbers = Numbers::seeded(331);
-    let mut others: u32 = 0;
-    for _ in 0..8u32 {
-        for family in &FAMILIES {
-            let shape = shape(&mut numbers);
-            let problem = made_problem(&rt, rt.alloc(), family, shape, &mut numbers);
-            let is_other = are_least_alone(&rt, rt.alloc(), &problem);
-            others = others.saturating_add(u32::from(is_other));
-        }
-    }
-    assert!(&rt; others > 4, "{others}");
+    of_each_family_are_least_alone(&rt, 331, false);
 }
 
 #[test]
 fn with_limits_by_step_they_lose_what_they_lose_alone(rt: HostRuntime) {
-    let mut numbers = Numbers::seeded(337);
-    let mut others: u32 = 0;
-    for _ in 0..8u32 {
-        for family in &FAMILIES {
-            let shape = shape(&mut numbers);
-            let problem = made_problem(&rt, rt.alloc(), family, shape, &mut numbers);
-            let limited = limited_by_step(&rt, rt.alloc(), &problem, &mut numbers);
-            let is_other = are_least_alone(&rt, rt.alloc(), &limited);
-            others = others.saturating_add(u32::from(is_other));
-        }
-    }
-    assert!(&rt; others > 4, "{others}");
+    of_each_family_are_least_alone(&rt, 337, true);
 }

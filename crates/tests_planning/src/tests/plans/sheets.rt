@@ -1,8 +1,7 @@
 //! Plan texts: how they are read, printed and refused.
-use crate::tests::samples::{CHANNEL_LIMIT_CUT, FIRST_RUN, joined, numbered, repeated, sheet_of};
+use crate::tests::samples::{CHANNEL_LIMIT_CUT, FIRST_RUN, Runtime, numbered, repeated, sheet_of};
 use mm_plan::{Fault, Sheet};
 use std::alloc::Global;
-use std::process::Abort;
 
 // The line of the refusal; 0 where the text is a sheet's.
 fn line_of(alloc: Global, text: &[u8]) -> u32 {
@@ -14,12 +13,12 @@ fn line_of(alloc: Global, text: &[u8]) -> u32 {
 }
 
 // The text is refused with this line; 0 where it is a sheet's.
-pub(crate) fn is_refused(rt: &impl Abort, alloc: Global, text: &[u8], line: u32) {
-    assert!(rt; line_of(alloc, text) == line, "line {line}");
+pub(crate) fn is_refused(rt: &impl Runtime, text: &[u8], line: u32) {
+    assert!(rt; line_of(rt.alloc(), text) == line, "line {line}");
 }
 
 // The sheet has one store and one stretch, no counted step, and a loss and a bound of 2.
-fn has_one_of_each(rt: &impl Abort, sheet: &Sheet) {
+fn has_one_of_each(rt: &impl Runtime, sheet: &Sheet) {
     assert!(rt; (sheet.loss(), sheet.bound(), sheet.by_channels().len()) == (2, 2, 0));
     let (stores, cut) = (sheet.stores(), sheet.cut());
     assert!(rt; stores.len() == 1 && cut.len() == 1);
@@ -29,38 +28,20 @@ fn has_one_of_each(rt: &impl Abort, sheet: &Sheet) {
 
 #[test]
 fn first_run_is_read(rt: HostRuntime) {
-    let sheet = sheet_of(&rt, rt.alloc(), FIRST_RUN);
-    has_one_of_each(&rt, &sheet);
-}
-
-// The sheet has a loss of 2, and one counted step.
-fn has_one_count(rt: &impl Abort, sheet: &Sheet) {
-    assert!(rt; sheet.loss() == 2);
-    assert!(rt; sheet.by_channels() == [1].as_slice());
+    has_one_of_each(&rt, &sheet_of(&rt, FIRST_RUN));
 }
 
 #[test]
 fn channel_limit_cut_is_read(rt: HostRuntime) {
-    let sheet = sheet_of(&rt, rt.alloc(), CHANNEL_LIMIT_CUT);
-    has_one_count(&rt, &sheet);
-}
-
-// The sheet is printed so.
-fn is_printed(rt: &impl Abort, alloc: Global, sheet: &Sheet, printed: &str) {
-    let text = sheet.print(alloc).expect(rt, "memory");
-    assert!(rt; text.as_slice() == printed.as_bytes());
+    let sheet = sheet_of(&rt, CHANNEL_LIMIT_CUT);
+    assert!(rt; sheet.loss() == 2);
+    assert!(rt; sheet.by_channels() == [1].as_slice());
 }
 
 // The text is a sheet's, and the sheet is printed as this one.
-pub(crate) fn read_and_printed(rt: &impl Abort, alloc: Global, text: &str, printed: &str) {
-    let sheet = sheet_of(rt, alloc, text);
-    is_printed(rt, alloc, &sheet, printed);
-}
-
-#[test]
-fn printed_sheets_are_read_again(rt: HostRuntime) {
-    read_and_printed(&rt, rt.alloc(), FIRST_RUN, FIRST_RUN);
-    read_and_printed(&rt, rt.alloc(), CHANNEL_LIMIT_CUT, CHANNEL_LIMIT_CUT);
+pub(crate) fn read_and_printed(rt: &impl Runtime, text: &str, printed: &str) {
+    let text = sheet_of(rt, text).print(rt.alloc()).expect(rt, "memory");
+    assert!(rt; text.as_slice() == printed.as_bytes(), "{printed}");
 }
 
 const IN_ANY_ORDER: &str =
@@ -70,8 +51,10 @@ const IN_ORDER: &str =
     "mmplan 2\nstores B A\ndump 1 0 0\nloss 0\nstretch B 1 2\nstretch B 1 9\nstretch B 3 4\nstretch A 1 1\ncount 2 channels\ncount 7 channels\nbound -5\nend\n";
 
 #[test]
-fn stretches_and_counts_are_printed_in_order(rt: HostRuntime) {
-    read_and_printed(&rt, rt.alloc(), IN_ANY_ORDER, IN_ORDER);
+fn sheets_are_printed_in_order(rt: HostRuntime) {
+    read_and_printed(&rt, FIRST_RUN, FIRST_RUN);
+    read_and_printed(&rt, CHANNEL_LIMIT_CUT, CHANNEL_LIMIT_CUT);
+    read_and_printed(&rt, IN_ANY_ORDER, IN_ORDER);
 }
 
 static READ: [(&[u8], &str); 8] = wanted! {
@@ -155,41 +138,32 @@ static REFUSED: [(&[u8], u32); 52] = wanted! {
 };
 
 // Each text is refused with its line.
-pub(crate) fn are_refused(rt: &impl Abort, alloc: Global, rows: &[(&[u8], u32)]) {
+pub(crate) fn are_refused(rt: &impl Runtime, rows: &[(&[u8], u32)]) {
     for (text, line) in rows {
-        is_refused(rt, alloc, text, *line);
+        is_refused(rt, text, *line);
     }
 }
 
 #[test]
 fn sheet_text_refused(rt: HostRuntime) {
-    are_refused(&rt, rt.alloc(), &REFUSED);
-}
-
-// How many line feeds there are.
-fn line_feeds(text: &[u8]) -> u32 {
-    let mut count: u32 = 0;
-    for octet in text {
-        if *octet == b'\n' {
-            count = count.saturating_add(1);
-        }
-    }
-    count
+    are_refused(&rt, &REFUSED);
 }
 
 // Each proper prefix is refused with the line on which it ends.
-pub(crate) fn prefixes_refused(rt: &impl Abort, alloc: Global, text: &[u8]) {
+pub(crate) fn prefixes_refused(rt: &impl Runtime, text: &[u8]) {
+    let mut line: u32 = 1;
     for len in 0..text.len() {
-        let prefix = &text[..len];
-        let last = line_feeds(prefix).saturating_add(1);
-        is_refused(rt, alloc, prefix, last);
+        is_refused(rt, &text[..len], line);
+        if text[len] == b'\n' {
+            line = line.saturating_add(1);
+        }
     }
 }
 
 #[test]
 fn each_proper_prefix_is_refused(rt: HostRuntime) {
-    prefixes_refused(&rt, rt.alloc(), FIRST_RUN.as_bytes());
-    prefixes_refused(&rt, rt.alloc(), CHANNEL_LIMIT_CUT.as_bytes());
+    prefixes_refused(&rt, FIRST_RUN.as_bytes());
+    prefixes_refused(&rt, CHANNEL_LIMIT_CUT.as_bytes());
 }
 
 const FIRST_FORM: &str = "mmplan 1\nstores A\ndump 1 0\nloss 0\n";
@@ -209,25 +183,20 @@ static REPEATED: [(&str, &str, usize, &str, u32); 4] = [
 #[test]
 fn only_so_many_lines_are_taken(rt: HostRuntime) {
     for (head, line, count, end, wanted) in &REPEATED {
-        let text = repeated(&rt, rt.alloc(), head, line, *count, end);
-        is_refused(&rt, rt.alloc(), text.as_bytes(), *wanted);
+        let text = repeated(&rt, head, line, *count, end);
+        is_refused(&rt, text.as_bytes(), *wanted);
     }
 }
 
 // What follows the lines of 256 steps, and the line of the refusal.
 static AFTER_256_STEPS: [(&str, u32); 2] = [("loss 0\nbound 0\nend\n", 0), ("dump 257 0\n", 259)];
 
-// The text of these steps, with what follows them, is refused with this line; 0 where it is a sheet's.
-fn ends_so(rt: &impl Abort, alloc: Global, steps: &str, end: &str, wanted: u32) {
-    let text = joined(rt, alloc, &["mmplan 1\nstores A\n", steps, end]);
-    is_refused(rt, alloc, text.as_bytes(), wanted);
-}
-
 #[test]
 fn only_256_steps_are_taken(rt: HostRuntime) {
-    let steps = numbered(&rt, rt.alloc(), "dump ", 256, " 0\n");
+    let steps = numbered(&rt, "dump ", 256, " 0\n");
     for (end, wanted) in &AFTER_256_STEPS {
-        ends_so(&rt, rt.alloc(), steps.as_str(), end, *wanted);
+        let text = format!(in rt.alloc(); "mmplan 1\nstores A\n{steps}{end}");
+        is_refused(&rt, text.expect(&rt, "memory").as_bytes(), *wanted);
     }
 }
 

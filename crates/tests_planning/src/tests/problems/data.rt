@@ -1,9 +1,7 @@
 //! Problems from data: each is what the texts of the same data say, or is refused with the fault that it must give.
 use super::is_shown;
-use crate::tests::samples::{id, problem_of};
-use mm_problem::{Fault, Kind, LimitRow, Problem, Setup, StoreRow};
-use std::alloc::Global;
-use std::process::Abort;
+use crate::tests::samples::{Runtime, limited, made, problem_of, row};
+use mm_problem::{Fault, LimitRow, Problem, Setup};
 
 const SETUP: &str = "[[store]]\nid = \"SCI\"\nsize = 4\ntype = \"bounded\"\nchannel = 0\n\
     [[store]]\nid = \"HK\"\nsize = 9\ntype = \"circular\"\nchannel = 3\nstart = 2\n\
@@ -16,38 +14,27 @@ static WINDOWS: [u32; 3] = [7, 0, 1_000_000];
 static ARRIVALS: [u32; 6] = [3, 1, 0, 8, 5, 6];
 
 // What a problem is seen as, for a test.
-fn seen(rt: &impl Abort, alloc: Global, problem: &Problem) -> String {
-    format!(in alloc; "{problem:?}").expect(rt, "memory")
+fn seen(rt: &impl Runtime, problem: &Problem) -> String {
+    format!(in rt.alloc(); "{problem:?}").expect(rt, "memory")
 }
 
 // The problem is the one that these texts say.
-fn is_said(rt: &impl Abort, alloc: Global, problem: &Problem, setup: &str, forecast: &str) {
-    let said = problem_of(rt, alloc, setup, forecast);
-    let wanted = seen(rt, alloc, &said);
-    assert!(rt; seen(rt, alloc, problem).as_str() == wanted.as_str());
+fn is_said(rt: &impl Runtime, problem: &Problem, setup: &str, forecast: &str) {
+    let said = problem_of(rt, setup, forecast);
+    let wanted = seen(rt, &said);
+    assert!(rt; seen(rt, problem).as_str() == wanted.as_str());
 }
 
 // The problem of the stores and limits of a setup, and of the steps as data.
-fn from_data(rt: &impl Abort, alloc: Global) -> Problem {
-    let setup = Setup::read(alloc, SETUP.as_bytes()).expect(rt, "a setup");
-    let (stores, limits) = (setup.stores(), setup.limits());
-    Problem::new(alloc, stores, limits, &WINDOWS, &ARRIVALS).expect(rt, "a problem")
+fn from_data(rt: &impl Runtime) -> Problem {
+    let setup = Setup::read(rt.alloc(), SETUP.as_bytes()).expect(rt, "a setup");
+    made(rt, setup.stores(), setup.limits(), &WINDOWS, &ARRIVALS)
 }
 
 #[test]
 fn data_are_the_problem_of_their_texts(rt: HostRuntime) {
-    let problem = from_data(&rt, rt.alloc());
-    is_said(&rt, rt.alloc(), &problem, SETUP, FORECAST);
-}
-
-fn store(rt: &impl Abort, text: &str, size: u32, start: u32, channel: u8) -> StoreRow {
-    StoreRow {
-        id: id(rt, text),
-        size,
-        start,
-        kind: Kind::Bounded,
-        channel,
-    }
+    let problem = from_data(&rt);
+    is_said(&rt, &problem, SETUP, FORECAST);
 }
 
 // A second store, beside one that is as it should be: its identifier, size, start volume and channel, and the fault.
@@ -63,17 +50,17 @@ static STORES_REFUSED: [(&str, u32, u32, u8, &str); 6] = [
 #[test]
 fn stores_as_data_refused(rt: HostRuntime) {
     for (text, size, start, channel, fault) in &STORES_REFUSED {
-        let second = store(&rt, text, *size, *start, *channel);
-        let rows = [store(&rt, "SCI", 4, 4, 7), second];
+        let second = row(&rt, text, *size, *start, *channel);
+        let rows = [row(&rt, "SCI", 4, 4, 7), second];
         let problem = Problem::new(rt.alloc(), &rows, &[], &[1], &[1, 1_000_001]);
-        is_shown(&rt, rt.alloc(), problem.err(), fault);
+        is_shown(&rt, problem.err(), fault);
     }
 }
 
-static NINE_LIMITS: [LimitRow; 9] = [LimitRow {
+const LIMIT: LimitRow = LimitRow {
     channel: 0,
     blocks: 1,
-}; 9];
+};
 
 // How many stores and how many limits there are, and the fault, where there are no steps.
 static COUNTS_REFUSED: [(usize, usize, &str); 4] = [
@@ -85,12 +72,12 @@ static COUNTS_REFUSED: [(usize, usize, &str); 4] = [
 
 #[test]
 fn counts_of_data_refused(rt: HostRuntime) {
-    let stores = [store(&rt, "SCI", 4, 4, 7); 17];
+    let stores = [row(&rt, "SCI", 4, 4, 7); 17];
     for (store_count, limit_count, fault) in &COUNTS_REFUSED {
         let rows = stores.get(..*store_count).expect(&rt, "stores");
-        let limits = NINE_LIMITS.get(..*limit_count).expect(&rt, "limits");
+        let limits = [LIMIT; 9].get(..*limit_count).expect(&rt, "limits");
         let problem = Problem::new(rt.alloc(), rows, limits, &[], &[]);
-        is_shown(&rt, rt.alloc(), problem.err(), fault);
+        is_shown(&rt, problem.err(), fault);
     }
 }
 
@@ -109,10 +96,10 @@ static LIMITS_REFUSED: [([LimitRow; 2], &str); 3] = limits! {
 
 #[test]
 fn limits_as_data_refused(rt: HostRuntime) {
-    let rows = [store(&rt, "SCI", 4, 4, 7)];
+    let rows = [row(&rt, "SCI", 4, 4, 7)];
     for (limits, fault) in &LIMITS_REFUSED {
         let problem = Problem::new(rt.alloc(), &rows, limits, &[1], &[1]);
-        is_shown(&rt, rt.alloc(), problem.err(), fault);
+        is_shown(&rt, problem.err(), fault);
     }
 }
 
@@ -128,25 +115,17 @@ static STEPS_REFUSED: [(&[u32], &[u32], &str); 7] = wanted! {
 
 #[test]
 fn steps_as_data_refused(rt: HostRuntime) {
-    let rows = [store(&rt, "SCI", 4, 4, 7), store(&rt, "HK", 4, 4, 7)];
+    let rows = [row(&rt, "SCI", 4, 4, 7), row(&rt, "HK", 4, 4, 7)];
     for (windows, arrivals, fault) in &STEPS_REFUSED {
         let problem = Problem::new(rt.alloc(), &rows, &[], windows, arrivals);
-        is_shown(&rt, rt.alloc(), problem.err(), fault);
+        is_shown(&rt, problem.err(), fault);
     }
 }
 
 // The problem of the steps after the first, where the two stores begin with these blocks.
-fn rest_of(
-    rt: &impl Abort,
-    alloc: Global,
-    problem: &Problem,
-    starts: [u32; 2],
-) -> Result<Problem, Fault> {
-    assert!(rt;
-        1 < problem.steps() && problem.stores() == 2,
-        "a second step of two stores"
-    );
-    problem.rest(alloc, 1, &starts)
+fn rest_of(rt: &impl Runtime, problem: &Problem, starts: [u32; 2]) -> Result<Problem, Fault> {
+    assert!(rt; 1 < problem.steps() && problem.stores() == 2);
+    problem.rest(rt.alloc(), 1, &starts)
 }
 
 // The setup and the forecast of the later steps, where the stores begin with 4 and 0 blocks.
@@ -157,15 +136,6 @@ const LATER_SETUP: &str =
 
 const LATER: &str = "step,window,SCI,HK\n1,0,0,8\n2,1000000,5,6\n";
 
-#[test]
-fn the_rest_is_the_problem_of_the_later_steps(rt: HostRuntime) {
-    let problem = problem_of(&rt, rt.alloc(), SETUP, FORECAST);
-    let rest = rest_of(&rt, rt.alloc(), &problem, [4, 0]).expect(&rt, "a problem");
-    is_said(&rt, rt.alloc(), &rest, LATER_SETUP, LATER);
-    let fault = rest_of(&rt, rt.alloc(), &problem, [5, 0]).err();
-    is_shown(&rt, rt.alloc(), fault, "33 Limit name start");
-}
-
 const LIMITED: &str =
     "step,window,SCI,HK,limit:3,limit:6\n1,7,3,1,5,0\n2,0,0,8,9,1000000\n3,1000000,5,6,2,4\n";
 
@@ -173,23 +143,26 @@ static STEP_LIMITS: [u32; 6] = [5, 0, 9, 1_000_000, 2, 4];
 
 #[test]
 fn limits_of_steps_are_those_of_the_text(rt: HostRuntime) {
-    let problem = from_data(&rt, rt.alloc());
-    let limited = problem.with_step_limits(rt.alloc(), &[3, 6], &STEP_LIMITS);
-    let limited = limited.expect(&rt, "a problem");
-    is_said(&rt, rt.alloc(), &limited, SETUP, LIMITED);
-    let without = limited.with_step_limits(rt.alloc(), &[], &[]);
-    let without = without.expect(&rt, "a problem");
-    is_said(&rt, rt.alloc(), &without, SETUP, FORECAST);
+    let by_step = limited(&rt, &from_data(&rt), &[3, 6], &STEP_LIMITS);
+    is_said(&rt, &by_step, SETUP, LIMITED);
+    is_said(&rt, &limited(&rt, &by_step, &[], &[]), SETUP, FORECAST);
 }
 
 const LATER_LIMITED: &str =
     "step,window,SCI,HK,limit:3,limit:6\n1,0,0,8,9,1000000\n2,1000000,5,6,2,4\n";
 
+// Forecasts, without limits of the steps and with them, and those of the steps after the first.
+static RESTS: [(&str, &str); 2] = [(FORECAST, LATER), (LIMITED, LATER_LIMITED)];
+
 #[test]
-fn the_rest_has_the_limits_of_the_later_steps(rt: HostRuntime) {
-    let problem = problem_of(&rt, rt.alloc(), SETUP, LIMITED);
-    let rest = rest_of(&rt, rt.alloc(), &problem, [4, 0]).expect(&rt, "a problem");
-    is_said(&rt, rt.alloc(), &rest, LATER_SETUP, LATER_LIMITED);
+fn the_rest_is_the_problem_of_the_later_steps(rt: HostRuntime) {
+    for (forecast, later) in &RESTS {
+        let problem = problem_of(&rt, SETUP, forecast);
+        let rest = rest_of(&rt, &problem, [4, 0]).expect(&rt, "a problem");
+        is_said(&rt, &rest, LATER_SETUP, later);
+        let fault = rest_of(&rt, &problem, [5, 0]).err();
+        is_shown(&rt, fault, "33 Limit name start");
+    }
 }
 
 // Channels and limits of three steps, and the fault.
@@ -206,9 +179,9 @@ static STEP_LIMITS_REFUSED: [(&[u8], &[u32], &str); 8] = [
 
 #[test]
 fn limits_of_steps_as_data_refused(rt: HostRuntime) {
-    let problem = from_data(&rt, rt.alloc());
+    let problem = from_data(&rt);
     for (channels, limits, fault) in &STEP_LIMITS_REFUSED {
         let limited = problem.with_step_limits(rt.alloc(), channels, limits);
-        is_shown(&rt, rt.alloc(), limited.err(), fault);
+        is_shown(&rt, limited.err(), fault);
     }
 }

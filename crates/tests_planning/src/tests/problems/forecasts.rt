@@ -1,46 +1,48 @@
 //! Texts of forecasts, each with what it says or the fault that it must give.
 use super::is_shown;
-use crate::tests::samples::{SCI, id, joined, numbered, problem_of, repeated};
+use crate::tests::samples::{Runtime, SCI, id, joined, numbered, problem_of, repeated};
 use mm_problem::{Problem, Setup};
-use std::alloc::Global;
-use std::process::Abort;
 
 const SECOND: &str =
     "[[store]]\nid = \"HK\"\nsize = 2\ntype = \"circular\"\nchannel = 3\nstart = 1\n";
 
 // The text of a forecast for one store is answered with this fault, or `read`.
-fn answered(rt: &impl Abort, alloc: Global, text: &[u8], wanted: &str) {
-    let setup = Setup::read(alloc, SCI.as_bytes()).expect(rt, "a setup");
-    let fault = Problem::read(alloc, &setup, text).err();
-    is_shown(rt, alloc, fault, wanted);
+fn answered(rt: &impl Runtime, text: &[u8], wanted: &str) {
+    let setup = Setup::read(rt.alloc(), SCI.as_bytes()).expect(rt, "a setup");
+    let fault = Problem::read(rt.alloc(), &setup, text).err();
+    is_shown(rt, fault, wanted);
 }
 
 // These records after a good header, in two parts, are answered with this fault, or `read`.
-fn rows_answered(rt: &impl Abort, alloc: Global, rows: &str, after: &str, wanted: &str) {
-    let text = joined(rt, alloc, &["step,window,SCI\n", rows, after]);
-    answered(rt, alloc, text.as_bytes(), wanted)
+fn rows_answered(rt: &impl Runtime, rows: &str, after: &str, wanted: &str) {
+    let text = joined(rt, &["step,window,SCI\n", rows, after]);
+    answered(rt, text.as_bytes(), wanted)
 }
 
-// Each of these records after a good header is answered with its fault.
-fn refused_each(rt: &impl Abort, alloc: Global, cases: &[(&str, &str)]) {
-    for (rows, fault) in cases {
-        rows_answered(rt, alloc, rows, "", fault);
-    }
-}
-
-static CELLS_REFUSED: [(&str, &str); 7] = [
-    ("1,2,01", "31 Cell row 1 column 3"),
-    ("1,2,-1", "31 Cell row 1 column 3"),
-    ("1,2,", "31 Cell row 1 column 3"),
-    ("1,2,1000001", "33 Limit name arrivals"),
-    ("2,2,3", "32 StepNumber row 1"),
-    ("1,2", "29 ForecastText"),
-    ("", "33 Limit name steps"),
-];
+// Records after a good header, by their faults.
+static RECORDS_REFUSED: [(&str, &str); 27] = refused! {
+    "29 ForecastText": "1,2", "1,2,3,4\n", "x,2,3,4\n", "1,2,3\n2,2\n";
+    "31 Cell row 1 column 1": "x,2,3\n", "01,2,3\n", ",2,3\n";
+    "32 StepNumber row 1": "2,2,3", "0,2,3\n", "18446744073709551616,2,3\n", "2,x,x\n";
+    "31 Cell row 1 column 2": "1,2.5,3\n", "1,+2,3\n", "1, 2,3\n", "1,x,1000001\n";
+    "33 Limit name window": "1,1000001,x\n";
+    "31 Cell row 1 column 3":
+        "1,2,01", "1,2,-1", "1,2,", "1,2,00\n", "1,2,0x1\n", "1,2,\u{663}\n";
+    "33 Limit name arrivals": "1,2,1000001", "1,2,3\n2,2,1000001\n3,2\n";
+    "32 StepNumber row 2": "1,2,3\n1,2,3\n", "1,2,3\n3,x,3\n";
+    "33 Limit name steps": "";
+};
 
 #[test]
-fn forecast_cells(rt: HostRuntime) {
-    refused_each(&rt, rt.alloc(), &CELLS_REFUSED)
+fn records_refused(rt: HostRuntime) {
+    for (rows, fault) in &RECORDS_REFUSED {
+        rows_answered(&rt, rows, "", fault);
+    }
+    answered(
+        &rt,
+        b"step,window,SCI\n1,2,\xff\n",
+        "31 Cell row 1 column 3",
+    );
 }
 
 static HEADERS_REFUSED: [(&str, &str); 20] = refused! {
@@ -55,42 +57,8 @@ static HEADERS_REFUSED: [(&str, &str); 20] = refused! {
 #[test]
 fn headers_refused(rt: HostRuntime) {
     for (text, fault) in &HEADERS_REFUSED {
-        answered(&rt, rt.alloc(), text.as_bytes(), fault);
+        answered(&rt, text.as_bytes(), fault);
     }
-}
-
-static RECORDS_REFUSED: [(&str, &str); 20] = [
-    ("1,2,3,4\n", "29 ForecastText"),
-    ("x,2,3,4\n", "29 ForecastText"),
-    ("x,2,3\n", "31 Cell row 1 column 1"),
-    ("01,2,3\n", "31 Cell row 1 column 1"),
-    (",2,3\n", "31 Cell row 1 column 1"),
-    ("0,2,3\n", "32 StepNumber row 1"),
-    ("18446744073709551616,2,3\n", "32 StepNumber row 1"),
-    ("1,2.5,3\n", "31 Cell row 1 column 2"),
-    ("1,+2,3\n", "31 Cell row 1 column 2"),
-    ("1, 2,3\n", "31 Cell row 1 column 2"),
-    ("1,1000001,x\n", "33 Limit name window"),
-    ("1,x,1000001\n", "31 Cell row 1 column 2"),
-    ("2,x,x\n", "32 StepNumber row 1"),
-    ("1,2,00\n", "31 Cell row 1 column 3"),
-    ("1,2,0x1\n", "31 Cell row 1 column 3"),
-    ("1,2,\u{663}\n", "31 Cell row 1 column 3"),
-    ("1,2,3\n1,2,3\n", "32 StepNumber row 2"),
-    ("1,2,3\n3,x,3\n", "32 StepNumber row 2"),
-    ("1,2,3\n2,2\n", "29 ForecastText"),
-    ("1,2,3\n2,2,1000001\n3,2\n", "33 Limit name arrivals"),
-];
-
-#[test]
-fn records_refused(rt: HostRuntime) {
-    refused_each(&rt, rt.alloc(), &RECORDS_REFUSED);
-    answered(
-        &rt,
-        rt.alloc(),
-        b"step,window,SCI\n1,2,\xff\n",
-        "31 Cell row 1 column 3",
-    );
 }
 
 // What stands before a cell, its digit, what follows it, and the fault.
@@ -104,8 +72,8 @@ static LONG_CELLS: [(&str, &str, &str, &str); 4] = [
 #[test]
 fn cells_of_a_thousand_digits(rt: HostRuntime) {
     for (before, digit, after, fault) in &LONG_CELLS {
-        let row = repeated(&rt, rt.alloc(), before, digit, 1000, after);
-        rows_answered(&rt, rt.alloc(), row.as_str(), "", fault);
+        let row = repeated(&rt, before, digit, 1000, after);
+        rows_answered(&rt, row.as_str(), "", fault);
     }
 }
 
@@ -119,137 +87,106 @@ static AFTER_256_STEPS: [(&str, &str); 4] = [
 
 #[test]
 fn at_most_256_steps(rt: HostRuntime) {
-    let full = numbered(&rt, rt.alloc(), "", 256, ",2,3\n");
+    let full = numbered(&rt, "", 256, ",2,3\n");
     for (after, answer) in &AFTER_256_STEPS {
-        rows_answered(&rt, rt.alloc(), full.as_str(), after, answer);
+        rows_answered(&rt, full.as_str(), after, answer);
     }
 }
 
 // With line ends of both kinds, quotes, and an empty line.
 const TWO_STEPS: &str = "step,\"window\",SCI,HK\r\n1,2,\"1\"0,1000000\r\n\n\"2\",0,5,6";
 
-// A problem of two stores, two steps and one limit.
-fn problem_of_two(rt: &impl Abort, alloc: Global) -> Problem {
-    let limits = "[[limit]]\nchannel = 3\nblocks = 9\n";
-    let setup = joined(rt, alloc, &[SCI, SECOND, limits]);
-    problem_of(rt, alloc, setup.as_str(), TWO_STEPS)
+// The problem of two stores, one limit and these two steps.
+fn problem_of_two(rt: &impl Runtime, forecast: &str) -> Problem {
+    let limit = "[[limit]]\nchannel = 3\nblocks = 9\n";
+    let setup = joined(rt, &[SCI, SECOND, limit]);
+    problem_of(rt, setup.as_str(), forecast)
 }
 
 // The store at this place has this identifier, and this size, start volume and channel.
-fn is_store(rt: &impl Abort, problem: &Problem, place: usize, text: &str, numbers: (u32, u32, u8)) {
-    assert!(rt; place < problem.stores(), "a store");
-    let found = (
-        problem.size(place),
-        problem.start(place),
-        problem.channel(place),
-    );
-    assert!(rt; found == numbers, "{text}");
+fn is_store(
+    rt: &impl Runtime,
+    problem: &Problem,
+    place: usize,
+    text: &str,
+    wanted: (u32, u32, u8),
+) {
     let store = id(rt, text);
-    assert!(rt; problem.id(place) == store);
-    assert!(rt; problem.place(&store) == Some(place));
-}
-
-// Channels, and their limits; the last is no channel.
-static LIMITS: [(u8, Option<u32>); 3] = [(0, None), (3, Some(9)), (200, None)];
-
-// The limit of a channel in a step, which is none where there is no such step.
-fn limit_at(problem: &Problem, channel: u8, step: u32) -> Option<u32> {
-    if step < 1 || problem.steps() < step {
-        return None;
-    }
-    problem.limit(channel, step)
-}
-
-// The channels have these limits.
-fn has_limits(rt: &impl Abort, problem: &Problem) {
-    for (channel, limit) in &LIMITS {
-        assert!(rt;
-            limit_at(problem, *channel, 1) == *limit,
-            "channel {channel}"
-        );
-    }
-}
-
-#[test]
-fn a_forecast_is_read(rt: HostRuntime) {
-    let problem = problem_of_two(&rt, rt.alloc());
-    is_store(&rt, &problem, 0, "SCI", (4, 0, 0));
-    is_store(&rt, &problem, 1, "HK", (2, 1, 3));
-    has_limits(&rt, &problem);
-    comes(&rt, &problem, 1, [2, 10, 1_000_000]);
-    comes(&rt, &problem, 2, [0, 5, 6]);
-    has_extent(&rt, &problem);
+    assert!(rt; problem.place(&store) == Some(place), "{text}");
+    assert!(rt; place < problem.stores() && problem.id(place) == store);
+    let (size, start) = (problem.size(place), problem.start(place));
+    assert!(rt; (size, start, problem.channel(place)) == wanted, "{text}");
 }
 
 // It has two stores and two steps, and no store of another name.
-fn has_extent(rt: &impl Abort, problem: &Problem) {
+fn has_extent(rt: &impl Runtime, problem: &Problem) {
     let extent = (problem.stores(), problem.steps(), problem.channels());
     assert!(rt; extent == (2, 2, 8), "its extent");
     assert!(rt; problem.place(&id(rt, "NONE")) == None, "no such store");
 }
 
 // A step has this window, and so much comes to the two stores.
-fn comes(rt: &impl Abort, problem: &Problem, step: u32, wanted: [u32; 3]) {
-    let is_there = problem.stores() == 2 && 0 < step && step <= problem.steps();
-    assert!(rt; is_there, "two stores");
+fn comes(rt: &impl Runtime, problem: &Problem, step: u32, wanted: [u32; 3]) {
+    assert!(rt; problem.stores() == 2 && 0 < step && step <= problem.steps());
     let (first, second) = (problem.arrivals(0, step), problem.arrivals(1, step));
     let found = [problem.window(step), first, second];
     assert!(rt; found == wanted, "step {step}");
 }
 
-// Records after a header with columns of limits, and the answer.
-static LIMITED_RECORDS: [(&str, &str); 9] = [
-    ("1,2,3,0,1000000\n", "read"),
-    ("1,2,3\n", "29 ForecastText"),
-    ("1,2,3,4\n", "29 ForecastText"),
-    ("1,2,3,4,5,6\n", "29 ForecastText"),
-    ("1,2,3,x,5\n", "31 Cell row 1 column 4"),
-    ("1,2,3,4,05\n", "31 Cell row 1 column 5"),
-    ("1,2,3,1000001,x\n", "33 Limit name limit"),
-    ("1,2,1000001,x,5\n", "33 Limit name arrivals"),
-    ("1,2,3,4,5\n2,2,3,4,\n", "31 Cell row 2 column 5"),
-];
+// Channels in this step have these limits; the last is no channel.
+fn has_limits(rt: &impl Runtime, problem: &Problem, step: u32, wanted: &[(u8, Option<u32>)]) {
+    assert!(rt; 0 < step && step <= problem.steps());
+    for (channel, limit) in wanted {
+        let found = problem.limit(*channel, step);
+        assert!(rt; found == *limit, "channel {channel}, step {step}");
+    }
+}
+
+#[test]
+fn a_forecast_is_read(rt: HostRuntime) {
+    let problem = problem_of_two(&rt, TWO_STEPS);
+    is_store(&rt, &problem, 0, "SCI", (4, 0, 0));
+    is_store(&rt, &problem, 1, "HK", (2, 1, 3));
+    has_limits(&rt, &problem, 1, &[(0, None), (3, Some(9)), (200, None)]);
+    comes(&rt, &problem, 1, [2, 10, 1_000_000]);
+    comes(&rt, &problem, 2, [0, 5, 6]);
+    has_extent(&rt, &problem);
+}
+
+// Records after a header with columns of limits, by their answers.
+static LIMITED_RECORDS: [(&str, &str); 9] = refused! {
+    "read": "1,2,3,0,1000000\n";
+    "29 ForecastText": "1,2,3\n", "1,2,3,4\n", "1,2,3,4,5,6\n";
+    "31 Cell row 1 column 4": "1,2,3,x,5\n";
+    "31 Cell row 1 column 5": "1,2,3,4,05\n";
+    "33 Limit name limit": "1,2,3,1000001,x\n";
+    "33 Limit name arrivals": "1,2,1000001,x,5\n";
+    "31 Cell row 2 column 5": "1,2,3,4,5\n2,2,3,4,\n";
+};
 
 #[test]
 fn records_with_limits(rt: HostRuntime) {
     for (rows, wanted) in &LIMITED_RECORDS {
-        let text = joined(
-            &rt,
-            rt.alloc(),
-            &["step,window,SCI,limit:0,limit:7\n", rows],
-        );
-        answered(&rt, rt.alloc(), text.as_bytes(), wanted);
+        let text = joined(&rt, &["step,window,SCI,limit:0,limit:7\n", rows]);
+        answered(&rt, text.as_bytes(), wanted);
     }
 }
 
 const LIMITED_STEPS: &str = "step,window,SCI,HK,limit:0,limit:3\n1,2,1,1,5,7\n2,0,5,6,0,12\n";
 
-// Channels and steps, and the limits: of the step, the lesser where the setup has a limit of 9, and none.
-static LIMITS_BY_STEP: [(u8, u32, Option<u32>); 8] = [
-    (0, 1, Some(5)),
-    (3, 1, Some(7)),
-    (1, 1, None),
-    (0, 2, Some(0)),
-    (3, 2, Some(9)),
-    (1, 2, None),
-    (7, 2, None),
-    (200, 2, None),
-];
-
-// Each channel has the limits of these steps; what comes and the windows are beside them.
-fn has_limits_by_step(rt: &impl Abort, problem: &Problem) {
-    for (channel, step, limit) in &LIMITS_BY_STEP {
-        let found = limit_at(problem, *channel, *step);
-        assert!(rt; found == *limit, "channel {channel}, step {step}");
-    }
-    assert!(rt; problem.limited() == [0, 3].as_slice());
-    comes(rt, problem, 2, [0, 5, 6]);
-}
-
+// The limit is that of the step, the lesser where the setup has a limit of 9, and none.
 #[test]
 fn limits_of_steps_are_read(rt: HostRuntime) {
-    let limits = "[[limit]]\nchannel = 3\nblocks = 9\n";
-    let setup = joined(&rt, rt.alloc(), &[SCI, SECOND, limits]);
-    let problem = problem_of(&rt, rt.alloc(), setup.as_str(), LIMITED_STEPS);
-    has_limits_by_step(&rt, &problem);
+    let problem = problem_of_two(&rt, LIMITED_STEPS);
+    has_limits(&rt, &problem, 1, &[(0, Some(5)), (3, Some(7)), (1, None)]);
+    let second = [
+        (0, Some(0)),
+        (3, Some(9)),
+        (1, None),
+        (7, None),
+        (200, None),
+    ];
+    has_limits(&rt, &problem, 2, &second);
+    assert!(rt; problem.limited() == [0, 3].as_slice());
+    comes(&rt, &problem, 2, [0, 5, 6]);
 }

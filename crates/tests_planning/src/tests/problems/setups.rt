@@ -1,52 +1,46 @@
 //! Texts of setups, each with what it says or the fault that it must give.
 use super::is_shown;
-use crate::tests::samples::{SCI, id, joined, problem_of, repeated};
-use mm_problem::{Kind, LimitRow, RouteRow, Setup, StoreRow};
-use std::alloc::Global;
-use std::process::Abort;
+use crate::tests::samples::{Runtime, SCI, joined, problem_of, repeated, row};
+use mm_problem::{Kind, LimitRow, RouteRow, Setup};
 
 const ROUTE: &str = "[[route]]\napid = 100\nservice = 3\nsubtype = 25\nstore = \"SCI\"\n";
 
 // The text is refused with this fault.
-fn refused(rt: &impl Abort, alloc: Global, text: &[u8], fault: &str) {
-    is_shown(rt, alloc, Setup::read(alloc, text).err(), fault);
-}
-
-// Texts of three parts, each joined, are refused with their faults.
-fn refused_parts(rt: &impl Abort, alloc: Global, cases: &[([&str; 3], &str)]) {
-    for (parts, fault) in cases {
-        let text = joined(rt, alloc, parts);
-        refused(rt, alloc, text.as_bytes(), fault);
-    }
+fn refused(rt: &impl Runtime, text: &[u8], fault: &str) {
+    is_shown(rt, Setup::read(rt.alloc(), text).err(), fault);
 }
 
 // Each of these lines is refused with its fault after this text.
-fn refused_after(rt: &impl Abort, alloc: Global, head: &str, cases: &[(&str, &str)]) {
+fn refused_after(rt: &impl Runtime, head: &str, cases: &[(&str, &str)]) {
     for (lines, fault) in cases {
-        let text = joined(rt, alloc, &[head, *lines]);
-        refused(rt, alloc, text.as_bytes(), fault);
+        refused(rt, joined(rt, &[head, *lines]).as_bytes(), fault);
     }
 }
 
-static SETUP_TEXTS_REFUSED: [([&str; 3], &str); 6] = refused! {
+// Texts in three parts.
+static SETUP_TEXTS_REFUSED: [([&str; 3], &str); 9] = refused! {
     "27 SetupText": ["[[store", "", ""];
     "28 SetupField row 0 name store": ["", "", ""];
     "33 Limit name stores": ["store = []", "", ""];
     "28 SetupField row 1 name unknown": [SCI, "colour = 1\n", ROUTE];
     "28 SetupField row 1 name store": [SCI, "[[route]]\napid = 100\nservice = 3\nsubtype = 25\nstore = \"HK\"\n", ""];
-    "28 SetupField row 2 name repeated": [SCI, SCI, ROUTE];
+    "28 SetupField row 2 name repeated": [SCI, SCI, ROUTE], [SCI, ROUTE, ROUTE];
+    "28 SetupField row 1 name route": ["route = [1]\n", SCI, ""];
+    "28 SetupField row 1 name limit": ["limit = [1]\n", SCI, ""];
 };
 
 #[test]
 fn setup_texts_refused(rt: HostRuntime) {
-    refused_parts(&rt, rt.alloc(), &SETUP_TEXTS_REFUSED)
+    for (parts, fault) in &SETUP_TEXTS_REFUSED {
+        refused(&rt, joined(&rt, parts).as_bytes(), fault);
+    }
 }
 
 // Arrays that stand so deep in one another are refused with this fault.
-fn nested(rt: &impl Abort, alloc: Global, depth: usize, fault: &str) {
-    let open = repeated(rt, alloc, "title = ", "[", depth, "");
-    let text = repeated(rt, alloc, open.as_str(), "]", depth, "");
-    refused(rt, alloc, text.as_bytes(), fault);
+fn nested(rt: &impl Runtime, depth: usize, fault: &str) {
+    let open = repeated(rt, "title = ", "[", depth, "");
+    let text = repeated(rt, open.as_str(), "]", depth, "");
+    refused(rt, text.as_bytes(), fault);
 }
 
 static DOCUMENTS_REFUSED: [(&str, &str); 15] = refused! {
@@ -64,21 +58,15 @@ static DOCUMENTS_REFUSED: [(&str, &str); 15] = refused! {
     "28 SetupField row 1 name store": "store = [1]\nroute = [1]";
 };
 
-// An array of 257 routes, after one of 9 limits.
-fn many_routes(rt: &impl Abort, alloc: Global) -> String {
-    let head = "store = [1]\nlimit = [1, 2, 3, 4, 5, 6, 7, 8, 9]\nroute = [";
-    repeated(rt, alloc, head, "1, ", 257, "]")
-}
-
 #[test]
 fn documents_refused(rt: HostRuntime) {
-    let alloc = rt.alloc();
-    refused(&rt, alloc, b"\xff", "27 SetupText");
-    refused_after(&rt, alloc, "", &DOCUMENTS_REFUSED);
-    nested(&rt, alloc, 10, "28 SetupField row 0 name unknown");
-    nested(&rt, alloc, 1000, "27 SetupText");
-    let routes = many_routes(&rt, alloc);
-    refused(&rt, alloc, routes.as_bytes(), "33 Limit name routes");
+    refused(&rt, b"\xff", "27 SetupText");
+    refused_after(&rt, "", &DOCUMENTS_REFUSED);
+    nested(&rt, 10, "28 SetupField row 0 name unknown");
+    nested(&rt, 1000, "27 SetupText");
+    let head = "store = [1]\nlimit = [1, 2, 3, 4, 5, 6, 7, 8, 9]\nroute = [";
+    let routes = repeated(&rt, head, "1, ", 257, "]");
+    refused(&rt, routes.as_bytes(), "33 Limit name routes");
 }
 
 static STORES_REFUSED: [(&str, &str); 31] = refused! {
@@ -130,7 +118,7 @@ static STORES_REFUSED: [(&str, &str); 31] = refused! {
 
 #[test]
 fn stores_refused(rt: HostRuntime) {
-    refused_after(&rt, rt.alloc(), "[[store]]\n", &STORES_REFUSED);
+    refused_after(&rt, "[[store]]\n", &STORES_REFUSED);
 }
 
 static ROUTES_REFUSED: [(&str, &str); 9] = refused! {
@@ -148,15 +136,9 @@ static ROUTES_REFUSED: [(&str, &str); 9] = refused! {
         "[[route]]\napid = 100\nservice = 3\nsubtype = 25\nstore = \"SCI\"\nsize = 1";
 };
 
-static ROUTE_TEXTS_REFUSED: [([&str; 3], &str); 2] = refused! {
-    "28 SetupField row 2 name repeated": [SCI, ROUTE, ROUTE];
-    "28 SetupField row 1 name route": ["route = [1]\n", SCI, ""];
-};
-
 #[test]
 fn routes_refused(rt: HostRuntime) {
-    refused_after(&rt, rt.alloc(), SCI, &ROUTES_REFUSED);
-    refused_parts(&rt, rt.alloc(), &ROUTE_TEXTS_REFUSED)
+    refused_after(&rt, SCI, &ROUTES_REFUSED);
 }
 
 static LIMITS_REFUSED: [(&str, &str); 8] = refused! {
@@ -171,14 +153,9 @@ static LIMITS_REFUSED: [(&str, &str); 8] = refused! {
     "28 SetupField row 0 name limit": "[limit]\nchannel = 0\nblocks = 1";
 };
 
-static LIMIT_TEXTS_REFUSED: [([&str; 3], &str); 1] = refused! {
-    "28 SetupField row 1 name limit": ["limit = [1]\n", SCI, ""];
-};
-
 #[test]
 fn limits_refused(rt: HostRuntime) {
-    refused_after(&rt, rt.alloc(), SCI, &LIMITS_REFUSED);
-    refused_parts(&rt, rt.alloc(), &LIMIT_TEXTS_REFUSED)
+    refused_after(&rt, SCI, &LIMITS_REFUSED);
 }
 
 const SECOND: &str =
@@ -186,46 +163,30 @@ const SECOND: &str =
 
 const LIMIT: &str = "[[limit]]\nchannel = 7\nblocks = 0\n";
 
-// The two stores of the setup, in order.
-fn two_stores(rt: &impl Abort) -> [StoreRow; 2] {
-    let first = StoreRow {
-        id: id(rt, "SCI"),
-        size: 4,
-        start: 0,
-        kind: Kind::Bounded,
-        channel: 0,
-    };
-    let second = StoreRow {
-        id: id(rt, "HK-1_"),
-        size: 1_000_000,
-        start: 2,
-        kind: Kind::Circular,
-        channel: 7,
-    };
-    [first, second]
-}
-
 const NO_BLOCKS: LimitRow = LimitRow {
     channel: 7,
     blocks: 0,
 };
 
 // The setup has the two stores, the one route and the one limit.
-fn has_rows(rt: &impl Abort, setup: &Setup) {
+fn has_rows(rt: &impl Runtime, setup: &Setup) {
+    let first = row(rt, "SCI", 4, 0, 0);
+    let mut second = row(rt, "HK-1_", 1_000_000, 2, 7);
+    second.kind = Kind::Circular;
     let route = RouteRow {
         apid: 100,
         service: 3,
         subtype: 25,
-        store: id(rt, "SCI"),
+        store: first.id,
     };
-    assert!(rt; setup.stores() == two_stores(rt).as_slice());
+    assert!(rt; setup.stores() == [first, second].as_slice());
     assert!(rt; setup.routes() == [route].as_slice());
     assert!(rt; setup.limits() == [NO_BLOCKS].as_slice());
 }
 
 #[test]
 fn a_setup_is_read(rt: HostRuntime) {
-    let text = joined(&rt, rt.alloc(), &[SCI, SECOND, ROUTE, LIMIT]);
+    let text = joined(&rt, &[SCI, SECOND, ROUTE, LIMIT]);
     let setup = Setup::read(rt.alloc(), text.as_bytes()).expect(&rt, "a setup");
     has_rows(&rt, &setup);
 }
@@ -233,25 +194,16 @@ fn a_setup_is_read(rt: HostRuntime) {
 // Spreadsheets and editors may write a byte order mark at the beginning of a file.
 #[test]
 fn a_byte_order_mark_is_passed_over(rt: HostRuntime) {
-    let setup = joined(&rt, rt.alloc(), &["\u{feff}", SCI]);
-    let forecast = "\u{feff}step,window,SCI\n1,2,3\n";
-    let problem = problem_of(&rt, rt.alloc(), setup.as_str(), forecast);
-    assert!(rt; problem.stores() == 1);
+    let setup = joined(&rt, &["\u{feff}", SCI]);
+    let problem = problem_of(&rt, setup.as_str(), "\u{feff}step,window,SCI\n1,2,3\n");
+    assert!(rt; (problem.stores(), problem.steps()) == (1, 1));
     assert!(rt; problem.arrivals(0, 1) == 3);
-}
-
-// How many stores, routes and limits a setup has.
-fn counts(setup: &Setup) -> (usize, usize, usize) {
-    (
-        setup.stores().len(),
-        setup.routes().len(),
-        setup.limits().len(),
-    )
 }
 
 #[test]
 fn empty_arrays_are_as_none(rt: HostRuntime) {
-    let text = joined(&rt, rt.alloc(), &["route = []\nlimit = []\n", SCI]);
+    let text = joined(&rt, &["route = []\nlimit = []\n", SCI]);
     let setup = Setup::read(rt.alloc(), text.as_bytes()).expect(&rt, "a setup");
-    assert!(rt; counts(&setup) == (1, 0, 0));
+    assert!(rt; setup.stores().len() == 1);
+    assert!(rt; setup.routes().is_empty() && setup.limits().is_empty());
 }

@@ -3,11 +3,9 @@
 ghost use Rattle.std.specs.Prelude.{◌<◌};
 
 use crate::tests::flows::{ArcRow, built};
-use crate::tests::samples::next_below;
+use crate::tests::samples::{Runtime, next_below};
 use mm_flow::paths::solve_paths;
 use mm_flow::{Fault, Network, Solved, solve};
-use std::alloc::Global;
-use std::process::Abort;
 
 /// What the arcs of a network lead between.
 #[derive(Clone, Copy)]
@@ -112,8 +110,10 @@ impl Limits {
     }
 }
 
-// Capacities: how many of 32 arcs are unlimited, and the limits of the others.
-static CAPACITIES: [(u32, Limits); 8] = [
+// How many of 32 arcs are unlimited, and the limits of the others.
+type Capacities = (u32, Limits);
+
+static CAPACITIES: [Capacities; 8] = [
     (0, Limits::Below(2)),
     (0, Limits::Below(4)),
     (1, Limits::Below(20)),
@@ -124,19 +124,18 @@ static CAPACITIES: [(u32, Limits); 8] = [
     (31, Limits::Below(1)),
 ];
 
-// Arcs of a form.
-fn made_arcs(
-    rt: &impl Abort,
-    alloc: Global,
+// A network of so many nodes.
+fn made_network(
+    rt: &impl Runtime,
     form: &Form,
-    capacities: (u32, Limits),
+    capacities: Capacities,
     nodes: u32,
     state: &mut u32,
-) -> Vec<ArcRow>
+) -> Network
     requires { 0 < nodes }
 {
     let (unlimited, limits) = capacities;
-    let mut arcs: Vec<ArcRow> = Vec::new(alloc);
+    let mut arcs: Vec<ArcRow> = Vec::new(rt.alloc());
     for _ in 0..nodes.saturating_mul(form.arcs) {
         let (from, to) = form.ends(nodes, state);
         let is_limited = next_below(state, 32) >= unlimited;
@@ -144,7 +143,7 @@ fn made_arcs(
         let arc = (from, to, is_limited.then_some(capacity));
         arcs.push(arc).expect(rt, "memory");
     }
-    arcs
+    built(rt, nodes, &arcs)
 }
 
 /// What a solver answers.
@@ -164,7 +163,7 @@ fn are_alike(first: &Answer, second: &Answer) -> bool {
 
 /// What came of the networks: how many flows were of more than nothing, how often the solvers found different ones, and how often
 /// they refused.
-#[derive(Clone, Copy)]
+#[derive(Clone, Copy, Default)]
 struct Tally {
     flows: u32,
     different: u32,
@@ -173,13 +172,6 @@ struct Tally {
 }
 
 impl Tally {
-    const NONE: Tally = Tally {
-        flows: 0,
-        different: 0,
-        unbounded: 0,
-        same_ends: 0,
-    };
-
     // Counts what both solvers answered.
     fn count(&mut self, by_levels: &Answer, by_paths: &Answer) {
         match by_levels {
@@ -193,60 +185,37 @@ impl Tally {
             Err(Fault::NoMemory) => (),
         }
     }
-}
 
-// Each solver answers as its earlier form does, on the same network.
-fn are_as_before(
-    rt: &impl Abort,
-    alloc: Global,
-    name: &str,
-    network: &Network,
-    ends: (u32, u32),
-    tally: &mut Tally,
-) {
-    let (source, sink) = ends;
-    let nodes = network.node_count();
-    assert!(rt; (source as usize) < nodes && (sink as usize) < nodes);
-    let by_levels = solve(alloc, network, source, sink);
-    let by_paths = solve_paths(alloc, network, source, sink);
-    let before = flow_plain::solve(alloc, network, source, sink);
-    assert!(rt;
-        are_alike(&by_levels, &before),
-        "{name}, {nodes} nodes, by levels"
-    );
-    let before = flow_plain::paths::solve_paths(alloc, network, source, sink);
-    assert!(rt;
-        are_alike(&by_paths, &before),
-        "{name}, {nodes} nodes, by paths"
-    );
-    tally.count(&by_levels, &by_paths);
-}
-
-// A made network, from its first node to its last, and from any node to any.
-fn is_as_before(
-    rt: &impl Abort,
-    alloc: Global,
-    form: &Form,
-    capacities: (u32, Limits),
-    state: &mut u32,
-    tally: &mut Tally,
-) {
-    let nodes = next_below(state, 59) + 2;
-    let arcs = made_arcs(rt, alloc, form, capacities, nodes, state);
-    let network = built(rt, alloc, nodes, &arcs);
-    are_as_before(rt, alloc, form.name, &network, (0, nodes - 1), tally);
-    let any = (next_below(state, nodes), next_below(state, nodes));
-    are_as_before(rt, alloc, form.name, &network, any, tally);
+    // Each solver answers as its earlier form does, on the same network.
+    fn compare(&mut self, rt: &impl Runtime, name: &str, network: &Network, ends: (u32, u32)) {
+        let (source, sink) = ends;
+        let nodes = network.node_count();
+        assert!(rt; (source as usize) < nodes && (sink as usize) < nodes);
+        let by_levels = solve(rt.alloc(), network, source, sink);
+        let plain = flow_plain::solve(rt.alloc(), network, source, sink);
+        let alike = are_alike(&by_levels, &plain);
+        assert!(rt; alike, "{name}, {nodes} nodes, by levels");
+        let by_paths = solve_paths(rt.alloc(), network, source, sink);
+        let plain = flow_plain::paths::solve_paths(rt.alloc(), network, source, sink);
+        let alike = are_alike(&by_paths, &plain);
+        assert!(rt; alike, "{name}, {nodes} nodes, by paths");
+        self.count(&by_levels, &by_paths);
+    }
 }
 
 #[test]
 fn flows_are_those_of_the_earlier_solvers(rt: HostRuntime) {
     let mut state = 13;
-    let mut tally = Tally::NONE;
+    let mut tally = Tally::default();
     for form in &FORMS {
         for capacities in &CAPACITIES {
             for _ in 0..8 {
-                is_as_before(&rt, rt.alloc(), form, *capacities, &mut state, &mut tally);
+                let nodes = next_below(&mut state, 59) + 2;
+                let network = made_network(&rt, form, *capacities, nodes, &mut state);
+                // from the first node to the last, and from any node to any
+                tally.compare(&rt, form.name, &network, (0, nodes - 1));
+                let any = (next_below(&mut state, nodes), next_below(&mut state, nodes));
+                tally.compare(&rt, form.name, &network, any);
             }
         }
     }

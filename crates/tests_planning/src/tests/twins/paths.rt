@@ -2,14 +2,13 @@
 //! and beside the slow twin on random tiny ones. Losses that are written are counted by hand.
 use super::{Counted, least_loss, lose_least, planned_loss};
 use crate::tests::samples::{
-    SIXTEEN_HEADER, SIXTEEN_STORES, alike_steps, each_limited, id, joined, next_below, problem_of,
+    Runtime, SIXTEEN_HEADER, SIXTEEN_STORES, alike_steps, each_limited, joined, limited, made,
+    next_below, problem_of, row,
 };
 use mm_planner::plan_bytes;
-use mm_problem::{Kind, LimitRow, Problem, StoreRow};
-use std::alloc::Global;
-use std::process::Abort;
+use mm_problem::{LimitRow, Problem, StoreRow};
 
-static AT_THE_ENDS: [Counted; 7] = counted! {
+static AT_THE_ENDS: [Counted; 11] = counted! {
     name: "one_step",
     store "A" 4 0 0; store "B" 1 0 1; limit 0 9; limit 1 9; "step,window,A,B\n1,2,9,1\n" => 5;
     name: "windows_all_0",
@@ -25,25 +24,6 @@ static AT_THE_ENDS: [Counted; 7] = counted! {
     store "A" 2 2 0; store "B" 1 1 1; limit 0 1; limit 1 1; "step,window,A,B\n1,1,1,2\n2,2,0,0\n3,1,0,2\n4,2,2,2\n5,1,0,0\n" => 5;
     name: "greed_loses_1",
     store "A" 2 1 0; store "B" 2 1 1; limit 0 2; limit 1 1; "step,window,A,B\n1,1,0,0\n2,2,1,1\n3,0,1,2\n" => 0;
-};
-
-// The same input planned twice gives the same bytes.
-fn is_planned_alike(rt: &impl Abort, alloc: Global, case: &Counted) {
-    let (setup, forecast) = (case.setup.as_bytes(), case.forecast.as_bytes());
-    let first = plan_bytes(alloc, setup, forecast).expect(rt, "memory");
-    let second = plan_bytes(alloc, setup, forecast).expect(rt, "memory");
-    assert!(rt; first == second, "{}", case.name);
-}
-
-#[test]
-fn both_paths_plan_at_the_ends(rt: HostRuntime) {
-    lose_least(&rt, rt.alloc(), &AT_THE_ENDS);
-    for case in &AT_THE_ENDS {
-        is_planned_alike(&rt, rt.alloc(), case);
-    }
-}
-
-static ONE_STEP: [Counted; 4] = counted! {
     name: "a step in which the store gets full",
     store "A" 4 2 0; "step,window,A\n1,0,2\n" => 0;
     name: "a step with a window",
@@ -54,9 +34,20 @@ static ONE_STEP: [Counted; 4] = counted! {
     store "A" 4 2 0; "step,window,A\n1,0,0\n" => 0;
 };
 
+// The same input planned twice gives the same bytes.
+fn is_planned_alike(rt: &impl Runtime, case: &Counted) {
+    let (setup, forecast) = (case.setup.as_bytes(), case.forecast.as_bytes());
+    let first = plan_bytes(rt.alloc(), setup, forecast).expect(rt, "memory");
+    let second = plan_bytes(rt.alloc(), setup, forecast).expect(rt, "memory");
+    assert!(rt; first == second, "{}", case.name);
+}
+
 #[test]
-fn both_paths_plan_one_store_in_one_step(rt: HostRuntime) {
-    lose_least(&rt, rt.alloc(), &ONE_STEP);
+fn both_paths_plan_at_the_ends(rt: HostRuntime) {
+    lose_least(&rt, &AT_THE_ENDS);
+    for case in &AT_THE_ENDS {
+        is_planned_alike(&rt, case);
+    }
 }
 
 // The limit of each channel, how many steps, and the loss. In the first step each store gets its block. Before each later one a
@@ -71,55 +62,45 @@ static LARGEST: [(&str, u32, u64); 4] = [
 const ONE_FOR_EACH: &str = ",15,1,1,1,1,1,1,1,1,1,1,1,1,1,1,1,1\n";
 
 // 16 stores with these limits, a window of 15 in each step, and in each a block for each store.
-fn largest(rt: &impl Abort, alloc: Global, limits: &str, steps: u32) -> Problem {
-    let setup = joined(rt, alloc, &[SIXTEEN_STORES, limits]);
-    let forecast = alike_steps(rt, alloc, SIXTEEN_HEADER, steps, ONE_FOR_EACH);
-    problem_of(rt, alloc, setup.as_str(), forecast.as_str())
+fn largest(rt: &impl Runtime, limits: &str, steps: u32) -> Problem {
+    let setup = joined(rt, &[SIXTEEN_STORES, limits]);
+    let forecast = alike_steps(rt, SIXTEEN_HEADER, steps, ONE_FOR_EACH);
+    problem_of(rt, setup.as_str(), forecast.as_str())
 }
 
 #[test]
 fn both_paths_plan_the_largest_problems(rt: HostRuntime) {
     for (limits, steps, loss) in &LARGEST {
-        let problem = largest(&rt, rt.alloc(), limits, *steps);
-        assert!(rt; planned_loss(&rt, rt.alloc(), &problem) == *loss, "{loss}");
+        let problem = largest(&rt, limits, *steps);
+        assert!(rt; planned_loss(&rt, &problem) == *loss, "{loss}");
     }
 }
 
 // A store of size 1 to 3 that is not full at the start, on one of two channels.
-fn random_store(rt: &impl Abort, text: &str, state: &mut u32) -> StoreRow {
+fn random_store(rt: &impl Runtime, text: &str, state: &mut u32) -> StoreRow {
     let size = next_below(state, 3) + 1;
     let (start, channel) = (next_below(state, size), next_below(state, 2));
-    StoreRow {
-        id: id(rt, text),
-        size,
-        start,
-        kind: Kind::Bounded,
-        channel: channel as u8,
-    }
+    row(rt, text, size, start, channel as u8)
 }
 
 // Limits of one or both channels.
-fn random_limits(rt: &impl Abort, alloc: Global, state: &mut u32) -> Vec<LimitRow> {
-    let mut limits = Vec::new(alloc);
+fn random_limits(rt: &impl Runtime, state: &mut u32) -> Vec<LimitRow> {
+    let mut limits = Vec::new(rt.alloc());
     let first = next_below(state, 2) as u8;
     for channel in first..2u8 {
         let blocks = next_below(state, 3);
-        limits
-            .push(LimitRow { channel, blocks })
-            .expect(rt, "memory");
+        let limit = LimitRow { channel, blocks };
+        limits.push(limit).expect(rt, "memory");
     }
     limits
 }
 
-// The windows of four steps, and what comes to three stores in each of them.
-#[derive(Clone, Copy)]
-struct Steps {
-    windows: [u32; 4],
-    arrivals: [u32; 12],
-}
-
-// Windows and arrivals of up to 2 blocks.
-fn random_steps(state: &mut u32) -> Steps {
+// A problem of three stores and four steps, with windows and arrivals of up to 2 blocks.
+fn random_problem(rt: &impl Runtime, state: &mut u32) -> Problem {
+    let a = random_store(rt, "A", state);
+    let b = random_store(rt, "B", state);
+    let rows = [a, b, random_store(rt, "C", state)];
+    let limits = random_limits(rt, state);
     let mut windows = [0; 4];
     let mut arrivals = [0; 12];
     for step in 0..4usize {
@@ -128,17 +109,7 @@ fn random_steps(state: &mut u32) -> Steps {
             arrivals[3 * step + store] = next_below(state, 3);
         }
     }
-    Steps { windows, arrivals }
-}
-
-fn random_problem(rt: &impl Abort, alloc: Global, state: &mut u32) -> Problem {
-    let a = random_store(rt, "A", state);
-    let b = random_store(rt, "B", state);
-    let rows = [a, b, random_store(rt, "C", state)];
-    let limits = random_limits(rt, alloc, state);
-    let steps = random_steps(state);
-    let problem = Problem::new(alloc, &rows, &limits, &steps.windows, &steps.arrivals);
-    problem.expect(rt, "a problem")
+    made(rt, &rows, &limits, &windows, &arrivals)
 }
 
 #[test]
@@ -146,25 +117,24 @@ fn both_paths_lose_what_the_slow_twin_loses(rt: HostRuntime) {
     let mut state = 3;
     let mut some = 0_u32;
     for _ in 0..100 {
-        let problem = random_problem(&rt, rt.alloc(), &mut state);
-        let least = least_loss(&rt, rt.alloc(), &problem);
+        let problem = random_problem(&rt, &mut state);
+        let least = least_loss(&rt, &problem);
         some = some.saturating_add(u32::from(least > 0));
     }
     assert!(rt; some > 50);
 }
 
 // The same problem with limits of each step, of up to 2 blocks, for one or both channels.
-fn limited_by_step(rt: &impl Abort, alloc: Global, problem: &Problem, state: &mut u32) -> Problem {
+fn limited_by_step(rt: &impl Runtime, problem: &Problem, state: &mut u32) -> Problem {
     let both = [0, 1];
     let channels = &both[next_below(state, 2) as usize..];
-    let mut limits = Vec::new(alloc);
+    let mut limits = Vec::new(rt.alloc());
     for _ in 0..problem.steps() {
         for _ in channels {
             limits.push(next_below(state, 3)).expect(rt, "memory");
         }
     }
-    let limited = problem.with_step_limits(alloc, channels, limits.as_slice());
-    limited.expect(rt, "a problem")
+    limited(rt, problem, channels, &limits)
 }
 
 #[test]
@@ -172,10 +142,10 @@ fn limits_by_step_lose_what_the_slow_twin_loses(rt: HostRuntime) {
     let mut state = 5;
     let mut more = 0_u32;
     for _ in 0..100 {
-        let problem = random_problem(&rt, rt.alloc(), &mut state);
-        let limited = limited_by_step(&rt, rt.alloc(), &problem, &mut state);
-        let least = least_loss(&rt, rt.alloc(), &limited);
-        let unlimited = planned_loss(&rt, rt.alloc(), &problem);
+        let problem = random_problem(&rt, &mut state);
+        let limited = limited_by_step(&rt, &problem, &mut state);
+        let least = least_loss(&rt, &limited);
+        let unlimited = planned_loss(&rt, &problem);
         assert!(rt; unlimited <= least, "limits help");
         more = more.saturating_add(u32::from(unlimited < least));
     }

@@ -4,12 +4,10 @@
 ghost use Rattle.std.specs.Prelude.{◌<◌, ◌≤◌};
 ghost use Rattle.mm_plan.specs.Table.{HasShape};
 
-use crate::tests::samples::id;
+use crate::tests::samples::{NAMES, Runtime, limited, made, row};
 use mm_plan::Plan;
-use mm_problem::{Kind, LimitRow, MAX_BLOCKS, Problem, StoreRow};
+use mm_problem::{LimitRow, MAX_BLOCKS, Problem, StoreRow};
 use mm_propose::{Proposal, propose};
-use std::alloc::Global;
-use std::process::Abort;
 
 /// Numbers by SplitMix64 (Steele, Lea and Flood, 2014).
 #[derive(Drop)]
@@ -39,13 +37,23 @@ impl Numbers {
     }
 
     // A number from the least on, up to which there are so many more.
-    pub(crate) fn from(&mut self, least: u32, more: u32) -> u32 {
+    fn from(&mut self, least: u32, more: u32) -> u32 {
         least.saturating_add(self.upto(more))
     }
 
     // One to four channels, most often four.
-    pub(crate) fn channels(&mut self) -> u32 {
+    fn channels(&mut self) -> u32 {
         4u32.saturating_sub(self.upto(5).saturating_sub(2))
+    }
+
+    // From the least number of stores up to 16 of them, and two steps or so many more.
+    pub(crate) fn shape(&mut self, least: u32, more: u32, is_limited: bool) -> Shape {
+        Shape {
+            stores: self.from(least, 16u32.saturating_sub(least)),
+            steps: self.from(2, more),
+            channels: self.channels(),
+            is_limited,
+        }
     }
 
     // Whether one of eight chances is below a number of them.
@@ -79,15 +87,8 @@ macro_rules! families {
         $open:literal of $least:literal + $wider:literal;
     )+) => {
         [$(Family {
-            name: $name,
-            size: $size,
-            more: $more,
-            coming: $coming,
-            most: $most,
-            turns: $turns,
-            open: $open,
-            least: $least,
-            wider: $wider,
+            name: $name, size: $size, more: $more, coming: $coming, most: $most, turns: $turns,
+            open: $open, least: $least, wider: $wider,
         }),+]
     };
 }
@@ -103,10 +104,6 @@ pub(crate) static FAMILIES: [Family; 8] = families! {
     "calm": 360 + 0, 3 90 in 16, 6 of 5 + 4;
 };
 
-static NAMES: [&str; 16] = [
-    "A", "B", "C", "D", "E", "F", "G", "H", "I", "J", "K", "L", "M", "N", "O", "P",
-];
-
 impl Family {
     // So many eighths of what comes to so many stores, in the mean, from one window to the next.
     fn flow(&self, stores: u32, eighths: u32) -> u32 {
@@ -120,42 +117,88 @@ impl Family {
         let from = store.saturating_mul(self.turns / 2 + 1);
         step.saturating_add(from) / self.turns.max(1) % 2 == 0
     }
+
+    // Stores on any of the channels.
+    fn stores(&self, rt: &impl Runtime, shape: Shape, numbers: &mut Numbers) -> Vec<StoreRow> {
+        let mut rows = Vec::new(rt.alloc());
+        for name in NAMES.iter().take(shape.stores as usize) {
+            let size = numbers.from(self.size, self.more).min(MAX_BLOCKS);
+            let start = numbers.upto(size);
+            let last = shape.channels.saturating_sub(1).min(7);
+            let channel = numbers.upto(last) as u8;
+            rows.push(row(rt, name, size, start, channel))
+                .expect(rt, "memory");
+        }
+        rows
+    }
+
+    // A limit for most channels: half to twice of what comes to its stores.
+    fn limits(&self, rt: &impl Runtime, rows: &[StoreRow], numbers: &mut Numbers) -> Vec<LimitRow> {
+        let mut limits = Vec::new(rt.alloc());
+        for channel in 0..4u8 {
+            let blocks = self.flow(stores_on(rows, channel), numbers.from(4, 12));
+            if numbers.comes(7) {
+                let row = LimitRow { channel, blocks };
+                limits.push(row).expect(rt, "memory");
+            }
+        }
+        limits
+    }
+
+    fn windows(&self, rt: &impl Runtime, shape: Shape, numbers: &mut Numbers) -> Vec<u32> {
+        let mut windows = Vec::new(rt.alloc());
+        for _ in 0..shape.steps {
+            let eighths = numbers.from(self.least, self.wider);
+            let is_open = numbers.comes(self.open);
+            let window = if is_open {
+                self.flow(shape.stores, eighths)
+            } else {
+                0
+            };
+            windows.push(window).expect(rt, "memory");
+        }
+        windows
+    }
+
+    fn arrivals(&self, rt: &impl Runtime, shape: Shape, numbers: &mut Numbers) -> Vec<u32> {
+        let mut arrivals = Vec::new(rt.alloc());
+        for step in 0..shape.steps {
+            for store in 0..shape.stores {
+                let comes = self.may_come(store, step) && numbers.comes(self.coming);
+                let blocks = if comes { numbers.upto(self.most) } else { 0 };
+                arrivals.push(blocks).expect(rt, "memory");
+            }
+        }
+        arrivals
+    }
+
+    // A problem of this family.
+    pub(crate) fn problem(
+        &self,
+        rt: &impl Runtime,
+        shape: Shape,
+        numbers: &mut Numbers,
+    ) -> Problem {
+        let rows = self.stores(rt, shape, numbers);
+        let limits = self.limits(rt, rows.as_slice(), numbers);
+        let windows = self.windows(rt, shape, numbers);
+        let arrivals = self.arrivals(rt, shape, numbers);
+        let problem = made(rt, &rows, &limits, &windows, &arrivals);
+        if shape.is_limited {
+            limited_by_step(rt, &problem, numbers)
+        } else {
+            problem
+        }
+    }
 }
 
-/// How many stores and steps a problem has, and on how many channels the stores stand.
+/// How many stores and steps a problem has, on how many channels the stores stand, and whether channels have limits of each step.
 #[derive(Clone, Copy)]
 pub(crate) struct Shape {
-    pub(crate) stores: u32,
-    pub(crate) steps: u32,
-    pub(crate) channels: u32,
-}
-
-// Stores on any of the channels.
-fn made_stores(
-    rt: &impl Abort,
-    alloc: Global,
-    family: &Family,
-    shape: Shape,
-    numbers: &mut Numbers,
-) -> Vec<StoreRow> {
-    let mut rows = Vec::new(alloc);
-    for name in NAMES.iter().take(shape.stores as usize) {
-        let size = numbers.from(family.size, family.more).min(MAX_BLOCKS);
-        let start = numbers.upto(size);
-        let last = shape.channels.saturating_sub(1).min(7);
-        let channel = numbers.upto(last) as u8;
-        let kind = Kind::Bounded;
-        let id = id(rt, name);
-        let row = StoreRow {
-            id,
-            size,
-            start,
-            kind,
-            channel,
-        };
-        rows.push(row).expect(rt, "memory");
-    }
-    rows
+    stores: u32,
+    steps: u32,
+    channels: u32,
+    is_limited: bool,
 }
 
 // How many of the stores are on a channel.
@@ -167,79 +210,16 @@ fn stores_on(rows: &[StoreRow], channel: u8) -> u32 {
     stores
 }
 
-// A limit for most channels: half to twice of what comes to its stores.
-fn made_limits(
-    rt: &impl Abort,
-    alloc: Global,
-    family: &Family,
-    rows: &[StoreRow],
-    numbers: &mut Numbers,
-) -> Vec<LimitRow> {
-    let mut limits = Vec::new(alloc);
-    for channel in 0..4u8 {
-        let blocks = family.flow(stores_on(rows, channel), numbers.from(4, 12));
-        if numbers.comes(7) {
-            let row = LimitRow { channel, blocks };
-            limits.push(row).expect(rt, "memory");
+// The same problem with limits of each step for channels 0 and 2: up to twice the window.
+fn limited_by_step(rt: &impl Runtime, problem: &Problem, numbers: &mut Numbers) -> Problem {
+    let mut limits = Vec::new(rt.alloc());
+    for step in 1..problem.steps() + 1 {
+        let most = problem.window(step).saturating_mul(2).min(MAX_BLOCKS);
+        for _ in 0..2u32 {
+            limits.push(numbers.upto(most)).expect(rt, "memory");
         }
     }
-    limits
-}
-
-fn made_windows(
-    rt: &impl Abort,
-    alloc: Global,
-    family: &Family,
-    shape: Shape,
-    numbers: &mut Numbers,
-) -> Vec<u32> {
-    let mut windows = Vec::new(alloc);
-    for _ in 0..shape.steps {
-        let eighths = numbers.from(family.least, family.wider);
-        let is_open = numbers.comes(family.open);
-        let window = if is_open {
-            family.flow(shape.stores, eighths)
-        } else {
-            0
-        };
-        windows.push(window).expect(rt, "memory");
-    }
-    windows
-}
-
-fn made_arrivals(
-    rt: &impl Abort,
-    alloc: Global,
-    family: &Family,
-    shape: Shape,
-    numbers: &mut Numbers,
-) -> Vec<u32> {
-    let mut arrivals = Vec::new(alloc);
-    for step in 0..shape.steps {
-        for store in 0..shape.stores {
-            let comes = family.may_come(store, step) && numbers.comes(family.coming);
-            let blocks = if comes { numbers.upto(family.most) } else { 0 };
-            arrivals.push(blocks).expect(rt, "memory");
-        }
-    }
-    arrivals
-}
-
-// A problem of a family.
-pub(crate) fn made_problem(
-    rt: &impl Abort,
-    alloc: Global,
-    family: &Family,
-    shape: Shape,
-    numbers: &mut Numbers,
-) -> Problem {
-    let rows = made_stores(rt, alloc, family, shape, numbers);
-    let limits = made_limits(rt, alloc, family, rows.as_slice(), numbers);
-    let windows = made_windows(rt, alloc, family, shape, numbers);
-    let arrivals = made_arrivals(rt, alloc, family, shape, numbers);
-    let (rows, limits) = (rows.as_slice(), limits.as_slice());
-    let problem = Problem::new(alloc, rows, limits, windows.as_slice(), arrivals.as_slice());
-    problem.expect(rt, "a problem")
+    limited(rt, problem, &[0, 2], &limits)
 }
 
 // Whether two plans of a problem have the same amounts.
@@ -259,7 +239,7 @@ fn are_alike(problem: &Problem, first: &Plan, second: &Plan) -> bool
 
 /// What came of the problems: in how many lost blocks were moved, how many lose none, and how many cuts have steps that count by
 /// channels.
-#[derive(Clone, Copy)]
+#[derive(Clone, Copy, Default)]
 struct Tally {
     moving: u32,
     sparing: u32,
@@ -267,12 +247,6 @@ struct Tally {
 }
 
 impl Tally {
-    const NONE: Tally = Tally {
-        moving: 0,
-        sparing: 0,
-        by_channels: 0,
-    };
-
     // Counts a proposal. Where nothing is lost, no cut is found.
     fn count(&mut self, proposal: &Proposal, is_moved: bool) {
         let spares = proposal.cut.is_empty();
@@ -284,83 +258,42 @@ impl Tally {
 }
 
 // The proposal for a problem and its plain form are the same.
-fn is_alike(rt: &impl Abort, alloc: Global, problem: &Problem, name: &str, tally: &mut Tally) {
+fn is_alike(rt: &impl Runtime, problem: &Problem, name: &str, tally: &mut Tally) {
     let (stores, steps) = (problem.stores(), problem.steps());
-    let proposed = propose(alloc, problem).expect(rt, "memory");
-    let plain = propose_plain::propose(alloc, problem).expect(rt, "memory");
+    let proposed = propose(rt.alloc(), problem).expect(rt, "memory");
+    let plain = propose_plain::propose(rt.alloc(), problem).expect(rt, "memory");
     let plans = are_alike(problem, &proposed.plan, &plain.plan);
     assert!(rt; plans, "the plan of {name}, {stores} stores, {steps} steps");
     let cuts = proposed.cut == plain.cut && proposed.by_channels == plain.by_channels;
     assert!(rt; cuts, "the cut of {name}, {stores} stores, {steps} steps");
-    let first = propose_plain::first_plan(alloc, problem).expect(rt, "memory");
+    let first = propose_plain::first_plan(rt.alloc(), problem).expect(rt, "memory");
     let is_moved = !are_alike(problem, &proposed.plan, &first);
     tally.count(&proposed, is_moved);
 }
 
-// So they are for a made problem.
-fn is_the_same(
-    rt: &impl Abort,
-    alloc: Global,
-    family: &Family,
-    shape: Shape,
-    numbers: &mut Numbers,
-    tally: &mut Tally,
-) {
-    let problem = made_problem(rt, alloc, family, shape, numbers);
-    is_alike(rt, alloc, &problem, family.name, tally);
-}
-
-// The same problem with limits of each step for channels 0 and 2: up to twice the window.
-pub(crate) fn limited_by_step(
-    rt: &impl Abort,
-    alloc: Global,
-    problem: &Problem,
-    numbers: &mut Numbers,
-) -> Problem {
-    let mut limits = Vec::new(alloc);
-    for step in 1..problem.steps() + 1 {
-        let most = problem.window(step).saturating_mul(2).min(MAX_BLOCKS);
-        for _ in 0..2u32 {
-            limits.push(numbers.upto(most)).expect(rt, "memory");
+// So they are for so many problems of each family, with limits of each step or without.
+fn tally_of(rt: &impl Runtime, seed: u64, rounds: u32, is_limited: bool) -> Tally {
+    let mut numbers = Numbers::seeded(seed);
+    let mut tally = Tally::default();
+    for _ in 0..rounds {
+        for family in &FAMILIES {
+            let shape = numbers.shape(2, 62, is_limited);
+            let problem = family.problem(rt, shape, &mut numbers);
+            is_alike(rt, &problem, family.name, &mut tally);
         }
     }
-    let limited = problem.with_step_limits(alloc, &[0, 2], limits.as_slice());
-    limited.expect(rt, "a problem")
+    tally
 }
 
 #[test]
 fn proposals_with_limits_by_step_are_those_of_the_plain_form(rt: HostRuntime) {
-    let mut numbers = Numbers::seeded(227);
-    let mut tally = Tally::NONE;
-    for _ in 0..10u32 {
-        for family in &FAMILIES {
-            let shape = Shape {
-                stores: numbers.from(2, 14),
-                steps: numbers.from(2, 62),
-                channels: numbers.channels(),
-            };
-            let problem = made_problem(&rt, rt.alloc(), family, shape, &mut numbers);
-            let limited = limited_by_step(&rt, rt.alloc(), &problem, &mut numbers);
-            is_alike(&rt, rt.alloc(), &limited, family.name, &mut tally);
-        }
-    }
+    let tally = tally_of(&rt, 227, 10, true);
     assert!(rt; tally.by_channels > 25);
 }
 
 #[test]
 fn proposals_are_those_of_the_plain_form(rt: HostRuntime) {
-    let mut numbers = Numbers::seeded(223);
-    let mut tally = Tally::NONE;
-    for _ in 0..40u32 {
-        for family in &FAMILIES {
-            let shape = Shape {
-                stores: numbers.from(2, 14),
-                steps: numbers.from(2, 62),
-                channels: numbers.channels(),
-            };
-            is_the_same(&rt, rt.alloc(), family, shape, &mut numbers, &mut tally);
-        }
-    }
+    let tally = tally_of(&rt, 223, 40, false);
     assert!(rt; tally.moving > 90 && tally.sparing > 20 && tally.by_channels > 100);
 }
 
@@ -372,15 +305,17 @@ static STEPS: [u32; 10] = [63, 64, 65, 127, 128, 129, 192, 193, 255, 256];
 #[test]
 fn long_proposals_are_those_of_the_plain_form(rt: HostRuntime) {
     let mut numbers = Numbers::seeded(223);
-    let mut tally = Tally::NONE;
+    let mut tally = Tally::default();
     for (number, family) in FAMILIES.iter().enumerate() {
         for (place, steps) in STEPS.iter().enumerate() {
             let shape = Shape {
                 stores: STORES[(number + place) % 4],
                 steps: *steps,
                 channels: numbers.channels(),
+                is_limited: false,
             };
-            is_the_same(&rt, rt.alloc(), family, shape, &mut numbers, &mut tally);
+            let problem = family.problem(&rt, shape, &mut numbers);
+            is_alike(&rt, &problem, family.name, &mut tally);
         }
     }
     assert!(rt; tally.moving > 45 && tally.sparing > 1 && tally.by_channels > 40);

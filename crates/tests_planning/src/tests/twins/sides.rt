@@ -2,17 +2,15 @@
 ghost use Rattle.std.specs.Prelude.{◌<◌};
 
 use crate::tests::flows::{ArcRow, built, same_value};
-use crate::tests::samples::next_below;
+use crate::tests::samples::{Runtime, next_below};
 use mm_exhaustive::{MAX_TRIED, cut_below};
-use std::alloc::Global;
-use std::process::Abort;
 
 // The least capacity of a cut between node 0 and node 1, which is the value that both solvers answer: of all cuts one has that, and none
 // has less.
-fn least_capacity(rt: &impl Abort, alloc: Global, nodes: u32, arcs: &[ArcRow]) -> Option<u64> {
-    let network = built(rt, alloc, nodes, arcs);
+fn least_capacity(rt: &impl Runtime, nodes: u32, arcs: &[ArcRow]) -> Option<u64> {
+    let network = built(rt, nodes, arcs);
     assert!(rt; network.node_count() > 1 && network.node_count() <= MAX_TRIED);
-    let least = same_value(rt, alloc, &network, 0, 1);
+    let least = same_value(rt, &network, 0, 1);
     assert!(rt; cut_below(&network, 0, 1, least).is_none());
     if let Some(least) = least {
         let more = Some(least.saturating_add(1));
@@ -39,16 +37,16 @@ static COUNTED: [(u32, &[ArcRow], Option<u64>); 5] = wanted! {
 #[test]
 fn cuts_counted_by_hand(rt: HostRuntime) {
     for (nodes, arcs, least) in &COUNTED {
-        let found = least_capacity(&rt, rt.alloc(), *nodes, arcs);
+        let found = least_capacity(&rt, *nodes, arcs);
         assert!(rt; found == *least, "{nodes} nodes");
     }
 }
 
 // Three arcs for each node at random, of which one in 20 is unlimited.
-fn made_arcs(rt: &impl Abort, alloc: Global, nodes: u32, state: &mut u32) -> Vec<ArcRow>
+fn made_arcs(rt: &impl Runtime, nodes: u32, state: &mut u32) -> Vec<ArcRow>
     requires { 0 < nodes }
 {
-    let mut arcs: Vec<ArcRow> = Vec::new(alloc);
+    let mut arcs: Vec<ArcRow> = Vec::new(rt.alloc());
     for _ in 0..nodes.saturating_mul(3) {
         let (from, to) = (next_below(state, nodes), next_below(state, nodes));
         let most = next_below(state, 20);
@@ -64,8 +62,8 @@ fn solvers_find_the_least_of_all_cuts(rt: HostRuntime) {
     let mut some = 0_u32;
     for number in 0..120u32 {
         let nodes = 2 + number % 7;
-        let arcs = made_arcs(&rt, rt.alloc(), nodes, &mut state);
-        let least = least_capacity(&rt, rt.alloc(), nodes, &arcs);
+        let arcs = made_arcs(&rt, nodes, &mut state);
+        let least = least_capacity(&rt, nodes, &arcs);
         some = some.saturating_add(u32::from(least > Some(0)));
     }
     assert!(rt; some > 60);
