@@ -1,14 +1,13 @@
 //! Memories, and the requests that are applied to them.
-use crate::tests::samples::{TWO_STORES, is_shown};
+use crate::tests::samples::{Host, TWO_STORES, is_shown};
 use mm_base::{Kind, Refused, RouteRow, StoreId};
-use mm_desk::{Offered, Returned};
-use mm_memory::{Answer, Answers, Fault, Held, Memory};
+use mm_desk::Offered;
+use mm_memory::{Answer, Answers, Fault, Memory};
 use mm_packet::{BlockPacket, Header, Octets, Packet, TELECOMMAND_BODY};
 use mm_problem::Setup;
 use mm_st15::Request;
 use mm_store::PacketStore;
-use std::alloc::Global;
-use std::process::Abort;
+use reporting::{Reporting, reports};
 
 // Plays: a name, a setup, and what is done and seen in turn.
 macro_rules! plays {
@@ -18,109 +17,54 @@ macro_rules! plays {
 }
 
 mod applying;
-mod holding;
 mod refusals;
 mod reporting;
 
-// Answers by their names, in short.
-const STORAGE_ON: Answer = Answer::Refused(Fault::State(mm_desk::Fault::StorageOn));
-
-const BUSY: Answer = Answer::Refused(Fault::State(mm_desk::Fault::Busy));
-
-const IDLE: Answer = Answer::Refused(Fault::State(mm_desk::Fault::Idle));
-
-const BAD_RANGE: Answer = Answer::Refused(Fault::State(mm_desk::Fault::BadRange));
-
-const HOLDS_MORE: Answer = Answer::Refused(Fault::State(mm_desk::Fault::HoldsMore));
-
-const NO_SUCH_ROUTE: Answer = Answer::Refused(Fault::Control(mm_control::Fault::NoSuchRoute));
-
-const TABLE_FULL: Answer = Answer::Refused(Fault::Control(mm_control::Fault::TableFull));
-
-const BAD_ID: Answer = Answer::Refused(Fault::BadId);
-
-const BAD_ENUM: Answer = Answer::Refused(Fault::BadEnum);
-
-const BAD_SIZE: Answer = Answer::Refused(Fault::BadSize);
-
-const NO_SUCH_STORE: Answer = Answer::Refused(Fault::NoSuchStore);
-
-const EXISTS: Answer = Answer::Refused(Fault::Exists);
-
-const TOO_MANY_STORES: Answer = Answer::Refused(Fault::TooManyStores);
-
-const DONE: Answer = Answer::Done;
-
-fn id(rt: &impl Abort, text: &[u8]) -> StoreId {
+fn id(rt: &impl Host, text: &[u8]) -> StoreId {
     StoreId::of_text(text).expect(rt, "an identifier")
 }
 
-fn memory_of(rt: &impl Abort, alloc: Global, setup: &str) -> Memory {
-    let setup = Setup::read(alloc, setup.as_bytes()).expect(rt, "a setup");
-    Memory::of_setup(alloc, &setup).expect(rt, "memory")
+fn memory_of(rt: &impl Host, setup: &str) -> Memory {
+    let setup = Setup::read(rt.alloc(), setup.as_bytes()).expect(rt, "a setup");
+    Memory::of_setup(rt.alloc(), &setup).expect(rt, "memory")
 }
 
 // The request of a subtype with these octets for its data.
-fn request_of(rt: &impl Abort, alloc: Global, subtype: u8, data: &[u8]) -> Request {
+fn request_of(rt: &impl Host, subtype: u8, data: &[u8]) -> Request {
     assert!(rt; data.len() <= TELECOMMAND_BODY);
     let header = Header::new(100, 0, 15, subtype);
-    let list = data.to_vec(alloc).expect(rt, "memory");
+    let list = data.to_vec(rt.alloc()).expect(rt, "memory");
     let packet = Packet::tc(header, 0, Octets::new(list).expect(rt, "memory"));
-    Request::read(alloc, &packet).expect(rt, "a request")
+    Request::read(rt.alloc(), &packet).expect(rt, "a request")
 }
 
 // What a request is answered at a moment.
-fn asked(
-    rt: &impl Abort,
-    alloc: Global,
-    memory: &mut Memory,
-    now: u64,
-    subtype: u8,
-    data: &[u8],
-) -> Answers {
-    let request = request_of(rt, alloc, subtype, data);
-    memory.apply(alloc, now, &request).expect(rt, "memory")
+fn asked(rt: &impl Host, memory: &mut Memory, now: u64, subtype: u8, data: &[u8]) -> Answers {
+    let request = request_of(rt, subtype, data);
+    memory.apply(rt.alloc(), now, &request).expect(rt, "memory")
 }
 
-// These are the answers to a request in this play, with that many reports.
-fn are_answers(
-    rt: &impl Abort,
-    name: &str,
-    request: (u8, &[u8]),
-    answers: &Answers,
-    want: &[Answer],
-    reports: usize,
-) {
-    let (subtype, data) = request;
-    let is_answered = answers.each.as_slice() == want && answers.reports.len() == reports;
+// A request of a subtype with its data, which is asked at the moment 1, has these answers in this play, and no report.
+fn asks(rt: &impl Host, memory: &mut Memory, name: &str, asking: (u8, &[u8]), want: &[Answer]) {
+    let (subtype, data) = asking;
+    let answers = asked(rt, memory, 1, subtype, data);
+    let is_answered = answers.each.as_slice() == want && answers.reports.is_empty();
     assert!(rt; is_answered, "{name}: {subtype} {data:?}");
 }
 
-// What is asked at the moment 1, and compared with the answers of this play.
-fn asks(
-    rt: &impl Abort,
-    alloc: Global,
-    memory: &mut Memory,
-    name: &str,
-    request: (u8, &[u8]),
-    want: &[Answer],
-) {
-    let (subtype, data) = request;
-    let answers = asked(rt, alloc, memory, 1, subtype, data);
-    are_answers(rt, name, request, &answers, want, 0);
-}
-
 // The kind, the size and the number of packets of a store, and whether its storage is on.
-fn shape(memory: &Memory, id: &StoreId) -> Option<(Kind, u32, u32, bool)> {
+type Shape = (Kind, u32, u32, bool);
+
+fn shape(memory: &Memory, id: &StoreId) -> Option<Shape> {
     let state = memory.state(id)?;
     let store = state.store();
     Some((store.kind(), store.size(), store.len(), state.storage()))
 }
 
 // Telemetry with a sequence count of 1.
-fn packet(rt: &impl Abort, alloc: Global) -> BlockPacket {
+fn packet(rt: &impl Host) -> BlockPacket {
     let header = Header::new(100, 1, 3, 25);
-    let data = Octets::new(Vec::new(alloc)).expect(rt, "memory");
+    let data = Octets::new(Vec::new(rt.alloc())).expect(rt, "memory");
     let packet = Packet::tm(header, 0, 0, 0, data);
     BlockPacket::of(packet).expect(rt, "a short packet")
 }
@@ -128,21 +72,17 @@ fn packet(rt: &impl Abort, alloc: Global) -> BlockPacket {
 // What a store answers, in a word, and the time of a packet that is kept or given.
 type Told = (&'static str, u64);
 
-fn told_of(answer: &Result<Offered, Returned>) -> Told {
-    match answer {
+// Offers a packet to a store at a moment.
+fn offered(rt: &impl Host, memory: &mut Memory, id: &StoreId, now: u64) -> Told {
+    let Some(state) = memory.state_mut(id) else {
+        return ("no store", 0);
+    };
+    let answer = state.offer(now, packet(rt));
+    match &answer {
         Ok(Offered::Kept(time)) => ("kept", *time),
         Ok(Offered::KeptOver(time, _)) => ("kept over", *time),
         Ok(Offered::Lost(_)) => ("lost", 0),
         Err(back) => (back.fault.name(), 0),
-    }
-}
-
-// Offers a packet to a store at a moment.
-fn offered(rt: &impl Abort, alloc: Global, memory: &mut Memory, id: &StoreId, now: u64) -> Told {
-    let packet = packet(rt, alloc);
-    match memory.state_mut(id) {
-        Some(state) => told_of(&state.offer(now, packet)),
-        None => ("no store", 0),
     }
 }
 
@@ -159,34 +99,25 @@ fn next_of(memory: &mut Memory, id: &StoreId) -> Told {
 }
 
 // A store's answer in this play.
-fn is_told(rt: &impl Abort, name: &str, told: Told, want: Told) {
+fn is_told(rt: &impl Host, name: &str, told: Told, want: Told) {
     let (word, time) = told;
     assert!(rt; word == want.0 && time == want.1, "{name}: {word} {time}");
 }
 
 // The store at this place, with its virtual channel.
-fn stands(rt: &impl Abort, name: &str, memory: &Memory, place: u32, id: &StoreId, channel: u8) {
+fn stands(rt: &impl Host, name: &str, memory: &Memory, place: u32, id: &StoreId, channel: u8) {
     let is_there = memory.entry(place) == Some((*id, channel));
     assert!(rt; is_there, "{name}: at {place}");
 }
 
 // How many stores there are, and how many routes.
-fn has_counts(rt: &impl Abort, name: &str, memory: &Memory, stores: usize, routes: usize) {
-    let (held, listed) = (memory.stores().len(), memory.control().list().len());
-    assert!(rt;
-        held == stores && listed == routes,
-        "{name}: {held} {listed}"
-    );
+fn has_counts(rt: &impl Host, name: &str, memory: &Memory, stores: usize, routes: usize) {
+    let counts = (memory.stores().len(), memory.control().list().len());
+    assert!(rt; counts == (stores, routes), "{name}: {counts:?}");
 }
 
-// The kind, the size and the number of packets of a store that is there, and whether its storage is on.
-fn has_shape(
-    rt: &impl Abort,
-    name: &str,
-    memory: &Memory,
-    id: &StoreId,
-    want: (Kind, u32, u32, bool),
-) {
+// A store that is there has this shape.
+fn has_shape(rt: &impl Host, name: &str, memory: &Memory, id: &StoreId, want: Shape) {
     assert!(rt; shape(memory, id) == Some(want), "{name}");
 }
 
@@ -198,12 +129,13 @@ enum Step {
     Offer(&'static [u8], u64, Told),
     // The retrieval of a store is asked for its next packet.
     Next(&'static [u8], Told),
-    // The kind, the size and the number of packets of a store, and whether its storage is on.
-    Has(&'static [u8], (Kind, u32, u32, bool)),
+    Has(&'static [u8], Shape),
     // The store at a place, with its virtual channel.
     Stands(u32, &'static [u8], u8),
     // How many stores there are, and how many routes.
     Counts(usize, usize),
+    // A request that has a report.
+    Reports(Reporting),
 }
 
 // Steps in turn, over the memory of a setup.
@@ -214,11 +146,11 @@ struct Play {
 }
 
 // A step of this play.
-fn takes(rt: &impl Abort, alloc: Global, memory: &mut Memory, name: &str, step: &Step) {
+fn takes(rt: &impl Host, memory: &mut Memory, name: &str, step: &Step) {
     match step {
-        Step::Ask(subtype, data, want) => asks(rt, alloc, memory, name, (*subtype, data), want),
+        Step::Ask(subtype, data, want) => asks(rt, memory, name, (*subtype, data), want),
         Step::Offer(store, now, want) => {
-            let told = offered(rt, alloc, memory, &id(rt, store), *now);
+            let told = offered(rt, memory, &id(rt, store), *now);
             is_told(rt, name, told, *want);
         }
         Step::Next(store, want) => is_told(rt, name, next_of(memory, &id(rt, store)), *want),
@@ -227,76 +159,27 @@ fn takes(rt: &impl Abort, alloc: Global, memory: &mut Memory, name: &str, step: 
             stands(rt, name, memory, *place, &id(rt, store), *channel);
         }
         Step::Counts(stores, routes) => has_counts(rt, name, memory, *stores, *routes),
+        Step::Reports(reporting) => reports(rt, memory, name, reporting),
     }
 }
 
-// The steps of a play, one after another.
-fn takes_all(rt: &impl Abort, alloc: Global, memory: &mut Memory, play: &Play) {
+// The steps of a play, one after another, over the memory of its setup.
+fn is_played(rt: &impl Host, play: &Play) {
+    let mut memory = memory_of(rt, play.setup);
     for step in play.steps {
-        takes(rt, alloc, memory, play.name, step);
+        takes(rt, &mut memory, play.name, step);
     }
 }
 
-// The memory of a play's setup, after its steps.
-fn played(rt: &impl Abort, alloc: Global, play: &Play) -> Memory {
-    let mut memory = memory_of(rt, alloc, play.setup);
-    takes_all(rt, alloc, &mut memory, play);
-    memory
-}
-
-// The stores that the report type of a subtype goes into, of APID 100 and service 3.
-fn leads_to(rt: &impl Abort, alloc: Global, memory: &Memory, subtype: u8, want: &[StoreId]) {
-    let stores = memory.control().stores_for(alloc, 100, 3, subtype);
-    assert!(rt;
-        stores.expect(rt, "memory").as_slice() == want,
-        "for {subtype}"
-    );
-}
-
-// Nothing stands at a place, and no store has an identifier.
-fn lacks(rt: &impl Abort, memory: &mut Memory, place: u32, id: &StoreId) {
-    assert!(rt; memory.entry(place).is_none(), "{place}");
-    assert!(rt; shape(memory, id).is_none(), "{place}");
-    assert!(rt; memory.state_mut(id).is_none(), "{place}");
-}
-
-static SETUP_ORDER: [Play; 1] = plays! {
-    "stores stand in setup order", TWO_STORES {
-        Stands(0, b"SCI", 0) Stands(1, b"HK", 3)
-        Has(b"SCI", (Kind::Bounded, 4, 0, true)) Has(b"HK", (Kind::Circular, 2, 0, true))
+// Each play by itself.
+fn each_is_played(rt: &impl Host, plays: &[Play]) {
+    for play in plays {
+        is_played(rt, play);
     }
-};
-
-#[test]
-fn stores_stand_in_setup_order(rt: HostRuntime) {
-    for play in &SETUP_ORDER {
-        let mut memory = played(&rt, rt.alloc(), play);
-        lacks(&rt, &mut memory, 2, &id(&rt, b"XY"));
-    }
-}
-
-// The one route is of APID 100, service 3, subtype 25, to this store.
-fn has_one_route(rt: &impl Abort, memory: &Memory, store: StoreId) {
-    let row = RouteRow {
-        apid: 100,
-        service: 3,
-        subtype: 25,
-        store,
-    };
-    assert!(rt; memory.control().list() == [row].as_slice());
-}
-
-#[test]
-fn routes_of_setup(rt: HostRuntime) {
-    let memory = memory_of(&rt, rt.alloc(), TWO_STORES);
-    let sci = id(&rt, b"SCI");
-    has_one_route(&rt, &memory, sci);
-    leads_to(&rt, rt.alloc(), &memory, 25, &[sci]);
-    leads_to(&rt, rt.alloc(), &memory, 26, &[]);
 }
 
 // The two stores of the setup, empty, and its route.
-fn stands_whole(rt: &impl Abort, memory: &Memory, name: &str) {
+fn stands_whole(rt: &impl Host, memory: &Memory, name: &str) {
     let (sci, hk) = (id(rt, b"SCI"), id(rt, b"HK"));
     has_counts(rt, name, memory, 2, 1);
     stands(rt, name, memory, 0, &sci, 0);
@@ -305,31 +188,68 @@ fn stands_whole(rt: &impl Abort, memory: &Memory, name: &str) {
     has_shape(rt, name, memory, &hk, (Kind::Circular, 2, 0, true));
 }
 
-// The memory has its route and no store, since the two are lifted.
-fn is_empty(rt: &impl Abort, memory: &Memory, lifted: &[Held]) {
-    assert!(rt; lifted.len() == 2);
-    assert!(rt; memory.entry(0).is_none());
-    has_counts(rt, "lifted", memory, 0, 1);
+// Nothing stands at a place, and no store has an identifier.
+fn lacks(rt: &impl Host, memory: &mut Memory, place: u32, id: &StoreId) {
+    assert!(rt; memory.entry(place).is_none(), "{place}");
+    assert!(rt; shape(memory, id).is_none(), "{place}");
+    assert!(rt; memory.state_mut(id).is_none(), "{place}");
 }
 
 #[test]
+fn stores_stand_in_setup_order(rt: HostRuntime) {
+    let mut memory = memory_of(&rt, TWO_STORES);
+    stands_whole(&rt, &memory, "stores stand in setup order");
+    lacks(&rt, &mut memory, 2, &id(&rt, b"XY"));
+}
+
+// The stores that the report type of a subtype goes into, of APID 100 and service 3.
+fn leads_to(rt: &impl Host, memory: &Memory, subtype: u8, want: &[StoreId]) {
+    let stores = memory.control().stores_for(rt.alloc(), 100, 3, subtype);
+    let stores = stores.expect(rt, "memory");
+    assert!(rt; stores.as_slice() == want, "for {subtype}");
+}
+
+// The one route is of APID 100, service 3, subtype 25, to this store.
+fn has_one_route(rt: &impl Host, memory: &Memory, store: StoreId) {
+    let (apid, service, subtype) = (100, 3, 25);
+    let row = RouteRow {
+        apid,
+        service,
+        subtype,
+        store,
+    };
+    assert!(rt; memory.control().list() == [row].as_slice());
+}
+
+#[test]
+fn routes_of_setup(rt: HostRuntime) {
+    let memory = memory_of(&rt, TWO_STORES);
+    let sci = id(&rt, b"SCI");
+    has_one_route(&rt, &memory, sci);
+    leads_to(&rt, &memory, 25, &[sci]);
+    leads_to(&rt, &memory, 26, &[]);
+}
+
+// While the stores are lifted the memory has its route, and no store.
+#[test]
 fn lifted_stores_are_put_back(rt: HostRuntime) {
-    let mut memory = memory_of(&rt, rt.alloc(), TWO_STORES);
+    let mut memory = memory_of(&rt, TWO_STORES);
     stands_whole(&rt, &memory, "before");
     let stores = memory.lift();
-    is_empty(&rt, &memory, &stores);
+    assert!(rt; stores.len() == 2 && memory.entry(0).is_none());
+    has_counts(&rt, "lifted", &memory, 0, 1);
     memory.restore(stores);
     stands_whole(&rt, &memory, "restored");
 }
 
 // Sets the storage of a store off, by the state that the memory lends.
-fn disable(rt: &impl Abort, memory: &mut Memory, id: &StoreId) {
+fn disable(rt: &impl Host, memory: &mut Memory, id: &StoreId) {
     memory.state_mut(id).expect(rt, "a store").disable();
 }
 
 #[test]
 fn a_lent_state_is_the_store_s_state(rt: HostRuntime) {
-    let mut memory = memory_of(&rt, rt.alloc(), TWO_STORES);
+    let mut memory = memory_of(&rt, TWO_STORES);
     let (sci, hk) = (id(&rt, b"SCI"), id(&rt, b"HK"));
     disable(&rt, &mut memory, &hk);
     has_shape(&rt, "lent", &memory, &hk, (Kind::Circular, 2, 0, false));
@@ -337,14 +257,8 @@ fn a_lent_state_is_the_store_s_state(rt: HostRuntime) {
 }
 
 // Its own refusals and those of the crates below it are printed so.
-static SHOWN: [(Fault, &str); 2] = [
-    (Fault::TooManyStores, "25 TooManyStores"),
-    (Fault::State(mm_desk::Fault::Busy), "18 Busy"),
-];
-
 #[test]
 fn refusals_are_printed_with_number_and_name(rt: HostRuntime) {
-    for (fault, text) in &SHOWN {
-        is_shown(&rt, rt.alloc(), fault, text);
-    }
+    is_shown(&rt, &Fault::TooManyStores, "25 TooManyStores");
+    is_shown(&rt, &Fault::State(mm_desk::Fault::Busy), "18 Busy");
 }

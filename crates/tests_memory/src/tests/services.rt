@@ -1,10 +1,8 @@
 //! The storage service, called with octets.
-use crate::tests::samples::{TWO_STORES, is_shown};
+use crate::tests::samples::{Host, TWO_STORES, is_shown};
 use mm_desk::Fault as StateFault;
 use mm_packet::BLOCK;
 use mm_service::{DONE, Fate, Fault, Given, INSTRUCTIONS, Reported, Service, Tally};
-use std::alloc::Global;
-use std::process::Abort;
 
 // Telemetry of APID 100, service 3, subtype 25, with no data; and with an octet after it.
 const PACKET: [u8; 21] = *b"\x08\x64\xC0\0\0\x0E\x20\x03\x19\0\0\0\0\0\0\0\0\0\0\0\0";
@@ -23,34 +21,44 @@ const STATUS: [u8; 11] = *b"\x18\x64\xC0\0\0\x04\x20\x0F\x12\0\0";
 const STATUSES: [u8; 42] =
     *b"\x08\x64\xC0\0\0\x23\x20\x0F\x13\0\0\0\0\0\0\0\0\0\0\0\x07\x02SCI     \x01\0HK      \x01\0";
 
-fn opened(rt: &impl Abort, alloc: Global) -> Service {
-    Service::open(alloc, TWO_STORES.as_bytes()).expect(rt, "a setup")
+fn opened(rt: &impl Host) -> Service {
+    Service::open(rt.alloc(), TWO_STORES.as_bytes()).expect(rt, "a setup")
 }
 
 // The request has this many instructions, which are done.
-fn does(rt: &impl Abort, alloc: Global, service: &mut Service, request: &[u8], count: usize) {
+fn does(rt: &impl Host, service: &mut Service, request: &[u8], count: usize) {
     let mut each = [0; INSTRUCTIONS];
-    let applied = service.apply(alloc, 7, request, &mut each);
+    let applied = service.apply(rt.alloc(), 7, request, &mut each);
     assert!(rt; applied == Ok(count), "{applied:?}");
     for code in each.iter().take(count) {
         assert!(rt; *code == DONE, "{code}");
     }
 }
 
-// The packet is recorded at a moment: this becomes of it.
-fn records(rt: &impl Abort, alloc: Global, service: &mut Service, now: u64, want: Tally) {
-    let recorded = service.record(alloc, now, &PACKET);
+// The packet is recorded at a moment: so often it is kept, lost and refused.
+fn records(
+    rt: &impl Host,
+    service: &mut Service,
+    now: u64,
+    (kept, lost, refused): (u32, u32, u32),
+) {
+    let recorded = service.record(rt.alloc(), now, &PACKET);
+    let want = Tally {
+        kept,
+        lost,
+        refused,
+    };
     assert!(rt; recorded == Ok(want), "{recorded:?}");
 }
 
 // The packet is offered to SCI at a moment: this becomes of it.
-fn offers(rt: &impl Abort, alloc: Global, service: &mut Service, now: u64, want: Fate) {
-    let offered = service.offer(alloc, b"SCI", now, &PACKET);
+fn offers(rt: &impl Host, service: &mut Service, now: u64, want: Fate) {
+    let offered = service.offer(rt.alloc(), b"SCI", now, &PACKET);
     assert!(rt; offered == Ok(want), "{offered:?}");
 }
 
 // The buffer was full of the octet 9, and has these octets at its head.
-fn holds(rt: &impl Abort, buffer: &[u8], head: &[u8]) {
+fn holds(rt: &impl Host, buffer: &[u8], head: &[u8]) {
     let rest = buffer.strip_prefix(head).expect(rt, "its head");
     for octet in rest {
         assert!(rt; *octet == 9, "{head:?}");
@@ -58,12 +66,7 @@ fn holds(rt: &impl Abort, buffer: &[u8], head: &[u8]) {
 }
 
 // What the retrieval from SCI gives next, and the octets that it writes.
-fn next_is(
-    rt: &impl Abort,
-    service: &mut Service,
-    want: Result<Option<Given>, Fault>,
-    head: &[u8],
-) {
+fn next_is(rt: &impl Host, service: &mut Service, want: Result<Option<Given>, Fault>, head: &[u8]) {
     let mut buffer = [9; BLOCK];
     let given = service.next(b"SCI", &mut buffer);
     holds(rt, &buffer, head);
@@ -71,29 +74,17 @@ fn next_is(
 }
 
 // The next packet of the retrieval has this storage time.
-fn gives(rt: &impl Abort, service: &mut Service, time: u64) {
+fn gives(rt: &impl Host, service: &mut Service, time: u64) {
     let given = Given { time, len: 21 };
     next_is(rt, service, Ok(Some(given)), &PACKET);
 }
 
-const KEPT: Tally = Tally {
-    kept: 1,
-    lost: 0,
-    refused: 0,
-};
-
-const REFUSED: Tally = Tally {
-    kept: 0,
-    lost: 0,
-    refused: 1,
-};
-
 #[test]
 fn packets_are_recorded_offered_and_retrieved(rt: HostRuntime) {
-    let mut service = opened(&rt, rt.alloc());
-    records(&rt, rt.alloc(), &mut service, 5, KEPT);
-    offers(&rt, rt.alloc(), &mut service, 5, Fate::Kept(6));
-    does(&rt, rt.alloc(), &mut service, &RETRIEVE, 1);
+    let mut service = opened(&rt);
+    records(&rt, &mut service, 5, (1, 0, 0));
+    offers(&rt, &mut service, 5, Fate::Kept(6));
+    does(&rt, &mut service, &RETRIEVE, 1);
     gives(&rt, &mut service, 5);
     gives(&rt, &mut service, 6);
     next_is(&rt, &mut service, Ok(None), b"");
@@ -102,48 +93,30 @@ fn packets_are_recorded_offered_and_retrieved(rt: HostRuntime) {
 
 #[test]
 fn a_store_that_refuses_is_counted(rt: HostRuntime) {
-    let mut service = opened(&rt, rt.alloc());
-    does(&rt, rt.alloc(), &mut service, &DISABLE, 1);
-    records(&rt, rt.alloc(), &mut service, 8, REFUSED);
+    let mut service = opened(&rt);
+    does(&rt, &mut service, &DISABLE, 1);
+    records(&rt, &mut service, 8, (0, 0, 1));
 }
 
 // What a call for the next report tells.
-fn reports(
-    rt: &impl Abort,
-    alloc: Global,
-    service: &mut Service,
-    buffer: &mut [u8],
-    want: Reported,
-) {
-    let told = service.report(alloc, buffer);
+fn reports(rt: &impl Host, service: &mut Service, buffer: &mut [u8], want: Reported) {
+    let told = service.report(rt.alloc(), buffer);
     assert!(rt; told == Ok(want), "{told:?}");
 }
 
 #[test]
 fn a_report_waits_until_there_is_room(rt: HostRuntime) {
-    let mut service = opened(&rt, rt.alloc());
-    does(&rt, rt.alloc(), &mut service, &STATUS, 0);
+    let mut service = opened(&rt);
+    does(&rt, &mut service, &STATUS, 0);
     let (mut short, mut long) = ([9; 41], [9; 43]);
-    reports(
-        &rt,
-        rt.alloc(),
-        &mut service,
-        &mut short,
-        Reported::TooSmall(42),
-    );
+    reports(&rt, &mut service, &mut short, Reported::TooSmall(42));
     holds(&rt, &short, b"");
-    reports(
-        &rt,
-        rt.alloc(),
-        &mut service,
-        &mut long,
-        Reported::Written(42),
-    );
+    reports(&rt, &mut service, &mut long, Reported::Written(42));
     holds(&rt, &long, &STATUSES);
-    reports(&rt, rt.alloc(), &mut service, &mut long, Reported::End);
+    reports(&rt, &mut service, &mut long, Reported::End);
 }
 
-// Offers that are refused: an identifier, a packet, and what is shown of the refusal.
+// Offers that are refused: an identifier, a packet, at moment 8, and what is shown of the refusal.
 static REFUSED_OFFERS: [(&[u8], &[u8], &str); 5] = [
     (b"sci", &PACKET, "15 BadId"),
     (b"CAM", &PACKET, "23 NoSuchStore"),
@@ -152,25 +125,14 @@ static REFUSED_OFFERS: [(&[u8], &[u8], &str); 5] = [
     (b"CAM", &MORE, "49 HexLine"),
 ];
 
-// The offer of a packet at moment 8 is refused, and shown so.
-fn refuses(
-    rt: &impl Abort,
-    alloc: Global,
-    service: &mut Service,
-    id: &[u8],
-    packet: &[u8],
-    text: &str,
-) {
-    let fault = service.offer(alloc, id, 8, packet).expect_err(rt, text);
-    is_shown(rt, alloc, &fault, text);
-}
-
 #[test]
 fn offers_that_are_refused(rt: HostRuntime) {
-    let mut service = opened(&rt, rt.alloc());
-    does(&rt, rt.alloc(), &mut service, &DISABLE, 1);
+    let mut service = opened(&rt);
+    does(&rt, &mut service, &DISABLE, 1);
     for (id, packet, text) in &REFUSED_OFFERS {
-        refuses(&rt, rt.alloc(), &mut service, id, packet, text);
+        let offered = service.offer(rt.alloc(), id, 8, packet);
+        let fault = offered.expect_err(&rt, text);
+        is_shown(&rt, &fault, text);
     }
 }
 
@@ -189,12 +151,12 @@ static NAMES_OF_NO_STORE: [(&[u8], &str); 9] = [
 
 #[test]
 fn next_packets_of_no_store(rt: HostRuntime) {
-    let mut service = opened(&rt, rt.alloc());
-    does(&rt, rt.alloc(), &mut service, &RETRIEVE, 1);
+    let mut service = opened(&rt);
+    does(&rt, &mut service, &RETRIEVE, 1);
     for (name, text) in &NAMES_OF_NO_STORE {
         let mut buffer = [9; BLOCK];
         let fault = service.next(name, &mut buffer).expect_err(&rt, text);
-        is_shown(&rt, rt.alloc(), &fault, text);
+        is_shown(&rt, &fault, text);
         holds(&rt, &buffer, b"");
     }
 }

@@ -1,8 +1,9 @@
 //! Reports, to the octet, and their numbers.
-use super::{CONFIGURATIONS, Talk, each_answers};
-use mm_ask::{Asked, Counters, Numbers, Outcome, request_of};
+use super::{Talk, each_answers};
+use crate::tests::samples::Host;
+use mm_ask::Outcome::{AllDone, SomeRefused};
+use mm_ask::{Counters, Numbers, request_of};
 use mm_st15::ReportKind;
-use std::process::Abort;
 
 const EVERY_REQUEST: &str = "\
 1864C000000D200F010000015343492020202020
@@ -48,73 +49,60 @@ const EVERY_ANSWER: &str = "\
 17 report 0864C003001D200F17000000000000000000000011015343492020202020000000050005
 ";
 
-static TALKS: [Talk; 4] = talks! {
+static REPORTS: [Talk; 4] = wanted! {
     // The report is sent from the request's APID; acknowledgement flags and sequence count are not repeated.
-    "a report goes to the request's source", "187BC00500042F0F161234" => AllDone,
-    "1 report 087BC000001D200F17000012340000000000000001015343492020202020000000040100\n";
+    "a report goes to the request's source", "187BC00500042F0F161234", AllDone
+    => "1 report 087BC000001D200F17000012340000000000000001015343492020202020000000040100\n";
     // The sequence count runs over all reports, the message type counter over those of a subtype.
     "numbers of reports rise",
-    "1864C0000004200F160000\n1864C0000004200F160000\n1864C0000004200F120000\n1864C0000004200F160000\n"
-    => AllDone,
-    "1 report 0864C000001D200F17000000000000000000000001015343492020202020000000040100\n\
+    "1864C0000004200F160000\n1864C0000004200F160000\n1864C0000004200F120000\n1864C0000004200F160000\n", AllDone
+    => "1 report 0864C000001D200F17000000000000000000000001015343492020202020000000040100\n\
     2 report 0864C001001D200F17000100000000000000000002015343492020202020000000040100\n\
     3 report 0864C0020019200F130000000000000000000000030153434920202020200100\n\
     4 report 0864C003001D200F17000200000000000000000004015343492020202020000000040100\n";
     // Request 5 is answered by report 6, 12 by 13, 18 by 19, and 22 by 23.
-    "every request once", EVERY_REQUEST => AllDone, EVERY_ANSWER;
+    "every request once", EVERY_REQUEST, AllDone => EVERY_ANSWER;
     // Two reports on one request; the refused instruction between them has none.
     "a report for each accepted instruction",
-    "1864C000001D200F050000035343492020202020484B2020202020205343492020202020\n"
-    => SomeRefused,
-    "1.1 done\n1.2 refused 23 NoSuchStore\n1.3 done\n\
+    "1864C000001D200F050000035343492020202020484B2020202020205343492020202020\n", SomeRefused
+    => "1.1 done\n1.2 refused 23 NoSuchStore\n1.3 done\n\
     1 report 0864C000001C200F060000000000000000000000015343492020202020000100640319\n\
     1 report 0864C001001C200F060001000000000000000000015343492020202020000100640319\n";
 };
 
 #[test]
 fn reports_are_printed(rt: HostRuntime) {
-    each_answers(&rt, &TALKS);
+    each_answers(&rt, &REPORTS);
 }
 
-// The numbers of the next report of a kind are these.
-fn numbered(
-    rt: &impl Abort,
-    counters: &mut Counters,
-    kind: ReportKind,
-    sequence: u16,
-    counter: u16,
-) {
-    assert!(rt; counters.next(kind) == Numbers { sequence, counter });
+// The sequence count and the message type counter of the next report of a kind are these.
+fn numbered(rt: &impl Host, counters: &mut Counters, kind: ReportKind, want: (u16, u16)) {
+    let Numbers { sequence, counter } = counters.next(kind);
+    assert!(rt; (sequence, counter) == want, "{sequence} {counter}");
 }
 
 #[test]
 fn counters_by_kind(rt: HostRuntime) {
     let mut counters = Counters::new();
-    numbered(&rt, &mut counters, ReportKind::Control, 0, 0);
-    numbered(&rt, &mut counters, ReportKind::Summaries, 1, 0);
-    numbered(&rt, &mut counters, ReportKind::Control, 2, 1);
+    numbered(&rt, &mut counters, ReportKind::Control, (0, 0));
+    numbered(&rt, &mut counters, ReportKind::Summaries, (1, 0));
+    numbered(&rt, &mut counters, ReportKind::Control, (2, 1));
 }
 
-// After the greatest number comes 0: after 65,536 reports of a subtype, which are four times
-// 16,384.
+// After the greatest number comes 0: after 65,536 reports of a subtype, which are four times 16,384.
 #[test]
 fn counters_begin_again(rt: HostRuntime) {
     let mut counters = Counters::new();
     for _ in 0..65_535u32 {
         let _ = counters.next(ReportKind::Statuses);
     }
-    numbered(&rt, &mut counters, ReportKind::Statuses, 16_383, 65_535);
-    numbered(&rt, &mut counters, ReportKind::Statuses, 0, 0);
-}
-
-// The line asks for this subtype, from this APID.
-fn asks_for(rt: &impl Abort, asked: &Asked, subtype: u8, apid: u16) {
-    assert!(rt; asked.request.subtype() == subtype);
-    assert!(rt; asked.packet.apid() == apid);
+    numbered(&rt, &mut counters, ReportKind::Statuses, (16_383, 65_535));
+    numbered(&rt, &mut counters, ReportKind::Statuses, (0, 0));
 }
 
 #[test]
 fn a_line_s_request(rt: HostRuntime) {
-    let asked = request_of(rt.alloc(), CONFIGURATIONS.as_bytes()).expect(&rt, "a request");
-    asks_for(&rt, &asked, 22, 100);
+    let asked = request_of(rt.alloc(), b"1864C0000004200F160000").expect(&rt, "a request");
+    let told = (asked.request.subtype(), asked.packet.apid());
+    assert!(rt; told == (22, 100), "{told:?}");
 }

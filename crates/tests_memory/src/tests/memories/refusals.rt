@@ -1,16 +1,17 @@
 //! Which of two refusals comes first.
-use super::{
-    BAD_ENUM, BAD_ID, BAD_SIZE, BUSY, DONE, EXISTS, NO_SUCH_ROUTE, NO_SUCH_STORE, STORAGE_ON,
-    TABLE_FULL, TOO_MANY_STORES, asks, has_counts, id, memory_of, stands,
+use super::{asks, has_counts, id, memory_of, stands};
+use crate::tests::samples::{Host, ONE_STORE};
+use mm_control::Fault::{NoSuchRoute, TableFull};
+use mm_desk::Fault::{Busy, StorageOn};
+use mm_memory::Answer::{Done, Refused};
+use mm_memory::Fault::{
+    BadEnum, BadId, BadSize, Control, Exists, NoSuchStore, State, TooManyStores,
 };
-use crate::tests::samples::ONE_STORE;
 use mm_memory::{Answer, Memory};
-use std::alloc::Global;
-use std::process::Abort;
 
 // Cases by their answers: a subtype, an identifier, and the fields after it.
 macro_rules! cases {
-    ($($want:ident: $($subtype:literal $id:ident $fields:expr),*;)*) => {
+    ($($want:expr => $($subtype:literal $id:ident $fields:expr),*;)*) => {
         [$($(Case { subtype: $subtype, id: $id, fields: $fields, want: $want }),*),*]
     };
 }
@@ -60,18 +61,18 @@ struct Case {
 }
 
 // The data of a request with one instruction.
-fn data_of(rt: &impl Abort, alloc: Global, case: &Case) -> Vec<u8> {
-    let mut data = [1].to_vec(alloc).expect(rt, "memory");
+fn data_of(rt: &impl Host, case: &Case) -> Vec<u8> {
+    let mut data = [1].to_vec(rt.alloc()).expect(rt, "memory");
     data.extend_from_slice(&case.id).expect(rt, "memory");
     data.extend_from_slice(case.fields).expect(rt, "memory");
     data
 }
 
 // Asks for each by itself, and compares the answers.
-fn asks_each(rt: &impl Abort, alloc: Global, memory: &mut Memory, name: &str, cases: &[Case]) {
+fn asks_each(rt: &impl Host, memory: &mut Memory, name: &str, cases: &[Case]) {
     for case in cases {
-        let data = data_of(rt, alloc, case);
-        asks(rt, alloc, memory, name, (case.subtype, &data), &[case.want]);
+        let data = data_of(rt, case);
+        asks(rt, memory, name, (case.subtype, &data), &[case.want]);
     }
 }
 
@@ -79,80 +80,80 @@ fn asks_each(rt: &impl Abort, alloc: Global, memory: &mut Memory, name: &str, ca
 // before a size, and each of them before what there is; a store that is not there before what it would answer. Storage on comes
 // before a retrieval, and a retrieval before its range.
 static CASES: [Case; 39] = cases! {
-    DONE: 20 READ FORM, 9 READ RANGE, 20 BOTH FORM, 9 BOTH RANGE, 1 BOTH b"";
+    Done => 20 READ FORM, 9 READ RANGE, 20 BOTH FORM, 9 BOTH RANGE, 1 BOTH b"";
 
-    BAD_ID: 20 BAD BAD_KIND, 20 BAD BAD_CHANNEL_AND_SIZE, 20 BAD TOO_LARGE, 3 BAD BAD_TYPE, 4 BAD BAD_TYPE,
+    Refused(BadId) => 20 BAD BAD_KIND, 20 BAD BAD_CHANNEL_AND_SIZE, 20 BAD TOO_LARGE, 3 BAD BAD_TYPE, 4 BAD BAD_TYPE,
         28 BAD b"\x08", 25 BAD b"\0\0\0\0", 9 BAD LATE, 21 BAD b"";
 
-    BAD_ENUM: 20 NONE BAD_KIND_AND_SIZE, 20 NONE BAD_CHANNEL_AND_SIZE, 20 SCI BAD_KIND;
-    BAD_SIZE: 20 SCI TOO_LARGE;
-    BAD_ENUM: 3 NONE BAD_TYPE, 4 NONE BAD_TYPE, 4 SCI BAD_TYPE, 28 NONE b"\x08", 28 SCI b"\x08", 28 READ b"\x08";
-    BAD_SIZE: 25 NONE b"\x00\x0F\x42\x41", 25 SCI b"\0\0\0\0", 25 READ b"\0\0\0\0", 25 BOTH b"\x00\x0F\x42\x41";
+    Refused(BadEnum) => 20 NONE BAD_KIND_AND_SIZE, 20 NONE BAD_CHANNEL_AND_SIZE, 20 SCI BAD_KIND;
+    Refused(BadSize) => 20 SCI TOO_LARGE;
+    Refused(BadEnum) => 3 NONE BAD_TYPE, 4 NONE BAD_TYPE, 4 SCI BAD_TYPE, 28 NONE b"\x08", 28 SCI b"\x08",
+        28 READ b"\x08";
+    Refused(BadSize) => 25 NONE b"\x00\x0F\x42\x41", 25 SCI b"\0\0\0\0", 25 READ b"\0\0\0\0",
+        25 BOTH b"\x00\x0F\x42\x41";
 
-    NO_SUCH_STORE: 9 NONE LATE, 4 NONE OTHER_TYPE;
-    STORAGE_ON: 21 BOTH b"", 25 BOTH b"\0\0\0\x01", 26 BOTH b"", 27 BOTH b"", 28 BOTH b"\x01";
-    BUSY: 21 READ b"", 27 READ b"", 28 READ b"\x01", 9 READ LATE;
+    Refused(NoSuchStore) => 9 NONE LATE, 4 NONE OTHER_TYPE;
+    Refused(State(StorageOn)) => 21 BOTH b"", 25 BOTH b"\0\0\0\x01", 26 BOTH b"", 27 BOTH b"", 28 BOTH b"\x01";
+    Refused(State(Busy)) => 21 READ b"", 27 READ b"", 28 READ b"\x01", 9 READ LATE;
 };
 
 #[test]
 fn the_first_refusal_is_answered(rt: HostRuntime) {
-    let mut memory = memory_of(&rt, rt.alloc(), ONE_STORE);
-    asks_each(&rt, rt.alloc(), &mut memory, "two stores more", &CASES);
+    let mut memory = memory_of(&rt, ONE_STORE);
+    asks_each(&rt, &mut memory, "two stores more", &CASES);
 }
 
 // Where there are sixteen stores.
 static SIXTEEN: [Case; 6] = cases! {
-    TOO_MANY_STORES: 20 NONE FORM;
-    EXISTS: 20 SCI FORM;
-    BAD_SIZE: 20 NONE TOO_LARGE;
-    BAD_ENUM: 20 NONE BAD_KIND;
-    BAD_ID: 20 BAD FORM;
-    NO_SUCH_STORE: 1 NONE b"";
+    Refused(TooManyStores) => 20 NONE FORM;
+    Refused(Exists) => 20 SCI FORM;
+    Refused(BadSize) => 20 NONE TOO_LARGE;
+    Refused(BadEnum) => 20 NONE BAD_KIND;
+    Refused(BadId) => 20 BAD FORM;
+    Refused(NoSuchStore) => 1 NONE b"";
 };
 
 // A store more, with this letter for its identifier.
-fn creates(rt: &impl Abort, alloc: Global, memory: &mut Memory, letter: u8) {
+fn creates(rt: &impl Host, memory: &mut Memory, letter: u8) {
     let mut data = *b"\x01        \x00\x00\x00\x04\x01\x00";
     data[1] = letter;
-    asks(rt, alloc, memory, "a store more", (20, &data), &[DONE]);
+    asks(rt, memory, "a store more", (20, &data), &[Done]);
 }
 
 #[test]
 fn the_first_refusal_where_there_are_sixteen_stores(rt: HostRuntime) {
-    let alloc = rt.alloc();
-    let mut memory = memory_of(&rt, alloc, ONE_STORE);
+    let mut memory = memory_of(&rt, ONE_STORE);
     for letter in b"ABCDEFGHIJKLMNO" {
-        creates(&rt, alloc, &mut memory, *letter);
+        creates(&rt, &mut memory, *letter);
     }
     stands(&rt, "the last", &memory, 15, &id(&rt, b"O"), 0);
-    asks_each(&rt, alloc, &mut memory, "sixteen stores", &SIXTEEN);
+    asks_each(&rt, &mut memory, "sixteen stores", &SIXTEEN);
     has_counts(&rt, "sixteen stores", &memory, 16, 1);
 }
 
 // Where the table has no room.
 static FULL_TABLE: [Case; 6] = cases! {
-    TABLE_FULL: 3 SCI OTHER_TYPE;
-    DONE: 3 SCI TYPE;
-    NO_SUCH_STORE: 3 NONE OTHER_TYPE;
-    BAD_ENUM: 3 SCI BAD_TYPE;
-    BAD_ID: 3 BAD OTHER_TYPE;
-    NO_SUCH_ROUTE: 4 SCI OTHER_TYPE;
+    Refused(Control(TableFull)) => 3 SCI OTHER_TYPE;
+    Done => 3 SCI TYPE;
+    Refused(NoSuchStore) => 3 NONE OTHER_TYPE;
+    Refused(BadEnum) => 3 SCI BAD_TYPE;
+    Refused(BadId) => 3 BAD OTHER_TYPE;
+    Refused(Control(NoSuchRoute)) => 4 SCI OTHER_TYPE;
 };
 
 // A route more, of the APID 256 and that many.
-fn routes(rt: &impl Abort, alloc: Global, memory: &mut Memory, apid: u8) {
+fn routes(rt: &impl Host, memory: &mut Memory, apid: u8) {
     let mut data = *b"\x01SCI     \x01\x00\x03\x19";
     data[10] = apid;
-    asks(rt, alloc, memory, "a route more", (3, &data), &[DONE]);
+    asks(rt, memory, "a route more", (3, &data), &[Done]);
 }
 
 #[test]
 fn the_first_refusal_of_a_full_table(rt: HostRuntime) {
-    let alloc = rt.alloc();
-    let mut memory = memory_of(&rt, alloc, ONE_STORE);
+    let mut memory = memory_of(&rt, ONE_STORE);
     for apid in 0..255u8 {
-        routes(&rt, alloc, &mut memory, apid);
+        routes(&rt, &mut memory, apid);
     }
     has_counts(&rt, "a full table", &memory, 1, 256);
-    asks_each(&rt, alloc, &mut memory, "a full table", &FULL_TABLE);
+    asks_each(&rt, &mut memory, "a full table", &FULL_TABLE);
 }
