@@ -1,16 +1,11 @@
 //! Tests of the crates that store packets, of what all crates share, and of the words for people.
 
-// Packets spelled by hand, each with its subtype.
-macro_rules! spelled {
-    ($($subtype:literal $octets:ident),+) => { [$(($subtype, &$octets)),+] };
-}
-
 // Some octets are refused as a request or report with this fault.
 macro_rules! refuses {
-    ($rt:expr, $alloc:expr, $octets:expr, $message:ident, $fault:expr) => {{
-        let packet = packet_of($rt, $alloc, $octets);
-        let refusal = $message::read($alloc, &packet).expect_err($rt, "a refusal");
-        is_fault($rt, refusal, $fault);
+    ($rt:expr, $octets:expr, $message:ident, $fault:expr) => {{
+        let packet = packet_of($rt, $octets);
+        let refusal = $message::read($rt.alloc(), &packet).expect_err($rt, "a refusal");
+        assert!($rt; refusal == $fault, "{refusal} and not {}", $fault);
     }};
 }
 
@@ -22,6 +17,15 @@ macro_rules! refused {
 // Tables of cases: what each row gives, and what is wanted.
 macro_rules! wanted {
     ($($($given:expr),+ => $want:expr;)*) => { [$(($($given),+, $want)),*] };
+}
+
+// A struct by its fields, and tables of structs: the fields of each row.
+macro_rules! row {
+    ($kind:ident; $($field:ident $value:expr),+) => { $kind { $($field: $value),+ } };
+}
+
+macro_rules! table {
+    ($kind:ident; $($($field:ident $value:expr),+;)+) => { [$(row!($kind; $($field $value),+)),+] };
 }
 
 mod bases;

@@ -1,10 +1,9 @@
 //! Identifiers, kinds, numbers and lines, and refusals of several types in one text.
-use crate::tests::samples::is_shown;
+use crate::tests::samples::{Host, is_shown};
 use mm_base::numbers::{Numeral, push_number};
 use mm_base::{Fault, Kind, NoMemory, StoreId, lines};
-use std::process::Abort;
 
-fn id(rt: &impl Abort, text: &str) -> StoreId {
+fn id(rt: &impl Host, text: &str) -> StoreId {
     StoreId::of_text(text.as_bytes()).expect(rt, "an identifier")
 }
 
@@ -13,7 +12,7 @@ static BAD_TEXTS: [&str; 5] = ["", "sci", "A B", "ABCDEFGHI", "\u{c4}"];
 static BAD_FIELDS: [[u8; 8]; 4] = [*b"        ", *b" SCI    ", *b"SC I    ", *b"SCI\0\0\0\0\0"];
 
 // What is read is this identifier, or refused so.
-fn is_read(rt: &impl Abort, read: Result<StoreId, Fault>, want: Result<StoreId, Fault>) {
+fn is_read(rt: &impl Host, read: Result<StoreId, Fault>, want: Result<StoreId, Fault>) {
     assert!(rt; read == want, "{read:?}");
 }
 
@@ -59,8 +58,8 @@ fn identifiers_are_parsed_and_converted(rt: HostRuntime) {
 fn kinds_are_converted_and_shown(rt: HostRuntime) {
     let kinds = [Kind::try_from(0), Kind::try_from(2)];
     assert!(rt; kinds == [Ok(Kind::Circular), Err(Fault::BadEnum)]);
-    is_shown(&rt, rt.alloc(), &Kind::Circular, "circular");
-    is_shown(&rt, rt.alloc(), &Kind::Bounded, "bounded");
+    is_shown(&rt, &Kind::Circular, "circular");
+    is_shown(&rt, &Kind::Bounded, "bounded");
 }
 
 static NUMERALS: [(&str, Numeral); 7] = [

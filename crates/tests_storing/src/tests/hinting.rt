@@ -1,10 +1,9 @@
 //! What is found in files that are refused, in the words of docs/FORMATS.md.
 
-use crate::tests::samples::is_shown;
+use crate::tests::samples::{Host, is_shown};
 use mm_base::Refusal;
 use mm_problem::{Fault, Setup, read_problem};
 use mm_told::{Reason, RequestHints, Spot, Texts, hint_for};
-use std::process::Abort;
 
 // The texts of a task of which these are some.
 fn texts_of<'a>(setup: &'a str, forecast: &'a str, sources: &'a str) -> Texts<'a> {
@@ -18,9 +17,9 @@ fn texts_of<'a>(setup: &'a str, forecast: &'a str, sources: &'a str) -> Texts<'a
 }
 
 // This is found in the texts, which are refused for this reason.
-fn hints<R: Abort + AllocGlobal>(rt: &R, reason: Reason, texts: Texts<'_>, hint: &str) {
+fn hints(rt: &impl Host, reason: Reason, texts: Texts<'_>, hint: &str) {
     let found = hint_for(rt.alloc(), reason, texts).expect(rt, hint);
-    is_shown(rt, rt.alloc(), &found, hint);
+    is_shown(rt, &found, hint);
 }
 
 // Setups that are refused, and what is found in each.
@@ -43,7 +42,7 @@ static SETUPS: [(&str, &str); 8] = wanted! {
     => "table 2 of limit has the channel of an earlier one; leave one of them out";
 };
 
-fn setup_hints<R: Abort + AllocGlobal>(rt: &R, setup: &str, hint: &str) {
+fn setup_hints(rt: &impl Host, setup: &str, hint: &str) {
     let fault = Setup::read(rt.alloc(), setup.as_bytes()).expect_err(rt, "a fault");
     hints(rt, Reason::of_setup(fault), texts_of(setup, "", ""), hint);
 }
@@ -71,7 +70,7 @@ static FORECASTS: [(&str, Fault, &str); 5] = wanted! {
     => "the header is \"step<tab>window<tab>A\", and \"step,window,A\" is expected";
 };
 
-fn forecast_hints<R: Abort + AllocGlobal>(rt: &R, forecast: &str, fault: Fault, hint: &str) {
+fn forecast_hints(rt: &impl Host, forecast: &str, fault: Fault, hint: &str) {
     let read = read_problem(rt.alloc(), SETUP.as_bytes(), forecast.as_bytes());
     assert!(rt; read.expect_err(rt, "a fault") == fault, "{forecast}");
     hints(
@@ -92,7 +91,7 @@ fn faults_of_forecasts_are_shown(rt: HostRuntime) {
 const PACKET: &str = "0864C000000E200319000000000000000000000000\n";
 
 // So many lines of sources with a packet of this source and step.
-fn lines_of<R: Abort + AllocGlobal>(rt: &R, text: &mut String, front: &str, lines: u32) {
+fn lines_of(rt: &impl Host, text: &mut String, front: &str, lines: u32) {
     for _ in 0..lines {
         text.push_str(front).expect(rt, "memory");
         text.push_str(PACKET).expect(rt, "memory");
@@ -100,7 +99,7 @@ fn lines_of<R: Abort + AllocGlobal>(rt: &R, text: &mut String, front: &str, line
 }
 
 // In a line of sources that is refused, after this many of the same source and step and one of each of two others, this is found.
-fn sources_hint<R: Abort + AllocGlobal>(rt: &R, lines: u32, line: u64, hint: &str) {
+fn sources_hint(rt: &impl Host, lines: u32, line: u64, hint: &str) {
     let mut text = String::new(rt.alloc());
     lines_of(rt, &mut text, "2 3 ", 1);
     lines_of(rt, &mut text, "1 3 ", lines);
@@ -142,12 +141,12 @@ static REQUESTS: [(&[u8], u64, &str); 5] = wanted! {
 };
 
 // The line is found in the same way first and after later lines, and has no hint on another refusal.
-fn request_hints<R: Abort + AllocGlobal>(rt: &R, requests: &[u8], line: u64, hint: &str) {
+fn request_hints(rt: &impl Host, requests: &[u8], line: u64, hint: &str) {
     let mut found = RequestHints::new(requests);
     for later in [0, 1, 9] {
         let _ = found.hint(Refusal::Short, line.saturating_add(later));
         let first = found.hint(Refusal::HexLine, line).expect(rt, hint);
-        is_shown(rt, rt.alloc(), &first, hint);
+        is_shown(rt, &first, hint);
         assert!(rt; found.hint(Refusal::NotSt15, line).is_none(), "{hint}");
     }
 }

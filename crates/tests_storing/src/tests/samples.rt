@@ -1,9 +1,13 @@
-//! Packets spelled by hand, and how packets and refusals are compared.
+//! Packets spelled by hand, what tests call with, and how packets and refusals are compared.
 use mm_packet::Packet;
-use mm_st15::{Configuration, Fault};
-use std::alloc::Global;
+use mm_st15::Configuration;
 use std::fmt::Display;
 use std::process::Abort;
+
+/// What gives memory, and ends a test that fails.
+pub trait Host: Abort + AllocGlobal {}
+
+impl<R: Abort + AllocGlobal> Host for R {}
 
 /// A request of APID 100, count 0 and source 0: service 15, subtype 1, with the data 01 and an identifier of eight octets.
 pub const ENABLE: [u8; 20] = *b"\x18\x64\xC0\0\0\x0D\x20\x0F\x01\0\0\x01SCI     ";
@@ -22,44 +26,29 @@ pub const SCI: [u8; 8] = *b"SCI     ";
 pub const HK: [u8; 8] = *b"HK      ";
 
 /// The two stores that the request creates, the first of which the report has.
-pub const STORES: [Configuration; 2] = [
-    Configuration {
-        id: SCI,
-        size: 4,
-        kind: 1,
-        channel: 0,
-    },
-    Configuration {
-        id: HK,
-        size: 2,
-        kind: 0,
-        channel: 1,
-    },
-];
+pub const STORES: [Configuration; 2] = table! { Configuration;
+    id SCI, size 4, kind 1, channel 0;
+    id HK, size 2, kind 0, channel 1;
+};
 
 /// The first packet of these octets.
-pub fn packet_of(rt: &impl Abort, alloc: Global, octets: &[u8]) -> Packet {
-    let (packet, _rest) = Packet::parse(alloc, octets).expect(rt, "a packet");
+pub fn packet_of(rt: &impl Host, octets: &[u8]) -> Packet {
+    let (packet, _rest) = Packet::parse(rt.alloc(), octets).expect(rt, "a packet");
     packet
 }
 
 /// The octets of a packet.
-pub fn written(rt: &impl Abort, alloc: Global, packet: &Packet) -> Vec<u8> {
-    packet.write(alloc).expect(rt, "memory")
+pub fn written(rt: &impl Host, packet: &Packet) -> Vec<u8> {
+    packet.write(rt.alloc()).expect(rt, "memory")
 }
 
 /// The packet is written as these octets.
-pub fn writes(rt: &impl Abort, alloc: Global, packet: &Packet, octets: &[u8]) {
-    assert!(rt; written(rt, alloc, packet).as_slice() == octets);
+pub fn writes(rt: &impl Host, packet: &Packet, octets: &[u8]) {
+    assert!(rt; written(rt, packet).as_slice() == octets);
 }
 
-/// The refusal is this one.
-pub fn is_fault(rt: &impl Abort, refusal: Fault, want: Fault) {
-    assert!(rt; refusal == want, "{refusal} and not {want}");
-}
-
-/// It is printed so.
-pub fn is_shown(rt: &impl Abort, alloc: Global, refusal: &impl Display, text: &str) {
-    let shown = refusal.to_string(alloc).expect(rt, "memory");
+/// A value is printed so.
+pub fn is_shown(rt: &impl Host, refusal: &impl Display, text: &str) {
+    let shown = refusal.to_string(rt.alloc()).expect(rt, "memory");
     assert!(rt; shown.as_str() == text, "{text}");
 }

@@ -1,132 +1,69 @@
 //! Each refusal as it is printed, and its words.
-use crate::tests::samples::is_shown;
+use crate::tests::samples::{Host, is_shown};
 use mm_base::Refusal;
 use mm_cut::Verdict;
 use mm_told::Words;
-use std::process::Abort;
 
-// Refusals, and the text of each.
-macro_rules! refusals {
-    ($($refusal:ident => $text:literal;)*) => { [$((Refusal::$refusal, $text)),*] };
+// Refusals, and the name that each is printed with.
+macro_rules! names {
+    ($($refusal:ident $($name:literal)?),*) => { [$((Refusal::$refusal, names!(of $refusal $($name)?))),*] };
+    (of $refusal:ident) => { stringify!($refusal) };
+    (of $refusal:ident $name:literal) => { $name };
 }
 
-// Each refusal with its number and its name, by the tables of docs/FORMATS.md.
-static ALL: [(Refusal, &str); 54] = refusals! {
-    NoMemory => "0 NoMemory";
-    Short => "1 Short";
-    Version => "2 Version";
-    NoSecondaryHeader => "3 NoSecondaryHeader";
-    PusVersion => "4 PusVersion";
-    Segmented => "5 Segmented";
-    IdlePacket => "6 Idle";
-    HeaderCut => "7 HeaderCut";
-    TooLong => "8 TooLong";
-    HoldsMore => "9 HoldsMore";
-    NoSuchRoute => "10 NoSuchRoute";
-    TableFull => "11 TableFull";
-    NotSt15 => "12 NotSt15";
-    UnknownSubtype => "13 UnknownSubtype";
-    CountMismatch => "14 CountMismatch";
-    BadId => "15 BadId";
-    BadEnum => "16 BadEnum";
-    Disabled => "17 Disabled";
-    Busy => "18 Busy";
-    NoRetrieval => "19 Idle";
-    BadRange => "20 BadRange";
-    ClockEnd => "21 ClockEnd";
-    WindowFull => "22 WindowFull";
-    NoSuchStore => "23 NoSuchStore";
-    Exists => "24 Exists";
-    TooManyStores => "25 TooManyStores";
-    StorageOn => "26 StorageOn";
-    SetupText => "27 SetupText";
-    SetupField => "28 SetupField";
-    ForecastText => "29 ForecastText";
-    Header => "30 Header";
-    Cell => "31 Cell";
-    StepNumber => "32 StepNumber";
-    Limit => "33 Limit";
-    PlanText => "34 PlanText";
-    Shape => "35 Shape";
-    Unbounded => "36 Unbounded";
-    SameEnds => "37 SameEnds";
-    PlanShape => "38 PlanShape";
-    NotReady => "39 NotReady";
-    SizeDiffers => "40 SizeDiffers";
-    OpeningDiffers => "41 OpeningDiffers";
-    ClockTooLate => "42 ClockTooLate";
-    PlanDoesNotFit => "43 PlanDoesNotFit";
-    Counts => "44 Counts";
-    NoMemoryInStep => "45 NoMemory";
-    LinkFailed => "46 LinkFailed";
-    LogMismatch => "47 LogMismatch";
-    BadSize => "48 BadSize";
-    HexLine => "49 HexLine";
-    NotRead => "50 NotRead";
-    SourcesText => "51 SourcesText";
-    LinksText => "52 LinksText";
-    ChannelDiffers => "53 ChannelDiffers";
+// Each refusal in the order of its number, from 0, by the tables of docs/FORMATS.md: five a line. It is printed with its own name, or with the
+// one beside it.
+static ALL: [(Refusal, &str); 54] = names! {
+    NoMemory, Short, Version, NoSecondaryHeader, PusVersion,
+    Segmented, IdlePacket "Idle", HeaderCut, TooLong, HoldsMore,
+    NoSuchRoute, TableFull, NotSt15, UnknownSubtype, CountMismatch,
+    BadId, BadEnum, Disabled, Busy, NoRetrieval "Idle",
+    BadRange, ClockEnd, WindowFull, NoSuchStore, Exists,
+    TooManyStores, StorageOn, SetupText, SetupField, ForecastText,
+    Header, Cell, StepNumber, Limit, PlanText,
+    Shape, Unbounded, SameEnds, PlanShape, NotReady,
+    SizeDiffers, OpeningDiffers, ClockTooLate, PlanDoesNotFit, Counts,
+    NoMemoryInStep "NoMemory", LinkFailed, LogMismatch, BadSize, HexLine,
+    NotRead, SourcesText, LinksText, ChannelDiffers
 };
-
-// The refusal has its place in the table for its number.
-fn is_numbered(rt: &impl Abort, number: usize, refusal: Refusal) {
-    assert!(rt; usize::from(refusal.number()) == number, "{refusal}");
-}
 
 #[test]
 fn refusals_are_printed_with_number_and_name(rt: HostRuntime) {
-    for (number, (refusal, text)) in ALL.iter().enumerate() {
-        is_numbered(&rt, number, *refusal);
-        is_shown(&rt, rt.alloc(), refusal, text);
+    for (number, (refusal, name)) in ALL.iter().enumerate() {
+        let text = format!(in rt.alloc(); "{number} {name}").expect(&rt, "memory");
+        assert!(rt; usize::from(refusal.number()) == number, "{refusal}");
+        is_shown(&rt, refusal, text.as_str());
     }
 }
 
-fn has_no_full_stop(rt: &impl Abort, text: &str) {
-    assert!(rt; !text.as_bytes().ends_with(b"."), "{text}");
-}
-
-fn have_no_full_stop(rt: &impl Abort, words: Words) {
-    has_no_full_stop(rt, words.expected);
-    has_no_full_stop(rt, words.advice);
-}
-
-#[test]
-fn each_refusal_has_words_without_a_full_stop(rt: HostRuntime) {
-    for (refusal, _text) in &ALL {
-        have_no_full_stop(&rt, Words::of(*refusal));
+fn have_no_full_stop(rt: &impl Host, words: Words) {
+    for text in [words.expected, words.advice] {
+        assert!(rt; !text.as_bytes().ends_with(b"."), "{text}");
     }
 }
 
 // Two refusals have words of their own.
-fn differ(rt: &impl Abort, words: Words, others: Words) {
+fn differ(rt: &impl Host, words: Words, others: Words) {
     assert!(rt; words.expected != others.expected, "{words}");
     assert!(rt; words.advice != others.advice, "{words}");
 }
 
 // None of these refusals has the words.
-fn are_of_none(rt: &impl Abort, words: Words, refusals: &[(Refusal, &str)]) {
-    for (refusal, _text) in refusals {
+fn are_of_none(rt: &impl Host, words: Words, refusals: &[(Refusal, &str)]) {
+    for (refusal, _name) in refusals {
         differ(rt, words, Words::of(*refusal));
     }
 }
 
+// The words have no full stop, are those of no other refusal, and are found by the refusal's number.
 #[test]
-fn no_two_refusals_have_the_same_words(rt: HostRuntime) {
-    for (i, (refusal, _text)) in ALL.iter().enumerate() {
-        are_of_none(&rt, Words::of(*refusal), &ALL[..i]);
-    }
-}
-
-// The words of this number are those of the refusal.
-fn is_found(rt: &impl Abort, number: u8, refusal: Refusal) {
-    let words = Words::of_number(number);
-    assert!(rt; words == Some(Words::of(refusal)), "{refusal}");
-}
-
-#[test]
-fn refusals_are_found_by_their_numbers(rt: HostRuntime) {
-    for (refusal, _text) in &ALL {
-        is_found(&rt, refusal.number(), *refusal);
+fn each_refusal_has_words_of_its_own(rt: HostRuntime) {
+    for (i, (refusal, _name)) in ALL.iter().enumerate() {
+        let words = Words::of(*refusal);
+        have_no_full_stop(&rt, words);
+        are_of_none(&rt, words, &ALL[..i]);
+        let found = Words::of_number(refusal.number());
+        assert!(rt; found == Some(words), "{refusal}");
     }
     assert!(rt; Words::of_number(54).is_none(), "a number of no refusal");
 }
@@ -141,12 +78,12 @@ static FINDINGS: [Verdict; 7] = [
     Verdict::FirstNotShown(7),
 ];
 
-fn words_of(rt: &impl Abort, verdict: Verdict) -> Words {
+fn words_of(rt: &impl Host, verdict: Verdict) -> Words {
     Words::of_verdict(verdict).expect(rt, "words")
 }
 
 // None of these findings has the words.
-fn are_of_no_finding(rt: &impl Abort, words: Words, findings: &[Verdict]) {
+fn are_of_no_finding(rt: &impl Host, words: Words, findings: &[Verdict]) {
     for verdict in findings {
         differ(rt, words, words_of(rt, *verdict));
     }
@@ -164,17 +101,17 @@ fn findings_have_words_of_their_own(rt: HostRuntime) {
     }
 }
 
-static SHOWN: [(Refusal, &str); 3] = refusals! {
-    Cell =>
-        "expected a whole number of at most 1,000,000, without sign or leading zeros; write plain digits, without spaces";
-    NoRetrieval => "expected a store with a retrieval on; begin a retrieval with subtype 9";
-    Shape =>
-        "expected a plan for the stores and the steps of this setup and this forecast; take the plan that was made from them";
+static SHOWN: [(Refusal, &str); 3] = wanted! {
+    Refusal::Cell
+    => "expected a whole number of at most 1,000,000, without sign or leading zeros; write plain digits, without spaces";
+    Refusal::NoRetrieval => "expected a store with a retrieval on; begin a retrieval with subtype 9";
+    Refusal::Shape
+    => "expected a plan for the stores and the steps of this setup and this forecast; take the plan that was made from them";
 };
 
 #[test]
 fn words_are_shown_in_one_line(rt: HostRuntime) {
     for (refusal, text) in &SHOWN {
-        is_shown(&rt, rt.alloc(), &Words::of(*refusal), text);
+        is_shown(&rt, &Words::of(*refusal), text);
     }
 }

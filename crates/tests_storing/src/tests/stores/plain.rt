@@ -2,9 +2,8 @@
 use super::Call::{DeleteUpTo, FirstIn, PutAt};
 use super::Told::{Deleted, First, Kept, KeptOver, Lost, Nothing};
 use super::{Call, LAST, Step, Told};
+use crate::tests::samples::Host;
 use mm_base::Kind;
-use std::alloc::Global;
-use std::process::Abort;
 
 // A store as a plain list, by the rules alone.
 #[derive(Drop)]
@@ -16,7 +15,7 @@ struct PlainStore {
 }
 
 impl PlainStore {
-    fn put(&mut self, rt: &impl Abort, now: u64, count: u16) -> Told {
+    fn put(&mut self, rt: &impl Host, now: u64, count: u16) -> Told {
         let time = now.max(self.last.saturating_add(1));
         let full = self.held.len() >= self.size;
         if full && self.kind == Kind::Bounded {
@@ -47,7 +46,7 @@ impl PlainStore {
     }
 
     // Adds the look-ups by which all that is held is read.
-    fn list(&self, rt: &impl Abort, steps: &mut Vec<Step>) {
+    fn list(&self, rt: &impl Host, steps: &mut Vec<Step>) {
         let mut after = 0;
         for held in &self.held {
             add(rt, steps, FirstIn(0, LAST, after), First(held.0, held.1));
@@ -57,12 +56,12 @@ impl PlainStore {
     }
 }
 
-fn add(rt: &impl Abort, steps: &mut Vec<Step>, call: Call, answer: Told) {
+fn add(rt: &impl Host, steps: &mut Vec<Step>, call: Call, answer: Told) {
     steps.push((call, answer)).expect(rt, "memory");
 }
 
 // Adds the call that this number draws, and look-ups after it.
-fn draw(rt: &impl Abort, plain: &mut PlainStore, steps: &mut Vec<Step>, drawn: u64, count: u16) {
+fn draw(rt: &impl Host, plain: &mut PlainStore, steps: &mut Vec<Step>, drawn: u64, count: u16) {
     let shift = (drawn >> 40) % 9;
     let now = plain.last.saturating_add(shift);
     let limit = now.saturating_sub(12);
@@ -78,14 +77,14 @@ fn draw(rt: &impl Abort, plain: &mut PlainStore, steps: &mut Vec<Step>, drawn: u
 }
 
 // A thousand puts and deletions, by numbers that a linear congruence draws, and look-ups after each.
-pub(super) fn drawn(rt: &impl Abort, alloc: Global, kind: Kind) -> Vec<Step> {
+pub(super) fn drawn(rt: &impl Host, kind: Kind) -> Vec<Step> {
     let mut plain = PlainStore {
         kind,
         size: 7,
         last: 0,
-        held: Vec::new(alloc),
+        held: Vec::new(rt.alloc()),
     };
-    let mut steps = Vec::new(alloc);
+    let mut steps = Vec::new(rt.alloc());
     let mut drawn: u64 = 12345;
     for count in 0..1000u16 {
         drawn = drawn
