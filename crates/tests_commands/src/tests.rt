@@ -17,6 +17,11 @@ macro_rules! based {
     };
 }
 
+// Lines, each with its line feed.
+macro_rules! lines {
+    ($($line:literal),+) => { [$(concat!($line, "\n")),+] };
+}
+
 mod advising;
 mod asking;
 mod charting;

@@ -1,9 +1,8 @@
 //! What the program says of a refusal on standard error, in the words of docs/FORMATS.md.
 
-use crate::tests::samples::{A_WITH_LIMIT_1, SCI, TWO_STEPS_OF_A, answers, holds, of_plan, told};
-use std::process::Abort;
-use std::sync::Wait;
-use std::thread::Threads;
+use crate::tests::samples::{
+    A_WITH_LIMIT_1, Host, SCI, TWO_STEPS_OF_A, answers, holds, of_plan, told,
+};
 
 // A script whose task is refused, and the line on standard error, or how it begins where a long list of ranges follows.
 static ADVICE: [(&str, &str); 21] = wanted! {
@@ -52,7 +51,7 @@ static ADVICE: [(&str, &str); 21] = wanted! {
 };
 
 // The task is refused, and standard error begins with the advice.
-fn explains<R: Abort + AllocGlobal + Threads + Wait + Sync>(rt: &R, script: &str, advice: &str) {
+fn explains(rt: &impl Host, script: &str, advice: &str) {
     let answer = told(rt, &[script]);
     let is_told = answer.status == 1 && answer.err.as_str().starts_with(advice);
     holds(rt, script, &answer, is_told);
@@ -85,8 +84,11 @@ static FOUND: [(&str, &str); 7] = wanted! {
 };
 
 // Standard error has this remark on a plan and nothing else.
-fn remarks<R: Abort + AllocGlobal + Threads + Wait + Sync>(rt: &R, plan: &str, remark: &str) {
-    let answer = told(rt, &of_plan("check", A_WITH_LIMIT_1, TWO_STEPS_OF_A, plan));
+fn remarks(rt: &impl Host, plan: &str, remark: &str) {
+    let answer = told(
+        rt,
+        &of_plan("check", [A_WITH_LIMIT_1, TWO_STEPS_OF_A, plan]),
+    );
     holds(rt, plan, &answer, answer.err.as_str() == remark);
 }
 
@@ -107,8 +109,6 @@ R, line 1: expected one packet in hexadecimal digits, two for each octet, and no
 hint: line 1 has \"z\", which is no hexadecimal digit
 R, line 2, instruction 1: expected the identifier of a store that is there; list the stores with subtype 22, or create this one with subtype 20
 ";
-
-const REFUSALS_TOLD: &str = "1 refused 49 HexLine\n2.1 refused 23 NoSuchStore\n";
 
 #[test]
 fn refused_lines_are_explained(rt: HostRuntime) {

@@ -1,9 +1,8 @@
 //! What `chart` prints of given plans.
 
-use crate::tests::samples::{FIRST_PLAN, SCI, THREE_STEPS, holds, of_plan, prints, refuses, told};
-use std::process::Abort;
-use std::sync::Wait;
-use std::thread::Threads;
+use crate::tests::samples::{
+    FIRST_PLAN, Host, SCI, THREE_STEPS, holds, of_plan, prints, refuses, told,
+};
 
 // The plan of first_run with a loss that is not its loss.
 const FORGED: &str = "mmplan 1\nstores SCI\ndump 1 2\ndump 2 2\ndump 3 0\nloss 1\nbound 1\nend\n";
@@ -11,14 +10,10 @@ const FORGED: &str = "mmplan 1\nstores SCI\ndump 1 2\ndump 2 2\ndump 3 0\nloss 1
 const PLAN_FOR_HK: &str = "mmplan 1\nstores HK\ndump 1 2\nloss 1\nbound 1\nend\n";
 
 // Plans for first_run, the headline of each chart, and whether it says that no plan loses fewer.
-static CHARTS: [(&str, &str, bool); 2] = [
-    (
-        FIRST_PLAN,
-        ">2 of 10 blocks are lost, and no plan loses fewer</text>",
-        true,
-    ),
-    (FORGED, ">loss is 2\n</text>", false),
-];
+static CHARTS: [(&str, &str, bool); 2] = wanted! {
+    FIRST_PLAN, ">2 of 10 blocks are lost, and no plan loses fewer</text>" => true;
+    FORGED, ">loss is 2\n</text>" => false;
+};
 
 // Whether a text is one document of this format.
 pub(crate) fn is_document(text: &str) -> bool {
@@ -27,23 +22,13 @@ pub(crate) fn is_document(text: &str) -> bool {
 }
 
 // The chart of a plan for first_run has the headline.
-fn draws<R: Abort + AllocGlobal + Threads + Wait + Sync>(
-    rt: &R,
-    plan: &str,
-    headline: &str,
-    is_least: bool,
-) {
-    let answer = told(rt, &of_plan("chart", SCI, THREE_STEPS, plan));
+fn draws(rt: &impl Host, plan: &str, headline: &str, is_least: bool) {
+    let answer = told(rt, &of_plan("chart", [SCI, THREE_STEPS, plan]));
     let chart = answer.out.as_str();
     let is_drawn = is_document(chart) && chart.contains(headline);
     let is_quiet = answer.status == 0 && answer.err.is_empty();
-    let says_least = chart.contains("no plan loses fewer");
-    holds(
-        rt,
-        headline,
-        &answer,
-        is_drawn && is_quiet && says_least == is_least,
-    );
+    let says_it = chart.contains("no plan loses fewer") == is_least;
+    holds(rt, headline, &answer, is_drawn && is_quiet && says_it);
 }
 
 // A plan whose printed loss is wrong is drawn, under the verdict's line.
@@ -54,22 +39,16 @@ fn a_chart_is_one_document(rt: HostRuntime) {
     }
 }
 
-static REFUSED: [(&str, &str); 4] = [
-    (
-        "chart S F P\n=== S\n[[store\n=== F\n=== P\n",
-        "refused 27 SetupText\n",
-    ),
-    ("chart S F P\n=== S\n", "refused 50 NotRead name F\n"),
-    (
-        "table S F P\n=== S\n[[store\n=== F\n=== P\n",
-        "refused 27 SetupText\n",
-    ),
-    ("table S F P\n=== S\n", "refused 50 NotRead name F\n"),
-];
+static REFUSED: [(&str, &str); 4] = wanted! {
+    "chart S F P\n=== S\n[[store\n=== F\n=== P\n" => "refused 27 SetupText\n";
+    "chart S F P\n=== S\n" => "refused 50 NotRead name F\n";
+    "table S F P\n=== S\n[[store\n=== F\n=== P\n" => "refused 27 SetupText\n";
+    "table S F P\n=== S\n" => "refused 50 NotRead name F\n";
+};
 
 #[test]
 fn a_refused_chart_or_table_is_one_line(rt: HostRuntime) {
     refuses(&rt, &REFUSED);
-    let script = of_plan("chart", SCI, THREE_STEPS, PLAN_FOR_HK);
+    let script = of_plan("chart", [SCI, THREE_STEPS, PLAN_FOR_HK]);
     prints(&rt, "a plan for HK", &script, "refused 35 Shape\n", 1);
 }

@@ -59,14 +59,8 @@ static CHECKED: [Checked; 13] = table! { Checked;
 #[test]
 fn verdicts_of_the_examples(rt: HostRuntime) {
     for row in &CHECKED {
-        checks(
-            &rt,
-            row.example,
-            row.setup,
-            row.forecast,
-            row.plan,
-            row.prints,
-        );
+        let files = [row.setup, row.forecast, row.plan];
+        checks(&rt, row.example, files, row.prints);
     }
 }
 
@@ -90,10 +84,8 @@ static CHANGED: [(&str, &str, &str, &str); 9] = wanted! {
 fn sheet_text_refused(rt: HostRuntime) {
     for (example, old, new, line) in &CHANGED {
         let plan = replaced(&rt, FIRST_PLAN, old, new);
-        checks(&rt, example, SCI, THREE_STEPS, plan.as_str(), line);
+        checks(&rt, example, [SCI, THREE_STEPS, plan.as_str()], line);
     }
-    refuses(
-        &rt,
-        &[("check S F P\n=== S\n", "refused 50 NotRead name F\n")],
-    );
+    let unread = ("check S F P\n=== S\n", "refused 50 NotRead name F\n");
+    refuses(&rt, &[unread]);
 }

@@ -1,13 +1,10 @@
 //! Files and writers that fail.
 ghost use Rattle.mm_commands.specs.Contents.{unknown};
 
-use crate::tests::samples::{FIRST_PLAN, SCI, THREE_STEPS, answer_to, holds, joined};
+use crate::tests::samples::{FIRST_PLAN, Host, SCI, THREE_STEPS, answer_to, holds, joined};
 use mm_commands::{Files, Obstacle, ReadFault, StoreFault, run_tool};
 use std::alloc::Global;
 use std::io::{self, ErrorKind, Write};
-use std::process::Abort;
-use std::sync::Wait;
-use std::thread::Threads;
 
 // A request to enable the store SCI.
 const ENABLE_SCI: &str = "1864C000000D200F010000015343492020202020\n";
@@ -116,12 +113,7 @@ static COMMANDS: [(&[&str], u32, u8); 11] = [
 ];
 
 // The read of this file, after so many, fails, and the file's name is told.
-fn read_fails<R: Abort + AllocGlobal + Threads + Wait + Sync>(
-    rt: &R,
-    words: &[&str],
-    reads: usize,
-    name: &str,
-) {
+fn read_fails(rt: &impl Host, words: &[&str], reads: usize, name: &str) {
     let answer = answer_to(rt, words, &mut FailingFiles { left: reads });
     let line = joined(rt, &["refused 50 NotRead name ", name, "\n"]);
     let is_told = answer.has(line.as_str(), 1) && !answer.err.is_empty();
@@ -129,7 +121,7 @@ fn read_fails<R: Abort + AllocGlobal + Threads + Wait + Sync>(
 }
 
 // Each file of a command in turn is not read.
-fn reads_fail<R: Abort + AllocGlobal + Threads + Wait + Sync>(rt: &R, words: &[&str]) {
+fn reads_fail(rt: &impl Host, words: &[&str]) {
     for (reads, name) in words.iter().skip(1).enumerate() {
         read_fails(rt, words, reads, name);
     }
@@ -147,12 +139,7 @@ const MANY_WRITES: u32 = 100;
 
 // Whether a command writes more often than this. The write after so many is refused: the status is 1, and standard error says why. With
 // none refused it is this status.
-fn is_refused_after<R: Abort + AllocGlobal + Threads + Wait + Sync>(
-    rt: &R,
-    words: &[&str],
-    status: u8,
-    writes: u32,
-) -> bool {
+fn is_refused_after(rt: &impl Host, words: &[&str], status: u8, writes: u32) -> bool {
     let alloc = rt.alloc();
     let mut files = FailingFiles { left: words.len() };
     let (mut out, mut err) = (FailingWriter::after(writes), Vec::new(alloc));
@@ -164,11 +151,7 @@ fn is_refused_after<R: Abort + AllocGlobal + Threads + Wait + Sync>(
 }
 
 // How many writes of a command's output can be refused, each in turn.
-fn refused_writes<R: Abort + AllocGlobal + Threads + Wait + Sync>(
-    rt: &R,
-    words: &[&str],
-    status: u8,
-) -> u32 {
+fn refused_writes(rt: &impl Host, words: &[&str], status: u8) -> u32 {
     for writes in 0..MANY_WRITES {
         if !is_refused_after(rt, words, status, writes) {
             return writes;
@@ -189,7 +172,7 @@ fn each_write_that_fails(rt: HostRuntime) {
 }
 
 // Whether more is written to standard error than so often. A write of it that fails is not told as one to standard output.
-fn is_unsaid_after<R: Abort + AllocGlobal + Threads + Wait + Sync>(rt: &R, writes: u32) -> bool {
+fn is_unsaid_after(rt: &impl Host, writes: u32) -> bool {
     let alloc = rt.alloc();
     let words = ["ask", "S", "R"];
     let mut files = FailingFiles { left: 0 };

@@ -1,9 +1,7 @@
 //! What `run` and `fly` print of the worked examples.
 
-use crate::tests::samples::{FIRST_PLAN, SCI, THREE_STEPS, joined, prints};
-use std::process::Abort;
-use std::sync::Wait;
-use std::thread::Threads;
+use crate::tests::in_order::FIRST_PLAN_IN_ORDER;
+use crate::tests::samples::{FIRST_PLAN, Host, SCI, THREE_STEPS, joined, prints};
 
 mod refusals;
 
@@ -112,7 +110,8 @@ const OTHER_ARRIVALS: Run = Run {
     ..FIRST_RUN
 };
 
-static RUNS: [Run; 9] = based! { Run;
+static RUNS: [Run; 10] = based! { Run;
+    FIRST_FLIGHT: example "a_plan_in_order_is_run", plan FIRST_PLAN_IN_ORDER;
     OTHER_ARRIVALS: status 0;
     FIRST_RUN: example "fewer_arrivals_than_forecast",
         sources &[IN_1, IN_1, IN_1, IN_3, IN_3, IN_3, IN_3],
@@ -159,30 +158,17 @@ static RUNS: [Run; 9] = based! { Run;
 };
 
 // `run` with the files of a row and these links prints this report.
-fn runs_over<R: Abort + AllocGlobal + Threads + Wait + Sync>(
-    rt: &R,
-    row: &Run,
-    links: &'static str,
-    report: &'static str,
-    status: u8,
-) {
+fn runs_over(rt: &impl Host, row: &Run, links: &str, report: &str, status: u8) {
     let sources = joined(rt, row.sources);
-    let script = [
-        "run S F P X L\n=== S\n",
-        row.setup,
-        "=== F\n",
-        row.forecast,
-        "=== P\n",
-        row.plan,
-        "=== X\n",
-        sources.as_str(),
-        "=== L\n",
-        links,
-    ];
-    prints(rt, row.example, &script, report, status)
+    let script = format!(in rt.alloc();
+        "run S F P X L\n=== S\n{}=== F\n{}=== P\n{}=== X\n{sources}=== L\n{links}",
+        row.setup, row.forecast, row.plan
+    );
+    let script = script.expect(rt, "memory");
+    prints(rt, row.example, &[script.as_str()], report, status)
 }
 
-fn runs<R: Abort + AllocGlobal + Threads + Wait + Sync>(rt: &R, row: &Run) {
+fn runs(rt: &impl Host, row: &Run) {
     runs_over(rt, row, row.links, row.prints, row.status)
 }
 
@@ -194,13 +180,7 @@ fn runs_of_the_examples(rt: HostRuntime) {
 }
 
 // `fly` for the files of a row but its plan, and these links, makes the plan: it is printed before the report.
-fn flies_over<R: Abort + AllocGlobal + Threads + Wait + Sync>(
-    rt: &R,
-    row: &Run,
-    links: &'static str,
-    report: &'static str,
-    status: u8,
-) {
+fn flies_over(rt: &impl Host, row: &Run, links: &'static str, report: &'static str, status: u8) {
     let sources = joined(rt, row.sources);
     let script = [
         "fly S F X L\n=== S\n",
@@ -251,7 +231,7 @@ static SENDS: [(&str, &str); 4] = [
 #[test]
 fn each_send_fails(rt: HostRuntime) {
     for (links, report) in &SENDS {
-        runs_over(&rt, &OTHER_ARRIVALS, *links, *report, 1);
+        runs_over(&rt, &OTHER_ARRIVALS, links, report, 1);
         flies_over(&rt, &FIRST_RUN, *links, *report, 1);
     }
 }

@@ -1,9 +1,6 @@
 //! Hints: what the program says of a file that is refused, in a further line on standard error.
 
-use crate::tests::samples::{Answer, holds, joined, told, told_bytes};
-use std::process::Abort;
-use std::sync::Wait;
-use std::thread::Threads;
+use crate::tests::samples::{Answer, Host, holds, joined, told, told_bytes};
 
 // Setups that are refused, and what is found in each.
 static SETUP_HINTS: [(&str, &str); 18] = wanted! {
@@ -160,23 +157,14 @@ const BEFORE_REQUESTS: &str =
     "ask S R\n=== S\n[[store]]\nid = \"A\"\nsize = 4\ntype = \"bounded\"\nchannel = 0\n=== R\n";
 
 // The last line on standard error is this hint.
-pub(crate) fn hints<R: Abort + AllocGlobal>(rt: &R, answer: &Answer, hint: &str) {
+pub(crate) fn hints(rt: &impl Host, answer: &Answer, hint: &str) {
     let line = joined(rt, &["\nhint: ", hint, "\n"]);
-    holds(
-        rt,
-        hint,
-        answer,
-        answer.err.as_str().ends_with(line.as_str()),
-    );
+    let is_told = answer.err.as_str().ends_with(line.as_str());
+    holds(rt, hint, answer, is_told);
 }
 
 // The script with each of these texts, between two others, is answered with its hint.
-fn each_hints<R: Abort + AllocGlobal + Threads + Wait + Sync>(
-    rt: &R,
-    before: &str,
-    cases: &[(&str, &str)],
-    after: &str,
-) {
+fn each_hints(rt: &impl Host, before: &str, cases: &[(&str, &str)], after: &str) {
     for (text, hint) in cases {
         hints(rt, &told(rt, &[before, *text, after]), hint);
     }

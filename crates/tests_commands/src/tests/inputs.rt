@@ -1,12 +1,9 @@
 //! Inputs that fail or are interrupted, and files of the system that are not read.
 
-use crate::tests::samples::{answer_to, holds};
+use crate::tests::samples::{System, answer_to, holds};
 use mm_commands::{Device, Files, Obstacle, ReadFault, SystemFiles, read_to_end};
 use std::io::{self, ErrorKind, Read};
-use std::process::Abort;
 use std::rt;
-use std::sync::Wait;
-use std::thread::Threads;
 
 // What one read does.
 #[derive(Clone, Copy)]
@@ -82,10 +79,7 @@ static OBSTACLES: [(&str, Obstacle, &str); 2] = wanted! {
 };
 
 // The file of this name is told as not read.
-fn is_unread<R>(rt: &R, name: &str, obstacle: Obstacle, words: &str)
-where
-    R: Abort + AllocGlobal + rt::Files + Threads + Wait + Sync,
-{
+fn is_unread(rt: &impl System, name: &str, obstacle: Obstacle, words: &str) {
     let mut files = SystemFiles::new(rt.alloc(), rt);
     let read = files.read(rt.alloc(), name);
     let answer = answer_to(rt, &["plan", name, "nor/this/one"], &mut files);

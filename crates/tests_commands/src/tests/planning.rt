@@ -1,25 +1,16 @@
 //! What `plan` prints.
 
 use crate::tests::samples::{
-    A_WITH_LIMIT_1, APART, SCI, SCI_OF_SIZE_2, SCI_STARTS_WITH_2, THREE_STEPS, TWO_STEPS_OF_A,
-    checks, holds, joined, prints, refuses, replaced, to_plan, told,
+    A_AND_B, A_WITH_LIMIT_1, APART, Host, SCI, SCI_OF_SIZE_2, SCI_STARTS_WITH_2, SHARED_WINDOW,
+    THREE_STEPS, TWO_STEPS_OF_A, checks, holds, joined, prints, refuses, replaced, to_plan, told,
 };
-use std::process::Abort;
-use std::sync::Wait;
-use std::thread::Threads;
 
 const A_OF_SIZE_1: &str = "[[store]]\nid = \"A\"\nsize = 1\ntype = \"bounded\"\nchannel = 0\n";
-
-const A_AND_B: &str = "\
-    [[store]]\nid = \"A\"\nsize = 3\ntype = \"bounded\"\nchannel = 0\n\n\
-    [[store]]\nid = \"B\"\nsize = 3\ntype = \"bounded\"\nchannel = 0\n";
 
 const A_WITH_LIMIT_1_AND_B: &str = "\
     [[store]]\nid = \"A\"\nsize = 3\ntype = \"bounded\"\nchannel = 0\n\n\
     [[store]]\nid = \"B\"\nsize = 3\ntype = \"bounded\"\nchannel = 1\n\n\
     [[limit]]\nchannel = 0\nblocks = 1\n";
-
-const SHARED_WINDOW: &str = "step,window,A,B\n1,2,3,3\n2,0,2,2\n";
 
 // What `plan` is to print: the text begins and ends like this, and nothing stands between where it is fixed whole.
 // What is printed is then given to `check`, which answers with the verdict.
@@ -75,12 +66,17 @@ fn is_planned(plan: &str, row: &Planned) -> bool {
         && (plan.len() == fixed || !row.is_whole)
 }
 
-fn plans<R: Abort + AllocGlobal + Threads + Wait + Sync>(rt: &R, row: &Planned) {
+fn plans(rt: &impl Host, row: &Planned) {
     let answer = told(rt, &to_plan(row.setup, row.forecast));
     let plan = answer.out.as_str();
     let is_done = answer.status == 0 && answer.err.is_empty();
     holds(rt, row.example, &answer, is_done && is_planned(plan, row));
-    checks(rt, row.example, row.setup, row.forecast, plan, row.verdict)
+    checks(
+        rt,
+        row.example,
+        [row.setup, row.forecast, plan],
+        row.verdict,
+    )
 }
 
 #[test]
@@ -149,13 +145,7 @@ fn forecast_cells(rt: HostRuntime) {
 }
 
 // The numbers from the first up to before the end, each between two texts.
-fn numbered<R: Abort + AllocGlobal>(
-    rt: &R,
-    first: u32,
-    end: u32,
-    before: &str,
-    after: &str,
-) -> String {
+fn numbered(rt: &impl Host, first: u32, end: u32, before: &str, after: &str) -> String {
     let mut text = String::new(rt.alloc());
     for number in first..end {
         write!(text, "{before}{number}{after}").expect(rt, "memory");
@@ -164,13 +154,13 @@ fn numbered<R: Abort + AllocGlobal>(
 }
 
 // The most stores, each of one block.
-fn fullest_setup<R: Abort + AllocGlobal>(rt: &R) -> String {
+fn fullest_setup(rt: &impl Host) -> String {
     let size = "\"\nsize = 1\ntype = \"bounded\"\nchannel = 0\n";
     numbered(rt, 0, 16, "[[store]]\nid = \"S", size)
 }
 
 // The most steps for them, without any window, when as much arrives as may.
-fn fullest_forecast<R: Abort + AllocGlobal>(rt: &R) -> String {
+fn fullest_forecast(rt: &impl Host) -> String {
     let columns = numbered(rt, 0, 16, ",S", "");
     let full =
         ",0,1000000,1000000,1000000,1000000,1000000,1000000,1000000,1000000,1000000,1000000,1000000,1000000,1000000,1000000,1000000,1000000\n";
@@ -179,23 +169,14 @@ fn fullest_forecast<R: Abort + AllocGlobal>(rt: &R) -> String {
 }
 
 // Their plan, which dumps nothing.
-fn fullest_plan<R: Abort + AllocGlobal>(rt: &R) -> String {
+fn fullest_plan(rt: &impl Host) -> String {
     let ids = numbered(rt, 0, 16, " S", "");
     let dumps = numbered(rt, 1, 257, "dump ", " 0 0 0 0 0 0 0 0 0 0 0 0 0 0 0 0\n");
     let cut = numbered(rt, 0, 16, "stretch S", " 1 256\n");
-    let (loss, bound) = ("loss 4095999984\n", "bound 4095999984\nend\n");
-    joined(
-        rt,
-        &[
-            "mmplan 1\nstores",
-            ids.as_str(),
-            "\n",
-            dumps.as_str(),
-            loss,
-            cut.as_str(),
-            bound,
-        ],
-    )
+    let plan = format!(in rt.alloc();
+        "mmplan 1\nstores{ids}\n{dumps}loss 4095999984\n{cut}bound 4095999984\nend\n"
+    );
+    plan.expect(rt, "memory")
 }
 
 #[test]

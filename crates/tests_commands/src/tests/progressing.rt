@@ -1,10 +1,7 @@
 //! What a progress is told while the program works.
 
-use crate::tests::samples::{SCI, THREE_STEPS, joined};
+use crate::tests::samples::{Host, SCI, THREE_STEPS, joined};
 use mm_commands::{Progress, run_script_with_progress};
-use std::process::Abort;
-use std::sync::Wait;
-use std::thread::Threads;
 
 // Keeps what it is told.
 #[derive(Drop)]
@@ -19,10 +16,7 @@ impl Progress for Told {
 }
 
 // The program tells this of its progress while it does the task of this command on a setup and a forecast.
-fn tells<R>(rt: &R, command: &str, wanted: &[(usize, usize)])
-where
-    R: Abort + AllocGlobal + Threads + Wait + Sync,
-{
+fn tells(rt: &impl Host, command: &str, wanted: &[(usize, usize)]) {
     let alloc = rt.alloc();
     let script = joined(rt, &[command, " S F\n=== S\n", SCI, "=== F\n", THREE_STEPS]);
     let mut told = Told {

@@ -1,39 +1,22 @@
 //! What is said of the lines that are refused: of long made texts, beside a plain form of it that searches each line of the answer as text and
 //! seeks each hint from the front of the file; and where standard error does not take it.
 
-use crate::tests::samples::{Answer, SCI, holds, joined, told, told_bytes};
+use crate::tests::samples::{Answer, Host, SCI, holds, joined, told, told_bytes};
 use mm_base::Refusal;
 use mm_commands::run_script;
 use mm_told::{Words, refusal_numbered, request_hint};
-use std::alloc::Global;
 use std::io::{self, ErrorKind, Write};
-use std::process::Abort;
-use std::sync::Wait;
-use std::thread::Threads;
+
+// Texts, several a line.
+macro_rules! pieces {
+    ($($piece:literal),+) => { [$($piece),+] };
+}
 
 // What made lines consist of.
-static PIECES: [&str; 20] = [
-    " ",
-    " ",
-    "refused",
-    " refused ",
-    "done",
-    " done",
-    "24",
-    "49 HexLine",
-    " 16 BadEnum",
-    "3.1",
-    "3.",
-    ".",
-    "+7",
-    "54",
-    "\u{e9}",
-    "\r",
-    "1864C0000004200F160007",
-    "1864C0000004200F1600",
-    "1 report 1864C0010004200F120007",
-    "",
-];
+static PIECES: [&str; 20] = pieces! {
+    " ", " ", "refused", " refused ", "done", " done", "24", "49 HexLine", " 16 BadEnum", "3.1", "3.", ".", "+7", "54",
+    "\u{e9}", "\r", "1864C0000004200F160007", "1864C0000004200F1600", "1 report 1864C0010004200F120007", ""
+};
 
 // The next of some numbers that look random (Knuth's constants for a linear congruential generator).
 fn next(state: &mut u64) -> usize {
@@ -44,7 +27,7 @@ fn next(state: &mut u64) -> usize {
 }
 
 // A text of so many made lines, the last of which may have no line feed.
-fn made<R: Abort + AllocGlobal>(rt: &R, text: &mut String, lines: usize, state: &mut u64) {
+fn made(rt: &impl Host, text: &mut String, lines: usize, state: &mut u64) {
     for line in 0..lines {
         for _ in 0..next(state) % 7 {
             text.push_str(PIECES[next(state) % 20]).expect(rt, "memory");
@@ -62,30 +45,25 @@ fn refused(answer: &str) -> Option<(&str, Refusal)> {
     Some((place, refusal_numbered(number.parse().ok()?)?))
 }
 
-// What is said of a refused line of a file.
-fn push_said<R: Abort + AllocGlobal>(
-    rt: &R,
+// What is said of a refused line, where the file has this name, what it is counted as, and the requests in which hints are sought are given.
+fn push_said(
+    rt: &impl Host,
     said: &mut String,
-    name: &str,
-    counted: &str,
-    requests: &str,
+    [name, counted, requests]: [&str; 3],
     (place, refusal): (&str, Refusal),
 ) {
-    let alloc: Global = rt.alloc();
     let words = Words::of(refusal);
     let line = match place.split_once('.') {
         Some((line, instruction)) => {
-            let told = format!(in alloc;
-                "{name}, {counted} {line}, instruction {instruction}: {words}\n"
+            let told = writeln!(
+                said,
+                "{name}, {counted} {line}, instruction {instruction}: {words}"
             );
-            said.push_str(told.expect(rt, "memory").as_str())
-                .expect(rt, "memory");
+            told.expect(rt, "memory");
             line
         }
         None => {
-            let told = format!(in alloc; "{name}, {counted} {place}: {words}\n");
-            said.push_str(told.expect(rt, "memory").as_str())
-                .expect(rt, "memory");
+            writeln!(said, "{name}, {counted} {place}: {words}").expect(rt, "memory");
             place
         }
     };
@@ -93,22 +71,15 @@ fn push_said<R: Abort + AllocGlobal>(
         return;
     };
     if let Some(hint) = request_hint(refusal, requests.as_bytes(), number) {
-        let told = format!(in alloc; "hint: {hint}\n").expect(rt, "memory");
-        said.push_str(told.as_str()).expect(rt, "memory");
+        writeln!(said, "hint: {hint}").expect(rt, "memory");
     }
 }
 
 // How many lines are said of each refusal.
 const MOST: u32 = 10;
 
-// What is said of the refused lines of the answer: of each refusal the first ones, and then how many more there are.
-fn all_said<R: Abort + AllocGlobal>(
-    rt: &R,
-    name: &str,
-    counted: &str,
-    requests: &str,
-    answer: &Answer,
-) -> String {
+// What is said of the refused lines of the answer, as above: of each refusal the first ones, and then how many more there are.
+fn all_said(rt: &impl Host, texts: [&str; 3], answer: &Answer) -> String {
     let (mut said, mut more) = (String::new(rt.alloc()), 0);
     let mut counts = [0u32; 256];
     for line in answer.out.as_str().lines() {
@@ -116,39 +87,33 @@ fn all_said<R: Abort + AllocGlobal>(
             let count = &mut counts[usize::from(refusal.number())];
             *count = count.saturating_add(1);
             if *count <= MOST {
-                push_said(rt, &mut said, name, counted, requests, (place, refusal));
+                push_said(rt, &mut said, texts, (place, refusal));
             } else {
                 more = u32::saturating_add(more, 1);
             }
         }
     }
-    push_more(rt, &mut said, name, more);
+    push_more(rt, &mut said, texts[0], more);
     said
 }
 
 // How many more are said to be there.
-fn push_more<R: Abort + AllocGlobal>(rt: &R, said: &mut String, name: &str, more: u32) {
+fn push_more(rt: &impl Host, said: &mut String, name: &str, more: u32) {
     if more > 0 {
-        let told = format!(in rt.alloc();
-            "{name}: more of the same refusals: {more}; standard output has them all\n"
+        let told = writeln!(
+            said,
+            "{name}: more of the same refusals: {more}; standard output has them all"
         );
-        said.push_str(told.expect(rt, "memory").as_str())
-            .expect(rt, "memory");
+        told.expect(rt, "memory");
     }
 }
 
 // What the program says of this text of packets, in a file of this name, is what the plain form says.
-fn is_as_plain<R: Abort + AllocGlobal + Threads + Wait + Sync>(
-    rt: &R,
-    front: &str,
-    name: &str,
-    counted: &str,
-    text: &str,
-) {
+fn is_as_plain(rt: &impl Host, front: &str, name: &str, counted: &str, text: &str) {
     let script = joined(rt, &[front, "=== ", name, "\n", text]);
     let answer = told_bytes(rt, script.as_bytes());
     let requests = if counted == "line" { text } else { "" };
-    let said = all_said(rt, name, counted, requests, &answer);
+    let said = all_said(rt, [name, counted, requests], &answer);
     holds(rt, text, &answer, answer.err.as_str() == said.as_str());
 }
 
@@ -185,21 +150,10 @@ fn ten_lines_are_told_of_a_refusal(rt: HostRuntime) {
 // An answer of `ask`, which `read` prints as it stands, with status 0. What is said of it, by the pieces that standard error takes.
 const ANSWERED: &str = "read P\n=== P\n8.1 refused 18 Busy\n";
 
-static SAID: [&str; 13] = [
-    "P",
-    ", ",
-    "packet",
-    " ",
-    "8",
-    ", instruction ",
-    "1",
-    ": ",
-    "expected ",
-    "a store with no retrieval on",
-    "; ",
-    "abort the retrieval with subtype 17",
-    "\n",
-];
+static SAID: [&str; 13] = pieces! {
+    "P", ", ", "packet", " ", "8", ", instruction ", "1", ": ", "expected ", "a store with no retrieval on", "; ",
+    "abort the retrieval with subtype 17", "\n"
+};
 
 // What a writer does with the first write that passes a byte, or with each that does.
 #[derive(Clone, Copy, Debug, PartialEq, Eq)]
@@ -270,12 +224,7 @@ fn whole_pieces(at: usize) -> usize {
 }
 
 // A write that is refused, or of which nothing is taken, ends what is said, and the status is 1. Any other changes nothing.
-fn is_said_as_far<R: Abort + AllocGlobal + Threads + Wait + Sync>(
-    rt: &R,
-    said: &[u8],
-    turn: Turn,
-    at: usize,
-) {
+fn is_said_as_far(rt: &impl Host, said: &[u8], turn: Turn, at: usize) {
     let alloc = rt.alloc();
     let mut out = Vec::new(alloc);
     let mut err = Fickle {

@@ -2,13 +2,11 @@
 
 use crate::tests::failing_system::{FailingSystem, Fails};
 use crate::tests::samples::{
-    Answer, FIRST_PLAN, SCI, THREE_STEPS, answer_to, answers, holds, joined, replaced, told,
+    Answer, FIRST_PLAN, Host, SCI, System, THREE_STEPS, answer_to, answers, holds, joined,
+    replaced, told,
 };
 use mm_commands::SystemFiles;
 use std::os::unix;
-use std::process::Abort;
-use std::sync::Wait;
-use std::thread::Threads;
 use std::{env, fs, rt};
 
 // What stands in a file before.
@@ -25,12 +23,12 @@ static FILES: [(&str, &str); 6] = [
 ];
 
 // The whole name of a file of the folder.
-fn whole<R: Abort + AllocGlobal>(rt: &R, folder: &str, name: &str) -> String {
+fn whole(rt: &impl Host, folder: &str, name: &str) -> String {
     joined(rt, &[folder, "/", name])
 }
 
 // A new folder with these files.
-fn make_folder<R: Abort + AllocGlobal + rt::Env + rt::Files>(rt: &R, name: &str) -> String {
+fn make_folder(rt: &impl System, name: &str) -> String {
     let temporary = env::temp_dir(rt).expect(rt, "a folder");
     let folder = joined(rt, &[temporary.as_str(), "/mm_tool-", name]);
     let _left_over = fs::remove_dir_all(rt, folder.as_str());
@@ -42,33 +40,28 @@ fn make_folder<R: Abort + AllocGlobal + rt::Env + rt::Files>(rt: &R, name: &str)
     folder
 }
 
-fn remove<R: Abort + AllocGlobal + rt::Files>(rt: &R, folder: &str) {
+fn remove(rt: &impl System, folder: &str) {
     fs::remove_dir_all(rt, folder).expect(rt, "a folder");
 }
 
 // Whether a file of the folder has this text.
-fn has<R: Abort + AllocGlobal + rt::Files>(rt: &R, folder: &str, name: &str, text: &str) -> bool {
+fn has(rt: &impl System, folder: &str, name: &str, text: &str) -> bool {
     let name = whole(rt, folder, name);
     let found = fs::read_to_string(rt, name.as_str()).expect(rt, "a file");
     found.as_str() == text
 }
 
-fn is_there<R: Abort + AllocGlobal + rt::Files>(rt: &R, folder: &str, name: &str) -> bool {
+fn is_there(rt: &impl System, folder: &str, name: &str) -> bool {
     let name = whole(rt, folder, name);
     fs::symlink_metadata(rt, name.as_str()).is_ok()
 }
 
 // What the program answers to a line of words, in which @ stands for the folder.
-fn run<R, T>(rt: &R, system: &T, folder: &str, line: &str) -> Answer
-where
-    R: Abort + AllocGlobal + Threads + Wait + Sync,
-    T: rt::Files,
-{
+fn run(rt: &impl Host, system: &impl rt::Files, folder: &str, line: &str) -> Answer {
     let mut words: Vec<String> = Vec::new(rt.alloc());
     for word in line.split(' ') {
-        words
-            .push(replaced(rt, word, "@", folder))
-            .expect(rt, "memory");
+        let word = replaced(rt, word, "@", folder);
+        words.push(word).expect(rt, "memory");
     }
     answer_to(rt, &words, &mut SystemFiles::new(rt.alloc(), system))
 }
@@ -84,30 +77,19 @@ static STORED: [(&str, &str, &str); 6] = [
 ];
 
 // The text of a task goes into the file as it is printed, and nothing is printed then. What an earlier run left over is passed over.
-fn stores<R>(rt: &R, folder: &str, task: &str, file: &str, left_over: &str)
-where
-    R: Abort + AllocGlobal + rt::Files + Threads + Wait + Sync,
-{
+fn stores(rt: &impl System, folder: &str, task: &str, file: &str, left_over: &str) {
     let printed = run(rt, rt, folder, task);
     let is_printed = printed.status == 0 && !printed.out.is_empty();
     let line = joined(rt, &[task, " --output @/", file]);
     let stored = run(rt, rt, folder, line.as_str());
     let is_quiet = stored.has("", 0) && stored.err.is_empty();
-    let is_stored = has(rt, folder, file, printed.out.as_str());
+    let is_stored = is_quiet && has(rt, folder, file, printed.out.as_str());
     let is_alone = has(rt, folder, "NEW.new1", OLD) && !is_there(rt, folder, left_over);
     holds(rt, task, &printed, is_printed);
-    holds(
-        rt,
-        line.as_str(),
-        &stored,
-        is_quiet && is_stored && is_alone,
-    );
+    holds(rt, line.as_str(), &stored, is_stored && is_alone);
 }
 
-fn each_is_stored<R>(rt: &R)
-where
-    R: Abort + AllocGlobal + rt::Env + rt::Files + Threads + Wait + Sync,
-{
+fn each_is_stored(rt: &impl System) {
     let folder = make_folder(rt, "stored");
     for (task, file, left_over) in &STORED {
         stores(rt, folder.as_str(), task, file, left_over);
@@ -130,11 +112,7 @@ struct Unstored {
 }
 
 // In a new folder the program answers so, and each file is as it was.
-fn leaves<R, T>(rt: &R, system: &T, name: &str, row: &Unstored)
-where
-    R: Abort + AllocGlobal + rt::Env + rt::Files + Threads + Wait + Sync,
-    T: rt::Files,
-{
+fn leaves(rt: &impl System, system: &impl rt::Files, name: &str, row: &Unstored) {
     let folder = make_folder(rt, name);
     let answer = run(rt, system, folder.as_str(), row.line);
     let says = replaced(rt, row.says, "@", folder.as_str());
@@ -206,7 +184,7 @@ static OWN: [(&str, &str); 10] = [
 ];
 
 // A new folder in which F has a link, a hard link and a copy, and the folder a link.
-fn make_links<R: Abort + AllocGlobal + rt::Env + rt::Files>(rt: &R) -> String {
+fn make_links(rt: &impl System) -> String {
     let folder = make_folder(rt, "own");
     let name = |file: &str| whole(rt, folder.as_str(), file);
     let (file, copy) = (name("F"), name("COPY"));
@@ -218,22 +196,11 @@ fn make_links<R: Abort + AllocGlobal + rt::Env + rt::Files>(rt: &R) -> String {
 }
 
 // The task is not done, its output is told, and no file has changed.
-fn is_kept<R>(rt: &R, folder: &str, task: &str, output: &str)
-where
-    R: Abort + AllocGlobal + rt::Files + Threads + Wait + Sync,
-{
+fn is_kept(rt: &impl System, folder: &str, task: &str, output: &str) {
     let line = joined(rt, &[task, " --output @/", output]);
     let answer = run(rt, rt, folder, line.as_str());
-    let says = joined(
-        rt,
-        &[
-            "mm_tool: ",
-            folder,
-            "/",
-            output,
-            " could not be written, and is as it was: it is a file that the task reads\n",
-        ],
-    );
+    let says = " could not be written, and is as it was: it is a file that the task reads\n";
+    let says = joined(rt, &["mm_tool: ", folder, "/", output, says]);
     let is_told = answer.has("", 1) && answer.err.as_str() == says.as_str();
     let are_kept = has(rt, folder, "S", SCI)
         && has(rt, folder, "F", THREE_STEPS)
@@ -242,10 +209,7 @@ where
     holds(rt, line.as_str(), &answer, is_told && are_kept && is_alone);
 }
 
-fn own_files_are_kept<R>(rt: &R)
-where
-    R: Abort + AllocGlobal + rt::Env + rt::Files + Threads + Wait + Sync,
-{
+fn own_files_are_kept(rt: &impl System) {
     let folder = make_links(rt);
     for (task, output) in &OWN {
         is_kept(rt, folder.as_str(), task, output);
@@ -272,16 +236,11 @@ fn scripts_store_nothing(rt: HostRuntime) {
 }
 
 // An output that is not read as one, and what is said of it.
-static MISPLACED: [&str; 8] = [
-    "plan --output X S F\n",
-    "plan S F --output\n",
-    "plan S F --output --help\n",
-    "plan S F --output X --output Y\n",
-    "plan -- S F --output X\n",
-    "plan S F --output=X\n",
-    "plan S F -o X\n",
-    "chart S F P -oX\n",
-];
+static MISPLACED: [&str; 8] = lines! {
+    "plan --output X S F", "plan S F --output", "plan S F --output --help",
+    "plan S F --output X --output Y", "plan -- S F --output X", "plan S F --output=X",
+    "plan S F -o X", "chart S F P -oX"
+};
 
 const STANDS_LAST: &str = "\
 error: --output FILE stands last, as two words, after the files of plan, chart or table, and with no -- before it
@@ -306,7 +265,7 @@ static OUTPUTS: [(&str, &str); 4] = wanted! {
 };
 
 // A bad line is told with this first.
-fn is_bad<R: Abort + AllocGlobal + Threads + Wait + Sync>(rt: &R, line: &str, front: &str) {
+fn is_bad(rt: &impl Host, line: &str, front: &str) {
     let answer = told(rt, &[line]);
     let is_told = answer.has("", 2) && answer.err.as_str().starts_with(front);
     holds(rt, line, &answer, is_told);

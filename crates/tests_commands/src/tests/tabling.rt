@@ -24,12 +24,7 @@ step,window,store,arrived,lost,dumped,held
 #[test]
 fn a_table_has_a_record_for_each_step_and_store(rt: HostRuntime) {
     for (plan, table) in [(FIRST_PLAN, FIRST_TABLE), (GREEDY_PLAN, GREEDY_TABLE)] {
-        prints(
-            &rt,
-            table,
-            &of_plan("table", SCI, THREE_STEPS, plan),
-            table,
-            0,
-        );
+        let script = of_plan("table", [SCI, THREE_STEPS, plan]);
+        prints(&rt, table, &script, table, 0);
     }
 }

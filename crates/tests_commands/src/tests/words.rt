@@ -2,51 +2,28 @@
 
 use crate::tests::failing::{FailingWriter, UNWRITTEN};
 use crate::tests::samples::{
-    Answer, FIRST_PLAN, SCI, THREE_STEPS, answer_to, holds, joined, prints, refuses, told,
-    told_bytes,
+    Answer, FIRST_PLAN, Host, SCI, System, THREE_STEPS, answer_to, holds, joined, prints, refuses,
+    told, told_bytes,
 };
 use mm_commands::{Obstacle, ReadFault, SystemFiles, refuse_input, refuse_words, run_script};
 use std::io::{self, ErrorKind};
-use std::process::Abort;
 use std::rt;
-use std::sync::Wait;
-use std::thread::Threads;
 
-static LINES: [&str; 27] = [
-    "",
-    "\n",
-    "plan S\n",
-    "dump S F\n",
-    "plan  S F\n",
-    "plan S F P\n",
-    "plan --help\n",
-    "check S F\n",
-    "check --help\n",
-    "check S F P Q\n",
-    "chart S F\n",
-    "chart --help\n",
-    "table S F\n",
-    "table --help\n",
-    "run S F P X\n",
-    "run --help\n",
-    "fly S F X\n",
-    "fly --help\n",
-    "ask S\n",
-    "ask --help\n",
-    "read\n",
-    "read R R\n",
-    "read --help\n",
-    "--help\n",
-    "--version plan\n",
-    "plan --version\n",
-    "-- --version\n",
-];
+// Bad lines, and calls for help: one line for each command, or for two.
+static LINES: [&str; 26] = lines! {
+    "", "dump S F", "--help", "--version plan", "-- --version",
+    "plan S", "plan  S F", "plan S F P", "plan --help", "plan --version",
+    "check S F", "check --help", "check S F P Q",
+    "chart S F", "chart --help", "table S F", "table --help",
+    "run S F P X", "run --help", "fly S F X", "fly --help",
+    "ask S", "ask --help", "read", "read R R", "read --help"
+};
 
 // A first line that is not UTF-8.
 const NOT_UTF8: &[u8] = b"plan \xff F\n";
 
 // Where a bad first line is not told, the status is that of a write that failed.
-fn untold<R: Abort + AllocGlobal + Threads + Wait + Sync>(rt: &R) {
+fn untold(rt: &impl Host) {
     let (mut out, mut err) = (Vec::new(rt.alloc()), FailingWriter::after(0));
     let status = run_script(rt, rt.alloc(), NOT_UTF8, &mut out, &mut err);
     assert!(rt; status == 1 && out.is_empty());
@@ -65,16 +42,17 @@ fn command_lines(rt: HostRuntime) {
     for line in &LINES {
         prints(&rt, line, &[*line], "", 2);
     }
+    prints(&rt, "no line", &[""], "", 2);
 }
 
 // Where the version is not written, standard error says so.
-fn version_unwritten<R: Abort + AllocGlobal + Threads + Wait + Sync>(rt: &R) {
+fn version_unwritten(rt: &impl Host) {
     let (mut out, mut err) = (FailingWriter::after(0), Vec::new(rt.alloc()));
     let status = run_script(rt, rt.alloc(), b"--version", &mut out, &mut err);
     assert!(rt; status == 1 && err.as_slice() == UNWRITTEN);
 }
 
-fn tells_version<R: Abort + AllocGlobal + Threads + Wait + Sync>(rt: &R, line: &str) {
+fn tells_version(rt: &impl Host, line: &str) {
     let answer = told(rt, &[line]);
     let version = "mm_tool 0.4.0\nrattle-kit-";
     let is_version = answer.out.as_str().starts_with(version);
@@ -93,15 +71,12 @@ fn the_version_is_told(rt: HostRuntime) {
 // What stands before the first file is passed over, and of two files of one name the first is read.
 #[test]
 fn files_of_a_script(rt: HostRuntime) {
-    let twice = [
+    let [front, plan, end] = [
         "check S F P\na note\n=== S\n",
-        SCI,
-        "=== F\n",
-        THREE_STEPS,
         "=== P\n",
-        FIRST_PLAN,
         "=== S\n[[store\n",
     ];
+    let twice = [front, SCI, "=== F\n", THREE_STEPS, plan, FIRST_PLAN, end];
     prints(&rt, "S twice", &twice, "least 2\n", 0);
     refuses(&rt, &[("plan - F\n=== S\n", "refused 50 NotRead name -\n")]);
 }
@@ -117,15 +92,16 @@ static DASHES: [(&str, &str, u8); 3] = [
 #[test]
 fn names_after_two_dashes(rt: HostRuntime) {
     for (words, out, status) in &DASHES {
+        let (setup, other) = ("\n=== -S\n", "=== --\n");
         let script = [
             *words,
-            "\n=== -S\n",
+            setup,
             SCI,
             "=== F\n",
             THREE_STEPS,
             "=== P\n",
             FIRST_PLAN,
-            "=== --\n",
+            other,
             SCI,
         ];
         prints(&rt, words, &script, out, *status);
@@ -151,7 +127,7 @@ static UNREAD: [(ErrorKind, &str); 2] = wanted! {
 };
 
 // Words that are not read are a bad command line, unless standard error does not take that.
-fn is_unread<R: Abort + AllocGlobal>(rt: &R, kind: ErrorKind, said: &str) {
+fn is_unread(rt: &impl Host, kind: ErrorKind, said: &str) {
     let error = io::Error::from(kind);
     let mut err = Vec::new(rt.alloc());
     let status = refuse_words(&error, &mut err);
@@ -178,25 +154,15 @@ static NAMES: [(&str, &str); 4] = [
 ];
 
 // A file of this name is told as not read, in one line of standard output and one of standard error.
-fn is_shown<R>(rt: &R, name: &str, shown: &str)
-where
-    R: Abort + AllocGlobal + rt::Files + Threads + Wait + Sync,
-{
-    let answer = answer_to(
-        rt,
-        &["plan", name, "F"],
-        &mut SystemFiles::new(rt.alloc(), rt),
-    );
+fn is_shown(rt: &impl System, name: &str, shown: &str) {
+    let mut files = SystemFiles::new(rt.alloc(), rt);
+    let answer = answer_to(rt, &["plan", name, "F"], &mut files);
     let line = joined(rt, &["refused 50 NotRead name ", shown, "\n"]);
     let front = joined(rt, &[shown, ": expected a file of this name; "]);
     let said = answer.err.as_str();
     let is_one_line = said.starts_with(front.as_str()) && said.lines().count() == 1;
-    holds(
-        rt,
-        shown,
-        &answer,
-        answer.has(line.as_str(), 1) && is_one_line,
-    );
+    let is_told = answer.has(line.as_str(), 1) && is_one_line;
+    holds(rt, shown, &answer, is_told);
 }
 
 #[test]
