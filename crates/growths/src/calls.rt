@@ -1,9 +1,10 @@
 //! What is asked of a store through a seat or a port, and what it answers, with packets by their sequence counts.
 
+use crate::met::Met;
 use mm_base::{Kind, NoMemory};
 use mm_desk::{Fault, Offered, Returned, StoreState};
 use mm_packet::{BlockPacket, Header, Octets, Packet};
-use mm_store::{AnyStore, Stored};
+use mm_store::{AnyStore, PacketStore, Stored};
 use std::alloc::Global;
 
 /// What is asked of a store; the last three by its owner alone.
@@ -95,6 +96,16 @@ pub(crate) const CALLS: [SeatCall; 8] = [
     (1, Ask::Disable, Told::Done),
     (0, Ask::Enable, Told::Done),
 ];
+
+/// What the calls leave: one packet of two.
+pub(crate) fn left(state: &StoreState) -> Met {
+    let counters = (state.offered(), state.lost(), state.deleted());
+    Met::Whole
+        .provided(counters == (2, 0, 1), "other counters")
+        .provided(state.store().len() == 1, "another number held")
+        .provided(state.storage(), "storage is off")
+        .provided(state.retrieval().is_none(), "a retrieval is on")
+}
 
 /// A bounded store of four blocks with its storage on, where there is memory for it.
 pub(crate) fn new_state(alloc: Global) -> Result<StoreState, NoMemory> {

@@ -8,11 +8,8 @@ use std::alloc::Global;
 
 // A problem of one store and two steps, with limits of its channel in them.
 fn new_problem(alloc: Global) -> Result<Problem, Fault> {
-    let Ok(id) = StoreId::of_text(b"SCI") else {
-        return Err(Fault::Header);
-    };
     let row = StoreRow {
-        id,
+        id: StoreId::of_text(b"SCI").ok().ok_or(Fault::Header)?,
         size: 4,
         start: 1,
         kind: Kind::Bounded,
@@ -25,10 +22,10 @@ fn new_problem(alloc: Global) -> Result<Problem, Fault> {
 /// What came of a problem from data.
 pub(crate) fn new(alloc: Global) -> Met {
     match new_problem(alloc) {
-        Ok(problem) => Met::Whole.provided(
-            (problem.stores(), problem.steps()) == (1, 2),
-            "another problem",
-        ),
+        Ok(problem) => {
+            let size = (problem.stores(), problem.steps());
+            Met::Whole.provided(size == (1, 2), "another problem")
+        }
         Err(Fault::NoMemory) => Met::Wanted,
         Err(_) => Met::Wrong("another fault"),
     }
@@ -49,12 +46,10 @@ fn rest_of(alloc: Global, problem: &Problem) -> Met {
     }
 }
 
-/// What came of the rest of a problem after its first step.
-pub(crate) fn rest(alloc: Global) -> Met {
-    match new_problem(alloc) {
-        Ok(problem) => rest_of(alloc, &problem),
-        Err(_) => Met::Unready,
-    }
+/// What came of the rest of a problem after its first step; nothing where there was no memory for the problem.
+pub(crate) fn rest(alloc: Global) -> Option<Met> {
+    let problem = new_problem(alloc).ok()?;
+    Some(rest_of(alloc, &problem))
 }
 
 // A source that gives nothing.
@@ -75,16 +70,14 @@ impl Source for Silence {
     }
 }
 
-/// What came of two sources from after a step on.
-pub(crate) fn later(alloc: Global) -> Met {
+/// What came of two sources from after a step on; nothing where there was no memory for them.
+pub(crate) fn later(alloc: Global) -> Option<Met> {
     let mut sources = Vec::new(alloc);
     for _ in 0..2 {
-        if sources.push(Silence).is_err() {
-            return Met::Unready;
-        }
+        sources.push(Silence).ok()?;
     }
-    match later_sources(alloc, sources, 7) {
+    Some(match later_sources(alloc, sources, 7) {
         Ok(later) => Met::Whole.provided(later.len() == 2, "another number of sources"),
         Err((back, _)) => Met::Wanted.provided(back.len() == 2, "a source not handed back"),
-    }
+    })
 }

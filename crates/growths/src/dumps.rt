@@ -31,32 +31,21 @@ const BEFORE: [Counts; 2] = [(3, 0), (2, 0)];
 
 const AFTER: [Counts; 2] = [(1, 2), (0, 2)];
 
-// Whether a store has taken a packet of this sequence count.
-fn has_taken(alloc: Global, state: &mut StoreState, count: u16) -> bool {
-    match packet(alloc, count) {
-        Ok(packet) => state.offer(7, packet).is_ok(),
-        Err(_) => false,
-    }
-}
-
 // A store that holds the packets of these sequence counts, where there is memory for them.
 fn state_with(alloc: Global, counts: &[u16]) -> Option<StoreState> {
     let mut state = new_state(alloc).ok()?;
     for count in counts {
-        if !has_taken(alloc, &mut state, *count) {
-            return None;
-        }
+        let packet = packet(alloc, *count).ok()?;
+        state.offer(7, packet).ok()?;
     }
     Some(state)
 }
 
 fn held_with(alloc: Global, text: &[u8], counts: &[u16]) -> Option<Held> {
-    let id = StoreId::of_text(text).ok()?;
-    let state = state_with(alloc, counts)?;
     Some(Held {
-        id,
+        id: StoreId::of_text(text).ok()?,
         channel: 0,
-        state,
+        state: state_with(alloc, counts)?,
     })
 }
 
@@ -127,6 +116,13 @@ fn left(answer: &Option<Result<Dumped, NoMemory>>, stores: &[Held], links: &[Tes
     }
 }
 
+// Orders: the place of a store, and how many packets are dumped.
+macro_rules! orders {
+    ($($place:literal $amount:literal),+) => {
+        [$(Order { place: $place, amount: $amount }),+]
+    };
+}
+
 // What came of a dump of two packets of the first store, and of all that the second has.
 fn both_dumped<R: Threads + Wait + Sync>(
     rt: &R,
@@ -137,17 +133,7 @@ fn both_dumped<R: Threads + Wait + Sync>(
     if stores.len() != 2 {
         return Met::Wrong("another number of stores");
     }
-    let (first, second) = (
-        Order {
-            place: 0,
-            amount: 2,
-        },
-        Order {
-            place: 1,
-            amount: 4,
-        },
-    );
-    let answer = dumped(rt, alloc, stores, links, &[first, second]);
+    let answer = dumped(rt, alloc, stores, links, &orders!(0 2, 1 4));
     left(&answer, stores, links)
 }
 
@@ -169,13 +155,9 @@ fn dumped_or_again<R: Threads + Wait + Sync>(
     )
 }
 
-/// What came of a step's dump.
-pub(crate) fn dumps<R: Threads + Wait + Sync>(rt: &R, alloc: Global) -> Met {
-    let Some(mut stores) = stores_in_room(alloc) else {
-        return Met::Unready;
-    };
-    match new_links(alloc, 2) {
-        Ok(mut links) => dumped_or_again(rt, alloc, &mut stores, &mut links),
-        Err(_) => Met::Unready,
-    }
+/// What came of a step's dump; nothing where there was no memory to begin.
+pub(crate) fn dumps<R: Threads + Wait + Sync>(rt: &R, alloc: Global) -> Option<Met> {
+    let mut stores = stores_in_room(alloc)?;
+    let mut links = new_links(alloc, 2).ok()?;
+    Some(dumped_or_again(rt, alloc, &mut stores, &mut links))
 }

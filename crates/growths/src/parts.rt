@@ -12,76 +12,26 @@ use std::alloc::Global;
 use std::sync::Wait;
 use std::thread::Threads;
 
-#[derive(Clone, Copy)]
-enum Part {
-    New,
-    Rest,
-    Later,
-    PlanBytes,
-    PlanInOrder,
-    CheckBytes,
-    CheckInOrder,
-    Apply,
-    Create,
-    Seats,
-    Shared,
-    Record,
-    Dump,
-    CarryOut,
-    Crowd,
-    Fly,
-}
-
-static NAMES: [(&[u8], Part); 16] = [
-    (b"new", Part::New),
-    (b"rest", Part::Rest),
-    (b"later", Part::Later),
-    (b"plan_bytes", Part::PlanBytes),
-    (b"plan_in_order", Part::PlanInOrder),
-    (b"check_bytes", Part::CheckBytes),
-    (b"check_in_order", Part::CheckInOrder),
-    (b"apply", Part::Apply),
-    (b"create", Part::Create),
-    (b"seats", Part::Seats),
-    (b"shared", Part::Shared),
-    (b"record", Part::Record),
-    (b"dump", Part::Dump),
-    (b"carry_out", Part::CarryOut),
-    (b"crowd", Part::Crowd),
-    (b"fly", Part::Fly),
-];
-
-// The part of this name.
-fn part_of(name: &[u8]) -> Option<Part> {
-    for (text, part) in &NAMES {
-        if *text == name {
-            return Some(*part);
-        }
-    }
-    None
-}
-
 /// What the calls of the part of this name answered.
 pub fn part_named<R: Threads + Wait + Sync>(rt: &R, alloc: Global, name: &[u8]) -> Met {
-    let Some(part) = part_of(name) else {
-        return Met::Wrong("no such part");
+    let met = match name {
+        b"new" => Some(new(alloc)),
+        b"rest" => rest(alloc),
+        b"later" => later(alloc),
+        b"plan_bytes" => Some(planned(alloc)),
+        b"plan_in_order" => Some(planned_in_order(alloc)),
+        b"check_bytes" => Some(checked(alloc)),
+        b"check_in_order" => Some(checked_in_order(alloc)),
+        b"apply" => deleted(alloc),
+        b"create" => created(alloc),
+        b"seats" => desk(rt, alloc),
+        b"shared" => Some(shared(rt, alloc)),
+        b"record" => record(rt, alloc),
+        b"dump" => dumps(rt, alloc),
+        b"carry_out" => run(rt, alloc, &ALONE),
+        b"crowd" => run(rt, alloc, &CROWD),
+        b"fly" => flight(rt, alloc),
+        _ => Some(Met::Wrong("no such part")),
     };
-    match part {
-        Part::New => new(alloc),
-        Part::Rest => rest(alloc),
-        Part::Later => later(alloc),
-        Part::PlanBytes => planned(alloc),
-        Part::PlanInOrder => planned_in_order(alloc),
-        Part::CheckBytes => checked(alloc),
-        Part::CheckInOrder => checked_in_order(alloc),
-        Part::Apply => deleted(alloc),
-        Part::Create => created(alloc),
-        Part::Seats => desk(rt, alloc),
-        Part::Shared => shared(rt, alloc),
-        Part::Record => record(rt, alloc),
-        Part::Dump => dumps(rt, alloc),
-        Part::CarryOut => run(rt, alloc, &ALONE),
-        Part::Crowd => run(rt, alloc, &CROWD),
-        Part::Fly => flight(rt, alloc),
-    }
+    met.unwrap_or(Met::Unready)
 }

@@ -16,13 +16,8 @@ const SETUP: &[u8] = b"[[store]]\nid = \"C\"\nsize = 2\ntype = \"circular\"\ncha
     [[route]]\napid = 100\nservice = 3\nsubtype = 25\nstore = \"B\"\n\n\
     [[route]]\napid = 100\nservice = 3\nsubtype = 25\nstore = \"C\"\n";
 
-// Telemetry with three octets of data: packets 1 to 6 in step 1.
-const PACKETS: &[u8] = b"1 1 0864C0010011200319000000000000000000000000010203\n\
-    2 1 0864C0020011200319000000000000000000000000010203\n\
-    1 1 0864C0030011200319000000000000000000000000010203\n\
-    2 1 0864C0040011200319000000000000000000000000010203\n\
-    1 1 0864C0050011200319000000000000000000000000010203\n\
-    2 1 0864C0060011200319000000000000000000000000010203\n";
+// Packets 1 to 6 in step 1, of two sources.
+const PACKETS: &str = packets!(1 1 "01", 2 1 "02", 1 1 "03", 2 1 "04", 1 1 "05", 2 1 "06");
 
 // How many packets were offered to a store and lost, and how many it holds.
 type Counts = (u64, u64, u32);
@@ -102,22 +97,12 @@ fn recorded_again<R: Threads + Wait + Sync>(
     }
 }
 
-// The memory and the sources of the step, where there is room for them.
-fn stage_in_room(alloc: Global) -> Option<(Memory, Vec<ScriptedSource>)> {
-    let memory = memory_of_text(alloc, SETUP)?;
-    match SourceFile::read(alloc, PACKETS) {
-        Ok(SourceFile { sources, .. }) => Some((memory, sources)),
-        Err(_) => None,
-    }
-}
-
-/// What came of a step of recorders.
-pub(crate) fn record<R: Threads + Wait + Sync>(rt: &R, alloc: Global) -> Met {
-    let Some((mut memory, sources)) = stage_in_room(alloc) else {
-        return Met::Unready;
-    };
-    match record_step(rt, alloc, &mut memory, 1, 0, sources) {
+/// What came of a step of recorders; nothing where there was no memory to begin.
+pub(crate) fn record<R: Threads + Wait + Sync>(rt: &R, alloc: Global) -> Option<Met> {
+    let mut memory = memory_of_text(alloc, SETUP)?;
+    let SourceFile { sources, .. } = SourceFile::read(alloc, PACKETS.as_bytes()).ok()?;
+    Some(match record_step(rt, alloc, &mut memory, 1, 0, sources) {
         Ok(step) => recorded(&memory, &step),
         Err(halted) => recorded_again(rt, alloc, &mut memory, halted),
-    }
+    })
 }

@@ -3,7 +3,6 @@
 use crate::met::Met;
 use crate::runs::SETUP;
 use mm_base::Kind;
-use mm_desk::Held;
 use mm_memory::{Answer, Answers, Fault, Memory};
 use mm_packet::Packet;
 use mm_problem::Setup;
@@ -80,25 +79,17 @@ fn request_of(alloc: Global, octets: &[u8]) -> Option<Request> {
     Request::read(alloc, &packet).ok()
 }
 
-fn shape_held(held: &Held) -> Shape {
+// What the store of this identifier is, where it is there.
+fn shape_of(memory: &Memory, id: &[u8]) -> Option<Shape> {
+    let held = memory.stores().iter().find(|held| held.id.text() == id)?;
     let store = held.state.store();
-    Shape {
+    Some(Shape {
         kind: store.kind(),
         size: store.size(),
         packets: store.len(),
         storage: held.state.storage(),
         channel: held.channel,
-    }
-}
-
-// What the store of this identifier is, where it is there.
-fn shape_of(memory: &Memory, id: &[u8]) -> Option<Shape> {
-    for held in memory.stores() {
-        if held.id.text() == id {
-            return Some(shape_held(held));
-        }
-    }
-    None
+    })
 }
 
 // How many stores and routes there are.
@@ -108,22 +99,16 @@ fn counts(memory: &Memory) -> (usize, usize) {
 
 // Whether the store of each instruction is as it was before it.
 fn are_unchanged(memory: &Memory, step: &Step) -> bool {
-    for one in step.each {
-        if shape_of(memory, one.id) != one.before {
-            return false;
-        }
-    }
-    true
+    step.each
+        .iter()
+        .all(|one| shape_of(memory, one.id) == one.before)
 }
 
 // Whether the store of each instruction is as that leaves it.
 fn are_left(memory: &Memory, step: &Step) -> bool {
-    for one in step.each {
-        if shape_of(memory, one.id) != one.after {
-            return false;
-        }
-    }
-    true
+    step.each
+        .iter()
+        .all(|one| shape_of(memory, one.id) == one.after)
 }
 
 // Whether the store that an instruction names is as the answer says.
@@ -137,21 +122,13 @@ fn as_answered(memory: &Memory, one: &Instruction, answer: Answer) -> Met {
         .provided(now == one.after, "another store")
 }
 
-// Whether this is the only answer.
-fn is_only(answers: &[Answer], answer: Answer) -> bool {
-    match answers {
-        [only] => *only == answer,
-        _ => false,
-    }
-}
-
 // Whether an instruction is answered as it must be, in a request of its own.
 fn is_answered_alone(alloc: Global, memory: &mut Memory, one: &Instruction) -> bool {
     let Some(request) = request_of(alloc, one.alone) else {
         return false;
     };
     match memory.apply(alloc, 1, &request) {
-        Ok(answers) => is_only(&answers.each, one.answer),
+        Ok(answers) => answers.each.as_slice() == [one.answer].as_slice(),
         Err(_) => false,
     }
 }
@@ -218,21 +195,14 @@ fn carried_out(alloc: Global, memory: &mut Memory, step: &Step) -> Option<Met> {
     )
 }
 
-// What the steps come to; nothing where there was no memory to ask.
-fn all_carried_out(alloc: Global, memory: &mut Memory, steps: &[Step]) -> Option<Met> {
+// What the steps come to on the memory of a setup with this text; nothing where there was no memory to ask.
+fn carried_out_on(alloc: Global, setup: &[u8], steps: &[Step]) -> Option<Met> {
+    let mut memory = memory_of_text(alloc, setup)?;
     let mut met = Met::Whole;
     for step in steps {
-        met = met.and(carried_out(alloc, memory, step)?);
+        met = met.and(carried_out(alloc, &mut memory, step)?);
     }
     Some(met)
-}
-
-// What the steps come to on the memory of a setup with this text.
-fn carried_out_on(alloc: Global, setup: &[u8], steps: &[Step]) -> Met {
-    match memory_of_text(alloc, setup) {
-        Some(mut memory) => all_carried_out(alloc, &mut memory, steps).unwrap_or(Met::Unready),
-        None => Met::Unready,
-    }
 }
 
 // A step of one instruction: its request, the store, its answer, whether that may be want of memory, what the store is before and after
@@ -306,7 +276,7 @@ static DELETED: [Step; 8] = [
 ];
 
 /// What came of the requests that delete a store with its routes.
-pub(crate) fn deleted(alloc: Global) -> Met {
+pub(crate) fn deleted(alloc: Global) -> Option<Met> {
     carried_out_on(alloc, SIXTEEN_STORES.as_bytes(), &DELETED)
 }
 
@@ -363,6 +333,6 @@ static CREATED: [Step; 6] = [
 ];
 
 /// What came of the requests that resize a store, change its kind and create two stores.
-pub(crate) fn created(alloc: Global) -> Met {
+pub(crate) fn created(alloc: Global) -> Option<Met> {
     carried_out_on(alloc, SETUP, &CREATED)
 }

@@ -28,56 +28,43 @@ const FORECAST: &[u8] = b"step,window,SCI\n1,2,3\n2,2,3\n3,0,4\n";
 const PLAN: &[u8] = b"mmplan 1\nstores SCI\ndump 1 2\ndump 2 2\ndump 3 0\nloss 2\n\
     stretch SCI 1 3\nbound 2\nend\n";
 
-// Telemetry with three octets of data: packets 1 to 11, by their sequence counts.
-const OF_ONE: &[u8] = b"1 1 0864C0010011200319000000000000000000000000010203\n\
-    1 1 0864C0020011200319000000000000000000000000010203\n\
-    1 1 0864C0030011200319000000000000000000000000010203\n\
-    1 2 0864C0040011200319000000000000000000000000010203\n\
-    1 2 0864C0050011200319000000000000000000000000010203\n\
-    1 2 0864C0060011200319000000000000000000000000010203\n\
-    1 3 0864C0070011200319000000000000000000000000010203\n\
-    1 3 0864C0080011200319000000000000000000000000010203\n\
-    1 3 0864C0090011200319000000000000000000000000010203\n\
-    1 3 0864C00A0011200319000000000000000000000000010203\n";
+// Packets 1 to 10 of one source.
+const OF_ONE: &str = packets!(
+    1 1 "01", 1 1 "02", 1 1 "03", 1 2 "04", 1 2 "05", 1 2 "06", 1 3 "07", 1 3 "08", 1 3 "09", 1 3 "0A"
+);
 
-// One more packet in step 3 than is forecast.
-const ONE_MORE: &[u8] = b"1 3 0864C00B0011200319000000000000000000000000010203\n";
+// The same with one more packet in step 3 than is forecast.
+const ONE_MORE: &str = packets!(
+    1 1 "01", 1 1 "02", 1 1 "03", 1 2 "04", 1 2 "05", 1 2 "06", 1 3 "07", 1 3 "08", 1 3 "09", 1 3 "0A", 1 3 "0B"
+);
 
 // The same, of two sources.
-const OF_TWO: &[u8] = b"1 1 0864C0010011200319000000000000000000000000010203\n\
-    2 1 0864C0020011200319000000000000000000000000010203\n\
-    1 1 0864C0030011200319000000000000000000000000010203\n\
-    2 2 0864C0040011200319000000000000000000000000010203\n\
-    1 2 0864C0050011200319000000000000000000000000010203\n\
-    2 2 0864C0060011200319000000000000000000000000010203\n\
-    1 3 0864C0070011200319000000000000000000000000010203\n\
-    2 3 0864C0080011200319000000000000000000000000010203\n\
-    1 3 0864C0090011200319000000000000000000000000010203\n\
-    2 3 0864C00A0011200319000000000000000000000000010203\n\
-    1 3 0864C00B0011200319000000000000000000000000010203\n";
+const OF_TWO: &str = packets!(
+    1 1 "01", 2 1 "02", 1 1 "03", 2 2 "04", 1 2 "05", 2 2 "06", 1 3 "07", 2 3 "08", 1 3 "09", 2 3 "0A", 1 3 "0B"
+);
 
-/// The texts of the sources of a run, in parts, and how many links it has.
+/// The text of the sources of a run, and how many links it has.
 #[derive(Clone, Copy)]
 pub(crate) struct Case {
-    sources: &'static [&'static [u8]],
+    sources: &'static str,
     links: usize,
 }
 
 /// One source and one link, where eleven packets come in place of ten.
 pub(crate) static ALONE: Case = Case {
-    sources: &[OF_ONE, ONE_MORE],
+    sources: ONE_MORE,
     links: 1,
 };
 
 /// The same with two sources and two links.
 pub(crate) static CROWD: Case = Case {
-    sources: &[OF_TWO],
+    sources: OF_TWO,
     links: 2,
 };
 
 // One source and one link, where what comes is what is forecast.
 static FORESEEN: Case = Case {
-    sources: &[OF_ONE],
+    sources: OF_ONE,
     links: 1,
 };
 
@@ -112,6 +99,9 @@ struct Ends {
     ghost may_fail: { All (λ l. l.failed < 2 ^ 64 - 1) links.items },
 }
 
+// How a run is halted.
+type HaltedRun = Halted<ScriptedSource, TestLink>;
+
 // What a run is made on.
 #[derive(Drop)]
 struct Stage {
@@ -126,20 +116,8 @@ fn first_problem(alloc: Global) -> Option<Problem> {
     Problem::read(alloc, &setup, FORECAST).ok()
 }
 
-// The sources of a text in parts.
-fn sources_of(alloc: Global, parts: &[&[u8]]) -> Option<Vec<ScriptedSource>> {
-    let mut text = Vec::new(alloc);
-    for part in parts {
-        text.extend_from_slice(part).ok()?;
-    }
-    match SourceFile::read(alloc, &text) {
-        Ok(file) => Some(file.sources),
-        Err(_) => None,
-    }
-}
-
 fn ends_in_room(alloc: Global, case: &Case) -> Option<Ends> {
-    let sources = sources_of(alloc, case.sources)?;
+    let SourceFile { sources, .. } = SourceFile::read(alloc, case.sources.as_bytes()).ok()?;
     let links = new_links(alloc, case.links).ok()?;
     if !may_fail(&links) {
         return None;
@@ -148,13 +126,10 @@ fn ends_in_room(alloc: Global, case: &Case) -> Option<Ends> {
 }
 
 fn stage_in_room(alloc: Global, case: &Case) -> Option<Stage> {
-    let memory = memory_of_text(alloc, SETUP)?;
-    let problem = first_problem(alloc)?;
-    let ends = ends_in_room(alloc, case)?;
     Some(Stage {
-        memory,
-        problem,
-        ends,
+        memory: memory_of_text(alloc, SETUP)?,
+        problem: first_problem(alloc)?,
+        ends: ends_in_room(alloc, case)?,
     })
 }
 
@@ -181,8 +156,11 @@ fn left_by(memory: &Memory, sources: &mut [ScriptedSource], links: &[TestLink]) 
     traces_of(memory.state(&id)?, sources, links)
 }
 
-// Whether all of this many packets were given, and four of them sent.
-fn all_given(left: &Traces, packets: u32) -> Met {
+// Whether a run left that all of this many packets were given, and four of them sent.
+fn all_given(left: Option<Traces>, packets: u32) -> Met {
+    let Some(left) = left else {
+        return Met::Wrong("what a run may not leave");
+    };
     Met::Whole
         .provided(left.is_kept(packets), "a packet lost or invented")
         .provided(left.given(packets) == packets, "a packet left in a source")
@@ -190,22 +168,6 @@ fn all_given(left: &Traces, packets: u32) -> Met {
             (left.sent, left.deleted) == (4, 4),
             "another number sent or deleted",
         )
-}
-
-// What a run left that went through: its packets are this many, and its report is this.
-fn whole(
-    alloc: Global,
-    memory: &Memory,
-    report: &Report,
-    sources: &mut [ScriptedSource],
-    links: &[TestLink],
-    want: (u32, &[u8]),
-) -> Met {
-    let (packets, text) = want;
-    match left_by(memory, sources, links) {
-        Some(left) => told(alloc, report, text).and(all_given(&left, packets)),
-        None => Met::Wrong("what a run may not leave"),
-    }
 }
 
 // How many of this many packets are given before a step, and up to its end.
@@ -230,7 +192,7 @@ fn given_whole(left: &Traces, step: u32, packets: u32, dumped: u128) -> Met {
 }
 
 // What a run told that was halted in this step: the steps before it, and that nothing of it was dumped.
-fn told_of_halt(alloc: Global, end: &Halted<ScriptedSource, TestLink>, step: u32) -> Met {
+fn told_of_halt(alloc: Global, end: &HaltedRun, step: u32) -> Met {
     let Some(want) = HALTED.get(step.saturating_sub(1) as usize) else {
         return Met::Wrong("halted in another step");
     };
@@ -247,7 +209,7 @@ fn told_of_halt(alloc: Global, end: &Halted<ScriptedSource, TestLink>, step: u32
 fn halted_for_want_of_memory(
     alloc: Global,
     memory: &Memory,
-    end: &mut Halted<ScriptedSource, TestLink>,
+    end: &mut HaltedRun,
     packets: u32,
 ) -> Met {
     let Cause::NoMemory { step } = end.cause else {
@@ -265,17 +227,13 @@ fn halted_for_want_of_memory(
 fn carried(
     alloc: Global,
     memory: &Memory,
-    end: &mut Result<RunEnd<ScriptedSource, TestLink>, Halted<ScriptedSource, TestLink>>,
+    end: &mut Result<RunEnd<ScriptedSource, TestLink>, HaltedRun>,
 ) -> Met {
     match end {
-        Ok(end) => whole(
-            alloc,
-            memory,
-            &end.report,
-            &mut end.sources,
-            &end.links,
-            (11, ELEVEN_CAME),
-        ),
+        Ok(end) => {
+            let left = left_by(memory, &mut end.sources, &end.links);
+            told(alloc, &end.report, ELEVEN_CAME).and(all_given(left, 11))
+        }
         Err(end) => halted_for_want_of_memory(alloc, memory, end, 11),
     }
 }
@@ -292,19 +250,15 @@ fn run_on<R: Threads + Wait + Sync>(rt: &R, alloc: Global, stage: Stage, sheet: 
     carried(alloc, &memory, &mut end)
 }
 
-/// What came of the first plan with these sources and links.
-pub(crate) fn run<R: Threads + Wait + Sync>(rt: &R, alloc: Global, case: &Case) -> Met {
-    let Ok(sheet) = Sheet::parse(alloc, PLAN) else {
-        return Met::Unready;
-    };
-    match stage_in_room(alloc, case) {
-        Some(stage) => run_on(rt, alloc, stage, &sheet),
-        None => Met::Unready,
-    }
+/// What came of the first plan with these sources and links; nothing where there was no memory to begin.
+pub(crate) fn run<R: Threads + Wait + Sync>(rt: &R, alloc: Global, case: &Case) -> Option<Met> {
+    let sheet = Sheet::parse(alloc, PLAN).ok()?;
+    let stage = stage_in_room(alloc, case)?;
+    Some(run_on(rt, alloc, stage, &sheet))
 }
 
 // What came of a run that has no plan: nothing was done, and for want of memory alone.
-fn unplanned(memory: &Memory, end: &mut Halted<ScriptedSource, TestLink>) -> Met {
+fn unplanned(memory: &Memory, end: &mut HaltedRun) -> Met {
     let lacks = end.cause == Cause::NoMemory { step: 0 };
     let met = match left_by(memory, &mut end.sources, &end.links) {
         Some(left) => Met::Unplanned
@@ -317,14 +271,8 @@ fn unplanned(memory: &Memory, end: &mut Halted<ScriptedSource, TestLink>) -> Met
 
 // What came of a run that was planned and went through.
 fn flown(alloc: Global, memory: &Memory, end: &mut Flown<ScriptedSource, TestLink>) -> Met {
-    let met = whole(
-        alloc,
-        memory,
-        &end.report,
-        &mut end.sources,
-        &end.links,
-        (10, TEN_CAME),
-    );
+    let left = left_by(memory, &mut end.sources, &end.links);
+    let met = told(alloc, &end.report, TEN_CAME).and(all_given(left, 10));
     met.provided(end.sheet.as_slice() == PLAN, "another plan")
 }
 
@@ -356,10 +304,8 @@ fn flown_on<R: Threads + Wait + Sync>(rt: &R, alloc: Global, stage: Stage) -> Me
     landed(alloc, &memory, &mut end)
 }
 
-/// What came of a run that begins with its plan, where what comes is what is forecast.
-pub(crate) fn flight<R: Threads + Wait + Sync>(rt: &R, alloc: Global) -> Met {
-    match stage_in_room(alloc, &FORESEEN) {
-        Some(stage) => flown_on(rt, alloc, stage),
-        None => Met::Unready,
-    }
+/// What came of a run that begins with its plan, where what comes is what is forecast; nothing where there was no memory to begin.
+pub(crate) fn flight<R: Threads + Wait + Sync>(rt: &R, alloc: Global) -> Option<Met> {
+    let stage = stage_in_room(alloc, &FORESEEN)?;
+    Some(flown_on(rt, alloc, stage))
 }

@@ -3,31 +3,15 @@ ghost use Rattle.std.specs.Prelude.{◌≡◌};
 ghost use Rattle.mm_desk.specs.Runs.{opening_at};
 
 use crate::calls::{
-    Ask, CALLS, SeatCall, Told, new_state, packet, told_of, told_of_delete, told_of_given,
+    Ask, CALLS, SeatCall, Told, left, new_state, packet, told_of, told_of_delete, told_of_given,
     told_of_lack, told_of_offer,
 };
 use crate::met::Met;
 use mm_base::NoMemory;
 use mm_desk::{Closed, Desk, Opening, Seat, StoreState};
-use mm_store::PacketStore;
 use std::alloc::Global;
 use std::marker::Brand;
 use std::sync::Wait;
-
-// What a desk answers to the offer of a packet of this sequence count.
-fn offered<N: Opening, R: Wait>(
-    rt: &R,
-    alloc: Global,
-    desk: &Desk<N>,
-    seat: &mut Seat<N>,
-    now: u64,
-    count: u16,
-) -> Told {
-    match packet(alloc, count) {
-        Ok(packet) => told_of_offer(&desk.offer(rt, alloc, seat, now, packet)),
-        Err(NoMemory) => Told::Unmade,
-    }
-}
 
 /// What a desk answers through a seat.
 pub fn answer<N: Opening, R: Wait>(
@@ -38,7 +22,10 @@ pub fn answer<N: Opening, R: Wait>(
     ask: Ask,
 ) -> Told {
     match ask {
-        Ask::Offer(now, count) => offered(rt, alloc, desk, seat, now, count),
+        Ask::Offer(now, count) => match packet(alloc, count) {
+            Ok(packet) => told_of_offer(&desk.offer(rt, alloc, seat, now, packet)),
+            Err(NoMemory) => Told::Unmade,
+        },
         Ask::Begin(from, to) => told_of(desk.begin(rt, alloc, seat, from, to)),
         Ask::Next => told_of_given(&desk.next(rt, alloc, seat)),
         Ask::Abort => told_of(desk.abort(rt, alloc, seat)),
@@ -100,28 +87,10 @@ fn all_called<N: Opening, R: Wait>(
 }
 
 // What the calls leave: a log of eight entries that agrees with the lists, and one packet of two.
-fn left<N: Opening>(closed: &Closed<N>) -> Met {
-    let state = &closed.state;
-    let counters = (state.offered(), state.lost(), state.deleted());
-    Met::Whole
+fn closed<N: Opening>(closed: &Closed<N>) -> Met {
+    left(&closed.state)
         .provided(closed.agree, "lists that do not agree")
         .provided(closed.log.len() == 8, "another log")
-        .provided(counters == (2, 0, 1), "other counters")
-        .provided(state.store().len() == 1, "another number held")
-        .provided(state.storage(), "storage is off")
-        .provided(state.retrieval().is_none(), "a retrieval is on")
-}
-
-// What a desk leaves that is closed.
-fn closed<N: Opening>(desk: Desk<N>, seats: Vec<Seat<N>>) -> Met {
-    let closed = desk.close(seats);
-    left(&closed)
-}
-
-// What came of a state for which no desk was opened.
-fn handed_back(state: &StoreState) -> Met {
-    let right = state.offered() == 0 && state.storage();
-    Met::Unready.provided(right, "another state comes back")
 }
 
 fn seated<N: Opening, R: Wait>(rt: &R, alloc: Global, state: StoreState) -> Met
@@ -130,16 +99,17 @@ fn seated<N: Opening, R: Wait>(rt: &R, alloc: Global, state: StoreState) -> Met
     match Desk::<N>::open(alloc, state, 0, 2) {
         Ok((desk, mut seats)) => {
             let met = all_called(rt, alloc, &desk, &mut seats);
-            met.and(closed(desk, seats))
+            met.and(closed(&desk.close(seats)))
         }
-        Err((state, _)) => handed_back(&state),
+        Err((state, _)) => {
+            let same = state.offered() == 0 && state.storage();
+            Met::Unready.provided(same, "another state comes back")
+        }
     }
 }
 
-/// What came of the calls of two seats at one desk.
-pub(crate) fn desk<R: Wait>(rt: &R, alloc: Global) -> Met {
-    match new_state(alloc) {
-        Ok(state) => seated::<Brand, R>(rt, alloc, state),
-        Err(_) => Met::Unready,
-    }
+/// What came of the calls of two seats at one desk; nothing where there was no memory for its state.
+pub(crate) fn desk<R: Wait>(rt: &R, alloc: Global) -> Option<Met> {
+    let state = new_state(alloc).ok()?;
+    Some(seated::<Brand, R>(rt, alloc, state))
 }

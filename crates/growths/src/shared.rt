@@ -3,7 +3,7 @@ ghost use Rattle.std.specs.Prelude.{◌≡◌, ◌≤◌, [], length, IfOk, vec_
 ghost use Rattle.mm_shared.specs.Views.{new_ports};
 
 use crate::calls::{
-    Ask, CALLS, SeatCall, Told, new_state, packet, told_of, told_of_delete, told_of_given,
+    Ask, CALLS, SeatCall, Told, left, new_state, packet, told_of, told_of_delete, told_of_given,
     told_of_offer,
 };
 use crate::met::Met;
@@ -87,16 +87,6 @@ fn called_through<R: Wait>(
         0 => called(rt, alloc, stores, first, ask, want),
         _ => called(rt, alloc, stores, second, ask, want),
     }
-}
-
-// What the calls leave: one packet of two.
-fn left(state: &StoreState) -> Met {
-    let counters = (state.offered(), state.lost(), state.deleted());
-    Met::Whole
-        .provided(counters == (2, 0, 1), "other counters")
-        .provided(state.store().len() == 1, "another number held")
-        .provided(state.storage(), "storage is off")
-        .provided(state.retrieval().is_none(), "a retrieval is on")
 }
 
 // What came of the calls on the store, which is put back into an empty list under this label.
