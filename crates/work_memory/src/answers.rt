@@ -7,7 +7,7 @@ use work_base::Digest;
 
 /// How often packets were kept, lost and refused by stores, and given by retrievals; how often an instruction was done, how many reports were
 /// given, and how many calls and instructions were refused.
-#[derive(Clone, Copy)]
+#[derive(Clone, Copy, Default)]
 pub struct Counts {
     kept: u64,
     lost: u64,
@@ -20,20 +20,10 @@ pub struct Counts {
 
 impl fmt::Display for Counts {
     fn fmt<W: fmt::Write>(&self, f: &mut fmt::Formatter<W>) -> fmt::Result {
-        let Counts {
-            kept,
-            lost,
-            refused,
-            given,
-            done,
-            reports,
-            faults,
-        } = self;
-        write!(
-            f,
-            "kept {kept} lost {lost} refused {refused} given {given} "
-        )?;
-        write!(f, "done {done} reports {reports} faults {faults}")
+        write!(f, "kept {} lost {} ", self.kept, self.lost)?;
+        write!(f, "refused {} given {} ", self.refused, self.given)?;
+        write!(f, "done {} reports {} ", self.done, self.reports)?;
+        write!(f, "faults {}", self.faults)
     }
 }
 
@@ -60,15 +50,7 @@ impl Answers {
     pub fn new() -> Answers {
         Answers {
             digest: Digest::new(),
-            counts: Counts {
-                kept: 0,
-                lost: 0,
-                refused: 0,
-                given: 0,
-                done: 0,
-                reports: 0,
-                faults: 0,
-            },
+            counts: Counts::default(),
         }
     }
 
@@ -82,17 +64,12 @@ impl Answers {
     pub fn recorded(&mut self, answer: Result<Tally, Fault>) {
         match answer {
             Ok(tally) => {
-                let Tally {
-                    kept,
-                    lost,
-                    refused,
-                } = tally;
-                let high = (u64::from(kept) << 32) | u64::from(refused);
+                let high = (u64::from(tally.kept) << 32) | u64::from(tally.refused);
                 self.digest.add(high);
-                self.digest.add(u64::from(lost));
-                raise(&mut self.counts.kept, kept);
-                raise(&mut self.counts.lost, lost);
-                raise(&mut self.counts.refused, refused);
+                self.digest.add(u64::from(tally.lost));
+                raise(&mut self.counts.kept, tally.kept);
+                raise(&mut self.counts.lost, tally.lost);
+                raise(&mut self.counts.refused, tally.refused);
             }
             Err(fault) => self.refused(fault.number()),
         }

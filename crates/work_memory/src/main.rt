@@ -34,7 +34,7 @@ fn answered(alloc: Global, settings: &[Setting], seed: u64) -> Result<Answers> {
 fn said(clock: &impl Clock, alloc: Global, words: &[String]) -> Result<String> {
     match words {
         [] => {
-            let answers = answered(alloc, &[setting::SMALL], 1)?;
+            let answers = answered(alloc, &setting::SMALL, 1)?;
             let sums = stores::small(clock, alloc)?;
             Ok(format!(in alloc; "{}\nstores{sums}", answers.counts)?)
         }

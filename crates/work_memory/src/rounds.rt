@@ -74,10 +74,8 @@ impl Trial {
 
     // Applies a request.
     fn ask(&mut self, alloc: Global, request: &Request) {
-        match self
-            .service
-            .apply(alloc, self.now, request.octets(), &mut self.out)
-        {
+        let octets = request.octets();
+        match self.service.apply(alloc, self.now, octets, &mut self.out) {
             Ok(count) => {
                 for code in self.out.iter().take(count) {
                     self.answers.applied(*code);
@@ -143,10 +141,8 @@ impl Trial {
         for store in 0..stores {
             let part = self.ticks(8);
             request.store(store)?;
-            request.time(
-                self.began
-                    .wrapping_sub(part.wrapping_mul(u64::from(store % 4))),
-            )?;
+            let back = part.wrapping_mul(u64::from(store % 4));
+            request.time(self.began.wrapping_sub(back))?;
             request.time(u64::MAX)?;
         }
         self.ask(alloc, &request);

@@ -26,24 +26,15 @@ pub struct Setting {
     pub strays: u32,
 }
 
-/// What is run with no words: in each of two rounds ten packets of one report type come, which goes to sixteen stores of six blocks.
-pub const SMALL: Setting = Setting {
-    stores: 16,
-    types: 1,
-    more: 0,
-    fan: 16,
-    least: 6,
-    spread: 0,
-    rounds: 2,
-    packets: 10,
-    pace: 0,
-    strays: 0,
-};
-
 // Settings: the fields of each.
 macro_rules! settings {
     ($($($field:ident $value:expr),+;)+) => { [$(Setting { $($field: $value),+ }),+] };
 }
+
+/// What is run with no words: in each of two rounds ten packets of one report type come, which goes to sixteen stores of six blocks.
+pub const SMALL: [Setting; 1] = settings! {
+    stores 16, types 1, more 0, fan 16, least 6, spread 0, rounds 2, packets 10, pace 0, strays 0;
+};
 
 /// The memories: 16 stores with 64 report types, each routed to four of them; 16 stores with 256 report types; 16 stores with one report
 /// type, routed to all; one store with one report type.
@@ -118,14 +109,10 @@ impl Setting {
 
 // The table of a route from a report type to a store.
 fn route(alloc: Global, number: u32, store: u8) -> Result<String> {
-    let ReportType {
-        apid,
-        service,
-        subtype,
-    } = ReportType::numbered(number);
-    let name = letter(store) as char;
+    let (kind, name) = (ReportType::numbered(number), letter(store) as char);
     Ok(format!(in alloc;
-        "[[route]]\napid = {apid}\nservice = {service}\nsubtype = {subtype}\nstore = \"STORE-{name}\"\n\n"
+        "[[route]]\napid = {}\nservice = {}\nsubtype = {}\nstore = \"STORE-{name}\"\n\n",
+        kind.apid, kind.service, kind.subtype
     )?)
 }
 

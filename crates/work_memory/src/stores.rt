@@ -15,18 +15,14 @@ fn measured(clock: &impl Clock, alloc: Global, form: Form, rounds: u32) -> Resul
     match form {
         Form::Ring => rounds::run(clock, alloc, &mut RingStore::new(alloc, SIZE)?, rounds),
         Form::Blocks => rounds::run(clock, alloc, &mut BlockStore::new(alloc, SIZE)?, rounds),
-        Form::Circular => rounds::run(
-            clock,
-            alloc,
-            &mut AnyStore::new(alloc, Kind::Circular, SIZE)?,
-            rounds,
-        ),
-        Form::Bounded => rounds::run(
-            clock,
-            alloc,
-            &mut AnyStore::new(alloc, Kind::Bounded, SIZE)?,
-            rounds,
-        ),
+        Form::Circular => {
+            let mut store = AnyStore::new(alloc, Kind::Circular, SIZE)?;
+            rounds::run(clock, alloc, &mut store, rounds)
+        }
+        Form::Bounded => {
+            let mut store = AnyStore::new(alloc, Kind::Bounded, SIZE)?;
+            rounds::run(clock, alloc, &mut store, rounds)
+        }
     }
 }
 

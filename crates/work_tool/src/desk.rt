@@ -63,13 +63,8 @@ impl Files for TextFiles {
 
     // The one output is a plan.
     fn store(&mut self, alloc: Global, _name: &str, text: &[u8]) -> Result<(), StoreFault> {
-        match Vec::from_slice(alloc, text) {
-            Ok(plan) => {
-                self.plan = plan;
-                Ok(())
-            }
-            Err(_) => Err(StoreFault::NoMemory),
-        }
+        self.plan = Vec::from_slice(alloc, text).map_err(|_| StoreFault::NoMemory)?;
+        Ok(())
     }
 }
 
